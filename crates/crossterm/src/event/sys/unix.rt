@@ -1,0 +1,3 @@
+//! Unix terminals.
+
+pub use crossterm_parse::{laws, marked, parse, plain};

@@ -1,0 +1,17 @@
+//! Sets of bits of terminal events: the modifiers of a key, the state of a key, and the flags of kitty's keyboard protocol.
+//!
+//! Each is a byte by hand over `bitflags`; clauses see its bits.
+#![tactic(auto)]
+
+mod enhancement;
+mod iter;
+mod modifiers;
+mod state;
+
+pub use enhancement::KeyboardEnhancementFlags;
+pub use iter::{FlagIter, FlagSet};
+pub use modifiers::KeyModifiers;
+pub use state::KeyEventState;
+
+#[cfg(test)]
+mod tests;

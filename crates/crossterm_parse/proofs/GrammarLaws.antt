@@ -1,0 +1,282 @@
+-- The tests of the grammar say what its definitions say, and no whole sequence begins another.
+use Rattle.std.proofs.Common.{◌≡◌, ◌≢◌, ◌==◌, ◌⊎◌, inl, inr, ℕ, Bool, true, false, cond, ◌&&◌, List, [], ◌∷◌, ◌++◌, refl, ap, sym, ◌∙◌, arith, length, ◌<◌, zero, suc, subst, drop}
+use Rattle.std.specs.Prelude.{nat_le}
+use Rattle.std.proofs.lemmas.Bool.{false≢true, cases_Bool, eq-eqb, eqb-true}
+use Rattle.std.proofs.lemmas.Bool.Decides.{nat_tests, eqb_tells}
+use Rattle.std.specs.List.{AllByRecursion}
+use Rattle.crossterm_parse.specs.Marked.{Marked, bytes_of}
+use Rattle.crossterm_parse.specs.Deciding.{is_nil, is_one, is_lead, is_continuing, further_after, ends_character, is_character, ends_escape, is_shape, is_whole, begins}
+use Rattle.crossterm_parse.specs.Grammar as grammar
+use Rattle.crossterm_parse.specs.Grammar.{IsLead, IsContinuing, continuing_after, CharacterShape, single, broken, Shape, text, two_escapes, with_escape, after_ss3, after_csi, BeginsPaused, Whole, key, sequence}
+use Rattle.crossterm_parse.specs.Division.{NoneBeginsAnother}
+
+-- which way a test went
+pub chosen : {A : Type 0} (b : Bool) (x y z : A) → cond b x y ≡ z → ((b ≡ true) × (x ≡ z)) ⊎ ((b ≡ false) × (y ≡ z))
+chosen true x y z e = inl (refl, e)
+chosen false x y z e = inr (refl, e)
+
+true_nil : (bs : List ℕ) → is_nil bs ≡ true → bs ≡ []
+true_nil [] h = refl
+true_nil (b ∷ bs) h = absurd (false≢true h)
+
+begins_append : (p rest : List ℕ) → begins p (p ++ rest) ≡ true
+begins_append [] rest = refl
+begins_append (b ∷ p) rest = rw (begins_append p rest) (eq-eqb b b refl)
+
+and_parts : (s t : Bool) → s && t ≡ true → (s ≡ true) × (t ≡ true)
+and_parts true t h = (refl, h)
+and_parts false t h = absurd (false≢true h)
+
+pub begins_is : (p bs : List ℕ) → begins p bs ≡ true → bs ≡ p ++ drop (length p) bs
+begins_is [] bs h = refl
+begins_is (q ∷ p) [] h = absurd (false≢true h)
+begins_is (q ∷ p) (b ∷ bs) h =
+    let w = and_parts (begins p bs) (b == q) h in
+    let head : b ≡ q = eqb-true b q w.1 in
+    let tail : bs ≡ p ++ drop (length p) bs = begins_is p bs w.0 in
+    cc
+
+pub begins_from : (p bs rest : List ℕ) → bs ≡ p ++ rest → begins p bs ≡ true
+begins_from p bs rest e = rw e (begins_append p rest)
+
+nil_true : (bs : List ℕ) → bs ≡ [] → is_nil bs ≡ true
+nil_true bs e = rw e
+
+lead_true : (b : ℕ) → IsLead b → is_lead b ≡ true
+lead_true b h = grind (arith, nat_tests)
+
+pub true_lead : (b : ℕ) → is_lead b ≡ true → IsLead b
+true_lead b h = grind (arith, nat_tests)
+
+lead_false : (b : ℕ) → ¬ IsLead b → is_lead b ≡ false
+lead_false b h = grind (arith, nat_tests)
+
+not_lead : (b : ℕ) → is_lead b ≡ false → ¬ IsLead b
+not_lead b h = grind (arith, nat_tests)
+
+pub continuing_true : (b : ℕ) → IsContinuing b → is_continuing b ≡ true
+continuing_true b h = grind (arith, nat_tests)
+
+pub true_continuing : (b : ℕ) → is_continuing b ≡ true → IsContinuing b
+true_continuing b h = grind (arith, nat_tests)
+
+continuing_false : (b : ℕ) → ¬ IsContinuing b → is_continuing b ≡ false
+continuing_false b h = grind (arith, nat_tests)
+
+not_continuing : (b : ℕ) → is_continuing b ≡ false → ¬ IsContinuing b
+not_continuing b h = grind (arith, nat_tests)
+
+one_more : (lead : ℕ) → continuing_after lead ≡ suc (further_after lead)
+one_more lead = go (nat_le lead 223) (nat_le lead 239) where
+  go : (s t : Bool) → cond s 1 (cond t 2 3) ≡ suc (cond s 0 (cond t 1 2))
+  go true t = refl
+  go false true = refl
+  go false false = refl
+
+all_continue : (n : ℕ) (more : List ℕ) → AllByRecursion IsContinuing more → length more ≡ suc n → ends_character n more ≡ true
+all_continue n [] h l = absurd (omega arith)
+all_continue zero (b ∷ []) h l = refl
+all_continue zero (b ∷ c ∷ bs) h l = absurd (omega arith)
+all_continue (suc n) (b ∷ bs) h l = rw (continuing_true b h.0) (all_continue n bs h.1 (omega arith))
+
+breaks_off : (n : ℕ) (more : List ℕ) (b : ℕ) → AllByRecursion IsContinuing more → length more < suc n → ¬ IsContinuing b → ends_character n (more ++ b ∷ []) ≡ true
+breaks_off zero [] b h l k = refl
+breaks_off (suc n) [] b h l k = rw (continuing_false b k)
+breaks_off zero (c ∷ more) b h l k = absurd (omega arith)
+breaks_off (suc n) (c ∷ more) b h l k = rw (continuing_true c h.0) (breaks_off n more b h.1 (omega arith) k)
+
+character_true : (bytes : List ℕ) → CharacterShape bytes → is_character bytes ≡ true
+character_true bytes (single b ne not e) = rw (e, lead_false b not)
+character_true bytes (grammar.CharacterShape.character lead more is all l e) = rw (e, lead_true lead is) (all_continue (further_after lead) more all (l ∙ one_more lead))
+character_true bytes (broken lead b more is all l k e) = rw (e, lead_true lead is) (breaks_off (further_after lead) more b all (subst (λ (n : ℕ). length more < n) (one_more lead) l) k)
+
+-- a character doesn't begin with an escape
+not_escape : (b : ℕ) (rest : List ℕ) → CharacterShape (b ∷ rest) → (b == 27) ≡ false
+not_escape b rest (single c ne not e) = let is : b ≡ c = cc in grind (arith, nat_tests)
+not_escape b rest (grammar.CharacterShape.character lead more is all l e) = let same : b ≡ lead = cc in grind (arith, nat_tests)
+not_escape b rest (broken lead c more is all l k e) = let same : b ≡ lead = cc in grind (arith, nat_tests)
+
+as_shape : (bytes : List ℕ) → CharacterShape bytes → is_shape bytes ≡ true
+as_shape [] c = character_true [] c
+as_shape (b ∷ bs) c = rw (not_escape b bs c) (character_true (b ∷ bs) c)
+
+pub shape_true : (bytes : List ℕ) → Shape bytes → is_shape bytes ≡ true
+shape_true bytes (text c) = as_shape bytes c
+shape_true bytes (two_escapes e) = rw e
+shape_true bytes (with_escape b rest not_o not_bracket c e) = rw e (
+    let s : (b == 79) ≡ false = grind (arith, nat_tests) in
+    let t : (b == 91) ≡ false = grind (arith, nat_tests) in
+    rw (s, t, not_escape b rest c) (character_true (b ∷ rest) c))
+shape_true bytes (after_ss3 b e) = rw e
+shape_true bytes (after_csi b e) = rw e
+
+true_one : (bs : List ℕ) → is_one bs ≡ true → (b : ℕ) × (bs ≡ b ∷ [])
+true_one [] h = absurd (false≢true h)
+true_one (b ∷ bs) h = (b, ap (λ (ys : List ℕ). b ∷ ys) (true_nil bs h))
+
+-- what ended a character
+data Ended (n : ℕ) (bs : List ℕ) : Type 0 where
+  full : AllByRecursion IsContinuing bs → length bs ≡ suc n → Ended n bs
+  off : (more : List ℕ) (b : ℕ) → AllByRecursion IsContinuing more → length more < suc n → ¬ IsContinuing b → bs ≡ more ++ b ∷ [] → Ended n bs
+
+ended_more : (n b : ℕ) (bs : List ℕ) → IsContinuing b → Ended n bs → Ended (suc n) (b ∷ bs)
+ended_more n b bs h (full all l) = full (h, all) (omega arith)
+ended_more n b bs h (off more c all l k e) = off (b ∷ more) c (h, all) (omega arith) k (ap (λ (ys : List ℕ). b ∷ ys) e)
+
+one_ended : (n b : ℕ) → ¬ IsContinuing b → Ended n (b ∷ [])
+one_ended n b k = off [] b tt (omega arith) k refl
+
+true_ended : (n : ℕ) (bs : List ℕ) → ends_character n bs ≡ true → Ended n bs
+true_ended n [] h = absurd (false≢true h)
+true_ended zero (b ∷ bs) h = subst (λ (ys : List ℕ). Ended zero (b ∷ ys)) (sym (true_nil bs h)) (go (is_continuing b) refl) where
+  go : (t : Bool) → is_continuing b ≡ t → Ended zero (b ∷ [])
+  go true c = full (true_continuing b c, tt) refl
+  go false c = one_ended zero b (not_continuing b c)
+true_ended (suc n) (b ∷ bs) h = elim (chosen (is_continuing b) (ends_character n bs) (is_nil bs) true h) [
+  | inl w ↦ ended_more n b bs (true_continuing b w.0) (true_ended n bs w.1)
+  | inr w ↦ subst (λ (ys : List ℕ). Ended (suc n) (b ∷ ys)) (sym (true_nil bs w.1)) (one_ended (suc n) b (not_continuing b w.0))
+]
+
+ended_character : (b : ℕ) (bs : List ℕ) → IsLead b → Ended (further_after b) bs → CharacterShape (b ∷ bs)
+ended_character b bs is (full all l) = grammar.CharacterShape.character b bs is all (l ∙ sym (one_more b)) refl
+ended_character b bs is (off more c all l k e) = broken b c more is all (subst (λ (n : ℕ). length more < n) (sym (one_more b)) l) k (ap (λ (ys : List ℕ). b ∷ ys) e)
+
+true_character : (b : ℕ) (bs : List ℕ) → b ≢ 27 → is_character (b ∷ bs) ≡ true → CharacterShape (b ∷ bs)
+true_character b bs ne h = elim (chosen (is_lead b) (ends_character (further_after b) bs) (is_nil bs) true h) [
+  | inl w ↦ ended_character b bs (true_lead b w.0) (true_ended (further_after b) bs w.1)
+  | inr w ↦ single b ne (not_lead b w.0) (ap (λ (ys : List ℕ). b ∷ ys) (true_nil bs w.1))
+]
+
+ss3_shape : (b : ℕ) (bs : List ℕ) (c : ℕ) → b ≡ 79 → bs ≡ c ∷ [] → Shape (27 ∷ b ∷ bs)
+ss3_shape b bs c is e = after_ss3 c (rw (is, e))
+
+csi_shape : (b : ℕ) (bs : List ℕ) (c : ℕ) → b ≡ 91 → bs ≡ c ∷ [] → Shape (27 ∷ b ∷ bs)
+csi_shape b bs c is e = after_csi c (rw (is, e))
+
+true_escape : (bs : List ℕ) → ends_escape bs ≡ true → Shape (27 ∷ bs)
+true_escape [] h = absurd (false≢true h)
+true_escape (b ∷ bs) h =
+    elim (chosen (b == 79) (is_one bs) (cond (b == 91) (is_one bs) (cond (b == 27) (is_nil bs) (is_character (b ∷ bs)))) true h) [
+      | inl w ↦ let one = true_one bs w.1 in
+          let is : b ≡ 79 = grind (arith, nat_tests, w.0) in
+          ss3_shape b bs one.0 is one.1
+      | inr w ↦ elim (chosen (b == 91) (is_one bs) (cond (b == 27) (is_nil bs) (is_character (b ∷ bs))) true w.1) [
+        | inl v ↦ let one = true_one bs v.1 in
+            let is : b ≡ 91 = grind (arith, nat_tests, v.0) in
+            csi_shape b bs one.0 is one.1
+        | inr v ↦
+            let not_o : b ≢ 79 = grind (arith, nat_tests, w.0) in
+            let not_bracket : b ≢ 91 = grind (arith, nat_tests, v.0) in
+            elim (chosen (b == 27) (is_nil bs) (is_character (b ∷ bs)) true v.1) [
+              | inl u ↦ let is : b ≡ 27 = grind (arith, nat_tests, u.0) in two_escapes (rw (is, true_nil bs u.1))
+              | inr u ↦ let isnt : b ≢ 27 = grind (arith, nat_tests, u.0) in with_escape b bs not_o not_bracket (true_character b bs isnt u.1) refl
+            ]
+      ]
+    ]
+
+pub true_shape : (bytes : List ℕ) → is_shape bytes ≡ true → Shape bytes
+true_shape [] h = absurd (false≢true h)
+true_shape (b ∷ bs) h =
+    elim (chosen (b == 27) (ends_escape bs) (is_character (b ∷ bs)) true h) [
+      | inl w ↦ let is : b ≡ 27 = grind (arith, nat_tests, w.0) in rw is (true_escape bs w.1)
+      | inr w ↦ let isnt : b ≢ 27 = grind (arith, nat_tests, w.0) in text (true_character b bs isnt w.1)
+    ]
+
+-- a list that passes is no proper front of another that does
+abbrev Closes : (List ℕ → Bool) → Type 0
+Closes p = (a x : List ℕ) → p a ≡ true → p (a ++ x) ≡ true → x ≡ []
+
+nil_closes : Closes is_nil
+nil_closes [] [] h l = refl
+nil_closes [] (b ∷ x) h l = absurd (false≢true l)
+nil_closes (b ∷ a) x h l = absurd (false≢true h)
+
+one_closes : Closes is_one
+one_closes [] x h l = absurd (false≢true h)
+one_closes (b ∷ a) x h l = nil_closes a x h l
+
+-- where a test of the first byte chooses how to go on
+choice_closes : (t : Bool) (p q : List ℕ → Bool) → Closes p → Closes q → Closes (λ bs. cond t (p bs) (q bs))
+choice_closes true p q cp cq a x h l = cp a x h l
+choice_closes false p q cp cq a x h l = cq a x h l
+
+character_closes : (n : ℕ) → Closes (ends_character n)
+character_closes n [] x h l = absurd (false≢true h)
+character_closes zero (b ∷ a) x h l = nil_closes a x h l
+character_closes (suc n) (b ∷ a) x h l = choice_closes (is_continuing b) (ends_character n) is_nil (character_closes n) nil_closes a x h l
+
+typed_closes : (b : ℕ) → Closes (λ bs. is_character (b ∷ bs))
+typed_closes b = choice_closes (is_lead b) (ends_character (further_after b)) is_nil (character_closes (further_after b)) nil_closes
+
+escape_closes : Closes ends_escape
+escape_closes [] x h l = absurd (false≢true h)
+escape_closes (b ∷ a) x h l =
+    choice_closes (b == 79) is_one (λ bs. cond (b == 91) (is_one bs) (cond (b == 27) (is_nil bs) (is_character (b ∷ bs)))) one_closes
+    (choice_closes (b == 91) is_one (λ bs. cond (b == 27) (is_nil bs) (is_character (b ∷ bs))) one_closes
+    (choice_closes (b == 27) is_nil (λ bs. is_character (b ∷ bs)) nil_closes (typed_closes b))) a x h l
+
+-- the first byte isn't an escape with a pause
+unpaused_false : (m : Marked) (ms : List Marked) → ¬ BeginsPaused (m ∷ ms) → (m.byte == 27) && m.pause ≡ false
+unpaused_false m ms h = elim (eqb_tells m.byte 27) [
+  | inl w ↦ rw w.0 (elim (cases_Bool m.pause) [ inl p ↦ absurd (h (w.1, p)) | inr p ↦ p ])
+  | inr w ↦ rw w.0
+]
+
+no_bytes : (ms : List Marked) → is_nil (bytes_of ms) ≡ true → ms ≡ []
+no_bytes [] h = refl
+no_bytes (m ∷ ms) h = absurd (false≢true h)
+
+and_both : (s t : Bool) → s && t ≡ true → (s ≡ true) × (t ≡ true)
+and_both true t h = (refl, h)
+and_both false t h = absurd (false≢true h)
+
+and_true : (m : Marked) → m.byte ≡ 27 → m.pause ≡ true → (m.byte == 27) && m.pause ≡ true
+and_true m e f = rw (e, f)
+
+pub mark_is : (m : Marked) (b : ℕ) (p : Bool) → m.byte ≡ b → m.pause ≡ p → m ≡ record { byte = b; raw = m.raw; pause = p }
+mark_is m b p e f = rw (← e, ← f)
+
+pub lone : (m : Marked) (ms : List Marked) → ((m.byte == 27) ≡ true) × (m.pause ≡ true) → ms ≡ [] → m ∷ ms ≡ record { byte = 27; raw = m.raw; pause = true } ∷ []
+lone m ms h e =
+    let is : m.byte ≡ 27 = grind (arith, nat_tests, h.0) in
+    let same = mark_is m 27 true is h.1 in
+    cc
+
+pub whole_true : (ms : List Marked) → Whole ms → is_whole ms ≡ true
+whole_true ms (key raw e) = rw e
+whole_true [] (sequence shape unpaused) = shape_true [] shape
+whole_true (m ∷ ms) (sequence shape unpaused) = rw (unpaused_false m ms unpaused) (shape_true _ shape)
+
+pub true_whole : (ms : List Marked) → is_whole ms ≡ true → Whole ms
+true_whole [] h = absurd (false≢true h)
+true_whole (m ∷ ms) h =
+    elim (chosen ((m.byte == 27) && m.pause) (is_nil (bytes_of ms)) (is_shape (m.byte ∷ bytes_of ms)) true h) [
+      | inl w ↦ key m.raw (lone m ms (and_both (m.byte == 27) m.pause w.0) (no_bytes ms w.1))
+      | inr w ↦ sequence (true_shape _ w.1) (λ (p : (m.byte ≡ 27) × (m.pause ≡ true)). false≢true (sym w.0 ∙ and_true m p.0 p.1))
+    ]
+
+-- whether a list is whole is known
+pub whole_or_not : (ms : List Marked) → Whole ms ⊎ (Whole ms → ⊥)
+whole_or_not ms = elim (cases_Bool (is_whole ms)) [
+  | inl t ↦ inl (true_whole ms t)
+  | inr f ↦ inr (λ w. false≢true (sym f ∙ whole_true ms w))
+]
+
+pub nil_not_whole : Whole [] → ⊥
+nil_not_whole w = false≢true (whole_true [] w)
+
+pub bytes_of-append : (a x : List Marked) → bytes_of (a ++ x) ≡ bytes_of a ++ bytes_of x
+bytes_of-append [] x = refl
+bytes_of-append (m ∷ a) x = ap (λ (ys : List ℕ). m.byte ∷ ys) (bytes_of-append a x)
+
+pub bytes_of_nil : (x : List Marked) → bytes_of x ≡ [] → x ≡ []
+bytes_of_nil [] h = refl
+bytes_of_nil (m ∷ x) h = absurd cc
+
+-- no whole sequence begins another
+pub whole_closes : NoneBeginsAnother Whole
+whole_closes [] more w v = absurd (nil_not_whole w)
+whole_closes (m ∷ a) more w v = bytes_of_nil more (
+    choice_closes ((m.byte == 27) && m.pause) is_nil (λ bs. is_shape (m.byte ∷ bs)) nil_closes
+    (choice_closes (m.byte == 27) ends_escape (λ bs. is_character (m.byte ∷ bs)) escape_closes (typed_closes m.byte))
+    (bytes_of a) (bytes_of more) (whole_true (m ∷ a) w) (rw bytes_of-append at (whole_true (m ∷ (a ++ more)) v)))

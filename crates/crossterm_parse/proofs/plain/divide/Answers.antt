@@ -1,0 +1,30 @@
+use Rattle.std.proofs.Common.{◌++◌, ◌∷◌, [], ◌∙◌, ap, sym, arith, map, option_to_list, List, ℕ, length}
+use Rattle.std.specs.Option.{option_map}
+use Rattle.crossterm_types.specs.Seen.{seen}
+use Rattle.crossterm_parse.specs.Marked.{bytes_of}
+use Rattle.crossterm_parse.specs.Deciding.{is_whole}
+use Rattle.crossterm_parse.specs.Meaning.{meaning, seen_meaning}
+use Rattle.crossterm_parse.proofs.PlainLaws.{found_none, kept_more, found_open, found_whole, found_next}
+use Rattle.crossterm_parse.proofs.plain.divide.Goals as goal
+use Rattle.crossterm_parse.proofs.plain.divide.Goals.{then-is_whole_part+in_ok-give+in_ok-push-3, else-is_whole_part}
+
+pub loop-marked-init : goal.loop-marked-init
+loop-marked-init g c = rw (c.new-part.ensures.items, c.new-plain.ensures.items, c.new-lengths.ensures.items, c.new-events.ensures.items) found_none
+
+pub is_whole_part-requires : goal.is_whole_part-requires
+is_whole_part-requires g c =
+    c.deref-in-loop-marked.ensures.value ∙ c.in_ok-push-2.ensures.items ∙ kept_more _ _ _ c.loop-marked.invariant.kept ∙ ap bytes_of (sym (c.deref.ensures.value ∙ c.in_ok-push.ensures.items))
+
+pub loop-marked-preserved : goal.loop-marked-preserved
+loop-marked-preserved g c =
+    let tested = sym (ap is_whole (c.deref.ensures.value ∙ c.in_ok-push.ensures.items)) ∙ sym c.is_whole_part.ensures in
+    elim c.if-is_whole_part.branch [
+      | then-is_whole_part+in_ok-give+in_ok-push-3 w ↦
+          let count = w.in_ok-push-3.ensures.items ∙ ap (λ (n : ℕ). c.loop-marked.lengths.items ++ n ∷ []) (w.len.ensures ∙ c.push.new.self.ok.0 ∙ ap length c.in_ok-push.ensures.items) in
+          let means = w.meaning_of_sequence.ensures ∙ ap (λ (bs : List ℕ). meaning _ bs) (w.deref-then-is_whole_part.ensures.value ∙ c.in_ok-push-2.ensures.items) in
+          let given = w.in_ok-give.ensures ∙ ap (λ m. map seen c.loop-marked.events.items ++ option_to_list (option_map seen_meaning m)) means in
+          rw (w.part-is, w.plain-is, w.lengths-is, w.events-is, w.clear.ensures.items, w.clear-then-is_whole_part.ensures.items, count, given)
+          (found_next _ _ _ _ _ _ _ (omega arith) (found_whole _ _ _ _ _ _ c.loop-marked.invariant (tested ∙ w.if-is_whole_part.true)))
+      | else-is_whole_part w ↦ rw (w.part-is, w.plain-is, w.lengths-is, w.events-is, c.in_ok-push.ensures.items, c.in_ok-push-2.ensures.items)
+          (found_next _ _ _ _ _ _ _ (omega arith) (found_open _ _ _ _ _ _ c.loop-marked.invariant (tested ∙ w.if-is_whole_part.false)))
+    ]

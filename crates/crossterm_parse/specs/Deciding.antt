@@ -1,0 +1,57 @@
+-- Tests of the grammar, which its slow program runs. They say what the definitions say.
+use Rattle.std.specs.Prelude.{ℕ, zero, suc, ◌==◌, nat_le, if◌then◌else◌, Bool, true, false, ◌&&◌, ◌||◌, List, [], ◌∷◌}
+use Rattle.crossterm_parse.specs.Marked.{Marked, bytes_of}
+
+abbrev pub is_nil : List ℕ → Bool
+is_nil [] = true
+is_nil (b ∷ bs) = false
+
+abbrev pub is_one : List ℕ → Bool
+is_one [] = false
+is_one (b ∷ bs) = is_nil bs
+
+-- whether the second list begins with the first
+abbrev pub begins : List ℕ → List ℕ → Bool
+begins [] bs = true
+begins (p ∷ ps) [] = false
+begins (p ∷ ps) (b ∷ bs) = begins ps bs && (b == p)
+
+abbrev pub is_lead : ℕ → Bool
+is_lead b = nat_le 192 b && nat_le b 247
+
+abbrev pub is_continuing : ℕ → Bool
+is_continuing b = nat_le 128 b && nat_le b 191
+
+-- how many more bytes continue a character after the first that does
+abbrev pub further_after : ℕ → ℕ
+further_after lead = if nat_le lead 223 then 0 else if nat_le lead 239 then 1 else 2
+
+-- the last of the bytes that continue a character, of which n follow the first one here, or the first byte that doesn't continue it
+abbrev pub ends_character : ℕ → List ℕ → Bool
+ends_character n [] = false
+ends_character zero (b ∷ bs) = is_nil bs
+ends_character (suc n) (b ∷ bs) = if is_continuing b then ends_character n bs else is_nil bs
+
+abbrev pub is_character : List ℕ → Bool
+is_character [] = false
+is_character (b ∷ bs) = if is_lead b then ends_character (further_after b) bs else is_nil bs
+
+abbrev pub ends_escape : List ℕ → Bool
+ends_escape [] = false
+ends_escape (b ∷ bs) = if b == 79 then is_one bs else if b == 91 then is_one bs else if b == 27 then is_nil bs else is_character (b ∷ bs)
+
+abbrev pub is_shape : List ℕ → Bool
+is_shape [] = false
+is_shape (b ∷ bs) = if b == 27 then ends_escape bs else is_character (b ∷ bs)
+
+abbrev pub is_lone : List ℕ → Bool
+is_lone [] = false
+is_lone (b ∷ bs) = (b == 27) && is_nil bs
+
+-- whether bytes that had no whole front before the last one are whole, where pause tells of the last one
+abbrev pub is_decided : List ℕ → Bool → Bool
+is_decided bytes pause = (is_lone bytes && pause) || is_shape bytes
+
+abbrev pub is_whole : List Marked → Bool
+is_whole [] = false
+is_whole (m ∷ ms) = if (m.byte == 27) && m.pause then is_nil (bytes_of ms) else is_shape (m.byte ∷ bytes_of ms)

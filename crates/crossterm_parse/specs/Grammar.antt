@@ -1,0 +1,44 @@
+-- What a terminal's bytes are made of: sequences, each by where it ends and not by what it means.
+use Rattle.std.specs.Prelude.{◌≡◌, ◌≢◌, ◌≤◌, ◌<◌, ℕ, nat_le, if◌then◌else◌, length, Bool, true, List, [], ◌∷◌, ◌++◌}
+use Rattle.std.specs.List.{AllByRecursion}
+use Rattle.crossterm_parse.specs.Marked.{Marked, bytes_of}
+
+-- A byte that leads a character in UTF-8, one that continues it, and how many continue it (RFC 3629).
+abbrev pub IsLead : ℕ → Type 0
+IsLead b = (192 ≤ b) × (b ≤ 247)
+
+abbrev pub IsContinuing : ℕ → Type 0
+IsContinuing b = (128 ≤ b) × (b ≤ 191)
+
+abbrev pub continuing_after : ℕ → ℕ
+continuing_after lead = if nat_le lead 223 then 1 else if nat_le lead 239 then 2 else 3
+
+-- A byte by itself, a character in UTF-8, or one that is broken off by a byte that doesn't continue it and that belongs to it.
+pub data CharacterShape (bytes : List ℕ) : Type 0 where
+  single : (b : ℕ) → b ≢ 27 → ¬ IsLead b → bytes ≡ b ∷ [] → CharacterShape bytes
+  character : (lead : ℕ) (more : List ℕ) → IsLead lead → AllByRecursion IsContinuing more → length more ≡ continuing_after lead
+      → bytes ≡ lead ∷ more → CharacterShape bytes
+  broken : (lead b : ℕ) (more : List ℕ) → IsLead lead → AllByRecursion IsContinuing more → length more < continuing_after lead → ¬ IsContinuing b
+      → bytes ≡ lead ∷ (more ++ b ∷ []) → CharacterShape bytes
+
+-- The shapes of a sequence: a character, two escapes, a character after an escape, `ESC O b` (SS3, ECMA-48) and `ESC [ b` (CSI, ECMA-48).
+pub data Shape (bytes : List ℕ) : Type 0 where
+  text : CharacterShape bytes → Shape bytes
+  two_escapes : bytes ≡ 27 ∷ 27 ∷ [] → Shape bytes
+  with_escape : (b : ℕ) (rest : List ℕ) → b ≢ 79 → b ≢ 91 → CharacterShape (b ∷ rest) → bytes ≡ 27 ∷ b ∷ rest → Shape bytes
+  after_ss3 : (b : ℕ) → bytes ≡ 27 ∷ 79 ∷ b ∷ [] → Shape bytes
+  after_csi : (b : ℕ) → bytes ≡ 27 ∷ 91 ∷ b ∷ [] → Shape bytes
+
+-- An escape that nothing came with after it.
+abbrev pub BeginsPaused : List Marked → Type 0
+BeginsPaused [] = ⊥
+BeginsPaused (m ∷ ms) = (m.byte ≡ 27) × (m.pause ≡ true)
+
+-- A whole sequence: the Esc key, or a shape that doesn't begin with it. Pauses on later bytes count for nothing.
+pub data Whole (ms : List Marked) : Type 0 where
+  key : (raw : Bool) → ms ≡ record { byte = 27; raw = raw; pause = true } ∷ [] → Whole ms
+  sequence : Shape (bytes_of ms) → ¬ BeginsPaused ms → Whole ms
+
+-- What opens a paste (xterm, bracketed paste mode).
+abbrev pub paste_start : List ℕ
+paste_start = 27 ∷ 91 ∷ 50 ∷ 48 ∷ 48 ∷ 126 ∷ []

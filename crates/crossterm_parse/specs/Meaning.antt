@@ -1,0 +1,109 @@
+-- What a whole sequence means.
+use Rattle.std.specs.Prelude.{ℕ, ◌+◌, ◌-◌, ◌==◌, nat_lt, nat_le, if◌then◌else◌, Bool, ◌&&◌, List, [], ◌∷◌, Option, Some, None}
+use Rattle.std.specs.Int.RustNames.{bit_or}
+use Rattle.std.specs.Option.{option_map}
+use Rattle.bstr.specs.Utf8.{decoded}
+use Rattle.unicode.specs.Binary.{is_uppercase}
+use Rattle.crossterm_types.specs.declared.event.key.KeyCode.{KeyCode}
+use Rattle.crossterm_types.specs.declared.event.key.KeyCode.TheVariants.{Backspace, Enter, Left, Right, Up, Down, Home, End, Tab, BackTab, F, Char, Esc}
+use Rattle.crossterm_types.specs.Keys.{modifiers_of, pressed}
+use Rattle.crossterm_types.specs.Seen as types
+use Rattle.crossterm_types.specs.Seen.{Seen}
+use Rattle.crossterm_parse.specs.Marked.{Marked, bytes_of, last_raw}
+use Rattle.crossterm_parse.specs.declared.meaning.Meaning.{Meaning}
+use Rattle.crossterm_parse.specs.declared.meaning.Meaning.TheVariants.{Key, FocusGained, FocusLost}
+
+-- A key that is pressed with the modifiers of these bits: 1 is SHIFT, 2 CONTROL, 4 ALT.
+abbrev pub pressed_with : KeyCode → ℕ → Meaning
+pressed_with code bits = Key (pressed code (modifiers_of bits))
+
+-- A character that was typed has SHIFT exactly where it has the Uppercase property (Unicode, DerivedCoreProperties).
+abbrev pub typed : ℕ → Meaning
+typed c = pressed_with (Char c) (if is_uppercase c then 1 else 0)
+
+-- A byte by itself: the C0 set as a keyboard sends it (xterm), printable ASCII, and DEL.
+abbrev pub single : Bool → ℕ → Option Meaning
+single raw b =
+    if b == 0 then Some (pressed_with (Char 32) 2) else
+    if b == 9 then Some (pressed_with Tab 0) else
+    if b == 10 then Some (if raw then pressed_with (Char 106) 2 else pressed_with Enter 0) else
+    if b == 13 then Some (pressed_with Enter 0) else
+    if b == 27 then None else
+    if nat_le b 26 then Some (pressed_with (Char (b - 1 + 97)) 2) else
+    if nat_le b 31 then Some (pressed_with (Char (b - 28 + 52)) 2) else
+    if nat_lt b 127 then Some (typed b) else
+    if b == 127 then Some (pressed_with Backspace 0) else
+    None
+
+-- What decodes as a character means that it was typed, and what doesn't means nothing.
+abbrev pub decoded_character : Option ℕ → Option Meaning
+decoded_character c = option_map typed c
+
+-- The last byte of `ESC O b`.
+abbrev pub after_ss3 : ℕ → Option Meaning
+after_ss3 b =
+    if b == 65 then Some (pressed_with Up 0) else
+    if b == 66 then Some (pressed_with Down 0) else
+    if b == 67 then Some (pressed_with Right 0) else
+    if b == 68 then Some (pressed_with Left 0) else
+    if b == 72 then Some (pressed_with Home 0) else
+    if b == 70 then Some (pressed_with End 0) else
+    if nat_le 80 b && nat_le b 83 then Some (pressed_with (F (b - 79)) 0) else
+    None
+
+-- The last byte of `ESC [ b`.
+abbrev pub after_csi : ℕ → Option Meaning
+after_csi b =
+    if b == 65 then Some (pressed_with Up 0) else
+    if b == 66 then Some (pressed_with Down 0) else
+    if b == 67 then Some (pressed_with Right 0) else
+    if b == 68 then Some (pressed_with Left 0) else
+    if b == 72 then Some (pressed_with Home 0) else
+    if b == 70 then Some (pressed_with End 0) else
+    if b == 90 then Some (pressed_with BackTab 1) else
+    if b == 73 then Some FocusGained else
+    if b == 79 then Some FocusLost else
+    if b == 80 then Some (pressed_with (F 1) 0) else
+    if b == 81 then Some (pressed_with (F 2) 0) else
+    if b == 83 then Some (pressed_with (F 4) 0) else
+    None
+
+-- That key with ALT, or nothing.
+abbrev pub with_alt : Option Meaning → Option Meaning
+with_alt (Some (Key k)) = Some (Key (record k { modifiers = modifiers_of (bit_or k.modifiers.0 4) }))
+with_alt (Some FocusGained) = None
+with_alt (Some FocusLost) = None
+with_alt None = None
+
+abbrev pub character_meaning : Bool → List ℕ → Option Meaning
+character_meaning raw [] = None
+character_meaning raw (b ∷ []) = single raw b
+character_meaning raw (b ∷ c ∷ bs) = decoded_character (decoded (b ∷ c ∷ bs)).char
+
+abbrev pub ss3_meaning : List ℕ → Option Meaning
+ss3_meaning [] = None
+ss3_meaning (b ∷ bs) = after_ss3 b
+
+abbrev pub csi_meaning : List ℕ → Option Meaning
+csi_meaning [] = None
+csi_meaning (b ∷ bs) = after_csi b
+
+-- a lone escape is the Esc key, and so are two
+abbrev pub escape_meaning : Bool → List ℕ → Option Meaning
+escape_meaning raw [] = Some (pressed_with Esc 0)
+escape_meaning raw (b ∷ bs) = if b == 79 then ss3_meaning bs else if b == 91 then csi_meaning bs else
+    if b == 27 then Some (pressed_with Esc 0) else with_alt (character_meaning raw (b ∷ bs))
+
+-- What the complete bytes of a sequence mean, where raw is the mode told with the last one.
+abbrev pub meaning : Bool → List ℕ → Option Meaning
+meaning raw [] = None
+meaning raw (b ∷ bs) = if b == 27 then escape_meaning raw bs else character_meaning raw (b ∷ bs)
+
+abbrev pub seen_meaning : Meaning → Seen
+seen_meaning (Key k) = types.Key k
+seen_meaning FocusGained = types.FocusGained
+seen_meaning FocusLost = types.FocusLost
+
+-- What a whole sequence means: one event, or nothing.
+abbrev pub meaning_of : List Marked → Option Seen
+meaning_of ms = option_map seen_meaning (meaning (last_raw ms) (bytes_of ms))

@@ -1,0 +1,91 @@
+//! A character in UTF-8 that is open.
+ghost use Rattle.std.specs.Prelude.{◌≡◌};
+ghost use Rattle.bstr.specs.Utf8.{decoded};
+ghost use Rattle.crossterm_parse.specs.Deciding.{is_lead, is_continuing, further_after};
+ghost use Rattle.crossterm_parse.specs.Machine.{grown, over};
+
+use crate::meaning::{Meaning, meaning_of_character, plus_alt};
+
+/// The bytes of a character so far.
+#[derive(Clone, Copy, Debug, PartialEq, Eq)]
+pub struct Character {
+    /// Whether an escape stands before them.
+    pub escaped: bool,
+    pub begun: Begun,
+}
+
+/// One to three bytes, the first of which leads a character.
+#[derive(Clone, Copy, Debug, PartialEq, Eq)]
+pub enum Begun {
+    One(u8),
+    Two(u8, u8),
+    Three(u8, u8, u8),
+}
+
+/// What one more byte does to a character.
+#[derive(Clone, Copy, Debug, PartialEq, Eq)]
+pub enum Grown {
+    More(Begun),
+    Over(Option<Meaning>),
+}
+
+/// Whether the byte leads a character.
+pub fn is_lead_byte(byte: u8) -> bool
+    ensures { result ≡ is_lead byte }
+{
+    matches!(byte, 0xC0..=0xF7)
+}
+
+/// Whether the byte continues a character.
+pub fn is_continuing_byte(byte: u8) -> bool
+    ensures { result ≡ is_continuing byte }
+{
+    matches!(byte, 0x80..=0xBF)
+}
+
+/// How many more bytes continue a character after the first that does.
+pub fn further_bytes(lead: u8) -> u8
+    ensures { result ≡ further_after lead }
+{
+    match lead {
+        0..=0xDF => 0,
+        0xE0..=0xEF => 1,
+        _ => 2,
+    }
+}
+
+impl Character {
+    fn over(self, bytes: &[u8]) -> Grown
+        ensures { result ≡ over self.escaped (decoded bytes.now).char }
+    {
+        let meaning = meaning_of_character(bytes);
+        Grown::Over(if self.escaped {
+            plus_alt(meaning)
+        } else {
+            meaning
+        })
+    }
+
+    /// The bytes with one more, or what they mean where the character is over.
+    pub fn next(self, byte: u8) -> Grown
+        ensures { result ≡ grown self.escaped self.begun byte }
+    {
+        match self.begun {
+            Begun::One(lead) => {
+                if is_continuing_byte(byte) && further_bytes(lead) > 0 {
+                    Grown::More(Begun::Two(lead, byte))
+                } else {
+                    self.over(&[lead, byte])
+                }
+            }
+            Begun::Two(lead, second) => {
+                if is_continuing_byte(byte) && further_bytes(lead) > 1 {
+                    Grown::More(Begun::Three(lead, second, byte))
+                } else {
+                    self.over(&[lead, second, byte])
+                }
+            }
+            Begun::Three(lead, second, third) => self.over(&[lead, second, third, byte]),
+        }
+    }
+}

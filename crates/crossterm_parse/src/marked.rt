@@ -1,0 +1,12 @@
+//! Bytes as a device told them.
+
+/// A byte, with what the device told beside it.
+#[derive(Clone, Copy, Debug, PartialEq, Eq)]
+pub struct Marked {
+    /// The byte.
+    pub byte: u8,
+    /// Whether the terminal was in raw mode when the byte came.
+    pub raw: bool,
+    /// Whether no byte came with it after it.
+    pub pause: bool,
+}

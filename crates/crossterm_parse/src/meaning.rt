@@ -1,0 +1,163 @@
+//! What a whole sequence means.
+ghost use Rattle.std.specs.Prelude.{◌≡◌, ◌≤◌, ◌<◌, ◌&&◌, nat_le};
+ghost use Rattle.bstr.specs.Utf8.{decoded};
+ghost use Rattle.crossterm_parse.specs.Meaning.{pressed_with, typed, single, decoded_character, after_ss3, after_csi, with_alt};
+
+use bstr::decode_utf8;
+use crossterm_types::event::{Event, InternalEvent, KeyCode, KeyEvent, KeyModifiers};
+use std::alloc::Allocator;
+use unicode::properties::is_uppercase;
+
+/// What a sequence means that has no text of its own.
+#[derive(Clone, Copy, Debug, PartialEq, Eq)]
+pub enum Meaning {
+    Key(KeyEvent),
+    FocusGained,
+    FocusLost,
+}
+
+impl<A: Allocator> From<Meaning> for InternalEvent<A> {
+    ghost use Rattle.crossterm_types.specs.Seen.{seen};
+    ghost use Rattle.crossterm_parse.specs.Meaning.{seen_meaning};
+
+    ghost from_gives = { λ meaning event. seen event ≡ seen_meaning meaning };
+
+    fn from(meaning: Meaning) -> InternalEvent<A> {
+        InternalEvent::Event(match meaning {
+            Meaning::Key(key) => Event::Key(key),
+            Meaning::FocusGained => Event::FocusGained,
+            Meaning::FocusLost => Event::FocusLost,
+        })
+    }
+}
+
+/// A key that is pressed with these modifiers.
+fn pressed_key(code: KeyCode, modifiers: KeyModifiers) -> Meaning
+    ensures { result ≡ pressed_with code modifiers.0 }
+{
+    Meaning::Key(KeyEvent::new(code, modifiers))
+}
+
+/// A key that is pressed alone.
+pub fn pressed_alone(code: KeyCode) -> Meaning
+    ensures { result ≡ pressed_with code 0 }
+{
+    pressed_key(code, KeyModifiers::NONE)
+}
+
+/// A character that was typed: with SHIFT where it is upper case.
+fn typed_character(c: char) -> Meaning
+    ensures { result ≡ typed c }
+{
+    let modifiers = if is_uppercase(c) {
+        KeyModifiers::SHIFT
+    } else {
+        KeyModifiers::NONE
+    };
+    pressed_key(KeyCode::Char(c), modifiers)
+}
+
+/// Whether the byte is one of `A` to `Z`.
+fn is_capital(byte: u8) -> bool
+    ensures { result ≡ nat_le 65 byte && nat_le byte 90 }
+{
+    matches!(byte, b'A'..=b'Z')
+}
+
+/// What a byte from space to tilde means by itself.
+pub fn meaning_of_letter(byte: u8) -> Meaning
+    requires { (32 ≤ byte) × (byte < 127) }
+    ensures { result ≡ typed byte }
+{
+    let modifiers = if is_capital(byte) {
+        KeyModifiers::SHIFT
+    } else {
+        KeyModifiers::NONE
+    };
+    pressed_key(KeyCode::Char(byte as char), modifiers)
+}
+
+/// What a byte means by itself.
+pub fn meaning_of_byte(byte: u8, raw: bool) -> Option<Meaning>
+    ensures { result ≡ single raw byte }
+{
+    match byte {
+        0 => Some(pressed_key(KeyCode::Char(' '), KeyModifiers::CONTROL)),
+        9 => Some(pressed_alone(KeyCode::Tab)),
+        10 if raw => Some(pressed_key(KeyCode::Char('j'), KeyModifiers::CONTROL)),
+        10 | 13 => Some(pressed_alone(KeyCode::Enter)),
+        1..=26 => Some(pressed_key(
+            KeyCode::Char((byte - 1 + b'a') as char),
+            KeyModifiers::CONTROL,
+        )),
+        28..=31 => Some(pressed_key(
+            KeyCode::Char((byte - 28 + b'4') as char),
+            KeyModifiers::CONTROL,
+        )),
+        32..=126 => Some(meaning_of_letter(byte)),
+        127 => Some(pressed_alone(KeyCode::Backspace)),
+        _ => None,
+    }
+}
+
+/// The same key with ALT.
+pub fn plus_alt(meaning: Option<Meaning>) -> Option<Meaning>
+    ensures { result ≡ with_alt meaning }
+{
+    match meaning {
+        Some(Meaning::Key(key)) => Some(Meaning::Key(KeyEvent {
+            modifiers: key.modifiers | KeyModifiers::ALT,
+            ..key
+        })),
+        _ => None,
+    }
+}
+
+/// What the last byte of `ESC O b` means.
+pub fn meaning_after_ss3(byte: u8) -> Option<Meaning>
+    ensures { result ≡ after_ss3 byte }
+{
+    let code = match byte {
+        b'A' => KeyCode::Up,
+        b'B' => KeyCode::Down,
+        b'C' => KeyCode::Right,
+        b'D' => KeyCode::Left,
+        b'H' => KeyCode::Home,
+        b'F' => KeyCode::End,
+        b'P'..=b'S' => KeyCode::F(byte - b'O'),
+        _ => return None,
+    };
+    Some(pressed_alone(code))
+}
+
+/// What the last byte of `ESC [ b` means.
+pub fn meaning_after_csi(byte: u8) -> Option<Meaning>
+    ensures { result ≡ after_csi byte }
+{
+    let code = match byte {
+        b'A' => KeyCode::Up,
+        b'B' => KeyCode::Down,
+        b'C' => KeyCode::Right,
+        b'D' => KeyCode::Left,
+        b'H' => KeyCode::Home,
+        b'F' => KeyCode::End,
+        b'Z' => return Some(pressed_key(KeyCode::BackTab, KeyModifiers::SHIFT)),
+        b'I' => return Some(Meaning::FocusGained),
+        b'O' => return Some(Meaning::FocusLost),
+        b'P' => KeyCode::F(1),
+        b'Q' => KeyCode::F(2),
+        b'S' => KeyCode::F(4),
+        _ => return None,
+    };
+    Some(pressed_alone(code))
+}
+
+/// What the bytes of a character mean: that character, or nothing where they are none.
+pub fn meaning_of_character(bytes: &[u8]) -> Option<Meaning>
+    ensures { result ≡ decoded_character (decoded bytes.now).char }
+{
+    match decode_utf8(bytes) {
+        (Some(c), _) => Some(typed_character(c)),
+        (None, _) => None,
+    }
+}

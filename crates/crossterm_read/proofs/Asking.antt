@@ -1,0 +1,106 @@
+-- Asking a source again and again.
+use Rattle.std.proofs.Common.{◌≡◌, ◌≢◌, ◌<◌, ℕ, ◌+◌, Bool, true, false, List, [], ◌∷◌, ◌++◌, length, None, Ok, inl, inr, refl, sym, ap, subst, ◌∙◌, arith, append_assoc, append-nil, length-append}
+use Rattle.std.specs.List.{AllByRecursion}
+use Rattle.std.specs.declared.io.ErrorKind.{ErrorKind}
+use Rattle.std.specs.declared.io.ErrorKind.TheVariants.{OutOfMemory, Interrupted}
+use Rattle.crossterm_types.specs.Seen.{Seen}
+use Rattle.crossterm_read.specs.Answers.{SourceAnswer, Gave, Nothing, Failed}
+use Rattle.crossterm_read.specs.declared.read.reader.Once.{Once}
+use Rattle.crossterm_read.specs.declared.read.reader.Once.TheVariants as once
+use Rattle.crossterm_read.specs.Shelf.{Shelf, ReaderState}
+use Rattle.crossterm_read.specs.Shelf.{arrived, numbered_after, next_number, Arrives}
+use Rattle.crossterm_read.specs.Steps.{first_admitted, Passes, came, broke, tried, refused, Ready, Tried, Broke, Asked, DrawsOne, PollStep, Polled, Faulted, end_of}
+
+pub arrived-append : (n : ℕ) (xs ys : List SourceAnswer) → arrived n (xs ++ ys) ≡ arrived n xs ++ arrived (numbered_after n xs) ys
+arrived-append n [] ys = refl
+arrived-append n (Gave x ∷ xs) ys = ap (λ l. (x, n) ∷ l) (arrived-append (next_number n) xs ys)
+arrived-append n (Nothing ∷ xs) ys = arrived-append n xs ys
+arrived-append n (Failed k ∷ xs) ys = arrived-append n xs ys
+
+pub numbered_after-append : (n : ℕ) (xs ys : List SourceAnswer) → numbered_after n (xs ++ ys) ≡ numbered_after (numbered_after n xs) ys
+numbered_after-append n [] ys = refl
+numbered_after-append n (Gave x ∷ xs) ys = numbered_after-append (next_number n) xs ys
+numbered_after-append n (Nothing ∷ xs) ys = numbered_after-append n xs ys
+numbered_after-append n (Failed k ∷ xs) ys = numbered_after-append n xs ys
+
+pub arrives_none : (s : Shelf) → Arrives s [] s
+arrives_none s = record { held = sym (append-nil s.held); arrivals = refl }
+
+pub arrives_more : (s m t : Shelf) (xs ys : List SourceAnswer) → Arrives s xs m → Arrives m ys t → Arrives s (xs ++ ys) t
+arrives_more s m t xs ys a b = record {
+  held = b.held ∙ ap (λ l. l ++ arrived m.arrivals ys) a.held ∙ append_assoc s.held (arrived s.arrivals xs) (arrived m.arrivals ys)
+      ∙ ap (λ l. s.held ++ l) (ap (λ (k : ℕ). arrived s.arrivals xs ++ arrived k ys) a.arrivals ∙ sym (arrived-append s.arrivals xs ys));
+  arrivals = b.arrivals ∙ ap (λ (k : ℕ). numbered_after k ys) a.arrivals ∙ sym (numbered_after-append s.arrivals xs ys);
+}
+
+all_push : {Y : Type 0} (P : Y → Type 0) (ys : List Y) (y : Y) → AllByRecursion P ys → P y → AllByRecursion P (ys ++ y ∷ [])
+all_push P [] y a h = (h, tt)
+all_push P (x ∷ ys) y a h = (a.0, all_push P ys y a.1 h)
+
+module _ {S : Type 0} (drawn : S → List SourceAnswer → S → Type 0) (on : (s t u : S) (xs ys : List SourceAnswer) → drawn s xs t → drawn t ys u → drawn s (xs ++ ys) u) (patient : Bool) (f : Seen → Bool) where
+  -- so far no answer ended it
+  pub record Asking (s t : ReaderState S) (i : ℕ) : Type 0 where
+    pub answers : List SourceAnswer
+    pub drawn_so : drawn s.source answers t.source
+    pub arrives : Arrives s.shelf answers t.shelf
+    pub passes : AllByRecursion (Passes patient f) answers
+    pub count : length answers ≡ i
+    pub none : first_admitted f s.shelf.held ≡ None
+
+  pub asking_none : ((s : S) → drawn s [] s) → (s t : ReaderState S) → t ≡ s → first_admitted f s.shelf.held ≡ None → Asking s t 0
+  asking_none law s t e n = subst (λ (y : ReaderState S). Asking s y 0) (sym e)
+      (record { answers = []; drawn_so = law s.source; arrives = arrives_none s.shelf; passes = tt; count = refl; none = n })
+
+  pub asking_more : (s m t : ReaderState S) (i : ℕ) (z : SourceAnswer) → Asking s m i → drawn m.source (z ∷ []) t.source → Arrives m.shelf (z ∷ []) t.shelf → Passes patient f z → Asking s t (i + 1)
+  asking_more s m t i z a d h p = record {
+    answers = a.answers ++ z ∷ [];
+    drawn_so = on s.source m.source t.source a.answers (z ∷ []) a.drawn_so d;
+    arrives = arrives_more s.shelf m.shelf t.shelf a.answers (z ∷ []) a.arrives h;
+    passes = all_push (Passes patient f) a.answers z a.passes p;
+    count = length-append a.answers (z ∷ []) ∙ ap (λ (k : ℕ). k + 1) a.count;
+    none = a.none;
+  }
+
+  pub asked_tried : (s t : ReaderState S) (tries : ℕ) → Asking s t tries → Asked drawn patient f tries s t Tried
+  asked_tried s t tries a = (a.answers, a.drawn_so, a.arrives, tried a.none a.passes a.count refl)
+
+  pub asked_refused : (s t : ReaderState S) (i tries : ℕ) (kind : ErrorKind) → Asking s t i → i < tries → kind ≡ OutOfMemory → Asked drawn patient f tries s t (Broke kind)
+  asked_refused s t i tries kind a h e = (a.answers, a.drawn_so, a.arrives, refused a.none a.passes (let c = a.count in omega arith) (ap Broke e))
+
+  pub asked_came : (s m t : ReaderState S) (i tries : ℕ) (x : Seen) → Asking s m i → i < tries → drawn m.source (Gave x ∷ []) t.source → Arrives m.shelf (Gave x ∷ []) t.shelf → f x ≡ true
+      → Asked drawn patient f tries s t Ready
+  asked_came s m t i tries x a h d r y = (
+    a.answers ++ Gave x ∷ [],
+    on s.source m.source t.source a.answers (Gave x ∷ []) a.drawn_so d,
+    arrives_more s.shelf m.shelf t.shelf a.answers (Gave x ∷ []) a.arrives r,
+    came a.none a.answers x refl a.passes y (let c = a.count in let l = length-append a.answers (Gave x ∷ []) in omega arith) refl,
+  )
+
+  pub asked_broke : (s m t : ReaderState S) (i tries : ℕ) (kind : ErrorKind) → Asking s m i → i < tries → drawn m.source (Failed kind ∷ []) t.source → Arrives m.shelf (Failed kind ∷ []) t.shelf
+      → (patient ≡ true → kind ≢ Interrupted) → Asked drawn patient f tries s t (Broke kind)
+  asked_broke s m t i tries kind a h d r y = (
+    a.answers ++ Failed kind ∷ [],
+    on s.source m.source t.source a.answers (Failed kind ∷ []) a.drawn_so d,
+    arrives_more s.shelf m.shelf t.shelf a.answers (Failed kind ∷ []) a.arrives r,
+    broke a.none a.answers kind refl a.passes y (let c = a.count in let l = length-append a.answers (Failed kind ∷ []) in omega arith) refl,
+  )
+
+  pub draws_from : (i s t : ReaderState S) (o : Once) → i ≡ s → DrawsOne drawn patient f i t o → DrawsOne drawn patient f s t o
+  draws_from i s t o e d = subst (λ (y : ReaderState S). DrawsOne drawn patient f y t o) e d
+
+  pub asking_came : (s m t : ReaderState S) (i : ℕ) (b : Bool) → b ≡ false → Asking s m i → DrawsOne drawn patient f m t (once.Came b) → Asking s t (i + 1)
+  asking_came s m t i b h a d = asking_more s m t i (Gave d.0) a d.1 d.2 (sym d.3 ∙ h)
+
+  pub asking_nothing : (s m t : ReaderState S) (i : ℕ) → Asking s m i → DrawsOne drawn patient f m t once.Nothing → Asking s t (i + 1)
+  asking_nothing s m t i a d = asking_more s m t i d.0 a d.1 d.2 d.3
+
+module _ {S : Type 0} (drawn : S → List SourceAnswer → S → Type 0) (f : Seen → Bool) (tries : ℕ) (s t : ReaderState S) where
+  pub poll_ok : (b : Bool) → Asked drawn false f tries s t (end_of (Ok b)) → (zs : List SourceAnswer) × drawn s.source zs t.source × PollStep tries f zs s.shelf t.shelf (Polled b)
+  poll_ok true a = (a.0, a.1, (Ready, a.3, a.2, refl))
+  poll_ok false a = (a.0, a.1, (Tried, a.3, a.2, refl))
+
+  pub poll_woken : (kind : ErrorKind) → kind ≡ Interrupted → Asked drawn false f tries s t (Broke kind) → (zs : List SourceAnswer) × drawn s.source zs t.source × PollStep tries f zs s.shelf t.shelf (Polled false)
+  poll_woken kind h a = (a.0, a.1, (Broke kind, a.3, a.2, inl (h, refl)))
+
+  pub poll_fault : (kind : ErrorKind) → kind ≢ Interrupted → Asked drawn false f tries s t (Broke kind) → (zs : List SourceAnswer) × drawn s.source zs t.source × PollStep tries f zs s.shelf t.shelf (Faulted kind)
+  poll_fault kind h a = (a.0, a.1, (Broke kind, a.3, a.2, inr (h, refl)))

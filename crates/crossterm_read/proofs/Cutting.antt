@@ -1,0 +1,52 @@
+-- Buffers of a piece.
+use Rattle.std.proofs.Common.{◌≡◌, ◌≤◌, ◌<◌, ◌+◌, ℕ, zero, suc, Bool, List, [], ◌∷◌, ◌++◌, length, take, drop, map, refl, ap, sym, subst, ◌∙◌, arith, length-drop}
+use Rattle.std.proofs.Common.{get_or, min, drop-drop}
+use Rattle.std.proofs.Math.Seq.{drop-nil, take-nil}
+use Rattle.std.proofs.lemmas.List.{drop_more, take_at, length-take-le}
+use Rattle.crossterm_read.specs.Device.{Word, Bytes}
+use Rattle.crossterm_read.specs.Scripted.{Tells, cut_within, buffers, piece_words, words_from}
+use Rattle.crossterm_read.specs.declared.source.script.Act.{Act}
+
+cut_none : (n : ℕ) → cut_within n [] ≡ []
+cut_none zero = refl
+cut_none (suc n) = refl
+
+cut_more : (n m : ℕ) (bytes : List ℕ) → length bytes ≤ n → length bytes ≤ m → cut_within n bytes ≡ cut_within m bytes
+cut_more n m [] g h = cut_none n ∙ sym (cut_none m)
+cut_more zero m (b ∷ bs) g h = absurd (omega arith)
+cut_more (suc n) zero (b ∷ bs) g h = absurd (omega arith)
+cut_more (suc n) (suc m) (b ∷ bs) g h = ap (λ (l : List (List ℕ)). take 1024 (b ∷ bs) ∷ l) (cut_more n m (drop 1024 (b ∷ bs)) (omega (arith, length-drop 1024 (b ∷ bs))) (omega (arith, length-drop 1024 (b ∷ bs))))
+
+pub buffers_step : (bytes : List ℕ) → 0 < length bytes → buffers bytes ≡ take 1024 bytes ∷ buffers (drop 1024 bytes)
+buffers_step [] h = absurd (omega arith)
+buffers_step (b ∷ bs) h = ap (λ (l : List (List ℕ)). take 1024 (b ∷ bs) ∷ l) (cut_more (length bs) (length (drop 1024 (b ∷ bs))) (drop 1024 (b ∷ bs)) (omega (arith, length-drop 1024 (b ∷ bs))) (omega arith))
+
+pub words_at : {A : Type 0} (acts : List (Act A)) (next told : ℕ) (a : Act A) → next < length acts → a ≡ get_or acts next a → words_from (drop next acts) told ≡ words_from (a ∷ drop (next + 1) acts) told
+words_at {A} acts next told a h e = ap (λ (l : List (Act A)). words_from l told) (drop_more acts next a h ∙ ap (λ (y : Act A). y ∷ drop (next + 1) acts) (sym e))
+
+-- one buffer of a piece is told
+pub piece_step : (bytes more x : List ℕ) (raw : Bool) (ws left right : List Word) → 0 < length bytes → more ≡ drop 1024 bytes → x ≡ take 1024 bytes
+    → piece_words bytes raw ++ ws ≡ left → piece_words more raw ++ ws ≡ right → Tells left (Bytes x raw ∷ []) right
+piece_step bytes more x raw ws left right h m e p q =
+    let s = ap (λ (l : List (List ℕ)). map (λ buffer. Bytes buffer raw) l ++ ws) (buffers_step bytes h) in
+    subst (λ (l : List Word). Tells l (Bytes x raw ∷ []) right) (sym s ∙ p)
+    (ap (λ (b : List ℕ). Bytes b raw) e, ap (λ (b : List ℕ). piece_words b raw ++ ws) (sym m) ∙ q)
+
+min_drop : (k n : ℕ) (l : List ℕ) → n ≡ min k (length l) → drop n l ≡ drop k l
+min_drop k n [] h = drop-nil n ∙ sym (drop-nil k)
+min_drop zero n (b ∷ bs) h = let e : n ≡ 0 = omega arith in ap (λ (i : ℕ). drop i (b ∷ bs)) e
+min_drop (suc k) zero (b ∷ bs) h = absurd (omega arith)
+min_drop (suc k) (suc n) (b ∷ bs) h = min_drop k n bs (omega arith)
+
+min_take : (k n : ℕ) (l : List ℕ) → n ≡ min k (length l) → take n l ≡ take k l
+min_take k n [] h = take-nil n ∙ sym (take-nil k)
+min_take zero n (b ∷ bs) h = let e : n ≡ 0 = omega arith in ap (λ (i : ℕ). take i (b ∷ bs)) e
+min_take (suc k) zero (b ∷ bs) h = absurd (omega arith)
+min_take (suc k) (suc n) (b ∷ bs) h = ap (λ (l : List ℕ). b ∷ l) (min_take k n bs (omega arith))
+
+-- what is left after as many bytes as there are, or 1024
+pub drop_told : (bytes : List ℕ) (told n : ℕ) → n ≡ min 1024 (length (drop told bytes)) → drop (told + n) bytes ≡ drop 1024 (drop told bytes)
+drop_told bytes told n e = sym (drop-drop n told bytes) ∙ min_drop 1024 n (drop told bytes) e
+
+pub take_told : (bytes buf : List ℕ) (n : ℕ) → n ≡ min 1024 (length bytes) → take n (take n bytes ++ drop n buf) ≡ take 1024 bytes
+take_told bytes buf n e = take_at (take n bytes) (drop n buf) n (length-take-le n bytes (omega arith)) ∙ min_take 1024 n bytes e

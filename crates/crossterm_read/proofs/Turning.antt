@@ -1,0 +1,142 @@
+-- One answer of a source.
+use Rattle.std.proofs.Common.{◌≡◌, ◌≢◌, ◌≤◌, ◌-◌, ◌+◌, ◌==◌, ℕ, zero, suc, Bool, false, List, [], ◌∷◌, ◌++◌, length, take, drop, refl, ap, sym, subst, ◌∙◌, arith, length-drop, ◌<◌}
+use Rattle.std.specs.List.{filter_map}
+use Rattle.crossterm_parse.specs.declared.marked.Marked.{Marked}
+use Rattle.crossterm_parse.specs.Marked.{marked}
+use Rattle.crossterm_types.specs.Seen.{Seen}
+use Rattle.crossterm_parse.specs.Meaning.{meaning_of}
+use Rattle.crossterm_parse.specs.Standing.{Standing, StandsStill, AdvancesOver}
+use Rattle.crossterm_read.specs.Answers.{SourceAnswer, Gave, Failed}
+use Rattle.std.specs.declared.io.ErrorKind.TheVariants.{OutOfMemory}
+use Rattle.std.proofs.Math.Seq.{drop-nil}
+use Rattle.std.proofs.lemmas.List.{drop-take, length-take-le}
+use Rattle.crossterm_parse.proofs.StandingLaws.{length-marked}
+use Rattle.crossterm_read.specs.Device.{Word, Bytes, told_bytes}
+use Rattle.crossterm_read.specs.Turns.{Takes, GivesFirst, without_event, waited, again, fresh, other, Answers, Source, at, SourceDrawn, Hands}
+
+module _ {D : Type 0} (told : D → List Word → D → Type 0) where
+  from_inside : (i s t : Source D) (xs : List SourceAnswer) → i ≡ s → SourceDrawn told i xs t → SourceDrawn told s xs t
+  from_inside i s t xs e d = subst (λ (y : Source D). SourceDrawn told y xs t) e d
+
+  pub other_turn : (i s : Source D) (new : Standing) (left : List Marked) (d : D) (w : Word) (x : SourceAnswer) → i ≡ s → i.parser.waiting ≡ [] → new.waiting ≡ [] → i.untaken ≡ [] → left ≡ []
+      → StandsStill i.parser new → told i.device (w ∷ []) d → Answers w x → SourceDrawn told s (x ∷ []) (record { parser = new; untaken = left; device = d })
+  other_turn i s new left d w x e ws wt us ut st h a = from_inside i s (record { parser = new; untaken = left; device = d }) (x ∷ []) e (
+    w ∷ [],
+    h,
+    λ before stands undecided.
+        let same : at (record { parser = new; untaken = left; device = d }) before ≡ at i before = λ j. record { waiting = (wt ∙ sym ws) j; untaken = (ut ∙ sym us) j; undecided = before } in
+        (before, st before stands, undecided, (w ∷ [], [], at (record { parser = new; untaken = left; device = d }) before, refl, other w ws us refl a same, (refl, refl))),
+  )
+
+  pub waited_turn : ((s : D) → told s [] s) → (i s : Source D) (new : Standing) (left : List Marked) (d : D) (e : Seen) → i ≡ s → i.parser.waiting ≡ e ∷ new.waiting → left ≡ i.untaken
+      → StandsStill i.parser new → d ≡ i.device → SourceDrawn told s (Gave e ∷ []) (record { parser = new; untaken = left; device = d })
+  waited_turn law i s new left d e p w u st h = from_inside i s (record { parser = new; untaken = left; device = d }) (Gave e ∷ []) p (
+    [],
+    subst (λ (x : D). told i.device [] x) (sym h) (law i.device),
+    λ before stands undecided. (
+      before,
+      st before stands,
+      undecided,
+      ([], [], at (record { parser = new; untaken = left; device = d }) before, refl, waited e w u refl refl refl, (refl, refl)),
+    ),
+  )
+
+  pub again_turn : ((s : D) → told s [] s) → (i s : Source D) (m : Standing) (ml : List Marked) (md : D) (t : Source D) (x : SourceAnswer) → i ≡ s → i.parser.waiting ≡ [] → i.untaken ≢ [] → ml ≡ i.untaken
+      → StandsStill i.parser m → t.device ≡ i.device → Hands (record { parser = m; untaken = ml; device = md }) x t → SourceDrawn told s (x ∷ []) t
+  again_turn law i s m ml md t x p w u mu st d h = from_inside i s t (x ∷ []) p (
+    [],
+    subst (λ (y : D). told i.device [] y) (sym d) (law i.device),
+    λ before stands undecided.
+        let f = h before (st before stands) undecided in
+        (f.0, f.2, f.3, ([], [], at t f.0, refl, again f.1 w u refl (subst (λ (l : List Marked). Takes before l f.1) mu f.4) f.5, (refl, refl))),
+  )
+
+  pub fresh_turn : (i s : Source D) (m : Standing) (ml : List Marked) (md : D) (t : Source D) (bytes : List ℕ) (raw : Bool) (x : SourceAnswer) → i ≡ s → i.parser.waiting ≡ [] → i.untaken ≡ [] → bytes ≢ [] → ml ≡ told_bytes bytes raw
+      → StandsStill i.parser m → told i.device (Bytes bytes raw ∷ []) t.device → Hands (record { parser = m; untaken = ml; device = md }) x t → SourceDrawn told s (x ∷ []) t
+  fresh_turn i s m ml md t bytes raw x p w u b mu st d h = from_inside i s t (x ∷ []) p (
+    Bytes bytes raw ∷ [],
+    d,
+    λ before stands undecided.
+        let f = h before (st before stands) undecided in
+        (f.0, f.2, f.3, (Bytes bytes raw ∷ [], [], at t f.0, refl, fresh bytes raw f.1 w u b refl (subst (λ (l : List Marked). Takes before l f.1) mu f.4) f.5, (refl, refl))),
+  )
+
+-- the marks of a front and of what follows it
+pub marked_split : (n : ℕ) (bytes : List ℕ) (more raw : Bool) → n ≤ length bytes → marked bytes more raw ≡ take n (marked bytes more raw) ++ marked (drop n bytes) more raw
+marked_split zero bytes more raw h = refl
+marked_split (suc n) [] more raw h = refl
+marked_split (suc zero) (b ∷ []) more raw h = refl
+marked_split (suc (suc n)) (b ∷ []) more raw h = refl
+marked_split (suc n) (b ∷ c ∷ bs) more raw h = ap (λ (l : List Marked). record { byte = b; raw = raw; pause = false } ∷ l) (marked_split n (c ∷ bs) more raw (omega arith))
+
+pub gives_some : (w new : List Seen) (left : List Marked) (e : Seen) (after : List Marked) → w ≡ e ∷ new
+    → GivesFirst w (record { waiting = w; untaken = left; undecided = after }) (Gave e) (record { waiting = new; untaken = left; undecided = after })
+gives_some w new left e after h = subst
+    (λ (l : List Seen). GivesFirst l (record { waiting = l; untaken = left; undecided = after }) (Gave e) (record { waiting = new; untaken = left; undecided = after }))
+    (sym h) (refl, refl)
+
+pub gives_none : (w new : List Seen) (left : List Marked) (x : SourceAnswer) (after : List Marked) → w ≡ [] → new ≡ [] → x ≡ without_event left
+    → GivesFirst w (record { waiting = w; untaken = left; undecided = after }) x (record { waiting = new; untaken = left; undecided = after })
+gives_none w new left x after h i e = subst
+    (λ (l : List Seen). GivesFirst l (record { waiting = l; untaken = left; undecided = after }) x (record { waiting = new; untaken = left; undecided = after }))
+    (sym h) (e, λ j. record { waiting = i j; untaken = left; undecided = after })
+
+-- a front was taken, and then the first event given
+pub hands_next : {D : Type 0} (i s : Source D) (m new : Standing) (left : List Marked) (d : D) (n : ℕ) (rest : List ℕ) (more raw : Bool) (x : SourceAnswer) → i ≡ s
+    → s.parser.waiting ≡ [] → i.untaken ≡ marked rest more raw → n ≤ length rest → left ≡ marked (drop n rest) more raw
+    → AdvancesOver i.parser m (take n (marked rest more raw)) → StandsStill m new
+    → ((after : List Marked) → GivesFirst m.waiting (record { waiting = m.waiting; untaken = left; undecided = after }) x (record { waiting = new.waiting; untaken = left; undecided = after }))
+    → Hands s x (record { parser = new; untaken = left; device = d })
+hands_next {D} i s m new left d n rest more raw x e w u h v a st gives =
+    let done : Hands i x (record { parser = new; untaken = left; device = d }) = λ before stands undecided.
+    let adv = a before stands undecided in (
+      adv.rest,
+      record { waiting = m.waiting; untaken = left; undecided = adv.rest },
+      st adv.rest adv.stands,
+      adv.division.undecided,
+      record {
+        taken = take n (marked rest more raw);
+        parts = adv.parts;
+        cut = u ∙ marked_split n rest more raw h ∙ ap (λ (l : List Marked). take n (marked rest more raw) ++ l) (sym v);
+        division = adv.division;
+        waiting = adv.given ∙ ap (λ (l : List Seen). l ++ filter_map meaning_of adv.parts) (ap (λ (y : Source D). y.parser.waiting) e ∙ w);
+      },
+      gives adv.rest,
+    ) in
+    subst (λ (y : Source D). Hands y x (record { parser = new; untaken = left; device = d })) e done
+
+-- nothing is left of a buffer
+pub none_left : (from end : ℕ) (buffer : List ℕ) (more raw : Bool) → from ≡ end → marked (take (end - from) (drop from buffer)) more raw ≡ []
+none_left from end buffer more raw h = let e : end - from ≡ 0 = omega arith in ap (λ (n : ℕ). marked (take n (drop from buffer)) more raw) e
+
+drop_drop : (n m : ℕ) (l : List ℕ) → drop (n + m) l ≡ drop m (drop n l)
+drop_drop zero m l = ap (λ (k : ℕ). drop k l) (omega arith)
+drop_drop (suc n) m [] = drop-nil (suc n + m) ∙ sym (drop-nil m)
+drop_drop (suc n) m (b ∷ bs) = let e : suc n + m ≡ suc (n + m) = omega arith in ap (λ (k : ℕ). drop k (b ∷ bs)) e ∙ drop_drop n m bs
+
+-- what is left of a buffer after some more
+pub left_after : (from n end : ℕ) (buffer : List ℕ) → from + n ≤ end → take (end - (from + n)) (drop (from + n) buffer) ≡ drop n (take (end - from) (drop from buffer))
+left_after from n end buffer h =
+    let e : end - from ≡ n + (end - (from + n)) = omega arith in
+    ap (λ (l : List ℕ). take (end - (from + n)) l) (drop_drop from n buffer) ∙ sym (drop-take n (end - (from + n)) (drop from buffer)) ∙ ap (λ (k : ℕ). drop n (take k (drop from buffer))) (sym e)
+
+-- some are left of a buffer
+pub some_left : (from end : ℕ) (buffer : List ℕ) (more raw : Bool) → from < end → end ≤ length buffer → marked (take (end - from) (drop from buffer)) more raw ≢ []
+some_left from end buffer more raw h k e =
+    let f = ap length e in
+    let d = length-marked (take (end - from) (drop from buffer)) more raw in
+    let t : length (take (end - from) (drop from buffer)) ≡ end - from = length-take-le (end - from) (drop from buffer) (omega (arith, length-drop from buffer)) in
+    omega arith
+
+pub without_some : (ms : List Marked) → ms ≢ [] → without_event ms ≡ Failed OutOfMemory
+without_some [] h = absurd (h refl)
+without_some (m ∷ ms) h = refl
+
+-- a buffer that was just told is told whole
+pub just_told : (n : ℕ) (buffer : List ℕ) (raw : Bool) → n ≤ length buffer → marked (take (n - 0) buffer) (n == 1024) raw ≡ told_bytes (take n buffer) raw
+just_told n buffer raw h =
+    let e : n - 0 ≡ n = omega arith in
+    ap (λ (k : ℕ). marked (take k buffer) (n == 1024) raw) e ∙ ap (λ (k : ℕ). marked (take n buffer) (k == 1024) raw) (sym (length-take-le n buffer h))
+
+pub told_some : (n : ℕ) (buffer : List ℕ) → n ≤ length buffer → n ≢ 0 → take n buffer ≢ []
+told_some n buffer h k e = let l = ap length e in let m = length-take-le n buffer h in k (omega arith)

@@ -1,0 +1,43 @@
+use Rattle.std.proofs.Common.{◌≡◌, ◌+◌, List, [], take, map, sym, ap, subst, ◌∙◌, arith}
+use Rattle.std.proofs.lemmas.List.{take_all}
+use Rattle.std.proofs.lemmas.Simd.{map-map}
+use Rattle.crossterm_read.specs.Blocks.{Told}
+use Rattle.crossterm_read.specs.Device.{Word}
+use Rattle.crossterm_read.specs.Scripted.{ScriptLeft, ScriptTells, script_none, script_on}
+use Rattle.crossterm_read.specs.Turns.{Source, SourceDrawn, source_none, source_on}
+use Rattle.crossterm_read.proofs.Spelling.{script_told}
+use Rattle.crossterm_read.specs.declared.read.trace.Call.{Call}
+use Rattle.crossterm_read.specs.declared.read.trace.Reply.{Reply}
+use Rattle.crossterm_read.specs.Shelf.{ReaderState, kept}
+use Rattle.crossterm_read.specs.Calls.{said, joined, empty, Run}
+use Rattle.crossterm_read.proofs.Accounting.{accounts}
+use Rattle.crossterm_read.proofs.Runs.{Played, played_none, played_more}
+use Rattle.crossterm_read.proofs.read.trace.play.Goals as goal
+
+pub loop-call-init : goal.loop-call-init
+loop-call-init g c = subst (λ (l : List (Reply g.row.A.Denot)). Played (SourceDrawn ScriptTells) c.new-reader.result [] (map said l) c.new-reader.result) (sym c.new-replies.ensures.items)
+    (played_none (SourceDrawn ScriptTells) (source_none ScriptTells script_none) c.new-reader.result)
+
+pub loop-call-preserved : goal.loop-call-preserved
+loop-call-preserved g c =
+    let e = c.call-reply.ensures in
+    subst (λ (l : List (Reply g.row.A.Denot)). Played (SourceDrawn ScriptTells) c.new-reader.result (take (c.loop-call.call-index + 1) c.args.calls.now) (map said l) c.call-reply.new.self) (sym c.in_ok-push.ensures.items)
+    (played_more (SourceDrawn ScriptTells) (source_on ScriptTells script_on) _ c.loop-call.reader c.call-reply.new.self c.args.calls.now c.loop-call.call-index _ c.loop-call.replies.items c.call-reply.result e.0 (omega arith) c.loop-call.invariant e.1 e.2)
+
+pub returns-clause-run : goal.returns-clause-run
+returns-clause-run g c =
+    let source = c.new-source.result in
+    let all : take c.loop-call.call-index c.args.calls.now ≡ c.args.calls.now = take_all c.loop-call.call-index c.args.calls.now (omega arith) in
+    let p : Played (SourceDrawn ScriptTells) (record { shelf = empty; source = source }) (take c.loop-call.call-index c.args.calls.now) (map said c.loop-call.replies.items) c.loop-call.reader =
+    subst (λ (y : ReaderState (Source ScriptLeft)). Played (SourceDrawn ScriptTells) y (take c.loop-call.call-index c.args.calls.now) (map said c.loop-call.replies.items) c.loop-call.reader) c.new-reader.ensures c.loop-call.invariant in
+    let told = script_told source c.loop-call.reader.source (joined p.answers) c.new-source.ensures.waiting c.new-source.ensures.stands c.new-source.ensures.untaken p.drawn_so in
+    record {
+      drawn = p.answers;
+      last = c.loop-call.reader.shelf;
+      told = subst (λ (l : List Word). Told l (joined p.answers)) (ap (λ (d : ScriptLeft). d.left) (c.new-source.ensures.device ∙ c.new.ensures)) told;
+      run = subst (λ (l : List Call). Run empty l p.answers (map said c.loop-call.replies.items) c.loop-call.reader.shelf) all p.run;
+      left = c.in_ok-held.ensures ∙ sym (map-map (λ h. h.0) kept c.into_held.result.items) ∙ ap (λ l. map (λ h. h.0) l) c.into_held.ensures;
+    }
+
+pub returns-clause-account : goal.returns-clause-account
+returns-clause-account g c = accounts _ c.args.calls.now _ _ (returns-clause-run g c)

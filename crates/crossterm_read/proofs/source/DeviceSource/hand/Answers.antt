@@ -1,0 +1,39 @@
+use Rattle.std.proofs.Common.{◌≡◌, ◌≤◌, ◌<◌, ◌+◌, ◌-◌, List, ℕ, Bool, take, drop, length, arith, refl, ◌∙◌, ap, sym, length-drop}
+use Rattle.std.proofs.lemmas.List.{length-take-le}
+use Rattle.crossterm_parse.specs.Marked.{marked}
+use Rattle.crossterm_read.specs.Answers.{Failed}
+use Rattle.crossterm_read.specs.Turns.{without_event}
+use Rattle.crossterm_read.proofs.Turning.{hands_next, gives_some, gives_none, left_after, none_left, some_left, without_some}
+use Rattle.crossterm_read.proofs.source.DeviceSource.hand.Goals as goal
+
+-- what is left once a front was taken
+after_front : (from n end : ℕ) (buffer : List ℕ) (more raw : Bool) → from ≤ end → end ≤ length buffer → n ≤ length (take (end - from) (drop from buffer))
+    → marked (take (end - (from + n)) (drop (from + n) buffer)) more raw ≡ marked (drop n (take (end - from) (drop from buffer))) more raw
+after_front from n end buffer more raw f h t =
+    let e : length (take (end - from) (drop from buffer)) ≡ end - from = length-take-le (end - from) (drop from buffer) (omega (arith, length-drop from buffer)) in
+    ap (λ (l : List ℕ). marked l more raw) (left_after from n end buffer (omega arith))
+
+-- the end is above where the rest begins
+end_above : (from n end : ℕ) (buffer : List ℕ) → from ≤ end → end ≤ length buffer → n ≤ length (take (end - from) (drop from buffer)) → (from + n ≡ end → ⊥) → from + n < end
+end_above from n end buffer f h t ne =
+    let e : length (take (end - from) (drop from buffer)) ≡ end - from = length-take-le (end - from) (drop from buffer) (omega (arith, length-drop from buffer)) in
+    omega (arith, ne)
+
+pub returns-in-Some-clause-hands : goal.returns-in-Some-clause-hands
+returns-in-Some-clause-hands g c =
+    hands_next _ _ c.advance-taken.new.self c.next.new.self _ c.self.inside.device c.advance-taken.result _ _ _ _ c.self.view_is c.requires refl c.advance-taken.ensures.taken
+    (after_front _ _ _ _ _ _ (omega arith) (omega arith) c.advance-taken.ensures.taken) c.advance-taken.ensures.divided c.next.ensures.stands
+    (λ after. gives_some c.advance-taken.new.self.waiting c.next.new.self.waiting _ _ after c.in-Some.ensures.some)
+
+pub returns-then-self-clause-hands : goal.returns-then-self-clause-hands
+returns-then-self-clause-hands g c =
+    hands_next _ _ c.advance-taken.new.self c.next.new.self _ c.self.inside.device c.advance-taken.result _ _ _ _ c.self.view_is c.requires refl c.advance-taken.ensures.taken
+    (after_front _ _ _ _ _ _ (omega arith) (omega arith) c.advance-taken.ensures.taken) c.advance-taken.ensures.divided c.next.ensures.stands
+    (λ after. gives_none c.advance-taken.new.self.waiting c.next.new.self.waiting _ _ after c.in_default.ensures.none.0 c.in_default.ensures.none.1 (sym (ap without_event (none_left _ _ _ _ _ c.if-self.true))))
+
+pub returns-clause-hands : goal.returns-clause-hands
+returns-clause-hands g c =
+    hands_next _ _ c.advance-taken.new.self c.next.new.self _ c.self.inside.device c.advance-taken.result _ _ _ _ c.self.view_is c.requires refl c.advance-taken.ensures.taken
+    (after_front _ _ _ _ _ _ (omega arith) (omega arith) c.advance-taken.ensures.taken) c.advance-taken.ensures.divided c.next.ensures.stands
+    (λ after. gives_none c.advance-taken.new.self.waiting c.next.new.self.waiting _ _ after c.in_default.ensures.none.0 c.in_default.ensures.none.1
+    (ap Failed c.from.ensures ∙ sym (without_some _ (some_left (c.self.inside.from + c.advance-taken.result) c.self.inside.end c.self.inside.buffer _ _ (end_above _ _ _ _ (omega arith) (omega arith) c.advance-taken.ensures.taken c.if-self.false) (omega arith)))))

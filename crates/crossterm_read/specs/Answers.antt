@@ -1,0 +1,23 @@
+-- What a source answers.
+use Rattle.std.specs.Prelude.{◌≡◌, ◌⊎◌, Option, Some, None, Result, Ok, Err}
+use Rattle.std.specs.IoError.{error_kind}
+use Rattle.std.specs.declared.io.Error.{Error}
+use Rattle.std.specs.declared.io.ErrorKind.{ErrorKind}
+use Rattle.std.specs.declared.io.ErrorKind.TheVariants.{OutOfMemory, UnexpectedEof, Interrupted}
+use Rattle.crossterm_types.specs.Seen.{Seen, seen}
+use Rattle.crossterm_types.specs.declared.event.InternalEvent.{InternalEvent}
+
+-- One answer of a source: an event, none yet, or a fault.
+pub data SourceAnswer : Type 0 where
+  Gave : Seen → SourceAnswer
+  Nothing : SourceAnswer
+  Failed : ErrorKind → SourceAnswer
+
+abbrev pub answer_of : {A : Type 0} → Result (Option (InternalEvent A)) Error → SourceAnswer
+answer_of (Ok (Some event)) = Gave (seen event)
+answer_of (Ok None) = Nothing
+answer_of (Err e) = Failed (error_kind e)
+
+-- The kinds of a source's own faults: memory was refused, the input ended, or somebody woke it. Every other fault is the device's.
+abbrev pub IsOwn : ErrorKind → Type 0
+IsOwn kind = (kind ≡ OutOfMemory) ⊎ (kind ≡ UnexpectedEof) ⊎ (kind ≡ Interrupted)

@@ -1,0 +1,36 @@
+-- What a device tells.
+use Rattle.std.specs.Prelude.{◌≤◌, ◌==◌, ℕ, Bool, List, length, take, Result, Ok, Err}
+use Rattle.std.specs.IoError.{error_kind}
+use Rattle.std.specs.declared.io.Error.{Error}
+use Rattle.std.specs.declared.io.ErrorKind.{ErrorKind}
+use Rattle.crossterm_parse.specs.declared.marked.Marked.{Marked}
+use Rattle.crossterm_parse.specs.Marked.{marked}
+use Rattle.crossterm_read.specs.declared.source.device.Answer.{Answer}
+use Rattle.crossterm_read.specs.declared.source.device.Answer.TheVariants as answer
+
+-- A word is one answer of a device: some bytes and their mode, a new size, a wake-up, nothing yet, or a fault.
+pub data Word : Type 0 where
+  Bytes : List ℕ → Bool → Word
+  Resized : ℕ → ℕ → Word
+  Woken : Word
+  Idle : Word
+  Fault : ErrorKind → Word
+
+-- The word of an answer, with what stands in the buffer then.
+abbrev pub word_of : Result Answer Error → List ℕ → Word
+word_of (Ok (answer.Bytes count raw)) buffer = Bytes (take count buffer) raw
+word_of (Ok (answer.Resize columns rows)) buffer = Resized columns rows
+word_of (Ok answer.Woken) buffer = Woken
+word_of (Ok answer.Idle) buffer = Idle
+word_of (Err e) buffer = Fault (error_kind e)
+
+-- As many bytes as the buffer holds, at most.
+abbrev pub CountWithin : Answer → ℕ → Type 0
+CountWithin (answer.Bytes count raw) n = count ≤ n
+CountWithin (answer.Resize columns rows) n = Unit {0}
+CountWithin answer.Woken n = Unit {0}
+CountWithin answer.Idle n = Unit {0}
+
+-- The bytes of one word with their marks: more follow at once exactly where they filled the buffer.
+abbrev pub told_bytes : List ℕ → Bool → List Marked
+told_bytes bytes raw = marked bytes (length bytes == 1024) raw

@@ -1,0 +1,9 @@
+pub mod Answers
+pub mod Blocks
+pub mod Calls
+pub mod Device
+pub mod Scripted
+pub mod Shelf
+pub mod Steps
+pub mod Turns
+pub mod Waking

@@ -1,0 +1,42 @@
+-- A reader as its callers see it.
+use Rattle.std.specs.Prelude.{◌≡◌, ℕ, ◌+◌, ◌-◌, ◌^◌, min, List, [], ◌∷◌, ◌++◌}
+use Rattle.crossterm_types.specs.Seen.{Seen, seen}
+use Rattle.crossterm_types.specs.declared.event.InternalEvent.{InternalEvent}
+use Rattle.crossterm_read.specs.Answers.{SourceAnswer, Gave, Nothing, Failed}
+
+-- The held events, each with its arrival number, and the number of the next one. An arrival number tells how many events arrived before.
+pub record Shelf : Type 0 where
+  pub held : List (Seen × ℕ)
+  pub arrivals : ℕ
+
+-- A reader: what it holds, and its source.
+pub record ReaderState (S : Type 0) : Type 0 where
+  pub shelf : Shelf
+  pub source : S
+
+-- A held event as a clause sees it.
+abbrev pub kept : {A : Type 0} → InternalEvent A × ℕ → Seen × ℕ
+kept h = (seen h.0, h.1)
+
+-- The number after one. Numbers rise to the greatest u64 and stay there.
+abbrev pub next_number : ℕ → ℕ
+next_number n = min (n + 1) (2 ^ 64 - 1)
+
+-- The events among the answers, each with its arrival number.
+abbrev pub arrived : ℕ → List SourceAnswer → List (Seen × ℕ)
+arrived n [] = []
+arrived n (Gave x ∷ zs) = (x, n) ∷ arrived (next_number n) zs
+arrived n (Nothing ∷ zs) = arrived n zs
+arrived n (Failed kind ∷ zs) = arrived n zs
+
+-- The number of the next event after these answers.
+abbrev pub numbered_after : ℕ → List SourceAnswer → ℕ
+numbered_after n [] = n
+numbered_after n (Gave x ∷ zs) = numbered_after (next_number n) zs
+numbered_after n (Nothing ∷ zs) = numbered_after n zs
+numbered_after n (Failed kind ∷ zs) = numbered_after n zs
+
+-- Each event that is given joins the held ones at their end.
+pub record Arrives (s : Shelf) (zs : List SourceAnswer) (t : Shelf) : Type 0 where
+  pub held : t.held ≡ s.held ++ arrived s.arrivals zs
+  pub arrivals : t.arrivals ≡ numbered_after s.arrivals zs

@@ -1,0 +1,103 @@
+-- What a source answers, by what its device tells.
+use Rattle.std.specs.Prelude.{◌≡◌, ◌≢◌, ℕ, Bool, List, [], ◌∷◌, ◌++◌, refl}
+use Rattle.std.specs.List.{filter_map}
+use Rattle.std.specs.declared.io.ErrorKind.TheVariants.{OutOfMemory, UnexpectedEof, Interrupted}
+use Rattle.std.proofs.Common.{subst, sym, ap, ◌∙◌, append_assoc}
+use Rattle.crossterm_types.specs.Seen.{Seen, Resize}
+use Rattle.crossterm_parse.specs.declared.marked.Marked.{Marked}
+use Rattle.crossterm_parse.specs.Grammar.{Whole}
+use Rattle.crossterm_parse.specs.Meaning.{meaning_of}
+use Rattle.crossterm_parse.specs.Division.{Divides, IsUndecided}
+use Rattle.crossterm_parse.specs.Standing.{Standing, Stands}
+use Rattle.crossterm_read.specs.Answers.{SourceAnswer, Gave, Nothing, Failed}
+use Rattle.crossterm_read.specs.Device.{Word, Bytes, Resized, Woken, Idle, Fault, told_bytes}
+
+-- Where a source stands: the events that wait, the bytes that weren't taken yet, and those of no whole sequence that were.
+pub record At : Type 0 where
+  pub waiting : List Seen
+  pub untaken : List Marked
+  pub undecided : List Marked
+
+-- Of some bytes the parser takes a front, where it stood for undecided ones.
+pub record Takes (undecided bytes : List Marked) (mid : At) : Type 0 where
+  pub taken : List Marked
+  pub parts : List (List Marked)
+  pub cut : bytes ≡ taken ++ mid.untaken
+  pub division : Divides Whole (undecided ++ taken) parts mid.undecided
+  pub waiting : mid.waiting ≡ filter_map meaning_of parts
+
+-- What is answered where no event came: nothing where all bytes were taken, and else that memory was refused.
+abbrev pub without_event : List Marked → SourceAnswer
+without_event [] = Nothing
+without_event (m ∷ ms) = Failed OutOfMemory
+
+-- The first event that waits is given.
+abbrev pub GivesFirst : List Seen → At → SourceAnswer → At → Type 0
+GivesFirst (e ∷ es) mid x q = (x ≡ Gave e) × (q ≡ record mid { waiting = es })
+GivesFirst [] mid x q = (x ≡ without_event mid.untaken) × (q ≡ mid)
+
+-- What a word that tells no bytes is answered by.
+abbrev pub Answers : Word → SourceAnswer → Type 0
+Answers (Bytes [] raw) x = x ≡ Failed UnexpectedEof
+Answers (Bytes (b ∷ bs) raw) x = ⊥
+Answers (Resized columns rows) x = x ≡ Gave (Resize columns rows)
+Answers Woken x = x ≡ Failed Interrupted
+Answers Idle x = x ≡ Nothing
+Answers (Fault kind) x = x ≡ Failed kind
+
+-- One answer, with the words that the device was asked for: an event that waited, else untaken bytes again, else one new word.
+pub data Turn (p : At) (ws : List Word) (x : SourceAnswer) (q : At) : Type 0 where
+  waited : (e : Seen) → p.waiting ≡ e ∷ q.waiting → q.untaken ≡ p.untaken → q.undecided ≡ p.undecided → ws ≡ [] → x ≡ Gave e → Turn p ws x q
+  again : (mid : At) → p.waiting ≡ [] → p.untaken ≢ [] → ws ≡ [] → Takes p.undecided p.untaken mid → GivesFirst mid.waiting mid x q → Turn p ws x q
+  fresh : (bytes : List ℕ) (raw : Bool) (mid : At) → p.waiting ≡ [] → p.untaken ≡ [] → bytes ≢ [] → ws ≡ Bytes bytes raw ∷ []
+      → Takes p.undecided (told_bytes bytes raw) mid → GivesFirst mid.waiting mid x q → Turn p ws x q
+  other : (w : Word) → p.waiting ≡ [] → p.untaken ≡ [] → ws ≡ w ∷ [] → Answers w x → q ≡ p → Turn p ws x q
+
+-- Answers one after another.
+abbrev pub Turns : At → List Word → List SourceAnswer → At → Type 0
+Turns p ws [] q = (ws ≡ []) × (q ≡ p)
+Turns p ws (x ∷ xs) q = (us : List Word) × (vs : List Word) × (m : At) × (ws ≡ us ++ vs) × Turn p us x m × Turns m vs xs q
+
+-- A source as its callers see it.
+pub record Source (D : Type 0) : Type 0 where
+  pub parser : Standing
+  pub untaken : List Marked
+  pub device : D
+
+abbrev pub at : {D : Type 0} → Source D → List Marked → At
+at s before = record { waiting = s.parser.waiting; untaken = s.untaken; undecided = before }
+
+-- For these words, whatever undecided bytes the parser stood for.
+abbrev pub DrawnFor : {D : Type 0} → Source D → List Word → List SourceAnswer → Source D → Type 0
+DrawnFor s ws xs t = (before : List Marked) → Stands s.parser before → IsUndecided Whole before
+    → (after : List Marked) × Stands t.parser after × IsUndecided Whole after × Turns (at s before) ws xs (at t after)
+
+-- The device told some words, for which these answers were given.
+abbrev pub SourceDrawn : {D : Type 0} → (D → List Word → D → Type 0) → Source D → List SourceAnswer → Source D → Type 0
+SourceDrawn told s xs t = (ws : List Word) × told s.device ws t.device × DrawnFor s ws xs t
+
+-- The parser took some of the untaken bytes, whatever undecided ones it stood for, and the first event was given.
+abbrev pub Hands : {D : Type 0} → Source D → SourceAnswer → Source D → Type 0
+Hands s x t = (before : List Marked) → Stands s.parser before → IsUndecided Whole before
+    → (after : List Marked) × (mid : At) × Stands t.parser after × IsUndecided Whole after × Takes before s.untaken mid × GivesFirst mid.waiting mid x (at t after)
+
+turns_on : (p q r : At) (us vs : List Word) (xs ys : List SourceAnswer) → Turns p us xs q → Turns q vs ys r → Turns p (us ++ vs) (xs ++ ys) r
+turns_on p q r us vs [] ys d e = subst (λ (ws : List Word). Turns p (ws ++ vs) ys r) (sym d.0) (subst (λ (m : At). Turns m vs ys r) d.1 e)
+turns_on p q r us vs (x ∷ xs) ys d e =
+    (d.0, d.1 ++ vs, d.2, ap (λ (l : List Word). l ++ vs) d.3 ∙ append_assoc d.0 d.1 vs, d.4, turns_on d.2 q r d.1 vs xs ys d.5 e)
+
+-- The two laws of what was drawn from a source, by those of its device.
+pub source_none : {D : Type 0} (told : D → List Word → D → Type 0) → ((s : D) → told s [] s) → (s : Source D) → SourceDrawn told s [] s
+source_none told law s = ([], law s.device, λ before stands undecided. (before, stands, undecided, (refl, refl)))
+
+pub source_on : {D : Type 0} (told : D → List Word → D → Type 0)
+    → ((s t u : D) (xs ys : List Word) → told s xs t → told t ys u → told s (xs ++ ys) u)
+    → (s t u : Source D) (xs ys : List SourceAnswer) → SourceDrawn told s xs t → SourceDrawn told t ys u → SourceDrawn told s (xs ++ ys) u
+source_on told law s t u xs ys d e = (
+  d.0 ++ e.0,
+  law s.device t.device u.device d.0 e.0 d.1 e.1,
+  λ before stands undecided.
+      let f = d.2 before stands undecided in
+      let g = e.2 f.0 f.1 f.2 in
+      (g.0, g.1, g.2, turns_on (at s before) (at t f.0) (at u g.0) d.0 e.0 xs ys f.3 g.3),
+)

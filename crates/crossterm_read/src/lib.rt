@@ -1,0 +1,23 @@
+//! From a device to the events that one thread reads: crossterm's `event::source` and `event::read`.
+//!
+//! A device tells bytes, resizes and wake-ups (`source::Device`). A source hands the bytes to the parser and gives events
+//! (`source::DeviceSource`). A reader holds the events in the order of their arrival until they are taken
+//! (`read::InternalEventReader`).
+//!
+//! It stands on `crossterm_parse`, for the division of bytes into sequences, and on `crossterm_types`, for events and filters.
+//!
+//! The layers above use the steps of `InternalEventReader::{poll_within, read_within, take}` over any `source::EventSource`, and
+//! the headline of `read::play`: what calls answer is a run over the answers of a source, which are told by the device's words.
+//!
+//! | Definitions | Of |
+//! |---|---|
+//! | `specs/Device.antt`, `specs/Scripted.antt` | what a device tells, and what a script does |
+//! | `specs/Answers.antt`, `specs/Turns.antt` | what a source answers, one turn after another |
+//! | `specs/Blocks.antt` | what a device's words bring about, and what a source tells of it |
+//! | `specs/Shelf.antt`, `specs/Steps.antt` | what a reader holds, and what one call does |
+//! | `specs/Calls.antt` | runs of calls, and the account of all events |
+#![tactic(auto)]
+
+pub mod laws;
+pub mod read;
+pub mod source;

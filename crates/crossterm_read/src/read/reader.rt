@@ -1,0 +1,302 @@
+//! Holds events in the order of their arrival.
+ghost use Rattle.std.specs.Prelude.{◌≡◌, ◌≢◌, ◌⊎◌, ◌≤◌, ◌<◌, IfErr, ℕ, List, [], map, position};
+ghost use Rattle.std.specs.Bool.{OnTrue, OnFalse};
+ghost use Rattle.std.specs.IoError.{error_kind};
+ghost use Rattle.std.specs.Iterator.{YieldsFirstBy, item_count};
+ghost use Rattle.std.specs.Option.{option_map};
+ghost use Rattle.std.specs.declared.io.ErrorKind.TheVariants.{Interrupted};
+ghost use Rattle.crossterm_types.specs.Seen.{Seen, seen};
+ghost use Rattle.crossterm_read.specs.Answers.{SourceAnswer, IsOwn};
+ghost use Rattle.crossterm_read.specs.Shelf.{ReaderState, kept};
+ghost use Rattle.crossterm_read.specs.Steps.{Asked, BreaksWhere, DrawsOne, PollStep, ReadStep, TakeSays, end_of, first_admitted, poll_said, read_said};
+
+use crate::source::EventSource;
+use crossterm_types::event::InternalEvent;
+use crossterm_types::event::filter::Filter;
+use std::alloc::{Allocator, Global};
+use std::io;
+use std::marker::Model;
+use std::time::Duration;
+
+/// The reader of one thread: it holds the events of a source, in the order of their arrival, until they are taken.
+///
+/// Events are numbered by how many arrived before. The numbers rise to the greatest `u64`, and stay there.
+#[derive(Drop)]
+pub struct InternalEventReader<S, A: Allocator = Global> {
+    held: Vec<(InternalEvent<A>, u64), A>,
+    arrivals: u64,
+    source: S,
+}
+
+impl<S, A: Allocator> Model for InternalEventReader<S, A> {
+    ghost Value = { ReaderState S };
+
+    ghost view = { λ r. record { shelf = record { held = map kept r.held.items; arrivals = r.arrivals }; source = r.source } };
+}
+
+/// The events that a reader holds, in the order of their arrival.
+#[derive(Drop)]
+pub struct Held<'a, A: Allocator = Global> {
+    rest: &'a [(InternalEvent<A>, u64)],
+}
+
+impl<'a, A: Allocator> Model for Held<'a, A> {
+    ghost Value = { List Seen };
+
+    ghost view = { λ h. map (λ e. seen e.0) h.rest.now };
+}
+
+impl<'a, A: Allocator> Iterator for Held<'a, A> {
+    type Item = &'a InternalEvent<A>;
+
+    ghost next_gives = { YieldsFirstBy (λ event. seen event.now) (λ rest. rest) };
+
+    ghost remaining = { item_count (λ rest. rest) };
+
+    fn next(&mut self) -> Option<&'a InternalEvent<A>> {
+        let (first, rest) = self.rest.split_first()?;
+        self.rest = rest;
+        Some(&first.0)
+    }
+}
+
+// What came of one question.
+enum Once {
+    Refused,
+    Broke(io::Error),
+    Came(bool),
+    Nothing,
+}
+
+// Whether a fault is a wake-up.
+fn is_woken(error: &io::Error) -> bool
+    ensures yes { OnTrue result (error_kind error.now ≡ Interrupted) }
+    ensures no { OnFalse result (error_kind error.now ≢ Interrupted) }
+{
+    matches!(error.kind(), io::ErrorKind::Interrupted)
+}
+
+// The place of the first one that is admitted.
+fn first_of<F: Filter, A: Allocator>(held: &[(InternalEvent<A>, u64)], filter: &F) -> Option<usize>
+    ensures { result ≡ position (λ h. F.admits filter.now (seen h.0)) held.now }
+{
+    held.iter().position(|h| filter.eval(&h.0))
+}
+
+impl<S: EventSource<A>, A: Allocator> InternalEventReader<S, A> {
+    /// A reader that holds nothing yet.
+    pub fn new(alloc: A, source: S) -> Self
+        ensures { result ≡ record { shelf = record { held = []; arrivals = 0 }; source = source } }
+    {
+        InternalEventReader {
+            held: Vec::new(alloc),
+            arrivals: 0,
+            source,
+        }
+    }
+
+    // The place of the first held event that is admitted.
+    fn first<F: Filter>(&self, filter: &F) -> Option<usize>
+        ensures { result ≡ first_admitted (F.admits filter.now) self.now.shelf.held }
+    {
+        first_of(&self.held, filter)
+    }
+
+    // Asks the source once, and holds what it gives.
+    fn draw<F: Filter>(&mut self, filter: &F, patient: bool) -> Once
+        ensures one { DrawsOne S.drawn patient (F.admits filter.now) self.old self.new result }
+        ensures rise { S.failed self.old.source ≤ S.failed self.new.source }
+        ensures err { BreaksWhere result (λ kind. IsOwn kind ⊎ (S.failed self.old.source < S.failed self.new.source)) }
+    {
+        if self.held.reserve(1).is_err() {
+            return Once::Refused;
+        }
+        match self.source.try_read(Some(Duration::ZERO)) {
+            Ok(Some(event)) => {
+                let admitted = filter.eval(&event);
+                self.held.push_reserved((event, self.arrivals));
+                self.arrivals = self.arrivals.saturating_add(1);
+                Once::Came(admitted)
+            }
+            Ok(None) => Once::Nothing,
+            Err(error) => {
+                if patient {
+                    if is_woken(&error) {
+                        return Once::Nothing;
+                    }
+                }
+                Once::Broke(error)
+            }
+        }
+    }
+
+    // Asks the source until an admitted event is held.
+    fn ask<F: Filter>(&mut self, tries: u32, filter: &F, patient: bool) -> io::Result<bool>
+        ensures asked { Asked S.drawn patient (F.admits filter.now) tries self.old self.new (end_of result) }
+        ensures err { IfErr result (λ e. IsOwn (error_kind e) ⊎ (S.failed self.old.source < S.failed self.new.source)) }
+    {
+        if self.first(filter).is_some() {
+            return Ok(true);
+        }
+        for _i in 0..tries {
+            match self.draw(filter, patient) {
+                Once::Refused => return Err(io::Error::from(io::ErrorKind::OutOfMemory)),
+                Once::Broke(error) => return Err(error),
+                Once::Came(admitted) => {
+                    if admitted {
+                        return Ok(true);
+                    }
+                }
+                Once::Nothing => {}
+            }
+        }
+        Ok(false)
+    }
+
+    /// Whether an event is held that the filter admits, after so many questions to the source at most.
+    ///
+    /// Where one is held already the answer is true at once. Else the source is asked with limit zero. The answer is true at the
+    /// first admitted event, and false after a wake-up or the last try. Every other fault is answered. Events that came are held.
+    pub fn poll_within<F: Filter>(&mut self, tries: u32, filter: &F) -> io::Result<bool>
+        ensures step { (zs : List SourceAnswer) × S.drawn self.old.source zs self.new.source
+            × PollStep tries (F.admits filter.now) zs self.old.shelf self.new.shelf (poll_said result) }
+        ensures err { IfErr result (λ e. IsOwn (error_kind e) ⊎ (S.failed self.old.source < S.failed self.new.source)) }
+    {
+        match self.ask(tries, filter, false) {
+            Ok(ready) => Ok(ready),
+            Err(error) => {
+                if is_woken(&error) {
+                    return Ok(false);
+                }
+                Err(error)
+            }
+        }
+    }
+
+    /// Takes the first event that the filter admits, after so many questions to the source at most, or `None` after the last.
+    ///
+    /// It asks as `poll_within` does, but goes on after a wake-up, which is a try.
+    pub fn read_within<F: Filter>(
+        &mut self,
+        tries: u32,
+        filter: &F,
+    ) -> io::Result<Option<InternalEvent<A>>>
+        ensures step { (zs : List SourceAnswer) × S.drawn self.old.source zs self.new.source
+            × ReadStep tries (F.admits filter.now) zs self.old.shelf self.new.shelf (read_said result) }
+        ensures err { IfErr result (λ e. IsOwn (error_kind e) ⊎ (S.failed self.old.source < S.failed self.new.source)) }
+    {
+        match self.ask(tries, filter, true) {
+            Ok(ready) => {
+                if ready {
+                    return Ok(self.take(filter));
+                }
+                Ok(None)
+            }
+            Err(error) => Err(error),
+        }
+    }
+
+    /// Takes the first held event that the filter admits, and no other. The source isn't asked, and no memory is taken.
+    pub fn take<F: Filter>(&mut self, filter: &F) -> Option<InternalEvent<A>>
+        ensures step { TakeSays (F.admits filter.now) self.old.shelf self.new.shelf (option_map seen result) }
+        ensures source { self.new.source ≡ self.old.source }
+    {
+        match self.first(filter) {
+            Some(at) => {
+                let (event, _number) = self.held.remove(at);
+                Some(event)
+            }
+            None => None,
+        }
+    }
+
+    /// The events that are held, in the order of their arrival.
+    pub fn held(&self) -> Held<'_, A>
+        ensures { result ≡ map (λ h. h.0) self.now.shelf.held }
+    {
+        Held { rest: &self.held }
+    }
+
+    // What is held, with the arrival numbers.
+    pub(crate) fn into_held(self) -> Vec<(InternalEvent<A>, u64), A>
+        ensures { map kept result.items ≡ self.shelf.held }
+    {
+        self.held
+    }
+}
+
+#[cfg(test)]
+mod tests {
+    use super::*;
+    use crate::source::{Act, DeviceSource, Script};
+    use crossterm_types::event::filter::AnyFilter;
+    use crossterm_types::event::{Event, KeyCode};
+    use std::alloc::Global;
+    use std::test::Fail;
+
+    // Admits no event.
+    struct Nothing;
+
+    impl Filter for Nothing {
+        ghost use Rattle.std.specs.Prelude.{false};
+
+        ghost admits = { λ _ _. false };
+
+        fn eval<A: Allocator>(&self, _event: &InternalEvent<A>) -> bool {
+            false
+        }
+    }
+
+    fn is_char(event: &InternalEvent, c: char) -> bool {
+        match event {
+            InternalEvent::Event(Event::Key(key)) => key.code == KeyCode::Char(c),
+            _ => false,
+        }
+    }
+
+    fn reader_of(
+        alloc: Global,
+        bytes: Vec<u8>,
+    ) -> Result<InternalEventReader<DeviceSource<Script>>, Fail> {
+        let acts = vec![in alloc;
+            Act::Piece { bytes, raw: false },
+            Act::Woken,
+            Act::Resize(80, 24),
+        ]?;
+        let source = DeviceSource::new(alloc, Script::new(acts));
+        Ok(InternalEventReader::new(alloc, source))
+    }
+
+    #[test]
+    fn skipped_events_stay_first(rt: HostRuntime) -> Result<(), Fail> {
+        let alloc = rt.alloc();
+        let mut reader = reader_of(alloc, vec![in alloc; 0x61, 0x62]?)?;
+        assert!(rt; matches!(reader.read_within(2, &Nothing)?, None));
+        assert_eq!(rt; reader.held().count(), 2);
+        assert!(rt; matches!(reader.take(&Nothing), None));
+        assert!(rt; reader.poll_within(0, &AnyFilter::Event)?);
+        match reader.take(&AnyFilter::Event) {
+            Some(event) => assert!(rt; is_char(&event, 'a')),
+            None => assert!(rt; false),
+        }
+        for event in reader.held() {
+            assert!(rt; is_char(event, 'b'));
+        }
+        assert_eq!(rt; reader.held().count(), 1);
+        Ok(())
+    }
+
+    #[test]
+    fn a_wake_up_ends_a_poll_and_not_a_read(rt: HostRuntime) -> Result<(), Fail> {
+        let alloc = rt.alloc();
+        let mut polled = reader_of(alloc, Vec::new(alloc))?;
+        assert!(rt; !polled.poll_within(9, &AnyFilter::Event)?);
+        assert!(rt; polled.poll_within(1, &AnyFilter::Event)?);
+        let mut read = reader_of(alloc, Vec::new(alloc))?;
+        assert!(rt; matches!(read.read_within(1, &AnyFilter::Event)?, None));
+        let resize = read.read_within(1, &AnyFilter::Event)?;
+        assert!(rt; matches!(&resize, Some(InternalEvent::Event(Event::Resize(80, 24)))));
+        assert!(rt; read.read_within(1, &AnyFilter::Event).is_err());
+        Ok(())
+    }
+}

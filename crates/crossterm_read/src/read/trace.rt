@@ -1,0 +1,212 @@
+//! Calls of a reader over a script.
+ghost use Rattle.std.specs.Prelude.{◌≡◌, List, map, IfOk, IfErr};
+ghost use Rattle.std.specs.IoError.{error_kind};
+ghost use Rattle.std.specs.declared.io.ErrorKind.TheVariants.{OutOfMemory};
+ghost use Rattle.crossterm_types.specs.Seen.{seen};
+ghost use Rattle.crossterm_read.specs.Answers.{SourceAnswer};
+ghost use Rattle.crossterm_read.specs.Calls.{said, Step, Plays, Accounts};
+ghost use Rattle.crossterm_read.specs.Scripted.{words};
+
+use crate::read::InternalEventReader;
+use crate::source::{Act, DeviceSource, EventSource, Script};
+use crossterm_types::event::InternalEvent;
+use crossterm_types::event::filter::AnyFilter;
+use std::alloc::{AllocError, Allocator, Global};
+use std::io;
+
+/// A call of a reader.
+#[derive(Clone, Copy, Debug)]
+pub enum Call {
+    /// `InternalEventReader::poll_within`.
+    Poll {
+        /// How often the source is asked at most.
+        tries: u32,
+        /// Which events are admitted.
+        filter: AnyFilter,
+    },
+    /// `InternalEventReader::read_within`.
+    Read {
+        /// How often the source is asked at most.
+        tries: u32,
+        /// Which events are admitted.
+        filter: AnyFilter,
+    },
+    /// `InternalEventReader::take`.
+    Take {
+        /// Which events are admitted.
+        filter: AnyFilter,
+    },
+}
+
+/// What a call answered.
+#[derive(Drop)]
+#[derive_where(Debug)]
+pub enum Reply<A: Allocator = Global> {
+    /// Whether an admitted event is held.
+    Poll(bool),
+    /// The event that was taken, where there was one.
+    Event(Option<InternalEvent<A>>),
+    /// A fault of this kind.
+    Fault(io::ErrorKind),
+}
+
+/// What came of all calls.
+#[derive(Drop)]
+#[derive_where(Debug)]
+pub struct Trace<A: Allocator = Global> {
+    /// The reply to each call.
+    pub replies: Vec<Reply<A>, A>,
+    /// The events that are held after them, in the order of their arrival.
+    pub held: Vec<InternalEvent<A>, A>,
+}
+
+impl<S: EventSource<A>, A: Allocator> InternalEventReader<S, A> {
+    // Makes one call.
+    fn call(&mut self, call: Call) -> Reply<A>
+        ensures { (zs : List SourceAnswer) × S.drawn self.old.source zs self.new.source × Step call zs self.old.shelf self.new.shelf (said result) }
+    {
+        match call {
+            Call::Poll { tries, filter } => match self.poll_within(tries, &filter) {
+                Ok(ready) => Reply::Poll(ready),
+                Err(error) => Reply::Fault(error.kind()),
+            },
+            Call::Read { tries, filter } => match self.read_within(tries, &filter) {
+                Ok(event) => Reply::Event(event),
+                Err(error) => Reply::Fault(error.kind()),
+            },
+            Call::Take { filter } => Reply::Event(self.take(&filter)),
+        }
+    }
+}
+
+// The events without their numbers.
+fn unnumbered<A: Allocator>(
+    alloc: A,
+    held: Vec<(InternalEvent<A>, u64), A>,
+) -> Result<Vec<InternalEvent<A>, A>, AllocError>
+    ensures { IfOk result (λ events. map seen events.items ≡ map (λ h. seen h.0) held.items) }
+{
+    let mut events = Vec::new(alloc);
+    for (event, _number) in held {
+        events.push(event)?;
+    }
+    Ok(events)
+}
+
+/// The replies to all calls of one reader over a script, and the events that it holds after them.
+///
+/// The error is `OutOfMemory`, where the trace can't grow. A refusal inside a call is that call's fault.
+pub fn play<A: Allocator + Clone>(
+    alloc: A,
+    script: Vec<Act<A>, A>,
+    calls: &[Call],
+) -> io::Result<Trace<A>>
+    // There are lists of a source's answers, one a call, which joined are told by the script, and the trace is the calls' run over them.
+    ensures run { IfOk result (λ trace. Plays (words script.items) calls.now (map said trace.replies.items) (map seen trace.held.items)) }
+    // So the events taken and those held are the first ones of all that happens by the script, each once.
+    ensures account { IfOk result (λ trace. Accounts (words script.items) (map said trace.replies.items) (map seen trace.held.items)) }
+    ensures err { IfErr result (λ e. error_kind e ≡ OutOfMemory) }
+{
+    let source = DeviceSource::new(alloc.clone()?, Script::new(script));
+    let mut reader = InternalEventReader::new(alloc.clone()?, source);
+    let mut replies = Vec::new(alloc.clone()?);
+    for call in calls {
+        let reply = reader.call(*call);
+        replies.push(reply)?;
+    }
+    let held = unnumbered(alloc, reader.into_held())?;
+    Ok(Trace { replies, held })
+}
+
+#[cfg(test)]
+mod tests {
+    use super::*;
+    use crossterm_types::event::{Event, KeyCode};
+    use std::test::Fail;
+
+    fn is_char(event: &InternalEvent, c: char) -> bool {
+        match event {
+            InternalEvent::Event(Event::Key(key)) => key.code == KeyCode::Char(c),
+            _ => false,
+        }
+    }
+
+    fn gave(reply: &Reply, c: char) -> bool {
+        match reply {
+            Reply::Event(Some(event)) => is_char(event, c),
+            _ => false,
+        }
+    }
+
+    #[test]
+    fn a_fault_loses_nothing(rt: HostRuntime) -> Result<(), Fail> {
+        let alloc = rt.alloc();
+        let script = vec![in alloc;
+            Act::Piece {
+                bytes: vec![in alloc; 0x61]?,
+                raw: false
+            },
+            Act::Fault(io::ErrorKind::Other),
+            Act::Resize(80, 24),
+            Act::Woken,
+            Act::Piece {
+                bytes: vec![in alloc; 0x62]?,
+                raw: false
+            },
+        ]?;
+        let filter = AnyFilter::Event;
+        let read = Call::Read { tries: 9, filter };
+        let poll = Call::Poll { tries: 1, filter };
+        let trace = play(alloc, script, &[read, read, read, read, poll])?;
+        let replies = &trace.replies;
+        assert_eq!(rt; replies.len(), 5);
+        assert!(rt; gave(&replies[0], 'a'));
+        assert!(rt; matches!(&replies[1], Reply::Fault(io::ErrorKind::Other)));
+        assert!(rt;
+            matches!(
+                &replies[2],
+                Reply::Event(Some(InternalEvent::Event(Event::Resize(80, 24))))
+            )
+        );
+        assert!(rt; gave(&replies[3], 'b'));
+        assert!(rt; matches!(&replies[4], Reply::Fault(io::ErrorKind::UnexpectedEof)));
+        assert_eq!(rt; trace.held.len(), 0);
+        Ok(())
+    }
+
+    #[test]
+    fn what_was_polled_is_held(rt: HostRuntime) -> Result<(), Fail> {
+        let alloc = rt.alloc();
+        let script = vec![in alloc;
+            Act::Piece {
+                bytes: vec![in alloc; 0x61, 0x62]?,
+                raw: false
+            },
+        ]?;
+        let filter = AnyFilter::Event;
+        let calls = [
+            Call::Take { filter },
+            Call::Poll { tries: 1, filter },
+            Call::Take { filter },
+            Call::Poll { tries: 1, filter },
+        ];
+        let trace = play(alloc, script, &calls)?;
+        let replies = &trace.replies;
+        assert!(rt; matches!(&replies[0], Reply::Event(None)));
+        assert!(rt; matches!(&replies[1], Reply::Poll(true)));
+        assert!(rt; gave(&replies[2], 'a'));
+        assert!(rt; matches!(&replies[3], Reply::Poll(true)));
+        assert_eq!(rt; trace.held.len(), 1);
+        assert!(rt; is_char(&trace.held[0], 'b'));
+        Ok(())
+    }
+
+    #[test]
+    fn no_calls_leave_nothing(rt: HostRuntime) -> Result<(), Fail> {
+        let alloc = rt.alloc();
+        let trace = play(alloc, Vec::new(alloc), &[])?;
+        assert!(rt; trace.replies.is_empty());
+        assert!(rt; trace.held.is_empty());
+        Ok(())
+    }
+}

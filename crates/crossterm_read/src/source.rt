@@ -1,0 +1,209 @@
+//! Where events come from.
+ghost use Rattle.std.specs.Prelude.{◌≡◌, ◌⊎◌, ◌-◌, ◌==◌, ◌≤◌, ◌<◌, ℕ, List, [], ◌∷◌, ◌++◌, take, drop, IfErr};
+ghost use Rattle.std.specs.IoError.{error_kind};
+ghost use Rattle.std.specs.declared.io.ErrorKind.TheVariants.{OutOfMemory};
+ghost use Rattle.crossterm_parse.specs.Marked.{marked};
+ghost use Rattle.crossterm_parse.specs.Standing.{Stands};
+ghost use Rattle.crossterm_read.specs.Answers.{SourceAnswer, answer_of, IsOwn};
+ghost use Rattle.crossterm_read.specs.Turns.{Source, SourceDrawn, source_none, source_on, Hands};
+
+mod device;
+mod script;
+mod waker;
+
+use crossterm_parse::parse::Parser;
+use crossterm_types::event::{Event, InternalEvent};
+pub use device::{Answer, Device};
+pub use script::{Act, Script};
+use std::alloc::{Allocator, Global};
+use std::io;
+use std::marker::Model;
+use std::time::Duration;
+pub use waker::Waker;
+
+/// Gives events, one after another.
+pub trait EventSource<A: Allocator>: Drop {
+    /// From one state of the source, these answers lead to another.
+    ghost drawn: { Self → List SourceAnswer → Self → Type 0 };
+
+    /// How often the device failed.
+    ghost failed: { Self → ℕ };
+
+    /// The next event, or `None` where none came within the limit.
+    ///
+    /// The error is `OutOfMemory` where memory was refused, `UnexpectedEof` at the end of input, `Interrupted` where the source
+    /// was woken, and else the device's. After each of them the source goes on where it stood.
+    fn try_read(&mut self, limit: Option<Duration>) -> io::Result<Option<InternalEvent<A>>>
+        // What it answers is drawn.
+        ensures drawn { drawn self.old (answer_of result ∷ []) self.new }
+        // An error that isn't a source's own comes only where the device's failures rose, and they never fall.
+        ensures rise { failed self.old ≤ failed self.new }
+        ensures err { IfErr result (λ e. IsOwn (error_kind e) ⊎ (failed self.old < failed self.new)) };
+
+    /// How often the device failed.
+    fn failures(&self) -> u64
+        ensures { result ≡ failed self.now };
+
+    /// A waker of the device.
+    fn waker(&self) -> io::Result<Waker>
+        ensures { IfErr result (λ e. error_kind e ≡ OutOfMemory) };
+
+    // Where nothing is drawn nothing changes, and what is drawn in two runs is drawn in one.
+    ghost none_drawn: { (s : Self) → drawn s [] s };
+
+    ghost drawn_on: { (s t u : Self) (xs ys : List SourceAnswer) → drawn s xs t → drawn t ys u → drawn s (xs ++ ys) u };
+}
+
+/// The events of a device.
+///
+/// It asks the device with a buffer of 1024 bytes, and hands them to the parser. Bytes that the parser couldn't take for want of
+/// memory are kept, with their mode, and are handed in again.
+#[derive(Drop)]
+pub struct DeviceSource<D, A: Allocator = Global> {
+    parser: Parser<A>,
+    buffer: [u8; 1024],
+    // The bytes of the buffer from here to the end are untaken.
+    from: usize,
+    end: usize,
+    raw: bool,
+    device: D,
+}
+
+impl<D, A: Allocator> Model for DeviceSource<D, A> {
+    ghost Value = { Source D };
+
+    ghost view = { λ s. record { parser = s.parser; untaken = marked (take (s.end - s.from) (drop s.from s.buffer)) (s.end == 1024) s.raw; device = s.device } };
+
+    ghost invariant = { λ s. (s.from ≤ s.end) × (s.end ≤ 1024) };
+}
+
+impl<D: Device, A: Allocator> DeviceSource<D, A> {
+    /// A source that has asked its device for nothing yet.
+    pub fn new(alloc: A, device: D) -> Self
+        ensures waiting { result.parser.waiting ≡ [] }
+        ensures stands { Stands result.parser [] }
+        ensures untaken { result.untaken ≡ [] }
+        ensures device { result.device ≡ device }
+    {
+        DeviceSource {
+            parser: Parser::new(alloc),
+            buffer: [0; 1024],
+            from: 0,
+            end: 0,
+            raw: false,
+            device,
+        }
+    }
+
+    // Hands the untaken bytes to the parser, and gives the first event.
+    fn hand(&mut self) -> io::Result<Option<InternalEvent<A>>>
+        requires { self.old.parser.waiting ≡ [] }
+        ensures hands { Hands self.old (answer_of result) self.new }
+        ensures device { self.new.device ≡ self.old.device }
+        ensures err { IfErr result (λ e. IsOwn (error_kind e)) }
+    {
+        let buffer: &[u8] = &self.buffer;
+        let untaken = &buffer[self.from..self.end];
+        let taken = self.parser.advance(untaken, self.end == 1024, self.raw);
+        self.from += taken;
+        if let Some(event) = self.parser.next() {
+            return Ok(Some(event));
+        }
+        if self.from == self.end {
+            return Ok(None);
+        }
+        Err(io::Error::from(io::ErrorKind::OutOfMemory))
+    }
+}
+
+impl<D: Device, A: Allocator> EventSource<A> for DeviceSource<D, A> {
+    ghost drawn = { SourceDrawn D.told };
+
+    ghost failed = { λ s. D.failed s.device };
+
+    ghost none_drawn = { source_none D.told D.none_told };
+
+    ghost drawn_on = { source_on D.told D.told_on };
+
+    fn try_read(&mut self, limit: Option<Duration>) -> io::Result<Option<InternalEvent<A>>> {
+        if let Some(event) = self.parser.next() {
+            return Ok(Some(event));
+        }
+        if self.from < self.end {
+            return self.hand();
+        }
+        match self.device.answer(&mut self.buffer, limit) {
+            Ok(Answer::Bytes { count, raw }) => {
+                if count == 0 {
+                    return Err(io::Error::from(io::ErrorKind::UnexpectedEof));
+                }
+                self.from = 0;
+                self.end = count;
+                self.raw = raw;
+                self.hand()
+            }
+            Ok(Answer::Resize(columns, rows)) => {
+                Ok(Some(InternalEvent::Event(Event::Resize(columns, rows))))
+            }
+            Ok(Answer::Woken) => Err(io::Error::from(io::ErrorKind::Interrupted)),
+            Ok(Answer::Idle) => Ok(None),
+            Err(error) => Err(error),
+        }
+    }
+
+    fn failures(&self) -> u64 {
+        self.device.failures()
+    }
+
+    fn waker(&self) -> io::Result<Waker> {
+        self.device.waker()
+    }
+}
+
+#[cfg(test)]
+mod tests {
+    use super::*;
+    use crossterm_types::event::KeyCode;
+    use std::test::Fail;
+
+    fn is_char(event: &Option<InternalEvent>, c: char) -> bool {
+        match event {
+            Some(InternalEvent::Event(Event::Key(key))) => key.code == KeyCode::Char(c),
+            _ => false,
+        }
+    }
+
+    #[test]
+    fn events_come_one_by_one(rt: HostRuntime) -> Result<(), Fail> {
+        let alloc = rt.alloc();
+        let acts = vec![in alloc;
+            Act::Piece {
+                bytes: vec![in alloc; 0x61, 0x62]?,
+                raw: false
+            },
+            Act::Idle,
+            Act::Resize(80, 24),
+            Act::Woken,
+            Act::Fault(io::ErrorKind::Other),
+        ]?;
+        let mut source: DeviceSource<Script> = DeviceSource::new(alloc, Script::new(acts));
+        assert!(rt; is_char(&source.try_read(None)?, 'a'));
+        assert!(rt; is_char(&source.try_read(Some(Duration::ZERO))?, 'b'));
+        assert!(rt; matches!(source.try_read(None)?, None));
+        let resize = source.try_read(None)?;
+        assert!(rt; matches!(&resize, Some(InternalEvent::Event(Event::Resize(80, 24)))));
+        for kind in [
+            io::ErrorKind::Interrupted,
+            io::ErrorKind::Other,
+            io::ErrorKind::UnexpectedEof,
+        ] {
+            match source.try_read(None) {
+                Ok(_) => assert!(rt; false),
+                Err(error) => assert!(rt; error.kind() == kind),
+            }
+        }
+        assert_eq!(rt; source.failures(), 1);
+        source.waker()?.wake()?;
+        Ok(())
+    }
+}

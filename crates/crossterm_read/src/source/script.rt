@@ -1,0 +1,207 @@
+//! A device in memory.
+ghost use Rattle.std.specs.Prelude.{◌≡◌, ◌≤◌, drop, take, min, length, IsOkAnd};
+ghost use Rattle.crossterm_read.specs.Scripted.{words, words_from, ScriptLeft, ScriptTells, script_none, script_on};
+ghost use Rattle.crossterm_read.specs.Waking.{IsSure};
+
+use crate::source::{Answer, Device, Waker};
+use std::alloc::{Allocator, Global};
+use std::io;
+use std::marker::Model;
+use std::time::Duration;
+
+/// One act of a script.
+#[derive(Drop)]
+#[derive_where(Debug)]
+pub enum Act<A: Allocator = Global> {
+    /// Some bytes, and whether they come in raw mode. An empty piece is passed over, and one of more than 1024 bytes comes in
+    /// buffers of 1024 and a rest.
+    Piece {
+        /// The bytes.
+        bytes: Vec<u8, A>,
+        /// Whether they come in raw mode.
+        raw: bool,
+    },
+    /// A new size: columns and rows.
+    Resize(u16, u16),
+    /// A wake-up.
+    Woken,
+    /// Nothing yet.
+    Idle,
+    /// A failure of this kind.
+    Fault(io::ErrorKind),
+}
+
+/// A device that tells what it was made of, and then the end of input.
+#[derive(Drop)]
+pub struct Script<A: Allocator = Global> {
+    acts: Vec<Act<A>, A>,
+    // The act that is told next, and how many of its bytes were told.
+    next: usize,
+    at: usize,
+    failures: u64,
+}
+
+impl<A: Allocator> Model for Script<A> {
+    ghost Value = { ScriptLeft };
+
+    ghost view = { λ s. record { left = words_from (drop s.next s.acts.items) s.at; failed = s.failures } };
+
+    ghost invariant = { λ s. s.failures ≤ s.next };
+}
+
+impl<A: Allocator> Script<A> {
+    /// A device that tells these acts in order.
+    pub fn new(acts: Vec<Act<A>, A>) -> Self
+        ensures { result ≡ record { left = words acts.items; failed = 0 } }
+    {
+        Script {
+            acts,
+            next: 0,
+            at: 0,
+            failures: 0,
+        }
+    }
+}
+
+// Fills a buffer with the first bytes, and tells how many.
+fn tell(bytes: &[u8], buf: &mut [u8]) -> usize
+    requires { length buf.now ≡ 1024 }
+    ensures count { result ≡ min 1024 (length bytes.now) }
+    ensures within { result ≤ length buf.new }
+    ensures told { take result buf.new ≡ take 1024 bytes.now }
+{
+    let count = bytes.len().min(1024);
+    buf[..count].copy_from_slice(&bytes[..count]);
+    count
+}
+
+impl<A: Allocator> Device for Script<A> {
+    ghost told = { ScriptTells };
+
+    ghost failed = { λ s. s.failed };
+
+    ghost none_told = { script_none };
+
+    ghost told_on = { script_on };
+
+    fn answer(&mut self, buf: &mut [u8], _limit: Option<Duration>) -> io::Result<Answer> {
+        while self.next < self.acts.len() {
+            match &self.acts[self.next] {
+                Act::Piece { bytes, raw } => {
+                    if self.at < bytes.len() {
+                        let count = tell(&bytes[self.at..], buf);
+                        self.at += count;
+                        return Ok(Answer::Bytes { count, raw: *raw });
+                    }
+                    self.next += 1;
+                    self.at = 0;
+                }
+                Act::Resize(columns, rows) => {
+                    self.next += 1;
+                    self.at = 0;
+                    return Ok(Answer::Resize(*columns, *rows));
+                }
+                Act::Woken => {
+                    self.next += 1;
+                    self.at = 0;
+                    return Ok(Answer::Woken);
+                }
+                Act::Idle => {
+                    self.next += 1;
+                    self.at = 0;
+                    return Ok(Answer::Idle);
+                }
+                Act::Fault(kind) => {
+                    self.next += 1;
+                    self.at = 0;
+                    self.failures += 1;
+                    return Err(io::Error::from(*kind));
+                }
+            }
+        }
+        Ok(Answer::Bytes {
+            count: 0,
+            raw: false,
+        })
+    }
+
+    fn failures(&self) -> u64 {
+        self.failures
+    }
+
+    /// A script's waker is there always, and wakes nobody.
+    fn waker(&self) -> io::Result<Waker>
+        ensures { IsOkAnd result IsSure }
+    {
+        Ok(Waker::none())
+    }
+}
+
+#[cfg(test)]
+mod tests {
+    use super::*;
+    use std::test::Fail;
+
+    #[test]
+    fn acts_are_told_in_order(rt: HostRuntime) -> Result<(), Fail> {
+        let alloc = rt.alloc();
+        let mut long = Vec::new(alloc);
+        for _i in 0..1500u32 {
+            long.push(0x61)?;
+        }
+        let acts = vec![in alloc;
+            Act::Piece {
+                bytes: Vec::new(alloc),
+                raw: true
+            },
+            Act::Piece {
+                bytes: long,
+                raw: true
+            },
+            Act::Resize(80, 24),
+            Act::Woken,
+            Act::Idle,
+            Act::Fault(io::ErrorKind::Other),
+        ]?;
+        let mut script = Script::new(acts);
+        let mut buf = [0u8; 1024];
+        let first = script.answer(&mut buf, None)?;
+        assert!(rt;
+            matches!(
+                first,
+                Answer::Bytes {
+                    count: 1024,
+                    raw: true
+                }
+            )
+        );
+        let second = script.answer(&mut buf, None)?;
+        assert!(rt;
+            matches!(
+                second,
+                Answer::Bytes {
+                    count: 476,
+                    raw: true
+                }
+            )
+        );
+        assert!(rt; matches!(script.answer(&mut buf, None)?, Answer::Resize(80, 24)));
+        assert!(rt; matches!(script.answer(&mut buf, None)?, Answer::Woken));
+        assert!(rt; matches!(script.answer(&mut buf, None)?, Answer::Idle));
+        assert_eq!(rt; script.failures(), 0);
+        assert!(rt; script.answer(&mut buf, None).is_err());
+        assert_eq!(rt; script.failures(), 1);
+        let last = script.answer(&mut buf, None)?;
+        assert!(rt;
+            matches!(
+                last,
+                Answer::Bytes {
+                    count: 0,
+                    raw: false
+                }
+            )
+        );
+        script.waker()?.wake()?;
+        Ok(())
+    }
+}

@@ -1,0 +1,3 @@
+mod NormalForm
+mod SameKeys
+mod Variants

@@ -1,0 +1,36 @@
+-- Which events the filters admit.
+use Rattle.std.specs.Prelude.{Bool, true, false}
+use Rattle.crossterm_types.specs.Seen.{Seen}
+use Rattle.crossterm_types.specs.Seen as seen
+use Rattle.crossterm_types.specs.declared.event.filter.AnyFilter.{AnyFilter}
+use Rattle.crossterm_types.specs.declared.event.filter.AnyFilter.TheVariants.{Event, Cursor, Flags, Attributes}
+
+-- Events that a user brought about: all but replies to queries.
+abbrev pub is_event : Seen → Bool
+is_event (seen.CursorPosition column row) = false
+is_event (seen.KeyboardFlags flags) = false
+is_event seen.PrimaryDeviceAttributes = false
+is_event _ = true
+
+-- Replies that tell the cursor's place.
+abbrev pub is_cursor_position : Seen → Bool
+is_cursor_position (seen.CursorPosition column row) = true
+is_cursor_position _ = false
+
+-- Replies that tell the terminal's attributes.
+abbrev pub is_attributes : Seen → Bool
+is_attributes seen.PrimaryDeviceAttributes = true
+is_attributes _ = false
+
+-- Replies to a query for the flags of the keyboard protocol: the flags, or the attributes alone from a terminal that has no flags.
+abbrev pub is_flags_reply : Seen → Bool
+is_flags_reply (seen.KeyboardFlags flags) = true
+is_flags_reply seen.PrimaryDeviceAttributes = true
+is_flags_reply _ = false
+
+-- What each filter by name admits.
+abbrev pub admitted : AnyFilter → Seen → Bool
+admitted Event = is_event
+admitted Cursor = is_cursor_position
+admitted Flags = is_flags_reply
+admitted Attributes = is_attributes

@@ -1,0 +1,5 @@
+pub mod Admitting
+pub mod Compared
+pub mod Keys
+pub mod Normal
+pub mod Seen

@@ -1,0 +1,81 @@
+//! How the probe prints events.
+
+use crossterm::event::{Event, InternalEvent, KeyCode, KeyEvent, MouseEvent, MouseEventKind};
+use std::alloc::Allocator;
+use std::fmt;
+
+/// An event as one line without its end.
+#[derive(Drop)]
+pub struct EventLine<'a, A: Allocator>(pub &'a InternalEvent<A>);
+
+#[derive(Clone, Copy)]
+struct Code(KeyCode);
+
+impl fmt::Display for Code {
+    fn fmt<W: fmt::Write>(&self, f: &mut fmt::Formatter<W>) -> fmt::Result {
+        match self.0 {
+            KeyCode::F(number) => write!(f, "F{number}"),
+            KeyCode::Char(c) => write!(f, "Char:{:x}", u32::from(c)),
+            KeyCode::Media(key) => write!(f, "Media:{key:?}"),
+            KeyCode::Modifier(key) => write!(f, "Modifier:{key:?}"),
+            code => write!(f, "{code:?}"),
+        }
+    }
+}
+
+#[derive(Clone, Copy)]
+struct MouseKind(MouseEventKind);
+
+impl fmt::Display for MouseKind {
+    fn fmt<W: fmt::Write>(&self, f: &mut fmt::Formatter<W>) -> fmt::Result {
+        match self.0 {
+            MouseEventKind::Down(button) => write!(f, "Down:{button:?}"),
+            MouseEventKind::Up(button) => write!(f, "Up:{button:?}"),
+            MouseEventKind::Drag(button) => write!(f, "Drag:{button:?}"),
+            kind => write!(f, "{kind:?}"),
+        }
+    }
+}
+
+fn write_key<W: fmt::Write>(f: &mut fmt::Formatter<W>, key: &KeyEvent) -> fmt::Result {
+    let code = Code(key.code);
+    let kind = key.kind;
+    let (modifiers, state) = (key.modifiers.bits(), key.state.bits());
+    write!(f, "key {code} {modifiers} {kind:?} {state}")
+}
+
+fn write_mouse<W: fmt::Write>(f: &mut fmt::Formatter<W>, mouse: &MouseEvent) -> fmt::Result {
+    let kind = MouseKind(mouse.kind);
+    let (column, row) = (mouse.column, mouse.row);
+    let modifiers = mouse.modifiers.bits();
+    write!(f, "mouse {kind} {column} {row} {modifiers}")
+}
+
+fn write_paste<W: fmt::Write>(f: &mut fmt::Formatter<W>, text: &str) -> fmt::Result {
+    write!(f, "paste ")?;
+    for byte in text.bytes() {
+        write!(f, "{byte:02x}")?;
+    }
+    Ok(())
+}
+
+impl<A: Allocator> fmt::Display for EventLine<'_, A> {
+    fn fmt<W: fmt::Write>(&self, f: &mut fmt::Formatter<W>) -> fmt::Result {
+        match self.0 {
+            InternalEvent::Event(Event::FocusGained) => write!(f, "focus gained"),
+            InternalEvent::Event(Event::FocusLost) => write!(f, "focus lost"),
+            InternalEvent::Event(Event::Key(key)) => write_key(f, key),
+            InternalEvent::Event(Event::Mouse(mouse)) => write_mouse(f, mouse),
+            InternalEvent::Event(Event::Paste(text)) => write_paste(f, text.as_str()),
+            InternalEvent::Event(Event::Resize(columns, rows)) => {
+                write!(f, "resize {columns} {rows}")
+            }
+            InternalEvent::CursorPosition(column, row) => write!(f, "cursor {column} {row}"),
+            InternalEvent::KeyboardEnhancementFlags(flags) => {
+                let bits = flags.bits();
+                write!(f, "flags {bits}")
+            }
+            InternalEvent::PrimaryDeviceAttributes => write!(f, "attributes"),
+        }
+    }
+}

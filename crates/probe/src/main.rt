@@ -1,0 +1,46 @@
+//! A probe of crossterm: runs a script of device answers and reader calls, and prints what comes of them.
+//!
+//! `probe play` reads lines from standard input. Acts of the device: `piece HEX`, `raw HEX`, `resize COLUMNS ROWS`, `wake`, `idle`, `fault`.
+//! Calls of the reader: `poll FILTER TRIES`, `read FILTER TRIES`, `take FILTER`. It stands on `crossterm` alone, by its public calls.
+#![tactic(auto)]
+
+mod event_line;
+mod fault;
+mod input;
+mod play;
+#[cfg(test)]
+mod tests;
+
+use fault::Fault;
+use std::process::ExitCode;
+use std::{env, io};
+
+/// The mode word, where it is the only word of the command line.
+fn mode(rt: &HostRuntime) -> Result<String, Fault> {
+    let mut words = match env::args(rt) {
+        Ok(words) => words,
+        Err(_) => return Err(Fault::OutOfMemory),
+    };
+    let _program = words.next();
+    match (words.next(), words.next()) {
+        (Some(word), None) => Ok(word),
+        _ => Err(Fault::Usage),
+    }
+}
+
+fn run(rt: &HostRuntime) -> Result<(), Fault> {
+    match mode(rt)?.as_str() {
+        "play" => play::run_play(rt.alloc(), &mut rt.reader(), &mut io::writer(rt)),
+        _ => Err(Fault::Usage),
+    }
+}
+
+fn main(rt: HostRuntime) -> ExitCode {
+    match run(&rt) {
+        Ok(()) => ExitCode::SUCCESS,
+        Err(fault) => {
+            let _ = eprintln!(rt; "{fault}");
+            ExitCode::FAILURE
+        }
+    }
+}
