@@ -1,19 +1,47 @@
 -- The tests of the grammar say what its definitions say, and no whole sequence begins another.
-use Rattle.std.proofs.Common.{◌≡◌, ◌≢◌, ◌==◌, ◌⊎◌, inl, inr, ℕ, Bool, true, false, cond, ◌&&◌, List, [], ◌∷◌, ◌++◌, refl, ap, sym, ◌∙◌, arith, length, ◌<◌, zero, suc, subst, drop}
+use Rattle.std.proofs.Common.{◌≡◌, ◌≢◌, ◌==◌, ◌⊎◌, inl, inr, ℕ, Bool, true, false, cond, ◌&&◌, ◌||◌, List, [], ◌∷◌, ◌++◌, refl, ap, sym, ◌∙◌, arith, length, ◌<◌, zero, suc, subst, drop}
 use Rattle.std.specs.Prelude.{nat_le}
 use Rattle.std.proofs.lemmas.Bool.{false≢true, cases_Bool, eq-eqb, eqb-true}
 use Rattle.std.proofs.lemmas.Bool.Decides.{nat_tests, eqb_tells}
 use Rattle.std.specs.List.{AllByRecursion}
 use Rattle.crossterm_parse.specs.Marked.{Marked, bytes_of}
-use Rattle.crossterm_parse.specs.Deciding.{is_nil, is_one, is_lead, is_continuing, further_after, ends_character, is_character, ends_escape, is_shape, is_whole, begins}
+use Rattle.crossterm_parse.specs.Deciding.{is_nil, is_one, is_digit, is_final, ends_numbered, ends_reply, ends_private, ends_csi, is_lead, is_continuing, further_after, ends_character, is_character, ends_escape, is_shape, is_whole, begins}
 use Rattle.crossterm_parse.specs.Grammar as grammar
-use Rattle.crossterm_parse.specs.Grammar.{IsLead, IsContinuing, continuing_after, CharacterShape, single, broken, Shape, text, two_escapes, with_escape, after_ss3, after_csi, BeginsPaused, Whole, key, sequence}
+use Rattle.crossterm_parse.specs.Grammar.{IsDigit, IsFinal, IsAlone, EndsNoReply, HasNoEnd, EndsReply, IsLead, IsContinuing, continuing_after, CharacterShape, single, broken, Shape, text, two_escapes, with_escape, after_ss3, after_csi, after_bracket, reply, numbered, BeginsPaused, Whole, key, sequence}
 use Rattle.crossterm_parse.specs.Division.{NoneBeginsAnother}
 
 -- which way a test went
 pub chosen : {A : Type 0} (b : Bool) (x y z : A) → cond b x y ≡ z → ((b ≡ true) × (x ≡ z)) ⊎ ((b ≡ false) × (y ≡ z))
 chosen true x y z e = inl (refl, e)
 chosen false x y z e = inr (refl, e)
+
+pub digit_true : (b : ℕ) → IsDigit b → is_digit b ≡ true
+digit_true b h = grind (arith, nat_tests)
+
+pub true_digit : (b : ℕ) → is_digit b ≡ true → IsDigit b
+true_digit b h = grind (arith, nat_tests)
+
+pub false_digit : (b : ℕ) → ¬ IsDigit b → is_digit b ≡ false
+false_digit b h = grind (arith, nat_tests)
+
+pub not_digit : (b : ℕ) → is_digit b ≡ false → ¬ IsDigit b
+not_digit b h = grind (arith, nat_tests)
+
+pub final_true : (b : ℕ) → IsFinal b → is_final b ≡ true
+final_true b h = grind (arith, nat_tests)
+
+pub true_final : (b : ℕ) → is_final b ≡ true → IsFinal b
+true_final b h = grind (arith, nat_tests)
+
+pub false_final : (b : ℕ) → ¬ IsFinal b → is_final b ≡ false
+false_final b h = grind (arith, nat_tests)
+
+pub not_final : (b : ℕ) → is_final b ≡ false → ¬ IsFinal b
+not_final b h = grind (arith, nat_tests)
+
+pub numbered_true : (w : List ℕ) (f : ℕ) → AllByRecursion (λ b. ¬ IsFinal b) w → IsFinal f → ends_numbered (w ++ f ∷ []) ≡ true
+numbered_true [] f h l = rw (final_true f l)
+numbered_true (b ∷ w) f h l = rw (false_final b h.0, numbered_true w f h.1 l)
 
 true_nil : (bs : List ℕ) → is_nil bs ≡ true → bs ≡ []
 true_nil [] h = refl
@@ -100,6 +128,36 @@ as_shape : (bytes : List ℕ) → CharacterShape bytes → is_shape bytes ≡ tr
 as_shape [] c = character_true [] c
 as_shape (b ∷ bs) c = rw (not_escape b bs c) (character_true (b ∷ bs) c)
 
+-- a byte after `ESC [` that doesn't ask for more
+alone_true : (b : ℕ) → IsAlone b → ends_csi (b ∷ []) ≡ true
+alone_true b (n, m, d) =
+    let s : (b == 91) ≡ false = grind (arith, nat_tests) in
+    let t : (b == 63) ≡ false = grind (arith, nat_tests) in
+    rw (s, t, false_digit b d)
+
+digit_csi : (d : ℕ) (bs : List ℕ) → IsDigit d → ends_csi (d ∷ bs) ≡ ends_numbered bs
+digit_csi d bs h =
+    let s : (d == 91) ≡ false = grind (arith, nat_tests) in
+    let t : (d == 63) ≡ false = grind (arith, nat_tests) in
+    rw (s, t, digit_true d h)
+
+pub no_reply : (b : ℕ) → EndsNoReply b → (b == 99 || b == 117) ≡ false
+no_reply b (n, m) =
+    let s : (b == 99) ≡ false = grind (arith, nat_tests) in
+    let t : (b == 117) ≡ false = grind (arith, nat_tests) in
+    rw (s, t)
+
+pub reply_true : (w : List ℕ) (f : ℕ) → AllByRecursion EndsNoReply w → (f ≡ 99) ⊎ (f ≡ 117) → ends_reply (w ++ f ∷ []) ≡ true
+reply_true [] f none (inl e) = rw e
+reply_true [] f none (inr e) = rw e
+reply_true (b ∷ w) f none e = rw (no_reply b none.0) (reply_true w f none.1 e)
+
+pub private_true : (w : List ℕ) (f : ℕ) → HasNoEnd w → EndsReply w f → ends_private (w ++ f ∷ []) ≡ true
+private_true [] f none (inl e) = rw e
+private_true [] f none (inr e) = absurd (e.1 refl)
+private_true (b ∷ w) f none (inl e) = let s : (b == 99) ≡ false = (let n = none.0 in grind (arith, nat_tests)) in rw s (reply_true w f none.1 (inl e))
+private_true (b ∷ w) f none (inr e) = let s : (b == 99) ≡ false = (let n = none.0 in grind (arith, nat_tests)) in rw s (reply_true w f none.1 (inr e.0))
+
 pub shape_true : (bytes : List ℕ) → Shape bytes → is_shape bytes ≡ true
 shape_true bytes (text c) = as_shape bytes c
 shape_true bytes (two_escapes e) = rw e
@@ -108,7 +166,10 @@ shape_true bytes (with_escape b rest not_o not_bracket c e) = rw e (
     let t : (b == 91) ≡ false = grind (arith, nat_tests) in
     rw (s, t, not_escape b rest c) (character_true (b ∷ rest) c))
 shape_true bytes (after_ss3 b e) = rw e
-shape_true bytes (after_csi b e) = rw e
+shape_true bytes (after_csi b alone e) = rw e (alone_true b alone)
+shape_true bytes (after_bracket b e) = rw e
+shape_true bytes (reply w f none ends e) = rw e (private_true w f none ends)
+shape_true bytes (numbered d f w is nf l e) = rw e (digit_csi d (w ++ f ∷ []) is ∙ numbered_true w f nf l)
 
 true_one : (bs : List ℕ) → is_one bs ≡ true → (b : ℕ) × (bs ≡ b ∷ [])
 true_one [] h = absurd (false≢true h)
@@ -150,20 +211,95 @@ true_character b bs ne h = elim (chosen (is_lead b) (ends_character (further_aft
 ss3_shape : (b : ℕ) (bs : List ℕ) (c : ℕ) → b ≡ 79 → bs ≡ c ∷ [] → Shape (27 ∷ b ∷ bs)
 ss3_shape b bs c is e = after_ss3 c (rw (is, e))
 
-csi_shape : (b : ℕ) (bs : List ℕ) (c : ℕ) → b ≡ 91 → bs ≡ c ∷ [] → Shape (27 ∷ b ∷ bs)
-csi_shape b bs c is e = after_csi c (rw (is, e))
+-- what stands before the first final byte, and that byte
+record Ends (bs : List ℕ) : Type 0 where
+  before : List ℕ
+  last : ℕ
+  none_before : AllByRecursion (λ b. ¬ IsFinal b) before
+  closed : IsFinal last
+  is : bs ≡ before ++ last ∷ []
+
+true_numbered : (bs : List ℕ) → ends_numbered bs ≡ true → Ends bs
+true_numbered [] h = absurd (false≢true h)
+true_numbered (b ∷ bs) h =
+    elim (chosen (is_final b) (is_nil bs) (ends_numbered bs) true h) [
+      | inl w ↦ record { before = []; last = b; none_before = tt; closed = true_final b w.0; is = ap (λ (ys : List ℕ). b ∷ ys) (true_nil bs w.1) }
+      | inr w ↦ let later = true_numbered bs w.1 in
+          record { before = b ∷ later.before; last = later.last; none_before = (not_final b w.0, later.none_before); closed = later.closed; is = ap (λ (ys : List ℕ). b ∷ ys) later.is }
+    ]
+
+-- what stands before the first end of a reply, and that end
+record Replied (bs : List ℕ) : Type 0 where
+  before : List ℕ
+  last : ℕ
+  none_before : AllByRecursion EndsNoReply before
+  closed : (last ≡ 99) ⊎ (last ≡ 117)
+  is : bs ≡ before ++ last ∷ []
+
+or_either : (s t : Bool) → s || t ≡ true → (s ≡ true) ⊎ (t ≡ true)
+or_either true t h = inl refl
+or_either false t h = inr h
+
+or_none : (s t : Bool) → s || t ≡ false → (s ≡ false) × (t ≡ false)
+or_none true t h = absurd (false≢true (sym h))
+or_none false t h = (refl, h)
+
+pub true_reply_end : (b : ℕ) → (b == 99 || b == 117) ≡ true → (b ≡ 99) ⊎ (b ≡ 117)
+true_reply_end b h = elim (or_either (b == 99) (b == 117) h) [ inl t ↦ inl (eqb-true b 99 t) | inr t ↦ inr (eqb-true b 117 t) ]
+
+pub not_reply_end : (b : ℕ) → (b == 99 || b == 117) ≡ false → EndsNoReply b
+not_reply_end b h = let n = or_none (b == 99) (b == 117) h in (let s = n.0 in grind (arith, nat_tests), let s = n.1 in grind (arith, nat_tests))
+
+true_reply : (bs : List ℕ) → ends_reply bs ≡ true → Replied bs
+true_reply [] h = absurd (false≢true h)
+true_reply (b ∷ bs) h = elim (chosen (b == 99 || b == 117) (is_nil bs) (ends_reply bs) true h) [
+  | inl w ↦ record { before = []; last = b; none_before = tt; closed = true_reply_end b w.0; is = ap (λ (ys : List ℕ). b ∷ ys) (true_nil bs w.1) }
+  | inr w ↦ let later = true_reply bs w.1 in
+      record { before = b ∷ later.before; last = later.last; none_before = (not_reply_end b w.0, later.none_before); closed = later.closed; is = ap (λ (ys : List ℕ). b ∷ ys) later.is }
+]
+
+ends_later : (b : ℕ) (w : List ℕ) (f : ℕ) → (f ≡ 99) ⊎ (f ≡ 117) → EndsReply (b ∷ w) f
+ends_later b w f (inl e) = inl e
+ends_later b w f (inr e) = inr (e, λ h. cc)
+
+private_shape : (bs : List ℕ) → ends_private bs ≡ true → Shape (27 ∷ 91 ∷ 63 ∷ bs)
+private_shape [] h = absurd (false≢true h)
+private_shape (b ∷ bs) h = elim (chosen (b == 99) (is_nil bs) (ends_reply bs) true h) [
+  | inl w ↦ reply [] b tt (inl (eqb-true b 99 w.0)) (ap (λ (ys : List ℕ). 27 ∷ 91 ∷ 63 ∷ b ∷ ys) (true_nil bs w.1))
+  | inr w ↦ let later = true_reply bs w.1 in
+      reply (b ∷ later.before) later.last (let n = w.0 in grind (arith, nat_tests), later.none_before) (ends_later b later.before later.last later.closed)
+      (ap (λ (ys : List ℕ). 27 ∷ 91 ∷ 63 ∷ b ∷ ys) later.is)
+]
+
+numbered_shape : (b : ℕ) (bs : List ℕ) → IsDigit b → Ends bs → Shape (27 ∷ 91 ∷ b ∷ bs)
+numbered_shape b bs d later = numbered b later.last later.before d later.none_before later.closed (ap (λ (ys : List ℕ). 27 ∷ 91 ∷ b ∷ ys) later.is)
+
+bracket_shape : (b : ℕ) (bs : List ℕ) (c : ℕ) → b ≡ 91 → bs ≡ c ∷ [] → Shape (27 ∷ 91 ∷ b ∷ bs)
+bracket_shape b bs c is e = after_bracket c (rw (is, e))
+
+true_csi : (bs : List ℕ) → ends_csi bs ≡ true → Shape (27 ∷ 91 ∷ bs)
+true_csi [] h = absurd (false≢true h)
+true_csi (b ∷ bs) h =
+    elim (chosen (b == 91) (is_one bs) (cond (b == 63) (ends_private bs) (cond (is_digit b) (ends_numbered bs) (is_nil bs))) true h) [
+      | inl w ↦ let one = true_one bs w.1 in bracket_shape b bs one.0 (eqb-true b 91 w.0) one.1
+      | inr w ↦ elim (chosen (b == 63) (ends_private bs) (cond (is_digit b) (ends_numbered bs) (is_nil bs)) true w.1) [
+        | inl v ↦ let is : b ≡ 63 = eqb-true b 63 v.0 in rw is (private_shape bs v.1)
+        | inr v ↦ elim (chosen (is_digit b) (ends_numbered bs) (is_nil bs) true v.1) [
+          | inl u ↦ numbered_shape b bs (true_digit b u.0) (true_numbered bs u.1)
+          | inr u ↦ after_csi b (let n = w.0 in grind (arith, nat_tests), let n = v.0 in grind (arith, nat_tests), not_digit b u.0) (ap (λ (ys : List ℕ). 27 ∷ 91 ∷ b ∷ ys) (true_nil bs u.1))
+        ]
+      ]
+    ]
 
 true_escape : (bs : List ℕ) → ends_escape bs ≡ true → Shape (27 ∷ bs)
 true_escape [] h = absurd (false≢true h)
 true_escape (b ∷ bs) h =
-    elim (chosen (b == 79) (is_one bs) (cond (b == 91) (is_one bs) (cond (b == 27) (is_nil bs) (is_character (b ∷ bs)))) true h) [
+    elim (chosen (b == 79) (is_one bs) (cond (b == 91) (ends_csi bs) (cond (b == 27) (is_nil bs) (is_character (b ∷ bs)))) true h) [
       | inl w ↦ let one = true_one bs w.1 in
           let is : b ≡ 79 = grind (arith, nat_tests, w.0) in
           ss3_shape b bs one.0 is one.1
-      | inr w ↦ elim (chosen (b == 91) (is_one bs) (cond (b == 27) (is_nil bs) (is_character (b ∷ bs))) true w.1) [
-        | inl v ↦ let one = true_one bs v.1 in
-            let is : b ≡ 91 = grind (arith, nat_tests, v.0) in
-            csi_shape b bs one.0 is one.1
+      | inr w ↦ elim (chosen (b == 91) (ends_csi bs) (cond (b == 27) (is_nil bs) (is_character (b ∷ bs))) true w.1) [
+        | inl v ↦ let is : b ≡ 91 = grind (arith, nat_tests, v.0) in rw is (true_csi bs v.1)
         | inr v ↦
             let not_o : b ≢ 79 = grind (arith, nat_tests, w.0) in
             let not_bracket : b ≢ 91 = grind (arith, nat_tests, v.0) in
@@ -208,11 +344,38 @@ character_closes (suc n) (b ∷ a) x h l = choice_closes (is_continuing b) (ends
 typed_closes : (b : ℕ) → Closes (λ bs. is_character (b ∷ bs))
 typed_closes b = choice_closes (is_lead b) (ends_character (further_after b)) is_nil (character_closes (further_after b)) nil_closes
 
+numbered_closes : Closes ends_numbered
+numbered_closes [] x h l = absurd (false≢true h)
+numbered_closes (b ∷ a) x h l = go (is_final b) h l (numbered_closes a x) where
+  go : (t : Bool) → cond t (is_nil a) (ends_numbered a) ≡ true → cond t (is_nil (a ++ x)) (ends_numbered (a ++ x)) ≡ true
+      → (ends_numbered a ≡ true → ends_numbered (a ++ x) ≡ true → x ≡ []) → x ≡ []
+  go true h l later = nil_closes a x h l
+  go false h l later = later h l
+
+reply_closes : Closes ends_reply
+reply_closes [] x h l = absurd (false≢true h)
+reply_closes (b ∷ a) x h l = go (b == 99 || b == 117) h l (reply_closes a x) where
+  go : (t : Bool) → cond t (is_nil a) (ends_reply a) ≡ true → cond t (is_nil (a ++ x)) (ends_reply (a ++ x)) ≡ true
+      → (ends_reply a ≡ true → ends_reply (a ++ x) ≡ true → x ≡ []) → x ≡ []
+  go true h l later = nil_closes a x h l
+  go false h l later = later h l
+
+private_closes : Closes ends_private
+private_closes [] x h l = absurd (false≢true h)
+private_closes (b ∷ a) x h l = choice_closes (b == 99) is_nil ends_reply nil_closes reply_closes a x h l
+
+csi_closes : Closes ends_csi
+csi_closes [] x h l = absurd (false≢true h)
+csi_closes (b ∷ a) x h l =
+    choice_closes (b == 91) is_one (λ bs. cond (b == 63) (ends_private bs) (cond (is_digit b) (ends_numbered bs) (is_nil bs))) one_closes
+    (choice_closes (b == 63) ends_private (λ bs. cond (is_digit b) (ends_numbered bs) (is_nil bs)) private_closes
+    (choice_closes (is_digit b) ends_numbered is_nil numbered_closes nil_closes)) a x h l
+
 escape_closes : Closes ends_escape
 escape_closes [] x h l = absurd (false≢true h)
 escape_closes (b ∷ a) x h l =
-    choice_closes (b == 79) is_one (λ bs. cond (b == 91) (is_one bs) (cond (b == 27) (is_nil bs) (is_character (b ∷ bs)))) one_closes
-    (choice_closes (b == 91) is_one (λ bs. cond (b == 27) (is_nil bs) (is_character (b ∷ bs))) one_closes
+    choice_closes (b == 79) is_one (λ bs. cond (b == 91) (ends_csi bs) (cond (b == 27) (is_nil bs) (is_character (b ∷ bs)))) one_closes
+    (choice_closes (b == 91) ends_csi (λ bs. cond (b == 27) (is_nil bs) (is_character (b ∷ bs))) csi_closes
     (choice_closes (b == 27) is_nil (λ bs. is_character (b ∷ bs)) nil_closes (typed_closes b))) a x h l
 
 -- the first byte isn't an escape with a pause

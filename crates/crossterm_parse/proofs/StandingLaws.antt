@@ -12,13 +12,14 @@ use Rattle.crossterm_parse.specs.Deciding.{is_character, is_shape, is_whole, is_
 use Rattle.crossterm_parse.specs.Division.{IsUndecided}
 use Rattle.crossterm_parse.specs.Grammar as grammar
 use Rattle.crossterm_parse.specs.Meaning.{meaning, meaning_of, seen_meaning}
-use Rattle.crossterm_parse.specs.Machine.{state_after, state_left, events_left, StandsFor, IsRight, prefixed, begun_bytes}
+use Rattle.crossterm_parse.specs.Machine.{state_after, state_left, events_left, StandsFor, IsRight, prefixed}
+use Rattle.crossterm_parse.specs.Characters.{begun_bytes}
 use Rattle.crossterm_parse.specs.Standing.{Standing, Stands, AdvancesOver, EndsNoEvent}
 use Rattle.crossterm_parse.specs.declared.character.Begun.{Begun}
 use Rattle.crossterm_parse.specs.declared.character.Begun.TheVariants.{One, Two, Three}
 use Rattle.crossterm_parse.specs.declared.meaning.Meaning.{Meaning}
 use Rattle.crossterm_parse.specs.declared.state.State.{State}
-use Rattle.crossterm_parse.specs.declared.state.State.TheVariants.{Ground, Escape, Ss3, Csi, Utf8}
+use Rattle.crossterm_parse.specs.declared.state.State.TheVariants.{Ground, Escape, Ss3, Csi, Bracket, Private, Reply, Numbered, Utf8}
 use Rattle.crossterm_parse.specs.declared.state.Step.{Step}
 use Rattle.crossterm_parse.specs.declared.state.Step.TheVariants.{Open, Whole}
 use Rattle.crossterm_parse.proofs.DivisionLaws.{divide_join, divide_whole, divide_open, some_division, one_division}
@@ -194,6 +195,10 @@ ground_only Ground before h = (λ _. bytes_of_nil before h, λ _. refl)
 ground_only Escape before h = (λ e. cc, λ e. absurd (not_bytes before _ _ h e))
 ground_only Ss3 before h = (λ e. cc, λ e. absurd (not_bytes before _ _ h e))
 ground_only Csi before h = (λ e. cc, λ e. absurd (not_bytes before _ _ h e))
+ground_only Bracket before h = (λ e. cc, λ e. absurd (not_bytes before _ _ h e))
+ground_only Private before h = (λ e. cc, λ e. absurd (not_bytes before _ _ h e))
+ground_only (Reply first) before h = (λ e. cc, λ e. absurd (not_bytes before _ _ h.is e))
+ground_only (Numbered d) before h = (λ e. cc, λ e. absurd (not_bytes before _ _ h.is e))
 ground_only (Utf8 c) before h = (λ e. cc, λ e. absurd (begun_not_nil c.escaped c.begun (sym h.0 ∙ ap bytes_of e)))
 
 nil_left : {A : Type 0} (xs ys : List A) → xs ++ ys ≡ [] → xs ≡ []

@@ -10,6 +10,36 @@ abbrev pub is_one : List ℕ → Bool
 is_one [] = false
 is_one (b ∷ bs) = is_nil bs
 
+abbrev pub is_digit : ℕ → Bool
+is_digit b = nat_le 48 b && nat_le b 57
+
+abbrev pub begins_with_digit : List ℕ → Bool
+begins_with_digit [] = false
+begins_with_digit (b ∷ bs) = is_digit b
+
+-- what ends a numbered sequence
+abbrev pub is_final : ℕ → Bool
+is_final b = nat_le 64 b && nat_le b 126
+
+-- the first final byte is the last byte
+abbrev pub ends_numbered : List ℕ → Bool
+ends_numbered [] = false
+ends_numbered (b ∷ bs) = if is_final b then is_nil bs else ends_numbered bs
+
+-- the first `c` or `u` is the last byte
+abbrev pub ends_reply : List ℕ → Bool
+ends_reply [] = false
+ends_reply (b ∷ bs) = if b == 99 || b == 117 then is_nil bs else ends_reply bs
+
+-- the same, but a `u` at once is no end
+abbrev pub ends_private : List ℕ → Bool
+ends_private [] = false
+ends_private (b ∷ bs) = if b == 99 then is_nil bs else ends_reply bs
+
+abbrev pub ends_csi : List ℕ → Bool
+ends_csi [] = false
+ends_csi (b ∷ bs) = if b == 91 then is_one bs else if b == 63 then ends_private bs else if is_digit b then ends_numbered bs else is_nil bs
+
 -- whether the second list begins with the first
 abbrev pub begins : List ℕ → List ℕ → Bool
 begins [] bs = true
@@ -38,7 +68,7 @@ is_character (b ∷ bs) = if is_lead b then ends_character (further_after b) bs 
 
 abbrev pub ends_escape : List ℕ → Bool
 ends_escape [] = false
-ends_escape (b ∷ bs) = if b == 79 then is_one bs else if b == 91 then is_one bs else if b == 27 then is_nil bs else is_character (b ∷ bs)
+ends_escape (b ∷ bs) = if b == 79 then is_one bs else if b == 91 then ends_csi bs else if b == 27 then is_nil bs else is_character (b ∷ bs)
 
 abbrev pub is_shape : List ℕ → Bool
 is_shape [] = false

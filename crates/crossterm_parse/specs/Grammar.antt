@@ -1,5 +1,5 @@
 -- What a terminal's bytes are made of: sequences, each by where it ends and not by what it means.
-use Rattle.std.specs.Prelude.{◌≡◌, ◌≢◌, ◌≤◌, ◌<◌, ℕ, nat_le, if◌then◌else◌, length, Bool, true, List, [], ◌∷◌, ◌++◌}
+use Rattle.std.specs.Prelude.{◌≡◌, ◌≢◌, ◌≤◌, ◌<◌, ℕ, nat_le, if◌then◌else◌, length, Bool, true, List, [], ◌∷◌, ◌++◌, ◌⊎◌}
 use Rattle.std.specs.List.{AllByRecursion}
 use Rattle.crossterm_parse.specs.Marked.{Marked, bytes_of}
 
@@ -21,13 +21,40 @@ pub data CharacterShape (bytes : List ℕ) : Type 0 where
   broken : (lead b : ℕ) (more : List ℕ) → IsLead lead → AllByRecursion IsContinuing more → length more < continuing_after lead → ¬ IsContinuing b
       → bytes ≡ lead ∷ (more ++ b ∷ []) → CharacterShape bytes
 
--- The shapes of a sequence: a character, two escapes, a character after an escape, `ESC O b` (SS3, ECMA-48) and `ESC [ b` (CSI, ECMA-48).
+-- A digit, and what ends a numbered sequence: a final byte of ECMA-48.
+abbrev pub IsDigit : ℕ → Type 0
+IsDigit b = (48 ≤ b) × (b ≤ 57)
+
+abbrev pub IsFinal : ℕ → Type 0
+IsFinal b = (64 ≤ b) × (b ≤ 126)
+
+-- A byte after `ESC [` that doesn't ask for more: neither `[`, nor `?`, nor a digit.
+abbrev pub IsAlone : ℕ → Type 0
+IsAlone b = (b ≢ 91) × (b ≢ 63) × ¬ IsDigit b
+
+-- A byte that ends no reply, and bytes after `ESC [ ?` that end none: there a `u` at once ends none either.
+abbrev pub EndsNoReply : ℕ → Type 0
+EndsNoReply b = (b ≢ 99) × (b ≢ 117)
+
+abbrev pub HasNoEnd : List ℕ → Type 0
+HasNoEnd [] = Unit {0}
+HasNoEnd (b ∷ bs) = (b ≢ 99) × AllByRecursion EndsNoReply bs
+
+-- What ends a reply after those bytes: `c`, or `u` but not at once.
+abbrev pub EndsReply : List ℕ → ℕ → Type 0
+EndsReply w f = (f ≡ 99) ⊎ ((f ≡ 117) × (w ≢ []))
+
+-- The shapes of a sequence: a character, two escapes, a character after an escape, `ESC O b` (SS3, ECMA-48), `ESC [ b` (CSI, ECMA-48),
+-- `ESC [ [ b` (the Linux console), a reply `ESC [ ? w f` (xterm, kitty), and a numbered sequence `ESC [ d w f` with d a digit (xterm, kitty).
 pub data Shape (bytes : List ℕ) : Type 0 where
   text : CharacterShape bytes → Shape bytes
   two_escapes : bytes ≡ 27 ∷ 27 ∷ [] → Shape bytes
   with_escape : (b : ℕ) (rest : List ℕ) → b ≢ 79 → b ≢ 91 → CharacterShape (b ∷ rest) → bytes ≡ 27 ∷ b ∷ rest → Shape bytes
   after_ss3 : (b : ℕ) → bytes ≡ 27 ∷ 79 ∷ b ∷ [] → Shape bytes
-  after_csi : (b : ℕ) → bytes ≡ 27 ∷ 91 ∷ b ∷ [] → Shape bytes
+  after_csi : (b : ℕ) → IsAlone b → bytes ≡ 27 ∷ 91 ∷ b ∷ [] → Shape bytes
+  after_bracket : (b : ℕ) → bytes ≡ 27 ∷ 91 ∷ 91 ∷ b ∷ [] → Shape bytes
+  reply : (w : List ℕ) (f : ℕ) → HasNoEnd w → EndsReply w f → bytes ≡ 27 ∷ 91 ∷ 63 ∷ (w ++ f ∷ []) → Shape bytes
+  numbered : (d f : ℕ) (w : List ℕ) → IsDigit d → AllByRecursion (λ b. ¬ IsFinal b) w → IsFinal f → bytes ≡ 27 ∷ 91 ∷ d ∷ (w ++ f ∷ []) → Shape bytes
 
 -- An escape that nothing came with after it.
 abbrev pub BeginsPaused : List Marked → Type 0

@@ -1,8 +1,13 @@
+pub mod Characters
 pub mod Deciding
 pub mod Division
+pub mod Fields
 pub mod Grammar
 pub mod Machine
 pub mod Marked
 pub mod Meaning
+pub mod Number
+pub mod Numbered
 pub mod Plain
 pub mod Standing
+pub mod Utf8

@@ -1,6 +1,6 @@
 -- What a whole sequence means.
 use Rattle.std.specs.Prelude.{ℕ, ◌+◌, ◌-◌, ◌==◌, nat_lt, nat_le, if◌then◌else◌, Bool, ◌&&◌, List, [], ◌∷◌, Option, Some, None}
-use Rattle.std.specs.Int.RustNames.{bit_or}
+use Rattle.std.specs.Int.RustNames.{bit_and, bit_or}
 use Rattle.std.specs.Option.{option_map}
 use Rattle.bstr.specs.Utf8.{decoded}
 use Rattle.unicode.specs.Binary.{is_uppercase}
@@ -9,9 +9,11 @@ use Rattle.crossterm_types.specs.declared.event.key.KeyCode.TheVariants.{Backspa
 use Rattle.crossterm_types.specs.Keys.{modifiers_of, pressed}
 use Rattle.crossterm_types.specs.Seen as types
 use Rattle.crossterm_types.specs.Seen.{Seen}
+use Rattle.crossterm_parse.specs.Deciding.{is_digit}
 use Rattle.crossterm_parse.specs.Marked.{Marked, bytes_of, last_raw}
+use Rattle.crossterm_parse.specs.Numbered.{numbered, last_of}
 use Rattle.crossterm_parse.specs.declared.meaning.Meaning.{Meaning}
-use Rattle.crossterm_parse.specs.declared.meaning.Meaning.TheVariants.{Key, FocusGained, FocusLost}
+use Rattle.crossterm_parse.specs.declared.meaning.Meaning.TheVariants.{Key, FocusGained, FocusLost, CursorPosition, KeyboardEnhancementFlags, PrimaryDeviceAttributes}
 
 -- A key that is pressed with the modifiers of these bits: 1 is SHIFT, 2 CONTROL, 4 ALT.
 abbrev pub pressed_with : KeyCode → ℕ → Meaning
@@ -71,9 +73,7 @@ after_csi b =
 -- That key with ALT, or nothing.
 abbrev pub with_alt : Option Meaning → Option Meaning
 with_alt (Some (Key k)) = Some (Key (record k { modifiers = modifiers_of (bit_or k.modifiers.0 4) }))
-with_alt (Some FocusGained) = None
-with_alt (Some FocusLost) = None
-with_alt None = None
+with_alt _ = None
 
 abbrev pub character_meaning : Bool → List ℕ → Option Meaning
 character_meaning raw [] = None
@@ -84,14 +84,35 @@ abbrev pub ss3_meaning : List ℕ → Option Meaning
 ss3_meaning [] = None
 ss3_meaning (b ∷ bs) = after_ss3 b
 
-abbrev pub csi_meaning : List ℕ → Option Meaning
-csi_meaning [] = None
-csi_meaning (b ∷ bs) = after_csi b
+-- The last byte of `ESC [ [ b`.
+abbrev pub after_bracket : ℕ → Option Meaning
+after_bracket b = if nat_le 65 b && nat_le b 69 then Some (pressed_with (F (b - 64)) 0) else None
+
+abbrev pub bracket_meaning : List ℕ → Option Meaning
+bracket_meaning [] = None
+bracket_meaning (b ∷ bs) = after_bracket b
+
+-- The flags of a reply: the low four bits of the byte after `?`.
+abbrev pub flags_reply : ℕ → Meaning
+flags_reply b = KeyboardEnhancementFlags (record { 0 = bit_and b 15 })
+
+-- A reply, from the byte after `?` to its end: `c` for the terminal's attributes, `u` for the flags of the keyboard protocol.
+abbrev pub reply_meaning : List ℕ → Option Meaning
+reply_meaning [] = None
+reply_meaning (b ∷ bs) = Some (if last_of (b ∷ bs) == 99 then PrimaryDeviceAttributes else flags_reply b)
+
+abbrev pub csi_meaning : Bool → List ℕ → Option Meaning
+csi_meaning raw [] = None
+csi_meaning raw (b ∷ bs) =
+    if b == 91 then bracket_meaning bs else
+    if b == 63 then reply_meaning bs else
+    if is_digit b then numbered raw (b ∷ bs) else
+    after_csi b
 
 -- a lone escape is the Esc key, and so are two
 abbrev pub escape_meaning : Bool → List ℕ → Option Meaning
 escape_meaning raw [] = Some (pressed_with Esc 0)
-escape_meaning raw (b ∷ bs) = if b == 79 then ss3_meaning bs else if b == 91 then csi_meaning bs else
+escape_meaning raw (b ∷ bs) = if b == 79 then ss3_meaning bs else if b == 91 then csi_meaning raw bs else
     if b == 27 then Some (pressed_with Esc 0) else with_alt (character_meaning raw (b ∷ bs))
 
 -- What the complete bytes of a sequence mean, where raw is the mode told with the last one.
@@ -103,6 +124,9 @@ abbrev pub seen_meaning : Meaning → Seen
 seen_meaning (Key k) = types.Key k
 seen_meaning FocusGained = types.FocusGained
 seen_meaning FocusLost = types.FocusLost
+seen_meaning (CursorPosition column row) = types.CursorPosition column row
+seen_meaning (KeyboardEnhancementFlags flags) = types.KeyboardFlags flags
+seen_meaning PrimaryDeviceAttributes = types.PrimaryDeviceAttributes
 
 -- What a whole sequence means: one event, or nothing.
 abbrev pub meaning_of : List Marked → Option Seen

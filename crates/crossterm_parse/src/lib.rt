@@ -12,15 +12,24 @@
 //! | `ESC ESC` | the second |
 //! | ESC and one of the first two, which doesn't begin with `O` or `[` | that one's end |
 //! | `ESC O b` (SS3) | b |
-//! | `ESC [ b` (CSI) | b |
+//! | `ESC [ b` (CSI), b not `[`, `?` or a digit | b |
+//! | `ESC [ [ b` | b |
+//! | `ESC [ ? w f` | f, the first byte that is `c`, or `u` but not directly after `?` |
+//! | `ESC [ d w f`, d a digit | f, the first byte of 64 to 126 |
 //!
 //! ESC alone is the Esc key where nothing came with it after it.
 #![tactic(auto)]
 
 mod character;
+mod fields;
+mod functional;
 pub mod laws;
 pub mod marked;
 mod meaning;
+mod modifier_field;
+mod number;
+mod numbered;
 pub mod parse;
 pub mod plain;
 mod state;
+mod utf8;

@@ -1,10 +1,12 @@
 //! What a whole sequence means.
 ghost use Rattle.std.specs.Prelude.{◌≡◌, ◌≤◌, ◌<◌, ◌&&◌, nat_le};
 ghost use Rattle.bstr.specs.Utf8.{decoded};
-ghost use Rattle.crossterm_parse.specs.Meaning.{pressed_with, typed, single, decoded_character, after_ss3, after_csi, with_alt};
+ghost use Rattle.crossterm_parse.specs.Meaning.{pressed_with, typed, single, decoded_character, after_ss3, after_csi, after_bracket, flags_reply, with_alt};
 
 use bstr::decode_utf8;
-use crossterm_types::event::{Event, InternalEvent, KeyCode, KeyEvent, KeyModifiers};
+use crossterm_types::event::{
+    Event, InternalEvent, KeyCode, KeyEvent, KeyModifiers, KeyboardEnhancementFlags,
+};
 use std::alloc::Allocator;
 use unicode::properties::is_uppercase;
 
@@ -14,6 +16,10 @@ pub enum Meaning {
     Key(KeyEvent),
     FocusGained,
     FocusLost,
+    /// Column and row, from 0.
+    CursorPosition(u16, u16),
+    KeyboardEnhancementFlags(KeyboardEnhancementFlags),
+    PrimaryDeviceAttributes,
 }
 
 impl<A: Allocator> From<Meaning> for InternalEvent<A> {
@@ -23,11 +29,16 @@ impl<A: Allocator> From<Meaning> for InternalEvent<A> {
     ghost from_gives = { λ meaning event. seen event ≡ seen_meaning meaning };
 
     fn from(meaning: Meaning) -> InternalEvent<A> {
-        InternalEvent::Event(match meaning {
-            Meaning::Key(key) => Event::Key(key),
-            Meaning::FocusGained => Event::FocusGained,
-            Meaning::FocusLost => Event::FocusLost,
-        })
+        match meaning {
+            Meaning::Key(key) => InternalEvent::Event(Event::Key(key)),
+            Meaning::FocusGained => InternalEvent::Event(Event::FocusGained),
+            Meaning::FocusLost => InternalEvent::Event(Event::FocusLost),
+            Meaning::CursorPosition(column, row) => InternalEvent::CursorPosition(column, row),
+            Meaning::KeyboardEnhancementFlags(flags) => {
+                InternalEvent::KeyboardEnhancementFlags(flags)
+            }
+            Meaning::PrimaryDeviceAttributes => InternalEvent::PrimaryDeviceAttributes,
+        }
     }
 }
 
@@ -150,6 +161,23 @@ pub fn meaning_after_csi(byte: u8) -> Option<Meaning>
         _ => return None,
     };
     Some(pressed_alone(code))
+}
+
+/// What the last byte of `ESC [ [ b` means.
+pub fn meaning_after_bracket(byte: u8) -> Option<Meaning>
+    ensures { result ≡ after_bracket byte }
+{
+    match byte {
+        b'A'..=b'E' => Some(pressed_alone(KeyCode::F(byte - b'@'))),
+        _ => None,
+    }
+}
+
+/// The flags that a reply tells by the byte after `?`.
+pub fn meaning_of_flags(byte: u8) -> Meaning
+    ensures { result ≡ flags_reply byte }
+{
+    Meaning::KeyboardEnhancementFlags(KeyboardEnhancementFlags::from_bits_retain(byte & 15))
 }
 
 /// What the bytes of a character mean: that character, or nothing where they are none.

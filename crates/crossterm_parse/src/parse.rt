@@ -1,5 +1,5 @@
 //! The parser: bytes are handed in as they come, and events are given as their sequences end.
-ghost use Rattle.std.specs.Prelude.{◌≡◌, ◌≢◌, ◌↔◌, ◌+◌, ◌-◌, ◌≤◌, ◌<◌, [], ◌∷◌, ◌++◌, List, length, map, take, IsOk, IsTrue, IfNone, IfSome, IfErr, OnOk, OnErr};
+ghost use Rattle.std.specs.Prelude.{◌≡◌, ◌≢◌, ◌↔◌, ◌==◌, ◌&&◌, not, ◌+◌, ◌-◌, ◌≤◌, ◌<◌, [], ◌∷◌, ◌++◌, List, length, map, take, IsOk, IsTrue, IfNone, IfSome, IfErr, OnOk, OnErr};
 ghost use Rattle.std.specs.IoError.{error_kind};
 ghost use Rattle.std.specs.VecDeque.{deque_len, deque_capacity};
 ghost use Rattle.std.specs.declared.io.ErrorKind.TheVariants.{OutOfMemory};
@@ -8,8 +8,8 @@ ghost use Rattle.crossterm_parse.specs.Machine.{state_after, state_left, events_
 ghost use Rattle.crossterm_parse.specs.Marked.{Marked, marked};
 ghost use Rattle.crossterm_parse.specs.Standing.{Standing, Stands, StandsStill, AdvancesOver, EndsNoEvent, OpensNoPaste};
 
-use crate::character::{Begun, Character, Grown};
 use crate::meaning::{Meaning, meaning_of_letter};
+use crate::numbered::is_final_byte;
 use crate::state::{State, Step};
 use crossterm_types::event::InternalEvent;
 use std::alloc::{AllocError, Allocator, Global};
@@ -30,6 +30,14 @@ impl<A: Allocator> Model for Parser<A> {
     ghost Value = { Standing };
 
     ghost view = { λ p. record { waiting = map seen p.waiting.items; state = p.state; room = deque_capacity p.waiting - deque_len p.waiting } };
+}
+
+/// Whether there is a pause after the byte at this place of a piece.
+fn pauses(more: bool, place: usize, count: usize) -> bool
+    requires { place < count }
+    ensures { result ≡ not more && (place + 1 == count) }
+{
+    !more && place + 1 == count
 }
 
 impl<A: Allocator> Parser<A> {
@@ -88,6 +96,13 @@ impl<A: Allocator> Parser<A> {
         if matches!(self.state, State::Ground) && matches!(byte, 32..=126) {
             return self.give(Some(meaning_of_letter(byte)));
         }
+        // A numbered sequence that goes on is read in place.
+        if let State::Numbered(digits) = &mut self.state {
+            if !is_final_byte(byte) {
+                digits.read(byte);
+                return Ok(());
+            }
+        }
         match self.state.put(byte, raw, pause) {
             Step::Open(state) => self.state = state,
             Step::Whole(meaning) => {
@@ -113,7 +128,7 @@ impl<A: Allocator> Parser<A> {
         ensures room { self.old.room ≤ self.new.room + result }
     {
         for (i, byte) in piece.iter().enumerate() {
-            let pause = !more && i + 1 == piece.len();
+            let pause = pauses(more, i, piece.len());
             match self.put(*byte, raw, pause) {
                 Ok(()) => {}
                 Err(_) => return i,

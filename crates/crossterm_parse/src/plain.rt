@@ -2,17 +2,19 @@
 ghost use Rattle.std.specs.Prelude.{◌≡◌, ◌++◌, map, option_to_list, IfOk, OnOk};
 ghost use Rattle.std.specs.Option.{option_map};
 ghost use Rattle.crossterm_types.specs.Seen.{seen};
-ghost use Rattle.crossterm_parse.specs.Deciding.{ends_character, is_character, is_shape, is_whole};
+ghost use Rattle.crossterm_parse.specs.Deciding.{begins_with_digit, ends_character, is_character, ends_numbered, ends_reply, ends_csi, is_shape, is_whole};
 ghost use Rattle.crossterm_parse.specs.Marked.{bytes_of};
-ghost use Rattle.crossterm_parse.specs.Meaning.{character_meaning, meaning, seen_meaning};
+ghost use Rattle.crossterm_parse.specs.Meaning.{character_meaning, reply_meaning, csi_meaning, meaning, seen_meaning};
+ghost use Rattle.crossterm_parse.specs.Numbered.{numbered_by, readings_of};
 ghost use Rattle.crossterm_parse.specs.Plain.{IsDivided};
 
 use crate::character::{further_bytes, is_continuing_byte, is_lead_byte};
 use crate::marked::Marked;
 use crate::meaning::{
-    Meaning, meaning_after_csi, meaning_after_ss3, meaning_of_byte, meaning_of_character, plus_alt,
-    pressed_alone,
+    Meaning, meaning_after_bracket, meaning_after_csi, meaning_after_ss3, meaning_of_byte,
+    meaning_of_character, meaning_of_flags, plus_alt, pressed_alone,
 };
+use crate::numbered::Digits;
 use crossterm_types::event::{InternalEvent, KeyCode};
 use std::alloc::{AllocError, Allocator, Global};
 
@@ -48,13 +50,51 @@ fn is_text(bytes: &[u8]) -> bool
     }
 }
 
+/// Whether the first final byte is the last one.
+fn ends_number(bytes: &[u8]) -> bool
+    ensures { result ≡ ends_numbered bytes.now }
+{
+    match bytes {
+        [] => false,
+        [64..=126, rest @ ..] => rest.is_empty(),
+        [_, rest @ ..] => ends_number(rest),
+    }
+}
+
+/// Whether the first `c` or `u` is the last byte.
+fn ends_the_reply(bytes: &[u8]) -> bool
+    ensures { result ≡ ends_reply bytes.now }
+{
+    match bytes {
+        [] => false,
+        [b'c' | b'u', rest @ ..] => rest.is_empty(),
+        [_, rest @ ..] => ends_the_reply(rest),
+    }
+}
+
+/// Whether what stands after `ESC [` ends a sequence.
+fn ends_after_csi(bytes: &[u8]) -> bool
+    ensures { result ≡ ends_csi bytes.now }
+{
+    match bytes {
+        [] => false,
+        [b'[', rest @ ..] => rest.len() == 1,
+        [b'?'] => false,
+        [b'?', b'c', rest @ ..] => rest.is_empty(),
+        [b'?', _, rest @ ..] => ends_the_reply(rest),
+        [b'0'..=b'9', rest @ ..] => ends_number(rest),
+        [_, rest @ ..] => rest.is_empty(),
+    }
+}
+
 /// Whether the bytes have one of the shapes of a sequence.
 fn is_sequence(bytes: &[u8]) -> bool
     ensures { result ≡ is_shape bytes.now }
 {
     match bytes {
         [27] => false,
-        [27, b'O' | b'[', rest @ ..] => rest.len() == 1,
+        [27, b'O', rest @ ..] => rest.len() == 1,
+        [27, b'[', rest @ ..] => ends_after_csi(rest),
         [27, 27, rest @ ..] => rest.is_empty(),
         [27, rest @ ..] => is_text(rest),
         _ => is_text(bytes),
@@ -89,6 +129,53 @@ fn meaning_of_text(bytes: &[u8], raw: bool) -> Option<Meaning>
     }
 }
 
+/// What is meant by what stands between `ESC [` and the final byte, from the first digit on.
+fn meaning_of_number(text: &[u8], last: u8, raw: bool) -> Option<Meaning>
+    ensures { result ≡ numbered_by raw last (readings_of text.now) }
+{
+    let mut digits = Digits::empty();
+    for byte in text {
+        digits.read(*byte);
+    }
+    digits.meaning(last, raw)
+}
+
+/// What a reply means, from the byte after `?` on.
+fn meaning_of_reply(bytes: &[u8]) -> Option<Meaning>
+    ensures { result ≡ reply_meaning bytes.now }
+{
+    if bytes.is_empty() {
+        return None;
+    }
+    if bytes[bytes.len() - 1] == b'c' {
+        return Some(Meaning::PrimaryDeviceAttributes);
+    }
+    Some(meaning_of_flags(bytes[0]))
+}
+
+/// Whether the first byte is a digit.
+fn is_numbered(bytes: &[u8]) -> bool
+    ensures { result ≡ begins_with_digit bytes.now }
+{
+    matches!(bytes, [b'0'..=b'9', ..])
+}
+
+/// What is meant by what stands after `ESC [`.
+fn meaning_of_csi(bytes: &[u8], raw: bool) -> Option<Meaning>
+    ensures { result ≡ csi_meaning raw bytes.now }
+{
+    if is_numbered(bytes) {
+        let end = bytes.len() - 1;
+        return meaning_of_number(&bytes[..end], bytes[end], raw);
+    }
+    match bytes {
+        [] | [b'['] => None,
+        [b'[', byte, ..] => meaning_after_bracket(*byte),
+        [b'?', rest @ ..] => meaning_of_reply(rest),
+        [byte, ..] => meaning_after_csi(*byte),
+    }
+}
+
 /// What the complete bytes of a sequence mean.
 fn meaning_of_sequence(bytes: &[u8], raw: bool) -> Option<Meaning>
     ensures { result ≡ meaning raw bytes.now }
@@ -96,7 +183,7 @@ fn meaning_of_sequence(bytes: &[u8], raw: bool) -> Option<Meaning>
     match bytes {
         [27] => Some(pressed_alone(KeyCode::Esc)),
         [27, b'O', rest @ ..] => meaning_after_ss3(*rest.first()?),
-        [27, b'[', rest @ ..] => meaning_after_csi(*rest.first()?),
+        [27, b'[', rest @ ..] => meaning_of_csi(rest, raw),
         [27, 27, ..] => Some(pressed_alone(KeyCode::Esc)),
         [27, rest @ ..] => plus_alt(meaning_of_text(rest, raw)),
         _ => meaning_of_text(bytes, raw),

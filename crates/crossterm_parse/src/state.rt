@@ -4,8 +4,10 @@ ghost use Rattle.crossterm_parse.specs.Machine.{state_after, step_of};
 
 use crate::character::{Begun, Character, Grown, is_lead_byte};
 use crate::meaning::{
-    Meaning, meaning_after_csi, meaning_after_ss3, meaning_of_byte, plus_alt, pressed_alone,
+    Meaning, meaning_after_bracket, meaning_after_csi, meaning_after_ss3, meaning_of_byte,
+    meaning_of_flags, plus_alt, pressed_alone,
 };
+use crate::numbered::{Digits, is_final_byte};
 use crossterm_types::event::KeyCode;
 
 /// What came of a sequence so far.
@@ -19,6 +21,14 @@ pub enum State {
     Ss3,
     /// `ESC [`.
     Csi,
+    /// `ESC [ [`.
+    Bracket,
+    /// `ESC [ ?`.
+    Private,
+    /// `ESC [ ?` and more, with the byte after `?`.
+    Reply(u8),
+    /// `ESC [`, a digit and more.
+    Numbered(Digits),
     /// A character in UTF-8, with an escape before it or none.
     Utf8(Character),
 }
@@ -61,7 +71,30 @@ impl State {
                 _ => Step::Whole(plus_alt(meaning_of_byte(byte, raw))),
             },
             State::Ss3 => Step::Whole(meaning_after_ss3(byte)),
-            State::Csi => Step::Whole(meaning_after_csi(byte)),
+            State::Csi => match byte {
+                b'[' => Step::Open(State::Bracket),
+                b'?' => Step::Open(State::Private),
+                b'0'..=b'9' => Step::Open(State::Numbered(Digits::new(byte))),
+                _ => Step::Whole(meaning_after_csi(byte)),
+            },
+            State::Bracket => Step::Whole(meaning_after_bracket(byte)),
+            State::Private => match byte {
+                b'c' => Step::Whole(Some(Meaning::PrimaryDeviceAttributes)),
+                _ => Step::Open(State::Reply(byte)),
+            },
+            State::Reply(first) => match byte {
+                b'c' => Step::Whole(Some(Meaning::PrimaryDeviceAttributes)),
+                b'u' => Step::Whole(Some(meaning_of_flags(first))),
+                _ => Step::Open(self),
+            },
+            State::Numbered(digits) => {
+                if is_final_byte(byte) {
+                    return Step::Whole(digits.meaning(byte, raw));
+                }
+                let mut longer = digits;
+                longer.read(byte);
+                Step::Open(State::Numbered(longer))
+            }
             State::Utf8(character) => match character.next(byte) {
                 Grown::More(begun) => Step::Open(State::Utf8(Character { begun, ..character })),
                 Grown::Over(meaning) => Step::Whole(meaning),

@@ -1,5 +1,6 @@
 pub mod Admitting
 pub mod Compared
 pub mod Keys
+pub mod Names
 pub mod Normal
 pub mod Seen

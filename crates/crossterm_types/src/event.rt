@@ -1,5 +1,6 @@
 //! Events of a terminal.
 
+mod accessors;
 pub mod filter;
 mod key;
 pub mod laws;

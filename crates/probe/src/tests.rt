@@ -1,5 +1,8 @@
 //! Scripts and calls beside what must come of them, run through the program's own function.
 
+mod numbered;
+mod refused;
+
 use crate::fault::Fault;
 use crate::play::run_play;
 use std::alloc::{AllocError, Global};
@@ -7,7 +10,7 @@ use std::io::{self, Read, Write};
 use std::test::Fail;
 
 /// What `run_play` prints for an input.
-fn played(alloc: Global, input: &[u8]) -> Result<Vec<u8>, Fault> {
+pub fn played(alloc: Global, input: &[u8]) -> Result<Vec<u8>, Fault> {
     let mut output = Vec::new(alloc);
     let mut reader = input;
     run_play(alloc, &mut reader, &mut output)?;
@@ -16,7 +19,7 @@ fn played(alloc: Global, input: &[u8]) -> Result<Vec<u8>, Fault> {
 
 #[test]
 fn scripts_give_their_lines(rt: HostRuntime) -> Result<(), Fail> {
-    let cases: [(&str, &str); 20] = [
+    let cases: [(&str, &str); 33] = [
         ("piece 1b5b41\nread event 1\n", "key Up 0 Press 0\n"),
         (
             "piece 1b\npiece 1b\nread event 1\nread event 1",
@@ -70,6 +73,43 @@ fn scripts_give_their_lines(rt: HostRuntime) -> Result<(), Fail> {
             "\n\npoll event 1\n\nidle\n\npoll event 1\n",
             "false\nfault UnexpectedEof\n",
         ),
+        (
+            "piece 1b5b3130\nraw 75\nread event 1\nread event 1",
+            "none\nkey Char:a 0 Press 0\n",
+        ),
+        (
+            "raw 1b5b3130\npiece 75\nread event 1\nread event 1",
+            "none\nkey Enter 0 Press 0\n",
+        ),
+        (
+            "piece 611b5b32303b31305262\nread cursor 2\nread event 1\nread event 1",
+            "cursor 9 19\nkey Char:61 0 Press 0\nkey Char:62 0 Press 0\n",
+        ),
+        (
+            "piece 611b5b32303b31305262\nread cursor 1\nread event 1\nread event 1",
+            "none\nkey Char:61 0 Press 0\nnone\nheld cursor 9 19\n",
+        ),
+        (
+            "piece 61\nfault\npiece 621b5b32303b313052\nread cursor 9\nread cursor 9\nread event 0\nread event 0",
+            "fault Other\ncursor 9 19\nkey Char:61 0 Press 0\nkey Char:62 0 Press 0\n",
+        ),
+        (
+            "piece 1b5b3f75\npiece 63\nread attributes 2",
+            "attributes\n",
+        ),
+        ("piece 1b5b3f313575\nread flags 1", "flags 1\n"),
+        ("piece 1b5b3f7575\nread flags 1", "flags 5\n"),
+        ("piece 1b5b303b3552\nread cursor 1", "none\n"),
+        ("piece 1b5b32303b313052\nread cursor 1", "cursor 9 19\n"),
+        (
+            "piece 1b5b2b337e\nread event 1\nread event 1",
+            "key Char:33 0 Press 0\nkey Char:7e 0 Press 0\n",
+        ),
+        ("piece 1b5b313b313bc341\nread event 1", "none\n"),
+        (
+            "piece 1b5b313b313bc3a941\nread event 1",
+            "key Up 0 Press 0\n",
+        ),
     ];
     for (input, want) in cases {
         let output = played(rt.alloc(), input.as_bytes())?;
@@ -79,7 +119,7 @@ fn scripts_give_their_lines(rt: HostRuntime) -> Result<(), Fail> {
 }
 
 /// Some lines, again and again.
-fn repeat(text: &mut Vec<u8>, line: &str, times: u32) -> Result<(), AllocError> {
+pub fn repeat(text: &mut Vec<u8>, line: &str, times: u32) -> Result<(), AllocError> {
     for _ in 0..times {
         text.extend_from_slice(line.as_bytes())?;
     }

@@ -33,7 +33,27 @@ fn give_all(parser: &mut Parser, events: &mut Vec<InternalEvent>) -> Result<(), 
 
 #[test]
 fn the_parser_does_what_the_definitions_say(rt: HostRuntime) -> Result<(), Fail> {
-    let cases: [&[Piece<'_>]; 16] = [
+    let cases: [&[Piece<'_>]; 20] = [
+        &[(
+            b"\x1b[1;2:3A\x1b[3;65~\x1b[97:65;2u\x1b[57399;129u",
+            false,
+            false,
+        )],
+        &[(
+            b"\x1b[[A\x1b[?1u\x1b[?c\x1b[?uu\x1b[20;10R\x1b[0;5R",
+            false,
+            false,
+        )],
+        &[(
+            b"\x1b[1;1;\xc3A\x1b[1;1;\xc3\xa9A\x1b[1;\xff~a",
+            false,
+            false,
+        )],
+        &[
+            (b"\x1b[10", false, false),
+            (b"u\x1b[10", false, true),
+            (b"u\x1b[?1", false, false),
+        ],
         &[(b"\x1b", false, false), (b"\x1b", false, false)],
         &[(b"\x1b\x1b", false, false)],
         &[(b"\x1b", true, false), (b"[A", false, false)],

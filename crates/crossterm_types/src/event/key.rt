@@ -2,8 +2,10 @@
 ghost use Rattle.std.specs.Prelude.{◌≡◌};
 ghost use Rattle.crossterm_types.specs.Keys.{pressed};
 
+mod names;
 mod normal;
 mod normal_key;
+mod predicates;
 
 use crossterm_flags::{KeyEventState, KeyModifiers};
 

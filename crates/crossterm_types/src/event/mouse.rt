@@ -1,5 +1,7 @@
 //! Events of the mouse.
 
+mod predicates;
+
 use crossterm_flags::KeyModifiers;
 
 /// What the mouse did, where, and with which keys held.

@@ -1,5 +1,8 @@
 //! Each public call once; keys that are equal, as crossterm's own tests have them, and keys that are not.
 
+mod names;
+mod predicates;
+
 use crate::event::filter::{
     AnyFilter, CursorPositionFilter, EventFilter, Filter, KeyboardEnhancementFlagsFilter,
     PrimaryDeviceAttributesFilter,

@@ -4,7 +4,7 @@ use Rattle.crossterm_types.specs.Seen.{seen}
 use Rattle.crossterm_parse.specs.Marked.{bytes_of}
 use Rattle.crossterm_parse.specs.Deciding.{is_whole}
 use Rattle.crossterm_parse.specs.Meaning.{meaning, seen_meaning}
-use Rattle.crossterm_parse.proofs.PlainLaws.{found_none, kept_more, found_open, found_whole, found_next}
+use Rattle.crossterm_parse.proofs.PlainLaws.{found_none, plain_more, found_open, found_whole, found_next}
 use Rattle.crossterm_parse.proofs.plain.divide.Goals as goal
 use Rattle.crossterm_parse.proofs.plain.divide.Goals.{then-is_whole_part+in_ok-give+in_ok-push-3, else-is_whole_part}
 
@@ -13,7 +13,7 @@ loop-marked-init g c = rw (c.new-part.ensures.items, c.new-plain.ensures.items, 
 
 pub is_whole_part-requires : goal.is_whole_part-requires
 is_whole_part-requires g c =
-    c.deref-in-loop-marked.ensures.value ∙ c.in_ok-push-2.ensures.items ∙ kept_more _ _ _ c.loop-marked.invariant.kept ∙ ap bytes_of (sym (c.deref.ensures.value ∙ c.in_ok-push.ensures.items))
+    c.deref-in-loop-marked.ensures.value ∙ c.in_ok-push-2.ensures.items ∙ plain_more _ _ _ c.loop-marked.invariant.kept ∙ ap bytes_of (sym (c.deref.ensures.value ∙ c.in_ok-push.ensures.items))
 
 pub loop-marked-preserved : goal.loop-marked-preserved
 loop-marked-preserved g c =

@@ -2,22 +2,20 @@ use Rattle.std.proofs.lemmas.Bool.{false≢true}
 use Rattle.std.proofs.Common.{arith, refl}
 use Rattle.crossterm_parse.proofs.StandingLaws.{advance_more, advance_none, byte_quiet}
 use Rattle.crossterm_parse.proofs.parse.Parser.advance.Goals as goal
-use Rattle.crossterm_parse.proofs.parse.Parser.advance.Goals.{then-not-more, else-not-more}
 
 pub loop-i-init : goal.loop-i-init
 loop-i-init g c = record { divided = advance_none c.args.self.now; room = omega arith }
 
 pub loop-i-preserved : goal.loop-i-preserved
 loop-i-preserved g c = record {
-  divided = advance_more c.args.self.now c.loop-i.self c.put.new.self c.args.piece.now c.args.more c.args.raw c.loop-i.i _ _ (omega arith) refl
-      (elim c.if-not-more.branch [ then-not-more w ↦ grind arith | else-not-more w ↦ grind arith ]) c.in-Ok.ensures.state c.in-Ok.ensures.waiting c.loop-i.invariant.divided;
+  divided = advance_more c.args.self.now c.loop-i.self c.put.new.self c.args.piece.now c.args.more c.args.raw c.loop-i.i _ _ (omega arith) refl c.pauses-pause.ensures
+      c.in-Ok.ensures.state c.in-Ok.ensures.waiting c.loop-i.invariant.divided;
   room = omega arith;
 }
 
 pub returns-in-Err-clause-quiet : goal.returns-in-Err-clause-quiet
-returns-in-Err-clause-quiet g c quiet =
-    absurd (false≢true (c.in-Err.ensures.free (byte_quiet c.args.self.now c.loop-i.self c.args.piece.now c.args.more c.args.raw c.loop-i.i _ c.if-not-more.pause (omega arith) refl
-    (elim c.if-not-more.branch [ then-not-more w ↦ grind arith | else-not-more w ↦ grind arith ]) c.loop-i.invariant.divided quiet)))
+returns-in-Err-clause-quiet g c quiet = absurd (false≢true (c.in-Err.ensures.free
+    (byte_quiet c.args.self.now c.loop-i.self c.args.piece.now c.args.more c.args.raw c.loop-i.i _ c.pauses-pause.result (omega arith) refl c.pauses-pause.ensures c.loop-i.invariant.divided quiet)))
 
 pub returns-in-Err-clause-reserved : goal.returns-in-Err-clause-reserved
 returns-in-Err-clause-reserved g c room free = absurd (false≢true (c.in-Err.ensures.reserved (omega arith)))

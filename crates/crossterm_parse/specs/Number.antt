@@ -1,0 +1,55 @@
+-- Numbers in a sequence.
+use Rattle.std.specs.Prelude.{◌≡◌, ◌<◌, ◌≤◌, ℕ, ◌+◌, ◌-◌, ◌*◌, ◌^◌, ◌==◌, nat_le, if◌then◌else◌, List, [], ◌∷◌, ◌++◌, Option, Some, None, option_and_then}
+use Rattle.crossterm_parse.specs.Deciding.{is_digit}
+use Rattle.crossterm_parse.specs.declared.number.Number.{Number}
+use Rattle.crossterm_parse.specs.declared.number.Number.TheVariants.{Empty, Plus, Value, Big, Bad}
+
+-- digits after a number
+abbrev pub read_digits : ℕ → List ℕ → Option ℕ
+read_digits n [] = Some n
+read_digits n (b ∷ bs) = if is_digit b then read_digits (n * 10 + (b - 48)) bs else None
+
+-- one digit or more
+abbrev pub some_digits : List ℕ → Option ℕ
+some_digits [] = None
+some_digits (b ∷ bs) = read_digits 0 (b ∷ bs)
+
+-- The value of a text that is a number: one digit or more, after a `+` or not. There is no greatest length.
+abbrev pub value_of : List ℕ → Option ℕ
+value_of [] = None
+value_of (b ∷ bs) = if b == 43 then some_digits bs else some_digits (b ∷ bs)
+
+abbrev pub at_most : ℕ → Option ℕ → Option ℕ
+at_most limit n = option_and_then (λ n. if nat_le n limit then Some n else None) n
+
+-- The number of a text, where it is one of at most 32 bits. Smaller limits are put to it where it is used.
+abbrev pub number : List ℕ → Option ℕ
+number text = at_most 4294967295 (value_of text)
+
+-- What a number that is being read tells of its text so far.
+abbrev pub Tracks : List ℕ → Number → Type 0
+Tracks text Empty = text ≡ []
+Tracks text Plus = text ≡ 43 ∷ []
+Tracks text (Value n) = (value_of text ≡ Some n) × (n < 2 ^ 32)
+Tracks text Big = (n : ℕ) × (value_of text ≡ Some n) × (2 ^ 32 ≤ n)
+Tracks text Bad = (more : List ℕ) → value_of (text ++ more) ≡ None
+
+-- a digit after a value
+abbrev pub longer_value : ℕ → Number
+longer_value n = if nat_le n 4294967295 then Value n else Big
+
+-- one more byte
+abbrev pub number_after : Number → ℕ → Number
+number_after Empty b = if b == 43 then Plus else if is_digit b then Value (b - 48) else Bad
+number_after Plus b = if is_digit b then Value (b - 48) else Bad
+number_after (Value n) b = if is_digit b then longer_value (n * 10 + (b - 48)) else Bad
+number_after Big b = if is_digit b then Big else Bad
+number_after Bad b = Bad
+
+-- the number, where it is one of at most 32 bits
+abbrev pub reading : Number → Option ℕ
+reading Empty = None
+reading Plus = None
+reading (Value n) = Some n
+reading Big = None
+reading Bad = None

@@ -1,0 +1,86 @@
+//! The modifier field of a numbered sequence: which modifiers and locks were on, and whether the key was pressed, held or let go.
+ghost use Rattle.std.specs.Prelude.{◌≡◌, Some};
+ghost use Rattle.crossterm_parse.specs.Numbered.{where_bit, mask_modifiers, mask_state, kind_of, held, nothing_held, fallback};
+
+use crossterm_types::event::{KeyEventKind, KeyEventState, KeyModifiers};
+
+/// What the modifier field tells.
+#[derive(Clone, Copy, Debug, PartialEq, Eq)]
+pub struct Held {
+    pub modifiers: KeyModifiers,
+    pub kind: KeyEventKind,
+    pub state: KeyEventState,
+}
+
+/// A value where a bit is there, else nothing.
+fn value_of_bit(bits: u8, bit: u8, value: u8) -> u8
+    ensures { result ≡ where_bit bits bit value }
+{
+    if bits & bit == bit { value } else { 0 }
+}
+
+/// The modifiers of a mask.
+fn modifiers_in(mask: u8) -> KeyModifiers
+    ensures { result.0 ≡ mask_modifiers mask }
+{
+    let bits = mask.saturating_sub(1);
+    let low = value_of_bit(bits, 1, 1) | value_of_bit(bits, 2, 4);
+    let middle = value_of_bit(bits, 4, 2) | value_of_bit(bits, 8, 8);
+    let high = value_of_bit(bits, 16, 16) | value_of_bit(bits, 32, 32);
+    KeyModifiers::from_bits_retain(low | middle | high)
+}
+
+/// The state of a mask.
+fn state_in(mask: u8) -> KeyEventState
+    ensures { result.0 ≡ mask_state mask }
+{
+    let bits = mask.saturating_sub(1);
+    KeyEventState::from_bits_retain(value_of_bit(bits, 64, 2) | value_of_bit(bits, 128, 4))
+}
+
+fn kind_in(kind: Option<u8>) -> KeyEventKind
+    ensures { result ≡ kind_of kind }
+{
+    match kind {
+        Some(2) => KeyEventKind::Repeat,
+        Some(3) => KeyEventKind::Release,
+        _ => KeyEventKind::Press,
+    }
+}
+
+impl Held {
+    /// No modifier, and pressed.
+    pub fn nothing() -> Held
+        ensures { result ≡ nothing_held }
+    {
+        Held {
+            modifiers: KeyModifiers::NONE,
+            kind: KeyEventKind::Press,
+            state: KeyEventState::NONE,
+        }
+    }
+
+    /// What a mask and a kind tell, or nothing where there is no mask.
+    pub fn read(mask: Option<u8>, kind: Option<u8>) -> Option<Held>
+        ensures { result ≡ held mask kind }
+    {
+        match mask {
+            Some(mask) => Some(Held {
+                modifiers: modifiers_in(mask),
+                kind: kind_in(kind),
+                state: state_in(mask),
+            }),
+            None => None,
+        }
+    }
+
+    /// What the last byte tells where the field can't be read: it is the mask, where it is a digit.
+    pub fn fallback(last: u8) -> Option<Held>
+        ensures { result ≡ fallback last }
+    {
+        match last {
+            b'0'..=b'9' => Held::read(Some(last - b'0'), None),
+            _ => None,
+        }
+    }
+}

@@ -1,0 +1,68 @@
+//! Numbers that are read byte by byte.
+ghost use Rattle.std.specs.Prelude.{◌≡◌};
+ghost use Rattle.crossterm_parse.specs.Number.{number_after, at_most, reading};
+
+/// A number that is being read: one digit or more, after a `+` or not.
+#[derive(Clone, Copy, Debug, PartialEq, Eq)]
+pub enum Number {
+    /// No byte yet.
+    Empty,
+    /// A `+` alone.
+    Plus,
+    Value(u32),
+    /// A number past `u32::MAX`.
+    Big,
+    /// No number, whatever follows.
+    Bad,
+}
+
+impl Number {
+    /// The number after one more byte.
+    pub fn put(self, byte: u8) -> Number
+        ensures { result ≡ number_after self byte }
+    {
+        match (self, byte) {
+            (Number::Empty, b'+') => Number::Plus,
+            (Number::Empty | Number::Plus, b'0'..=b'9') => Number::Value(u32::from(byte - b'0')),
+            (Number::Value(value), b'0'..=b'9') => {
+                let longer = u64::from(value) * 10 + u64::from(byte - b'0');
+                match u32::try_from(longer) {
+                    Ok(value) => Number::Value(value),
+                    Err(_) => Number::Big,
+                }
+            }
+            (Number::Big, b'0'..=b'9') => Number::Big,
+            _ => Number::Bad,
+        }
+    }
+
+    /// The number, where it is one.
+    pub fn value(self) -> Option<u32>
+        ensures { result ≡ reading self }
+    {
+        match self {
+            Number::Value(value) => Some(value),
+            _ => None,
+        }
+    }
+
+    /// The number, where it is one of 8 bits.
+    pub fn byte(self) -> Option<u8>
+        ensures { result ≡ at_most 255 (reading self) }
+    {
+        match self {
+            Number::Value(value) if value <= 255 => Some(value as u8),
+            _ => None,
+        }
+    }
+
+    /// The number, where it is one of 16 bits.
+    pub fn short(self) -> Option<u16>
+        ensures { result ≡ at_most 65535 (reading self) }
+    {
+        match self {
+            Number::Value(value) if value <= 65535 => Some(value as u16),
+            _ => None,
+        }
+    }
+}

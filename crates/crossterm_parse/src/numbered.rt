@@ -1,0 +1,222 @@
+//! A numbered sequence `ESC [ d w f`, with d a digit.
+ghost use Rattle.std.specs.Prelude.{◌≡◌};
+ghost use Rattle.crossterm_parse.specs.Deciding.{is_final};
+ghost use Rattle.crossterm_parse.specs.Machine.{digits_after, empty_digits, readings_at};
+ghost use Rattle.crossterm_parse.specs.Number.{at_most, reading};
+ghost use Rattle.crossterm_parse.specs.Numbered.{key_with, held_of, or_nothing_held, tilde_code, tilde_meaning, coordinate, cursor_meaning, letter_code, letter_meaning, has_shift, pointed_meaning, code_meaning, numbered_by};
+
+use crate::fields::Fields;
+use crate::functional::{Pointed, character, key_of_point};
+use crate::meaning::Meaning;
+use crate::modifier_field::Held;
+use crate::number::Number;
+use crate::utf8::Validity;
+use crossterm_types::event::{KeyCode, KeyEvent, KeyEventState, KeyModifiers};
+
+/// What is kept of a numbered sequence, however long it is.
+#[derive(Clone, Copy, Debug, PartialEq, Eq)]
+pub struct Digits {
+    pub fields: Fields,
+    /// The last byte.
+    pub last: u8,
+    /// Whether the bytes so far are UTF-8.
+    pub validity: Validity,
+}
+
+/// Whether the byte ends a numbered sequence.
+pub fn is_final_byte(byte: u8) -> bool
+    ensures { result ≡ is_final byte }
+{
+    matches!(byte, 64..=126)
+}
+
+fn held_key(code: KeyCode, held: Held) -> Meaning
+    ensures { result ≡ key_with code held }
+{
+    Meaning::Key(KeyEvent {
+        code,
+        modifiers: held.modifiers,
+        kind: held.kind,
+        state: held.state,
+    })
+}
+
+/// The key of a number before the final `~`.
+fn tilde_key(number: u8) -> Option<KeyCode>
+    ensures { result ≡ tilde_code number }
+{
+    match number {
+        1 | 7 => Some(KeyCode::Home),
+        2 => Some(KeyCode::Insert),
+        3 => Some(KeyCode::Delete),
+        4 | 8 => Some(KeyCode::End),
+        5 => Some(KeyCode::PageUp),
+        6 => Some(KeyCode::PageDown),
+        11..=15 => Some(KeyCode::F(number - 10)),
+        17..=21 => Some(KeyCode::F(number - 11)),
+        23..=26 => Some(KeyCode::F(number - 12)),
+        28..=29 => Some(KeyCode::F(number - 15)),
+        31..=34 => Some(KeyCode::F(number - 17)),
+        _ => None,
+    }
+}
+
+/// The key of another final byte.
+fn letter_key(last: u8) -> Option<KeyCode>
+    ensures { result ≡ letter_code last }
+{
+    match last {
+        b'A' => Some(KeyCode::Up),
+        b'B' => Some(KeyCode::Down),
+        b'C' => Some(KeyCode::Right),
+        b'D' => Some(KeyCode::Left),
+        b'F' => Some(KeyCode::End),
+        b'H' => Some(KeyCode::Home),
+        b'P' => Some(KeyCode::F(1)),
+        b'Q' => Some(KeyCode::F(2)),
+        b'S' => Some(KeyCode::F(4)),
+        _ => None,
+    }
+}
+
+/// A coordinate, counted from 0, of a number that counts from 1.
+fn coordinate_of(number: Number) -> Option<u16>
+    ensures { result ≡ coordinate (reading number) }
+{
+    match number.short() {
+        Some(place) if place > 0 => Some(place - 1),
+        _ => None,
+    }
+}
+
+/// A key of a code point, with what is held, and with its alternate where SHIFT is.
+fn pointed_key(held: Held, alternate: Option<u32>, key: Pointed) -> Meaning
+    ensures { result ≡ pointed_meaning held alternate key }
+{
+    let modifiers = held.modifiers | key.modifiers;
+    let state = held.state | key.state;
+    let shifted = match alternate {
+        Some(point) if modifiers.contains(KeyModifiers::SHIFT) => character(point),
+        _ => None,
+    };
+    Meaning::Key(match shifted {
+        Some(c) => KeyEvent {
+            code: KeyCode::Char(c),
+            modifiers: KeyModifiers::from_bits_retain(modifiers.bits() & 0xFE),
+            kind: held.kind,
+            state,
+        },
+        None => KeyEvent {
+            code: key.code,
+            modifiers,
+            kind: held.kind,
+            state,
+        },
+    })
+}
+
+impl Digits {
+    /// No byte is read yet.
+    pub fn empty() -> Digits
+        ensures { result ≡ empty_digits }
+    {
+        Digits {
+            fields: Fields::new(),
+            last: 0,
+            validity: Validity::Sound,
+        }
+    }
+
+    /// The first digit is read.
+    pub fn new(digit: u8) -> Digits
+        ensures { result ≡ digits_after empty_digits digit }
+    {
+        let mut digits = Digits::empty();
+        digits.read(digit);
+        digits
+    }
+
+    /// Reads a byte that doesn't end the sequence.
+    pub fn read(&mut self, byte: u8)
+        ensures { self.new ≡ digits_after self.old byte }
+    {
+        self.fields.read(byte);
+        self.last = byte;
+        self.validity = self.validity.put(byte);
+    }
+
+    fn held(self) -> Option<Held>
+        ensures { result ≡ held_of (readings_at self) }
+    {
+        Held::read(
+            self.fields.second.first.byte(),
+            self.fields.second.second.byte(),
+        )
+    }
+
+    fn held_or_nothing(self) -> Held
+        ensures { result ≡ or_nothing_held (held_of (readings_at self)) }
+    {
+        match self.held() {
+            Some(held) => held,
+            None => Held::nothing(),
+        }
+    }
+
+    fn tilde(self) -> Option<Meaning>
+        ensures { result ≡ tilde_meaning (readings_at self) }
+    {
+        let code = tilde_key(self.fields.first.whole.byte()?)?;
+        Some(held_key(code, self.held_or_nothing()))
+    }
+
+    fn code_point(self, raw: bool) -> Option<Meaning>
+        ensures { result ≡ code_meaning raw (readings_at self) }
+    {
+        let held = self.held_or_nothing();
+        let shift = held.modifiers.contains(KeyModifiers::SHIFT);
+        let key = key_of_point(self.fields.first.first.value()?, raw, shift)?;
+        Some(pointed_key(held, self.fields.first.second.value(), key))
+    }
+
+    fn cursor(self) -> Option<Meaning>
+        ensures { result ≡ cursor_meaning (readings_at self) }
+    {
+        let row = coordinate_of(self.fields.first.whole)?;
+        let column = coordinate_of(self.fields.second.whole)?;
+        Some(Meaning::CursorPosition(column, row))
+    }
+
+    fn letter(self, last: u8) -> Option<Meaning>
+        ensures { result ≡ letter_meaning last (readings_at self) }
+    {
+        let code = letter_key(last)?;
+        let held = match self.held() {
+            Some(held) => held,
+            None => Held::fallback(self.last)?,
+        };
+        Some(held_key(
+            code,
+            Held {
+                state: KeyEventState::NONE,
+                ..held
+            },
+        ))
+    }
+
+    /// What the sequence means with this final byte.
+    #[inline(never)]
+    pub fn meaning(self, last: u8, raw: bool) -> Option<Meaning>
+        ensures { result ≡ numbered_by raw last (readings_at self) }
+    {
+        if !matches!(self.validity, Validity::Sound) {
+            return None;
+        }
+        match last {
+            b'~' => self.tilde(),
+            b'u' => self.code_point(raw),
+            b'R' => self.cursor(),
+            _ => self.letter(last),
+        }
+    }
+}
