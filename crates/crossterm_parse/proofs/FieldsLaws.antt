@@ -126,32 +126,24 @@ second_part f (x ∷ []) r = rw r.2 refl
 second_part f (x ∷ y ∷ []) r = tracks_reading y f.second r.2
 second_part f (x ∷ y ∷ z ∷ zs) r = tracks_reading y f.second r.2
 
--- what three fields tell is what stands in the text
-pub record ReadsNumbers (f : Fields) (text : List ℕ) : Type 0 where
-  pub first : reading f.first.whole ≡ field_number 0 text
-  pub second : reading f.second.whole ≡ field_number 1 text
-  pub third : reading f.third ≡ field_number 2 text
-  pub code : reading f.first.first ≡ part_number 0 0 text
-  pub alternate : reading f.first.second ≡ part_number 0 1 text
-  pub mask : reading f.second.first ≡ part_number 1 0 text
-  pub kind : reading f.second.second ≡ part_number 1 1 text
-
-abbrev in_fields : ℕ → List (List ℕ) → Option ℕ
+abbrev pub in_fields : ℕ → List (List ℕ) → Option ℕ
 in_fields k fields = option_and_then number (nth k fields)
 
-abbrev in_parts : ℕ → ℕ → List (List ℕ) → Option ℕ
+abbrev pub in_parts : ℕ → ℕ → List (List ℕ) → Option ℕ
 in_parts k j fields = option_and_then (λ field. option_and_then number (nth j (cut 58 field))) (nth k fields)
 
-record Numbers (f : Fields) (fields : List (List ℕ)) : Type 0 where
-  first : reading f.first.whole ≡ in_fields 0 fields
-  second : reading f.second.whole ≡ in_fields 1 fields
-  third : reading f.third ≡ in_fields 2 fields
-  code : reading f.first.first ≡ in_parts 0 0 fields
-  alternate : reading f.first.second ≡ in_parts 0 1 fields
-  mask : reading f.second.first ≡ in_parts 1 0 fields
-  kind : reading f.second.second ≡ in_parts 1 1 fields
+-- what three fields tell is what stands in the text
+pub record Numbers (f : Fields) (fields : List (List ℕ)) : Type 0 where
+  pub first : reading f.first.whole ≡ in_fields 0 fields
+  pub second : reading f.second.whole ≡ in_fields 1 fields
+  pub third : reading f.third ≡ in_fields 2 fields
+  pub code : reading f.first.first ≡ in_parts 0 0 fields
+  pub alternate : reading f.first.second ≡ in_parts 0 1 fields
+  pub mask : reading f.second.first ≡ in_parts 1 0 fields
+  pub kind : reading f.second.second ≡ in_parts 1 1 fields
 
-numbers_of : (f : Fields) (fields : List (List ℕ)) → ReadsFields f fields → Numbers f fields
+-- What was read of a text is what stands in it.
+pub numbers_of : (f : Fields) (fields : List (List ℕ)) → ReadsFields f fields → Numbers f fields
 numbers_of f [] r = absurd r
 numbers_of f (x ∷ []) r = record {
   first = tracks_reading x f.first.whole r.1.0;
@@ -189,8 +181,3 @@ numbers_of f (x ∷ y ∷ z ∷ w ∷ ws) r = record {
   mask = first_part f.second (cut 58 y) r.2.1;
   kind = second_part f.second (cut 58 y) r.2.1;
 }
-
--- What was read of a text is what stands in it.
-pub reads_numbers : (f : Fields) (text : List ℕ) → ReadsFields f (cut 59 text) → ReadsNumbers f text
-reads_numbers f text r = let n = numbers_of f (cut 59 text) r in
-    record { first = n.first; second = n.second; third = n.third; code = n.code; alternate = n.alternate; mask = n.mask; kind = n.kind }

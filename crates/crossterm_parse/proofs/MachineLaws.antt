@@ -24,7 +24,7 @@ use Rattle.crossterm_parse.specs.Meaning.{meaning, with_alt, decoded_character, 
 use Rattle.crossterm_parse.specs.Numbered.{Readings, readings_of, numbered_by, numbered, front_of, last_of}
 use Rattle.crossterm_parse.specs.Utf8.{TracksUtf8}
 use Rattle.crossterm_parse.proofs.DivisionLaws.{all_push}
-use Rattle.crossterm_parse.proofs.FieldsLaws.{empty_reads, text_more, reads_numbers}
+use Rattle.crossterm_parse.proofs.FieldsLaws.{empty_reads, text_more, numbers_of}
 use Rattle.crossterm_parse.proofs.GrammarLaws.{digit_true, true_digit, true_final, not_final, false_final, numbered_true, no_reply, reply_true, not_reply_end, true_lead, continuing_true, true_continuing}
 use Rattle.crossterm_parse.proofs.Utf8Laws.{utf8_more, utf8_is, utf8_nil}
 
@@ -127,7 +127,7 @@ numbered_open (c ∷ w) b h l = rw (false_final c h.0) (numbered_open w b h.1 l)
 -- what was read is what stands in the text
 pub readings_is : (d : Digits) (text : List ℕ) → ReadsFields d.fields (cut 59 text) → d.last ≡ last_of text → TracksUtf8 text d.validity → readings_at d ≡ readings_of text
 readings_is d text r l u =
-    let n = reads_numbers d.fields text r in
+    let n = numbers_of d.fields (cut 59 text) r in
     let v = utf8_is text d.validity u in
     λ i. record {
       first = n.first i;

@@ -45,7 +45,7 @@ abbrev pub EndsReply : List ℕ → ℕ → Type 0
 EndsReply w f = (f ≡ 99) ⊎ ((f ≡ 117) × (w ≢ []))
 
 -- The shapes of a sequence: a character, two escapes, a character after an escape, `ESC O b` (SS3, ECMA-48), `ESC [ b` (CSI, ECMA-48),
--- `ESC [ [ b` (the Linux console), a reply `ESC [ ? w f` (xterm, kitty), and a numbered sequence `ESC [ d w f` with d a digit (xterm, kitty).
+-- `ESC [ [ b` (the Linux console), a reply, which begins with `ESC [` and a question mark (xterm, kitty), and a numbered sequence `ESC [ d w f` with d a digit (xterm, kitty).
 pub data Shape (bytes : List ℕ) : Type 0 where
   text : CharacterShape bytes → Shape bytes
   two_escapes : bytes ≡ 27 ∷ 27 ∷ [] → Shape bytes

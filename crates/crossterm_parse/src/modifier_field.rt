@@ -34,8 +34,8 @@ fn modifiers_in(mask: u8) -> KeyModifiers
 fn state_in(mask: u8) -> KeyEventState
     ensures { result.0 ≡ mask_state mask }
 {
-    let bits = mask.saturating_sub(1);
-    KeyEventState::from_bits_retain(value_of_bit(bits, 64, 2) | value_of_bit(bits, 128, 4))
+    let locks = mask.saturating_sub(1);
+    KeyEventState::from_bits_retain(value_of_bit(locks, 64, 2) | value_of_bit(locks, 128, 4))
 }
 
 fn kind_in(kind: Option<u8>) -> KeyEventKind

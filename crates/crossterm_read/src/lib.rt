@@ -8,6 +8,7 @@
 //!
 //! The layers above use the steps of `InternalEventReader::{poll_within, read_within, take}` over any `source::EventSource`, and
 //! the headline of `read::play`: what calls answer is a run over the answers of a source, which are told by the device's words.
+//! `laws::one_happening` says that the events of bytes are those of the only division of all bytes.
 //!
 //! | Definitions | Of |
 //! |---|---|

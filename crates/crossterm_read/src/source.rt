@@ -173,36 +173,47 @@ mod tests {
         }
     }
 
+    fn source_of(alloc: Global) -> Result<DeviceSource<Script>, Fail> {
+        let mut bytes = Vec::new(alloc);
+        bytes.extend_from_slice(b"ab")?;
+        let mut acts = Vec::new(alloc);
+        acts.push(Act::Piece { bytes, raw: false })?;
+        acts.push(Act::Idle)?;
+        acts.push(Act::Resize(80, 24))?;
+        acts.push(Act::Woken)?;
+        acts.push(Act::Fault(io::ErrorKind::Other))?;
+        Ok(DeviceSource::new(alloc, Script::new(acts)))
+    }
+
+    fn fails(source: &mut DeviceSource<Script>, kind: io::ErrorKind) -> bool {
+        match source.try_read(None) {
+            Ok(_) => false,
+            Err(error) => error.kind() == kind,
+        }
+    }
+
     #[test]
     fn events_come_one_by_one(rt: HostRuntime) -> Result<(), Fail> {
-        let alloc = rt.alloc();
-        let acts = vec![in alloc;
-            Act::Piece {
-                bytes: vec![in alloc; 0x61, 0x62]?,
-                raw: false
-            },
-            Act::Idle,
-            Act::Resize(80, 24),
-            Act::Woken,
-            Act::Fault(io::ErrorKind::Other),
-        ]?;
-        let mut source: DeviceSource<Script> = DeviceSource::new(alloc, Script::new(acts));
+        let mut source = source_of(rt.alloc())?;
         assert!(rt; is_char(&source.try_read(None)?, 'a'));
         assert!(rt; is_char(&source.try_read(Some(Duration::ZERO))?, 'b'));
-        assert!(rt; matches!(source.try_read(None)?, None));
+        assert!(rt; source.try_read(None)?.is_none());
         let resize = source.try_read(None)?;
         assert!(rt; matches!(&resize, Some(InternalEvent::Event(Event::Resize(80, 24)))));
-        for kind in [
-            io::ErrorKind::Interrupted,
-            io::ErrorKind::Other,
-            io::ErrorKind::UnexpectedEof,
-        ] {
-            match source.try_read(None) {
-                Ok(_) => assert!(rt; false),
-                Err(error) => assert!(rt; error.kind() == kind),
-            }
+        Ok(())
+    }
+
+    #[test]
+    fn faults_are_answered(rt: HostRuntime) -> Result<(), Fail> {
+        let mut source = source_of(rt.alloc())?;
+        for _i in 0..4u32 {
+            assert!(rt; source.try_read(None).is_ok());
         }
+        assert!(rt; fails(&mut source, io::ErrorKind::Interrupted));
+        assert_eq!(rt; source.failures(), 0);
+        assert!(rt; fails(&mut source, io::ErrorKind::Other));
         assert_eq!(rt; source.failures(), 1);
+        assert!(rt; fails(&mut source, io::ErrorKind::UnexpectedEof));
         source.waker()?.wake()?;
         Ok(())
     }

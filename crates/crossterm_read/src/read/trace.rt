@@ -138,60 +138,66 @@ mod tests {
         }
     }
 
+    fn letters(alloc: Global, letters: &[u8]) -> Result<Act, Fail> {
+        let mut bytes = Vec::new(alloc);
+        bytes.extend_from_slice(letters)?;
+        Ok(Act::Piece { bytes, raw: false })
+    }
+
+    fn fault_between(alloc: Global) -> Result<Vec<Act>, Fail> {
+        let mut script = Vec::new(alloc);
+        script.push(letters(alloc, b"a")?)?;
+        script.push(Act::Fault(io::ErrorKind::Other))?;
+        script.push(Act::Resize(80, 24))?;
+        script.push(Act::Woken)?;
+        script.push(letters(alloc, b"b")?)?;
+        Ok(script)
+    }
+
+    fn is_resize(reply: &Reply) -> bool {
+        match reply {
+            Reply::Event(Some(event)) => {
+                matches!(event, InternalEvent::Event(Event::Resize(80, 24)))
+            }
+            _ => false,
+        }
+    }
+
+    fn is_fault(reply: &Reply, kind: io::ErrorKind) -> bool {
+        match reply {
+            Reply::Fault(fault) => *fault == kind,
+            _ => false,
+        }
+    }
+
     #[test]
     fn a_fault_loses_nothing(rt: HostRuntime) -> Result<(), Fail> {
-        let alloc = rt.alloc();
-        let script = vec![in alloc;
-            Act::Piece {
-                bytes: vec![in alloc; 0x61]?,
-                raw: false
-            },
-            Act::Fault(io::ErrorKind::Other),
-            Act::Resize(80, 24),
-            Act::Woken,
-            Act::Piece {
-                bytes: vec![in alloc; 0x62]?,
-                raw: false
-            },
-        ]?;
         let filter = AnyFilter::Event;
         let read = Call::Read { tries: 9, filter };
         let poll = Call::Poll { tries: 1, filter };
-        let trace = play(alloc, script, &[read, read, read, read, poll])?;
-        let replies = &trace.replies;
+        let script = fault_between(rt.alloc())?;
+        let trace = play(rt.alloc(), script, &[read, read, read, read, poll])?;
+        let replies = trace.replies.as_slice();
         assert_eq!(rt; replies.len(), 5);
         assert!(rt; gave(&replies[0], 'a'));
-        assert!(rt; matches!(&replies[1], Reply::Fault(io::ErrorKind::Other)));
-        assert!(rt;
-            matches!(
-                &replies[2],
-                Reply::Event(Some(InternalEvent::Event(Event::Resize(80, 24))))
-            )
-        );
+        assert!(rt; is_fault(&replies[1], io::ErrorKind::Other));
+        assert!(rt; is_resize(&replies[2]));
         assert!(rt; gave(&replies[3], 'b'));
-        assert!(rt; matches!(&replies[4], Reply::Fault(io::ErrorKind::UnexpectedEof)));
-        assert_eq!(rt; trace.held.len(), 0);
+        assert!(rt; is_fault(&replies[4], io::ErrorKind::UnexpectedEof));
+        assert!(rt; trace.held.is_empty());
         Ok(())
     }
 
     #[test]
     fn what_was_polled_is_held(rt: HostRuntime) -> Result<(), Fail> {
-        let alloc = rt.alloc();
-        let script = vec![in alloc;
-            Act::Piece {
-                bytes: vec![in alloc; 0x61, 0x62]?,
-                raw: false
-            },
-        ]?;
         let filter = AnyFilter::Event;
-        let calls = [
-            Call::Take { filter },
-            Call::Poll { tries: 1, filter },
-            Call::Take { filter },
-            Call::Poll { tries: 1, filter },
-        ];
-        let trace = play(alloc, script, &calls)?;
-        let replies = &trace.replies;
+        let take = Call::Take { filter };
+        let poll = Call::Poll { tries: 1, filter };
+        let mut script = Vec::new(rt.alloc());
+        script.push(letters(rt.alloc(), b"ab")?)?;
+        let trace = play(rt.alloc(), script, &[take, poll, take, poll])?;
+        let replies = trace.replies.as_slice();
+        assert_eq!(rt; replies.len(), 4);
         assert!(rt; matches!(&replies[0], Reply::Event(None)));
         assert!(rt; matches!(&replies[1], Reply::Poll(true)));
         assert!(rt; gave(&replies[2], 'a'));

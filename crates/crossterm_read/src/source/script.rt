@@ -86,34 +86,22 @@ impl<A: Allocator> Device for Script<A> {
 
     fn answer(&mut self, buf: &mut [u8], _limit: Option<Duration>) -> io::Result<Answer> {
         while self.next < self.acts.len() {
-            match &self.acts[self.next] {
-                Act::Piece { bytes, raw } => {
-                    if self.at < bytes.len() {
-                        let count = tell(&bytes[self.at..], buf);
-                        self.at += count;
-                        return Ok(Answer::Bytes { count, raw: *raw });
-                    }
-                    self.next += 1;
-                    self.at = 0;
+            let act = &self.acts[self.next];
+            if let Act::Piece { bytes, raw } = act {
+                if self.at < bytes.len() {
+                    let count = tell(&bytes[self.at..], buf);
+                    self.at += count;
+                    return Ok(Answer::Bytes { count, raw: *raw });
                 }
-                Act::Resize(columns, rows) => {
-                    self.next += 1;
-                    self.at = 0;
-                    return Ok(Answer::Resize(*columns, *rows));
-                }
-                Act::Woken => {
-                    self.next += 1;
-                    self.at = 0;
-                    return Ok(Answer::Woken);
-                }
-                Act::Idle => {
-                    self.next += 1;
-                    self.at = 0;
-                    return Ok(Answer::Idle);
-                }
+            }
+            self.next += 1;
+            self.at = 0;
+            match act {
+                Act::Piece { .. } => {}
+                Act::Resize(columns, rows) => return Ok(Answer::Resize(*columns, *rows)),
+                Act::Woken => return Ok(Answer::Woken),
+                Act::Idle => return Ok(Answer::Idle),
                 Act::Fault(kind) => {
-                    self.next += 1;
-                    self.at = 0;
                     self.failures += 1;
                     return Err(io::Error::from(*kind));
                 }

@@ -1,5 +1,4 @@
-use Rattle.std.proofs.Common.{◌++◌, [], ◌∷◌, ℕ, map, refl, sym, ap, ◌∙◌, append-nil}
-use Rattle.std.proofs.lemmas.List.{map-append}
+use Rattle.std.proofs.Common.{ℕ, map, refl, sym, ap, ◌∙◌, append-nil}
 use Rattle.std.specs.IoError.{error_kind}
 use Rattle.crossterm_types.specs.Seen.{seen}
 use Rattle.crossterm_read.specs.Answers.{Failed}
@@ -7,13 +6,14 @@ use Rattle.crossterm_types.specs.declared.event.InternalEvent.{InternalEvent}
 use Rattle.crossterm_read.specs.declared.read.reader.Once.TheVariants as once
 use Rattle.crossterm_read.specs.Shelf.{kept}
 use Rattle.crossterm_read.proofs.Asking.{draws_from}
+use Rattle.crossterm_read.proofs.Mapped.{map_push}
 use Rattle.crossterm_read.proofs.read.reader.InternalEventReader.draw.Goals as goal
 
 pub returns-in-Ok-Some-clause-one : goal.returns-in-Ok-Some-clause-one
 returns-in-Ok-Some-clause-one g c =
     let d = rw (c.in-Ok-Some.field-0-is, c.in-Ok-Some.event-is) at c.in-Ok-Some.ensures in
     let new : InternalEvent g.row.A.Denot × ℕ = (c.in-Ok-Some.event, c.self.inside.arrivals) in
-    let held = ap (λ l. map kept l) (c.push_reserved.ensures.items ∙ ap (λ l. l ++ new ∷ []) c.reserve.ensures.items) ∙ map-append kept c.self.inside.held.items (new ∷ []) in
+    let held = map_push kept c.self.inside.held.items c.reserve.new.self.items c.push_reserved.new.self.items new c.reserve.ensures.items c.push_reserved.ensures.items in
     draws_from g.S.EventSource.drawn g.met.S.EventSource.drawn_on c.args.patient (g.F.Filter.admits c.args.filter.now) _ c.args.self.now
     (record { shelf = record { held = map kept c.push_reserved.new.self.items; arrivals = c.saturating_add-self-inside.result }; source = c.try_read.new.self })
     (once.Came c.eval-admitted.result) c.self.view_is (seen c.in-Ok-Some.event, d.drawn, record { held = held; arrivals = c.saturating_add-self-inside.ensures }, c.eval-admitted.ensures)

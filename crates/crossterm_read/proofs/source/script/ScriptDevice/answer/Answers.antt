@@ -10,7 +10,7 @@ returns-then-self-len-clause-told g c =
     let acts = c.loop-self.self-inside.acts.items in
     let next = c.loop-self.self-inside.next in
     let at = c.loop-self.self-inside.at in
-    let same = λ (n : ℕ). words_at acts next n c.index.result.now (omega arith) c.index.ensures ∙ ap (λ (a : Act g.row.A.Denot). words_from (a ∷ drop (next + 1) acts) n) c.in-Piece.is in
+    let same = λ (n : ℕ). words_at acts next n c.index-act.result.now (omega arith) c.index-act.ensures ∙ ap (λ (a : Act g.row.A.Denot). words_from (a ∷ drop (next + 1) acts) n) c.in-Piece.is in
     let bytes = c.in-Piece.bytes.items in
     let rest : take (length c.deref.result.now - at) (drop at c.deref.result.now) ≡ drop at bytes = take_rest c.deref.result.now at ∙ ap (λ (l : List ℕ). drop at l) c.deref.ensures.value in
     piece_step (drop at c.in-Piece.bytes.items) (drop (at + c.tell-count.result) c.in-Piece.bytes.items) _ c.in-Piece.raw (words (drop (next + 1) acts)) _ _
