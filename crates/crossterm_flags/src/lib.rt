@@ -12,6 +12,3 @@ pub use enhancement::KeyboardEnhancementFlags;
 pub use iter::{FlagIter, FlagSet};
 pub use modifiers::KeyModifiers;
 pub use state::KeyEventState;
-
-#[cfg(test)]
-mod tests;

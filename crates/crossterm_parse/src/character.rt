@@ -7,7 +7,7 @@ ghost use Rattle.crossterm_parse.specs.Machine.{grown, over};
 use crate::meaning::{Meaning, meaning_of_character, plus_alt};
 
 /// The bytes of a character so far.
-#[derive(Clone, Copy, Debug, PartialEq, Eq)]
+#[derive(Clone, Copy)]
 pub struct Character {
     /// Whether an escape stands before them.
     pub escaped: bool,
@@ -15,7 +15,7 @@ pub struct Character {
 }
 
 /// One to three bytes, the first of which leads a character.
-#[derive(Clone, Copy, Debug, PartialEq, Eq)]
+#[derive(Clone, Copy)]
 pub enum Begun {
     One(u8),
     Two(u8, u8),
@@ -23,7 +23,7 @@ pub enum Begun {
 }
 
 /// What one more byte does to a character.
-#[derive(Clone, Copy, Debug, PartialEq, Eq)]
+#[derive(Clone, Copy)]
 pub enum Grown {
     More(Begun),
     Over(Option<Meaning>),

@@ -6,7 +6,7 @@ ghost use Rattle.crossterm_parse.specs.Number.{number_after};
 use crate::number::Number;
 
 /// A field of which the number and those of its first two parts are read. Parts are cut at `:`.
-#[derive(Clone, Copy, Debug, PartialEq, Eq)]
+#[derive(Clone, Copy)]
 pub struct Field {
     /// The field as one number.
     pub whole: Number,
@@ -18,7 +18,7 @@ pub struct Field {
 }
 
 /// The part that is being read.
-#[derive(Clone, Copy, Debug, PartialEq, Eq)]
+#[derive(Clone, Copy)]
 pub enum Part {
     First,
     Second,
@@ -26,7 +26,7 @@ pub enum Part {
 }
 
 /// The first three fields. Fields are cut at `;`.
-#[derive(Clone, Copy, Debug, PartialEq, Eq)]
+#[derive(Clone, Copy)]
 pub struct Fields {
     pub first: Field,
     pub second: Field,
@@ -35,7 +35,7 @@ pub struct Fields {
 }
 
 /// The field that is being read.
-#[derive(Clone, Copy, Debug, PartialEq, Eq)]
+#[derive(Clone, Copy)]
 pub enum Place {
     First,
     Second,

@@ -5,7 +5,7 @@ ghost use Rattle.crossterm_parse.specs.Numbered.{plain_key, keypad_key, modifier
 use crossterm_types::event::{KeyCode, KeyEventState, KeyModifiers, MediaKeyCode, ModifierKeyCode};
 
 /// A key, with the modifiers and the state that it has by itself.
-#[derive(Clone, Copy, Debug, PartialEq, Eq)]
+#[derive(Clone, Copy)]
 pub struct Pointed {
     pub code: KeyCode,
     pub modifiers: KeyModifiers,

@@ -11,7 +11,7 @@ use std::alloc::Allocator;
 use unicode::properties::is_uppercase;
 
 /// What a sequence means that has no text of its own.
-#[derive(Clone, Copy, Debug, PartialEq, Eq)]
+#[derive(Clone, Copy)]
 pub enum Meaning {
     Key(KeyEvent),
     FocusGained,

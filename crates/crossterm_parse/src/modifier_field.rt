@@ -5,7 +5,7 @@ ghost use Rattle.crossterm_parse.specs.Numbered.{where_bit, mask_modifiers, mask
 use crossterm_types::event::{KeyEventKind, KeyEventState, KeyModifiers};
 
 /// What the modifier field tells.
-#[derive(Clone, Copy, Debug, PartialEq, Eq)]
+#[derive(Clone, Copy)]
 pub struct Held {
     pub modifiers: KeyModifiers,
     pub kind: KeyEventKind,

@@ -3,7 +3,7 @@ ghost use Rattle.std.specs.Prelude.{◌≡◌};
 ghost use Rattle.crossterm_parse.specs.Number.{number_after, at_most, reading};
 
 /// A number that is being read: one digit or more, after a `+` or not.
-#[derive(Clone, Copy, Debug, PartialEq, Eq)]
+#[derive(Clone, Copy)]
 pub enum Number {
     /// No byte yet.
     Empty,

@@ -14,7 +14,7 @@ use crate::utf8::Validity;
 use crossterm_types::event::{KeyCode, KeyEvent, KeyEventState, KeyModifiers};
 
 /// What is kept of a numbered sequence, however long it is.
-#[derive(Clone, Copy, Debug, PartialEq, Eq)]
+#[derive(Clone, Copy)]
 pub struct Digits {
     pub fields: Fields,
     /// The last byte.

@@ -154,6 +154,3 @@ impl<A: Allocator> Parser<A> {
         !matches!(self.state, State::Ground)
     }
 }
-
-#[cfg(test)]
-mod tests;

@@ -2,9 +2,9 @@
 ghost use Rattle.std.specs.Prelude.{◌≡◌, ◌++◌, map, option_to_list, IfOk, OnOk};
 ghost use Rattle.std.specs.Option.{option_map};
 ghost use Rattle.crossterm_types.specs.Seen.{seen};
-ghost use Rattle.crossterm_parse.specs.Deciding.{begins_with_digit, ends_character, is_character, ends_numbered, ends_reply, ends_csi, is_shape, is_whole};
+ghost use Rattle.crossterm_parse.specs.Deciding.{begins_with_digit, ends_character, is_character, ends_numbered, ends_reply, ends_private, ends_csi, ends_escape, is_shape, is_whole};
 ghost use Rattle.crossterm_parse.specs.Marked.{bytes_of};
-ghost use Rattle.crossterm_parse.specs.Meaning.{character_meaning, reply_meaning, csi_meaning, meaning, seen_meaning};
+ghost use Rattle.crossterm_parse.specs.Meaning.{character_meaning, reply_meaning, csi_meaning, escape_meaning, meaning, seen_meaning};
 ghost use Rattle.crossterm_parse.specs.Numbered.{numbered_by, readings_of};
 ghost use Rattle.crossterm_parse.specs.Plain.{IsDivided};
 
@@ -72,6 +72,17 @@ fn ends_the_reply(bytes: &[u8]) -> bool
     }
 }
 
+/// Whether what stands after `ESC [ ?` ends a reply, which a `u` at once doesn't.
+fn ends_after_question(bytes: &[u8]) -> bool
+    ensures { result ≡ ends_private bytes.now }
+{
+    match bytes {
+        [] => false,
+        [b'c', rest @ ..] => rest.is_empty(),
+        [_, rest @ ..] => ends_the_reply(rest),
+    }
+}
+
 /// Whether what stands after `ESC [` ends a sequence.
 fn ends_after_csi(bytes: &[u8]) -> bool
     ensures { result ≡ ends_csi bytes.now }
@@ -79,11 +90,22 @@ fn ends_after_csi(bytes: &[u8]) -> bool
     match bytes {
         [] => false,
         [b'[', rest @ ..] => rest.len() == 1,
-        [b'?'] => false,
-        [b'?', b'c', rest @ ..] => rest.is_empty(),
-        [b'?', _, rest @ ..] => ends_the_reply(rest),
+        [b'?', rest @ ..] => ends_after_question(rest),
         [b'0'..=b'9', rest @ ..] => ends_number(rest),
         [_, rest @ ..] => rest.is_empty(),
+    }
+}
+
+/// Whether what stands after ESC ends a sequence.
+fn ends_after_escape(bytes: &[u8]) -> bool
+    ensures { result ≡ ends_escape bytes.now }
+{
+    match bytes {
+        [] => false,
+        [b'O', rest @ ..] => rest.len() == 1,
+        [b'[', rest @ ..] => ends_after_csi(rest),
+        [27, rest @ ..] => rest.is_empty(),
+        _ => is_text(bytes),
     }
 }
 
@@ -92,11 +114,7 @@ fn is_sequence(bytes: &[u8]) -> bool
     ensures { result ≡ is_shape bytes.now }
 {
     match bytes {
-        [27] => false,
-        [27, b'O', rest @ ..] => rest.len() == 1,
-        [27, b'[', rest @ ..] => ends_after_csi(rest),
-        [27, 27, rest @ ..] => rest.is_empty(),
-        [27, rest @ ..] => is_text(rest),
+        [27, rest @ ..] => ends_after_escape(rest),
         _ => is_text(bytes),
     }
 }
@@ -176,16 +194,24 @@ fn meaning_of_csi(bytes: &[u8], raw: bool) -> Option<Meaning>
     }
 }
 
+/// What is meant by what stands after ESC: by nothing, the Esc key.
+fn meaning_after_escape(bytes: &[u8], raw: bool) -> Option<Meaning>
+    ensures { result ≡ escape_meaning raw bytes.now }
+{
+    match bytes {
+        [] | [27, ..] => Some(pressed_alone(KeyCode::Esc)),
+        [b'O', rest @ ..] => meaning_after_ss3(*rest.first()?),
+        [b'[', rest @ ..] => meaning_of_csi(rest, raw),
+        _ => plus_alt(meaning_of_text(bytes, raw)),
+    }
+}
+
 /// What the complete bytes of a sequence mean.
 fn meaning_of_sequence(bytes: &[u8], raw: bool) -> Option<Meaning>
     ensures { result ≡ meaning raw bytes.now }
 {
     match bytes {
-        [27] => Some(pressed_alone(KeyCode::Esc)),
-        [27, b'O', rest @ ..] => meaning_after_ss3(*rest.first()?),
-        [27, b'[', rest @ ..] => meaning_of_csi(rest, raw),
-        [27, 27, ..] => Some(pressed_alone(KeyCode::Esc)),
-        [27, rest @ ..] => plus_alt(meaning_of_text(rest, raw)),
+        [27, rest @ ..] => meaning_after_escape(rest, raw),
         _ => meaning_of_text(bytes, raw),
     }
 }

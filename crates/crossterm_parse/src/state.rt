@@ -11,7 +11,7 @@ use crate::numbered::{Digits, is_final_byte};
 use crossterm_types::event::KeyCode;
 
 /// What came of a sequence so far.
-#[derive(Clone, Copy, Debug, PartialEq, Eq)]
+#[derive(Clone, Copy)]
 pub enum State {
     /// No sequence is open.
     Ground,
@@ -34,7 +34,7 @@ pub enum State {
 }
 
 /// What one byte does.
-#[derive(Clone, Copy, Debug, PartialEq, Eq)]
+#[derive(Clone, Copy)]
 pub enum Step {
     /// The sequence goes on.
     Open(State),

@@ -6,7 +6,7 @@ ghost use Rattle.crossterm_parse.specs.Utf8.{utf8_after, begun_after};
 use crate::character::Begun;
 
 /// What the bytes so far are.
-#[derive(Clone, Copy, Debug, PartialEq, Eq)]
+#[derive(Clone, Copy)]
 pub enum Validity {
     /// UTF-8.
     Sound,

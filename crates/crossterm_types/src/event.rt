@@ -5,8 +5,6 @@ pub mod filter;
 mod key;
 pub mod laws;
 mod mouse;
-#[cfg(test)]
-mod tests;
 
 pub use crossterm_flags::{KeyEventState, KeyModifiers, KeyboardEnhancementFlags};
 pub use key::{KeyCode, KeyEvent, KeyEventKind, MediaKeyCode, ModifierKeyCode};

@@ -59,17 +59,24 @@ fn write_paste<W: fmt::Write>(f: &mut fmt::Formatter<W>, text: &str) -> fmt::Res
     Ok(())
 }
 
+fn write_event<A: Allocator, W: fmt::Write>(
+    f: &mut fmt::Formatter<W>,
+    event: &Event<A>,
+) -> fmt::Result {
+    match event {
+        Event::FocusGained => write!(f, "focus gained"),
+        Event::FocusLost => write!(f, "focus lost"),
+        Event::Key(key) => write_key(f, key),
+        Event::Mouse(mouse) => write_mouse(f, mouse),
+        Event::Paste(text) => write_paste(f, text.as_str()),
+        Event::Resize(columns, rows) => write!(f, "resize {columns} {rows}"),
+    }
+}
+
 impl<A: Allocator> fmt::Display for EventLine<'_, A> {
     fn fmt<W: fmt::Write>(&self, f: &mut fmt::Formatter<W>) -> fmt::Result {
         match self.0 {
-            InternalEvent::Event(Event::FocusGained) => write!(f, "focus gained"),
-            InternalEvent::Event(Event::FocusLost) => write!(f, "focus lost"),
-            InternalEvent::Event(Event::Key(key)) => write_key(f, key),
-            InternalEvent::Event(Event::Mouse(mouse)) => write_mouse(f, mouse),
-            InternalEvent::Event(Event::Paste(text)) => write_paste(f, text.as_str()),
-            InternalEvent::Event(Event::Resize(columns, rows)) => {
-                write!(f, "resize {columns} {rows}")
-            }
+            InternalEvent::Event(event) => write_event(f, event),
             InternalEvent::CursorPosition(column, row) => write!(f, "cursor {column} {row}"),
             InternalEvent::KeyboardEnhancementFlags(flags) => {
                 let bits = flags.bits();

@@ -17,6 +17,35 @@ enum Statement<A: Allocator> {
     Call(Call),
 }
 
+/// What a line begins with.
+#[derive(Clone, Copy)]
+enum Word {
+    Piece,
+    Raw,
+    Resize,
+    Wake,
+    Idle,
+    Fault,
+    Poll,
+    Read,
+    Take,
+}
+
+fn first_word(word: &str) -> Result<Word, Wrong> {
+    match word {
+        "piece" => Ok(Word::Piece),
+        "raw" => Ok(Word::Raw),
+        "resize" => Ok(Word::Resize),
+        "wake" => Ok(Word::Wake),
+        "idle" => Ok(Word::Idle),
+        "fault" => Ok(Word::Fault),
+        "poll" => Ok(Word::Poll),
+        "read" => Ok(Word::Read),
+        "take" => Ok(Word::Take),
+        _ => Err(Wrong::Word),
+    }
+}
+
 fn filter(word: &str) -> Result<AnyFilter, Wrong> {
     match word {
         "event" => Ok(AnyFilter::Event),
@@ -27,40 +56,89 @@ fn filter(word: &str) -> Result<AnyFilter, Wrong> {
     }
 }
 
-fn piece<A: Allocator>(alloc: A, hex: &str, raw: bool) -> Result<Statement<A>, Wrong> {
-    let bytes = bytes(alloc, hex)?;
-    Ok(Statement::Act(Act::Piece { bytes, raw }))
+fn piece<A: Allocator + Clone>(alloc: &A, hex: &[&str], raw: bool) -> Result<Statement<A>, Wrong> {
+    match hex {
+        [hex] => {
+            let bytes = bytes(alloc.clone()?, hex)?;
+            Ok(Statement::Act(Act::Piece { bytes, raw }))
+        }
+        _ => Err(Wrong::Argument),
+    }
+}
+
+fn resize<A: Allocator>(size: &[&str]) -> Result<Statement<A>, Wrong> {
+    match size {
+        [columns, rows] => {
+            let (columns, rows) = (number(columns)?, number(rows)?);
+            Ok(Statement::Act(Act::Resize(columns, rows)))
+        }
+        _ => Err(Wrong::Argument),
+    }
+}
+
+/// An act whose line is its first word alone.
+fn alone<A: Allocator>(rest: &[&str], act: Act<A>) -> Result<Statement<A>, Wrong> {
+    if rest.is_empty() {
+        Ok(Statement::Act(act))
+    } else {
+        Err(Wrong::Argument)
+    }
+}
+
+fn poll<A: Allocator>(arguments: &[&str]) -> Result<Statement<A>, Wrong> {
+    match arguments {
+        [name, tries] => {
+            let (filter, tries) = (filter(name)?, number(tries)?);
+            Ok(Statement::Call(Call::Poll { filter, tries }))
+        }
+        _ => Err(Wrong::Argument),
+    }
+}
+
+fn read<A: Allocator>(arguments: &[&str]) -> Result<Statement<A>, Wrong> {
+    match arguments {
+        [name, tries] => {
+            let (filter, tries) = (filter(name)?, number(tries)?);
+            Ok(Statement::Call(Call::Read { filter, tries }))
+        }
+        _ => Err(Wrong::Argument),
+    }
+}
+
+fn take<A: Allocator>(arguments: &[&str]) -> Result<Statement<A>, Wrong> {
+    match arguments {
+        [name] => {
+            let filter = filter(name)?;
+            Ok(Statement::Call(Call::Take { filter }))
+        }
+        _ => Err(Wrong::Argument),
+    }
+}
+
+fn read_arguments<A: Allocator + Clone>(
+    alloc: &A,
+    word: Word,
+    rest: &[&str],
+) -> Result<Statement<A>, Wrong> {
+    match word {
+        Word::Piece => piece(alloc, rest, false),
+        Word::Raw => piece(alloc, rest, true),
+        Word::Resize => resize(rest),
+        Word::Wake => alone(rest, Act::Woken),
+        Word::Idle => alone(rest, Act::Idle),
+        Word::Fault => alone(rest, Act::Fault(ErrorKind::Other)),
+        Word::Poll => poll(rest),
+        Word::Read => read(rest),
+        Word::Take => take(rest),
+    }
 }
 
 /// Reads one line, of words with one blank between.
 fn read_statement<A: Allocator + Clone>(alloc: &A, line: &str) -> Result<Statement<A>, Wrong> {
     let words: Vec<&str, &A> = line.split(' ').collect(alloc)?;
     match words.as_slice() {
-        ["piece", hex] => piece(alloc.clone()?, hex, false),
-        ["raw", hex] => piece(alloc.clone()?, hex, true),
-        ["resize", columns, rows] => Ok(Statement::Act(Act::Resize(
-            number(columns)?,
-            number(rows)?,
-        ))),
-        ["wake"] => Ok(Statement::Act(Act::Woken)),
-        ["idle"] => Ok(Statement::Act(Act::Idle)),
-        ["fault"] => Ok(Statement::Act(Act::Fault(ErrorKind::Other))),
-        ["poll", name, tries] => Ok(Statement::Call(Call::Poll {
-            filter: filter(name)?,
-            tries: number(tries)?,
-        })),
-        ["read", name, tries] => Ok(Statement::Call(Call::Read {
-            filter: filter(name)?,
-            tries: number(tries)?,
-        })),
-        ["take", name] => Ok(Statement::Call(Call::Take {
-            filter: filter(name)?,
-        })),
-        [
-            "piece" | "raw" | "resize" | "wake" | "idle" | "fault" | "poll" | "read" | "take",
-            ..
-        ] => { Err(Wrong::Argument) }
-        _ => Err(Wrong::Word),
+        [word, rest @ ..] => read_arguments(alloc, first_word(word)?, rest),
+        [] => Err(Wrong::Word),
     }
 }
 
@@ -94,6 +172,40 @@ fn print<A: Allocator, W: Write>(writer: &mut W, trace: &Trace<A>) -> std::io::R
     writer.flush()
 }
 
+/// What all lines say: the script and the calls.
+#[derive(Drop)]
+struct Statements<A: Allocator> {
+    script: Vec<Act<A>, A>,
+    calls: Vec<Call, A>,
+}
+
+impl<A: Allocator> Statements<A> {
+    fn add(&mut self, statement: Statement<A>) -> Result<(), AllocError> {
+        match statement {
+            Statement::Act(act) => self.script.push(act).map_err(AllocError::from),
+            Statement::Call(call) => self.calls.push(call).map_err(AllocError::from),
+        }
+    }
+}
+
+/// Reads all lines but the empty ones, which are counted too.
+fn read_statements<A: Allocator + Clone>(alloc: &A, text: &str) -> Result<Statements<A>, Fault> {
+    let mut statements = Statements {
+        script: Vec::new(alloc.clone()?),
+        calls: Vec::new(alloc.clone()?),
+    };
+    for (index, line) in text.split('\n').enumerate() {
+        if line.is_empty() {
+            continue;
+        }
+        match read_statement(alloc, line) {
+            Ok(statement) => statements.add(statement)?,
+            Err(wrong) => return Err(wrong.at(index.saturating_add(1))),
+        }
+    }
+    Ok(statements)
+}
+
 /// Reads lines, checks them all, runs the calls over the acts, and prints a line for each call and for each event still held.
 ///
 /// # Errors
@@ -105,18 +217,7 @@ pub fn run_play<A: Allocator + Clone, R: Read, W: Write>(
     writer: &mut W,
 ) -> Result<(), Fault> {
     let text = read_text(alloc.clone()?, reader)?;
-    let mut script = Vec::new(alloc.clone()?);
-    let mut calls = Vec::new(alloc.clone()?);
-    for (index, line) in text.as_str().split('\n').enumerate() {
-        if line.is_empty() {
-            continue;
-        }
-        match read_statement(&alloc, line) {
-            Ok(Statement::Act(act)) => script.push(act).map_err(AllocError::from)?,
-            Ok(Statement::Call(call)) => calls.push(call).map_err(AllocError::from)?,
-            Err(wrong) => return Err(wrong.at(index.saturating_add(1))),
-        }
-    }
+    let Statements { script, calls } = read_statements(&alloc, text.as_str())?;
     match play(alloc, script, calls.as_slice()) {
         Ok(trace) => print(writer, &trace).map_err(|error| Fault::of_write(&error)),
         Err(_) => Err(Fault::OutOfMemory),

@@ -1,13 +1,18 @@
 //! Scripts and calls beside what must come of them, run through the program's own function.
 
 mod numbered;
-mod refused;
 
 use crate::fault::Fault;
 use crate::play::run_play;
 use std::alloc::{AllocError, Global};
 use std::io::{self, Read, Write};
+use std::process::Abort;
 use std::test::Fail;
+
+/// Fails the test where something doesn't hold, and says of what. A test's proof grows with its branches, so they stand here.
+pub fn expect(rt: &impl Abort, holds: bool, what: &str) {
+    assert!(rt; holds, "{what}");
+}
 
 /// What `run_play` prints for an input.
 pub fn played(alloc: Global, input: &[u8]) -> Result<Vec<u8>, Fault> {
@@ -113,7 +118,7 @@ fn scripts_give_their_lines(rt: HostRuntime) -> Result<(), Fail> {
     ];
     for (input, want) in cases {
         let output = played(rt.alloc(), input.as_bytes())?;
-        assert!(rt; output.as_slice() == want.as_bytes(), "of {input:?}");
+        expect(&rt, output.as_slice() == want.as_bytes(), input);
     }
     Ok(())
 }
@@ -137,7 +142,26 @@ fn an_escape_at_the_end_of_a_full_buffer_waits(rt: HostRuntime) -> Result<(), Fa
     repeat(&mut want, "key Char:61 0 Press 0\n", 1023)?;
     want.extend_from_slice(b"key Up 0 Press 0\n")?;
     let output = played(rt.alloc(), input.as_slice())?;
-    assert!(rt; output.as_slice() == want.as_slice());
+    expect(
+        &rt,
+        output.as_slice() == want.as_slice(),
+        "1023 letters and an arrow",
+    );
+    Ok(())
+}
+
+#[test]
+fn zeros_before_a_number_have_no_end(rt: HostRuntime) -> Result<(), Fail> {
+    let mut input = Vec::new(rt.alloc());
+    input.extend_from_slice(b"piece 1b5b")?;
+    repeat(&mut input, "30", 100_000)?;
+    input.extend_from_slice(b"357e\nread event 99\n")?;
+    let output = played(rt.alloc(), input.as_slice())?;
+    expect(
+        &rt,
+        output.as_slice() == b"key PageUp 0 Press 0\n".as_slice(),
+        "one key",
+    );
     Ok(())
 }
 
@@ -160,19 +184,29 @@ fn bad_lines_are_named(rt: HostRuntime) -> Result<(), Fail> {
         ("take event 1", Fault::BadArgument(1)),
     ];
     for (input, want) in cases {
-        match played(rt.alloc(), input.as_bytes()) {
-            Ok(_) => assert!(rt; false, "of {input:?}"),
-            Err(fault) => assert!(rt; fault == want, "of {input:?}"),
-        }
+        let fault = played(rt.alloc(), input.as_bytes()).err();
+        expect(&rt, fault == Some(want), input);
     }
-    assert!(rt; matches!(played(rt.alloc(), b"\xff"), Err(Fault::NotUtf8)));
+    expect(
+        &rt,
+        matches!(played(rt.alloc(), b"\xff"), Err(Fault::NotUtf8)),
+        "not UTF-8",
+    );
     let mut long = Vec::new(rt.alloc());
     for _ in 0..1_048_576u32 {
         long.push(b'\n')?;
     }
-    assert!(rt; played(rt.alloc(), long.as_slice()).is_ok());
+    expect(
+        &rt,
+        played(rt.alloc(), long.as_slice()).is_ok(),
+        "as long as may be",
+    );
     long.push(b'\n')?;
-    assert!(rt; matches!(played(rt.alloc(), long.as_slice()), Err(Fault::TooLong)));
+    expect(
+        &rt,
+        matches!(played(rt.alloc(), long.as_slice()), Err(Fault::TooLong)),
+        "too long",
+    );
     Ok(())
 }
 
@@ -200,10 +234,18 @@ impl Write for Failing {
 fn failing_readers_and_writers_are_named(rt: HostRuntime) -> Result<(), Fail> {
     let mut output = Vec::new(rt.alloc());
     let read = run_play(rt.alloc(), &mut Failing, &mut output);
-    assert!(rt; matches!(read, Err(Fault::ReadFailed)));
+    expect(
+        &rt,
+        matches!(read, Err(Fault::ReadFailed)),
+        "a reader that fails",
+    );
     let mut input: &[u8] = b"read event 1";
     let written = run_play(rt.alloc(), &mut input, &mut Failing);
-    assert!(rt; matches!(written, Err(Fault::WriteFailed)));
+    expect(
+        &rt,
+        matches!(written, Err(Fault::WriteFailed)),
+        "a writer that fails",
+    );
     Ok(())
 }
 
@@ -221,7 +263,7 @@ fn faults_have_their_lines(rt: HostRuntime) -> Result<(), Fail> {
     ];
     for (fault, want) in cases {
         let line = format!(in rt.alloc(); "{fault}")?;
-        assert!(rt; line.as_str() == want);
+        expect(&rt, line.as_str() == want, want);
     }
     Ok(())
 }

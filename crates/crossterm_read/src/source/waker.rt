@@ -33,17 +33,3 @@ impl Waker {
         }
     }
 }
-
-#[cfg(test)]
-mod tests {
-    use super::*;
-    use std::test::Fail;
-
-    #[test]
-    fn nobody_is_woken(rt: HostRuntime) -> Result<(), Fail> {
-        let waker = Waker::none();
-        waker.wake()?;
-        assert!(rt; waker.wake().is_ok());
-        Ok(())
-    }
-}

@@ -1,6 +1,6 @@
 //! Every line of the tables of numbered sequences, keys by code point and replies: what follows ESC, and the line of its event.
 
-use crate::tests::played;
+use crate::tests::{expect, played};
 use std::alloc::{AllocError, Global};
 use std::test::Fail;
 
@@ -205,7 +205,7 @@ fn numbered_sequences_give_their_keys(rt: HostRuntime) -> Result<(), Fail> {
         let input = read_after_escape(rt.alloc(), text)?;
         let output = played(rt.alloc(), input.as_slice())?;
         let line = format!(in rt.alloc(); "{want}\n")?;
-        assert!(rt; output.as_slice() == line.as_bytes(), "of ESC {text}");
+        expect(&rt, output.as_slice() == line.as_bytes(), text);
     }
     Ok(())
 }

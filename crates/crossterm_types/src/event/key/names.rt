@@ -1,29 +1,61 @@
 //! The names by which keys are shown, as `Page Up`.
-ghost use Rattle.std.specs.Prelude.{Some};
+ghost use Rattle.std.specs.Prelude.{◌≡◌, Some};
 ghost use Rattle.crossterm_types.specs.Names.{key_name, media_name, modifier_name};
 
 use crate::event::key::{KeyCode, MediaKeyCode, ModifierKeyCode};
 use std::fmt;
+
+impl MediaKeyCode {
+    fn name(&self) -> &'static str
+        ensures { result.now ≡ media_name self.now }
+    {
+        match self {
+            MediaKeyCode::Play => "Play",
+            MediaKeyCode::Pause => "Pause",
+            MediaKeyCode::PlayPause => "Play/Pause",
+            MediaKeyCode::Reverse => "Reverse",
+            MediaKeyCode::Stop => "Stop",
+            MediaKeyCode::FastForward => "Fast Forward",
+            MediaKeyCode::Rewind => "Rewind",
+            MediaKeyCode::TrackNext => "Next Track",
+            MediaKeyCode::TrackPrevious => "Previous Track",
+            MediaKeyCode::Record => "Record",
+            MediaKeyCode::LowerVolume => "Lower Volume",
+            MediaKeyCode::RaiseVolume => "Raise Volume",
+            MediaKeyCode::MuteVolume => "Mute Volume",
+        }
+    }
+}
 
 /// The key's words with blanks, as `Fast Forward`; `Play/Pause`, `Next Track` and `Previous Track`.
 impl fmt::Display for MediaKeyCode {
     ghost output = { λ key. Some (media_name key) };
 
     fn fmt<W: fmt::Write>(&self, f: &mut fmt::Formatter<W>) -> fmt::Result {
+        let name = self.name();
+        write!(f, "{name}")
+    }
+}
+
+impl ModifierKeyCode {
+    fn name(&self) -> &'static str
+        ensures { result.now ≡ modifier_name self.now }
+    {
         match self {
-            MediaKeyCode::Play => write!(f, "Play"),
-            MediaKeyCode::Pause => write!(f, "Pause"),
-            MediaKeyCode::PlayPause => write!(f, "Play/Pause"),
-            MediaKeyCode::Reverse => write!(f, "Reverse"),
-            MediaKeyCode::Stop => write!(f, "Stop"),
-            MediaKeyCode::FastForward => write!(f, "Fast Forward"),
-            MediaKeyCode::Rewind => write!(f, "Rewind"),
-            MediaKeyCode::TrackNext => write!(f, "Next Track"),
-            MediaKeyCode::TrackPrevious => write!(f, "Previous Track"),
-            MediaKeyCode::Record => write!(f, "Record"),
-            MediaKeyCode::LowerVolume => write!(f, "Lower Volume"),
-            MediaKeyCode::RaiseVolume => write!(f, "Raise Volume"),
-            MediaKeyCode::MuteVolume => write!(f, "Mute Volume"),
+            ModifierKeyCode::LeftShift => "Left Shift",
+            ModifierKeyCode::LeftControl => "Left Ctrl",
+            ModifierKeyCode::LeftAlt => "Left Alt",
+            ModifierKeyCode::LeftSuper => "Left Super",
+            ModifierKeyCode::LeftHyper => "Left Hyper",
+            ModifierKeyCode::LeftMeta => "Left Meta",
+            ModifierKeyCode::RightShift => "Right Shift",
+            ModifierKeyCode::RightControl => "Right Ctrl",
+            ModifierKeyCode::RightAlt => "Right Alt",
+            ModifierKeyCode::RightSuper => "Right Super",
+            ModifierKeyCode::RightHyper => "Right Hyper",
+            ModifierKeyCode::RightMeta => "Right Meta",
+            ModifierKeyCode::IsoLevel3Shift => "Iso Level 3 Shift",
+            ModifierKeyCode::IsoLevel5Shift => "Iso Level 5 Shift",
         }
     }
 }
@@ -33,22 +65,8 @@ impl fmt::Display for ModifierKeyCode {
     ghost output = { λ key. Some (modifier_name key) };
 
     fn fmt<W: fmt::Write>(&self, f: &mut fmt::Formatter<W>) -> fmt::Result {
-        match self {
-            ModifierKeyCode::LeftShift => write!(f, "Left Shift"),
-            ModifierKeyCode::LeftControl => write!(f, "Left Ctrl"),
-            ModifierKeyCode::LeftAlt => write!(f, "Left Alt"),
-            ModifierKeyCode::LeftSuper => write!(f, "Left Super"),
-            ModifierKeyCode::LeftHyper => write!(f, "Left Hyper"),
-            ModifierKeyCode::LeftMeta => write!(f, "Left Meta"),
-            ModifierKeyCode::RightShift => write!(f, "Right Shift"),
-            ModifierKeyCode::RightControl => write!(f, "Right Ctrl"),
-            ModifierKeyCode::RightAlt => write!(f, "Right Alt"),
-            ModifierKeyCode::RightSuper => write!(f, "Right Super"),
-            ModifierKeyCode::RightHyper => write!(f, "Right Hyper"),
-            ModifierKeyCode::RightMeta => write!(f, "Right Meta"),
-            ModifierKeyCode::IsoLevel3Shift => write!(f, "Iso Level 3 Shift"),
-            ModifierKeyCode::IsoLevel5Shift => write!(f, "Iso Level 5 Shift"),
-        }
+        let name = self.name();
+        write!(f, "{name}")
     }
 }
 
@@ -60,35 +78,36 @@ impl fmt::Display for KeyCode {
     ghost output = { λ key. Some (key_name key) };
 
     fn fmt<W: fmt::Write>(&self, f: &mut fmt::Formatter<W>) -> fmt::Result {
-        match self {
-            KeyCode::Backspace => write!(f, "Backspace"),
-            KeyCode::Enter => write!(f, "Enter"),
-            KeyCode::Left => write!(f, "Left"),
-            KeyCode::Right => write!(f, "Right"),
-            KeyCode::Up => write!(f, "Up"),
-            KeyCode::Down => write!(f, "Down"),
-            KeyCode::Home => write!(f, "Home"),
-            KeyCode::End => write!(f, "End"),
-            KeyCode::PageUp => write!(f, "Page Up"),
-            KeyCode::PageDown => write!(f, "Page Down"),
-            KeyCode::Tab => write!(f, "Tab"),
-            KeyCode::BackTab => write!(f, "Back Tab"),
-            KeyCode::Delete => write!(f, "Del"),
-            KeyCode::Insert => write!(f, "Insert"),
-            KeyCode::F(n) => write!(f, "F{n}"),
-            KeyCode::Char(' ') => write!(f, "Space"),
-            KeyCode::Char(c) => write!(f, "{c}"),
-            KeyCode::Null => write!(f, "Null"),
-            KeyCode::Esc => write!(f, "Esc"),
-            KeyCode::CapsLock => write!(f, "Caps Lock"),
-            KeyCode::ScrollLock => write!(f, "Scroll Lock"),
-            KeyCode::NumLock => write!(f, "Num Lock"),
-            KeyCode::PrintScreen => write!(f, "Print Screen"),
-            KeyCode::Pause => write!(f, "Pause"),
-            KeyCode::Menu => write!(f, "Menu"),
-            KeyCode::KeypadBegin => write!(f, "Begin"),
-            KeyCode::Media(media) => write!(f, "{media}"),
-            KeyCode::Modifier(modifier) => write!(f, "{modifier}"),
-        }
+        let name = match self {
+            KeyCode::F(n) => return write!(f, "F{n}"),
+            KeyCode::Char(' ') => "Space",
+            KeyCode::Char(c) => return write!(f, "{c}"),
+            KeyCode::Media(media) => media.name(),
+            KeyCode::Modifier(modifier) => modifier.name(),
+            KeyCode::Backspace => "Backspace",
+            KeyCode::Enter => "Enter",
+            KeyCode::Left => "Left",
+            KeyCode::Right => "Right",
+            KeyCode::Up => "Up",
+            KeyCode::Down => "Down",
+            KeyCode::Home => "Home",
+            KeyCode::End => "End",
+            KeyCode::PageUp => "Page Up",
+            KeyCode::PageDown => "Page Down",
+            KeyCode::Tab => "Tab",
+            KeyCode::BackTab => "Back Tab",
+            KeyCode::Delete => "Del",
+            KeyCode::Insert => "Insert",
+            KeyCode::Null => "Null",
+            KeyCode::Esc => "Esc",
+            KeyCode::CapsLock => "Caps Lock",
+            KeyCode::ScrollLock => "Scroll Lock",
+            KeyCode::NumLock => "Num Lock",
+            KeyCode::PrintScreen => "Print Screen",
+            KeyCode::Pause => "Pause",
+            KeyCode::Menu => "Menu",
+            KeyCode::KeypadBegin => "Begin",
+        };
+        write!(f, "{name}")
     }
 }

@@ -1,17 +1,14 @@
 //! Each public call once; keys that are equal, as crossterm's own tests have them, and keys that are not.
 
-mod names;
-mod predicates;
-
-use crate::event::filter::{
+use crossterm::event::filter::{
     AnyFilter, CursorPositionFilter, EventFilter, Filter, KeyboardEnhancementFlagsFilter,
     PrimaryDeviceAttributesFilter,
 };
-use crate::event::laws::normal_form_laws;
-use crate::event::{
+use crossterm::event::{
     Event, InternalEvent, KeyCode, KeyEvent, KeyEventKind, KeyEventState, KeyModifiers,
     KeyboardEnhancementFlags,
 };
+use crossterm_types::event::laws::normal_form_laws;
 use std::cmp::Ordering;
 use std::hash::{DefaultHasher, Hash, Hasher};
 use std::test::Fail;
@@ -29,22 +26,22 @@ fn char_key(c: char, modifiers: KeyModifiers) -> KeyEvent {
 #[test]
 fn makes_keys(rt: HostRuntime) {
     let key = KeyEvent::new(KeyCode::Enter, KeyModifiers::ALT);
-    assert_eq!(rt; key.code, KeyCode::Enter);
-    assert_eq!(rt; key.modifiers, KeyModifiers::ALT);
-    assert_eq!(rt; key.kind, KeyEventKind::Press);
-    assert_eq!(rt; key.state, KeyEventState::NONE);
+    expect!(rt; key.code == KeyCode::Enter);
+    expect!(rt; key.modifiers == KeyModifiers::ALT);
+    expect!(rt; key.kind == KeyEventKind::Press);
+    expect!(rt; key.state == KeyEventState::NONE);
     let held = KeyEvent::new_with_kind(KeyCode::Esc, KeyModifiers::NONE, KeyEventKind::Repeat);
-    assert_eq!(rt; held.kind, KeyEventKind::Repeat);
+    expect!(rt; held.kind == KeyEventKind::Repeat);
     let keypad = KeyEvent::new_with_kind_and_state(
         KeyCode::Up,
         KeyModifiers::NONE,
         KeyEventKind::Release,
         KeyEventState::KEYPAD,
     );
-    assert_eq!(rt; keypad.kind, KeyEventKind::Release);
-    assert_eq!(rt; keypad.state, KeyEventState::KEYPAD);
+    expect!(rt; keypad.kind == KeyEventKind::Release);
+    expect!(rt; keypad.state == KeyEventState::KEYPAD);
     let alone: KeyEvent = KeyCode::Tab.into();
-    assert_eq!(rt; alone, KeyEvent::new(KeyCode::Tab, KeyModifiers::NONE));
+    expect!(rt; alone == KeyEvent::new(KeyCode::Tab, KeyModifiers::NONE));
     normal_form_laws();
 }
 
@@ -79,18 +76,10 @@ fn keys_compare_by_their_normal_forms(rt: HostRuntime) {
         (upper, keypad, false),
     ];
     for (a, b, equal) in pairs {
-        assert_eq!(rt; a == b, equal, "{a:?} == {b:?}");
-        assert_eq!(rt; a.cmp(&b) == Ordering::Equal, equal, "{a:?} cmp {b:?}");
-        assert_eq!(rt;
-            a.partial_cmp(&b),
-            Some(a.cmp(&b)),
-            "{a:?} partial_cmp {b:?}"
-        );
-        assert_eq!(rt;
-            hash_of(a) == hash_of(b),
-            equal,
-            "the hashes of {a:?} and {b:?}"
-        );
+        expect!(rt; (a == b) == equal);
+        expect!(rt; (a.cmp(&b) == Ordering::Equal) == equal);
+        expect!(rt; a.partial_cmp(&b) == Some(a.cmp(&b)));
+        expect!(rt; (hash_of(a) == hash_of(b)) == equal);
     }
 }
 
@@ -115,7 +104,7 @@ fn keys_are_in_order(rt: HostRuntime) {
     ];
     for pair in rising.windows(2) {
         if let [before, after] = pair {
-            assert!(rt; before < after, "{before:?} < {after:?}");
+            expect!(rt; before < after);
         }
     }
 }
@@ -158,8 +147,8 @@ fn filters_admit_their_events(rt: HostRuntime) -> Result<(), Fail> {
             AnyFilter::Flags.eval(event),
             AnyFilter::Attributes.eval(event),
         ];
-        assert_eq!(rt; alone, *admitted, "{event:?}");
-        assert_eq!(rt; by_name, *admitted, "{event:?} by name");
+        expect!(rt; alone == *admitted);
+        expect!(rt; by_name == *admitted);
     }
     Ok(())
 }
@@ -167,8 +156,8 @@ fn filters_admit_their_events(rt: HostRuntime) -> Result<(), Fail> {
 #[test]
 fn clones_events(rt: HostRuntime) -> Result<(), Fail> {
     let event: Event = Event::Paste(String::from_str(rt.alloc(), "two\nlines")?);
-    assert_eq!(rt; event.clone()?, event);
+    expect!(rt; event.clone()? == event);
     let reply = InternalEvent::Event(event);
-    assert_eq!(rt; reply.clone()?, reply);
+    expect!(rt; reply.clone()? == reply);
     Ok(())
 }

@@ -1,6 +1,6 @@
 //! What keys, mouse events and events are: each test and each accessor, over values of every variant.
 
-use crate::event::{
+use crossterm::event::{
     Event, KeyCode, KeyEvent, KeyEventKind, KeyModifiers, MediaKeyCode, ModifierKeyCode,
     MouseButton, MouseEvent, MouseEventKind,
 };
@@ -66,9 +66,9 @@ fn plain_tests(code: KeyCode) -> [bool; 23] {
 fn tests_of_plain_keys(rt: HostRuntime) {
     for (i, code) in PLAIN.iter().enumerate() {
         for (j, answer) in plain_tests(*code).into_iter().enumerate() {
-            assert_eq!(rt; answer, i == j, "{code:?}, test {j}");
+            expect!(rt; answer == (i == j));
         }
-        assert_eq!(rt; code.as_char(), None, "{code:?}");
+        expect!(rt; code.as_char() == None);
     }
 }
 
@@ -97,9 +97,9 @@ fn tests_of_other_keys(rt: HostRuntime) {
             code.is_media_key(MediaKeyCode::Play),
             code.is_modifier(ModifierKeyCode::LeftShift),
         ];
-        assert_eq!(rt; given, answers, "{code:?}");
-        assert_eq!(rt; code.as_char(), character, "{code:?}");
-        assert_eq!(rt; plain_tests(code), [false; 23], "{code:?}");
+        expect!(rt; given == answers);
+        expect!(rt; code.as_char() == character);
+        expect!(rt; plain_tests(code) == [false; 23]);
     }
 }
 
@@ -113,9 +113,9 @@ fn tests_of_kinds(rt: HostRuntime) {
     for (kind, answers) in kinds {
         let key = KeyEvent::new_with_kind(KeyCode::Enter, KeyModifiers::NONE, kind);
         let given = [kind.is_press(), kind.is_repeat(), kind.is_release()];
-        assert_eq!(rt; given, answers, "{kind:?}");
+        expect!(rt; given == answers);
         let of_key = [key.is_press(), key.is_repeat(), key.is_release()];
-        assert_eq!(rt; of_key, answers, "{key:?}");
+        expect!(rt; of_key == answers);
     }
 }
 
@@ -143,14 +143,14 @@ fn tests_of_the_mouse(rt: HostRuntime) {
             kind.is_scroll_right(),
         ];
         for (j, answer) in answers.into_iter().enumerate() {
-            assert_eq!(rt; answer, i == j, "{kind:?}, test {j}");
+            expect!(rt; answer == (i == j));
         }
     }
     let buttons = [MouseButton::Left, MouseButton::Right, MouseButton::Middle];
     for (i, button) in buttons.into_iter().enumerate() {
         let answers = [button.is_left(), button.is_right(), button.is_middle()];
         for (j, answer) in answers.into_iter().enumerate() {
-            assert_eq!(rt; answer, i == j, "{button:?}, test {j}");
+            expect!(rt; answer == (i == j));
         }
     }
 }
@@ -210,9 +210,9 @@ fn tests_of_events(rt: HostRuntime) -> Result<(), Fail> {
     for (event, held) in &events {
         let answers = event_tests(event);
         for (i, answer) in answers.into_iter().enumerate() {
-            assert_eq!(rt; answer, held.contains(&i), "{event:?}, test {i}");
+            expect!(rt; answer == held.contains(&i));
         }
-        assert!(rt; answers.ends_with(&event_parts(event)), "{event:?}");
+        expect!(rt; answers.ends_with(&event_parts(event)));
     }
     Ok(())
 }
@@ -223,17 +223,17 @@ fn parts_of_events(rt: HostRuntime) -> Result<(), Fail> {
     let repeat = key_of(KeyEventKind::Repeat);
     let release = key_of(KeyEventKind::Release);
     let pressed: Event = Event::Key(press);
-    assert_eq!(rt; pressed.as_key_event(), Some(press));
-    assert_eq!(rt; pressed.as_key_press_event(), Some(press));
+    expect!(rt; pressed.as_key_event() == Some(press));
+    expect!(rt; pressed.as_key_press_event() == Some(press));
     let repeated: Event = Event::Key(repeat);
-    assert_eq!(rt; repeated.as_key_repeat_event(), Some(repeat));
+    expect!(rt; repeated.as_key_repeat_event() == Some(repeat));
     let released: Event = Event::Key(release);
-    assert_eq!(rt; released.as_key_release_event(), Some(release));
+    expect!(rt; released.as_key_release_event() == Some(release));
     let moved: Event = Event::Mouse(MOVED);
-    assert_eq!(rt; moved.as_mouse_event(), Some(MOVED));
+    expect!(rt; moved.as_mouse_event() == Some(MOVED));
     let pasted: Event = Event::Paste(String::from_str(rt.alloc(), "text")?);
-    assert_eq!(rt; pasted.as_paste_event(), Some("text"));
+    expect!(rt; pasted.as_paste_event() == Some("text"));
     let resized: Event = Event::Resize(80, 24);
-    assert_eq!(rt; resized.as_resize_event(), Some((80, 24)));
+    expect!(rt; resized.as_resize_event() == Some((80, 24)));
     Ok(())
 }

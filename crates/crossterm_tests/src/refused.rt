@@ -1,20 +1,8 @@
-//! Sequences without a greatest length, and memory that is refused.
+//! A parser whose memory is refused.
 
-use crate::tests::{played, repeat};
 use crossterm::event::sys::unix::parse::Parser;
 use linked_list_allocator::LocalHeap;
 use std::test::Fail;
-
-#[test]
-fn zeros_before_a_number_have_no_end(rt: HostRuntime) -> Result<(), Fail> {
-    let mut input = Vec::new(rt.alloc());
-    input.extend_from_slice(b"piece 1b5b")?;
-    repeat(&mut input, "30", 100_000)?;
-    input.extend_from_slice(b"357e\nread event 99\n")?;
-    let output = played(rt.alloc(), input.as_slice())?;
-    assert!(rt; output.as_slice() == b"key PageUp 0 Press 0\n".as_slice());
-    Ok(())
-}
 
 #[test]
 fn an_endless_sequence_takes_no_memory(rt: HostRuntime) -> Result<(), Fail> {
@@ -27,12 +15,12 @@ fn an_endless_sequence_takes_no_memory(rt: HostRuntime) -> Result<(), Fail> {
     // A heap with no room for an event: each allocation is refused.
     let heap = LocalHeap::new(rt.alloc(), 16)?;
     let mut parser = Parser::new(&heap);
-    assert_eq!(rt; parser.advance(bytes.as_slice(), false, false), 1_000_004);
-    assert!(rt; parser.next().is_none());
-    assert!(rt; !parser.is_undecided());
-    assert!(rt; parser.reserve(1).is_err());
-    assert_eq!(rt; parser.advance(b"abc", false, false), 0);
-    assert_eq!(rt; parser.advance(b"\x1b[", false, false), 2);
+    expect!(rt; parser.advance(bytes.as_slice(), false, false) == 1_000_004);
+    expect!(rt; parser.next().is_none());
+    expect!(rt; !parser.is_undecided());
+    expect!(rt; parser.reserve(1).is_err());
+    expect!(rt; parser.advance(b"abc", false, false) == 0);
+    expect!(rt; parser.advance(b"\x1b[", false, false) == 2);
     Ok(())
 }
 
@@ -52,10 +40,10 @@ fn what_was_reserved_is_taken(rt: HostRuntime) -> Result<(), Fail> {
             }
         }
     }
-    assert_eq!(rt; parser.advance(b"abc", false, false), 3);
+    expect!(rt; parser.advance(b"abc", false, false) == 3);
     for _ in 0..3u32 {
-        assert!(rt; parser.next().is_some());
+        expect!(rt; parser.next().is_some());
     }
-    assert!(rt; parser.next().is_none());
+    expect!(rt; parser.next().is_none());
     Ok(())
 }

@@ -1,6 +1,6 @@
 //! The names of all keys, as crossterm's own tests have them.
 
-use crate::event::{KeyCode, MediaKeyCode, ModifierKeyCode};
+use crossterm::event::{KeyCode, MediaKeyCode, ModifierKeyCode};
 use std::test::Fail;
 
 /// Keys and their names.
@@ -89,13 +89,13 @@ const NAMES: [(KeyCode, &str); 57] = [
 fn shows_names(rt: HostRuntime) -> Result<(), Fail> {
     for (code, name) in &NAMES {
         let shown = code.to_string(rt.alloc())?;
-        assert_eq!(rt; shown.as_str(), *name, "{code:?}");
+        expect!(rt; shown.as_str() == *name, name);
         let alone = match code {
             KeyCode::Media(media) => media.to_string(rt.alloc())?,
             KeyCode::Modifier(modifier) => modifier.to_string(rt.alloc())?,
             _ => continue,
         };
-        assert_eq!(rt; alone.as_str(), *name, "{code:?} alone");
+        expect!(rt; alone.as_str() == *name, name);
     }
     Ok(())
 }
