@@ -4,6 +4,5 @@ pub mod GrammarLaws
 pub mod Letters
 pub mod MachineLaws
 pub mod NumberLaws
-pub mod PlainLaws
 pub mod StandingLaws
 pub mod Utf8Laws

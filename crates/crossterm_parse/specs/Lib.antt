@@ -8,6 +8,5 @@ pub mod Marked
 pub mod Meaning
 pub mod Number
 pub mod Numbered
-pub mod Plain
 pub mod Standing
 pub mod Utf8

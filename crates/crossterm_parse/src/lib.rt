@@ -30,6 +30,5 @@ mod modifier_field;
 mod number;
 mod numbered;
 pub mod parse;
-pub mod plain;
 mod state;
 mod utf8;

@@ -1,7 +1,10 @@
-//! Tests of the crates below `crossterm`, by their public calls: each call once, and tables that come from outside.
+//! Tests of the crates below `crossterm`, by their public calls: each call once, and tables that come from outside. Beside them stands the
+//! slow program of the grammar's definitions (`plain`), which the parser is compared with.
 //!
 //! They stand here, in a crate of their own, since a crate with tests is proved twice.
 #![tactic(auto)]
+
+pub mod plain;
 
 /// Fails the test where something doesn't hold, and says what.
 #[cfg(test)]

@@ -1,8 +1,8 @@
 //! The parser beside the slow program of the definitions, and its calls at a concrete type.
 
+use crate::plain::divide;
 use crossterm::event::sys::unix::marked::Marked;
 use crossterm::event::sys::unix::parse::Parser;
-use crossterm::event::sys::unix::plain::divide;
 use crossterm::event::{Event, InternalEvent, KeyCode, KeyEvent, KeyModifiers};
 use std::alloc::{AllocError, Global};
 use std::test::Fail;
@@ -36,27 +36,40 @@ fn give_all(parser: &mut Parser, events: &mut Vec<InternalEvent>) -> Result<(), 
     Ok(())
 }
 
-/// Whether the parser gives the events of the definitions' division, and knows whether bytes are left over.
+/// The events of the bytes one by one, or nothing where the parser isn't between two sequences exactly where the definitions say so.
+fn one_by_one(alloc: Global, bytes: &[Marked]) -> Result<Option<Vec<InternalEvent>>, AllocError> {
+    let mut parser = Parser::new(alloc);
+    let mut lengths = divide(alloc, bytes)?.into_iter();
+    let mut length = lengths.next();
+    let mut open: usize = 0;
+    for marked in bytes {
+        parser.advance(&[marked.byte], !marked.pause, marked.raw);
+        open = open.saturating_add(1);
+        let ends = length == Some(open);
+        if parser.is_undecided() == ends {
+            return Ok(None);
+        }
+        if ends {
+            open = 0;
+            length = lengths.next();
+        }
+    }
+    let mut events = Vec::new(alloc);
+    give_all(&mut parser, &mut events)?;
+    Ok(Some(events))
+}
+
+/// Whether the parser divides the pieces as defined, and gives the same events for them as for their bytes one by one.
 fn agrees(alloc: Global, pieces: &[Piece<'_>]) -> Result<bool, AllocError> {
     let mut parser = Parser::new(alloc);
-    let mut events = Vec::new(alloc);
     let mut bytes = Vec::new(alloc);
     for piece in pieces {
-        if parser.advance(piece.0, piece.1, piece.2) < piece.0.len() {
-            return Ok(false);
-        }
+        parser.advance(piece.0, piece.1, piece.2);
         mark(&mut bytes, piece)?;
     }
+    let mut events = Vec::new(alloc);
     give_all(&mut parser, &mut events)?;
-    let found = divide(alloc, bytes.as_slice())?;
-    let divided: usize = found
-        .lengths
-        .iter()
-        .fold(0, |a: usize, n| a.saturating_add(*n));
-    Ok(
-        events.as_slice() == found.events.as_slice()
-            && parser.is_undecided() == (divided < bytes.len()),
-    )
+    Ok(one_by_one(alloc, bytes.as_slice())? == Some(events))
 }
 
 /// The same, and that memory was there.

@@ -4,7 +4,8 @@ use crate::tests::{expect, played};
 use std::alloc::{AllocError, Global};
 use std::test::Fail;
 
-const ROWS: [(&str, &str); 185] = [
+/// The final `~`: keys by their number.
+const TILDES: [(&str, &str); 38] = [
     ("[1~", "key Home 0 Press 0"),
     ("[2~", "key Insert 0 Press 0"),
     ("[3~", "key Delete 0 Press 0"),
@@ -43,6 +44,10 @@ const ROWS: [(&str, &str); 185] = [
     ("[35~", "none"),
     ("[255~", "none"),
     ("[257~", "none"),
+];
+
+/// Functional keys and the keypad by their code points.
+const FUNCTIONAL: [(&str, &str); 59] = [
     ("[57358u", "key CapsLock 0 Press 0"),
     ("[57359u", "key ScrollLock 0 Press 0"),
     ("[57360u", "key NumLock 0 Press 0"),
@@ -101,6 +106,11 @@ const ROWS: [(&str, &str); 185] = [
     ("[57425u", "key Insert 0 Press 1"),
     ("[57426u", "key Delete 0 Press 1"),
     ("[57427u", "key KeypadBegin 0 Press 1"),
+    ("[57364u", "key Char:e014 0 Press 0"),
+];
+
+/// Media and modifier keys by their code points.
+const MEDIA_AND_MODIFIERS: [(&str, &str); 27] = [
     ("[57428u", "key Media:Play 0 Press 0"),
     ("[57429u", "key Media:Pause 0 Press 0"),
     ("[57430u", "key Media:PlayPause 0 Press 0"),
@@ -128,6 +138,10 @@ const ROWS: [(&str, &str); 185] = [
     ("[57452u", "key Modifier:RightMeta 32 Press 0"),
     ("[57453u", "key Modifier:IsoLevel3Shift 0 Press 0"),
     ("[57454u", "key Modifier:IsoLevel5Shift 0 Press 0"),
+];
+
+/// Other code points, modifiers and alternates of the final `u`.
+const CODE_POINTS: [(&str, &str); 16] = [
     ("[27u", "key Esc 0 Press 0"),
     ("[13u", "key Enter 0 Press 0"),
     ("[127u", "key Backspace 0 Press 0"),
@@ -136,7 +150,6 @@ const ROWS: [(&str, &str); 185] = [
     ("[9;2u", "key BackTab 1 Press 0"),
     ("[97u", "key Char:61 0 Press 0"),
     ("[65u", "key Char:41 0 Press 0"),
-    ("[57364u", "key Char:e014 0 Press 0"),
     ("[57455u", "key Char:e06f 0 Press 0"),
     ("[1114112u", "none"),
     ("[55296u", "none"),
@@ -145,6 +158,10 @@ const ROWS: [(&str, &str); 185] = [
     ("[57399;129u", "key Char:30 0 Press 5"),
     ("[57441:65u", "key Char:41 0 Press 0"),
     ("[97:65u", "key Char:61 0 Press 0"),
+];
+
+/// The modifier field.
+const MODIFIER_FIELDS: [(&str, &str); 22] = [
     ("[3;1~", "key Delete 0 Press 0"),
     ("[3;2~", "key Delete 1 Press 0"),
     ("[3;3~", "key Delete 4 Press 0"),
@@ -167,6 +184,10 @@ const ROWS: [(&str, &str); 185] = [
     ("[3;2;5~", "key Delete 1 Press 0"),
     ("[3;2:3:9~", "key Delete 1 Release 0"),
     ("[3;2:256~", "key Delete 1 Press 0"),
+];
+
+/// Final letters, and the fallback of their modifiers.
+const LETTERS: [(&str, &str); 23] = [
     ("[1;2A", "key Up 1 Press 0"),
     ("[1;2B", "key Down 1 Press 0"),
     ("[1;2C", "key Right 1 Press 0"),
@@ -199,13 +220,58 @@ fn read_after_escape(alloc: Global, text: &str) -> Result<Vec<u8>, AllocError> {
     Ok(lines.into_bytes())
 }
 
+/// Whether what is printed of ESC and a text is this line.
+fn is_read_as(alloc: Global, text: &str, want: &str) -> Result<bool, Fail> {
+    let input = read_after_escape(alloc, text)?;
+    let output = played(alloc, input.as_slice())?;
+    let line = format!(in alloc; "{want}\n")?;
+    Ok(output.as_slice() == line.as_bytes())
+}
+
 #[test]
-fn numbered_sequences_give_their_keys(rt: HostRuntime) -> Result<(), Fail> {
-    for (text, want) in &ROWS {
-        let input = read_after_escape(rt.alloc(), text)?;
-        let output = played(rt.alloc(), input.as_slice())?;
-        let line = format!(in rt.alloc(); "{want}\n")?;
-        expect(&rt, output.as_slice() == line.as_bytes(), text);
+fn keys_by_number(rt: HostRuntime) -> Result<(), Fail> {
+    for (text, want) in &TILDES {
+        expect(&rt, is_read_as(rt.alloc(), text, want)?, text);
+    }
+    Ok(())
+}
+
+#[test]
+fn functional_keys(rt: HostRuntime) -> Result<(), Fail> {
+    for (text, want) in &FUNCTIONAL {
+        expect(&rt, is_read_as(rt.alloc(), text, want)?, text);
+    }
+    Ok(())
+}
+
+#[test]
+fn media_and_modifier_keys(rt: HostRuntime) -> Result<(), Fail> {
+    for (text, want) in &MEDIA_AND_MODIFIERS {
+        expect(&rt, is_read_as(rt.alloc(), text, want)?, text);
+    }
+    Ok(())
+}
+
+#[test]
+fn keys_by_code_point(rt: HostRuntime) -> Result<(), Fail> {
+    for (text, want) in &CODE_POINTS {
+        expect(&rt, is_read_as(rt.alloc(), text, want)?, text);
+    }
+    Ok(())
+}
+
+#[test]
+fn modifier_fields(rt: HostRuntime) -> Result<(), Fail> {
+    for (text, want) in &MODIFIER_FIELDS {
+        expect(&rt, is_read_as(rt.alloc(), text, want)?, text);
+    }
+    Ok(())
+}
+
+#[test]
+fn keys_by_letter(rt: HostRuntime) -> Result<(), Fail> {
+    for (text, want) in &LETTERS {
+        expect(&rt, is_read_as(rt.alloc(), text, want)?, text);
     }
     Ok(())
 }

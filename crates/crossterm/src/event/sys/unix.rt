@@ -1,3 +1,3 @@
 //! Unix terminals.
 
-pub use crossterm_parse::{laws, marked, parse, plain};
+pub use crossterm_parse::{laws, marked, parse};

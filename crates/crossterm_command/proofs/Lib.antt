@@ -1,0 +1,5 @@
+pub mod Handing
+pub mod Readings
+pub mod Taking
+pub mod Texts
+pub mod TokenLaws

@@ -1,0 +1,20 @@
+-- Why a command was stopped, and what was written where it was.
+use Rattle.std.specs.Prelude.{◌≡◌, ℕ, List, Option}
+use Rattle.std.specs.declared.io.Error.{Error}
+use Rattle.std.specs.declared.io.ErrorKind.TheVariants as kind
+use Rattle.std.specs.IoError.{error_kind}
+use Rattle.crossterm_command.specs.Writing.{AppendsFrontOfText}
+use Rattle.crossterm_command.specs.declared.fault.CommandFault.{CommandFault}
+use Rattle.crossterm_command.specs.declared.fault.CommandFault.TheVariants.{Writer, Text, Both}
+
+-- The error that stands for it: the writer's own where it alone failed, else one of kind `Other`.
+abbrev pub Answers : CommandFault → Error → Type 0
+Answers (Writer e) answer = answer ≡ e
+Answers Text answer = error_kind answer ≡ kind.Other
+Answers (Both e) answer = error_kind answer ≡ kind.Other
+
+-- Where the writer alone failed, known bytes grew by a beginning of the text. Else the command failed by itself.
+abbrev pub Stopped : CommandFault → Option (List ℕ) → Type 0 → Option (List ℕ) → Option (List ℕ) → Type 0
+Stopped (Writer e) text failed old new = AppendsFrontOfText old new text
+Stopped Text text failed old new = failed
+Stopped (Both e) text failed old new = failed

@@ -1,0 +1,29 @@
+-- What a writer's bytes grow by, where they are known.
+use Rattle.std.specs.Prelude.{◌≡◌, ◌≢◌, ℕ, List, ◌++◌, Option, Some, None, IfSome, ◌⊎◌}
+use Rattle.std.specs.declared.io.ErrorKind.{ErrorKind}
+use Rattle.std.specs.declared.io.ErrorKind.TheVariants.{Other}
+use Rattle.std.specs.Io.KnownBytes.{Appends, Keeps}
+
+-- Known bytes grow by the text, where there is one.
+abbrev pub AppendsText : Option (List ℕ) → Option (List ℕ) → Option (List ℕ) → Type 0
+AppendsText old new text = IfSome text (Appends old new)
+
+-- Known bytes grow by a beginning of the text.
+abbrev pub AppendsFront : Option (List ℕ) → Option (List ℕ) → List ℕ → Type 0
+AppendsFront old new text = (front : List ℕ) × (rest : List ℕ) × (text ≡ front ++ rest) × Appends old new front
+
+-- Known bytes grow by a beginning of the text, where there is one.
+abbrev pub AppendsFrontOfText : Option (List ℕ) → Option (List ℕ) → Option (List ℕ) → Type 0
+AppendsFrontOfText old new text = IfSome text (AppendsFront old new)
+
+-- A command was stopped with an error of this kind: known bytes grew by a beginning of its text, or it failed by itself, which is of kind `Other`.
+pub record Stops (kind : ErrorKind) (text : Option (List ℕ)) (failed : Type 0) (old new : Option (List ℕ)) : Type 0 where
+  pub front : kind ≢ Other → AppendsFrontOfText old new text
+  pub cause : AppendsFrontOfText old new text ⊎ failed
+
+-- A text is offered to a writer that drops what comes after its first fault: by whether there was a fault before and after.
+abbrev pub Takes : {E : Type 0} → Option (List ℕ) → Option E → List ℕ → Option (List ℕ) → Option E → Type 0
+Takes old None text new None = Appends old new text
+Takes old None text new (Some e) = AppendsFront old new text
+Takes old (Some e) text new None = ⊥
+Takes old (Some e) text new (Some f) = Keeps old new

@@ -1,0 +1,103 @@
+//! Commands on every writer.
+ghost use Rattle.std.specs.Prelude.{◌≡◌, IfOk, OnOk, IfErr};
+ghost use Rattle.std.specs.IoError.{error_kind};
+ghost use Rattle.std.specs.Borrow.{sem, RestsIfErr};
+ghost use Rattle.crossterm_command.specs.Writing.{AppendsText, Stops};
+
+use crate::{ColorOutput, Command, write_command};
+use std::io;
+
+/// Writes a command's text: `queue` where the writer isn't to be handed back.
+///
+/// The error is the writer's own where it alone failed, else of kind `Other`.
+pub fn queue_command<W: io::Write, C: Command + Drop>(
+    writer: &mut W,
+    colors: ColorOutput,
+    command: C,
+) -> io::Result<()>
+    ensures ok { OnOk result (AppendsText (W.contents writer.old) (W.contents writer.new) (C.text command colors)) }
+    ensures err { IfErr result (λ e. Stops (error_kind e) (C.text command colors) (C.fails command colors)
+        (W.contents writer.old) (W.contents writer.new)) }
+{
+    match write_command(writer, colors, &command) {
+        Ok(()) => Ok(()),
+        Err(fault) => Err(io::Error::from(fault)),
+    }
+}
+
+/// Writes a command's text and flushes: `execute` where the writer isn't to be handed back.
+///
+/// The error is the writer's own where it alone failed, else of kind `Other`. Where only the flush failed the whole text was written.
+pub fn execute_command<W: io::Write, C: Command + Drop>(
+    writer: &mut W,
+    colors: ColorOutput,
+    command: C,
+) -> io::Result<()>
+    ensures ok { OnOk result (AppendsText (W.contents writer.old) (W.contents writer.new) (C.text command colors)) }
+    ensures err { IfErr result (λ e. Stops (error_kind e) (C.text command colors) (C.fails command colors)
+        (W.contents writer.old) (W.contents writer.new)) }
+{
+    match queue_command(writer, colors, command) {
+        Ok(()) => writer.flush(),
+        Err(e) => Err(e),
+    }
+}
+
+/// Writes commands on a writer.
+pub trait QueueableCommand: io::Write {
+    /// Writes a command's text, and gives the writer back.
+    ///
+    /// A write that is interrupted is tried again, at most 64 times in a row. The error is the writer's own where it alone failed
+    /// (`WriteZero` where it took 0 bytes), and then a beginning of the text was written. It is of kind `Other` where the command failed by itself.
+    fn queue<C: Command + Drop>(&mut self, colors: ColorOutput, command: C) -> io::Result<&mut Self>
+    where
+        Self: Sized,
+        ensures* err { sem 𝓛 (RestsIfErr Self.row self.entry (λ w. w.ghost_name) result (λ last. IfErr result (λ e.
+            Stops (error_kind e) (C.text command colors) (C.fails command colors) (Self.contents self.old) (Self.contents last)))) }
+        ensures same { IfOk result (λ w. w.ghost_name ≡ self.entry.ghost_name) }
+        ensures ok { IfOk result (λ w. AppendsText (Self.contents self.old) (Self.contents w.now) (C.text command colors)) };
+}
+
+impl<W: io::Write> QueueableCommand for W {
+    fn queue<C: Command + Drop>(
+        &mut self,
+        colors: ColorOutput,
+        command: C,
+    ) -> io::Result<&mut Self> {
+        match queue_command(self, colors, command) {
+            Ok(()) => Ok(self),
+            Err(e) => Err(e),
+        }
+    }
+}
+
+/// Writes commands on a writer, and flushes it.
+pub trait ExecutableCommand: io::Write {
+    /// Writes a command's text, flushes, and gives the writer back.
+    ///
+    /// The error is that of `queue`, or the flush's, and then the whole text was written.
+    fn execute<C: Command + Drop>(
+        &mut self,
+        colors: ColorOutput,
+        command: C,
+    ) -> io::Result<&mut Self>
+    where
+        Self: Sized,
+        ensures* err { sem 𝓛 (RestsIfErr Self.row self.entry (λ w. w.ghost_name) result (λ last. IfErr result (λ e.
+            Stops (error_kind e) (C.text command colors) (C.fails command colors) (Self.contents self.old) (Self.contents last)))) }
+        ensures same { IfOk result (λ w. w.ghost_name ≡ self.entry.ghost_name) }
+        ensures ok { IfOk result (λ w. AppendsText (Self.contents self.old) (Self.contents w.now) (C.text command colors)) };
+}
+
+impl<W: io::Write> ExecutableCommand for W {
+    fn execute<C: Command + Drop>(
+        &mut self,
+        colors: ColorOutput,
+        command: C,
+    ) -> io::Result<&mut Self> {
+        match execute_command(self, colors, command) {
+            Ok(()) => Ok(self),
+            Err(e) => Err(e),
+        }
+    }
+}

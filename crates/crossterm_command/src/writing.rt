@@ -1,0 +1,78 @@
+//! From a command's text to a writer.
+ghost use Rattle.std.specs.Prelude.{◌≡◌, OnOk, OnErr, IfErr};
+ghost use Rattle.std.specs.Io.KnownBytes.{Appends};
+ghost use Rattle.crossterm_command.specs.Writing.{AppendsFront, AppendsText, Takes};
+ghost use Rattle.crossterm_command.specs.Faults.{Stopped};
+
+use crate::tries::Tries;
+use crate::{ColorOutput, Command, CommandFault};
+use std::io::ErrorKind;
+use std::{fmt, io};
+
+/// Writes all the bytes, however few a call takes. An interrupted write is tried again at most 64 times in a row; a write that takes 0 bytes
+/// is `WriteZero`. At an error the bytes that were written are a beginning.
+pub(crate) fn write_bytes<W: io::Write>(writer: &mut W, bytes: &[u8]) -> io::Result<()>
+    ensures ok { OnOk result (Appends (W.contents writer.old) (W.contents writer.new) bytes.now) }
+    ensures err { OnErr result (AppendsFront (W.contents writer.old) (W.contents writer.new) bytes.now) }
+{
+    let mut rest = bytes;
+    let mut tries = Tries::new();
+    while !rest.is_empty() {
+        match writer.write(rest) {
+            Ok(0) => return Err(io::Error::from(ErrorKind::WriteZero)),
+            Ok(n) => {
+                rest = &rest[n..];
+                tries = Tries::new();
+            }
+            Err(e) => {
+                if !tries.take(&e) {
+                    return Err(e);
+                }
+            }
+        }
+    }
+    Ok(())
+}
+
+/// A writer that keeps its first fault, and drops the text that comes after it.
+struct Adapter<'a, W> {
+    inner: &'a mut W,
+    fault: Option<io::Error>,
+}
+
+impl<W: io::Write> fmt::Write for Adapter<'_, W> {
+    ghost write_str_gives = { λ s bs t. (t.inner.ghost_name ≡ s.inner.ghost_name)
+        × Takes (W.contents s.inner.now) s.fault bs (W.contents t.inner.now) t.fault };
+
+    fn write_str(&mut self, s: &str) -> fmt::Result {
+        if self.fault.is_none() {
+            self.fault = write_bytes(self.inner, s.as_bytes()).err();
+        }
+        Ok(())
+    }
+}
+
+/// Writes a command's text as it comes, without a copy and without memory: `queue` with an error that tells who failed.
+pub fn write_command<W: io::Write, C: Command>(
+    writer: &mut W,
+    colors: ColorOutput,
+    command: &C,
+) -> Result<(), CommandFault>
+    ensures ok { OnOk result (AppendsText (W.contents writer.old) (W.contents writer.new) (C.text command.now colors)) }
+    ensures err { IfErr result (λ fault. Stopped fault (C.text command.now colors) (C.fails command.now colors)
+        (W.contents writer.old) (W.contents writer.new)) }
+{
+    let mut adapter = Adapter {
+        inner: writer,
+        fault: None,
+    };
+    let result = command.write_ansi(&mut adapter, colors);
+    let Adapter { inner, fault } = adapter;
+    let _ = &*inner;
+    match (result, fault) {
+        (Ok(()), None) => Ok(()),
+        (Ok(()), Some(e)) => Err(CommandFault::Writer(e)),
+        (Err(fmt::Error), None) => Err(CommandFault::Text),
+        (Err(fmt::Error), Some(e)) => Err(CommandFault::Both(e)),
+    }
+}

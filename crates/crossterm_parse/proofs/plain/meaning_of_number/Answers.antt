@@ -1,9 +1,0 @@
-use Rattle.std.proofs.Common.{◌∙◌, arith, refl}
-use Rattle.crossterm_parse.proofs.PlainLaws.{number_next, number_over}
-use Rattle.crossterm_parse.proofs.plain.meaning_of_number.Goals as goal
-
-pub loop-byte-preserved : goal.loop-byte-preserved
-loop-byte-preserved c = number_next c.loop-byte.digits c.read.new.self c.args.text.now c.loop-byte.byte-index _ (omega arith) refl c.read.ensures c.loop-byte.invariant
-
-pub returns : goal.returns
-returns c = c.meaning.ensures ∙ number_over c.loop-byte.digits c.args.text.now c.loop-byte.byte-index c.args.last c.args.raw (omega arith) c.loop-byte.invariant
