@@ -1,6 +1,6 @@
 -- The fields of a text that grows byte by byte.
 use Rattle.std.proofs.Common.{◌≡◌, ◌==◌, ℕ, Bool, true, false, cond, List, [], ◌∷◌, ◌++◌, refl, ap, sym, ◌∙◌, subst, Option, option_and_then}
-use Rattle.crossterm_parse.specs.Fields.{push_first, cut, nth, field_number, part_number, empty_field, parts_at, field_after, fields_at, fields_after, ReadsParts, ReadsField, ReadsFields}
+use Rattle.crossterm_parse.specs.Fields.{push_first, cut, nth, empty_field, parts_at, field_after, fields_at, fields_after, ReadsParts, ReadsField, ReadsFields}
 use Rattle.crossterm_parse.specs.Number.{number, number_after, reading}
 use Rattle.crossterm_parse.specs.declared.fields.Field.{Field}
 use Rattle.crossterm_parse.specs.declared.fields.Fields.{Fields}

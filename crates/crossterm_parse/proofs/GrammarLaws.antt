@@ -1,19 +1,16 @@
 -- The tests of the grammar say what its definitions say, and no whole sequence begins another.
-use Rattle.std.proofs.Common.{◌≡◌, ◌≢◌, ◌==◌, ◌⊎◌, inl, inr, ℕ, Bool, true, false, cond, ◌&&◌, ◌||◌, List, [], ◌∷◌, ◌++◌, refl, ap, sym, ◌∙◌, arith, length, ◌<◌, zero, suc, subst, drop}
+use Rattle.std.proofs.Common.{◌≡◌, ◌≢◌, ◌==◌, ◌⊎◌, inl, inr, ℕ, Bool, true, false, cond, ◌&&◌, ◌||◌, List, [], ◌∷◌, ◌++◌, refl, ap, sym, ◌∙◌, arith, length, ◌<◌, zero, suc, subst, drop, append_assoc}
 use Rattle.std.specs.Prelude.{nat_le}
 use Rattle.std.proofs.lemmas.Bool.{false≢true, cases_Bool, eq-eqb, eqb-true}
 use Rattle.std.proofs.lemmas.Bool.Decides.{nat_tests, eqb_tells}
 use Rattle.std.specs.List.{AllByRecursion}
 use Rattle.crossterm_parse.specs.Marked.{Marked, bytes_of}
-use Rattle.crossterm_parse.specs.Deciding.{is_nil, is_one, is_digit, is_final, ends_numbered, ends_reply, ends_private, ends_csi, is_lead, is_continuing, further_after, ends_character, is_character, ends_escape, is_shape, is_whole, begins}
+use Rattle.crossterm_parse.specs.Deciding.{is_nil, is_one, is_three, is_digit, is_final, is_reply_end, is_mouse_end, ends_numbered, ends_reply, ends_mouse, ends_private, ends_paste, ends_digit, ends_csi, is_lead, is_continuing, further_after, ends_character, is_character, ends_escape, is_shape, is_whole, begins}
 use Rattle.crossterm_parse.specs.Grammar as grammar
-use Rattle.crossterm_parse.specs.Grammar.{IsDigit, IsFinal, IsAlone, EndsNoReply, HasNoEnd, EndsReply, IsLead, IsContinuing, continuing_after, CharacterShape, single, broken, Shape, text, two_escapes, with_escape, after_ss3, after_csi, after_bracket, reply, numbered, BeginsPaused, Whole, key, sequence}
+use Rattle.crossterm_parse.specs.Grammar.{IsDigit, IsFinal, IsAlone, EndsNoMouse, EndsNoReply, HasNoEnd, EndsReply, IsLead, IsContinuing, continuing_after, CharacterShape, single, broken, Shape, text, two_escapes, with_escape, after_ss3, after_csi, after_bracket, coded, mouse, reply, numbered, paste, paste_mark, paste_start, paste_end, BeginsPaused, Whole, key, sequence}
 use Rattle.crossterm_parse.specs.Division.{NoneBeginsAnother}
-
--- which way a test went
-pub chosen : {A : Type 0} (b : Bool) (x y z : A) → cond b x y ≡ z → ((b ≡ true) × (x ≡ z)) ⊎ ((b ≡ false) × (y ≡ z))
-chosen true x y z e = inl (refl, e)
-chosen false x y z e = inr (refl, e)
+use Rattle.crossterm_parse.proofs.PasteLaws.{and_parts, begins_is, begins_from, paste_true, Pasted, true_paste, not_mark}
+use Rattle.crossterm_parse.proofs.EndLaws.{chosen, true_nil, Tells, ended, Ends, true_ends, Closes, nil_closes, choice_closes, ends_close}
 
 pub digit_true : (b : ℕ) → IsDigit b → is_digit b ≡ true
 digit_true b h = grind (arith, nat_tests)
@@ -39,36 +36,8 @@ false_final b h = grind (arith, nat_tests)
 pub not_final : (b : ℕ) → is_final b ≡ false → ¬ IsFinal b
 not_final b h = grind (arith, nat_tests)
 
-pub numbered_true : (w : List ℕ) (f : ℕ) → AllByRecursion (λ b. ¬ IsFinal b) w → IsFinal f → ends_numbered (w ++ f ∷ []) ≡ true
-numbered_true [] f h l = rw (final_true f l)
-numbered_true (b ∷ w) f h l = rw (false_final b h.0, numbered_true w f h.1 l)
-
-true_nil : (bs : List ℕ) → is_nil bs ≡ true → bs ≡ []
-true_nil [] h = refl
-true_nil (b ∷ bs) h = absurd (false≢true h)
-
-begins_append : (p rest : List ℕ) → begins p (p ++ rest) ≡ true
-begins_append [] rest = refl
-begins_append (b ∷ p) rest = rw (begins_append p rest) (eq-eqb b b refl)
-
-and_parts : (s t : Bool) → s && t ≡ true → (s ≡ true) × (t ≡ true)
-and_parts true t h = (refl, h)
-and_parts false t h = absurd (false≢true h)
-
-pub begins_is : (p bs : List ℕ) → begins p bs ≡ true → bs ≡ p ++ drop (length p) bs
-begins_is [] bs h = refl
-begins_is (q ∷ p) [] h = absurd (false≢true h)
-begins_is (q ∷ p) (b ∷ bs) h =
-    let w = and_parts (begins p bs) (b == q) h in
-    let head : b ≡ q = eqb-true b q w.1 in
-    let tail : bs ≡ p ++ drop (length p) bs = begins_is p bs w.0 in
-    cc
-
-pub begins_from : (p bs rest : List ℕ) → bs ≡ p ++ rest → begins p bs ≡ true
-begins_from p bs rest e = rw e (begins_append p rest)
-
-nil_true : (bs : List ℕ) → bs ≡ [] → is_nil bs ≡ true
-nil_true bs e = rw e
+pub final_tells : Tells (λ b. ¬ IsFinal b) is_final
+final_tells = record { fails = false_final; none = not_final }
 
 lead_true : (b : ℕ) → IsLead b → is_lead b ≡ true
 lead_true b h = grind (arith, nat_tests)
@@ -130,33 +99,75 @@ as_shape (b ∷ bs) c = rw (not_escape b bs c) (character_true (b ∷ bs) c)
 
 -- a byte after `ESC [` that doesn't ask for more
 alone_true : (b : ℕ) → IsAlone b → ends_csi (b ∷ []) ≡ true
-alone_true b (n, m, d) =
+alone_true b (n, m, k, l, d) =
     let s : (b == 91) ≡ false = grind (arith, nat_tests) in
-    let t : (b == 63) ≡ false = grind (arith, nat_tests) in
-    rw (s, t, false_digit b d)
+    let t : (b == 77) ≡ false = grind (arith, nat_tests) in
+    let u : (b == 60) ≡ false = grind (arith, nat_tests) in
+    let v : (b == 63) ≡ false = grind (arith, nat_tests) in
+    rw (s, t, u, v, false_digit b d)
 
-digit_csi : (d : ℕ) (bs : List ℕ) → IsDigit d → ends_csi (d ∷ bs) ≡ ends_numbered bs
-digit_csi d bs h =
-    let s : (d == 91) ≡ false = grind (arith, nat_tests) in
-    let t : (d == 63) ≡ false = grind (arith, nat_tests) in
-    rw (s, t, digit_true d h)
+-- a digit is none of the bytes that `ESC [` chooses by
+pub digit_apart : (d : ℕ) → IsDigit d → ((d == 91) ≡ false) × ((d == 77) ≡ false) × ((d == 60) ≡ false) × ((d == 63) ≡ false) × (is_digit d ≡ true)
+digit_apart d h = (grind (arith, nat_tests), grind (arith, nat_tests), grind (arith, nat_tests), grind (arith, nat_tests), digit_true d h)
 
-pub no_reply : (b : ℕ) → EndsNoReply b → (b == 99 || b == 117) ≡ false
-no_reply b (n, m) =
+digit_csi : (d : ℕ) (bs : List ℕ) → IsDigit d → ends_csi (d ∷ bs) ≡ ends_digit (d ∷ bs)
+digit_csi d bs h = let t = digit_apart d h in rw (t.0, t.1, t.2, t.3, t.4)
+
+pub no_reply : (b : ℕ) → EndsNoReply b → is_reply_end b ≡ false
+no_reply b h =
+    let n = h.0 in
+    let m = h.1 in
     let s : (b == 99) ≡ false = grind (arith, nat_tests) in
     let t : (b == 117) ≡ false = grind (arith, nat_tests) in
     rw (s, t)
 
-pub reply_true : (w : List ℕ) (f : ℕ) → AllByRecursion EndsNoReply w → (f ≡ 99) ⊎ (f ≡ 117) → ends_reply (w ++ f ∷ []) ≡ true
-reply_true [] f none (inl e) = rw e
-reply_true [] f none (inr e) = rw e
-reply_true (b ∷ w) f none e = rw (no_reply b none.0) (reply_true w f none.1 e)
+pub no_mouse_end : (b : ℕ) → EndsNoMouse b → is_mouse_end b ≡ false
+no_mouse_end b h =
+    let n = h.0 in
+    let m = h.1 in
+    let s : (b == 77) ≡ false = grind (arith, nat_tests) in
+    let t : (b == 109) ≡ false = grind (arith, nat_tests) in
+    rw (s, t)
+
+or_either : (s t : Bool) → s || t ≡ true → (s ≡ true) ⊎ (t ≡ true)
+or_either true t h = inl refl
+or_either false t h = inr h
+
+or_none : (s t : Bool) → s || t ≡ false → (s ≡ false) × (t ≡ false)
+or_none true t h = absurd (false≢true (sym h))
+or_none false t h = (refl, h)
+
+-- one of two bytes, or none of them
+one_of : (b x y : ℕ) → b == x || b == y ≡ true → (b ≡ x) ⊎ (b ≡ y)
+one_of b x y h = elim (or_either (b == x) (b == y) h) [ inl t ↦ inl (eqb-true b x t) | inr t ↦ inr (eqb-true b y t) ]
+
+pub is_one_of : (b x y : ℕ) → (b ≡ x) ⊎ (b ≡ y) → b == x || b == y ≡ true
+is_one_of b x y (inl e) = rw (eq-eqb b x e)
+is_one_of b x y (inr e) = go (b == x) where
+  go : (t : Bool) → t || b == y ≡ true
+  go true = refl
+  go false = eq-eqb b y e
+
+none_of : (b x y : ℕ) → b == x || b == y ≡ false → (b ≢ x) × (b ≢ y)
+none_of b x y h = let n = or_none (b == x) (b == y) h in (let s = n.0 in grind (arith, nat_tests), let s = n.1 in grind (arith, nat_tests))
+
+pub not_reply_end : (b : ℕ) → is_reply_end b ≡ false → EndsNoReply b
+not_reply_end b h = none_of b 99 117 h
+
+pub not_mouse_end : (b : ℕ) → is_mouse_end b ≡ false → EndsNoMouse b
+not_mouse_end b h = none_of b 77 109 h
+
+pub reply_tells : Tells EndsNoReply is_reply_end
+reply_tells = record { fails = no_reply; none = not_reply_end }
+
+pub mouse_tells : Tells EndsNoMouse is_mouse_end
+mouse_tells = record { fails = no_mouse_end; none = not_mouse_end }
 
 pub private_true : (w : List ℕ) (f : ℕ) → HasNoEnd w → EndsReply w f → ends_private (w ++ f ∷ []) ≡ true
 private_true [] f none (inl e) = rw e
 private_true [] f none (inr e) = absurd (e.1 refl)
-private_true (b ∷ w) f none (inl e) = let s : (b == 99) ≡ false = (let n = none.0 in grind (arith, nat_tests)) in rw s (reply_true w f none.1 (inl e))
-private_true (b ∷ w) f none (inr e) = let s : (b == 99) ≡ false = (let n = none.0 in grind (arith, nat_tests)) in rw s (reply_true w f none.1 (inr e.0))
+private_true (b ∷ w) f none (inl e) = let s : (b == 99) ≡ false = (let n = none.0 in grind (arith, nat_tests)) in rw s (ended EndsNoReply is_reply_end reply_tells w f none.1 (is_one_of f 99 117 (inl e)))
+private_true (b ∷ w) f none (inr e) = let s : (b == 99) ≡ false = (let n = none.0 in grind (arith, nat_tests)) in rw s (ended EndsNoReply is_reply_end reply_tells w f none.1 (is_one_of f 99 117 (inr e.0)))
 
 pub shape_true : (bytes : List ℕ) → Shape bytes → is_shape bytes ≡ true
 shape_true bytes (text c) = as_shape bytes c
@@ -169,7 +180,11 @@ shape_true bytes (after_ss3 b e) = rw e
 shape_true bytes (after_csi b alone e) = rw e (alone_true b alone)
 shape_true bytes (after_bracket b e) = rw e
 shape_true bytes (reply w f none ends e) = rw e (private_true w f none ends)
-shape_true bytes (numbered d f w is nf l e) = rw e (digit_csi d (w ++ f ∷ []) is ∙ numbered_true w f nf l)
+shape_true bytes (coded a b c e) = rw e
+shape_true bytes (mouse w f none ends e) = rw e (ended EndsNoMouse is_mouse_end mouse_tells w f none (is_one_of f 77 109 ends))
+shape_true bytes (numbered d f w is nf l ne e) = rw e (digit_csi d (w ++ f ∷ []) is
+    ∙ rw (not_mark d f w nf (λ (h : d ∷ (w ++ f ∷ []) ≡ paste_mark). ne (e ∙ ap (λ (ys : List ℕ). 27 ∷ 91 ∷ ys) h))) (ended (λ b. ¬ IsFinal b) is_final final_tells w f nf (final_true f l)))
+shape_true bytes (paste within first e) = rw e (paste_true within first)
 
 true_one : (bs : List ℕ) → is_one bs ≡ true → (b : ℕ) × (bs ≡ b ∷ [])
 true_one [] h = absurd (false≢true h)
@@ -211,53 +226,6 @@ true_character b bs ne h = elim (chosen (is_lead b) (ends_character (further_aft
 ss3_shape : (b : ℕ) (bs : List ℕ) (c : ℕ) → b ≡ 79 → bs ≡ c ∷ [] → Shape (27 ∷ b ∷ bs)
 ss3_shape b bs c is e = after_ss3 c (rw (is, e))
 
--- what stands before the first final byte, and that byte
-record Ends (bs : List ℕ) : Type 0 where
-  before : List ℕ
-  last : ℕ
-  none_before : AllByRecursion (λ b. ¬ IsFinal b) before
-  closed : IsFinal last
-  is : bs ≡ before ++ last ∷ []
-
-true_numbered : (bs : List ℕ) → ends_numbered bs ≡ true → Ends bs
-true_numbered [] h = absurd (false≢true h)
-true_numbered (b ∷ bs) h =
-    elim (chosen (is_final b) (is_nil bs) (ends_numbered bs) true h) [
-      | inl w ↦ record { before = []; last = b; none_before = tt; closed = true_final b w.0; is = ap (λ (ys : List ℕ). b ∷ ys) (true_nil bs w.1) }
-      | inr w ↦ let later = true_numbered bs w.1 in
-          record { before = b ∷ later.before; last = later.last; none_before = (not_final b w.0, later.none_before); closed = later.closed; is = ap (λ (ys : List ℕ). b ∷ ys) later.is }
-    ]
-
--- what stands before the first end of a reply, and that end
-record Replied (bs : List ℕ) : Type 0 where
-  before : List ℕ
-  last : ℕ
-  none_before : AllByRecursion EndsNoReply before
-  closed : (last ≡ 99) ⊎ (last ≡ 117)
-  is : bs ≡ before ++ last ∷ []
-
-or_either : (s t : Bool) → s || t ≡ true → (s ≡ true) ⊎ (t ≡ true)
-or_either true t h = inl refl
-or_either false t h = inr h
-
-or_none : (s t : Bool) → s || t ≡ false → (s ≡ false) × (t ≡ false)
-or_none true t h = absurd (false≢true (sym h))
-or_none false t h = (refl, h)
-
-pub true_reply_end : (b : ℕ) → (b == 99 || b == 117) ≡ true → (b ≡ 99) ⊎ (b ≡ 117)
-true_reply_end b h = elim (or_either (b == 99) (b == 117) h) [ inl t ↦ inl (eqb-true b 99 t) | inr t ↦ inr (eqb-true b 117 t) ]
-
-pub not_reply_end : (b : ℕ) → (b == 99 || b == 117) ≡ false → EndsNoReply b
-not_reply_end b h = let n = or_none (b == 99) (b == 117) h in (let s = n.0 in grind (arith, nat_tests), let s = n.1 in grind (arith, nat_tests))
-
-true_reply : (bs : List ℕ) → ends_reply bs ≡ true → Replied bs
-true_reply [] h = absurd (false≢true h)
-true_reply (b ∷ bs) h = elim (chosen (b == 99 || b == 117) (is_nil bs) (ends_reply bs) true h) [
-  | inl w ↦ record { before = []; last = b; none_before = tt; closed = true_reply_end b w.0; is = ap (λ (ys : List ℕ). b ∷ ys) (true_nil bs w.1) }
-  | inr w ↦ let later = true_reply bs w.1 in
-      record { before = b ∷ later.before; last = later.last; none_before = (not_reply_end b w.0, later.none_before); closed = later.closed; is = ap (λ (ys : List ℕ). b ∷ ys) later.is }
-]
-
 ends_later : (b : ℕ) (w : List ℕ) (f : ℕ) → (f ≡ 99) ⊎ (f ≡ 117) → EndsReply (b ∷ w) f
 ends_later b w f (inl e) = inl e
 ends_later b w f (inr e) = inr (e, λ h. cc)
@@ -266,30 +234,61 @@ private_shape : (bs : List ℕ) → ends_private bs ≡ true → Shape (27 ∷ 9
 private_shape [] h = absurd (false≢true h)
 private_shape (b ∷ bs) h = elim (chosen (b == 99) (is_nil bs) (ends_reply bs) true h) [
   | inl w ↦ reply [] b tt (inl (eqb-true b 99 w.0)) (ap (λ (ys : List ℕ). 27 ∷ 91 ∷ 63 ∷ b ∷ ys) (true_nil bs w.1))
-  | inr w ↦ let later = true_reply bs w.1 in
-      reply (b ∷ later.before) later.last (let n = w.0 in grind (arith, nat_tests), later.none_before) (ends_later b later.before later.last later.closed)
+  | inr w ↦ let later = true_ends EndsNoReply is_reply_end reply_tells bs w.1 in
+      reply (b ∷ later.before) later.last (let n = w.0 in grind (arith, nat_tests), later.none_before) (ends_later b later.before later.last (one_of later.last 99 117 later.closed))
       (ap (λ (ys : List ℕ). 27 ∷ 91 ∷ 63 ∷ b ∷ ys) later.is)
 ]
 
-numbered_shape : (b : ℕ) (bs : List ℕ) → IsDigit b → Ends bs → Shape (27 ∷ 91 ∷ b ∷ bs)
-numbered_shape b bs d later = numbered b later.last later.before d later.none_before later.closed (ap (λ (ys : List ℕ). 27 ∷ 91 ∷ b ∷ ys) later.is)
+numbered_shape : (b : ℕ) (bs : List ℕ) → IsDigit b → begins paste_mark (b ∷ bs) ≡ false → Ends (λ b. ¬ IsFinal b) is_final bs → Shape (27 ∷ 91 ∷ b ∷ bs)
+numbered_shape b bs d n later = numbered b later.last later.before d later.none_before (true_final later.last later.closed)
+    (λ (e : 27 ∷ 91 ∷ b ∷ bs ≡ paste_start). false≢true (sym n ∙ begins_from paste_mark (b ∷ bs) [] (ap (drop 2) e)))
+    (ap (λ (ys : List ℕ). 27 ∷ 91 ∷ b ∷ ys) later.is)
+
+paste_shape : (b : ℕ) (bs : List ℕ) → begins paste_mark (b ∷ bs) ≡ true → Pasted (drop 3 bs) → Shape (27 ∷ 91 ∷ b ∷ bs)
+paste_shape b bs h p = paste p.text p.first (ap (λ (ys : List ℕ). 27 ∷ 91 ∷ ys) (begins_is paste_mark (b ∷ bs) h ∙ ap (λ (ys : List ℕ). paste_mark ++ ys) p.is))
+
+digit_shape : (b : ℕ) (bs : List ℕ) → IsDigit b → ends_digit (b ∷ bs) ≡ true → Shape (27 ∷ 91 ∷ b ∷ bs)
+digit_shape b bs d h = elim (chosen (begins paste_mark (b ∷ bs)) (ends_paste (drop 3 bs)) (ends_numbered bs) true h) [
+  | inl v ↦ paste_shape b bs v.0 (true_paste (drop 3 bs) v.1)
+  | inr v ↦ numbered_shape b bs d v.0 (true_ends (λ b. ¬ IsFinal b) is_final final_tells bs v.1)
+]
 
 bracket_shape : (b : ℕ) (bs : List ℕ) (c : ℕ) → b ≡ 91 → bs ≡ c ∷ [] → Shape (27 ∷ 91 ∷ b ∷ bs)
 bracket_shape b bs c is e = after_bracket c (rw (is, e))
 
+mouse_shape : (bs : List ℕ) → Ends EndsNoMouse is_mouse_end bs → Shape (27 ∷ 91 ∷ 60 ∷ bs)
+mouse_shape bs later = mouse later.before later.last later.none_before (one_of later.last 77 109 later.closed) (ap (λ (ys : List ℕ). 27 ∷ 91 ∷ 60 ∷ ys) later.is)
+
+coded_shape : (bs : List ℕ) → is_three bs ≡ true → Shape (27 ∷ 91 ∷ 77 ∷ bs)
+coded_shape [] h = absurd (false≢true h)
+coded_shape (a ∷ []) h = absurd (false≢true h)
+coded_shape (a ∷ b ∷ bs) h = let one = true_one bs h in coded a b one.0 (ap (λ (ys : List ℕ). 27 ∷ 91 ∷ 77 ∷ a ∷ b ∷ ys) one.1)
+
+-- where the first byte is none of those, a digit or another
+true_other : (b : ℕ) (bs : List ℕ) → b ≢ 91 → b ≢ 77 → b ≢ 60 → b ≢ 63 → cond (is_digit b) (ends_digit (b ∷ bs)) (is_nil bs) ≡ true → Shape (27 ∷ 91 ∷ b ∷ bs)
+true_other b bs n m k l h = elim (chosen (is_digit b) (ends_digit (b ∷ bs)) (is_nil bs) true h) [
+  | inl u ↦ digit_shape b bs (true_digit b u.0) u.1
+  | inr u ↦ after_csi b (n, m, k, l, not_digit b u.0) (ap (λ (ys : List ℕ). 27 ∷ 91 ∷ b ∷ ys) (true_nil bs u.1))
+]
+
+differs : (b c : ℕ) → (b == c) ≡ false → b ≢ c
+differs b c h = grind (arith, nat_tests)
+
 true_csi : (bs : List ℕ) → ends_csi bs ≡ true → Shape (27 ∷ 91 ∷ bs)
 true_csi [] h = absurd (false≢true h)
-true_csi (b ∷ bs) h =
-    elim (chosen (b == 91) (is_one bs) (cond (b == 63) (ends_private bs) (cond (is_digit b) (ends_numbered bs) (is_nil bs))) true h) [
-      | inl w ↦ let one = true_one bs w.1 in bracket_shape b bs one.0 (eqb-true b 91 w.0) one.1
-      | inr w ↦ elim (chosen (b == 63) (ends_private bs) (cond (is_digit b) (ends_numbered bs) (is_nil bs)) true w.1) [
-        | inl v ↦ let is : b ≡ 63 = eqb-true b 63 v.0 in rw is (private_shape bs v.1)
-        | inr v ↦ elim (chosen (is_digit b) (ends_numbered bs) (is_nil bs) true v.1) [
-          | inl u ↦ numbered_shape b bs (true_digit b u.0) (true_numbered bs u.1)
-          | inr u ↦ after_csi b (let n = w.0 in grind (arith, nat_tests), let n = v.0 in grind (arith, nat_tests), not_digit b u.0) (ap (λ (ys : List ℕ). 27 ∷ 91 ∷ b ∷ ys) (true_nil bs u.1))
-        ]
+true_csi (b ∷ bs) h = elim (chosen (b == 91) _ _ true h) [
+  | inl w ↦ let one = true_one bs w.1 in bracket_shape b bs one.0 (eqb-true b 91 w.0) one.1
+  | inr w ↦ elim (chosen (b == 77) _ _ true w.1) [
+    | inl v ↦ let is : b ≡ 77 = eqb-true b 77 v.0 in rw is (coded_shape bs v.1)
+    | inr v ↦ elim (chosen (b == 60) _ _ true v.1) [
+      | inl u ↦ let is : b ≡ 60 = eqb-true b 60 u.0 in rw is (mouse_shape bs (true_ends EndsNoMouse is_mouse_end mouse_tells bs u.1))
+      | inr u ↦ elim (chosen (b == 63) _ _ true u.1) [
+        | inl t ↦ let is : b ≡ 63 = eqb-true b 63 t.0 in rw is (private_shape bs t.1)
+        | inr t ↦ true_other b bs (differs b 91 w.0) (differs b 77 v.0) (differs b 60 u.0) (differs b 63 t.0) t.1
       ]
     ]
+  ]
+]
 
 true_escape : (bs : List ℕ) → ends_escape bs ≡ true → Shape (27 ∷ bs)
 true_escape [] h = absurd (false≢true h)
@@ -318,23 +317,14 @@ true_shape (b ∷ bs) h =
       | inr w ↦ let isnt : b ≢ 27 = grind (arith, nat_tests, w.0) in text (true_character b bs isnt w.1)
     ]
 
--- a list that passes is no proper front of another that does
-abbrev Closes : (List ℕ → Bool) → Type 0
-Closes p = (a x : List ℕ) → p a ≡ true → p (a ++ x) ≡ true → x ≡ []
-
-nil_closes : Closes is_nil
-nil_closes [] [] h l = refl
-nil_closes [] (b ∷ x) h l = absurd (false≢true l)
-nil_closes (b ∷ a) x h l = absurd (false≢true h)
-
 one_closes : Closes is_one
 one_closes [] x h l = absurd (false≢true h)
 one_closes (b ∷ a) x h l = nil_closes a x h l
 
--- where a test of the first byte chooses how to go on
-choice_closes : (t : Bool) (p q : List ℕ → Bool) → Closes p → Closes q → Closes (λ bs. cond t (p bs) (q bs))
-choice_closes true p q cp cq a x h l = cp a x h l
-choice_closes false p q cp cq a x h l = cq a x h l
+three_closes : Closes is_three
+three_closes [] x h l = absurd (false≢true h)
+three_closes (b ∷ []) x h l = absurd (false≢true h)
+three_closes (b ∷ c ∷ a) x h l = one_closes a x h l
 
 character_closes : (n : ℕ) → Closes (ends_character n)
 character_closes n [] x h l = absurd (false≢true h)
@@ -344,32 +334,47 @@ character_closes (suc n) (b ∷ a) x h l = choice_closes (is_continuing b) (ends
 typed_closes : (b : ℕ) → Closes (λ bs. is_character (b ∷ bs))
 typed_closes b = choice_closes (is_lead b) (ends_character (further_after b)) is_nil (character_closes (further_after b)) nil_closes
 
-numbered_closes : Closes ends_numbered
-numbered_closes [] x h l = absurd (false≢true h)
-numbered_closes (b ∷ a) x h l = go (is_final b) h l (numbered_closes a x) where
-  go : (t : Bool) → cond t (is_nil a) (ends_numbered a) ≡ true → cond t (is_nil (a ++ x)) (ends_numbered (a ++ x)) ≡ true
-      → (ends_numbered a ≡ true → ends_numbered (a ++ x) ≡ true → x ≡ []) → x ≡ []
-  go true h l later = nil_closes a x h l
-  go false h l later = later h l
-
-reply_closes : Closes ends_reply
-reply_closes [] x h l = absurd (false≢true h)
-reply_closes (b ∷ a) x h l = go (b == 99 || b == 117) h l (reply_closes a x) where
-  go : (t : Bool) → cond t (is_nil a) (ends_reply a) ≡ true → cond t (is_nil (a ++ x)) (ends_reply (a ++ x)) ≡ true
-      → (ends_reply a ≡ true → ends_reply (a ++ x) ≡ true → x ≡ []) → x ≡ []
-  go true h l later = nil_closes a x h l
-  go false h l later = later h l
-
 private_closes : Closes ends_private
 private_closes [] x h l = absurd (false≢true h)
-private_closes (b ∷ a) x h l = choice_closes (b == 99) is_nil ends_reply nil_closes reply_closes a x h l
+private_closes (b ∷ a) x h l = choice_closes (b == 99) is_nil ends_reply nil_closes (ends_close is_reply_end) a x h l
+
+paste_closes : Closes ends_paste
+paste_closes a x h l =
+    let p = true_paste a h in
+    let q = true_paste (a ++ x) l in
+    q.first p.text x (sym q.is ∙ ap (λ (ys : List ℕ). ys ++ x) p.is ∙ append_assoc p.text paste_end x)
+
+mark_spoils : (c : ℕ) → (c == 48) ≡ true → is_final c ≡ false
+mark_spoils c h = let is : c ≡ 48 = eqb-true c 48 h in rw is
+
+further_closes : (c d e : ℕ) → Closes (λ bs. ends_numbered (c ∷ d ∷ e ∷ bs))
+further_closes c d e a x h l = ends_close is_final (c ∷ d ∷ e ∷ a) x h l
+
+digit_closes : Closes ends_digit
+digit_closes [] x h l = absurd (false≢true h)
+digit_closes (b ∷ []) x h l = absurd (false≢true h)
+digit_closes (b ∷ c ∷ []) x h l = go (begins paste_mark (b ∷ c ∷ x)) refl l where
+  go : (t : Bool) → begins paste_mark (b ∷ c ∷ x) ≡ t → cond t (ends_paste (drop 2 x)) (ends_numbered (c ∷ x)) ≡ true → x ≡ []
+  go true t l = let w = and_parts _ (b == 50) t in let v = and_parts _ (c == 48) w.0 in absurd (false≢true (rw (mark_spoils c v.1) at h))
+  go false t l = ends_close is_final (c ∷ []) x h l
+digit_closes (b ∷ c ∷ d ∷ []) x h l = go (begins paste_mark (b ∷ c ∷ d ∷ x)) refl l where
+  go : (t : Bool) → begins paste_mark (b ∷ c ∷ d ∷ x) ≡ t → cond t (ends_paste (drop 1 x)) (ends_numbered (c ∷ d ∷ x)) ≡ true → x ≡ []
+  go true t l = let w = and_parts _ (b == 50) t in let v = and_parts _ (c == 48) w.0 in let u = and_parts _ (d == 48) v.0 in absurd (false≢true (rw (mark_spoils c v.1, mark_spoils d u.1) at h))
+  go false t l = ends_close is_final (c ∷ d ∷ []) x h l
+digit_closes (b ∷ c ∷ d ∷ e ∷ a) x h l =
+    choice_closes (begins paste_mark (b ∷ c ∷ d ∷ e ∷ [])) ends_paste (λ bs. ends_numbered (c ∷ d ∷ e ∷ bs)) paste_closes (further_closes c d e) a x h l
+
+digits_close : (b : ℕ) → Closes (λ bs. ends_digit (b ∷ bs))
+digits_close b a x h l = digit_closes (b ∷ a) x h l
 
 csi_closes : Closes ends_csi
 csi_closes [] x h l = absurd (false≢true h)
 csi_closes (b ∷ a) x h l =
-    choice_closes (b == 91) is_one (λ bs. cond (b == 63) (ends_private bs) (cond (is_digit b) (ends_numbered bs) (is_nil bs))) one_closes
-    (choice_closes (b == 63) ends_private (λ bs. cond (is_digit b) (ends_numbered bs) (is_nil bs)) private_closes
-    (choice_closes (is_digit b) ends_numbered is_nil numbered_closes nil_closes)) a x h l
+    choice_closes (b == 91) is_one _ one_closes
+    (choice_closes (b == 77) is_three _ three_closes
+    (choice_closes (b == 60) ends_mouse _ (ends_close is_mouse_end)
+    (choice_closes (b == 63) ends_private _ private_closes
+    (choice_closes (is_digit b) (λ bs. ends_digit (b ∷ bs)) is_nil (digits_close b) nil_closes)))) a x h l
 
 escape_closes : Closes ends_escape
 escape_closes [] x h l = absurd (false≢true h)

@@ -1,8 +1,11 @@
+pub mod CuttingLaws
 pub mod DivisionLaws
+pub mod EndLaws
 pub mod FieldsLaws
 pub mod GrammarLaws
 pub mod Letters
 pub mod MachineLaws
 pub mod NumberLaws
+pub mod PasteLaws
 pub mod StandingLaws
 pub mod Utf8Laws

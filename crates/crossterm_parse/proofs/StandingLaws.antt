@@ -1,28 +1,33 @@
 -- What one more byte, and one more piece, do to what a parser stands for.
-use Rattle.std.proofs.Common.{◌≡◌, ◌==◌, ◌<◌, ℕ, ◌+◌, Bool, true, false, not, cond, ◌&&◌, ◌||◌, List, [], ◌∷◌, ◌++◌, length, take, get_or, zero, suc, refl, ap, sym, ◌∙◌, subst, arith, append_assoc, Option, Some, None, option_to_list, drop, inl, inr}
-use Rattle.std.proofs.lemmas.List.{append-nil, take_more, append_cancel_left, take-append-drop}
+use Rattle.std.proofs.Common.{◌≡◌, ◌==◌, ◌<◌, ℕ, ◌+◌, Bool, true, false, not, cond, ◌&&◌, ◌||◌, List, [], ◌∷◌, ◌++◌, length, take, get_or, zero, suc, refl, ap, sym, ◌∙◌, subst, arith, append_assoc, Option, Some, None, option_to_list, drop, inl, inr, ◌⊎◌, ◌-◌, ◌*◌, ◌≤◌, length-drop}
+use Rattle.std.proofs.lemmas.List.{append-nil, take_more, append_cancel_left, take-append-drop, take-append-le, length_push}
 use Rattle.std.proofs.lemmas.Bool.{false≢true, cases_Bool}
 use Rattle.std.proofs.lemmas.Bool.Decides.{nat_tests}
 use Rattle.std.proofs.lemmas.List.Elements.{filter_map-append}
-use Rattle.std.specs.List.{filter_map, cons_option}
+use Rattle.std.specs.List.{filter_map, flat_map, cons_option, AllByRecursion}
 use Rattle.std.specs.Option.{option_map}
 use Rattle.crossterm_types.specs.Seen.{Seen}
 use Rattle.crossterm_parse.specs.Marked.{Marked, bytes_of, last_raw, marked}
-use Rattle.crossterm_parse.specs.Deciding.{is_character, is_shape, is_whole, is_decided}
-use Rattle.crossterm_parse.specs.Division.{IsUndecided}
+use Rattle.crossterm_parse.specs.Deciding.{begins, is_character, is_shape, is_whole, is_decided}
+use Rattle.crossterm_parse.specs.Division.{Divides, IsUndecided}
 use Rattle.crossterm_parse.specs.Grammar as grammar
-use Rattle.crossterm_parse.specs.Meaning.{meaning, meaning_of, seen_meaning}
-use Rattle.crossterm_parse.specs.Machine.{state_after, state_left, events_left, StandsFor, IsRight, prefixed}
+use Rattle.crossterm_parse.specs.Grammar.{paste_mark, paste_start}
+use Rattle.crossterm_parse.specs.Meaning.{meaning, meaning_seen, meaning_of, seen_meaning, paste_text, pasted}
+use Rattle.crossterm_parse.specs.Machine.{state_after, state_left, text_left, events_left, codes_bytes, is_paste, IsOpening, StandsFor, IsRight, prefixed}
 use Rattle.crossterm_parse.specs.Characters.{begun_bytes}
-use Rattle.crossterm_parse.specs.Standing.{Standing, Stands, AdvancesOver, EndsNoEvent}
+use Rattle.crossterm_parse.specs.Standing.{Standing, Stands, kept_text, AdvancesOver, EndsNoEvent, OpensNoPaste, paste_length, TakesSteps}
 use Rattle.crossterm_parse.specs.declared.character.Begun.{Begun}
 use Rattle.crossterm_parse.specs.declared.character.Begun.TheVariants.{One, Two, Three}
 use Rattle.crossterm_parse.specs.declared.meaning.Meaning.{Meaning}
+use Rattle.crossterm_parse.specs.declared.mouse.Codes.{Codes}
+use Rattle.crossterm_parse.specs.declared.paste.Opening.{Opening}
+use Rattle.crossterm_parse.specs.declared.paste.Opening.TheVariants as opening
 use Rattle.crossterm_parse.specs.declared.state.State.{State}
-use Rattle.crossterm_parse.specs.declared.state.State.TheVariants.{Ground, Escape, Ss3, Csi, Bracket, Private, Reply, Numbered, Utf8}
+use Rattle.crossterm_parse.specs.declared.state.State.TheVariants.{Ground, Escape, Ss3, Csi, Bracket, Coded, Sgr, Private, Reply, Numbered, Paste, Utf8}
 use Rattle.crossterm_parse.specs.declared.state.Step.{Step}
-use Rattle.crossterm_parse.specs.declared.state.Step.TheVariants.{Open, Whole}
-use Rattle.crossterm_parse.proofs.DivisionLaws.{divide_join, divide_whole, divide_open, some_division, one_division}
+use Rattle.crossterm_parse.specs.declared.state.Step.TheVariants.{Open, Whole, Closed}
+use Rattle.crossterm_parse.proofs.DivisionLaws.{divide_join, divide_whole, divide_open, some_division, one_division, two_fronts, not_front}
+use Rattle.crossterm_parse.proofs.PasteLaws.{third_apart, begins_start, begins_is, begins_from}
 use Rattle.crossterm_parse.proofs.GrammarLaws.{bytes_of-append, bytes_of_nil, whole_true, true_whole, nil_not_whole, whole_closes, whole_or_not}
 use Rattle.crossterm_parse.proofs.MachineLaws.{state_right}
 
@@ -61,14 +66,87 @@ one_option (Some x) = refl
 
 -- what is meant by the bytes that the parser has
 pub meant : (bytes : List ℕ) (before : List Marked) (m : Marked) → bytes ≡ bytes_of (before ++ m ∷ [])
-    → option_to_list (option_map seen_meaning (meaning m.raw bytes)) ≡ filter_map meaning_of ((before ++ m ∷ []) ∷ [])
+    → option_to_list (meaning_seen m.raw bytes) ≡ filter_map meaning_of ((before ++ m ∷ []) ∷ [])
 meant bytes before m e = rw (last_raw-push before m, e) (one_option _)
 
+-- whether the bytes of an open sequence open a paste
+begun_begins : (escaped : Bool) (t : Begun) → begins paste_start (prefixed escaped (begun_bytes t)) ≡ false
+begun_begins true (One a) = refl
+begun_begins true (Two a b) = refl
+begun_begins true (Three a b c) = refl
+begun_begins false (One a) = refl
+begun_begins false (Two a b) = refl
+begun_begins false (Three a b c) = refl
+
+opening_begins : (p : Opening) (text : List ℕ) → IsOpening p text → begins paste_mark text ≡ false
+opening_begins opening.Two text h = rw h
+opening_begins opening.Zero text h = rw h
+opening_begins opening.Zeros text h = rw h
+opening_begins opening.Not text h = rw append-nil at (h [])
+
+codes_begin : (c : Codes) → begins paste_start (27 ∷ 91 ∷ 77 ∷ codes_bytes c) ≡ false
+codes_begin c = third_apart 77 (codes_bytes c) refl
+
+paste_begins : (state : State) (bytes : List ℕ) → StandsFor state bytes → begins paste_start bytes ≡ is_paste state
+paste_begins Ground bytes h = rw h
+paste_begins Escape bytes h = rw h
+paste_begins Ss3 bytes h = rw h
+paste_begins Csi bytes h = rw h
+paste_begins Bracket bytes h = rw h
+paste_begins (Coded c) bytes h = rw h (codes_begin c)
+paste_begins (Sgr d) bytes h = rw h.is (third_apart 60 h.more refl)
+paste_begins Private bytes h = rw h
+paste_begins (Reply first) bytes h = rw h.is (third_apart 63 (first ∷ h.more) refl)
+paste_begins (Numbered d p) bytes h = rw h.is (begins_start (h.digit ∷ h.more) ∙ opening_begins p (h.digit ∷ h.more) h.opens)
+paste_begins (Paste m) bytes h = begins_from paste_start bytes h.text h.is
+paste_begins (Utf8 c) bytes h = rw h.0 (begun_begins c.escaped c.begun)
+
+append_none : (p t : List ℕ) → [] ≡ p ++ t → t ≡ []
+append_none [] t e = sym e
+append_none (q ∷ p) t e = cc
+
+-- a list with one more element begins with p: it is p, or the list began with it
+front_or_none : (p bytes t : List ℕ) (b : ℕ) → bytes ++ b ∷ [] ≡ p ++ t → (t ≡ []) ⊎ ((u : List ℕ) × (bytes ≡ p ++ u))
+front_or_none [] bytes t b e = inr (bytes, refl)
+front_or_none (q ∷ p) [] t b e = inl (append_none p t cc)
+front_or_none (q ∷ p) (c ∷ bytes) t b e =
+    let head : c ≡ q = cc in
+    let tail : bytes ++ b ∷ [] ≡ p ++ t = cc in
+    elim (front_or_none p bytes t b tail) [
+      | inl n ↦ inl n
+      | inr u ↦ let is : bytes ≡ p ++ u.0 = u.1 in inr (u.0, cc)
+    ]
+
+begins_on : (bytes : List ℕ) (b : ℕ) → begins paste_start bytes ≡ true → begins paste_start (bytes ++ b ∷ []) ≡ true
+begins_on bytes b h = begins_from paste_start (bytes ++ b ∷ []) (drop 6 bytes ++ b ∷ []) (ap (λ (xs : List ℕ). xs ++ b ∷ []) (begins_is paste_start bytes h))
+
+drop_on : (bytes : List ℕ) (b : ℕ) → begins paste_start bytes ≡ true → drop 6 bytes ++ b ∷ [] ≡ drop 6 (bytes ++ b ∷ [])
+drop_on bytes b h = let is = begins_is paste_start bytes h in sym (ap (λ (xs : List ℕ). drop 6 (xs ++ b ∷ [])) is)
+
+opened_empty : (bytes : List ℕ) (b : ℕ) → begins paste_start bytes ≡ false → begins paste_start (bytes ++ b ∷ []) ≡ true → [] ≡ drop 6 (bytes ++ b ∷ [])
+opened_empty bytes b none opens = elim (front_or_none paste_start bytes (drop 6 (bytes ++ b ∷ [])) b (begins_is paste_start (bytes ++ b ∷ []) opens)) [
+  | inl n ↦ sym n
+  | inr u ↦ absurd (false≢true (sym none ∙ begins_from paste_start bytes u.0 u.1))
+]
+
+-- the text that is kept with one more byte
+text_kept : (s n : Bool) (text bytes : List ℕ) (b : ℕ) → begins paste_start bytes ≡ s → begins paste_start (bytes ++ b ∷ []) ≡ n → text ≡ cond s (drop 6 bytes) []
+    → cond n (cond s (text ++ b ∷ []) []) text ≡ cond n (drop 6 (bytes ++ b ∷ [])) []
+text_kept true true text bytes b h l e = ap (λ (xs : List ℕ). xs ++ b ∷ []) e ∙ drop_on bytes b h
+text_kept true false text bytes b h l e = absurd (false≢true (sym l ∙ begins_on bytes b h))
+text_kept false true text bytes b h l e = opened_empty bytes b h l
+text_kept false false text bytes b h l e = e
+
+text_over : (s : Bool) (text bytes : List ℕ) (b : ℕ) → begins paste_start bytes ≡ s → begins paste_start (bytes ++ b ∷ []) ≡ false → text ≡ cond s (drop 6 bytes) [] → text ≡ []
+text_over true text bytes b h l e = absurd (false≢true (sym l ∙ begins_on bytes b h))
+text_over false text bytes b h l e = e
+
 -- one byte that completes a sequence
-advance_whole : (old new : Standing) (m : Marked) (event : Option Meaning)
-    → ((before : List Marked) → Stands old before → IsRight (Whole event) (bytes_of before ++ m.byte ∷ []) m.raw m.pause)
+advance_whole : (old new : Standing) (m : Marked) (event : Option Seen)
+    → ((before : List Marked) → Stands old before
+    → (is_decided (bytes_of before ++ m.byte ∷ []) m.pause ≡ true) × (event ≡ meaning_seen m.raw (bytes_of before ++ m.byte ∷ [])) × (new.text ≡ []))
     → new.state ≡ Ground
-    → new.waiting ≡ old.waiting ++ events_left (Whole event)
+    → new.waiting ≡ old.waiting ++ option_to_list event
     → AdvancesOver old new (m ∷ [])
 advance_whole old new m event right cleared waiting before stands undecided =
     let r = right before stands in
@@ -78,13 +156,14 @@ advance_whole old new m event right cleared waiting before stands undecided =
       parts = (before ++ m ∷ []) ∷ [];
       rest = [];
       division = divide_whole grammar.Whole nil_not_whole before [] before m (record { joined = refl; whole = tt; undecided = undecided }) w;
-      given = waiting ∙ ap (λ (events : List Seen). old.waiting ++ events) (ap (λ (e : Option Meaning). option_to_list (option_map seen_meaning e)) r.1 ∙ meant _ before m bytes);
-      stands = rw cleared refl;
+      given = waiting ∙ ap (λ (events : List Seen). old.waiting ++ events) (ap (λ (e : Option Seen). option_to_list e) r.1 ∙ meant _ before m bytes);
+      stands = rw cleared (refl, r.2);
     }
 
 -- one byte that completes nothing
 advance_open : (old new : Standing) (m : Marked) (state : State)
-    → ((before : List Marked) → Stands old before → IsRight (Open state) (bytes_of before ++ m.byte ∷ []) m.raw m.pause)
+    → ((before : List Marked) → Stands old before
+    → (is_decided (bytes_of before ++ m.byte ∷ []) m.pause ≡ false) × StandsFor state (bytes_of before ++ m.byte ∷ []) × (new.text ≡ kept_text state (bytes_of before ++ m.byte ∷ [])))
     → new.state ≡ state
     → new.waiting ≡ old.waiting
     → AdvancesOver old new (m ∷ [])
@@ -96,20 +175,56 @@ advance_open old new m state right grown waiting before stands undecided =
       rest = before ++ m ∷ [];
       division = divide_open grammar.Whole before [] before m (record { joined = refl; whole = tt; undecided = undecided }) open_still;
       given = waiting ∙ sym (append-nil old.waiting);
-      stands = rw (grown, bytes_of-append) r.1;
+      stands = rw (grown, bytes_of-append) (r.1, r.2);
     }
+
+plain_seen : (raw : Bool) (bytes : List ℕ) (event : Option Meaning) → event ≡ meaning raw bytes → begins paste_start bytes ≡ false → option_map seen_meaning event ≡ meaning_seen raw bytes
+plain_seen raw bytes event e h = rw h (ap (λ (x : Option Meaning). option_map seen_meaning x) e)
+
+-- the text of a paste without its end
+closed_text : (text bytes : List ℕ) (b : ℕ) → begins paste_start bytes ≡ true → text ≡ drop 6 bytes → take (length text - 5) text ≡ paste_text (bytes ++ b ∷ [])
+closed_text text bytes b h e =
+    let rest : drop 6 (bytes ++ b ∷ []) ≡ text ++ b ∷ [] = sym (ap (λ (xs : List ℕ). xs ++ b ∷ []) e ∙ drop_on bytes b h) in
+    let count : length text - 5 ≡ length (text ++ b ∷ []) - 6 = omega (arith, length_push text b) in
+    ap (λ (n : ℕ). take n text) count ∙ sym (take-append-le (length (text ++ b ∷ []) - 6) text (b ∷ []) (omega (arith, length_push text b)))
+    ∙ sym (ap (λ (xs : List ℕ). take (length xs - 6) xs) rest)
+
+closed_seen : (raw : Bool) (bytes text : List ℕ) → begins paste_start bytes ≡ true → text ≡ paste_text bytes → Some (pasted text) ≡ meaning_seen raw bytes
+closed_seen raw bytes text h e = rw h (ap (λ (xs : List ℕ). Some (pasted xs)) e)
+
+-- what opens a paste isn't whole
+undecided_start : (bytes : List ℕ) (pause : Bool) → begins paste_start bytes ≡ true → [] ≡ drop 6 bytes → is_decided bytes pause ≡ false
+undecided_start bytes pause h e = rw (begins_is paste_start bytes h, ← e) refl
 
 -- one byte
 pub advance_byte : (old new : Standing) (m : Marked)
     → new.state ≡ state_left (state_after old.state m.byte m.raw m.pause)
-    → new.waiting ≡ old.waiting ++ events_left (state_after old.state m.byte m.raw m.pause)
+    → new.text ≡ text_left (state_after old.state m.byte m.raw m.pause) old.state old.text m.byte
+    → new.waiting ≡ old.waiting ++ events_left (state_after old.state m.byte m.raw m.pause) old.text
     → AdvancesOver old new (m ∷ [])
-advance_byte old new m state waiting = go (state_after old.state m.byte m.raw m.pause) state waiting (λ before stands. state_right old.state (bytes_of before) m.byte m.raw m.pause stands) where
-  go : (step : Step) → new.state ≡ state_left step → new.waiting ≡ old.waiting ++ events_left step
+advance_byte old new m state text waiting = go (state_after old.state m.byte m.raw m.pause) state text waiting (λ before stands. state_right old.state (bytes_of before) m.byte m.raw m.pause stands.0) where
+  go : (step : Step) → new.state ≡ state_left step → new.text ≡ text_left step old.state old.text m.byte → new.waiting ≡ old.waiting ++ events_left step old.text
       → ((before : List Marked) → Stands old before → IsRight step (bytes_of before ++ m.byte ∷ []) m.raw m.pause)
       → AdvancesOver old new (m ∷ [])
-  go (Open next) s w right = advance_open old new m next right s (w ∙ append-nil old.waiting)
-  go (Whole event) s w right = advance_whole old new m event right s w
+  go (Open next) s t w right = advance_open old new m next (λ before stands. let r = right before stands in (
+    r.0,
+    r.1,
+    t ∙ text_kept (is_paste old.state) (is_paste next) old.text (bytes_of before) m.byte (paste_begins old.state (bytes_of before) stands.0) (paste_begins next (bytes_of before ++ m.byte ∷ []) r.1) stands.1,
+  )) s (w ∙ append-nil old.waiting)
+  go (Whole event) s t w right = advance_whole old new m (option_map seen_meaning event) (λ before stands. let r = right before stands in (
+    r.0,
+    plain_seen m.raw (bytes_of before ++ m.byte ∷ []) event r.1 r.2,
+    t ∙ text_over (is_paste old.state) old.text (bytes_of before) m.byte (paste_begins old.state (bytes_of before) stands.0) r.2 stands.1,
+  )) s w
+  go Closed s t w right = advance_whole old new m (Some (pasted (take (length old.text - 5) old.text))) (λ before stands. let r = right before stands in (
+    r.0,
+    closed_seen m.raw (bytes_of before ++ m.byte ∷ []) (take (length old.text - 5) old.text) r.1 (closed_in (is_paste old.state) before r.1 (paste_begins old.state (bytes_of before) stands.0) stands.1 r.0),
+    t,
+  )) s w where
+    closed_in : (s : Bool) (before : List Marked) → begins paste_start (bytes_of before ++ m.byte ∷ []) ≡ true → begins paste_start (bytes_of before) ≡ s → old.text ≡ cond s (drop 6 (bytes_of before)) []
+        → is_decided (bytes_of before ++ m.byte ∷ []) m.pause ≡ true → take (length old.text - 5) old.text ≡ paste_text (bytes_of before ++ m.byte ∷ [])
+    closed_in true before opens began e whole = closed_text old.text (bytes_of before) m.byte began e
+    closed_in false before opens began e whole = absurd (false≢true (sym (undecided_start (bytes_of before ++ m.byte ∷ []) m.pause opens (opened_empty (bytes_of before) m.byte began opens)) ∙ whole))
 
 -- one piece after another
 pub advance_join : (old mid new : Standing) (taken more : List Marked) → AdvancesOver old mid taken → AdvancesOver mid new more → AdvancesOver old new (taken ++ more)
@@ -169,15 +284,16 @@ length-marked (b ∷ c ∷ bs) more raw = ap suc (length-marked (c ∷ bs) more 
 pub advance_more : (old mid new : Standing) (piece : List ℕ) (more raw : Bool) (i b : ℕ) (pause : Bool) → i < length piece
     → b ≡ get_or piece i 0 → pause ≡ not more && (i + 1 == length piece)
     → new.state ≡ state_left (state_after mid.state b raw pause)
-    → new.waiting ≡ mid.waiting ++ events_left (state_after mid.state b raw pause)
+    → new.text ≡ text_left (state_after mid.state b raw pause) mid.state mid.text b
+    → new.waiting ≡ mid.waiting ++ events_left (state_after mid.state b raw pause) mid.text
     → AdvancesOver old mid (take i (marked piece more raw))
     → AdvancesOver old new (take (i + 1) (marked piece more raw))
-advance_more old mid new piece more raw i b pause l is_byte is_pause state waiting before =
+advance_more old mid new piece more raw i b pause l is_byte is_pause state text waiting before =
     let ms = marked piece more raw in
     let m : Marked = at b raw pause in
     let read : get_or ms i m ≡ m = get_or-marked piece more raw i m l ∙ rw (is_byte, is_pause) refl in
     let longer : take (i + 1) ms ≡ take i ms ++ m ∷ [] = take_more ms i m (omega (arith, length-marked piece more raw)) ∙ ap (λ (n : Marked). take i ms ++ n ∷ []) read in
-    subst (AdvancesOver old new) (sym longer) (advance_join old mid new (take i ms) (m ∷ []) before (advance_byte mid new m state waiting))
+    subst (AdvancesOver old new) (sym longer) (advance_join old mid new (take i ms) (m ∷ []) before (advance_byte mid new m state text waiting))
 
 not_bytes : (before : List Marked) (b : ℕ) (bs : List ℕ) → bytes_of before ≡ b ∷ bs → before ≡ [] → ⊥
 not_bytes [] b bs h e = cc
@@ -196,9 +312,12 @@ ground_only Escape before h = (λ e. cc, λ e. absurd (not_bytes before _ _ h e)
 ground_only Ss3 before h = (λ e. cc, λ e. absurd (not_bytes before _ _ h e))
 ground_only Csi before h = (λ e. cc, λ e. absurd (not_bytes before _ _ h e))
 ground_only Bracket before h = (λ e. cc, λ e. absurd (not_bytes before _ _ h e))
+ground_only (Coded c) before h = (λ e. cc, λ e. absurd (not_bytes before _ _ h e))
+ground_only (Sgr d) before h = (λ e. cc, λ e. absurd (not_bytes before _ _ h.is e))
 ground_only Private before h = (λ e. cc, λ e. absurd (not_bytes before _ _ h e))
 ground_only (Reply first) before h = (λ e. cc, λ e. absurd (not_bytes before _ _ h.is e))
-ground_only (Numbered d) before h = (λ e. cc, λ e. absurd (not_bytes before _ _ h.is e))
+ground_only (Numbered d p) before h = (λ e. cc, λ e. absurd (not_bytes before _ _ h.is e))
+ground_only (Paste m) before h = (λ e. cc, λ e. absurd (not_bytes before _ _ h.is e))
 ground_only (Utf8 c) before h = (λ e. cc, λ e. absurd (begun_not_nil c.escaped c.begun (sym h.0 ∙ ap bytes_of e)))
 
 nil_left : {A : Type 0} (xs ys : List A) → xs ++ ys ≡ [] → xs ≡ []
@@ -208,27 +327,126 @@ nil_left (x ∷ xs) ys e = cc
 nothing_more : {A : Type 0} (xs ys : List A) → xs ++ ys ≡ xs → ys ≡ []
 nothing_more xs ys e = append_cancel_left xs ys [] (e ∙ sym (append-nil xs))
 
--- a front of a piece that ends no event ends none
-quiet_front : (old mid : Standing) (taken more : List Marked) → EndsNoEvent old (taken ++ more) → AdvancesOver old mid taken → mid.waiting ≡ old.waiting
-quiet_front old mid taken more q first =
+nil_right : {A : Type 0} (xs ys : List A) → xs ++ ys ≡ [] → ys ≡ []
+nil_right [] ys e = e
+nil_right (x ∷ xs) ys e = cc
+
+-- what is left of the bytes after a front of them
+record Left (old mid : Standing) (taken more : List Marked) : Type 0 where
+  rest : List Marked
+  stands : Stands mid rest
+  undecided : IsUndecided grammar.Whole rest
+  others : List (List Marked)
+  last : List Marked
+  division : Divides grammar.Whole (rest ++ more) others last
+  none : filter_map meaning_of others ≡ []
+  no_paste : begins paste_start (bytes_of last) ≡ false
+  same : mid.waiting ≡ old.waiting
+
+left_of : (old mid : Standing) (taken more : List Marked) → EndsNoEvent old (taken ++ more) → AdvancesOver old mid taken → Left old mid taken more
+left_of old mid taken more q first =
     let a = first q.0 q.3 q.4 in
     let later = some_division grammar.Whole nil_not_whole whole_or_not (a.rest ++ more) in
     let all = divide_join grammar.Whole (q.0 ++ taken) more a.parts later.0 a.rest later.1 a.division later.2 in
     let same = one_division grammar.Whole nil_not_whole whole_closes (q.0 ++ (taken ++ more)) q.1 (a.parts ++ later.0) q.2 later.1 q.5 (rw (← append_assoc q.0 taken more) all) in
     let none : filter_map meaning_of a.parts ++ filter_map meaning_of later.0 ≡ [] = sym (filter_map-append meaning_of a.parts later.0) ∙ ap (λ (parts : List (List Marked)). filter_map meaning_of parts) (sym same.0) ∙ q.6 in
-    a.given ∙ ap (λ (events : List Seen). old.waiting ++ events) (nil_left _ _ none) ∙ append-nil old.waiting
+    record {
+      rest = a.rest;
+      stands = a.stands;
+      undecided = a.division.undecided;
+      others = later.0;
+      last = later.1;
+      division = later.2;
+      none = nil_right _ _ none;
+      no_paste = ap (λ (ms : List Marked). begins paste_start (bytes_of ms)) (sym same.1) ∙ q.7;
+      same = a.given ∙ ap (λ (events : List Seen). old.waiting ++ events) (nil_left _ _ none) ∙ append-nil old.waiting;
+    }
 
--- a byte of a piece that ends no event gives none
+begins_longer : (p x : List Marked) → begins paste_start (bytes_of p) ≡ true → begins paste_start (bytes_of (p ++ x)) ≡ true
+begins_longer p x h = begins_from paste_start (bytes_of (p ++ x)) (drop 6 (bytes_of p) ++ bytes_of x) (bytes_of-append p x ∙ ap (λ (ys : List ℕ). ys ++ bytes_of x) (begins_is paste_start (bytes_of p) h))
+
+not_cons_seen : (x : Seen) (xs : List Seen) → x ∷ xs ≡ [] → ⊥
+not_cons_seen x xs e = cc
+
+pasted_is : (raw : Bool) (bytes : List ℕ) → begins paste_start bytes ≡ true → meaning_seen raw bytes ≡ Some (pasted (paste_text bytes))
+pasted_is raw bytes h = rw h
+
+means_paste : (p : List Marked) (ps : List (List Marked)) → begins paste_start (bytes_of p) ≡ true → filter_map meaning_of (p ∷ ps) ≡ [] → ⊥
+means_paste p ps h e = not_cons_seen _ _ (sym (ap (λ (o : Option Seen). cons_option o (filter_map meaning_of ps)) (pasted_is (last_raw p) (bytes_of p) h)) ∙ e)
+
+-- the first part is no paste
+abbrev NoneFirst : List (List Marked) → Type 0
+NoneFirst others = (p : List Marked) (ps : List (List Marked)) → others ≡ p ∷ ps → begins paste_start (bytes_of p) ≡ true → ⊥
+
+quiet_first : (others : List (List Marked)) → filter_map meaning_of others ≡ [] → NoneFirst others
+quiet_first others e p ps is h = means_paste p ps h (ap (λ (xs : List (List Marked)). filter_map meaning_of xs) (sym is) ∙ e)
+
+free_first : (others : List (List Marked)) → AllByRecursion (λ part. begins paste_start (bytes_of part) ≡ false) others → NoneFirst others
+free_first [] all p ps is h = cc
+free_first (q ∷ qs) all p ps is h =
+    let same : q ≡ p = cc in
+    false≢true (sym all.0 ∙ ap (λ (ms : List Marked). begins paste_start (bytes_of ms)) same ∙ h)
+
+all_right : {A : Type 0} (P : A → Type 0) (xs ys : List A) → AllByRecursion P (xs ++ ys) → AllByRecursion P ys
+all_right P [] ys h = h
+all_right P (x ∷ xs) ys h = all_right P xs ys h.1
+
+-- what is left of an open paste is no quiet rest
+paste_left : (rest more : List Marked) (others : List (List Marked)) (last : List Marked) → begins paste_start (bytes_of rest) ≡ true → IsUndecided grammar.Whole rest
+    → Divides grammar.Whole (rest ++ more) others last → NoneFirst others → begins paste_start (bytes_of last) ≡ false → ⊥
+paste_left rest more [] last e u d none h = false≢true (sym h ∙ ap (λ (ms : List Marked). begins paste_start (bytes_of ms)) (sym d.joined) ∙ begins_longer rest more e)
+paste_left rest more (p ∷ ps) last e u d none h = elim (two_fronts rest p more (flat_map (λ part. part) ps ++ last) (d.joined ∙ append_assoc p (flat_map (λ part. part) ps) last)) [
+  | inl w ↦ none p ps refl (ap (λ (ms : List Marked). begins paste_start (bytes_of ms)) w.1 ∙ begins_longer rest w.0 e)
+  | inr w ↦ not_front grammar.Whole p w.0 rest w.1 d.whole.0 u
+]
+
+not_pasting : (mid : Standing) (rest more : List Marked) (others : List (List Marked)) (last : List Marked) → Stands mid rest → IsUndecided grammar.Whole rest
+    → Divides grammar.Whole (rest ++ more) others last → NoneFirst others → begins paste_start (bytes_of last) ≡ false → is_paste mid.state ≡ false
+not_pasting mid rest more others last s u d none h = elim (cases_Bool (is_paste mid.state)) [
+  | inl t ↦ absurd (paste_left rest more others last (paste_begins mid.state (bytes_of rest) s.0 ∙ t) u d none h)
+  | inr f ↦ f
+]
+
+-- a byte of a piece that ends no event gives none, and stands in no paste
 pub byte_quiet : (old mid : Standing) (piece : List ℕ) (more raw : Bool) (i b : ℕ) (pause : Bool) → i < length piece
     → b ≡ get_or piece i 0 → pause ≡ not more && (i + 1 == length piece)
     → AdvancesOver old mid (take i (marked piece more raw))
     → EndsNoEvent old (marked piece more raw)
-    → events_left (state_after mid.state b raw pause) ≡ []
+    → (is_paste mid.state ≡ false) × (events_left (state_after mid.state b raw pause) mid.text ≡ [])
 byte_quiet old mid piece more raw i b pause l is_byte is_pause before q =
     let ms = marked piece more raw in
     let step = state_after mid.state b raw pause in
-    let new : Standing = record { waiting = mid.waiting ++ events_left step; state = state_left step; room = 0 } in
-    let next = advance_more old mid new piece more raw i b pause l is_byte is_pause refl refl before in
-    let at_i = quiet_front old mid (take i ms) (drop i ms) (subst (EndsNoEvent old) (sym (take-append-drop i ms)) q) before in
-    let at_next = quiet_front old new (take (i + 1) ms) (drop (i + 1) ms) (subst (EndsNoEvent old) (sym (take-append-drop (i + 1) ms)) q) next in
-    nothing_more mid.waiting (events_left step) (at_next ∙ sym at_i)
+    let new : Standing = record { waiting = mid.waiting ++ events_left step mid.text; state = state_left step; text = text_left step mid.state mid.text b; room = 0 } in
+    let next = advance_more old mid new piece more raw i b pause l is_byte is_pause refl refl refl before in
+    let at_i = left_of old mid (take i ms) (drop i ms) (subst (EndsNoEvent old) (sym (take-append-drop i ms)) q) before in
+    let at_next = left_of old new (take (i + 1) ms) (drop (i + 1) ms) (subst (EndsNoEvent old) (sym (take-append-drop (i + 1) ms)) q) next in (
+      not_pasting mid at_i.rest (drop i ms) at_i.others at_i.last at_i.stands at_i.undecided at_i.division (quiet_first at_i.others at_i.none) at_i.no_paste,
+      nothing_more mid.waiting (events_left step mid.text) (at_next.same ∙ sym at_i.same),
+    )
+
+-- a byte of a piece that opens no paste stands in none
+pub byte_free : (old mid : Standing) (ms : List Marked) (i : ℕ) → AdvancesOver old mid (take i ms) → OpensNoPaste old ms → is_paste mid.state ≡ false
+byte_free old mid ms i first q =
+    let taken = take i ms in
+    let more = drop i ms in
+    let a = first q.0 q.3 q.4 in
+    let later = some_division grammar.Whole nil_not_whole whole_or_not (a.rest ++ more) in
+    let all = divide_join grammar.Whole (q.0 ++ taken) more a.parts later.0 a.rest later.1 a.division later.2 in
+    let whole : Divides grammar.Whole (q.0 ++ (taken ++ more)) q.1 q.2 = subst (λ (xs : List Marked). Divides grammar.Whole (q.0 ++ xs) q.1 q.2) (sym (take-append-drop i ms)) q.5 in
+    let same = one_division grammar.Whole nil_not_whole whole_closes (q.0 ++ (taken ++ more)) q.1 (a.parts ++ later.0) q.2 later.1 whole (rw (← append_assoc q.0 taken more) all) in
+    let free = all_right (λ part. begins paste_start (bytes_of part) ≡ false) a.parts later.0 (subst (AllByRecursion (λ part. begins paste_start (bytes_of part) ≡ false)) same.0 q.6) in
+    not_pasting mid a.rest more later.0 later.1 a.stands a.division.undecided later.2 (free_first later.0 free) (ap (λ (xs : List Marked). begins paste_start (bytes_of xs)) (sym same.1) ∙ q.7)
+
+-- the text of a parser is as long as the paste that its bytes open
+text_length : (s : Bool) (bytes text : List ℕ) → begins paste_start bytes ≡ s → text ≡ cond s (drop 6 bytes) [] → cond s (length bytes - 6) 0 ≡ length text
+text_length true bytes text h e = sym (ap length e ∙ length-drop 6 bytes)
+text_length false bytes text h e = sym (ap length e)
+
+pub paste_length_is : (parser : Standing) (before : List Marked) → Stands parser before → paste_length (bytes_of before) ≡ length parser.text
+paste_length_is parser before h =
+    let began = paste_begins parser.state (bytes_of before) h.0 in
+    rw began (text_length (is_paste parser.state) (bytes_of before) parser.text began h.1)
+
+-- the steps of the bytes of a piece
+pub takes_steps : (old new : Standing) (s t n : ℕ) → t + length new.text ≤ s + length old.text + 2 * n → TakesSteps old new s t n
+takes_steps old new s t n h before rest stands still = rw (paste_length_is old before stands, paste_length_is new rest still) h

@@ -1,5 +1,6 @@
 -- Tests of the grammar, which its slow program runs. They say what the definitions say.
-use Rattle.std.specs.Prelude.{ℕ, zero, suc, ◌==◌, nat_le, if◌then◌else◌, Bool, true, false, ◌&&◌, ◌||◌, List, [], ◌∷◌}
+use Rattle.std.specs.Prelude.{ℕ, zero, suc, ◌==◌, nat_le, if◌then◌else◌, Bool, true, false, ◌&&◌, ◌||◌, List, [], ◌∷◌, drop}
+use Rattle.crossterm_parse.specs.Grammar.{paste_mark, paste_end}
 use Rattle.crossterm_parse.specs.Marked.{Marked, bytes_of}
 
 abbrev pub is_nil : List ℕ → Bool
@@ -13,6 +14,12 @@ is_one (b ∷ bs) = is_nil bs
 abbrev pub is_digit : ℕ → Bool
 is_digit b = nat_le 48 b && nat_le b 57
 
+-- whether the second list begins with the first
+abbrev pub begins : List ℕ → List ℕ → Bool
+begins [] bs = true
+begins (p ∷ ps) [] = false
+begins (p ∷ ps) (b ∷ bs) = begins ps bs && (b == p)
+
 abbrev pub begins_with_digit : List ℕ → Bool
 begins_with_digit [] = false
 begins_with_digit (b ∷ bs) = is_digit b
@@ -21,30 +28,56 @@ begins_with_digit (b ∷ bs) = is_digit b
 abbrev pub is_final : ℕ → Bool
 is_final b = nat_le 64 b && nat_le b 126
 
--- the first final byte is the last byte
-abbrev pub ends_numbered : List ℕ → Bool
-ends_numbered [] = false
-ends_numbered (b ∷ bs) = if is_final b then is_nil bs else ends_numbered bs
+-- the first byte that passes the test is the last byte
+abbrev pub ends_at : (ℕ → Bool) → List ℕ → Bool
+ends_at test [] = false
+ends_at test (b ∷ bs) = if test b then is_nil bs else ends_at test bs
 
--- the first `c` or `u` is the last byte
+-- what ends a reply: `c` or `u`
+abbrev pub is_reply_end : ℕ → Bool
+is_reply_end b = b == 99 || b == 117
+
+-- what ends a report of the mouse: `M` or `m`
+abbrev pub is_mouse_end : ℕ → Bool
+is_mouse_end b = b == 77 || b == 109
+
+abbrev pub ends_numbered : List ℕ → Bool
+ends_numbered bs = ends_at is_final bs
+
 abbrev pub ends_reply : List ℕ → Bool
-ends_reply [] = false
-ends_reply (b ∷ bs) = if b == 99 || b == 117 then is_nil bs else ends_reply bs
+ends_reply bs = ends_at is_reply_end bs
+
+abbrev pub ends_mouse : List ℕ → Bool
+ends_mouse bs = ends_at is_mouse_end bs
+
+abbrev pub is_three : List ℕ → Bool
+is_three (a ∷ b ∷ bs) = is_one bs
+is_three _ = false
 
 -- the same, but a `u` at once is no end
 abbrev pub ends_private : List ℕ → Bool
 ends_private [] = false
 ends_private (b ∷ bs) = if b == 99 then is_nil bs else ends_reply bs
 
+-- the first end of a paste is the end
+abbrev pub ends_paste : List ℕ → Bool
+ends_paste [] = false
+ends_paste (b ∷ bs) = if begins paste_end (b ∷ bs) then is_nil (drop 5 bs) else ends_paste bs
+
+-- a numbered sequence or a paste, from its first digit on
+abbrev pub ends_digit : List ℕ → Bool
+ends_digit [] = false
+ends_digit (b ∷ bs) = if begins paste_mark (b ∷ bs) then ends_paste (drop 3 bs) else ends_numbered bs
+
 abbrev pub ends_csi : List ℕ → Bool
 ends_csi [] = false
-ends_csi (b ∷ bs) = if b == 91 then is_one bs else if b == 63 then ends_private bs else if is_digit b then ends_numbered bs else is_nil bs
-
--- whether the second list begins with the first
-abbrev pub begins : List ℕ → List ℕ → Bool
-begins [] bs = true
-begins (p ∷ ps) [] = false
-begins (p ∷ ps) (b ∷ bs) = begins ps bs && (b == p)
+ends_csi (b ∷ bs) =
+    if b == 91 then is_one bs else
+    if b == 77 then is_three bs else
+    if b == 60 then ends_mouse bs else
+    if b == 63 then ends_private bs else
+    if is_digit b then ends_digit (b ∷ bs) else
+    is_nil bs
 
 abbrev pub is_lead : ℕ → Bool
 is_lead b = nat_le 192 b && nat_le b 247

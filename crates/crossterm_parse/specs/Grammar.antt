@@ -28,9 +28,13 @@ IsDigit b = (48 ≤ b) × (b ≤ 57)
 abbrev pub IsFinal : ℕ → Type 0
 IsFinal b = (64 ≤ b) × (b ≤ 126)
 
--- A byte after `ESC [` that doesn't ask for more: neither `[`, nor `?`, nor a digit.
+-- A byte after `ESC [` that doesn't ask for more: neither `[`, `M`, `<` nor `?`, nor a digit.
 abbrev pub IsAlone : ℕ → Type 0
-IsAlone b = (b ≢ 91) × (b ≢ 63) × ¬ IsDigit b
+IsAlone b = (b ≢ 91) × (b ≢ 77) × (b ≢ 60) × (b ≢ 63) × ¬ IsDigit b
+
+-- A byte that ends no report of the mouse, which `M` and `m` do.
+abbrev pub EndsNoMouse : ℕ → Type 0
+EndsNoMouse b = (b ≢ 77) × (b ≢ 109)
 
 -- A byte that ends no reply, and bytes after `ESC [ ?` that end none: there a `u` at once ends none either.
 abbrev pub EndsNoReply : ℕ → Type 0
@@ -44,8 +48,23 @@ HasNoEnd (b ∷ bs) = (b ≢ 99) × AllByRecursion EndsNoReply bs
 abbrev pub EndsReply : List ℕ → ℕ → Type 0
 EndsReply w f = (f ≡ 99) ⊎ ((f ≡ 117) × (w ≢ []))
 
+-- What opens a paste, from its first digit on and whole, and what ends it (xterm, bracketed paste mode).
+abbrev pub paste_mark : List ℕ
+paste_mark = 50 ∷ 48 ∷ 48 ∷ 126 ∷ []
+
+abbrev pub paste_start : List ℕ
+paste_start = 27 ∷ 91 ∷ paste_mark
+
+abbrev pub paste_end : List ℕ
+paste_end = 27 ∷ 91 ∷ 50 ∷ 48 ∷ 49 ∷ 126 ∷ []
+
+-- The end that follows the text is the first one.
+abbrev pub EndsFirst : List ℕ → Type 0
+EndsFirst text = (front back : List ℕ) → text ++ paste_end ≡ front ++ (paste_end ++ back) → back ≡ []
+
 -- The shapes of a sequence: a character, two escapes, a character after an escape, `ESC O b` (SS3, ECMA-48), `ESC [ b` (CSI, ECMA-48),
--- `ESC [ [ b` (the Linux console), a reply, which begins with `ESC [` and a question mark (xterm, kitty), and a numbered sequence `ESC [ d w f` with d a digit (xterm, kitty).
+-- `ESC [ [ b` (the Linux console), a report of the mouse in three bytes after `ESC [ M` or in digits after `ESC [ <` (xterm), a reply, which
+-- begins with `ESC [` and a question mark (xterm, kitty), a numbered sequence `ESC [ d w f` with d a digit (xterm, kitty), and a paste.
 pub data Shape (bytes : List ℕ) : Type 0 where
   text : CharacterShape bytes → Shape bytes
   two_escapes : bytes ≡ 27 ∷ 27 ∷ [] → Shape bytes
@@ -53,8 +72,12 @@ pub data Shape (bytes : List ℕ) : Type 0 where
   after_ss3 : (b : ℕ) → bytes ≡ 27 ∷ 79 ∷ b ∷ [] → Shape bytes
   after_csi : (b : ℕ) → IsAlone b → bytes ≡ 27 ∷ 91 ∷ b ∷ [] → Shape bytes
   after_bracket : (b : ℕ) → bytes ≡ 27 ∷ 91 ∷ 91 ∷ b ∷ [] → Shape bytes
+  coded : (a b c : ℕ) → bytes ≡ 27 ∷ 91 ∷ 77 ∷ a ∷ b ∷ c ∷ [] → Shape bytes
+  mouse : (w : List ℕ) (f : ℕ) → AllByRecursion EndsNoMouse w → (f ≡ 77) ⊎ (f ≡ 109) → bytes ≡ 27 ∷ 91 ∷ 60 ∷ (w ++ f ∷ []) → Shape bytes
   reply : (w : List ℕ) (f : ℕ) → HasNoEnd w → EndsReply w f → bytes ≡ 27 ∷ 91 ∷ 63 ∷ (w ++ f ∷ []) → Shape bytes
-  numbered : (d f : ℕ) (w : List ℕ) → IsDigit d → AllByRecursion (λ b. ¬ IsFinal b) w → IsFinal f → bytes ≡ 27 ∷ 91 ∷ d ∷ (w ++ f ∷ []) → Shape bytes
+  numbered : (d f : ℕ) (w : List ℕ) → IsDigit d → AllByRecursion (λ b. ¬ IsFinal b) w → IsFinal f → bytes ≢ paste_start
+      → bytes ≡ 27 ∷ 91 ∷ d ∷ (w ++ f ∷ []) → Shape bytes
+  paste : (text : List ℕ) → EndsFirst text → bytes ≡ paste_start ++ (text ++ paste_end) → Shape bytes
 
 -- An escape that nothing came with after it.
 abbrev pub BeginsPaused : List Marked → Type 0
@@ -65,7 +88,3 @@ BeginsPaused (m ∷ ms) = (m.byte ≡ 27) × (m.pause ≡ true)
 pub data Whole (ms : List Marked) : Type 0 where
   key : (raw : Bool) → ms ≡ record { byte = 27; raw = raw; pause = true } ∷ [] → Whole ms
   sequence : Shape (bytes_of ms) → ¬ BeginsPaused ms → Whole ms
-
--- What opens a paste (xterm, bracketed paste mode).
-abbrev pub paste_start : List ℕ
-paste_start = 27 ∷ 91 ∷ 50 ∷ 48 ∷ 48 ∷ 126 ∷ []

@@ -1,3 +1,4 @@
+pub mod Bits
 pub mod Characters
 pub mod Deciding
 pub mod Division
@@ -6,6 +7,7 @@ pub mod Grammar
 pub mod Machine
 pub mod Marked
 pub mod Meaning
+pub mod Mouse
 pub mod Number
 pub mod Numbered
 pub mod Standing

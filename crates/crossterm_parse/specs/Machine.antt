@@ -1,30 +1,36 @@
 -- The state of an open sequence.
-use Rattle.std.specs.Prelude.{◌≡◌, ℕ, ◌==◌, if◌then◌else◌, Bool, true, false, List, [], ◌∷◌, Some, option_to_list, nat_lt, ◌<◌, ◌&&◌, Option}
+use Rattle.std.specs.Prelude.{◌≡◌, ℕ, ◌-◌, length, take, ◌++◌, ◌==◌, if◌then◌else◌, Bool, true, false, List, [], ◌∷◌, Some, option_to_list, nat_lt, ◌<◌, ◌&&◌, Option, None}
 use Rattle.std.specs.List.{AllByRecursion}
 use Rattle.std.specs.Option.{option_map}
 use Rattle.bstr.specs.Utf8.{decoded}
 use Rattle.crossterm_types.specs.Seen.{Seen}
 use Rattle.crossterm_types.specs.declared.event.key.KeyCode.TheVariants.{Esc}
 use Rattle.crossterm_parse.specs.Characters.{begun_bytes}
-use Rattle.crossterm_parse.specs.Deciding.{is_decided, is_digit, is_final, is_lead, is_continuing, further_after}
+use Rattle.crossterm_parse.specs.Deciding.{is_decided, begins, ends_paste, is_digit, is_final, is_mouse_end, is_lead, is_continuing, further_after}
 use Rattle.crossterm_parse.specs.Fields.{cut, empty_fields, fields_after, ReadsFields}
-use Rattle.crossterm_parse.specs.Grammar.{IsLead, IsContinuing, IsDigit, IsFinal, HasNoEnd}
-use Rattle.crossterm_parse.specs.Meaning.{pressed_with, single, with_alt, after_ss3, after_csi, after_bracket, flags_reply, decoded_character, meaning, seen_meaning}
+use Rattle.crossterm_parse.specs.Grammar.{IsLead, IsContinuing, IsDigit, IsFinal, EndsNoMouse, HasNoEnd, paste_mark, paste_start}
+use Rattle.crossterm_parse.specs.Meaning.{pressed_with, single, with_alt, after_ss3, after_csi, after_bracket, flags_reply, decoded_character, meaning, seen_meaning, pasted}
 use Rattle.crossterm_parse.specs.Number.{reading}
-use Rattle.crossterm_parse.specs.Numbered.{Readings, numbered_by, last_of}
+use Rattle.crossterm_parse.specs.Numbered.{Readings, numbered_by, sgr_by, coded_by, last_of}
 use Rattle.crossterm_parse.specs.Utf8.{utf8_after, TracksUtf8}
 use Rattle.crossterm_parse.specs.declared.character.Begun.{Begun}
 use Rattle.crossterm_parse.specs.declared.character.Begun.TheVariants.{One, Two, Three}
 use Rattle.crossterm_parse.specs.declared.character.Grown.{Grown}
 use Rattle.crossterm_parse.specs.declared.character.Grown.TheVariants.{More, Over}
 use Rattle.crossterm_parse.specs.declared.meaning.Meaning.TheVariants.{PrimaryDeviceAttributes}
+use Rattle.crossterm_parse.specs.declared.mouse.Codes.{Codes}
+use Rattle.crossterm_parse.specs.declared.mouse.Codes.TheVariants as codes
 use Rattle.crossterm_parse.specs.declared.numbered.Digits.{Digits}
+use Rattle.crossterm_parse.specs.declared.paste.Met.{Met}
+use Rattle.crossterm_parse.specs.declared.paste.Met.TheVariants as met
+use Rattle.crossterm_parse.specs.declared.paste.Opening.{Opening}
+use Rattle.crossterm_parse.specs.declared.paste.Opening.TheVariants as opening
 use Rattle.crossterm_parse.specs.declared.state.State.{State}
-use Rattle.crossterm_parse.specs.declared.state.State.TheVariants.{Ground, Escape, Ss3, Csi, Bracket, Private, Reply, Numbered, Utf8}
+use Rattle.crossterm_parse.specs.declared.state.State.TheVariants.{Ground, Escape, Ss3, Csi, Bracket, Coded, Sgr, Private, Reply, Numbered, Paste, Utf8}
 use Rattle.crossterm_parse.specs.declared.state.Step.{Step}
 use Rattle.crossterm_parse.specs.declared.utf8.Validity.{Validity}
 use Rattle.crossterm_parse.specs.declared.utf8.Validity.TheVariants.{Sound, Partial, Broken}
-use Rattle.crossterm_parse.specs.declared.state.Step.TheVariants.{Open, Whole}
+use Rattle.crossterm_parse.specs.declared.state.Step.TheVariants.{Open, Whole, Closed}
 
 -- what a character means that is over, or broken off
 abbrev pub over : Bool → Option ℕ → Grown
@@ -66,6 +72,54 @@ readings_at d = record {
   utf8 = is_sound d.validity;
 }
 
+-- one more byte after `ESC [ M`
+abbrev pub coded_after : Codes → ℕ → Step
+coded_after codes.Empty b = Open (Coded (codes.Code b))
+coded_after (codes.Code a) b = Open (Coded (codes.Column a b))
+coded_after (codes.Column a b) c = Whole (coded_by a b c)
+
+abbrev pub codes_bytes : Codes → List ℕ
+codes_bytes codes.Empty = []
+codes_bytes (codes.Code a) = a ∷ []
+codes_bytes (codes.Column a b) = a ∷ b ∷ []
+
+-- how far what opens a paste is met, with the first digit and with one more byte
+abbrev pub opens_with : ℕ → Opening
+opens_with b = if b == 50 then opening.Two else opening.Not
+
+abbrev pub opens_after : Opening → ℕ → Opening
+opens_after opening.Two b = if b == 48 then opening.Zero else opening.Not
+opens_after opening.Zero b = if b == 48 then opening.Zeros else opening.Not
+opens_after opening.Zeros b = opening.Not
+opens_after opening.Not b = opening.Not
+
+-- a final byte ends a numbered sequence or opens a paste
+abbrev pub number_ends : Opening → Digits → Bool → ℕ → Step
+number_ends opening.Two d raw b = Whole (numbered_by raw b (readings_at d))
+number_ends opening.Zero d raw b = Whole (numbered_by raw b (readings_at d))
+number_ends opening.Zeros d raw b = if b == 126 then Open (Paste met.Nothing) else Whole (numbered_by raw b (readings_at d))
+number_ends opening.Not d raw b = Whole (numbered_by raw b (readings_at d))
+
+-- how far the end of a paste is met
+abbrev pub met_bytes : Met → List ℕ
+met_bytes met.Nothing = []
+met_bytes met.Escape = 27 ∷ []
+met_bytes met.Bracket = 27 ∷ 91 ∷ []
+met_bytes met.Two = 27 ∷ 91 ∷ 50 ∷ []
+met_bytes met.Zero = 27 ∷ 91 ∷ 50 ∷ 48 ∷ []
+met_bytes met.One = 27 ∷ 91 ∷ 50 ∷ 48 ∷ 49 ∷ []
+
+abbrev pub met_anew : ℕ → Step
+met_anew b = Open (Paste (if b == 27 then met.Escape else met.Nothing))
+
+abbrev pub met_after : Met → ℕ → Step
+met_after met.Nothing b = met_anew b
+met_after met.Escape b = if b == 91 then Open (Paste met.Bracket) else met_anew b
+met_after met.Bracket b = if b == 50 then Open (Paste met.Two) else met_anew b
+met_after met.Two b = if b == 48 then Open (Paste met.Zero) else met_anew b
+met_after met.Zero b = if b == 49 then Open (Paste met.One) else met_anew b
+met_after met.One b = if b == 126 then Closed else met_anew b
+
 -- what one more byte does to the state
 abbrev pub state_after : State → ℕ → Bool → Bool → Step
 state_after Ground b raw pause = if b == 27 then (if pause then Whole (Some (pressed_with Esc 0)) else Open Escape) else
@@ -79,26 +133,49 @@ state_after Escape b raw pause =
 state_after Ss3 b raw pause = Whole (after_ss3 b)
 state_after Csi b raw pause =
     if b == 91 then Open Bracket else
+    if b == 77 then Open (Coded codes.Empty) else
+    if b == 60 then Open (Sgr empty_digits) else
     if b == 63 then Open Private else
-    if is_digit b then Open (Numbered (digits_after empty_digits b)) else
+    if is_digit b then Open (Numbered (digits_after empty_digits b) (opens_with b)) else
     Whole (after_csi b)
 state_after Bracket b raw pause = Whole (after_bracket b)
+state_after (Coded c) b raw pause = coded_after c b
+state_after (Sgr d) b raw pause = if is_mouse_end b then Whole (sgr_by b (readings_at d)) else Open (Sgr (digits_after d b))
 state_after Private b raw pause = if b == 99 then Whole (Some PrimaryDeviceAttributes) else Open (Reply b)
 state_after (Reply first) b raw pause =
     if b == 99 then Whole (Some PrimaryDeviceAttributes) else
     if b == 117 then Whole (Some (flags_reply first)) else
     Open (Reply first)
-state_after (Numbered d) b raw pause = if is_final b then Whole (numbered_by raw b (readings_at d)) else Open (Numbered (digits_after d b))
+state_after (Numbered d o) b raw pause = if is_final b then number_ends o d raw b else Open (Numbered (digits_after d b) (opens_after o b))
+state_after (Paste m) b raw pause = met_after m b
 state_after (Utf8 c) b raw pause = step_of c.escaped (grown c.escaped c.begun b)
 
--- the state that a byte leaves, and the events that it gives
+-- the state that a byte leaves, the text of a paste, and the events that it gives
 abbrev pub state_left : Step → State
 state_left (Open state) = state
-state_left (Whole meaning) = Ground
+state_left (Whole event) = Ground
+state_left Closed = Ground
 
-abbrev pub events_left : Step → List Seen
-events_left (Open state) = []
-events_left (Whole meaning) = option_to_list (option_map seen_meaning meaning)
+-- whether a paste is open
+abbrev pub is_paste : State → Bool
+is_paste (Paste m) = true
+is_paste _ = false
+
+-- the text of an open paste, with what may be the front of its end
+abbrev pub text_left : Step → State → List ℕ → ℕ → List ℕ
+text_left (Open next) state text b = if is_paste next then (if is_paste state then text ++ b ∷ [] else []) else text
+text_left (Whole event) state text b = text
+text_left Closed state text b = []
+
+abbrev pub events_left : Step → List ℕ → List Seen
+events_left (Open state) text = []
+events_left (Whole event) text = option_to_list (option_map seen_meaning event)
+events_left Closed text = pasted (take (length text - 5) text) ∷ []
+
+-- the text that is kept, where one is
+abbrev pub text_of : Option (List ℕ) → List ℕ
+text_of None = []
+text_of (Some text) = text
 
 abbrev pub prefixed : Bool → List ℕ → List ℕ
 prefixed escaped bytes = if escaped then 27 ∷ bytes else bytes
@@ -115,16 +192,43 @@ pub record OpenReply (first : ℕ) (bytes : List ℕ) : Type 0 where
   pub is : bytes ≡ 27 ∷ 91 ∷ 63 ∷ first ∷ more
   pub no_end : HasNoEnd (first ∷ more)
 
+-- What is kept of a text tells of it.
+pub record Kept (d : Digits) (text : List ℕ) : Type 0 where
+  pub reads : ReadsFields d.fields (cut 59 text)
+  pub last : d.last ≡ last_of text
+  pub utf8 : TracksUtf8 text d.validity
+
+-- A report of the mouse that is open: what came after `ESC [ <`.
+pub record OpenMouse (d : Digits) (bytes : List ℕ) : Type 0 where
+  pub more : List ℕ
+  pub is : bytes ≡ 27 ∷ 91 ∷ 60 ∷ more
+  pub no_end : AllByRecursion EndsNoMouse more
+  pub kept : Kept d more
+
+-- Whether a text may still be what opens a paste.
+abbrev pub IsOpening : Opening → List ℕ → Type 0
+IsOpening opening.Two text = text ≡ 50 ∷ []
+IsOpening opening.Zero text = text ≡ 50 ∷ 48 ∷ []
+IsOpening opening.Zeros text = text ≡ 50 ∷ 48 ∷ 48 ∷ []
+IsOpening opening.Not text = (more : List ℕ) → begins paste_mark (text ++ more) ≡ false
+
+-- A paste that is open: its text ends as far as the end is met, and goes on as that alone would.
+pub record OpenPaste (m : Met) (bytes : List ℕ) : Type 0 where
+  pub text : List ℕ
+  pub is : bytes ≡ paste_start ++ text
+  pub before : List ℕ
+  pub ends : text ≡ before ++ met_bytes m
+  pub alike : (more : List ℕ) → ends_paste (text ++ more) ≡ ends_paste (met_bytes m ++ more)
+
 -- A numbered sequence that is open: its first digit, and what came after it.
-pub record OpenNumber (d : Digits) (bytes : List ℕ) : Type 0 where
+pub record OpenNumber (d : Digits) (o : Opening) (bytes : List ℕ) : Type 0 where
   pub digit : ℕ
   pub more : List ℕ
   pub is : bytes ≡ 27 ∷ 91 ∷ digit ∷ more
   pub is_digit : IsDigit digit
   pub no_final : AllByRecursion (λ b. ¬ IsFinal b) more
-  pub reads : ReadsFields d.fields (cut 59 (digit ∷ more))
-  pub last : d.last ≡ last_of (digit ∷ more)
-  pub utf8 : TracksUtf8 (digit ∷ more) d.validity
+  pub kept : Kept d (digit ∷ more)
+  pub opens : IsOpening o (digit ∷ more)
 
 -- The state stands for these bytes of an open sequence.
 abbrev pub StandsFor : State → List ℕ → Type 0
@@ -133,12 +237,16 @@ StandsFor Escape bytes = bytes ≡ 27 ∷ []
 StandsFor Ss3 bytes = bytes ≡ 27 ∷ 79 ∷ []
 StandsFor Csi bytes = bytes ≡ 27 ∷ 91 ∷ []
 StandsFor Bracket bytes = bytes ≡ 27 ∷ 91 ∷ 91 ∷ []
+StandsFor (Coded c) bytes = bytes ≡ 27 ∷ 91 ∷ 77 ∷ codes_bytes c
+StandsFor (Sgr d) bytes = OpenMouse d bytes
 StandsFor Private bytes = bytes ≡ 27 ∷ 91 ∷ 63 ∷ []
 StandsFor (Reply first) bytes = OpenReply first bytes
-StandsFor (Numbered d) bytes = OpenNumber d bytes
+StandsFor (Numbered d o) bytes = OpenNumber d o bytes
+StandsFor (Paste m) bytes = OpenPaste m bytes
 StandsFor (Utf8 c) bytes = (bytes ≡ prefixed c.escaped (begun_bytes c.begun)) × IsBegun c.begun
 
 -- What a byte did is right, where these are the bytes with it.
 abbrev pub IsRight : Step → List ℕ → Bool → Bool → Type 0
 IsRight (Open state) bytes raw pause = (is_decided bytes pause ≡ false) × StandsFor state bytes
-IsRight (Whole event) bytes raw pause = (is_decided bytes pause ≡ true) × (event ≡ meaning raw bytes)
+IsRight (Whole event) bytes raw pause = (is_decided bytes pause ≡ true) × (event ≡ meaning raw bytes) × (begins paste_start bytes ≡ false)
+IsRight Closed bytes raw pause = (is_decided bytes pause ≡ true) × (begins paste_start bytes ≡ true)

@@ -1,19 +1,20 @@
 -- What a whole sequence means.
-use Rattle.std.specs.Prelude.{ℕ, ◌+◌, ◌-◌, ◌==◌, nat_lt, nat_le, if◌then◌else◌, Bool, ◌&&◌, List, [], ◌∷◌, Option, Some, None}
+use Rattle.std.specs.Prelude.{ℕ, ◌+◌, ◌-◌, ◌==◌, nat_lt, nat_le, if◌then◌else◌, Bool, ◌&&◌, List, [], ◌∷◌, length, take, drop, encode_utf8_all, Option, Some, None}
 use Rattle.std.specs.Int.RustNames.{bit_and, bit_or}
 use Rattle.std.specs.Option.{option_map}
-use Rattle.bstr.specs.Utf8.{decoded}
+use Rattle.bstr.specs.Utf8.{decoded, lossy_chars}
 use Rattle.unicode.specs.Binary.{is_uppercase}
 use Rattle.crossterm_types.specs.declared.event.key.KeyCode.{KeyCode}
 use Rattle.crossterm_types.specs.declared.event.key.KeyCode.TheVariants.{Backspace, Enter, Left, Right, Up, Down, Home, End, Tab, BackTab, F, Char, Esc}
 use Rattle.crossterm_types.specs.Keys.{modifiers_of, pressed}
 use Rattle.crossterm_types.specs.Seen as types
 use Rattle.crossterm_types.specs.Seen.{Seen}
-use Rattle.crossterm_parse.specs.Deciding.{is_digit}
+use Rattle.crossterm_parse.specs.Deciding.{is_digit, begins}
+use Rattle.crossterm_parse.specs.Grammar.{paste_start}
 use Rattle.crossterm_parse.specs.Marked.{Marked, bytes_of, last_raw}
-use Rattle.crossterm_parse.specs.Numbered.{numbered, last_of}
+use Rattle.crossterm_parse.specs.Numbered.{numbered, sgr, coded_by, last_of}
 use Rattle.crossterm_parse.specs.declared.meaning.Meaning.{Meaning}
-use Rattle.crossterm_parse.specs.declared.meaning.Meaning.TheVariants.{Key, FocusGained, FocusLost, CursorPosition, KeyboardEnhancementFlags, PrimaryDeviceAttributes}
+use Rattle.crossterm_parse.specs.declared.meaning.Meaning.TheVariants.{Key, Mouse, FocusGained, FocusLost, CursorPosition, KeyboardEnhancementFlags, PrimaryDeviceAttributes}
 
 -- A key that is pressed with the modifiers of these bits: 1 is SHIFT, 2 CONTROL, 4 ALT.
 abbrev pub pressed_with : KeyCode → ℕ → Meaning
@@ -92,6 +93,11 @@ abbrev pub bracket_meaning : List ℕ → Option Meaning
 bracket_meaning [] = None
 bracket_meaning (b ∷ bs) = after_bracket b
 
+-- The three bytes after `ESC [ M`.
+abbrev pub coded_meaning : List ℕ → Option Meaning
+coded_meaning (a ∷ b ∷ c ∷ bs) = coded_by a b c
+coded_meaning _ = None
+
 -- The flags of a reply: the low four bits of the byte after `?`.
 abbrev pub flags_reply : ℕ → Meaning
 flags_reply b = KeyboardEnhancementFlags (record { 0 = bit_and b 15 })
@@ -105,6 +111,8 @@ abbrev pub csi_meaning : Bool → List ℕ → Option Meaning
 csi_meaning raw [] = None
 csi_meaning raw (b ∷ bs) =
     if b == 91 then bracket_meaning bs else
+    if b == 77 then coded_meaning bs else
+    if b == 60 then sgr bs else
     if b == 63 then reply_meaning bs else
     if is_digit b then numbered raw (b ∷ bs) else
     after_csi b
@@ -122,12 +130,25 @@ meaning raw (b ∷ bs) = if b == 27 then escape_meaning raw bs else character_me
 
 abbrev pub seen_meaning : Meaning → Seen
 seen_meaning (Key k) = types.Key k
+seen_meaning (Mouse m) = types.Mouse m
 seen_meaning FocusGained = types.FocusGained
 seen_meaning FocusLost = types.FocusLost
 seen_meaning (CursorPosition column row) = types.CursorPosition column row
 seen_meaning (KeyboardEnhancementFlags flags) = types.KeyboardFlags flags
 seen_meaning PrimaryDeviceAttributes = types.PrimaryDeviceAttributes
 
+-- The text of a paste: what stands between its start and its end.
+abbrev pub paste_text : List ℕ → List ℕ
+paste_text bytes = let rest = drop 6 bytes in take (length rest - 6) rest
+
+-- A text with U+FFFD for each maximal part that isn't UTF-8 (the Unicode Standard, "U+FFFD Substitution of Maximal Subparts").
+abbrev pub pasted : List ℕ → Seen
+pasted text = types.Paste (encode_utf8_all (lossy_chars text))
+
+-- What the complete bytes of a sequence mean to a caller: a paste means its text.
+abbrev pub meaning_seen : Bool → List ℕ → Option Seen
+meaning_seen raw bytes = if begins paste_start bytes then Some (pasted (paste_text bytes)) else option_map seen_meaning (meaning raw bytes)
+
 -- What a whole sequence means: one event, or nothing.
 abbrev pub meaning_of : List Marked → Option Seen
-meaning_of ms = option_map seen_meaning (meaning (last_raw ms) (bytes_of ms))
+meaning_of ms = meaning_seen (last_raw ms) (bytes_of ms)

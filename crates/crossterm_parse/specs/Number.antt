@@ -1,5 +1,5 @@
 -- Numbers in a sequence.
-use Rattle.std.specs.Prelude.{◌≡◌, ◌<◌, ◌≤◌, ℕ, ◌+◌, ◌-◌, ◌*◌, ◌^◌, ◌==◌, nat_le, if◌then◌else◌, List, [], ◌∷◌, ◌++◌, Option, Some, None, option_and_then}
+use Rattle.std.specs.Prelude.{◌≡◌, ◌<◌, ◌≤◌, ℕ, zero, suc, ◌+◌, ◌-◌, ◌*◌, ◌^◌, ◌==◌, nat_le, if◌then◌else◌, List, [], ◌∷◌, ◌++◌, Option, Some, None, option_and_then}
 use Rattle.crossterm_parse.specs.Deciding.{is_digit}
 use Rattle.crossterm_parse.specs.declared.number.Number.{Number}
 use Rattle.crossterm_parse.specs.declared.number.Number.TheVariants.{Empty, Plus, Value, Big, Bad}
@@ -25,6 +25,14 @@ at_most limit n = option_and_then (λ n. if nat_le n limit then Some n else None
 -- The number of a text, where it is one of at most 32 bits. Smaller limits are put to it where it is used.
 abbrev pub number : List ℕ → Option ℕ
 number text = at_most 4294967295 (value_of text)
+
+-- A coordinate of at most 16 bits, at least 1, less 1.
+abbrev pub less_one : ℕ → Option ℕ
+less_one zero = None
+less_one (suc n) = Some n
+
+abbrev pub coordinate : Option ℕ → Option ℕ
+coordinate n = option_and_then less_one (at_most 65535 n)
 
 -- What a number that is being read tells of its text so far.
 abbrev pub Tracks : List ℕ → Number → Type 0

@@ -1,5 +1,5 @@
 -- What a numbered sequence means (xterm, "PC-Style Function Keys"; kitty's keyboard protocol, "Functional key definitions").
-use Rattle.std.specs.Prelude.{ℕ, zero, suc, ◌+◌, ◌-◌, ◌==◌, nat_lt, nat_le, if◌then◌else◌, Bool, ◌&&◌, ◌||◌, List, [], ◌∷◌, Option, Some, None, option_and_then}
+use Rattle.std.specs.Prelude.{ℕ, ◌+◌, ◌-◌, ◌==◌, nat_lt, nat_le, if◌then◌else◌, Bool, ◌&&◌, ◌||◌, List, [], ◌∷◌, Option, Some, None, option_and_then}
 use Rattle.std.specs.Int.RustNames.{bit_and, bit_or}
 use Rattle.std.specs.Option.{option_map}
 use Rattle.std.specs.Str.{is_utf8}
@@ -14,15 +14,13 @@ use Rattle.crossterm_types.specs.declared.event.key.ModifierKeyCode.{ModifierKey
 use Rattle.crossterm_types.specs.declared.event.key.ModifierKeyCode.TheVariants as modifier
 use Rattle.crossterm_parse.specs.Deciding.{is_digit}
 use Rattle.crossterm_parse.specs.Fields.{field_number, part_number}
-use Rattle.crossterm_parse.specs.Number.{at_most}
+use Rattle.crossterm_parse.specs.Bits.{where_bit}
+use Rattle.crossterm_parse.specs.Mouse.{less, mouse_report, released}
+use Rattle.crossterm_parse.specs.Number.{at_most, coordinate}
 use Rattle.crossterm_parse.specs.declared.meaning.Meaning.{Meaning}
-use Rattle.crossterm_parse.specs.declared.meaning.Meaning.TheVariants.{Key, CursorPosition}
+use Rattle.crossterm_parse.specs.declared.meaning.Meaning.TheVariants.{Key, Mouse, CursorPosition}
 use Rattle.crossterm_parse.specs.declared.functional.Pointed.{Pointed}
 use Rattle.crossterm_parse.specs.declared.modifier_field.Held.{Held}
-
--- a value where all bits of another are there, else nothing
-abbrev pub where_bit : ℕ → ℕ → ℕ → ℕ
-where_bit n bit value = if bit_and n bit == bit then value else 0
 
 -- The modifiers of a mask: of the mask less 1 the bits SHIFT 1, ALT 2, CONTROL 4, SUPER 8, HYPER 16 and META 32, given as the bits of `KeyModifiers`.
 abbrev pub mask_modifiers : ℕ → ℕ
@@ -105,17 +103,21 @@ tilde_code n =
 abbrev pub tilde_meaning : Readings → Option Meaning
 tilde_meaning r = option_map (λ code. key_with code (or_nothing_held (held_of r))) (option_and_then tilde_code (at_most 255 r.first))
 
--- A coordinate of at most 16 bits, at least 1, less 1.
-abbrev pub less_one : ℕ → Option ℕ
-less_one zero = None
-less_one (suc n) = Some n
-
-abbrev pub coordinate : Option ℕ → Option ℕ
-coordinate n = option_and_then less_one (at_most 65535 n)
-
 -- Final `R`: the cursor's place, row before column.
 abbrev pub cursor_meaning : Readings → Option Meaning
 cursor_meaning r = option_and_then (λ row. option_map (λ column. CursorPosition column row) (coordinate r.second)) (coordinate r.first)
+
+-- Final `M`: a report of the mouse, its code less 32 (rxvt).
+abbrev pub rxvt_meaning : Readings → Option Meaning
+rxvt_meaning r = option_map Mouse (mouse_report (option_and_then (less 32) (at_most 255 r.first)) (coordinate r.second) (coordinate r.third))
+
+-- What stands between `ESC [ <` and the final `M` or `m`: a report of the mouse, where it is UTF-8.
+abbrev pub sgr_by : ℕ → Readings → Option Meaning
+sgr_by f r = if r.utf8 then option_map (λ m. Mouse (released f m)) (mouse_report (at_most 255 r.first) (coordinate r.second) (coordinate r.third)) else None
+
+-- The three bytes after `ESC [ M`: the code plus 32, the column and the row plus 33 each.
+abbrev pub coded_by : ℕ → ℕ → ℕ → Option Meaning
+coded_by a b c = option_map Mouse (mouse_report (less 32 a) (less 33 b) (less 33 c))
 
 -- Other finals: the key of a letter.
 abbrev pub letter_code : ℕ → Option KeyCode
@@ -265,6 +267,7 @@ final_meaning raw f r =
     if f == 126 then tilde_meaning r else
     if f == 117 then code_meaning raw r else
     if f == 82 then cursor_meaning r else
+    if f == 77 then rxvt_meaning r else
     letter_meaning f r
 
 -- What is read and the final byte mean this; what isn't UTF-8 means nothing.
@@ -280,3 +283,7 @@ front_of (b ∷ c ∷ bs) = b ∷ front_of (c ∷ bs)
 -- A numbered sequence, from its first digit to its final byte.
 abbrev pub numbered : Bool → List ℕ → Option Meaning
 numbered raw text = numbered_by raw (last_of text) (readings_of (front_of text))
+
+-- A report of the mouse after `ESC [ <`, to its final byte.
+abbrev pub sgr : List ℕ → Option Meaning
+sgr text = sgr_by (last_of text) (readings_of (front_of text))

@@ -1,24 +1,30 @@
 -- What a parser stands for.
-use Rattle.std.specs.Prelude.{◌≡◌, ℕ, List, ◌++◌, [], false}
-use Rattle.std.specs.List.{filter_map, AllByRecursion}
+use Rattle.std.specs.Prelude.{◌≡◌, ◌≤◌, ℕ, ◌+◌, ◌-◌, ◌*◌, length, if◌then◌else◌, drop, List, ◌++◌, ◌∷◌, [], false}
+use Rattle.std.specs.List.{filter_map, flat_map, AllByRecursion}
 use Rattle.crossterm_types.specs.Seen.{Seen}
 use Rattle.crossterm_parse.specs.Deciding.{begins}
 use Rattle.crossterm_parse.specs.Division.{Divides, IsUndecided}
 use Rattle.crossterm_parse.specs.Grammar.{Whole, paste_start}
-use Rattle.crossterm_parse.specs.Machine.{StandsFor}
+use Rattle.crossterm_parse.specs.Machine.{StandsFor, is_paste}
 use Rattle.crossterm_parse.specs.Marked.{Marked, bytes_of}
 use Rattle.crossterm_parse.specs.Meaning.{meaning_of}
 use Rattle.crossterm_parse.specs.declared.state.State.{State}
 
--- A parser as its callers see it: the events not yet given, the state of the sequence that is open, and how many events it takes without memory.
+-- A parser as its callers see it: the events not yet given, the state of the sequence that is open, the text of an open paste, and how many
+-- events it takes without memory.
 pub record Standing : Type 0 where
   pub waiting : List Seen
   pub state : State
+  pub text : List ℕ
   pub room : ℕ
+
+-- Where a paste is open, its text is what came after its start.
+abbrev pub kept_text : State → List ℕ → List ℕ
+kept_text state bytes = if is_paste state then drop 6 bytes else []
 
 -- The parser stands for these bytes, of which none has ended a sequence.
 abbrev pub Stands : Standing → List Marked → Type 0
-Stands parser before = StandsFor parser.state (bytes_of before)
+Stands parser before = StandsFor parser.state (bytes_of before) × (parser.text ≡ kept_text parser.state (bytes_of before))
 
 -- It stands for what it stood for.
 abbrev pub StandsStill : Standing → Standing → Type 0
@@ -47,3 +53,39 @@ abbrev pub OpensNoPaste : Standing → List Marked → Type 0
 OpensNoPaste parser taken = (before : List Marked) × (parts : List (List Marked)) × (rest : List Marked)
     × Stands parser before × IsUndecided Whole before × Divides Whole (before ++ taken) parts rest
     × AllByRecursion (λ part. begins paste_start (bytes_of part) ≡ false) parts × (begins paste_start (bytes_of rest) ≡ false)
+
+-- The length of the paste that some undecided bytes open: what came after its start.
+abbrev pub paste_length : List ℕ → ℕ
+paste_length bytes = if begins paste_start bytes then length bytes - 6 else 0
+
+-- The steps up to s, and then up to t, are with the length of the open paste at most its length before and twice the bytes taken, of which there are n.
+abbrev pub TakesSteps : Standing → Standing → ℕ → ℕ → ℕ → Type 0
+TakesSteps old new s t n = (before rest : List Marked) → Stands old before → Stands new rest
+    → t + paste_length (bytes_of rest) ≤ s + paste_length (bytes_of before) + 2 * n
+
+-- The parser took these pieces one after another.
+abbrev pub AdvancesThrough : Standing → List (List Marked) → Standing → Type 0
+AdvancesThrough old [] new = new ≡ old
+AdvancesThrough old (piece ∷ pieces) new = (mid : Standing) × AdvancesOver old mid piece × AdvancesThrough mid pieces new
+
+-- Two cuttings of the same marked bytes give the same events.
+abbrev pub CutsAlike : Type 0
+CutsAlike = (old new other : Standing) (pieces others : List (List Marked)) (before : List Marked) → Stands old before → IsUndecided Whole before
+    → flat_map (λ piece. piece) pieces ≡ flat_map (λ piece. piece) others
+    → AdvancesThrough old pieces new → AdvancesThrough old others other → new.waiting ≡ other.waiting
+
+-- An empty piece does nothing: no event comes, and the parser stands for what it stood for.
+abbrev pub EmptyDoesNothing : Type 0
+EmptyDoesNothing = (old new : Standing) → AdvancesOver old new [] → (before : List Marked) → Stands old before → IsUndecided Whole before
+    → (new.waiting ≡ old.waiting) × Stands new before
+
+-- The bytes of some pieces, and the steps of calls that took them whole one after another.
+abbrev pub StepsThrough : Standing → ℕ → List (List Marked) → Standing → ℕ → Type 0
+StepsThrough old s [] new t = (new ≡ old) × (t ≡ s)
+StepsThrough old s (piece ∷ pieces) new t =
+    (mid : Standing) × (m : ℕ) × AdvancesOver old mid piece × TakesSteps old mid s m (length piece) × StepsThrough mid m pieces new t
+
+-- Over any list of calls that begins with no paste open, the steps are at most twice the bytes.
+abbrev pub TwoStepsAByte : Type 0
+TwoStepsAByte = (old new : Standing) (s t : ℕ) (pieces : List (List Marked)) (before : List Marked) → Stands old before → IsUndecided Whole before
+    → paste_length (bytes_of before) ≡ 0 → StepsThrough old s pieces new t → t ≤ s + 2 * length (flat_map (λ piece. piece) pieces)

@@ -1,10 +1,25 @@
-//! What holds of the grammar.
+//! What holds of the grammar and of the parser.
 ghost use Rattle.crossterm_parse.specs.Division.{NoneBeginsAnother, OneDivision, SomeDivision};
 ghost use Rattle.crossterm_parse.specs.Grammar.{Whole};
+ghost use Rattle.crossterm_parse.specs.Standing.{CutsAlike, EmptyDoesNothing, TwoStepsAByte};
 
 /// The law of the grammar: no whole sequence is a proper front of another, so bytes are divided in one way and in no second.
 pub fn one_division()
     ensures closed { NoneBeginsAnother Whole }
     ensures some { SomeDivision Whole }
     ensures one { OneDivision Whole }
+{}
+
+/// The law of cuttings: however the same marked bytes are cut into pieces, they give the same events, and an empty piece does nothing.
+///
+/// Marks belong to the bytes: a cut at a pause isn't a cut where more bytes follow at once.
+pub fn cuttings()
+    ensures alike { CutsAlike }
+    ensures empty { EmptyDoesNothing }
+{}
+
+/// The law of steps: over any list of calls that begins with no paste open, as with a new parser, and of which each takes its piece whole,
+/// the steps are at most twice the bytes.
+pub fn two_steps_a_byte()
+    ensures { TwoStepsAByte }
 {}

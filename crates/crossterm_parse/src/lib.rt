@@ -12,10 +12,13 @@
 //! | `ESC ESC` | the second |
 //! | ESC and one of the first two, which doesn't begin with `O` or `[` | that one's end |
 //! | `ESC O b` (SS3) | b |
-//! | `ESC [ b` (CSI), b not `[`, `?` or a digit | b |
+//! | `ESC [ b` (CSI), b not `[`, `M`, `<`, `?` or a digit | b |
 //! | `ESC [ [ b` | b |
+//! | `ESC [ M b1 b2 b3` | b3 |
+//! | `ESC [ < w f` | f, the first `M` or `m` |
 //! | `ESC [ ? w f` | f, the first byte that is `c`, or `u` but not directly after `?` |
-//! | `ESC [ d w f`, d a digit | f, the first byte of 64 to 126 |
+//! | `ESC [ d w f`, d a digit, but not `ESC[200~` | f, the first byte of 64 to 126 |
+//! | `ESC[200~` and a text | the first `ESC[201~` |
 //!
 //! ESC alone is the Esc key where nothing came with it after it.
 #![tactic(auto)]
@@ -25,10 +28,13 @@ mod fields;
 mod functional;
 pub mod laws;
 pub mod marked;
-mod meaning;
+pub mod meaning;
 mod modifier_field;
+mod mouse;
 mod number;
-mod numbered;
+pub mod numbered;
 pub mod parse;
-mod state;
+pub mod paste;
+pub mod state;
+pub mod steps;
 mod utf8;

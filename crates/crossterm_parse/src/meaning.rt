@@ -1,11 +1,14 @@
 //! What a whole sequence means.
 ghost use Rattle.std.specs.Prelude.{◌≡◌, ◌≤◌, ◌<◌, ◌&&◌, nat_le};
 ghost use Rattle.bstr.specs.Utf8.{decoded};
+ghost use Rattle.crossterm_parse.specs.Mouse.{less};
+ghost use Rattle.crossterm_parse.specs.Numbered.{coded_by};
 ghost use Rattle.crossterm_parse.specs.Meaning.{pressed_with, typed, single, decoded_character, after_ss3, after_csi, after_bracket, flags_reply, with_alt};
 
+use crate::mouse::{byte_less, report};
 use bstr::decode_utf8;
 use crossterm_types::event::{
-    Event, InternalEvent, KeyCode, KeyEvent, KeyModifiers, KeyboardEnhancementFlags,
+    Event, InternalEvent, KeyCode, KeyEvent, KeyModifiers, KeyboardEnhancementFlags, MouseEvent,
 };
 use std::alloc::Allocator;
 use unicode::properties::is_uppercase;
@@ -14,6 +17,7 @@ use unicode::properties::is_uppercase;
 #[derive(Clone, Copy)]
 pub enum Meaning {
     Key(KeyEvent),
+    Mouse(MouseEvent),
     FocusGained,
     FocusLost,
     /// Column and row, from 0.
@@ -31,6 +35,7 @@ impl<A: Allocator> From<Meaning> for InternalEvent<A> {
     fn from(meaning: Meaning) -> InternalEvent<A> {
         match meaning {
             Meaning::Key(key) => InternalEvent::Event(Event::Key(key)),
+            Meaning::Mouse(mouse) => InternalEvent::Event(Event::Mouse(mouse)),
             Meaning::FocusGained => InternalEvent::Event(Event::FocusGained),
             Meaning::FocusLost => InternalEvent::Event(Event::FocusLost),
             Meaning::CursorPosition(column, row) => InternalEvent::CursorPosition(column, row),
@@ -124,6 +129,16 @@ pub fn plus_alt(meaning: Option<Meaning>) -> Option<Meaning>
     }
 }
 
+/// A column or a row of a byte.
+fn place_in(byte: u8) -> Option<u16>
+    ensures { result ≡ less 33 byte }
+{
+    match byte_less(33, byte) {
+        Some(place) => Some(u16::from(place)),
+        None => None,
+    }
+}
+
 /// What the last byte of `ESC O b` means.
 pub fn meaning_after_ss3(byte: u8) -> Option<Meaning>
     ensures { result ≡ after_ss3 byte }
@@ -161,6 +176,17 @@ pub fn meaning_after_csi(byte: u8) -> Option<Meaning>
         _ => return None,
     };
     Some(pressed_alone(code))
+}
+
+/// What the three bytes after `ESC [ M` mean.
+pub fn meaning_of_codes(code: u8, column: u8, row: u8) -> Option<Meaning>
+    ensures { result ≡ coded_by code column row }
+{
+    let column = place_in(column);
+    match report(byte_less(32, code), column, place_in(row)) {
+        Some(event) => Some(Meaning::Mouse(event)),
+        None => None,
+    }
 }
 
 /// What the last byte of `ESC [ [ b` means.

@@ -1,6 +1,7 @@
 //! The modifier field of a numbered sequence: which modifiers and locks were on, and whether the key was pressed, held or let go.
 ghost use Rattle.std.specs.Prelude.{◌≡◌, Some};
-ghost use Rattle.crossterm_parse.specs.Numbered.{where_bit, mask_modifiers, mask_state, kind_of, held, nothing_held, fallback};
+ghost use Rattle.crossterm_parse.specs.Bits.{where_bit};
+ghost use Rattle.crossterm_parse.specs.Numbered.{mask_modifiers, mask_state, kind_of, held, nothing_held, fallback};
 
 use crossterm_types::event::{KeyEventKind, KeyEventState, KeyModifiers};
 
@@ -13,7 +14,7 @@ pub struct Held {
 }
 
 /// A value where a bit is there, else nothing.
-fn value_of_bit(bits: u8, bit: u8, value: u8) -> u8
+pub fn value_of_bit(bits: u8, bit: u8, value: u8) -> u8
     ensures { result ≡ where_bit bits bit value }
 {
     if bits & bit == bit { value } else { 0 }

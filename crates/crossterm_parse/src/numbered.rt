@@ -1,17 +1,19 @@
 //! A numbered sequence `ESC [ d w f`, with d a digit.
 ghost use Rattle.std.specs.Prelude.{◌≡◌};
-ghost use Rattle.crossterm_parse.specs.Deciding.{is_final};
+ghost use Rattle.crossterm_parse.specs.Deciding.{is_final, is_mouse_end};
 ghost use Rattle.crossterm_parse.specs.Machine.{digits_after, empty_digits, readings_at};
-ghost use Rattle.crossterm_parse.specs.Number.{at_most, reading};
-ghost use Rattle.crossterm_parse.specs.Numbered.{key_with, held_of, or_nothing_held, tilde_code, tilde_meaning, coordinate, cursor_meaning, letter_code, letter_meaning, has_shift, pointed_meaning, code_meaning, numbered_by};
+ghost use Rattle.crossterm_parse.specs.Mouse.{less, mouse_report};
+ghost use Rattle.crossterm_parse.specs.Number.{at_most, coordinate, reading};
+ghost use Rattle.crossterm_parse.specs.Numbered.{key_with, held_of, or_nothing_held, tilde_code, tilde_meaning, cursor_meaning, letter_code, letter_meaning, has_shift, pointed_meaning, code_meaning, rxvt_meaning, sgr_by, numbered_by};
 
 use crate::fields::Fields;
 use crate::functional::{Pointed, character, key_of_point};
 use crate::meaning::Meaning;
 use crate::modifier_field::Held;
+use crate::mouse::{byte_less, ended_by, report};
 use crate::number::Number;
 use crate::utf8::Validity;
-use crossterm_types::event::{KeyCode, KeyEvent, KeyEventState, KeyModifiers};
+use crossterm_types::event::{KeyCode, KeyEvent, KeyEventState, KeyModifiers, MouseEvent};
 
 /// What is kept of a numbered sequence, however long it is.
 #[derive(Clone, Copy)]
@@ -87,6 +89,13 @@ fn coordinate_of(number: Number) -> Option<u16>
         Some(place) if place > 0 => Some(place - 1),
         _ => None,
     }
+}
+
+/// Whether the byte ends a report of the mouse after `ESC [ <`.
+pub fn is_mouse_final(byte: u8) -> bool
+    ensures { result ≡ is_mouse_end byte }
+{
+    matches!(byte, b'M' | b'm')
 }
 
 /// A key of a code point, with what is held, and with its alternate where SHIFT is.
@@ -187,6 +196,40 @@ impl Digits {
         Some(Meaning::CursorPosition(column, row))
     }
 
+    fn mouse(self, code: Option<u8>) -> Option<MouseEvent>
+        ensures { result ≡ mouse_report code (coordinate (readings_at self).second) (coordinate (readings_at self).third) }
+    {
+        let column = coordinate_of(self.fields.second.whole);
+        report(code, column, coordinate_of(self.fields.third))
+    }
+
+    fn rxvt(self) -> Option<Meaning>
+        ensures { result ≡ rxvt_meaning (readings_at self) }
+    {
+        let code = match self.fields.first.whole.byte() {
+            Some(code) => byte_less(32, code),
+            None => None,
+        };
+        match self.mouse(code) {
+            Some(event) => Some(Meaning::Mouse(event)),
+            None => None,
+        }
+    }
+
+    /// What a report of the mouse after `ESC [ <` means with this final byte.
+    #[inline(never)]
+    pub fn sgr(self, last: u8) -> Option<Meaning>
+        ensures { result ≡ sgr_by last (readings_at self) }
+    {
+        if !matches!(self.validity, Validity::Sound) {
+            return None;
+        }
+        match self.mouse(self.fields.first.whole.byte()) {
+            Some(event) => Some(Meaning::Mouse(ended_by(last, event))),
+            None => None,
+        }
+    }
+
     fn letter(self, last: u8) -> Option<Meaning>
         ensures { result ≡ letter_meaning last (readings_at self) }
     {
@@ -216,6 +259,7 @@ impl Digits {
             b'~' => self.tilde(),
             b'u' => self.code_point(raw),
             b'R' => self.cursor(),
+            b'M' => self.rxvt(),
             _ => self.letter(last),
         }
     }

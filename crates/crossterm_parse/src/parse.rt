@@ -1,35 +1,45 @@
 //! The parser: bytes are handed in as they come, and events are given as their sequences end.
-ghost use Rattle.std.specs.Prelude.{◌≡◌, ◌≢◌, ◌↔◌, ◌==◌, ◌&&◌, not, ◌+◌, ◌-◌, ◌≤◌, ◌<◌, [], ◌∷◌, ◌++◌, List, length, map, take, IsOk, IsTrue, IfNone, IfSome, IfErr, OnOk, OnErr};
+ghost use Rattle.std.specs.Prelude.{◌≡◌, ◌≢◌, ◌↔◌, ◌==◌, ◌&&◌, not, ◌+◌, ◌-◌, ◌≤◌, ◌<◌, false, [], ◌∷◌, ◌++◌, List, length, map, take, option_to_list, None, IsOk, IsTrue, IfNone, IfSome, IfOk, IfErr, OnOk, OnErr};
 ghost use Rattle.std.specs.IoError.{error_kind};
+ghost use Rattle.std.specs.Option.{option_map};
+ghost use Rattle.std.specs.Str.{encode_utf8_all};
+ghost use Rattle.std.specs.String.{string_bytes};
+ghost use Rattle.bstr.specs.Utf8.{lossy_chars};
 ghost use Rattle.std.specs.VecDeque.{deque_len, deque_capacity};
 ghost use Rattle.std.specs.declared.io.ErrorKind.TheVariants.{OutOfMemory};
 ghost use Rattle.crossterm_types.specs.Seen.{seen};
-ghost use Rattle.crossterm_parse.specs.Machine.{state_after, state_left, events_left};
+ghost use Rattle.crossterm_parse.specs.Machine.{text_of, state_after, state_left, text_left, events_left, is_paste};
+ghost use Rattle.crossterm_parse.specs.Meaning.{seen_meaning, pasted};
 ghost use Rattle.crossterm_parse.specs.Marked.{Marked, marked};
-ghost use Rattle.crossterm_parse.specs.Standing.{Standing, Stands, StandsStill, AdvancesOver, EndsNoEvent, OpensNoPaste};
+ghost use Rattle.crossterm_parse.specs.Standing.{Standing, Stands, StandsStill, AdvancesOver, EndsNoEvent, OpensNoPaste, TakesSteps};
 
 use crate::meaning::{Meaning, meaning_of_letter};
-use crate::numbered::is_final_byte;
+use crate::paste::{Met, PasteText};
 use crate::state::{State, Step};
-use crossterm_types::event::InternalEvent;
+use crate::steps::Steps;
+use crossterm_types::event::{Event, InternalEvent};
 use std::alloc::{AllocError, Allocator, Global};
 use std::collections::VecDeque;
 use std::io;
-use std::marker::Model;
+use std::marker::{Brand, Model};
+use std::string::String;
+use std::sync::ledger::{Blank, Ledger};
 
 /// Divides the bytes of a terminal into whole sequences, and gives their events.
 ///
-/// The open sequence is a `Copy` state of a fixed size, however long the sequence is. What the parser keeps beside it are the events not yet given.
+/// The open sequence is a `Copy` state of a fixed size, however long the sequence is. What the parser keeps beside it are the events not yet
+/// given, and the text of an open paste.
 #[derive(Drop)]
 pub struct Parser<A: Allocator = Global> {
     state: State,
+    paste: Option<PasteText<A>>,
     waiting: VecDeque<InternalEvent<A>, A>,
 }
 
 impl<A: Allocator> Model for Parser<A> {
     ghost Value = { Standing };
 
-    ghost view = { λ p. record { waiting = map seen p.waiting.items; state = p.state; room = deque_capacity p.waiting - deque_len p.waiting } };
+    ghost view = { λ p. record { waiting = map seen p.waiting.items; state = p.state; text = text_of p.paste; room = deque_capacity p.waiting - deque_len p.waiting } };
 }
 
 /// Whether there is a pause after the byte at this place of a piece.
@@ -40,7 +50,27 @@ fn pauses(more: bool, place: usize, count: usize) -> bool
     !more && place + 1 == count
 }
 
-impl<A: Allocator> Parser<A> {
+/// Takes the bytes of a piece, with a counter of a new ledger.
+fn advance_uncounted<L: Ledger, A: Allocator + Clone>(
+    parser: &mut Parser<A>,
+    piece: &[u8],
+    more: bool,
+    raw: bool,
+    blank: Blank,
+) -> usize
+    requires name { blank.name ≡ L.name }
+    requires parts { (blank.parts ≡ L.parts) × (0 < L.parts) }
+    ensures taken { result ≤ length piece.now }
+    ensures divided { AdvancesOver parser.old parser.new (take result (marked piece.now more raw)) }
+    ensures quiet { EndsNoEvent parser.old (marked piece.now more raw) → result ≡ length piece.now }
+    ensures reserved { length piece.now ≤ parser.old.room → OpensNoPaste parser.old (marked piece.now more raw) → result ≡ length piece.now }
+    ensures room { parser.old.room ≤ parser.new.room + result }
+{
+    let mut steps: Steps<L> = Steps::new(blank);
+    parser.advance(piece, more, raw, &mut steps)
+}
+
+impl<A: Allocator + Clone> Parser<A> {
     /// A parser that has seen no bytes.
     pub fn new(alloc: A) -> Self
         ensures waiting { result.waiting ≡ [] }
@@ -48,6 +78,7 @@ impl<A: Allocator> Parser<A> {
     {
         Parser {
             state: State::Ground,
+            paste: None,
             waiting: VecDeque::new(alloc),
         }
     }
@@ -70,9 +101,10 @@ impl<A: Allocator> Parser<A> {
 
     fn give(&mut self, meaning: Option<Meaning>) -> Result<(), AllocError>
         ensures state { self.new.state ≡ self.old.state }
-        ensures waiting { OnOk result (self.new.waiting ≡ self.old.waiting ++ events_left (Step.Whole meaning)) }
-        ensures err { OnErr result (self.new.waiting ≡ self.old.waiting) }
-        ensures free { events_left (Step.Whole meaning) ≡ [] → IsOk result }
+        ensures text { self.new.text ≡ self.old.text }
+        ensures waiting { OnOk result (self.new.waiting ≡ self.old.waiting ++ option_to_list (option_map seen_meaning meaning)) }
+        ensures err { OnErr result ((self.new.waiting ≡ self.old.waiting) × (self.old.room ≤ self.new.room)) }
+        ensures free { option_map seen_meaning meaning ≡ None → IsOk result }
         ensures reserved { 0 < self.old.room → IsOk result }
         ensures room { self.old.room ≤ self.new.room + 1 }
     {
@@ -84,40 +116,139 @@ impl<A: Allocator> Parser<A> {
         Ok(())
     }
 
-    fn put(&mut self, byte: u8, raw: bool, pause: bool) -> Result<(), AllocError>
-        ensures state { OnOk result (self.new.state ≡ state_left (state_after self.old.state byte raw pause)) }
-        ensures waiting { OnOk result (self.new.waiting ≡ self.old.waiting ++ events_left (state_after self.old.state byte raw pause)) }
-        ensures err { OnErr result ((self.new.waiting ≡ self.old.waiting) × (self.new.state ≡ self.old.state)) }
-        ensures free { events_left (state_after self.old.state byte raw pause) ≡ [] → IsOk result }
-        ensures reserved { 0 < self.old.room → IsOk result }
+    /// Joins a byte to the text of the open paste.
+    fn keep(&mut self, byte: u8) -> Result<(), AllocError>
+        ensures state { self.new.state ≡ self.old.state }
+        ensures waiting { self.new.waiting ≡ self.old.waiting }
+        ensures room { self.new.room ≡ self.old.room }
+        ensures ok { OnOk result (self.new.text ≡ self.old.text ++ byte ∷ []) }
+        ensures err { OnErr result (self.new.text ≡ self.old.text) }
+    {
+        if let Some(text) = &mut self.paste {
+            return text.push(byte);
+        }
+        let mut text = PasteText::new(self.waiting.allocator().clone()?);
+        text.push(byte)?;
+        self.paste = Some(text);
+        Ok(())
+    }
+
+    /// The paste goes on with a byte, or is opened by it.
+    fn go_on(&mut self, met: Met, byte: u8) -> Result<(), AllocError>
+        ensures waiting { self.new.waiting ≡ self.old.waiting }
+        ensures room { self.new.room ≡ self.old.room }
+        ensures state { OnOk result (self.new.state ≡ State.Paste met) }
+        ensures text { OnOk result (self.new.text ≡ text_left (Step.Open (State.Paste met)) self.old.state self.old.text byte) }
+        ensures err { OnErr result ((self.new.state ≡ self.old.state) × (self.new.text ≡ self.old.text)) }
+        ensures free { is_paste self.old.state ≡ false → IsOk result }
+    {
+        if self.state.is_paste() {
+            self.keep(byte)?;
+        } else {
+            self.paste = None;
+        }
+        self.state = State::Paste(met);
+        Ok(())
+    }
+
+    /// The text of the paste, which is over.
+    #[tactic(auto, unfolding(bstr::specs::Utf8::pieces_from))]
+    fn pasted<L: Ledger>(&self, steps: &mut Steps<L>) -> Result<String<A>, AllocError>
+        ensures text { IfOk result (λ text. string_bytes text ≡ encode_utf8_all (lossy_chars (take (length self.now.text - 5) self.now.text))) }
+        ensures steps { OnOk result (steps.new ≡ steps.old + (length self.now.text - 5)) }
+    {
+        match &self.paste {
+            Some(text) => text.close(steps),
+            None => Ok(String::new(self.waiting.allocator().clone()?)),
+        }
+    }
+
+    /// Gives the event of the paste, which is over.
+    #[inline(never)]
+    fn close<L: Ledger>(&mut self, steps: &mut Steps<L>) -> Result<(), AllocError>
+        ensures state { OnOk result (self.new.state ≡ State.Ground) }
+        ensures text { OnOk result (self.new.text ≡ []) }
+        ensures waiting { OnOk result (self.new.waiting ≡ self.old.waiting ++ pasted (take (length self.old.text - 5) self.old.text) ∷ []) }
+        ensures err { OnErr result ((self.new.waiting ≡ self.old.waiting) × (self.new.state ≡ self.old.state) × (self.new.text ≡ self.old.text) × (self.old.room ≤ self.new.room)) }
+        ensures steps { OnOk result (steps.new ≡ steps.old + (length self.old.text - 5)) }
         ensures room { self.old.room ≤ self.new.room + 1 }
     {
-        // Most bytes of a terminal are letters.
-        if matches!(self.state, State::Ground) && matches!(byte, 32..=126) {
-            return self.give(Some(meaning_of_letter(byte)));
-        }
-        // A numbered sequence that goes on is read in place.
-        if let State::Numbered(digits) = &mut self.state {
-            if !is_final_byte(byte) {
-                digits.read(byte);
-                return Ok(());
-            }
-        }
-        match self.state.put(byte, raw, pause) {
+        self.waiting.reserve(1)?;
+        let text = self.pasted(steps)?;
+        self.waiting
+            .push_back_reserved(InternalEvent::Event(Event::Paste(text)));
+        self.paste = None;
+        self.state = State::Ground;
+        Ok(())
+    }
+
+    /// Puts a byte into the state, and gives the event that it ends.
+    fn step<L: Ledger>(
+        &mut self,
+        byte: u8,
+        raw: bool,
+        pause: bool,
+        steps: &mut Steps<L>,
+    ) -> Result<(), AllocError>
+        ensures state { OnOk result (self.new.state ≡ state_left (state_after self.old.state byte raw pause)) }
+        ensures text { OnOk result (self.new.text ≡ text_left (state_after self.old.state byte raw pause) self.old.state self.old.text byte) }
+        ensures waiting { OnOk result (self.new.waiting ≡ self.old.waiting ++ events_left (state_after self.old.state byte raw pause) self.old.text) }
+        ensures err { OnErr result ((self.new.waiting ≡ self.old.waiting) × (self.new.state ≡ self.old.state) × (self.new.text ≡ self.old.text) × (self.old.room ≤ self.new.room)) }
+        ensures free { is_paste self.old.state ≡ false → events_left (state_after self.old.state byte raw pause) self.old.text ≡ [] → IsOk result }
+        ensures reserved { is_paste self.old.state ≡ false → 0 < self.old.room → IsOk result }
+        ensures room { self.old.room ≤ self.new.room + 1 }
+        ensures steps { OnOk result (steps.new + length self.new.text ≤ steps.old + length self.old.text + 2) }
+    {
+        match self.state.put(byte, raw, pause, steps) {
+            Step::Open(State::Paste(met)) => self.go_on(met, byte)?,
             Step::Open(state) => self.state = state,
             Step::Whole(meaning) => {
                 self.give(meaning)?;
                 self.state = State::Ground;
             }
+            Step::Closed => self.close(steps)?,
         }
         Ok(())
+    }
+
+    fn put<L: Ledger>(
+        &mut self,
+        byte: u8,
+        raw: bool,
+        pause: bool,
+        steps: &mut Steps<L>,
+    ) -> Result<(), AllocError>
+        ensures state { OnOk result (self.new.state ≡ state_left (state_after self.old.state byte raw pause)) }
+        ensures text { OnOk result (self.new.text ≡ text_left (state_after self.old.state byte raw pause) self.old.state self.old.text byte) }
+        ensures waiting { OnOk result (self.new.waiting ≡ self.old.waiting ++ events_left (state_after self.old.state byte raw pause) self.old.text) }
+        ensures err { OnErr result ((self.new.waiting ≡ self.old.waiting) × (self.new.state ≡ self.old.state) × (self.new.text ≡ self.old.text) × (self.old.room ≤ self.new.room)) }
+        ensures free { is_paste self.old.state ≡ false → events_left (state_after self.old.state byte raw pause) self.old.text ≡ [] → IsOk result }
+        ensures reserved { is_paste self.old.state ≡ false → 0 < self.old.room → IsOk result }
+        ensures room { self.old.room ≤ self.new.room + 1 }
+        ensures steps { OnOk result (steps.new + length self.new.text ≤ steps.old + length self.old.text + 2) }
+    {
+        // Most bytes of a terminal are letters.
+        if matches!(self.state, State::Ground) && matches!(byte, 32..=126) {
+            steps.count(1);
+            return self.give(Some(meaning_of_letter(byte)));
+        }
+        if self.state.goes_on(byte, steps) {
+            return Ok(());
+        }
+        self.step(byte, raw, pause, steps)
     }
 
     /// Takes the bytes of a piece, and tells how many: fewer than the piece has only where memory was refused, and then the others are handed in again later.
     ///
     /// `more` says that bytes of the same answer follow at once, so that ESC at the end is no Esc key yet. `raw` is the mode that the
     /// bytes came in: there a line feed is Ctrl-J, and Enter otherwise.
-    pub fn advance(&mut self, piece: &[u8], more: bool, raw: bool) -> usize
+    pub fn advance<L: Ledger>(
+        &mut self,
+        piece: &[u8],
+        more: bool,
+        raw: bool,
+        steps: &mut Steps<L>,
+    ) -> usize
         ensures taken { result ≤ length piece.now }
         // The events not yet given grow by the meanings of the parts of the only division, and the parser stands for the rest.
         ensures divided { AdvancesOver self.old self.new (take result (marked piece.now more raw)) }
@@ -126,15 +257,28 @@ impl<A: Allocator> Parser<A> {
         // Where there is room, neither does a piece that opens no paste.
         ensures reserved { length piece.now ≤ self.old.room → OpensNoPaste self.old (marked piece.now more raw) → result ≡ length piece.now }
         ensures room { self.old.room ≤ self.new.room + result }
+        // Where all are taken, the steps and the open paste's length are at most its length before and twice the bytes.
+        ensures steps { result ≡ length piece.now → TakesSteps self.old self.new steps.old steps.new result }
     {
         for (i, byte) in piece.iter().enumerate() {
             let pause = pauses(more, i, piece.len());
-            match self.put(*byte, raw, pause) {
+            match self.put(*byte, raw, pause, steps) {
                 Ok(()) => {}
                 Err(_) => return i,
             }
         }
         piece.len()
+    }
+
+    /// Takes the bytes of a piece as `advance` does, for a caller that counts no steps.
+    pub fn feed(&mut self, piece: &[u8], more: bool, raw: bool) -> usize
+        ensures taken { result ≤ length piece.now }
+        ensures divided { AdvancesOver self.old self.new (take result (marked piece.now more raw)) }
+        ensures quiet { EndsNoEvent self.old (marked piece.now more raw) → result ≡ length piece.now }
+        ensures reserved { length piece.now ≤ self.old.room → OpensNoPaste self.old (marked piece.now more raw) → result ≡ length piece.now }
+        ensures room { self.old.room ≤ self.new.room + result }
+    {
+        advance_uncounted::<Brand, A>(self, piece, more, raw, Blank::new(1))
     }
 
     /// The first event not yet given, or `None` where there is none. This takes no memory.

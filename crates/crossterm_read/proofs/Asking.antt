@@ -1,5 +1,7 @@
 -- Asking a source again and again.
-use Rattle.std.proofs.Common.{◌≡◌, ◌≢◌, ◌<◌, ℕ, ◌+◌, Bool, true, false, List, [], ◌∷◌, ◌++◌, length, None, Ok, inl, inr, refl, sym, ap, subst, ◌∙◌, arith, append_assoc, append-nil, length-append}
+use Rattle.std.proofs.Common.{◌≡◌, ◌≢◌, ◌<◌, ℕ, ◌+◌, Bool, true, false, List, [], ◌∷◌, ◌++◌, length, Option, None, Some, Ok, inl, inr, refl, sym, ap, subst, ◌∙◌, arith, append_assoc, append-nil, length-append}
+use mathlib.Core.Bool.{true≢false}
+use Rattle.std.specs.Prelude.{is_some}
 use Rattle.std.specs.List.{AllByRecursion}
 use Rattle.std.specs.declared.io.ErrorKind.{ErrorKind}
 use Rattle.std.specs.declared.io.ErrorKind.TheVariants.{OutOfMemory, Interrupted}
@@ -9,7 +11,7 @@ use Rattle.crossterm_read.specs.declared.read.reader.Once.{Once}
 use Rattle.crossterm_read.specs.declared.read.reader.Once.TheVariants as once
 use Rattle.crossterm_read.specs.Shelf.{Shelf, ReaderState}
 use Rattle.crossterm_read.specs.Shelf.{arrived, numbered_after, next_number, Arrives}
-use Rattle.crossterm_read.specs.Steps.{first_admitted, Passes, came, broke, tried, refused, Ready, Tried, Broke, Asked, DrawsOne, PollStep, Polled, Faulted, end_of}
+use Rattle.crossterm_read.specs.Steps.{first_admitted, Passes, held_already, came, broke, tried, refused, Ready, Tried, Broke, Asked, DrawsOne, PollStep, Polled, Faulted, end_of}
 
 pub arrived-append : (n : ℕ) (xs ys : List SourceAnswer) → arrived n (xs ++ ys) ≡ arrived n xs ++ arrived (numbered_after n xs) ys
 arrived-append n [] ys = refl
@@ -37,6 +39,10 @@ all_push : {Y : Type 0} (P : Y → Type 0) (ys : List Y) (y : Y) → AllByRecurs
 all_push P [] y a h = (h, tt)
 all_push P (x ∷ ys) y a h = (a.0, all_push P ys y a.1 h)
 
+pub none_of : (x : Option ℕ) → is_some x ≡ false → x ≡ None
+none_of None h = refl
+none_of (Some i) h = absurd (true≢false h)
+
 module _ {S : Type 0} (drawn : S → List SourceAnswer → S → Type 0) (on : (s t u : S) (xs ys : List SourceAnswer) → drawn s xs t → drawn t ys u → drawn s (xs ++ ys) u) (patient : Bool) (f : Seen → Bool) where
   -- so far no answer ended it
   pub record Asking (s t : ReaderState S) (i : ℕ) : Type 0 where
@@ -60,6 +66,9 @@ module _ {S : Type 0} (drawn : S → List SourceAnswer → S → Type 0) (on : (
     count = length-append a.answers (z ∷ []) ∙ ap (λ (k : ℕ). k + 1) a.count;
     none = a.none;
   }
+
+  pub asked_held : ((s : S) → drawn s [] s) → (s : ReaderState S) (tries : ℕ) → is_some (first_admitted f s.shelf.held) ≡ true → Asked drawn patient f tries s s Ready
+  asked_held law s tries h = ([], law s.source, arrives_none s.shelf, held_already h refl refl)
 
   pub asked_tried : (s t : ReaderState S) (tries : ℕ) → Asking s t tries → Asked drawn patient f tries s t Tried
   asked_tried s t tries a = (a.answers, a.drawn_so, a.arrives, tried a.none a.passes a.count refl)

@@ -1,11 +1,12 @@
 -- Buffers of a piece.
-use Rattle.std.proofs.Common.{◌≡◌, ◌≤◌, ◌<◌, ◌+◌, ℕ, zero, suc, Bool, List, [], ◌∷◌, ◌++◌, length, take, drop, map, refl, ap, sym, subst, ◌∙◌, arith, length-drop}
+use Rattle.std.proofs.Common.{◌≡◌, ◌≤◌, ◌<◌, ◌+◌, ℕ, zero, suc, Bool, false, List, Vec, [], ◌∷◌, ◌++◌, length, take, drop, map, refl, ap, sym, subst, ◌∙◌, arith, length-drop}
 use Rattle.std.proofs.Common.{get_or, min, drop-drop}
 use Rattle.std.proofs.Math.Seq.{drop-nil, take-nil}
-use Rattle.std.proofs.lemmas.List.{drop_more, take_at, length-take-le}
+use Rattle.std.proofs.lemmas.List.{drop_all, drop_more, take_at, length-take-le}
 use Rattle.crossterm_read.specs.Device.{Word, Bytes}
-use Rattle.crossterm_read.specs.Scripted.{Tells, cut_within, buffers, piece_words, words_from}
+use Rattle.crossterm_read.specs.Scripted.{Tells, cut_within, buffers, piece_words, words, words_from}
 use Rattle.crossterm_read.specs.declared.source.script.Act.{Act}
+use Rattle.crossterm_read.specs.declared.source.script.Act.TheVariants as act
 
 cut_none : (n : ℕ) → cut_within n [] ≡ []
 cut_none zero = refl
@@ -50,3 +51,33 @@ drop_told bytes told n e = sym (drop-drop n told bytes) ∙ min_drop 1024 n (dro
 
 pub take_told : (bytes buf : List ℕ) (n : ℕ) → n ≡ min 1024 (length bytes) → take n (take n bytes ++ drop n buf) ≡ take 1024 bytes
 take_told bytes buf n e = take_at (take n bytes) (drop n buf) n (length-take-le n bytes (omega arith)) ∙ min_take 1024 n bytes e
+
+words_start : {A : Type 0} (acts : List (Act A)) → words_from acts 0 ≡ words acts
+words_start [] = refl
+words_start (act.Piece bytes raw ∷ acts) = refl
+words_start (act.Resize columns rows ∷ acts) = refl
+words_start (act.Woken ∷ acts) = refl
+words_start (act.Idle ∷ acts) = refl
+words_start (act.Fault kind ∷ acts) = refl
+
+-- an act of one word is told
+pub act_told : {A : Type 0} (acts : List (Act A)) (next told : ℕ) (a : Act A) (w : Word) (left : List Word) → next < length acts → a ≡ get_or acts next a
+    → words_from (a ∷ drop (next + 1) acts) told ≡ w ∷ words (drop (next + 1) acts) → words_from (drop next acts) told ≡ left → Tells left (w ∷ []) (words_from (drop (next + 1) acts) 0)
+act_told acts next told a w left h e one l =
+    subst (λ (ws : List Word). Tells ws (w ∷ []) (words_from (drop (next + 1) acts) 0)) (sym one ∙ sym (words_at acts next told a h e) ∙ l) (refl, sym (words_start (drop (next + 1) acts)))
+
+-- all of a piece was told
+pub piece_over : {A : Type 0} (acts : List (Act A)) (next told : ℕ) (a : Act A) (bytes : Vec ℕ A) (raw : Bool) (left : List Word) → next < length acts → a ≡ get_or acts next a
+    → a ≡ act.Piece bytes raw → length bytes.items ≤ told → words_from (drop next acts) told ≡ left → words_from (drop (next + 1) acts) 0 ≡ left
+piece_over {A} acts next told a bytes raw left h e is over l =
+    let rest = drop (next + 1) acts in
+    words_start rest ∙ ap (λ (ks : List ℕ). piece_words ks raw ++ words rest) (sym (drop_all told bytes.items over))
+    ∙ ap (λ (y : Act A). words_from (y ∷ rest) told) (sym is) ∙ sym (words_at acts next told a h e) ∙ l
+
+-- past the end the end of input is told
+pub end_told : {A : Type 0} (acts : List (Act A)) (next told : ℕ) (left : List Word) → length acts ≤ next → words_from (drop next acts) told ≡ left
+    → Tells left (Bytes [] false ∷ []) (words_from (drop next acts) told)
+end_told acts next told left h l =
+    let none = ap (λ ws. words_from ws told) (drop_all next acts h) in
+    subst (λ (ws : List Word). Tells ws (Bytes [] false ∷ []) (words_from (drop next acts) told)) l
+    (subst (λ (ws : List Word). Tells ws (Bytes [] false ∷ []) ws) (sym none) (refl, refl))

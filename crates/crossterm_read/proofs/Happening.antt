@@ -24,8 +24,11 @@ Parts before bytes bs after = (parts : List (List Marked)) × Divides Whole (bef
 single_on : (before bytes : List Marked) (x : SourceAnswer) (bs : List Block) (after : List Marked) → Parts before bytes bs after → Parts before bytes (Single x ∷ bs) after
 single_on before bytes x bs after p = p
 
-from_before : (mid before bytes : List Marked) (bs : List Block) (after : List Marked) → mid ≡ before → Parts mid bytes bs after → Parts before bytes bs after
-from_before mid before bytes bs after e p = subst (λ (l : List Marked). Parts l bytes bs after) e p
+-- a word that brings no bytes is passed over
+passed : (before mid : List Marked) (ws : List Word) (x : SourceAnswer) (bs : List Block) (after : List Marked) → mid ≡ before → IsUndecided Whole before
+    → (IsUndecided Whole mid → Parts mid (all_bytes ws) bs after) → Parts before (all_bytes ws) (Single x ∷ bs) after
+passed before mid ws x bs after e u later =
+    single_on before (all_bytes ws) x bs after (subst (λ (l : List Marked). Parts l (all_bytes ws) bs after) e (later (subst (IsUndecided Whole) (sym e) u)))
 
 divided : (before : List Marked) (ws : List Word) (bs : List Block) (after : List Marked) → IsUndecided Whole before → Happens before ws bs after → Parts before (all_bytes ws) bs after
 divided before [] [] after u h = ([], subst (λ (l : List Marked). Divides Whole (before ++ []) [] l) (sym h) (none_divided before u), refl)
@@ -42,20 +45,15 @@ divided before (Bytes (k ∷ ks) raw ∷ ws) (Ended es ∷ bs) after u h =
     )
 divided before (Bytes (k ∷ ks) raw ∷ ws) (Single x ∷ bs) after u h = absurd h.1
 divided before (Bytes [] raw ∷ ws) (Ended es ∷ bs) after u h = absurd h.1
-divided before (Bytes [] raw ∷ ws) (Single x ∷ bs) after u h =
-    single_on before (all_bytes ws) x bs after (from_before h.0 before (all_bytes ws) bs after h.1.1 (divided h.0 ws bs after (subst (IsUndecided Whole) (sym h.1.1) u) h.2))
+divided before (Bytes [] raw ∷ ws) (Single x ∷ bs) after u h = passed before h.0 ws x bs after h.1.1 u (λ v. divided h.0 ws bs after v h.2)
 divided before (Resized columns rows ∷ ws) (Ended es ∷ bs) after u h = absurd h.1
-divided before (Resized columns rows ∷ ws) (Single x ∷ bs) after u h =
-    single_on before (all_bytes ws) x bs after (from_before h.0 before (all_bytes ws) bs after h.1.1 (divided h.0 ws bs after (subst (IsUndecided Whole) (sym h.1.1) u) h.2))
+divided before (Resized columns rows ∷ ws) (Single x ∷ bs) after u h = passed before h.0 ws x bs after h.1.1 u (λ v. divided h.0 ws bs after v h.2)
 divided before (Woken ∷ ws) (Ended es ∷ bs) after u h = absurd h.1
-divided before (Woken ∷ ws) (Single x ∷ bs) after u h =
-    single_on before (all_bytes ws) x bs after (from_before h.0 before (all_bytes ws) bs after h.1.1 (divided h.0 ws bs after (subst (IsUndecided Whole) (sym h.1.1) u) h.2))
+divided before (Woken ∷ ws) (Single x ∷ bs) after u h = passed before h.0 ws x bs after h.1.1 u (λ v. divided h.0 ws bs after v h.2)
 divided before (Idle ∷ ws) (Ended es ∷ bs) after u h = absurd h.1
-divided before (Idle ∷ ws) (Single x ∷ bs) after u h =
-    single_on before (all_bytes ws) x bs after (from_before h.0 before (all_bytes ws) bs after h.1.1 (divided h.0 ws bs after (subst (IsUndecided Whole) (sym h.1.1) u) h.2))
+divided before (Idle ∷ ws) (Single x ∷ bs) after u h = passed before h.0 ws x bs after h.1.1 u (λ v. divided h.0 ws bs after v h.2)
 divided before (Fault kind ∷ ws) (Ended es ∷ bs) after u h = absurd h.1
-divided before (Fault kind ∷ ws) (Single x ∷ bs) after u h =
-    single_on before (all_bytes ws) x bs after (from_before h.0 before (all_bytes ws) bs after h.1.1 (divided h.0 ws bs after (subst (IsUndecided Whole) (sym h.1.1) u) h.2))
+divided before (Fault kind ∷ ws) (Single x ∷ bs) after u h = passed before h.0 ws x bs after h.1.1 u (λ v. divided h.0 ws bs after v h.2)
 
 pub happens_by_division : HappensByDivision
 happens_by_division ws bs after h = divided [] ws bs after (laws.nil_undecided Whole nil_not_whole) h

@@ -77,7 +77,7 @@ impl<D, A: Allocator> Model for DeviceSource<D, A> {
     ghost invariant = { λ s. (s.from ≤ s.end) × (s.end ≤ 1024) };
 }
 
-impl<D: Device, A: Allocator> DeviceSource<D, A> {
+impl<D: Device, A: Allocator + Clone> DeviceSource<D, A> {
     /// A source that has asked its device for nothing yet.
     pub fn new(alloc: A, device: D) -> Self
         ensures waiting { result.parser.waiting ≡ [] }
@@ -104,7 +104,7 @@ impl<D: Device, A: Allocator> DeviceSource<D, A> {
     {
         let buffer: &[u8] = &self.buffer;
         let untaken = &buffer[self.from..self.end];
-        let taken = self.parser.advance(untaken, self.end == 1024, self.raw);
+        let taken = self.parser.feed(untaken, self.end == 1024, self.raw);
         self.from += taken;
         if let Some(event) = self.parser.next() {
             return Ok(Some(event));
@@ -116,7 +116,7 @@ impl<D: Device, A: Allocator> DeviceSource<D, A> {
     }
 }
 
-impl<D: Device, A: Allocator> EventSource<A> for DeviceSource<D, A> {
+impl<D: Device, A: Allocator + Clone> EventSource<A> for DeviceSource<D, A> {
     ghost drawn = { SourceDrawn D.told };
 
     ghost failed = { λ s. D.failed s.device };

@@ -1,52 +1,115 @@
 -- The slow program, byte by byte.
-use Rattle.std.proofs.Common.{◌≡◌, ℕ, ◌+◌, ◌-◌, zero, suc, cond, arith, true, false, List, [], ◌∷◌, ◌++◌, length, map, take, get_or, drop, ◌<◌, ◌≤◌, refl, ap, sym, ◌∙◌, subst}
-use Rattle.std.proofs.lemmas.Bool.{false≢true}
-use Rattle.std.proofs.lemmas.List.{take_more, take_all, map-append}
+use Rattle.std.proofs.Common.{Bool, Option, Some, None, ◌==◌, eqb, ◌&&◌, ◌||◌, inl, inr, ◌≡◌, ℕ, ◌+◌, ◌-◌, zero, suc, cond, arith, true, false, List, [], ◌∷◌, ◌++◌, length, map, take, get_or, drop, ◌<◌, ◌≤◌, refl, ap, sym, ◌∙◌, subst, option_to_list, encode_utf8_all}
+use Rattle.std.proofs.Math.Bool.{and_comm}
+use Rattle.std.proofs.lemmas.Bool.{false≢true, cases_Bool}
+use Rattle.std.proofs.lemmas.List.{append-nil, take_more, take_all, map-append}
+use Rattle.std.proofs.lemmas.List.Elements.{filter_map-append}
+use Rattle.std.specs.Cmp.Lexicographic.{pointwise}
+use Rattle.std.specs.List.{filter_map}
+use Rattle.std.specs.Option.{option_map}
+use Rattle.bstr.specs.Utf8.{lossy_chars}
+use Rattle.crossterm_types.specs.Seen.{Seen, Paste}
 use Rattle.crossterm_parse.specs.Marked.{bytes_of}
 use Rattle.crossterm_parse.specs.declared.marked.Marked.{Marked}
-use Rattle.crossterm_parse.specs.Deciding.{is_whole, ends_character, is_continuing, is_nil}
-use Rattle.crossterm_parse.specs.Division.{Divides}
-use Rattle.crossterm_parse.specs.Grammar.{Whole}
+use Rattle.crossterm_parse.specs.Deciding.{is_whole, is_decided, is_shape, is_character, begins, ends_character, ends_numbered, ends_paste, ends_digit, is_continuing, is_nil}
+use Rattle.crossterm_parse.specs.Division.{Divides, IsUndecided}
+use Rattle.crossterm_parse.specs.Grammar.{Whole, paste_mark, paste_start, paste_end}
+use Rattle.crossterm_parse.specs.Meaning.{reply_meaning, csi_meaning, flags_reply, meaning, meaning_seen, meaning_of, seen_meaning}
+use Rattle.crossterm_parse.specs.Machine.{Kept, digits_after, readings_at}
+use Rattle.crossterm_parse.specs.Numbered.{Readings, readings_of, numbered, sgr, last_of, front_of}
+use Rattle.crossterm_parse.specs.declared.meaning.Meaning.{Meaning}
+use Rattle.crossterm_parse.specs.declared.meaning.Meaning.TheVariants.{PrimaryDeviceAttributes}
+use Rattle.crossterm_parse.specs.declared.numbered.Digits.{Digits}
+use Rattle.crossterm_parse.proofs.MachineLaws.{kept_more, kept_readings, last_at, front_at}
 use Rattle.crossterm_parse.proofs.DivisionLaws.{divide_whole, divide_open, nil_undecided}
-use Rattle.crossterm_parse.proofs.GrammarLaws.{bytes_of-append, true_whole, whole_true, nil_not_whole}
+use Rattle.crossterm_parse.proofs.GrammarLaws.{digit_apart, bytes_of-append, true_whole, whole_true, nil_not_whole}
+use Rattle.crossterm_parse.proofs.StandingLaws.{meant}
 
 -- what was found of the first bytes
-pub record Found (bytes part : List Marked) (plain lengths : List ℕ) : Type 0 where
+pub record Found (bytes : List Marked) (part lengths : List ℕ) (events : List Seen) : Type 0 where
   pub parts : List (List Marked)
-  pub division : Divides Whole bytes parts part
-  pub kept : plain ≡ bytes_of part
+  pub rest : List Marked
+  pub division : Divides Whole bytes parts rest
+  pub kept : part ≡ bytes_of rest
   pub counted : lengths ≡ map length parts
+  pub given : events ≡ filter_map meaning_of parts
 
 pub found_none : Found [] [] [] []
-found_none = record { parts = []; division = record { joined = refl; whole = tt; undecided = nil_undecided Whole nil_not_whole }; kept = refl; counted = refl }
+found_none = record { parts = []; rest = []; division = record { joined = refl; whole = tt; undecided = nil_undecided Whole nil_not_whole }; kept = refl; counted = refl; given = refl }
 
-pub plain_more : (part : List Marked) (plain : List ℕ) (m : Marked) → plain ≡ bytes_of part → plain ++ m.byte ∷ [] ≡ bytes_of (part ++ m ∷ [])
-plain_more part plain m e = ap (λ (bs : List ℕ). bs ++ m.byte ∷ []) e ∙ sym (bytes_of-append part (m ∷ []))
+part_more : (rest : List Marked) (part : List ℕ) (m : Marked) → part ≡ bytes_of rest → part ++ m.byte ∷ [] ≡ bytes_of (rest ++ m ∷ [])
+part_more rest part m e = ap (λ (bs : List ℕ). bs ++ m.byte ∷ []) e ∙ sym (bytes_of-append rest (m ∷ []))
+
+part_length : (ms : List Marked) → length (bytes_of ms) ≡ length ms
+part_length [] = refl
+part_length (m ∷ ms) = ap suc (part_length ms)
+
+-- undecided bytes don't begin with an escape and a pause
+undecided_false : (n : Marked) (ns : List Marked) → IsUndecided Whole (n ∷ ns) → (n.byte == 27) && n.pause ≡ false
+undecided_false n ns h = elim (cases_Bool ((n.byte == 27) && n.pause)) [
+  | inl t ↦ absurd (h 1 (true_whole (n ∷ []) (rw t)))
+  | inr f ↦ f
+]
+
+lone_apart : (t p s : Bool) → (((t && false) && p) || s) ≡ s
+lone_apart true p s = refl
+lone_apart false p s = refl
+
+-- the test of undecided bytes with one more is that of the marked bytes
+decided_is : (rest : List Marked) (m : Marked) → IsUndecided Whole rest → is_decided (bytes_of rest ++ m.byte ∷ []) m.pause ≡ is_whole (rest ++ m ∷ [])
+decided_is [] m h = go (m.byte == 27) m.pause (is_character (m.byte ∷ [])) where
+  go : (t p x : Bool) → (((t && true) && p) || cond t false x) ≡ cond (t && p) true (cond t false x)
+  go true true x = refl
+  go true false x = refl
+  go false true x = refl
+  go false false x = refl
+decided_is (n ∷ []) m h = rw (undecided_false n [] h) (lone_apart (n.byte == 27) m.pause (is_shape (n.byte ∷ m.byte ∷ [])))
+decided_is (n ∷ o ∷ ns) m h = rw (undecided_false n (o ∷ ns) h, bytes_of-append ns (m ∷ [])) (lone_apart (n.byte == 27) m.pause (is_shape (n.byte ∷ o.byte ∷ (bytes_of ns ++ m.byte ∷ []))))
+
+part_whole : (rest : List Marked) (part : List ℕ) (m : Marked) → IsUndecided Whole rest → part ≡ bytes_of rest → is_decided (part ++ m.byte ∷ []) m.pause ≡ is_whole (rest ++ m ∷ [])
+part_whole rest part m h e = rw e (decided_is rest m h)
 
 -- one more byte that completes nothing
-pub found_open : (bytes part : List Marked) (plain lengths : List ℕ) (m : Marked) → Found bytes part plain lengths
-    → is_whole (part ++ m ∷ []) ≡ false → Found (bytes ++ m ∷ []) (part ++ m ∷ []) (plain ++ m.byte ∷ []) lengths
-found_open bytes part plain lengths m f more = record {
+found_open : (bytes : List Marked) (part lengths : List ℕ) (events : List Seen) (m : Marked) → Found bytes part lengths events
+    → is_decided (part ++ m.byte ∷ []) m.pause ≡ false → Found (bytes ++ m ∷ []) (part ++ m.byte ∷ []) lengths events
+found_open bytes part lengths events m f more = record {
   parts = f.parts;
-  division = divide_open Whole bytes f.parts part m f.division (λ (w : Whole (part ++ m ∷ [])). false≢true (sym more ∙ whole_true _ w));
-  kept = plain_more part plain m f.kept;
+  rest = f.rest ++ m ∷ [];
+  division = divide_open Whole bytes f.parts f.rest m f.division
+      (λ (w : Whole (f.rest ++ m ∷ [])). false≢true (sym more ∙ part_whole f.rest part m f.division.undecided f.kept ∙ whole_true _ w));
+  kept = part_more f.rest part m f.kept;
   counted = f.counted;
+  given = f.given;
 }
 
 -- one more byte that completes a part
-pub found_whole : (bytes part : List Marked) (plain lengths : List ℕ) (m : Marked) → Found bytes part plain lengths
-    → is_whole (part ++ m ∷ []) ≡ true → Found (bytes ++ m ∷ []) [] [] (lengths ++ length (part ++ m ∷ []) ∷ [])
-found_whole bytes part plain lengths m f closed = record {
-  parts = f.parts ++ (part ++ m ∷ []) ∷ [];
-  division = divide_whole Whole nil_not_whole bytes f.parts part m f.division (true_whole _ closed);
-  kept = refl;
-  counted = ap (λ (ls : List ℕ). ls ++ length (part ++ m ∷ []) ∷ []) f.counted ∙ sym (map-append length f.parts ((part ++ m ∷ []) ∷ []));
-}
+found_whole : (bytes : List Marked) (part lengths : List ℕ) (events : List Seen) (m : Marked) → Found bytes part lengths events
+    → is_decided (part ++ m.byte ∷ []) m.pause ≡ true
+    → Found (bytes ++ m ∷ []) [] (lengths ++ length (part ++ m.byte ∷ []) ∷ []) (events ++ option_to_list (meaning_seen m.raw (part ++ m.byte ∷ [])))
+found_whole bytes part lengths events m f closed =
+    let more : part ++ m.byte ∷ [] ≡ bytes_of (f.rest ++ m ∷ []) = part_more f.rest part m f.kept in
+    let long : length (part ++ m.byte ∷ []) ≡ length (f.rest ++ m ∷ []) = ap length more ∙ part_length (f.rest ++ m ∷ []) in
+    record {
+      parts = f.parts ++ (f.rest ++ m ∷ []) ∷ [];
+      rest = [];
+      division = divide_whole Whole nil_not_whole bytes f.parts f.rest m f.division (true_whole _ (sym (part_whole f.rest part m f.division.undecided f.kept) ∙ closed));
+      kept = refl;
+      counted = rw (f.counted, long) (sym (map-append length f.parts ((f.rest ++ m ∷ []) ∷ [])));
+      given = rw f.given (ap (λ (es : List Seen). filter_map meaning_of f.parts ++ es) (meant _ f.rest m more) ∙ sym (filter_map-append meaning_of f.parts ((f.rest ++ m ∷ []) ∷ [])));
+    }
 
--- the first bytes, with the next one
-pub found_next : (bytes : List Marked) (i : ℕ) (d : Marked) (part : List Marked) (plain lengths : List ℕ) → i < length bytes
-    → Found (take i bytes ++ get_or bytes i d ∷ []) part plain lengths → Found (take (i + 1) bytes) part plain lengths
-found_next bytes i d part plain lengths l f = subst (λ (ms : List Marked). Found ms part plain lengths) (sym (take_more bytes i d l)) f
+-- the next byte, after which the open bytes are `new`
+pub next_open : (bytes : List Marked) (i : ℕ) (d : Marked) (part new lengths : List ℕ) (events : List Seen) → i < length bytes
+    → Found (take i bytes) part lengths events → new ≡ part ++ (get_or bytes i d).byte ∷ [] → is_decided new (get_or bytes i d).pause ≡ false
+    → Found (take (i + 1) bytes) new lengths events
+next_open bytes i d part new lengths events l f more goes_on =
+    rw (take_more bytes i d l, more) (found_open (take i bytes) part lengths events (get_or bytes i d) f (rw (sym more) goes_on))
+
+pub next_whole : (bytes : List Marked) (i : ℕ) (d : Marked) (part new lengths : List ℕ) (events : List Seen) → i < length bytes
+    → Found (take i bytes) part lengths events → new ≡ part ++ (get_or bytes i d).byte ∷ [] → is_decided new (get_or bytes i d).pause ≡ true
+    → Found (take (i + 1) bytes) [] (lengths ++ length new ∷ []) (events ++ option_to_list (meaning_seen (get_or bytes i d).raw new))
+next_whole bytes i d part new lengths events l f more closed =
+    rw (take_more bytes i d l, more) (found_whole (take i bytes) part lengths events (get_or bytes i d) f (rw (sym more) closed))
 
 -- a character that goes on
 pub ends_further : (n b : ℕ) (bs : List ℕ) → 0 < n → ends_character n (b ∷ bs) ≡ cond (is_continuing b) (ends_character (n - 1) bs) (is_nil bs)
@@ -58,3 +121,64 @@ pub ends_on : (n : ℕ) (bytes : List ℕ) → 1 ≤ length bytes → 0 < n → 
 ends_on n [] l m h = absurd (omega arith)
 ends_on n (b ∷ bs) l m h =
     ap (λ (xs : List ℕ). ends_character (n - 1) xs) (take_all (length (b ∷ bs) - 1) bs (omega arith)) ∙ sym (ends_further n b bs m ∙ rw h refl)
+
+-- one more byte of a numbered sequence
+pub number_next : (d new : Digits) (text : List ℕ) (i b : ℕ) → i < length text → b ≡ get_or text i 0 → new ≡ digits_after d b → Kept d (take i text) → Kept new (take (i + 1) text)
+number_next d new text i b l is e k =
+    let longer : take (i + 1) text ≡ take i text ++ b ∷ [] = take_more text i 0 l ∙ ap (λ (c : ℕ). take i text ++ c ∷ []) (sym is) in
+    subst (λ (n : Digits). Kept n (take (i + 1) text)) (sym e) (subst (Kept (digits_after d b)) (sym longer) (kept_more d (take i text) b k))
+
+pub number_over : (d : Digits) (text : List ℕ) (i : ℕ) → length text ≤ i → Kept d (take i text) → readings_at d ≡ readings_of text
+number_over d text i l k = kept_readings d text (subst (Kept d) (take_all i text l) k)
+
+-- what a reply means, by its last byte and its first
+pub reply_at : (bytes : List ℕ) → 0 < length bytes → reply_meaning bytes ≡ Some (cond (get_or bytes (length bytes - 1) 0 == 99) PrimaryDeviceAttributes (flags_reply (get_or bytes 0 0)))
+reply_at [] h = absurd (omega arith)
+reply_at (b ∷ bs) h = ap (λ (l : ℕ). Some (cond (l == 99) PrimaryDeviceAttributes (flags_reply b))) (last_at (b ∷ bs) h)
+
+-- what is read before the last byte, and that byte
+pub read_at : (means : ℕ → Readings → Option Meaning) (bytes : List ℕ) (r : Readings) → 1 ≤ length bytes → r ≡ readings_of (take (length bytes - 1) bytes)
+    → means (get_or bytes (length bytes - 1) 0) r ≡ means (last_of bytes) (readings_of (front_of bytes))
+read_at means bytes r l e = rw (last_at bytes l, front_at bytes, e) refl
+
+-- what is meant by bytes that begin with a digit, and with `<`
+pub number_at : (raw : Bool) (bytes : List ℕ) → 1 ≤ length bytes → 48 ≤ get_or bytes 0 0 → get_or bytes 0 0 ≤ 57 → numbered raw bytes ≡ csi_meaning raw bytes
+number_at raw [] l m n = absurd (omega arith)
+number_at raw (b ∷ bs) l m n = let t = digit_apart b (m, n) in rw (t.0, t.1, t.2, t.3, t.4) refl
+
+pub report_at : (raw : Bool) (bytes : List ℕ) → 1 ≤ length bytes → get_or bytes 0 0 ≡ 60 → sgr (take (length bytes - 1) (drop 1 bytes)) ≡ csi_meaning raw bytes
+report_at raw [] l h = absurd (omega arith)
+report_at raw (b ∷ bs) l h = ap sgr (take_all (length (b ∷ bs) - 1) bs (omega arith)) ∙ rw h refl
+
+-- what a front that is taken away says
+pub stripped : (front bytes : List ℕ) → pointwise eqb (take (length front) bytes) front ≡ begins front bytes
+stripped [] bytes = refl
+stripped (p ∷ ps) [] = refl
+stripped (p ∷ ps) (b ∷ bs) = ap (λ (t : Bool). (b == p) && t) (stripped ps bs) ∙ and_comm (b == p) (begins ps bs)
+
+-- what doesn't begin with the end of a paste ends as its rest does
+pub paste_on : (bytes : List ℕ) → 1 ≤ length bytes → pointwise eqb (take 6 bytes) paste_end ≡ false → ends_paste (take (length bytes - 1) (drop 1 bytes)) ≡ ends_paste bytes
+paste_on [] l h = absurd (omega arith)
+paste_on (b ∷ bs) l h = ap ends_paste (take_all (length (b ∷ bs) - 1) bs (omega arith)) ∙ sym (rw (sym (stripped paste_end (b ∷ bs)) ∙ h) refl)
+
+-- a numbered sequence or a paste, by whether the bytes open one
+pub digit_at : (bytes : List ℕ) (t : Bool) → 1 ≤ length bytes → pointwise eqb (take 4 bytes) paste_mark ≡ t
+    → cond t (ends_paste (drop 4 bytes)) (ends_numbered (take (length bytes - 1) (drop 1 bytes))) ≡ ends_digit bytes
+digit_at [] t l h = absurd (omega arith)
+digit_at (b ∷ bs) t l h = rw (sym (stripped paste_mark (b ∷ bs)) ∙ h, take_all (length (b ∷ bs) - 1) bs (omega arith)) refl
+
+-- what is meant by bytes that open a paste, and by others
+pub paste_seen : (raw : Bool) (bytes rest text : List ℕ) (n : ℕ) → pointwise eqb (take 6 bytes) paste_start ≡ true → rest ≡ drop 6 bytes → n ≡ length rest - 6
+    → text ≡ encode_utf8_all (lossy_chars (take n rest)) → Some (Paste text) ≡ meaning_seen raw bytes
+paste_seen raw bytes rest text n h r e t = rw (sym (stripped paste_start bytes) ∙ h, t, e, r) refl
+
+pub other_seen : (raw : Bool) (bytes : List ℕ) → pointwise eqb (take 6 bytes) paste_start ≡ false → option_map seen_meaning (meaning raw bytes) ≡ meaning_seen raw bytes
+other_seen raw bytes h = rw (sym (stripped paste_start bytes) ∙ h) refl
+
+-- the events with one more, or with none
+pub given_some : {X : Type 0} (see : X → Seen) (old new : List X) (x : X) (o : Option X) (means : Option Seen) → o ≡ Some x → new ≡ old ++ x ∷ []
+    → option_map see o ≡ means → map see new ≡ map see old ++ option_to_list means
+given_some see old new x o means s n e = rw (sym e, s, n) (map-append see old (x ∷ []))
+
+pub given_none : {X : Type 0} (see : X → Seen) (old : List X) (o : Option X) (means : Option Seen) → o ≡ None → option_map see o ≡ means → map see old ≡ map see old ++ option_to_list means
+given_none see old o means s e = rw (sym e, s) (sym (append-nil (map see old)))

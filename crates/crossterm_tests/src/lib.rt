@@ -1,10 +1,12 @@
-//! Tests of the crates below `crossterm`, by their public calls: each call once, and tables that come from outside. Beside them stands the
-//! slow program of the grammar's definitions (`plain`), which the parser is compared with.
+//! Tests of the parser, the source and the reader by their public calls: each call once, and tables that come from outside. Beside them
+//! stands the slow program of the grammar's definitions (`plain`), which the parser is compared with.
 //!
-//! They stand here, in a crate of their own, since a crate with tests is proved twice.
+//! They stand here, in a crate of their own, since a crate with tests is proved twice. What a proof costs grows with the square of what one
+//! function does, so tables are statics, and short helpers say whether a row of one holds.
 #![tactic(auto)]
 
-pub mod plain;
+#[cfg(test)]
+mod plain;
 
 /// Fails the test where something doesn't hold, and says what.
 #[cfg(test)]
@@ -24,18 +26,14 @@ macro_rules! expect {
 }
 
 #[cfg(test)]
-mod flags;
-#[cfg(test)]
-mod keys;
-#[cfg(test)]
-mod names;
-#[cfg(test)]
 mod parser;
 #[cfg(test)]
-mod predicates;
+mod pastes;
 #[cfg(test)]
 mod reading;
 #[cfg(test)]
 mod refused;
+#[cfg(test)]
+mod scripts;
 #[cfg(test)]
 mod sources;

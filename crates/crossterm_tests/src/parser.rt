@@ -1,19 +1,13 @@
 //! The parser beside the slow program of the definitions, and its calls at a concrete type.
 
-use crate::plain::divide;
+use crate::plain::{Divided, divide};
 use crossterm::event::sys::unix::marked::Marked;
 use crossterm::event::sys::unix::parse::Parser;
 use crossterm::event::{Event, InternalEvent, KeyCode, KeyEvent, KeyModifiers};
 use std::alloc::{AllocError, Global};
-use std::test::Fail;
 
 /// What a device told at once: bytes, whether more follow at once, and the mode.
 type Piece<'a> = (&'a [u8], bool, bool);
-
-/// Bytes after which no more follow at once, not in raw mode.
-fn piece(bytes: &[u8]) -> Piece<'_> {
-    (bytes, false, false)
-}
 
 fn mark(all: &mut Vec<Marked>, piece: &Piece<'_>) -> Result<(), AllocError> {
     for (i, byte) in piece.0.iter().enumerate() {
@@ -26,50 +20,76 @@ fn mark(all: &mut Vec<Marked>, piece: &Piece<'_>) -> Result<(), AllocError> {
     Ok(())
 }
 
-fn give_all(parser: &mut Parser, events: &mut Vec<InternalEvent>) -> Result<(), AllocError> {
+/// The marked bytes of the pieces.
+fn marks_of(alloc: Global, pieces: &[Piece<'_>]) -> Result<Vec<Marked>, AllocError> {
+    let mut bytes = Vec::new(alloc);
+    for piece in pieces {
+        mark(&mut bytes, piece)?;
+    }
+    Ok(bytes)
+}
+
+/// The events not yet given, which are 64 at most.
+fn events_of(alloc: Global, parser: &mut Parser) -> Result<Vec<InternalEvent>, AllocError> {
+    let mut events = Vec::new(alloc);
     for _ in 0..64 {
         match parser.next() {
             Some(event) => events.push(event)?,
-            None => return Ok(()),
+            None => return Ok(events),
         }
     }
-    Ok(())
+    Ok(events)
 }
 
-/// The events of the bytes one by one, or nothing where the parser isn't between two sequences exactly where the definitions say so.
-fn one_by_one(alloc: Global, bytes: &[Marked]) -> Result<Option<Vec<InternalEvent>>, AllocError> {
+/// The events of the pieces.
+fn at_once(alloc: Global, pieces: &[Piece<'_>]) -> Result<Vec<InternalEvent>, AllocError> {
     let mut parser = Parser::new(alloc);
-    let mut lengths = divide(alloc, bytes)?.into_iter();
+    for piece in pieces {
+        parser.feed(piece.0, piece.1, piece.2);
+    }
+    events_of(alloc, &mut parser)
+}
+
+/// Hands one byte in, and says whether the parser is between two sequences then.
+fn ends_with(parser: &mut Parser, marked: &Marked) -> bool {
+    parser.feed(&[marked.byte], !marked.pause, marked.raw);
+    !parser.is_undecided()
+}
+
+/// Whether the parser, given the bytes one by one, is between two sequences exactly where they have these lengths.
+fn is_divided(parser: &mut Parser, bytes: &[Marked], lengths: &[usize]) -> bool {
+    let mut lengths = lengths.iter();
     let mut length = lengths.next();
     let mut open: usize = 0;
+    let mut agrees = true;
     for marked in bytes {
-        parser.advance(&[marked.byte], !marked.pause, marked.raw);
+        let is_between = ends_with(parser, marked);
         open = open.saturating_add(1);
-        let ends = length == Some(open);
-        if parser.is_undecided() == ends {
-            return Ok(None);
-        }
+        let ends = matches!(length, Some(end) if *end == open);
+        agrees = agrees && is_between == ends;
         if ends {
             open = 0;
             length = lengths.next();
         }
     }
-    let mut events = Vec::new(alloc);
-    give_all(&mut parser, &mut events)?;
-    Ok(Some(events))
+    agrees
 }
 
-/// Whether the parser divides the pieces as defined, and gives the same events for them as for their bytes one by one.
-fn agrees(alloc: Global, pieces: &[Piece<'_>]) -> Result<bool, AllocError> {
+/// Whether the parser divides the bytes one by one as defined, and gives the events of their parts.
+fn agrees_singly(alloc: Global, bytes: &[Marked], divided: &Divided) -> Result<bool, AllocError> {
     let mut parser = Parser::new(alloc);
-    let mut bytes = Vec::new(alloc);
-    for piece in pieces {
-        parser.advance(piece.0, piece.1, piece.2);
-        mark(&mut bytes, piece)?;
-    }
-    let mut events = Vec::new(alloc);
-    give_all(&mut parser, &mut events)?;
-    Ok(one_by_one(alloc, bytes.as_slice())? == Some(events))
+    let agrees = is_divided(&mut parser, bytes, &divided.lengths);
+    let events = events_of(alloc, &mut parser)?;
+    Ok(agrees && events == divided.events)
+}
+
+/// Whether the parser divides the bytes of the pieces as defined, and gives the events of their parts for the pieces and for single bytes.
+fn agrees(alloc: Global, pieces: &[Piece<'_>]) -> Result<bool, AllocError> {
+    let bytes = marks_of(alloc, pieces)?;
+    let divided = divide(alloc, &bytes)?;
+    let singly = agrees_singly(alloc, &bytes, &divided)?;
+    let together = at_once(alloc, pieces)?;
+    Ok(singly && together == divided.events)
 }
 
 /// The same, and that memory was there.
@@ -77,61 +97,175 @@ fn does_agree(alloc: Global, pieces: &[Piece<'_>]) -> bool {
     matches!(agrees(alloc, pieces), Ok(true))
 }
 
-#[test]
-fn numbered_sequences_are_divided_as_defined(rt: HostRuntime) {
-    expect!(rt; does_agree(rt.alloc(), &[piece(b"\x1b[1;2:3A\x1b[3;65~\x1b[97:65;2u\x1b[57399;129u")]));
-    expect!(rt; does_agree(rt.alloc(), &[piece(b"\x1b[[A\x1b[?1u\x1b[?c\x1b[?uu\x1b[20;10R\x1b[0;5R")]));
-    expect!(rt; does_agree(rt.alloc(), &[piece(b"\x1b[1;1;\xc3A\x1b[1;1;\xc3\xa9A\x1b[1;\xff~a")]));
-    expect!(rt; does_agree(rt.alloc(), &[piece(b"\x1b[10"), (b"u\x1b[10", false, true), piece(b"u\x1b[?1")]));
-}
-
-#[test]
-fn escapes_are_divided_as_defined(rt: HostRuntime) {
-    expect!(rt; does_agree(rt.alloc(), &[piece(b"\x1b"), piece(b"\x1b")]));
-    expect!(rt; does_agree(rt.alloc(), &[piece(b"\x1b\x1b")]));
-    expect!(rt; does_agree(rt.alloc(), &[(b"\x1b", true, false), piece(b"[A")]));
-    expect!(rt; does_agree(rt.alloc(), &[(b"\x1b", true, false), piece(b"\x1b")]));
-    expect!(rt; does_agree(rt.alloc(), &[piece(b"\x1b[;A")]));
-}
-
-#[test]
-fn short_sequences_are_divided_as_defined(rt: HostRuntime) {
-    expect!(rt; does_agree(rt.alloc(), &[piece(b"\x1bOP\x1bOA\x1bO\x1b")]));
-    expect!(rt; does_agree(rt.alloc(), &[piece(b"\x1b[Z\x1b[I\x1b[O\x1b[\x1b")]));
-    expect!(rt; does_agree(rt.alloc(), &[(b"\n", false, true), piece(b"\n")]));
-    expect!(rt; does_agree(rt.alloc(), &[piece(b"\x00\x01\x1a\x1c\x1f\x7f\x80\xbf\xf8\xff")]));
-}
-
-#[test]
-fn characters_are_divided_as_defined(rt: HostRuntime) {
-    expect!(rt; does_agree(rt.alloc(), &[piece(b"\xc3\x89\xc0A\xed\xa0\x80\xe2\x82\xac\xf0\x9f\x98\x80")]));
-    expect!(rt; does_agree(rt.alloc(), &[piece(b"\xc3"), piece(b"\x89")]));
-    expect!(rt; does_agree(rt.alloc(), &[(b"\xf0\x9f", true, false), piece(b"a\xe2"), piece(b"\x1b[A")]));
-    expect!(rt; does_agree(rt.alloc(), &[piece(b"\x1b\xc3\xa9\x1b\xc0a\x1ba\x1b\x7f\x1b\x00")]));
-    expect!(rt; does_agree(rt.alloc(), &[piece(b"\x1b\xe2\x82"), piece(b"\x1b")]));
-}
+/// Pieces, each list with a name.
+static CASES: [(&str, &[Piece<'static>]); 24] = [
+    (
+        "keys",
+        &[(
+            b"\x1b[1;2:3A\x1b[3;65~\x1b[97:65;2u\x1b[57399;129u",
+            false,
+            false,
+        )],
+    ),
+    (
+        "replies",
+        &[(
+            b"\x1b[[A\x1b[?1u\x1b[?c\x1b[?uu\x1b[20;10R\x1b[0;5R",
+            false,
+            false,
+        )],
+    ),
+    (
+        "characters in numbers",
+        &[(
+            b"\x1b[1;1;\xc3A\x1b[1;1;\xc3\xa9A\x1b[1;\xff~a",
+            false,
+            false,
+        )],
+    ),
+    (
+        "numbers in pieces",
+        &[
+            (b"\x1b[10", false, false),
+            (b"u\x1b[10", false, true),
+            (b"u\x1b[?1", false, false),
+        ],
+    ),
+    (
+        "two Esc keys",
+        &[(b"\x1b", false, false), (b"\x1b", false, false)],
+    ),
+    ("two ESC at once", &[(b"\x1b\x1b", false, false)]),
+    (
+        "ESC and more",
+        &[(b"\x1b", true, false), (b"[A", false, false)],
+    ),
+    (
+        "ESC and ESC",
+        &[(b"\x1b", true, false), (b"\x1b", false, false)],
+    ),
+    ("no number", &[(b"\x1b[;A", false, false)]),
+    ("after ESC O", &[(b"\x1bOP\x1bOA\x1bO\x1b", false, false)]),
+    (
+        "after ESC [",
+        &[(b"\x1b[Z\x1b[I\x1b[O\x1b[\x1b", false, false)],
+    ),
+    ("line feeds", &[(b"\n", false, true), (b"\n", false, false)]),
+    (
+        "single bytes",
+        &[(b"\x00\x01\x1a\x1c\x1f\x7f\x80\xbf\xf8\xff", false, false)],
+    ),
+    (
+        "whole and broken",
+        &[(
+            b"\xc3\x89\xc0A\xed\xa0\x80\xe2\x82\xac\xf0\x9f\x98\x80",
+            false,
+            false,
+        )],
+    ),
+    (
+        "in two pieces",
+        &[(b"\xc3", false, false), (b"\x89", false, false)],
+    ),
+    (
+        "broken by others",
+        &[
+            (b"\xf0\x9f", true, false),
+            (b"a\xe2", false, false),
+            (b"\x1b[A", false, false),
+        ],
+    ),
+    (
+        "after ESC",
+        &[(b"\x1b\xc3\xa9\x1b\xc0a\x1ba\x1b\x7f\x1b\x00", false, false)],
+    ),
+    (
+        "broken after ESC",
+        &[(b"\x1b\xe2\x82", false, false), (b"\x1b", false, false)],
+    ),
+    ("no byte", &[(b"", false, false), (b"aZ~ @", false, false)]),
+    (
+        "one byte each",
+        &[
+            (b"\x1b", false, true),
+            (b"[", false, true),
+            (b"A", false, true),
+        ],
+    ),
+    (
+        "reports of the mouse",
+        &[(
+            b"\x1b[<0;20;10M\x1b[<0;1;1m\x1b[<0;0;1M\x1b[<0;1;1;\xffM\x1b[M !!\x1b[32;30;40M\x1b[M\x1b",
+            false,
+            false,
+        )],
+    ),
+    (
+        "reports in pieces",
+        &[
+            (b"\x1b[<35;", true, false),
+            (b"5;6Ma\x1b[M\x1b", false, false),
+            (b"[!\x1b[<", false, true),
+        ],
+    ),
+    (
+        "pastes",
+        &[(
+            b"\x1b[200~hi\x1b[201~\x1b[200~\xff\x1b[201\x1b[201~\x1b[200~\x1b[201~a\x1b[0200~b",
+            false,
+            false,
+        )],
+    ),
+    (
+        "pastes in pieces",
+        &[
+            (b"\x1b[200", false, false),
+            (b"~a\x1b", false, false),
+            (b"[A\x1b[20", false, true),
+            (b"1~b\x1b[200~c\x1b[201", false, false),
+        ],
+    ),
+];
 
 #[test]
 fn pieces_are_divided_as_defined(rt: HostRuntime) {
-    expect!(rt; does_agree(rt.alloc(), &[piece(b""), piece(b"aZ~ @")]));
-    expect!(rt; does_agree(rt.alloc(), &[(b"\x1b", false, true), (b"[", false, true), (b"A", false, true)]));
+    for (name, pieces) in &CASES {
+        expect!(rt; does_agree(rt.alloc(), pieces), name);
+    }
 }
 
-fn key(code: KeyCode, modifiers: KeyModifiers) -> Option<InternalEvent> {
-    Some(InternalEvent::Event(Event::Key(KeyEvent::new(code, modifiers))))
+/// Whether so many of these bytes are taken.
+fn takes(parser: &mut Parser, bytes: &[u8], count: usize) -> bool {
+    parser.feed(bytes, false, false) == count
+}
+
+/// Whether the key comes next.
+fn gives(parser: &mut Parser, code: KeyCode) -> bool {
+    match parser.next() {
+        Some(InternalEvent::Event(Event::Key(key))) => {
+            key == KeyEvent::new(code, KeyModifiers::NONE)
+        }
+        _ => false,
+    }
+}
+
+/// Whether a letter and the beginning of a sequence are taken, and the letter is given.
+fn takes_a_letter(parser: &mut Parser) -> bool {
+    let taken = takes(parser, b"a\x1b[", 3) && parser.is_undecided();
+    taken && gives(parser, KeyCode::Char('a')) && parser.next().is_none()
+}
+
+/// Whether the rest of the sequence is taken, and its key is given.
+fn takes_the_rest(parser: &mut Parser) -> bool {
+    let taken = takes(parser, b"A", 1) && gives(parser, KeyCode::Up);
+    taken && !parser.is_undecided()
 }
 
 #[test]
-fn each_call_once(rt: HostRuntime) -> Result<(), Fail> {
+fn each_call_once(rt: HostRuntime) {
     let mut parser: Parser<Global> = Parser::new(rt.alloc());
-    parser.reserve(3)?;
+    expect!(rt; parser.reserve(3).is_ok());
     expect!(rt; !parser.is_undecided());
-    expect!(rt; parser.advance(b"a\x1b[", false, false) == 3);
-    expect!(rt; parser.is_undecided());
-    expect!(rt; parser.next() == key(KeyCode::Char('a'), KeyModifiers::NONE));
-    expect!(rt; parser.next() == None);
-    expect!(rt; parser.advance(b"A", false, false) == 1);
-    expect!(rt; parser.next() == key(KeyCode::Up, KeyModifiers::NONE));
-    expect!(rt; !parser.is_undecided());
-    Ok(())
+    expect!(rt; takes_a_letter(&mut parser));
+    expect!(rt; takes_the_rest(&mut parser));
 }

@@ -1,12 +1,14 @@
 //! The calls of a reader, and `play`.
 
+use crate::expected;
+use crate::scripts::{Part, acts_of, source_of};
 use crossterm::event::filter::{AnyFilter, Filter};
-use crossterm::event::read::{Call, InternalEventReader, Reply, play};
-use crossterm::event::source::{Act, DeviceSource, Script};
+use crossterm::event::read::{Call, InternalEventReader, Reply, Trace, play};
+use crossterm::event::source::{DeviceSource, Script};
 use crossterm::event::{Event, InternalEvent, KeyCode};
-use std::alloc::{Allocator, Global};
+use std::alloc::{AllocError, Allocator, Global};
 use std::io;
-use std::test::Fail;
+use std::process::Abort;
 
 // Admits no event.
 struct Nothing;
@@ -28,19 +30,6 @@ fn is_char(event: &InternalEvent, c: char) -> bool {
     }
 }
 
-type Scripted = InternalEventReader<DeviceSource<Script>>;
-
-fn reader_of(alloc: Global, letters: &[u8]) -> Result<Scripted, Fail> {
-    let mut bytes = Vec::new(alloc);
-    bytes.extend_from_slice(letters)?;
-    let mut acts = Vec::new(alloc);
-    acts.push(Act::Piece { bytes, raw: false })?;
-    acts.push(Act::Woken)?;
-    acts.push(Act::Resize(80, 24))?;
-    let source = DeviceSource::new(alloc, Script::new(acts));
-    Ok(InternalEventReader::new(alloc, source))
-}
-
 fn is_some_char(event: Option<InternalEvent>, c: char) -> bool {
     match event {
         Some(event) => is_char(&event, c),
@@ -48,36 +37,143 @@ fn is_some_char(event: Option<InternalEvent>, c: char) -> bool {
     }
 }
 
-#[test]
-fn skipped_events_stay_first(rt: HostRuntime) -> Result<(), Fail> {
-    let mut reader = reader_of(rt.alloc(), b"ab")?;
-    expect!(rt; reader.read_within(2, &Nothing)?.is_none());
-    expect!(rt; reader.held().count() == 2);
-    expect!(rt; reader.take(&Nothing).is_none());
-    expect!(rt; reader.poll_within(0, &AnyFilter::Event)?);
-    expect!(rt; is_some_char(reader.take(&AnyFilter::Event), 'a'));
-    expect!(rt; reader.held().count() == 1);
-    for event in reader.held() {
-        expect!(rt; is_char(event, 'b'));
+type Reader = InternalEventReader<DeviceSource<Script>>;
+
+static LETTERS: [Part; 3] = [
+    Part::Text(b"ab", 1, false),
+    Part::Woken,
+    Part::Resize(80, 24),
+];
+
+static NO_LETTERS: [Part; 3] = [Part::Text(b"", 1, false), Part::Woken, Part::Resize(80, 24)];
+
+fn reader_of(alloc: Global, parts: &[Part]) -> Result<Reader, AllocError> {
+    let source = source_of(alloc, parts)?;
+    Ok(InternalEventReader::new(alloc, source))
+}
+
+/// A call of a reader, and what comes of it.
+enum Step {
+    /// A poll with so many tries says this; `None` is a fault.
+    Polls(u32, Option<bool>),
+    /// Whether a read of one try gives an event; `None` is a fault.
+    Reads(Option<bool>),
+    /// A read of two tries that admits nothing gives nothing.
+    ReadsNothing,
+    /// A take that admits nothing gives nothing.
+    TakesNothing,
+    /// This character is taken.
+    Takes(char),
+    /// So many events are held, and the last one is this character.
+    Holds(usize, char),
+}
+
+fn polls(reader: &mut Reader, tries: u32, ready: Option<bool>) -> bool {
+    match reader.poll_within(tries, &AnyFilter::Event) {
+        Ok(answer) => ready == Some(answer),
+        Err(_) => ready == None,
     }
-    Ok(())
 }
 
-#[test]
-fn a_wake_up_ends_a_poll(rt: HostRuntime) -> Result<(), Fail> {
-    let mut reader = reader_of(rt.alloc(), b"")?;
-    expect!(rt; !reader.poll_within(9, &AnyFilter::Event)?);
-    expect!(rt; reader.poll_within(1, &AnyFilter::Event)?);
-    Ok(())
+/// Whether a read gives an event, if it is to, or fails, if it is to.
+fn reads<F: Filter>(reader: &mut Reader, tries: u32, filter: &F, gives: Option<bool>) -> bool {
+    match reader.read_within(tries, filter) {
+        Ok(event) => gives == Some(event.is_some()),
+        Err(_) => gives == None,
+    }
 }
 
+fn takes_nothing(reader: &mut Reader) -> bool {
+    reader.take(&Nothing).is_none()
+}
+
+fn takes(reader: &mut Reader, c: char) -> bool {
+    is_some_char(reader.take(&AnyFilter::Event), c)
+}
+
+fn holds(reader: &Reader, count: usize, c: char) -> bool {
+    let mut is_last = false;
+    for event in reader.held() {
+        is_last = is_char(event, c);
+    }
+    is_last && reader.held().count() == count
+}
+
+fn goes(reader: &mut Reader, step: &Step) -> bool {
+    match step {
+        Step::Polls(tries, ready) => polls(reader, *tries, *ready),
+        Step::Reads(gives) => reads(reader, 1, &AnyFilter::Event, *gives),
+        Step::ReadsNothing => reads(reader, 2, &Nothing, Some(false)),
+        Step::TakesNothing => takes_nothing(reader),
+        Step::Takes(c) => takes(reader, *c),
+        Step::Holds(count, c) => holds(reader, *count, *c),
+    }
+}
+
+/// Fails the test unless a reader over these parts goes these steps, each with what it shows.
+fn goes_all(rt: &impl Abort, alloc: Global, parts: &[Part], steps: &[(Step, &str)]) {
+    match reader_of(alloc, parts) {
+        Ok(mut reader) => {
+            for (step, what) in steps {
+                expected(rt, goes(&mut reader, step), what);
+            }
+        }
+        Err(_) => expected(rt, false, "memory is there"),
+    }
+}
+
+static SKIPPED: [(Step, &str); 6] = [
+    (Step::ReadsNothing, "nothing is given that isn't admitted"),
+    (Step::Holds(2, 'b'), "what was skipped is held"),
+    (Step::TakesNothing, "nothing is taken that isn't admitted"),
+    (Step::Polls(0, Some(true)), "what is held is ready"),
+    (Step::Takes('a'), "the first one is taken"),
+    (Step::Holds(1, 'b'), "the other one stays"),
+];
+
 #[test]
-fn a_read_goes_on_after_a_wake_up(rt: HostRuntime) -> Result<(), Fail> {
-    let mut reader = reader_of(rt.alloc(), b"")?;
-    expect!(rt; reader.read_within(1, &AnyFilter::Event)?.is_none());
-    expect!(rt; reader.read_within(1, &AnyFilter::Event)?.is_some());
-    expect!(rt; reader.read_within(1, &AnyFilter::Event).is_err());
-    Ok(())
+fn skipped_events_stay_first(rt: HostRuntime) {
+    goes_all(&rt, rt.alloc(), &LETTERS, &SKIPPED);
+}
+
+static POLLED: [(Step, &str); 2] = [
+    (Step::Polls(9, Some(false)), "a wake-up ends a poll"),
+    (Step::Polls(1, Some(true)), "the next one goes on"),
+];
+
+#[test]
+fn a_wake_up_ends_a_poll(rt: HostRuntime) {
+    goes_all(&rt, rt.alloc(), &NO_LETTERS, &POLLED);
+}
+
+static GIVEN: [(Step, &str); 3] = [
+    (Step::Reads(Some(false)), "a wake-up is a try"),
+    (Step::Reads(Some(true)), "the next read goes on"),
+    (Step::Reads(None), "the end is a fault"),
+];
+
+#[test]
+fn a_read_goes_on_after_a_wake_up(rt: HostRuntime) {
+    goes_all(&rt, rt.alloc(), &NO_LETTERS, &GIVEN);
+}
+
+const READ: Call = Call::Read {
+    tries: 9,
+    filter: AnyFilter::Event,
+};
+
+const POLL: Call = Call::Poll {
+    tries: 1,
+    filter: AnyFilter::Event,
+};
+
+const TAKE: Call = Call::Take {
+    filter: AnyFilter::Event,
+};
+
+fn played(alloc: Global, parts: &[Part], calls: &[Call]) -> io::Result<Trace> {
+    let script = acts_of(alloc, parts)?;
+    play(alloc, script, calls)
 }
 
 fn gave(reply: &Reply, c: char) -> bool {
@@ -85,22 +181,6 @@ fn gave(reply: &Reply, c: char) -> bool {
         Reply::Event(Some(event)) => is_char(event, c),
         _ => false,
     }
-}
-
-fn letters(alloc: Global, letters: &[u8]) -> Result<Act, Fail> {
-    let mut bytes = Vec::new(alloc);
-    bytes.extend_from_slice(letters)?;
-    Ok(Act::Piece { bytes, raw: false })
-}
-
-fn fault_between(alloc: Global) -> Result<Vec<Act>, Fail> {
-    let mut script = Vec::new(alloc);
-    script.push(letters(alloc, b"a")?)?;
-    script.push(Act::Fault(io::ErrorKind::Other))?;
-    script.push(Act::Resize(80, 24))?;
-    script.push(Act::Woken)?;
-    script.push(letters(alloc, b"b")?)?;
-    Ok(script)
 }
 
 fn is_resize(reply: &Reply) -> bool {
@@ -119,8 +199,17 @@ fn is_fault(reply: &Reply, kind: io::ErrorKind) -> bool {
     }
 }
 
+/// A fault, a resize and a wake-up between two letters.
+static FAULT_BETWEEN: [Part; 5] = [
+    Part::Text(b"a", 1, false),
+    Part::Fault(io::ErrorKind::Other),
+    Part::Resize(80, 24),
+    Part::Woken,
+    Part::Text(b"b", 1, false),
+];
+
 /// What comes of the letter a, a fault, a resize, a wake-up, the letter b, and the end.
-fn is_told_in_order(replies: &[Reply]) -> bool {
+fn are_told_in_order(replies: &[Reply]) -> bool {
     match replies {
         [first, fault, resize, second, end] => {
             gave(first, 'a')
@@ -134,16 +223,13 @@ fn is_told_in_order(replies: &[Reply]) -> bool {
 }
 
 #[test]
-fn a_fault_loses_nothing(rt: HostRuntime) -> Result<(), Fail> {
-    let filter = AnyFilter::Event;
-    let read = Call::Read { tries: 9, filter };
-    let poll = Call::Poll { tries: 1, filter };
-    let script = fault_between(rt.alloc())?;
-    let trace = play(rt.alloc(), script, &[read, read, read, read, poll])?;
-    expect!(rt; is_told_in_order(trace.replies.as_slice()));
-    expect!(rt; trace.held.is_empty());
+fn a_fault_loses_nothing(rt: HostRuntime) -> io::Result<()> {
+    let trace = played(rt.alloc(), &FAULT_BETWEEN, &[READ, READ, READ, READ, POLL])?;
+    expect!(rt; are_told_in_order(&trace.replies) && trace.held.is_empty());
     Ok(())
 }
+
+static TWO_LETTERS: [Part; 1] = [Part::Text(b"ab", 1, false)];
 
 /// What a take, a poll, a take and a poll answer where a letter comes for each poll.
 fn is_taken_after_a_poll(replies: &[Reply]) -> bool {
@@ -158,24 +244,23 @@ fn is_taken_after_a_poll(replies: &[Reply]) -> bool {
     }
 }
 
+fn is_only(held: &[InternalEvent], c: char) -> bool {
+    match held {
+        [only] => is_char(only, c),
+        _ => false,
+    }
+}
+
 #[test]
-fn what_was_polled_is_held(rt: HostRuntime) -> Result<(), Fail> {
-    let filter = AnyFilter::Event;
-    let take = Call::Take { filter };
-    let poll = Call::Poll { tries: 1, filter };
-    let mut script = Vec::new(rt.alloc());
-    script.push(letters(rt.alloc(), b"ab")?)?;
-    let trace = play(rt.alloc(), script, &[take, poll, take, poll])?;
-    expect!(rt; is_taken_after_a_poll(trace.replies.as_slice()));
-    expect!(rt; matches!(trace.held.as_slice(), [held] if is_char(held, 'b')));
+fn what_was_polled_is_held(rt: HostRuntime) -> io::Result<()> {
+    let trace = played(rt.alloc(), &TWO_LETTERS, &[TAKE, POLL, TAKE, POLL])?;
+    expect!(rt; is_taken_after_a_poll(&trace.replies) && is_only(&trace.held, 'b'));
     Ok(())
 }
 
 #[test]
-fn no_calls_leave_nothing(rt: HostRuntime) -> Result<(), Fail> {
-    let alloc = rt.alloc();
-    let trace = play(alloc, Vec::new(alloc), &[])?;
-    expect!(rt; trace.replies.is_empty());
-    expect!(rt; trace.held.is_empty());
+fn no_calls_leave_nothing(rt: HostRuntime) -> io::Result<()> {
+    let trace = played(rt.alloc(), &[], &[])?;
+    expect!(rt; trace.replies.is_empty() && trace.held.is_empty());
     Ok(())
 }

@@ -1,125 +1,175 @@
 //! A script as a device, and what a source makes of it.
 
-use crossterm::event::source::{Act, Answer, Device, DeviceSource, EventSource, Script, Waker};
+use crate::scripts::{Part, acts_of, source_of};
+use crossterm::event::source::{Answer, Device, DeviceSource, EventSource, Script, Waker};
 use crossterm::event::{Event, InternalEvent, KeyCode};
-use std::alloc::Global;
+use std::alloc::AllocError;
 use std::io;
-use std::test::Fail;
 use std::time::Duration;
 
-fn is_char(event: &Option<InternalEvent>, c: char) -> bool {
-    match event {
-        Some(InternalEvent::Event(Event::Key(key))) => key.code == KeyCode::Char(c),
+static PARTS: [Part; 5] = [
+    Part::Text(b"ab", 1, false),
+    Part::Idle,
+    Part::Resize(80, 24),
+    Part::Woken,
+    Part::Fault(io::ErrorKind::Other),
+];
+
+/// What a source answers.
+enum Given {
+    Char(char),
+    Resize(u16, u16),
+    Nothing,
+    Fault(io::ErrorKind),
+}
+
+/// The limit of a question, what is given within it, and how often the device has failed then.
+type Row = (Option<Duration>, Given, u64);
+
+/// What a source over `PARTS` gives.
+static GIVEN: [Row; 7] = [
+    (None, Given::Char('a'), 0),
+    (Some(Duration::ZERO), Given::Char('b'), 0),
+    (None, Given::Nothing, 0),
+    (None, Given::Resize(80, 24), 0),
+    (None, Given::Fault(io::ErrorKind::Interrupted), 0),
+    (None, Given::Fault(io::ErrorKind::Other), 1),
+    (None, Given::Fault(io::ErrorKind::UnexpectedEof), 1),
+];
+
+fn is_event(event: &InternalEvent, given: &Given) -> bool {
+    match (event, given) {
+        (InternalEvent::Event(Event::Key(key)), Given::Char(c)) => key.code == KeyCode::Char(*c),
+        (InternalEvent::Event(Event::Resize(columns, rows)), Given::Resize(wide, high)) => {
+            columns == wide && rows == high
+        }
         _ => false,
     }
 }
 
-fn source_of(alloc: Global) -> Result<DeviceSource<Script>, Fail> {
-    let mut bytes = Vec::new(alloc);
-    bytes.extend_from_slice(b"ab")?;
-    let mut acts = Vec::new(alloc);
-    acts.push(Act::Piece { bytes, raw: false })?;
-    acts.push(Act::Idle)?;
-    acts.push(Act::Resize(80, 24))?;
-    acts.push(Act::Woken)?;
-    acts.push(Act::Fault(io::ErrorKind::Other))?;
-    Ok(DeviceSource::new(alloc, Script::new(acts)))
+/// Whether a source gives this next.
+fn gives(source: &mut DeviceSource<Script>, limit: Option<Duration>, given: &Given) -> bool {
+    match source.try_read(limit) {
+        Ok(Some(event)) => is_event(&event, given),
+        Ok(None) => matches!(given, Given::Nothing),
+        Err(error) => matches!(given, Given::Fault(kind) if error.kind() == *kind),
+    }
 }
 
-fn fails(source: &mut DeviceSource<Script>, kind: io::ErrorKind) -> bool {
-    match source.try_read(None) {
-        Ok(_) => false,
-        Err(error) => error.kind() == kind,
+fn goes_on(source: &mut DeviceSource<Script>, row: &Row) -> bool {
+    let (limit, given, failures) = row;
+    gives(source, *limit, given) && source.failures() == *failures
+}
+
+fn wakes(source: &DeviceSource<Script>) -> bool {
+    match source.waker() {
+        Ok(waker) => waker.wake().is_ok(),
+        Err(_) => false,
     }
 }
 
 #[test]
-fn events_come_one_by_one(rt: HostRuntime) -> Result<(), Fail> {
-    let mut source = source_of(rt.alloc())?;
-    expect!(rt; is_char(&source.try_read(None)?, 'a'));
-    expect!(rt; is_char(&source.try_read(Some(Duration::ZERO))?, 'b'));
-    expect!(rt; source.try_read(None)?.is_none());
-    let resize = source.try_read(None)?;
-    expect!(rt; matches!(&resize, Some(InternalEvent::Event(Event::Resize(80, 24)))));
-    Ok(())
-}
-
-#[test]
-fn faults_are_answered(rt: HostRuntime) -> Result<(), Fail> {
-    let mut source = source_of(rt.alloc())?;
-    for _i in 0..4u32 {
-        expect!(rt; source.try_read(None).is_ok());
+fn events_and_faults_come_one_by_one(rt: HostRuntime) -> Result<(), AllocError> {
+    let mut source = source_of(rt.alloc(), &PARTS)?;
+    for row in &GIVEN {
+        expect!(rt; goes_on(&mut source, row));
     }
-    expect!(rt; fails(&mut source, io::ErrorKind::Interrupted));
-    expect!(rt; source.failures() == 0);
-    expect!(rt; fails(&mut source, io::ErrorKind::Other));
-    expect!(rt; source.failures() == 1);
-    expect!(rt; fails(&mut source, io::ErrorKind::UnexpectedEof));
-    source.waker()?.wake()?;
+    expect!(rt; wakes(&source));
     Ok(())
 }
 
 #[test]
-fn nobody_is_woken(rt: HostRuntime) -> Result<(), Fail> {
+fn nobody_is_woken(rt: HostRuntime) {
     let waker = Waker::none();
-    waker.wake()?;
     expect!(rt; waker.wake().is_ok());
-    Ok(())
+    expect!(rt; waker.wake().is_ok());
+}
+
+static ACTS: [Part; 6] = [
+    Part::Text(b"", 1, true),
+    Part::Text(b"a", 1500, true),
+    Part::Resize(80, 24),
+    Part::Woken,
+    Part::Idle,
+    Part::Fault(io::ErrorKind::Other),
+];
+
+/// What a script of `ACTS` answers until it fails.
+static ANSWERS: [Answer; 5] = [
+    Answer::Bytes {
+        count: 1024,
+        raw: true,
+    },
+    Answer::Bytes {
+        count: 476,
+        raw: true,
+    },
+    Answer::Resize(80, 24),
+    Answer::Woken,
+    Answer::Idle,
+];
+
+/// The end of input.
+const END: Answer = Answer::Bytes {
+    count: 0,
+    raw: false,
+};
+
+fn is_same(answer: Answer, wanted: Answer) -> bool {
+    match (answer, wanted) {
+        (
+            Answer::Bytes { count, raw },
+            Answer::Bytes {
+                count: many,
+                raw: mode,
+            },
+        ) => count == many && raw == mode,
+        (Answer::Resize(columns, rows), Answer::Resize(wide, high)) => {
+            columns == wide && rows == high
+        }
+        (Answer::Woken, Answer::Woken) => true,
+        (Answer::Idle, Answer::Idle) => true,
+        _ => false,
+    }
+}
+
+/// What a script answers, or `None` for a fault.
+fn answer(script: &mut Script) -> Option<Answer> {
+    let mut buf = [0u8; 1024];
+    match script.answer(&mut buf, None) {
+        Ok(answer) => Some(answer),
+        Err(_) => None,
+    }
+}
+
+fn answers(script: &mut Script, wanted: Answer) -> bool {
+    match answer(script) {
+        Some(answer) => is_same(answer, wanted),
+        None => false,
+    }
+}
+
+fn script_wakes(script: &Script) -> bool {
+    match script.waker() {
+        Ok(waker) => waker.wake().is_ok(),
+        Err(_) => false,
+    }
+}
+
+/// Whether the script fails once, is at its end then, and has a waker.
+fn fails_and_ends(script: &mut Script) -> bool {
+    let before = script.failures();
+    let fails = answer(script).is_none();
+    let after = script.failures();
+    fails && before == 0 && after == 1 && answers(script, END) && script_wakes(script)
 }
 
 #[test]
-fn acts_are_told_in_order(rt: HostRuntime) -> Result<(), Fail> {
-    let alloc = rt.alloc();
-    let mut long = Vec::new(alloc);
-    for _i in 0..1500u32 {
-        long.push(0x61)?;
+fn acts_are_told_in_order(rt: HostRuntime) -> Result<(), AllocError> {
+    let mut script = Script::new(acts_of(rt.alloc(), &ACTS)?);
+    for wanted in &ANSWERS {
+        expect!(rt; answers(&mut script, *wanted));
     }
-    let acts = vec![in alloc;
-        Act::Piece {
-            bytes: Vec::new(alloc),
-            raw: true
-        },
-        Act::Piece {
-            bytes: long,
-            raw: true
-        },
-        Act::Resize(80, 24),
-        Act::Woken,
-        Act::Idle,
-        Act::Fault(io::ErrorKind::Other),
-    ]?;
-    let mut script = Script::new(acts);
-    let mut buf = [0u8; 1024];
-    let first = script.answer(&mut buf, None)?;
-    expect!(rt; matches!(
-            first,
-            Answer::Bytes {
-                count: 1024,
-                raw: true
-            }
-        ));
-    let second = script.answer(&mut buf, None)?;
-    expect!(rt; matches!(
-            second,
-            Answer::Bytes {
-                count: 476,
-                raw: true
-            }
-        ));
-    expect!(rt; matches!(script.answer(&mut buf, None)?, Answer::Resize(80, 24)));
-    expect!(rt; matches!(script.answer(&mut buf, None)?, Answer::Woken));
-    expect!(rt; matches!(script.answer(&mut buf, None)?, Answer::Idle));
-    expect!(rt; script.failures() == 0);
-    expect!(rt; script.answer(&mut buf, None).is_err());
-    expect!(rt; script.failures() == 1);
-    let last = script.answer(&mut buf, None)?;
-    expect!(rt; matches!(
-            last,
-            Answer::Bytes {
-                count: 0,
-                raw: false
-            }
-        ));
-    script.waker()?.wake()?;
+    expect!(rt; fails_and_ends(&mut script));
     Ok(())
 }

@@ -8,17 +8,26 @@ use std::fmt;
 #[derive(Drop)]
 pub struct EventLine<'a, A: Allocator>(pub &'a InternalEvent<A>);
 
+/// A name and what it is of.
+fn write_named<W: fmt::Write, T: fmt::Debug>(
+    f: &mut fmt::Formatter<W>,
+    name: &str,
+    value: &T,
+) -> fmt::Result {
+    write!(f, "{name}:{value:?}")
+}
+
 #[derive(Clone, Copy)]
 struct Code(KeyCode);
 
 impl fmt::Display for Code {
     fn fmt<W: fmt::Write>(&self, f: &mut fmt::Formatter<W>) -> fmt::Result {
-        match self.0 {
+        match &self.0 {
             KeyCode::F(number) => write!(f, "F{number}"),
-            KeyCode::Char(c) => write!(f, "Char:{:x}", u32::from(c)),
-            KeyCode::Media(key) => write!(f, "Media:{key:?}"),
-            KeyCode::Modifier(key) => write!(f, "Modifier:{key:?}"),
-            code => write!(f, "{code:?}"),
+            KeyCode::Char(c) => write!(f, "Char:{:x}", u32::from(*c)),
+            KeyCode::Media(key) => write_named(f, "Media", key),
+            KeyCode::Modifier(key) => write_named(f, "Modifier", key),
+            code => fmt::Debug::fmt(code, f),
         }
     }
 }
@@ -28,11 +37,11 @@ struct MouseKind(MouseEventKind);
 
 impl fmt::Display for MouseKind {
     fn fmt<W: fmt::Write>(&self, f: &mut fmt::Formatter<W>) -> fmt::Result {
-        match self.0 {
-            MouseEventKind::Down(button) => write!(f, "Down:{button:?}"),
-            MouseEventKind::Up(button) => write!(f, "Up:{button:?}"),
-            MouseEventKind::Drag(button) => write!(f, "Drag:{button:?}"),
-            kind => write!(f, "{kind:?}"),
+        match &self.0 {
+            MouseEventKind::Down(button) => write_named(f, "Down", button),
+            MouseEventKind::Up(button) => write_named(f, "Up", button),
+            MouseEventKind::Drag(button) => write_named(f, "Drag", button),
+            kind => fmt::Debug::fmt(kind, f),
         }
     }
 }
@@ -52,7 +61,7 @@ fn write_mouse<W: fmt::Write>(f: &mut fmt::Formatter<W>, mouse: &MouseEvent) -> 
 }
 
 fn write_paste<W: fmt::Write>(f: &mut fmt::Formatter<W>, text: &str) -> fmt::Result {
-    write!(f, "paste ")?;
+    f.write_str("paste ")?;
     for byte in text.bytes() {
         write!(f, "{byte:02x}")?;
     }
@@ -64,8 +73,8 @@ fn write_event<A: Allocator, W: fmt::Write>(
     event: &Event<A>,
 ) -> fmt::Result {
     match event {
-        Event::FocusGained => write!(f, "focus gained"),
-        Event::FocusLost => write!(f, "focus lost"),
+        Event::FocusGained => f.write_str("focus gained"),
+        Event::FocusLost => f.write_str("focus lost"),
         Event::Key(key) => write_key(f, key),
         Event::Mouse(mouse) => write_mouse(f, mouse),
         Event::Paste(text) => write_paste(f, text.as_str()),
@@ -82,7 +91,7 @@ impl<A: Allocator> fmt::Display for EventLine<'_, A> {
                 let bits = flags.bits();
                 write!(f, "flags {bits}")
             }
-            InternalEvent::PrimaryDeviceAttributes => write!(f, "attributes"),
+            InternalEvent::PrimaryDeviceAttributes => f.write_str("attributes"),
         }
     }
 }

@@ -5,7 +5,7 @@ use std::io;
 use thiserror::Error;
 
 /// Why the program gives up. Lines are counted from 1.
-#[derive(Debug, Clone, Copy, PartialEq, Eq, Error)]
+#[derive(Debug, Clone, Copy, Error)]
 pub enum Fault {
     /// The command line isn't one mode word.
     #[error("probe: usage: probe play|say|serve")]

@@ -3,12 +3,13 @@
 use crate::event_line::EventLine;
 use crate::fault::{Fault, Wrong};
 use crate::input::{bytes, number, read_text};
+use crossterm::event::InternalEvent;
 use crossterm::event::filter::AnyFilter;
 use crossterm::event::read::{Call, Reply, Trace, play};
 use crossterm::event::source::Act;
 use std::alloc::{AllocError, Allocator};
 use std::fmt;
-use std::io::{ErrorKind, Read, Write};
+use std::io::{self, ErrorKind, Read, Write};
 
 /// What a line says.
 #[derive(Drop)]
@@ -20,8 +21,14 @@ enum Statement<A: Allocator> {
 /// What a line begins with.
 #[derive(Clone, Copy)]
 enum Word {
-    Piece,
-    Raw,
+    /// Bytes follow, which take memory.
+    Piece { raw: bool },
+    Plain(PlainWord),
+}
+
+/// The first word of a line that takes no memory.
+#[derive(Clone, Copy)]
+enum PlainWord {
     Resize,
     Wake,
     Idle,
@@ -31,114 +38,160 @@ enum Word {
     Take,
 }
 
-fn first_word(word: &str) -> Result<Word, Wrong> {
+fn first_word(word: &str) -> Option<Word> {
     match word {
-        "piece" => Ok(Word::Piece),
-        "raw" => Ok(Word::Raw),
-        "resize" => Ok(Word::Resize),
-        "wake" => Ok(Word::Wake),
-        "idle" => Ok(Word::Idle),
-        "fault" => Ok(Word::Fault),
-        "poll" => Ok(Word::Poll),
-        "read" => Ok(Word::Read),
-        "take" => Ok(Word::Take),
-        _ => Err(Wrong::Word),
+        "piece" => Some(Word::Piece { raw: false }),
+        "raw" => Some(Word::Piece { raw: true }),
+        "resize" => Some(Word::Plain(PlainWord::Resize)),
+        "wake" => Some(Word::Plain(PlainWord::Wake)),
+        "idle" => Some(Word::Plain(PlainWord::Idle)),
+        "fault" => Some(Word::Plain(PlainWord::Fault)),
+        "poll" => Some(Word::Plain(PlainWord::Poll)),
+        "read" => Some(Word::Plain(PlainWord::Read)),
+        "take" => Some(Word::Plain(PlainWord::Take)),
+        _ => None,
     }
 }
 
-fn filter(word: &str) -> Result<AnyFilter, Wrong> {
+fn filter(word: &str) -> Option<AnyFilter> {
     match word {
-        "event" => Ok(AnyFilter::Event),
-        "cursor" => Ok(AnyFilter::Cursor),
-        "flags" => Ok(AnyFilter::Flags),
-        "attributes" => Ok(AnyFilter::Attributes),
-        _ => Err(Wrong::Argument),
+        "event" => Some(AnyFilter::Event),
+        "cursor" => Some(AnyFilter::Cursor),
+        "flags" => Some(AnyFilter::Flags),
+        "attributes" => Some(AnyFilter::Attributes),
+        _ => None,
     }
 }
 
-fn piece<A: Allocator + Clone>(alloc: &A, hex: &[&str], raw: bool) -> Result<Statement<A>, Wrong> {
-    match hex {
-        [hex] => {
-            let bytes = bytes(alloc.clone()?, hex)?;
-            Ok(Statement::Act(Act::Piece { bytes, raw }))
-        }
-        _ => Err(Wrong::Argument),
-    }
-}
-
-fn resize<A: Allocator>(size: &[&str]) -> Result<Statement<A>, Wrong> {
-    match size {
-        [columns, rows] => {
-            let (columns, rows) = (number(columns)?, number(rows)?);
-            Ok(Statement::Act(Act::Resize(columns, rows)))
-        }
-        _ => Err(Wrong::Argument),
-    }
-}
-
-/// An act whose line is its first word alone.
-fn alone<A: Allocator>(rest: &[&str], act: Act<A>) -> Result<Statement<A>, Wrong> {
-    if rest.is_empty() {
-        Ok(Statement::Act(act))
-    } else {
-        Err(Wrong::Argument)
-    }
-}
-
-fn poll<A: Allocator>(arguments: &[&str]) -> Result<Statement<A>, Wrong> {
-    match arguments {
-        [name, tries] => {
-            let (filter, tries) = (filter(name)?, number(tries)?);
-            Ok(Statement::Call(Call::Poll { filter, tries }))
-        }
-        _ => Err(Wrong::Argument),
-    }
-}
-
-fn read<A: Allocator>(arguments: &[&str]) -> Result<Statement<A>, Wrong> {
-    match arguments {
-        [name, tries] => {
-            let (filter, tries) = (filter(name)?, number(tries)?);
-            Ok(Statement::Call(Call::Read { filter, tries }))
-        }
-        _ => Err(Wrong::Argument),
-    }
-}
-
-fn take<A: Allocator>(arguments: &[&str]) -> Result<Statement<A>, Wrong> {
-    match arguments {
-        [name] => {
-            let filter = filter(name)?;
-            Ok(Statement::Call(Call::Take { filter }))
-        }
-        _ => Err(Wrong::Argument),
-    }
-}
-
-fn read_arguments<A: Allocator + Clone>(
+fn piece<A: Allocator + Clone>(
     alloc: &A,
-    word: Word,
-    rest: &[&str],
+    rest: Option<&str>,
+    raw: bool,
 ) -> Result<Statement<A>, Wrong> {
+    let bytes = bytes(alloc.clone()?, rest.unwrap_or(""))?;
+    Ok(Statement::Act(Act::Piece { bytes, raw }))
+}
+
+fn resize<A: Allocator>(rest: &str) -> Option<Statement<A>> {
+    let (columns, rows) = rest.split_once(' ')?;
+    Some(Statement::Act(Act::Resize(number(columns)?, number(rows)?)))
+}
+
+/// A filter and how often the device is asked at most.
+fn asked(rest: &str) -> Option<(AnyFilter, u32)> {
+    let (name, tries) = rest.split_once(' ')?;
+    Some((filter(name)?, number(tries)?))
+}
+
+fn poll<A: Allocator>(rest: &str) -> Option<Statement<A>> {
+    let (filter, tries) = asked(rest)?;
+    Some(Statement::Call(Call::Poll { filter, tries }))
+}
+
+fn read<A: Allocator>(rest: &str) -> Option<Statement<A>> {
+    let (filter, tries) = asked(rest)?;
+    Some(Statement::Call(Call::Read { filter, tries }))
+}
+
+fn take<A: Allocator>(rest: &str) -> Option<Statement<A>> {
+    let filter = filter(rest)?;
+    Some(Statement::Call(Call::Take { filter }))
+}
+
+/// What a word and the words behind it say.
+fn read_with_rest<A: Allocator>(word: PlainWord, rest: &str) -> Option<Statement<A>> {
     match word {
-        Word::Piece => piece(alloc, rest, false),
-        Word::Raw => piece(alloc, rest, true),
-        Word::Resize => resize(rest),
-        Word::Wake => alone(rest, Act::Woken),
-        Word::Idle => alone(rest, Act::Idle),
-        Word::Fault => alone(rest, Act::Fault(ErrorKind::Other)),
-        Word::Poll => poll(rest),
-        Word::Read => read(rest),
-        Word::Take => take(rest),
+        PlainWord::Resize => resize(rest),
+        PlainWord::Poll => poll(rest),
+        PlainWord::Read => read(rest),
+        PlainWord::Take => take(rest),
+        PlainWord::Wake | PlainWord::Idle | PlainWord::Fault => None,
+    }
+}
+
+/// What a word alone says.
+fn read_alone<A: Allocator>(word: PlainWord) -> Option<Statement<A>> {
+    match word {
+        PlainWord::Wake => Some(Statement::Act(Act::Woken)),
+        PlainWord::Idle => Some(Statement::Act(Act::Idle)),
+        PlainWord::Fault => Some(Statement::Act(Act::Fault(ErrorKind::Other))),
+        PlainWord::Resize | PlainWord::Poll | PlainWord::Read | PlainWord::Take => None,
+    }
+}
+
+fn read_plain<A: Allocator>(word: PlainWord, rest: Option<&str>) -> Result<Statement<A>, Wrong> {
+    let statement = match rest {
+        Some(rest) => read_with_rest(word, rest),
+        None => read_alone(word),
+    };
+    statement.ok_or(Wrong::Argument)
+}
+
+/// A line's first word, and what follows the blank behind it.
+fn divided(line: &str) -> (&str, Option<&str>) {
+    match line.split_once(' ') {
+        Some((word, rest)) => (word, Some(rest)),
+        None => (line, None),
     }
 }
 
 /// Reads one line, of words with one blank between.
 fn read_statement<A: Allocator + Clone>(alloc: &A, line: &str) -> Result<Statement<A>, Wrong> {
-    let words: Vec<&str, &A> = line.split(' ').collect(alloc)?;
-    match words.as_slice() {
-        [word, rest @ ..] => read_arguments(alloc, first_word(word)?, rest),
-        [] => Err(Wrong::Word),
+    let (word, rest) = divided(line);
+    match first_word(word) {
+        Some(Word::Piece { raw }) => piece(alloc, rest, raw),
+        Some(Word::Plain(word)) => read_plain(word, rest),
+        None => Err(Wrong::Word),
+    }
+}
+
+/// What all lines say: the script and the calls.
+#[derive(Drop)]
+struct Statements<A: Allocator> {
+    script: Vec<Act<A>, A>,
+    calls: Vec<Call, A>,
+}
+
+impl<A: Allocator + Clone> Statements<A> {
+    fn new(alloc: &A) -> Result<Statements<A>, AllocError> {
+        let script = Vec::new(alloc.clone()?);
+        let calls = Vec::new(alloc.clone()?);
+        Ok(Statements { script, calls })
+    }
+
+    fn add(&mut self, statement: Statement<A>) -> Result<(), AllocError> {
+        match statement {
+            Statement::Act(act) => self.script.push(act)?,
+            Statement::Call(call) => self.calls.push(call)?,
+        }
+        Ok(())
+    }
+
+    /// Adds what a line says, if it isn't empty.
+    fn add_line(&mut self, alloc: &A, line: &str) -> Result<(), Wrong> {
+        if line.is_empty() {
+            return Ok(());
+        }
+        let statement = read_statement(alloc, line)?;
+        Ok(self.add(statement)?)
+    }
+
+    /// Adds what all lines say. The empty ones are counted too.
+    fn add_lines(&mut self, alloc: &A, text: &str) -> Result<(), Fault> {
+        let mut number = 0usize;
+        for line in text.split('\n') {
+            number = number.saturating_add(1);
+            if let Err(wrong) = self.add_line(alloc, line) {
+                return Err(wrong.at(number));
+            }
+        }
+        Ok(())
+    }
+
+    /// Adds what all lines of the input say.
+    fn read<R: Read>(&mut self, alloc: &A, reader: &mut R) -> Result<(), Fault> {
+        let text = read_text(alloc.clone()?, reader)?;
+        self.add_lines(alloc, text.as_str())
     }
 }
 
@@ -149,61 +202,51 @@ struct ReplyLine<'a, A: Allocator>(&'a Reply<A>);
 impl<A: Allocator> fmt::Display for ReplyLine<'_, A> {
     fn fmt<W: fmt::Write>(&self, f: &mut fmt::Formatter<W>) -> fmt::Result {
         match self.0 {
-            Reply::Poll(ready) => write!(f, "{ready}"),
-            Reply::Event(Some(event)) => {
-                let line = EventLine(event);
-                write!(f, "{line}")
-            }
-            Reply::Event(None) => write!(f, "none"),
+            Reply::Poll(ready) => fmt::Display::fmt(ready, f),
+            Reply::Event(Some(event)) => fmt::Display::fmt(&EventLine(event), f),
+            Reply::Event(None) => f.write_str("none"),
             Reply::Fault(kind) => write!(f, "fault {kind:?}"),
         }
     }
 }
 
-fn print<A: Allocator, W: Write>(writer: &mut W, trace: &Trace<A>) -> std::io::Result<()> {
-    for reply in &trace.replies {
+fn print_replies<A: Allocator, W: Write>(writer: &mut W, replies: &[Reply<A>]) -> io::Result<()> {
+    for reply in replies {
         let line = ReplyLine(reply);
         writeln!(writer, "{line}")?;
     }
-    for event in &trace.held {
+    Ok(())
+}
+
+fn print_held<A: Allocator, W: Write>(writer: &mut W, held: &[InternalEvent<A>]) -> io::Result<()> {
+    for event in held {
         let line = EventLine(event);
         writeln!(writer, "held {line}")?;
     }
+    Ok(())
+}
+
+fn print<A: Allocator, W: Write>(writer: &mut W, trace: &Trace<A>) -> io::Result<()> {
+    print_replies(writer, trace.replies.as_slice())?;
+    print_held(writer, trace.held.as_slice())?;
     writer.flush()
 }
 
-/// What all lines say: the script and the calls.
-#[derive(Drop)]
-struct Statements<A: Allocator> {
-    script: Vec<Act<A>, A>,
-    calls: Vec<Call, A>,
-}
-
-impl<A: Allocator> Statements<A> {
-    fn add(&mut self, statement: Statement<A>) -> Result<(), AllocError> {
-        match statement {
-            Statement::Act(act) => self.script.push(act).map_err(AllocError::from),
-            Statement::Call(call) => self.calls.push(call).map_err(AllocError::from),
-        }
-    }
-}
-
-/// Reads all lines but the empty ones, which are counted too.
-fn read_statements<A: Allocator + Clone>(alloc: &A, text: &str) -> Result<Statements<A>, Fault> {
-    let mut statements = Statements {
-        script: Vec::new(alloc.clone()?),
-        calls: Vec::new(alloc.clone()?),
+/// Runs the calls over the acts, and prints a line for each call and for each event still held.
+fn run_statements<A: Allocator + Clone, W: Write>(
+    alloc: A,
+    statements: Statements<A>,
+    writer: &mut W,
+) -> Result<(), Fault> {
+    let Statements { script, calls } = statements;
+    let printed = match play(alloc, script, calls.as_slice()) {
+        Ok(trace) => print(writer, &trace),
+        Err(_) => return Err(Fault::OutOfMemory),
     };
-    for (index, line) in text.split('\n').enumerate() {
-        if line.is_empty() {
-            continue;
-        }
-        match read_statement(alloc, line) {
-            Ok(statement) => statements.add(statement)?,
-            Err(wrong) => return Err(wrong.at(index.saturating_add(1))),
-        }
+    match printed {
+        Ok(()) => Ok(()),
+        Err(error) => Err(Fault::of_write(&error)),
     }
-    Ok(statements)
 }
 
 /// Reads lines, checks them all, runs the calls over the acts, and prints a line for each call and for each event still held.
@@ -216,10 +259,7 @@ pub fn run_play<A: Allocator + Clone, R: Read, W: Write>(
     reader: &mut R,
     writer: &mut W,
 ) -> Result<(), Fault> {
-    let text = read_text(alloc.clone()?, reader)?;
-    let Statements { script, calls } = read_statements(&alloc, text.as_str())?;
-    match play(alloc, script, calls.as_slice()) {
-        Ok(trace) => print(writer, &trace).map_err(|error| Fault::of_write(&error)),
-        Err(_) => Err(Fault::OutOfMemory),
-    }
+    let mut statements = Statements::new(&alloc)?;
+    statements.read(&alloc, reader)?;
+    run_statements(alloc, statements, writer)
 }

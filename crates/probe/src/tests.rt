@@ -22,191 +22,237 @@ pub fn played(alloc: Global, input: &[u8]) -> Result<Vec<u8>, Fault> {
     Ok(output)
 }
 
+/// What comes of an input: what is printed, or the line of the fault, which has no end.
+fn answer(alloc: Global, input: &[u8]) -> Result<Vec<u8>, AllocError> {
+    match played(alloc, input) {
+        Ok(output) => Ok(output),
+        Err(fault) => Ok(format!(in alloc; "{fault}")?.into_bytes()),
+    }
+}
+
+/// Whether this comes of an input.
+pub fn is_answer(alloc: Global, input: &[u8], want: &[u8]) -> bool {
+    match answer(alloc, input) {
+        Ok(output) => output.as_slice() == want,
+        Err(_) => false,
+    }
+}
+
+/// A case to a line, which is its name: an input and what comes of it, with `;` in place of each line's end. A second blank before the
+/// arrow is the input's.
+const SCRIPTS: &str = "\
+piece 1b5b41;read event 1; -> key Up 0 Press 0;
+piece 1b;piece 1b;read event 1;read event 1 -> key Esc 0 Press 0;key Esc 0 Press 0;
+piece 1b1b;read event 1;read event 1 -> key Esc 0 Press 0;fault UnexpectedEof;
+piece 1b5b3b41;read event 2;read event 2 -> key Char:41 1 Press 0;fault UnexpectedEof;
+raw 0a;read event 1 -> key Char:6a 2 Press 0;
+piece 0a;read event 1 -> key Enter 0 Press 0;
+read event 1 -> fault UnexpectedEof;
+piece 1b4f;resize 80 24;piece 41;read event 1;read event 1;read event 1 -> none;resize 80 24;key Up 0 Press 0;
+piece 61;fault;resize 80 24;wake;piece 62;read event 9;read event 9;read event 9;read event 9;poll event 1 -> key Char:61 0 Press 0;fault Other;resize 80 24;key Char:62 0 Press 0;fault UnexpectedEof;
+piece 6162;poll event 1;take event;read event 0 -> true;key Char:61 0 Press 0;none;
+piece 6162;poll event 1;take event;read event 0;read cursor 1 -> true;key Char:61 0 Press 0;none;none;held key Char:62 0 Press 0;
+piece 1b;piece 5b;piece 41;read event 1;read event 1;read event 1 -> key Esc 0 Press 0;key Char:5b 0 Press 0;key Char:41 1 Press 0;
+piece 1b5b;fault;piece 41;read event 1;read event 1;read event 1 -> none;fault Other;key Up 0 Press 0;
+piece 1b4f;wake;piece 41;read event 3 -> key Up 0 Press 0;
+piece 1b4f;wake;piece 41;poll event 3 -> false;
+piece c3;read event 2 -> fault UnexpectedEof;
+piece C389;read event 1 -> key Char:c9 1 Press 0;
+piece 1bc3a9;read event 1 -> key Char:e9 4 Press 0;
+piece c041eda080;read event 1 -> none;
+;;poll event 1;;idle;;poll event 1; -> false;fault UnexpectedEof;
+piece 1b5b3130;raw 75;read event 1;read event 1 -> none;key Char:a 0 Press 0;
+raw 1b5b3130;piece 75;read event 1;read event 1 -> none;key Enter 0 Press 0;
+piece 611b5b32303b31305262;read cursor 2;read event 1;read event 1 -> cursor 9 19;key Char:61 0 Press 0;key Char:62 0 Press 0;
+piece 611b5b32303b31305262;read cursor 1;read event 1;read event 1 -> none;key Char:61 0 Press 0;none;held cursor 9 19;
+piece 61;fault;piece 621b5b32303b313052;read cursor 9;read cursor 9;read event 0;read event 0 -> fault Other;cursor 9 19;key Char:61 0 Press 0;key Char:62 0 Press 0;
+piece 1b5b3f75;piece 63;read attributes 2 -> attributes;
+piece 1b5b3f313575;read flags 1 -> flags 1;
+piece 1b5b3f7575;read flags 1 -> flags 5;
+piece 1b5b303b3552;read cursor 1 -> none;
+piece 1b5b32303b313052;read cursor 1 -> cursor 9 19;
+piece 1b5b2b337e;read event 1;read event 1 -> key Char:33 0 Press 0;key Char:7e 0 Press 0;
+piece 1b5b313b313bc341;read event 1 -> none;
+piece 1b5b3c303b32303b31304d;read event 1 -> mouse Down:Left 19 9 0;
+piece 1b5b3c303b32303b31306d;read event 1 -> mouse Up:Left 19 9 0;
+piece 1b5b3c303b303b31304d;read event 1 -> none;
+piece 1b5b3c303b313b313bff4d;read event 1 -> none;
+piece 1b5b4d202121;read event 1 -> mouse Down:Left 0 0 0;
+piece 1b5b4d202021;read event 1 -> none;
+piece 1b5b33323b33303b34304d;read event 1 -> mouse Down:Left 29 39 0;
+piece 1b5b33323b303b314d;read event 1 -> none;
+piece 1b5b3c33353b353b364d;read event 1 -> mouse Moved 4 5 0;
+piece 1b5b3c37303b313b314d;read event 1 -> mouse ScrollLeft 0 0 1;
+piece 1b5b3c3132383b313b314d;read event 1 -> none;
+piece 1b5b3c303b323b334d;read event 1 -> mouse Down:Left 1 2 0;
+piece 1b5b3c33323b323b334d;read event 1 -> mouse Drag:Left 1 2 0;
+piece 1b5b3c313b323b334d;read event 1 -> mouse Down:Middle 1 2 0;
+piece 1b5b3c33333b323b334d;read event 1 -> mouse Drag:Middle 1 2 0;
+piece 1b5b3c323b323b334d;read event 1 -> mouse Down:Right 1 2 0;
+piece 1b5b3c33343b323b334d;read event 1 -> mouse Drag:Right 1 2 0;
+piece 1b5b3c333b323b334d;read event 1 -> mouse Up:Left 1 2 0;
+piece 1b5b3c33353b323b334d;read event 1 -> mouse Moved 1 2 0;
+piece 1b5b3c36343b323b334d;read event 1 -> mouse ScrollUp 1 2 0;
+piece 1b5b3c39363b323b334d;read event 1 -> mouse Moved 1 2 0;
+piece 1b5b3c36353b323b334d;read event 1 -> mouse ScrollDown 1 2 0;
+piece 1b5b3c39373b323b334d;read event 1 -> mouse Moved 1 2 0;
+piece 1b5b3c36363b323b334d;read event 1 -> mouse ScrollLeft 1 2 0;
+piece 1b5b3c39383b323b334d;read event 1 -> none;
+piece 1b5b3c36373b323b334d;read event 1 -> mouse ScrollRight 1 2 0;
+piece 1b5b3c39393b323b334d;read event 1 -> none;
+piece 1b5b3c3132383b323b334d;read event 1 -> none;
+piece 1b5b3c3136303b323b334d;read event 1 -> none;
+piece 1b5b3c3139353b323b334d;read event 1 -> none;
+piece 1b5b3c3232373b323b334d;read event 1 -> none;
+piece 1b5b3c343b313b314d;read event 1 -> mouse Down:Left 0 0 1;
+piece 1b5b3c383b313b314d;read event 1 -> mouse Down:Left 0 0 4;
+piece 1b5b3c31363b313b314d;read event 1 -> mouse Down:Left 0 0 2;
+piece 1b5b3c32383b313b314d;read event 1 -> mouse Down:Left 0 0 7;
+piece 1b5b3c313b313b316d;read event 1 -> mouse Up:Middle 0 0 0;
+piece 1b5b3c36343b313b316d;read event 1 -> mouse ScrollUp 0 0 0;
+piece 1b5b3c33323b313b316d;read event 1 -> mouse Drag:Left 0 0 0;
+piece 1b5b3c3235363b313b314d;read event 1 -> none;
+piece 1b5b3c303b36353533363b314d;read event 1 -> none;
+piece 1b5b3c303b36353533353b36353533354d;read event 1 -> mouse Down:Left 65534 65534 0;
+piece 1b5b4d1f2121;read event 1 -> none;
+piece 1b5b4d202120;read event 1 -> none;
+piece 1b5b4d60ffff61;read event 1;read event 1 -> mouse ScrollUp 222 222 0;key Char:61 0 Press 0;
+piece 1b5b33313b313b314d;read event 1 -> none;
+piece 1b5b314d;read event 1 -> none;
+piece 1b5b3230307e68691b5b3230317e;read event 1 -> paste 6869;
+piece 1b5b3230307eff1b5b3230317e;read event 1 -> paste efbfbd;
+piece 1b5b3230307e68691b5b323031;read event 1 -> none;
+piece 1b5b3230307e1b5b3230317e;read event 1 -> paste ;
+piece 1b5b3230307ee28261f09f1b5b3230317e;read event 1 -> paste efbfbd61efbfbd;
+piece 1b5b303230307e61;read event 1 -> key Char:61 0 Press 0;
+piece 1b5b3230303b317e61;read event 1 -> key Char:61 0 Press 0;
+piece 1b5b3230307e;piece 1b5b323031;piece 78;piece 1b5b3230317e;read event 9 -> paste 1b5b32303178;
+piece 1b5b3230307e61;piece 1b;resize 80 24;piece 5b3230317e62;read event 9;read event 9;read event 9 -> resize 80 24;paste 61;key Char:62 0 Press 0;
+piece 1b5b313b313bc3a941;read event 1 -> key Up 0 Press 0;
+;frobnicate -> probe: line 2: unknown word
+ piece 61 -> probe: line 1: unknown word
+position 1 -> probe: line 1: unknown word
+wake\r -> probe: line 1: unknown word
+piece -> probe: line 1: bad argument
+piece 6 -> probe: line 1: bad argument
+piece 6g -> probe: line 1: bad argument
+piece  61 -> probe: line 1: bad argument
+wake  -> probe: line 1: bad argument
+resize 80 65536 -> probe: line 1: bad argument
+read event +1 -> probe: line 1: bad argument
+read event 4294967296 -> probe: line 1: bad argument
+poll nothing 1 -> probe: line 1: bad argument
+take event 1 -> probe: line 1: bad argument
+take -> probe: line 1: bad argument
+take  -> probe: line 1: bad argument
+idle 1 -> probe: line 1: bad argument
+piece 61 61 -> probe: line 1: bad argument
+piece  -> probe: line 1: bad argument
+resize 80 -> probe: line 1: bad argument
+resize 80 24 1 -> probe: line 1: bad argument
+resize 80  24 -> probe: line 1: bad argument
+resize -0 24 -> probe: line 1: bad argument
+read event 1  -> probe: line 1: bad argument
+read event  -> probe: line 1: bad argument
+poll  1 -> probe: line 1: bad argument";
+
+/// How many scripts there are.
+const CASES: usize = 114;
+
+/// Whether this comes of an input, with `;` in place of each line's end.
+fn is_answer_unfolded(alloc: Global, input: &str, want: &str) -> Result<bool, AllocError> {
+    let input = input.replace(alloc, ';', "\n")?;
+    let want = want.replace(alloc, ';', "\n")?;
+    Ok(is_answer(alloc, input.as_bytes(), want.as_bytes()))
+}
+
+/// Whether a case is as it says.
+fn holds(alloc: Global, case: &str) -> bool {
+    match case.split_once(" -> ") {
+        Some((input, want)) => is_answer_unfolded(alloc, input, want).unwrap_or(false),
+        None => false,
+    }
+}
+
 #[test]
-fn scripts_give_their_lines(rt: HostRuntime) -> Result<(), Fail> {
-    let cases: [(&str, &str); 33] = [
-        ("piece 1b5b41\nread event 1\n", "key Up 0 Press 0\n"),
-        (
-            "piece 1b\npiece 1b\nread event 1\nread event 1",
-            "key Esc 0 Press 0\nkey Esc 0 Press 0\n",
-        ),
-        (
-            "piece 1b1b\nread event 1\nread event 1",
-            "key Esc 0 Press 0\nfault UnexpectedEof\n",
-        ),
-        (
-            "piece 1b5b3b41\nread event 2\nread event 2",
-            "key Char:41 1 Press 0\nfault UnexpectedEof\n",
-        ),
-        ("raw 0a\nread event 1", "key Char:6a 2 Press 0\n"),
-        ("piece 0a\nread event 1", "key Enter 0 Press 0\n"),
-        ("read event 1", "fault UnexpectedEof\n"),
-        (
-            "piece 1b4f\nresize 80 24\npiece 41\nread event 1\nread event 1\nread event 1",
-            "none\nresize 80 24\nkey Up 0 Press 0\n",
-        ),
-        (
-            "piece 61\nfault\nresize 80 24\nwake\npiece 62\nread event 9\nread event 9\nread event 9\nread event 9\npoll event 1",
-            "key Char:61 0 Press 0\nfault Other\nresize 80 24\nkey Char:62 0 Press 0\nfault UnexpectedEof\n",
-        ),
-        (
-            "piece 6162\npoll event 1\ntake event\nread event 0",
-            "true\nkey Char:61 0 Press 0\nnone\n",
-        ),
-        (
-            "piece 6162\npoll event 1\ntake event\nread event 0\nread cursor 1",
-            "true\nkey Char:61 0 Press 0\nnone\nnone\nheld key Char:62 0 Press 0\n",
-        ),
-        (
-            "piece 1b\npiece 5b\npiece 41\nread event 1\nread event 1\nread event 1",
-            "key Esc 0 Press 0\nkey Char:5b 0 Press 0\nkey Char:41 1 Press 0\n",
-        ),
-        (
-            "piece 1b5b\nfault\npiece 41\nread event 1\nread event 1\nread event 1",
-            "none\nfault Other\nkey Up 0 Press 0\n",
-        ),
-        (
-            "piece 1b4f\nwake\npiece 41\nread event 3",
-            "key Up 0 Press 0\n",
-        ),
-        ("piece 1b4f\nwake\npiece 41\npoll event 3", "false\n"),
-        ("piece c3\nread event 2", "fault UnexpectedEof\n"),
-        ("piece C389\nread event 1", "key Char:c9 1 Press 0\n"),
-        ("piece 1bc3a9\nread event 1", "key Char:e9 4 Press 0\n"),
-        ("piece c041eda080\nread event 1", "none\n"),
-        (
-            "\n\npoll event 1\n\nidle\n\npoll event 1\n",
-            "false\nfault UnexpectedEof\n",
-        ),
-        (
-            "piece 1b5b3130\nraw 75\nread event 1\nread event 1",
-            "none\nkey Char:a 0 Press 0\n",
-        ),
-        (
-            "raw 1b5b3130\npiece 75\nread event 1\nread event 1",
-            "none\nkey Enter 0 Press 0\n",
-        ),
-        (
-            "piece 611b5b32303b31305262\nread cursor 2\nread event 1\nread event 1",
-            "cursor 9 19\nkey Char:61 0 Press 0\nkey Char:62 0 Press 0\n",
-        ),
-        (
-            "piece 611b5b32303b31305262\nread cursor 1\nread event 1\nread event 1",
-            "none\nkey Char:61 0 Press 0\nnone\nheld cursor 9 19\n",
-        ),
-        (
-            "piece 61\nfault\npiece 621b5b32303b313052\nread cursor 9\nread cursor 9\nread event 0\nread event 0",
-            "fault Other\ncursor 9 19\nkey Char:61 0 Press 0\nkey Char:62 0 Press 0\n",
-        ),
-        (
-            "piece 1b5b3f75\npiece 63\nread attributes 2",
-            "attributes\n",
-        ),
-        ("piece 1b5b3f313575\nread flags 1", "flags 1\n"),
-        ("piece 1b5b3f7575\nread flags 1", "flags 5\n"),
-        ("piece 1b5b303b3552\nread cursor 1", "none\n"),
-        ("piece 1b5b32303b313052\nread cursor 1", "cursor 9 19\n"),
-        (
-            "piece 1b5b2b337e\nread event 1\nread event 1",
-            "key Char:33 0 Press 0\nkey Char:7e 0 Press 0\n",
-        ),
-        ("piece 1b5b313b313bc341\nread event 1", "none\n"),
-        (
-            "piece 1b5b313b313bc3a941\nread event 1",
-            "key Up 0 Press 0\n",
-        ),
-    ];
-    for (input, want) in cases {
-        let output = played(rt.alloc(), input.as_bytes())?;
-        expect(&rt, output.as_slice() == want.as_bytes(), input);
+fn scripts_give_their_lines(rt: HostRuntime) {
+    let mut count = 0usize;
+    for case in SCRIPTS.split('\n') {
+        expect(&rt, holds(rt.alloc(), case), case);
+        count = count.saturating_add(1);
+    }
+    expect(&rt, count == CASES, "a case is lost");
+}
+
+/// Puts a part behind a text, again and again.
+fn repeat(text: &mut Vec<u8>, part: &str, times: u32) -> Result<(), AllocError> {
+    for _ in 0..times {
+        text.extend_from_slice(part.as_bytes())?;
     }
     Ok(())
 }
 
-/// Some lines, again and again.
-pub fn repeat(text: &mut Vec<u8>, line: &str, times: u32) -> Result<(), AllocError> {
-    for _ in 0..times {
-        text.extend_from_slice(line.as_bytes())?;
+/// Puts parts behind a text, each again and again.
+fn put(text: &mut Vec<u8>, parts: &[(&str, u32)]) -> Result<(), AllocError> {
+    for (part, times) in parts {
+        repeat(text, part, *times)?;
     }
     Ok(())
 }
+
+const FULL_BUFFER: [(&str, u32); 4] = [
+    ("piece ", 1),
+    ("61", 1023),
+    ("1b\npiece 5b41\n", 1),
+    ("read event 9\n", 1024),
+];
+
+const LETTERS_AND_ARROW: [(&str, u32); 2] = [
+    ("key Char:61 0 Press 0\n", 1023),
+    ("key Up 0 Press 0\n", 1),
+];
 
 #[test]
 fn an_escape_at_the_end_of_a_full_buffer_waits(rt: HostRuntime) -> Result<(), Fail> {
     let mut input = Vec::new(rt.alloc());
-    input.extend_from_slice(b"piece ")?;
-    repeat(&mut input, "61", 1023)?;
-    input.extend_from_slice(b"1b\npiece 5b41\n")?;
-    repeat(&mut input, "read event 9\n", 1024)?;
     let mut want = Vec::new(rt.alloc());
-    repeat(&mut want, "key Char:61 0 Press 0\n", 1023)?;
-    want.extend_from_slice(b"key Up 0 Press 0\n")?;
-    let output = played(rt.alloc(), input.as_slice())?;
-    expect(
-        &rt,
-        output.as_slice() == want.as_slice(),
-        "1023 letters and an arrow",
-    );
+    put(&mut input, &FULL_BUFFER)?;
+    put(&mut want, &LETTERS_AND_ARROW)?;
+    let holds = is_answer(rt.alloc(), input.as_slice(), want.as_slice());
+    expect(&rt, holds, "1023 letters and an arrow");
     Ok(())
 }
+
+const ZEROS: [(&str, u32); 3] = [
+    ("piece 1b5b", 1),
+    ("30", 100_000),
+    ("357e\nread event 99\n", 1),
+];
 
 #[test]
 fn zeros_before_a_number_have_no_end(rt: HostRuntime) -> Result<(), Fail> {
     let mut input = Vec::new(rt.alloc());
-    input.extend_from_slice(b"piece 1b5b")?;
-    repeat(&mut input, "30", 100_000)?;
-    input.extend_from_slice(b"357e\nread event 99\n")?;
-    let output = played(rt.alloc(), input.as_slice())?;
-    expect(
-        &rt,
-        output.as_slice() == b"key PageUp 0 Press 0\n".as_slice(),
-        "one key",
-    );
+    put(&mut input, &ZEROS)?;
+    let holds = is_answer(rt.alloc(), input.as_slice(), b"key PageUp 0 Press 0\n");
+    expect(&rt, holds, "one key");
     Ok(())
 }
 
 #[test]
-fn bad_lines_are_named(rt: HostRuntime) -> Result<(), Fail> {
-    let cases: [(&str, Fault); 14] = [
-        ("\nfrobnicate", Fault::UnknownWord(2)),
-        (" piece 61", Fault::UnknownWord(1)),
-        ("position 1", Fault::UnknownWord(1)),
-        ("wake\r", Fault::UnknownWord(1)),
-        ("piece", Fault::BadArgument(1)),
-        ("piece 6", Fault::BadArgument(1)),
-        ("piece 6g", Fault::BadArgument(1)),
-        ("piece  61", Fault::BadArgument(1)),
-        ("wake ", Fault::BadArgument(1)),
-        ("resize 80 65536", Fault::BadArgument(1)),
-        ("read event +1", Fault::BadArgument(1)),
-        ("read event 4294967296", Fault::BadArgument(1)),
-        ("poll nothing 1", Fault::BadArgument(1)),
-        ("take event 1", Fault::BadArgument(1)),
-    ];
-    for (input, want) in cases {
-        let fault = played(rt.alloc(), input.as_bytes()).err();
-        expect(&rt, fault == Some(want), input);
-    }
-    expect(
-        &rt,
-        matches!(played(rt.alloc(), b"\xff"), Err(Fault::NotUtf8)),
-        "not UTF-8",
-    );
+fn bytes_that_are_not_utf_8_are_named(rt: HostRuntime) {
+    let holds = is_answer(rt.alloc(), b"\xff", b"probe: input is not UTF-8");
+    expect(&rt, holds, "not UTF-8");
+}
+
+#[test]
+fn an_input_has_its_limit(rt: HostRuntime) -> Result<(), Fail> {
     let mut long = Vec::new(rt.alloc());
-    for _ in 0..1_048_576u32 {
-        long.push(b'\n')?;
-    }
-    expect(
-        &rt,
-        played(rt.alloc(), long.as_slice()).is_ok(),
-        "as long as may be",
-    );
-    long.push(b'\n')?;
-    expect(
-        &rt,
-        matches!(played(rt.alloc(), long.as_slice()), Err(Fault::TooLong)),
-        "too long",
-    );
+    repeat(&mut long, "\n", 1_048_576)?;
+    let holds = is_answer(rt.alloc(), long.as_slice(), b"");
+    expect(&rt, holds, "as long as may be");
+    repeat(&mut long, "\n", 1)?;
+    let holds = is_answer(rt.alloc(), long.as_slice(), b"probe: input too long");
+    expect(&rt, holds, "too long");
     Ok(())
 }
 
@@ -249,21 +295,28 @@ fn failing_readers_and_writers_are_named(rt: HostRuntime) -> Result<(), Fail> {
     Ok(())
 }
 
-#[test]
-fn faults_have_their_lines(rt: HostRuntime) -> Result<(), Fail> {
-    let cases: [(Fault, &str); 8] = [
-        (Fault::Usage, "probe: usage: probe play|say|serve"),
-        (Fault::UnknownWord(3), "probe: line 3: unknown word"),
-        (Fault::BadArgument(1), "probe: line 1: bad argument"),
-        (Fault::NotUtf8, "probe: input is not UTF-8"),
-        (Fault::TooLong, "probe: input too long"),
-        (Fault::OutOfMemory, "probe: out of memory"),
-        (Fault::ReadFailed, "probe: read failed"),
-        (Fault::WriteFailed, "probe: write failed"),
-    ];
-    for (fault, want) in cases {
-        let line = format!(in rt.alloc(); "{fault}")?;
-        expect(&rt, line.as_str() == want, want);
+const FAULTS: [(Fault, &str); 8] = [
+    (Fault::Usage, "probe: usage: probe play|say|serve"),
+    (Fault::UnknownWord(3), "probe: line 3: unknown word"),
+    (Fault::BadArgument(1), "probe: line 1: bad argument"),
+    (Fault::NotUtf8, "probe: input is not UTF-8"),
+    (Fault::TooLong, "probe: input too long"),
+    (Fault::OutOfMemory, "probe: out of memory"),
+    (Fault::ReadFailed, "probe: read failed"),
+    (Fault::WriteFailed, "probe: write failed"),
+];
+
+/// Whether a fault is told by this line.
+fn is_told_by(alloc: Global, fault: Fault, want: &str) -> bool {
+    match format!(in alloc; "{fault}") {
+        Ok(line) => line.as_str() == want,
+        Err(_) => false,
     }
-    Ok(())
+}
+
+#[test]
+fn faults_have_their_lines(rt: HostRuntime) {
+    for (fault, want) in FAULTS {
+        expect(&rt, is_told_by(rt.alloc(), fault, want), want);
+    }
 }

@@ -1,3 +1,3 @@
 //! Unix terminals.
 
-pub use crossterm_parse::{laws, marked, parse};
+pub use crossterm_parse::{laws, marked, parse, paste, state, steps};

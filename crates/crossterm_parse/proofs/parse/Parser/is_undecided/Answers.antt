@@ -8,7 +8,7 @@ use Rattle.crossterm_parse.proofs.parse.Parser.is_undecided.Goals.{in-Ground, in
 pub returns : goal.returns
 returns g c before stands =
     let same = ap (λ (s : Standing). s.state) c.self.view_is in
-    let only = ground_only c.args.self.now.state before stands in
+    let only = ground_only c.args.self.now.state before stands.0 in
     elim c.match-matches.branch [
       | in-Ground w ↦ rw w.matches-is (λ h. absurd (false≢true h), λ n. absurd (n (only.0 (sym same ∙ w.in-Ground.is))))
       | in_default w ↦ rw w.matches-is (λ h e. w.in_default.not-Ground (same ∙ only.1 e), λ n. refl)

@@ -1,6 +1,7 @@
-use Rattle.std.proofs.Common.{arith}
-use Rattle.std.proofs.Common.{sym, ◌∙◌}
-use Rattle.crossterm_read.proofs.Asking.{asking_came, asking_nothing, asked_came, asked_broke}
+use Rattle.std.proofs.Common.{◌≡◌, ℕ, arith, refl, sym, ap, subst, ◌∙◌}
+use Rattle.std.specs.Prelude.{is_some}
+use Rattle.crossterm_read.proofs.Asking.{Asking, none_of, asking_none, asking_came, asking_nothing, asked_held, asked_came, asked_broke, asked_refused, asked_tried}
+use Rattle.crossterm_read.specs.Shelf.{ReaderState}
 use Rattle.crossterm_read.proofs.read.reader.InternalEventReader.ask.Goals.{in-Came+else-admitted, in-Nothing}
 use Rattle.crossterm_read.proofs.read.reader.InternalEventReader.ask.Goals as goal
 
@@ -22,3 +23,27 @@ loop-i-preserved g c = record {
     | in-Nothing w ↦ asking_nothing g.S.EventSource.drawn g.met.S.EventSource.drawn_on _ _ _ c.loop-i.self c.draw.new.self c.loop-i._i c.loop-i.invariant.so_far w.in-Nothing.ensures.one
   ];
 }
+
+pub loop-i-init : goal.loop-i-init
+loop-i-init g c = record {
+  so_far = asking_none g.S.EventSource.drawn g.met.S.EventSource.drawn_on _ _ g.met.S.EventSource.none_drawn c.args.self.now c.args.self.now refl
+      (sym c.first.ensures ∙ none_of c.first.result (sym c.is_some.ensures ∙ c.if-is_some.false));
+  rise = omega arith;
+}
+
+pub returns-then-is_some-clause-asked : goal.returns-then-is_some-clause-asked
+returns-then-is_some-clause-asked g c =
+    asked_held g.S.EventSource.drawn g.met.S.EventSource.drawn_on _ _ g.met.S.EventSource.none_drawn c.args.self.now c.args.tries
+    (ap is_some (sym c.first.ensures) ∙ sym c.is_some.ensures ∙ c.if-is_some.true)
+
+pub returns-in-Refused-clause-asked : goal.returns-in-Refused-clause-asked
+returns-in-Refused-clause-asked g c =
+    let so_far = subst (λ (t : ReaderState g.row.S.Denot). Asking g.S.EventSource.drawn g.met.S.EventSource.drawn_on c.args.patient (g.F.Filter.admits c.args.filter.now) c.args.self.now t c.loop-i._i)
+    (sym c.in-Refused.ensures.one) c.loop-i.invariant.so_far in
+    asked_refused g.S.EventSource.drawn g.met.S.EventSource.drawn_on _ _ c.args.self.now c.draw.new.self c.loop-i._i c.args.tries _ so_far c.loop-i-test.true c.from.ensures
+
+pub returns-clause-asked : goal.returns-clause-asked
+returns-clause-asked g c =
+    let all : c.loop-i._i ≡ c.args.tries = omega arith in
+    let so_far = subst (λ (i : ℕ). Asking g.S.EventSource.drawn g.met.S.EventSource.drawn_on c.args.patient (g.F.Filter.admits c.args.filter.now) c.args.self.now c.loop-i.self i) all c.loop-i.invariant.so_far in
+    asked_tried g.S.EventSource.drawn g.met.S.EventSource.drawn_on _ _ c.args.self.now c.loop-i.self c.args.tries so_far

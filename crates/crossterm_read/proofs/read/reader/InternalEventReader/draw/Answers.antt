@@ -1,12 +1,15 @@
-use Rattle.std.proofs.Common.{ℕ, map, refl, sym, ap, ◌∙◌, append-nil}
+use Rattle.std.proofs.Common.{◌≢◌, List, ℕ, map, refl, sym, ap, ◌∙◌, append-nil}
+use mathlib.Core.Bool.{true≢false}
 use Rattle.std.specs.IoError.{error_kind}
 use Rattle.crossterm_types.specs.Seen.{seen}
-use Rattle.crossterm_read.specs.Answers.{Failed}
+use Rattle.std.specs.declared.io.ErrorKind.TheVariants.{Interrupted}
+use Rattle.crossterm_read.specs.Answers.{Nothing, Failed}
 use Rattle.crossterm_types.specs.declared.event.InternalEvent.{InternalEvent}
 use Rattle.crossterm_read.specs.declared.read.reader.Once.TheVariants as once
-use Rattle.crossterm_read.specs.Shelf.{kept}
+use Rattle.crossterm_read.specs.Shelf.{ReaderState, kept}
 use Rattle.crossterm_read.proofs.Asking.{draws_from}
 use Rattle.crossterm_read.proofs.Mapped.{map_push}
+use Rattle.crossterm_read.proofs.read.reader.InternalEventReader.draw.Goals.{then-patient+else-is_woken, else-patient}
 use Rattle.crossterm_read.proofs.read.reader.InternalEventReader.draw.Goals as goal
 
 pub returns-in-Ok-Some-clause-one : goal.returns-in-Ok-Some-clause-one
@@ -25,3 +28,32 @@ returns-then-is_woken-clause-one g c =
     (record { shelf = record { held = map kept c.reserve.new.self.items; arrivals = c.self.inside.arrivals }; source = c.try_read.new.self })
     once.Nothing c.self.view_is
     (Failed (error_kind c.in-Err.error), c.in-Err.ensures.drawn, record { held = held ∙ sym (append-nil _); arrivals = refl }, (c.if-patient.true, c.if-is_woken.ensures.yes))
+
+pub returns-then-is_err-clause-one : goal.returns-then-is_err-clause-one
+returns-then-is_err-clause-one g c =
+    let reader : List (InternalEvent g.row.A.Denot × ℕ) → ReaderState g.row.S.Denot =
+    λ held. record { shelf = record { held = map kept held; arrivals = c.self.inside.arrivals }; source = c.self.inside.source } in
+    ap reader c.reserve.ensures.items ∙ c.self.view_is
+
+pub returns-in-Ok-None-clause-one : goal.returns-in-Ok-None-clause-one
+returns-in-Ok-None-clause-one g c =
+    let d = rw c.in-Ok-None.field-0-is at c.in-Ok-None.ensures in
+    let held = ap (λ l. map kept l) c.reserve.ensures.items in
+    draws_from g.S.EventSource.drawn g.met.S.EventSource.drawn_on c.args.patient (g.F.Filter.admits c.args.filter.now) _ c.args.self.now
+    (record { shelf = record { held = map kept c.reserve.new.self.items; arrivals = c.self.inside.arrivals }; source = c.try_read.new.self })
+    once.Nothing c.self.view_is (Nothing, d.drawn, record { held = held ∙ sym (append-nil _); arrivals = refl }, tt)
+
+pub returns-after-patient-clause-one : goal.returns-after-patient-clause-one
+returns-after-patient-clause-one g c =
+    let held = ap (λ l. map kept l) c.reserve.ensures.items in
+    draws_from g.S.EventSource.drawn g.met.S.EventSource.drawn_on c.args.patient (g.F.Filter.admits c.args.filter.now) _ c.args.self.now
+    (record { shelf = record { held = map kept c.reserve.new.self.items; arrivals = c.self.inside.arrivals }; source = c.try_read.new.self })
+    (once.Broke c.in-Err.error) c.self.view_is (
+      c.in-Err.ensures.drawn,
+      record { held = held ∙ sym (append-nil _); arrivals = refl },
+      λ patient.
+          let other : error_kind c.in-Err.error ≢ Interrupted = elim c.if-patient.branch [
+            | then-patient+else-is_woken w ↦ w.if-is_woken.ensures.no
+            | else-patient w ↦ absurd (true≢false (sym patient ∙ w.if-patient.false))
+          ] in other,
+    )

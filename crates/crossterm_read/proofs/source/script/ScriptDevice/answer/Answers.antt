@@ -1,8 +1,11 @@
-use Rattle.std.proofs.Common.{◌≡◌, ◌+◌, ◌∷◌, List, ℕ, drop, length, ap, sym, ◌∙◌, arith, length-drop, take, min, ◌-◌}
+use Rattle.std.proofs.Common.{◌≡◌, ◌+◌, [], ◌∷◌, List, ℕ, subst, drop, length, ap, sym, ◌∙◌, arith, length-drop, take, min, ◌-◌}
 use Rattle.std.proofs.lemmas.List.{take_rest}
+use Rattle.std.specs.declared.io.ErrorKind.{ErrorKind}
+use Rattle.crossterm_read.specs.Device.{Resized, Woken, Idle, Fault}
 use Rattle.crossterm_read.specs.declared.source.script.Act.{Act}
-use Rattle.crossterm_read.specs.Scripted.{words, words_from}
-use Rattle.crossterm_read.proofs.Cutting.{words_at, piece_step, drop_told}
+use Rattle.crossterm_read.specs.Scripted.{Tells, words, words_from}
+use Rattle.crossterm_read.proofs.Cutting.{words_at, piece_step, drop_told, act_told, piece_over, end_told}
+use Rattle.crossterm_read.proofs.source.script.ScriptDevice.answer.Goals.{in-Piece+else-self-len, in_default}
 use Rattle.crossterm_read.proofs.source.script.ScriptDevice.answer.Goals as goal
 
 pub returns-then-self-len-clause-told : goal.returns-then-self-len-clause-told
@@ -16,3 +19,43 @@ returns-then-self-len-clause-told g c =
     piece_step (drop at c.in-Piece.bytes.items) (drop (at + c.tell-count.result) c.in-Piece.bytes.items) _ c.in-Piece.raw (words (drop (next + 1) acts)) _ _
     (omega (arith, length-drop at bytes)) (drop_told bytes at c.tell-count.result (c.tell-count.ensures.count ∙ ap (λ (l : List ℕ). min 1024 (length l)) rest))
     (c.tell-count.ensures.told ∙ ap (λ (l : List ℕ). take 1024 l) rest) (sym (same at) ∙ c.loop-self.invariant.left) (sym (same (at + c.tell-count.result)))
+
+pub returns-in-Resize-clause-told : goal.returns-in-Resize-clause-told
+returns-in-Resize-clause-told g c =
+    let self = c.loop-self.self-inside in
+    let one = ap (λ (a : Act g.row.A.Denot). words_from (a ∷ drop (self.next + 1) self.acts.items) self.at) c.in-Resize.is in
+    act_told self.acts.items self.next self.at c.index-act.result.now (Resized c.in-Resize.columns c.in-Resize.rows) _ (omega arith) c.index-act.ensures one c.loop-self.invariant.left
+
+pub returns-in-Woken-clause-told : goal.returns-in-Woken-clause-told
+returns-in-Woken-clause-told g c =
+    let self = c.loop-self.self-inside in
+    let one = ap (λ (a : Act g.row.A.Denot). words_from (a ∷ drop (self.next + 1) self.acts.items) self.at) c.in-Woken.is in
+    act_told self.acts.items self.next self.at c.index-act.result.now (Woken) _ (omega arith) c.index-act.ensures one c.loop-self.invariant.left
+
+pub returns-in-Idle-clause-told : goal.returns-in-Idle-clause-told
+returns-in-Idle-clause-told g c =
+    let self = c.loop-self.self-inside in
+    let one = ap (λ (a : Act g.row.A.Denot). words_from (a ∷ drop (self.next + 1) self.acts.items) self.at) c.in-Idle.is in
+    act_told self.acts.items self.next self.at c.index-act.result.now (Idle) _ (omega arith) c.index-act.ensures one c.loop-self.invariant.left
+
+pub returns-in-Fault-clause-told : goal.returns-in-Fault-clause-told
+returns-in-Fault-clause-told g c =
+    let self = c.loop-self.self-inside in
+    let one = ap (λ (a : Act g.row.A.Denot). words_from (a ∷ drop (self.next + 1) self.acts.items) self.at) c.in-Fault.is in
+    let told = act_told self.acts.items self.next self.at c.index-act.result.now (Fault c.in-Fault.kind) _ (omega arith) c.index-act.ensures one c.loop-self.invariant.left in
+    subst (λ (kind : ErrorKind). Tells c.args.self.now.left (Fault kind ∷ []) (words_from (drop (self.next + 1) self.acts.items) 0)) (sym c.from.ensures) told
+
+pub loop-self-preserved : goal.loop-self-preserved
+loop-self-preserved g c =
+    let self = c.loop-self.self-inside in
+    record {
+      left = elim c.match-act.branch [
+        | in-Piece+else-self-len w ↦ piece_over self.acts.items self.next self.at c.index-act.result.now w.in-Piece.bytes w.in-Piece.raw _ (omega arith) c.index-act.ensures w.in-Piece.is (omega arith) c.loop-self.invariant.left
+        | in_default w ↦ absurd (w.in_default.not-Piece _ _ c.in-Piece-act.is)
+      ];
+      failed = c.loop-self.invariant.failed;
+      within = omega arith;
+    }
+
+pub returns-clause-told : goal.returns-clause-told
+returns-clause-told g c = end_told c.loop-self.self-inside.acts.items c.loop-self.self-inside.next c.loop-self.self-inside.at _ (omega arith) c.loop-self.invariant.left

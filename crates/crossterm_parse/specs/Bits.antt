@@ -1,0 +1,7 @@
+-- Bits of a number.
+use Rattle.std.specs.Prelude.{ℕ, ◌==◌, if◌then◌else◌}
+use Rattle.std.specs.Int.RustNames.{bit_and}
+
+-- a value where all bits of another are there, else nothing
+abbrev pub where_bit : ℕ → ℕ → ℕ → ℕ
+where_bit n bit value = if bit_and n bit == bit then value else 0

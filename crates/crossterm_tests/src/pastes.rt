@@ -1,0 +1,159 @@
+//! Pastes and reports of the mouse that are long or cut, and the calls that count steps.
+
+ghost use Rattle.std.specs.Prelude.{◌≡◌, ◌<◌};
+
+use crate::refused::endless;
+use crossterm::event::filter::AnyFilter;
+use crossterm::event::read::{Call, Reply, Trace, play};
+use crossterm::event::source::Act;
+use crossterm::event::sys::unix::parse::Parser;
+use crossterm::event::sys::unix::paste::PasteText;
+use crossterm::event::sys::unix::state::{State, Step};
+use crossterm::event::sys::unix::steps::Steps;
+use crossterm::event::{Event, InternalEvent, MouseButton, MouseEventKind};
+use std::alloc::{AllocError, Global};
+use std::io;
+use std::marker::Brand;
+use std::string::String;
+use std::sync::ledger::{Blank, Ledger};
+
+fn is_pasted(event: Option<InternalEvent>, want: &str) -> bool {
+    match event {
+        Some(InternalEvent::Event(Event::Paste(text))) => text.as_str() == want,
+        _ => false,
+    }
+}
+
+/// Whether a paste is one event where its bytes are cut by these bits, but its first two stand together.
+fn pastes_hi(alloc: Global, cuts: u32) -> bool {
+    let mut parser: Parser<Global> = Parser::new(alloc);
+    let mut left = cuts;
+    parser.feed(b"\x1b[", left & 1 == 0, false);
+    for byte in b"200~hi\x1b[201" {
+        left >>= 1;
+        parser.feed(&[*byte], left & 1 == 0, false);
+    }
+    parser.feed(b"~", false, false);
+    is_pasted(parser.next(), "hi") && parser.next().is_none()
+}
+
+#[test]
+fn a_paste_is_one_however_it_is_cut(rt: HostRuntime) {
+    let mut holds = true;
+    for cuts in 0..4096u32 {
+        holds = holds && pastes_hi(rt.alloc(), cuts);
+    }
+    expect!(rt; holds, "each of 4096 cuttings");
+}
+
+/// Whether the left button goes down in the first cell.
+fn is_click(event: Option<InternalEvent>) -> bool {
+    match event {
+        Some(InternalEvent::Event(Event::Mouse(mouse))) => {
+            mouse.kind == MouseEventKind::Down(MouseButton::Left)
+                && (mouse.column, mouse.row) == (0, 0)
+        }
+        _ => false,
+    }
+}
+
+/// Whether these bytes are one click.
+fn clicks(alloc: Global, bytes: &[u8]) -> bool {
+    let mut parser: Parser<Global> = Parser::new(alloc);
+    parser.feed(bytes, false, false) == bytes.len() && is_click(parser.next())
+}
+
+#[test]
+fn zeros_before_a_code_have_no_end(rt: HostRuntime) -> Result<(), AllocError> {
+    let bytes = endless(rt.alloc(), b"\x1b[<", b'0', b";1;1M")?;
+    expect!(rt; clicks(rt.alloc(), &bytes));
+    Ok(())
+}
+
+fn piece(alloc: Global, text: &[u8]) -> Result<Act, AllocError> {
+    let mut bytes = Vec::new(alloc);
+    bytes.extend_from_slice(text)?;
+    Ok(Act::Piece { bytes, raw: false })
+}
+
+/// The beginning of a paste, and a million pieces of one letter.
+fn endless_paste(alloc: Global) -> Result<Vec<Act>, AllocError> {
+    let mut acts = Vec::new(alloc);
+    acts.push(piece(alloc, b"\x1b[200~")?)?;
+    for _ in 0..1_000_000u32 {
+        acts.push(piece(alloc, b"x")?)?;
+    }
+    Ok(acts)
+}
+
+/// What one read of a million and one tries gives.
+fn trace_of_one_read(alloc: Global) -> io::Result<Trace> {
+    let acts = endless_paste(alloc)?;
+    let filter = AnyFilter::Event;
+    let read = Call::Read {
+        tries: 1_000_001,
+        filter,
+    };
+    play(alloc, acts, &[read])
+}
+
+fn gives_nothing(trace: &Trace) -> bool {
+    matches!(trace.replies.as_slice(), [Reply::Event(None)]) && trace.held.is_empty()
+}
+
+#[test]
+fn an_endless_paste_gives_nothing_yet(rt: HostRuntime) -> io::Result<()> {
+    let trace = trace_of_one_read(rt.alloc())?;
+    expect!(rt; gives_nothing(&trace));
+    Ok(())
+}
+
+/// A bound that holds of the state of a sequence: it is copied.
+fn copied<T: Copy>(value: &T) -> T {
+    *value
+}
+
+/// Whether ESC opens a sequence, from a copy of the ground state.
+fn opens<L: Ledger>(steps: &mut Steps<L>) -> bool {
+    let state = copied(&State::Ground);
+    matches!(
+        state.put(27, false, false, steps),
+        Step::Open(State::Escape)
+    )
+}
+
+/// Whether a text is what was put in, without the five bytes of its end.
+fn keeps<L: Ledger>(alloc: Global, steps: &mut Steps<L>) -> Result<bool, AllocError> {
+    let mut text: PasteText<Global> = PasteText::new(alloc);
+    for byte in b"a\x1b[201" {
+        text.push(*byte)?;
+    }
+    let seen = text.look(0, steps) == Some(b'a') && text.look(6, steps).is_none();
+    let closed: String = text.close(steps)?;
+    Ok(seen && closed.as_str() == "a")
+}
+
+/// Whether a letter is taken where the steps are counted.
+fn advances<L: Ledger>(alloc: Global, steps: &mut Steps<L>) -> bool {
+    let mut parser: Parser<Global> = Parser::new(alloc);
+    parser.advance(b"a", false, false, steps) == 1 && parser.next().is_some()
+}
+
+/// Each call that counts steps, once.
+fn counts<L: Ledger>(alloc: Global, blank: Blank) -> bool
+    requires name { blank.name ≡ L.name }
+    requires parts { (blank.parts ≡ L.parts) × (0 < L.parts) }
+{
+    let mut steps: Steps<L> = Steps::new(blank);
+    let kept = matches!(keeps(alloc, &mut steps), Ok(true));
+    kept && opens(&mut steps) && advances(alloc, &mut steps)
+}
+
+fn counts_anew(alloc: Global) -> bool {
+    counts::<Brand>(alloc, Blank::new(1))
+}
+
+#[test]
+fn each_counted_call_once(rt: HostRuntime) {
+    expect!(rt; counts_anew(rt.alloc()));
+}

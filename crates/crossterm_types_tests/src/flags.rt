@@ -1,0 +1,356 @@
+//! Each operation of the flag types; `iter` and the names of the modifiers.
+
+use crate::prints;
+use crossterm_types::event::{KeyEventState, KeyModifiers, KeyboardEnhancementFlags};
+
+/// Whether bits become a set and are its bits, of a flag type whose constants have the bits of `$all`.
+macro_rules! has_bits {
+    ($Flags:ident, $all:literal) => {{
+        let one = $Flags::from_bits_retain(1);
+        let bits = [
+            $Flags::empty().bits(),
+            $Flags::all().bits(),
+            $Flags::from_bits_truncate(65).bits(),
+            $Flags::from_bits_retain(65).bits(),
+            one.complement().bits(),
+            (!one).bits(),
+        ];
+        bits == [0, $all, 1, 65, $all - 1, $all - 1]
+    }};
+}
+
+/// Whether only bits that have names become a set, and the empty set and the whole one say so.
+macro_rules! knows_bits {
+    ($Flags:ident) => {{
+        let named = $Flags::from_bits(3) == Some($Flags::from_bits_retain(3));
+        let nameless = $Flags::from_bits(64).is_none();
+        let ends = $Flags::empty().is_empty() && $Flags::from_bits_retain(255).is_all();
+        named && nameless && ends
+    }};
+}
+
+/// The bits of two sets; of their union, their intersection, their difference and their symmetric difference; and whether the first
+/// contains the second, and whether they intersect.
+type Pair = (u8, u8, [u8; 4], [bool; 2]);
+
+static PAIRS: [Pair; 4] = [
+    (1, 2, [3, 0, 1, 3], [false, false]),
+    (3, 2, [3, 2, 1, 1], [true, true]),
+    (3, 1, [3, 1, 2, 2], [true, true]),
+    (1, 3, [3, 1, 0, 2], [false, true]),
+];
+
+/// Whether two sets make the others by name.
+macro_rules! joins {
+    ($Flags:ident, $pair:expr) => {{
+        let (a, b) = ($Flags::from_bits_retain($pair.0), $Flags::from_bits_retain($pair.1));
+        let sets = [
+            a.union(b).bits(),
+            a.intersection(b).bits(),
+            a.difference(b).bits(),
+            a.symmetric_difference(b).bits(),
+        ];
+        sets == $pair.2
+    }};
+}
+
+/// Whether one set contains the other, or has a bit in common with it, as it should.
+macro_rules! meets {
+    ($Flags:ident, $pair:expr) => {{
+        let (a, b) = ($Flags::from_bits_retain($pair.0), $Flags::from_bits_retain($pair.1));
+        [a.contains(b), a.intersects(b)] == $pair.3
+    }};
+}
+
+/// Whether two sets make the others by sign.
+macro_rules! joins_by_sign {
+    ($Flags:ident, $pair:expr) => {{
+        let (a, b) = ($Flags::from_bits_retain($pair.0), $Flags::from_bits_retain($pair.1));
+        let sets = [(a | b).bits(), (a & b).bits(), (a - b).bits(), (a ^ b).bits()];
+        sets == $pair.2
+    }};
+}
+
+/// The bits of a set after each change in its place.
+macro_rules! changed {
+    ($Flags:ident) => {{
+        let (one, two) = ($Flags::from_bits_retain(1), $Flags::from_bits_retain(2));
+        let mut set = one;
+        set.insert(two);
+        let inserted = set.bits();
+        set.remove(one);
+        let removed = set.bits();
+        set.toggle(one);
+        let toggled = set.bits();
+        set.set(two, false);
+        [inserted, removed, toggled, set.bits()]
+    }};
+}
+
+/// The bits of a set after each assigning operator.
+macro_rules! assigned {
+    ($Flags:ident) => {{
+        let (one, two) = ($Flags::from_bits_retain(1), $Flags::from_bits_retain(2));
+        let mut set = one;
+        set |= two;
+        let joined = set.bits();
+        set &= two;
+        let common = set.bits();
+        set ^= one;
+        let toggled = set.bits();
+        set -= two;
+        [joined, common, toggled, set.bits()]
+    }};
+}
+
+fn modifiers_have_bits() -> bool {
+    has_bits!(KeyModifiers, 63)
+}
+
+fn states_have_bits() -> bool {
+    has_bits!(KeyEventState, 7)
+}
+
+fn enhancements_have_bits() -> bool {
+    has_bits!(KeyboardEnhancementFlags, 15)
+}
+
+#[test]
+fn bits_become_sets(rt: HostRuntime) {
+    expect!(rt; modifiers_have_bits());
+    expect!(rt; states_have_bits());
+    expect!(rt; enhancements_have_bits());
+}
+
+fn modifiers_know_bits() -> bool {
+    knows_bits!(KeyModifiers)
+}
+
+fn states_know_bits() -> bool {
+    knows_bits!(KeyEventState)
+}
+
+fn enhancements_know_bits() -> bool {
+    knows_bits!(KeyboardEnhancementFlags)
+}
+
+#[test]
+fn bits_have_names(rt: HostRuntime) {
+    expect!(rt; modifiers_know_bits());
+    expect!(rt; states_know_bits());
+    expect!(rt; enhancements_know_bits());
+}
+
+static MODIFIERS: [KeyModifiers; 6] = [
+    KeyModifiers::SHIFT,
+    KeyModifiers::CONTROL,
+    KeyModifiers::ALT,
+    KeyModifiers::SUPER,
+    KeyModifiers::HYPER,
+    KeyModifiers::META,
+];
+
+static STATES: [KeyEventState; 3] = [
+    KeyEventState::KEYPAD,
+    KeyEventState::CAPS_LOCK,
+    KeyEventState::NUM_LOCK,
+];
+
+static ENHANCEMENTS: [KeyboardEnhancementFlags; 4] = [
+    KeyboardEnhancementFlags::DISAMBIGUATE_ESCAPE_CODES,
+    KeyboardEnhancementFlags::REPORT_EVENT_TYPES,
+    KeyboardEnhancementFlags::REPORT_ALTERNATE_KEYS,
+    KeyboardEnhancementFlags::REPORT_ALL_KEYS_AS_ESCAPE_CODES,
+];
+
+#[test]
+fn constants_have_their_bits(rt: HostRuntime) {
+    for (i, modifier) in MODIFIERS.iter().enumerate() {
+        expect!(rt; modifier.bits() == 1 << i);
+    }
+    for (i, state) in STATES.iter().enumerate() {
+        expect!(rt; state.bits() == 1 << i);
+    }
+    for (i, enhancement) in ENHANCEMENTS.iter().enumerate() {
+        expect!(rt; enhancement.bits() == 1 << i);
+    }
+    expect!(rt; KeyEventState::NONE.bits() == 0);
+}
+
+fn modifiers_join(pair: &Pair) -> bool {
+    joins!(KeyModifiers, pair)
+}
+
+fn modifiers_join_by_sign(pair: &Pair) -> bool {
+    joins_by_sign!(KeyModifiers, pair)
+}
+
+fn states_join(pair: &Pair) -> bool {
+    joins!(KeyEventState, pair)
+}
+
+fn states_join_by_sign(pair: &Pair) -> bool {
+    joins_by_sign!(KeyEventState, pair)
+}
+
+fn enhancements_join(pair: &Pair) -> bool {
+    joins!(KeyboardEnhancementFlags, pair)
+}
+
+fn enhancements_join_by_sign(pair: &Pair) -> bool {
+    joins_by_sign!(KeyboardEnhancementFlags, pair)
+}
+
+#[test]
+fn sets_are_joined(rt: HostRuntime) {
+    for pair in &PAIRS {
+        expect!(rt; modifiers_join(pair));
+        expect!(rt; states_join(pair));
+        expect!(rt; enhancements_join(pair));
+    }
+}
+
+#[test]
+fn sets_are_joined_by_sign(rt: HostRuntime) {
+    for pair in &PAIRS {
+        expect!(rt; modifiers_join_by_sign(pair));
+        expect!(rt; states_join_by_sign(pair));
+        expect!(rt; enhancements_join_by_sign(pair));
+    }
+}
+
+fn modifiers_meet(pair: &Pair) -> bool {
+    meets!(KeyModifiers, pair)
+}
+
+fn states_meet(pair: &Pair) -> bool {
+    meets!(KeyEventState, pair)
+}
+
+fn enhancements_meet(pair: &Pair) -> bool {
+    meets!(KeyboardEnhancementFlags, pair)
+}
+
+#[test]
+fn sets_meet(rt: HostRuntime) {
+    for pair in &PAIRS {
+        expect!(rt; modifiers_meet(pair));
+        expect!(rt; states_meet(pair));
+        expect!(rt; enhancements_meet(pair));
+    }
+}
+
+fn changed_modifiers() -> [u8; 4] {
+    changed!(KeyModifiers)
+}
+
+fn assigned_modifiers() -> [u8; 4] {
+    assigned!(KeyModifiers)
+}
+
+fn changed_states() -> [u8; 4] {
+    changed!(KeyEventState)
+}
+
+fn assigned_states() -> [u8; 4] {
+    assigned!(KeyEventState)
+}
+
+fn changed_enhancements() -> [u8; 4] {
+    changed!(KeyboardEnhancementFlags)
+}
+
+fn assigned_enhancements() -> [u8; 4] {
+    assigned!(KeyboardEnhancementFlags)
+}
+
+#[test]
+fn sets_are_changed(rt: HostRuntime) {
+    expect!(rt; changed_modifiers() == [3, 2, 3, 1]);
+    expect!(rt; changed_states() == [3, 2, 3, 1]);
+    expect!(rt; changed_enhancements() == [3, 2, 3, 1]);
+}
+
+#[test]
+fn sets_are_assigned(rt: HostRuntime) {
+    expect!(rt; assigned_modifiers() == [3, 2, 3, 1]);
+    expect!(rt; assigned_states() == [3, 2, 3, 1]);
+    expect!(rt; assigned_enhancements() == [3, 2, 3, 1]);
+}
+
+/// The bits of the part of a set, where there is one.
+macro_rules! bits_of {
+    ($part:expr) => {
+        match $part {
+            Some(part) => Some(part.bits()),
+            None => None,
+        }
+    };
+}
+
+fn modifier_bits(part: Option<KeyModifiers>) -> Option<u8> {
+    bits_of!(part)
+}
+
+fn state_bits(part: Option<KeyEventState>) -> Option<u8> {
+    bits_of!(part)
+}
+
+fn enhancement_bits(part: Option<KeyboardEnhancementFlags>) -> Option<u8> {
+    bits_of!(part)
+}
+
+fn modifier_parts(bits: u8) -> [Option<u8>; 4] {
+    let mut parts = KeyModifiers::from_bits_retain(bits).iter();
+    [
+        modifier_bits(parts.next()),
+        modifier_bits(parts.next()),
+        modifier_bits(parts.next()),
+        modifier_bits(parts.next()),
+    ]
+}
+
+fn state_parts(bits: u8) -> [Option<u8>; 5] {
+    let mut parts = KeyEventState::from_bits_retain(bits).iter();
+    [
+        state_bits(parts.next()),
+        state_bits(parts.next()),
+        state_bits(parts.next()),
+        state_bits(parts.next()),
+        state_bits(parts.next()),
+    ]
+}
+
+fn enhancement_parts(bits: u8) -> [Option<u8>; 3] {
+    let mut parts = KeyboardEnhancementFlags::from_bits_retain(bits).iter();
+    [
+        enhancement_bits(parts.next()),
+        enhancement_bits(parts.next()),
+        enhancement_bits(parts.next()),
+    ]
+}
+
+#[test]
+fn iter_gives_each_part(rt: HostRuntime) {
+    expect!(rt; modifier_parts(65) == [Some(1), Some(64), None, None]);
+    expect!(rt; state_parts(134) == [Some(2), Some(4), Some(128), None, None]);
+    expect!(rt; enhancement_parts(9) == [Some(1), Some(8), None]);
+    expect!(rt; modifier_parts(KeyModifiers::NONE.bits()) == [None; 4]);
+}
+
+static PRINTED: [(u8, &str); 6] = [
+    (0, ""),
+    (1, "Shift"),
+    (64, ""),
+    (66, "Control"),
+    (5, "Shift+Alt"),
+    (255, "Shift+Control+Alt+Super+Hyper+Meta"),
+];
+
+#[test]
+fn modifiers_print_their_names(rt: HostRuntime) {
+    for (bits, name) in &PRINTED {
+        let set = KeyModifiers::from_bits_retain(*bits);
+        expect!(rt; prints(rt.alloc(), &set, name), name);
+    }
+}
