@@ -1,0 +1,6 @@
+pub mod Clipboard
+pub mod Controls
+pub mod Functions
+pub mod StyleFunctions
+pub mod Texts
+pub mod Updates

@@ -1,7 +1,13 @@
-//! Events of a terminal: types, the parser, sources and readers.
+//! Events of a terminal: types, the parser, sources and readers, and the commands that turn reports on and off.
 
+mod commands;
 pub mod sys;
 
+pub use commands::{
+    DisableBracketedPaste, DisableFocusChange, DisableMouseCapture, EnableBracketedPaste,
+    EnableFocusChange, EnableMouseCapture, PopKeyboardEnhancementFlags,
+    PushKeyboardEnhancementFlags,
+};
 pub use crossterm_read::{read, source};
 pub use crossterm_types::event::{
     Event, InternalEvent, KeyCode, KeyEvent, KeyEventKind, KeyEventState, KeyModifiers,

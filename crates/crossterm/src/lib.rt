@@ -1,7 +1,21 @@
 //! Terminal events and commands: crossterm 0.29.0's Unix and ANSI side, proved.
 //!
-//! Here are all modules under crossterm's names. It stands on `crossterm_types` (events), `crossterm_parse` (bytes to events) and
-//! `crossterm_read` (devices, sources, readers); what each promises stands in that crate.
+//! Here are all modules under crossterm's names. Events stand in `crossterm_types`, bytes to events in `crossterm_parse`, devices, sources
+//! and readers in `crossterm_read`; how a command gets to a writer, and how a terminal reads it, in `crossterm_command`; `Print` in
+//! `crossterm_style`. What each promises stands in that crate. The commands themselves are here: their texts are `specs/Texts.antt`, and
+//! what a terminal is told by them `specs/Functions.antt`.
 #![tactic(auto)]
 
+pub mod clipboard;
+mod command;
+pub mod cursor;
 pub mod event;
+pub mod laws;
+mod macros;
+pub mod style;
+pub mod terminal;
+
+pub use command::{
+    AnyCommand, Command, CommandFault, ExecutableCommand, QueueableCommand, SynchronizedUpdate,
+    execute_command, queue_all, queue_command, write_command,
+};

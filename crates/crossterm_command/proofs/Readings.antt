@@ -1,5 +1,5 @@
 -- How texts read: in a row, and control functions and characters one by one.
-use Rattle.std.proofs.Common.{◌≡◌, ℕ, zero, suc, ◌+◌, ◌/◌, ◌%◌, ◌<◌, ◌==◌, Bool, true, false, cond, ◌&&◌, List, [], ◌∷◌, ◌++◌, refl, sym, ap, ◌∙◌, append_assoc, append-nil, subst, arith, map, flat_map}
+use Rattle.std.proofs.Common.{◌≡◌, ℕ, zero, suc, ◌+◌, ◌≤◌, nat_le, ◌/◌, ◌%◌, ◌<◌, ◌==◌, Bool, true, false, cond, ◌&&◌, List, [], ◌∷◌, ◌++◌, refl, sym, ap, ◌∙◌, append_assoc, append-nil, subst, arith, map, flat_map}
 use Rattle.std.proofs.Math.Nat.{mod-lt}
 use Rattle.std.proofs.Math.Utf8.{low_scalar}
 use Rattle.std.proofs.lemmas.Bool.Decides.{nat_tests}
@@ -23,7 +23,7 @@ all_weaker P Q f (x ∷ xs) a = (f x a.0, all_weaker P Q f xs a.1)
 
 -- ---- characters and their bytes
 
-both : (x y : Bool) → (x && y) ≡ true → (x ≡ true) × (y ≡ true)
+pub both : (x y : Bool) → (x && y) ≡ true → (x ≡ true) × (y ≡ true)
 both true y p = (refl, p)
 both false y p = cc
 
@@ -126,6 +126,25 @@ plain_spell (c ∷ cs) a = (c ∷ [], cs, (a.0, refl), refl, plain_spell cs a.1)
 -- a text without ESC: its characters
 pub text_reads : (bs : List ℕ) → IsUtf8 bs → AllByRecursion IsPlain (chars bs) → Reads bs (map Char (chars bs))
 text_reads bs u a = (chars bs, scalars-chars bs u, encodes-chars bs u, plain_spell (chars bs) a)
+
+-- ---- parameters that are known
+
+le_at : (m n : ℕ) → nat_le m n ≡ true → m ≤ n
+le_at m n e = grind (arith, nat_tests)
+
+abbrev is_parameter : ℕ → Bool
+is_parameter b = nat_le 0x30 b && nat_le b 0x3F
+
+parameter_at : (b : ℕ) → is_parameter b ≡ true → IsParameter b
+parameter_at b e = let (low, high) = both (nat_le 0x30 b) (nat_le b 0x3F) e in (le_at 0x30 b low, le_at b 0x3F high)
+
+abbrev pub all_parameters : List ℕ → Bool
+all_parameters [] = true
+all_parameters (b ∷ bs) = is_parameter b && all_parameters bs
+
+pub parameters_at : (bs : List ℕ) → all_parameters bs ≡ true → AllByRecursion IsParameter bs
+parameters_at [] e = tt
+parameters_at (b ∷ bs) e = let (first, rest) = both (is_parameter b) (all_parameters bs) e in (parameter_at b first, parameters_at bs rest)
 
 -- ---- numbers
 

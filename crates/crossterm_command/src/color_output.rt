@@ -1,4 +1,6 @@
 //! Whether colours are written.
+ghost use Rattle.std.specs.Prelude.{◌≡◌, if◌then◌else◌};
+ghost use Rattle.crossterm_command.specs.Environment.{is_set};
 
 /// Whether the colours of commands are written.
 #[derive(Clone, Copy, PartialEq, Eq, Debug)]
@@ -7,4 +9,16 @@ pub enum ColorOutput {
     Enabled,
     /// A colour's text is empty, as where `NO_COLOR` is set.
     Disabled,
+}
+
+impl ColorOutput {
+    /// Disabled where the value of `NO_COLOR` is there and not empty.
+    pub fn from_no_color(no_color: Option<&str>) -> ColorOutput
+        ensures { result ≡ (if is_set no_color.entry then ColorOutput.Disabled else ColorOutput.Enabled) }
+    {
+        match no_color {
+            Some(value) if !value.is_empty() => ColorOutput::Disabled,
+            _ => ColorOutput::Enabled,
+        }
+    }
 }

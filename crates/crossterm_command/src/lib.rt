@@ -11,6 +11,7 @@ mod fault;
 pub mod laws;
 mod once;
 mod queueable;
+mod shown;
 #[cfg(test)]
 mod tests;
 mod tries;
@@ -21,4 +22,5 @@ pub use color_output::ColorOutput;
 pub use fault::CommandFault;
 pub use once::write_once;
 pub use queueable::{ExecutableCommand, QueueableCommand, execute_command, queue_command};
+pub use shown::execute_fmt;
 pub use writing::write_command;

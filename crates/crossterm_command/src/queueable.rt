@@ -56,9 +56,20 @@ pub trait QueueableCommand: io::Write {
             Stops (error_kind e) (C.text command colors) (C.fails command colors) (Self.contents self.old) (Self.contents last)))) }
         ensures same { IfOk result (λ w. w.ghost_name ≡ self.entry.ghost_name) }
         ensures ok { IfOk result (λ w. AppendsText (Self.contents self.old) (Self.contents w.now) (C.text command colors)) };
+
+    /// The writer itself: what `queue!` and `execute!` begin with, so that they take a `W` and a `&mut W`.
+    fn as_writer(&mut self) -> &mut Self
+    where
+        Self: Sized,
+        ensures same { result.ghost_name ≡ self.entry.ghost_name }
+        ensures now { result.now ≡ self.old };
 }
 
 impl<W: io::Write> QueueableCommand for W {
+    fn as_writer(&mut self) -> &mut W {
+        self
+    }
+
     fn queue<C: Command + Drop>(
         &mut self,
         colors: ColorOutput,

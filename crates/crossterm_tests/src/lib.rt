@@ -1,5 +1,5 @@
-//! Tests of the parser, the source and the reader by their public calls: each call once, and tables that come from outside. Beside them
-//! stands the slow program of the grammar's definitions (`plain`), which the parser is compared with.
+//! Tests of the parser, the source, the reader and the commands by their public calls: each call once, and tables that come from outside.
+//! Beside them stands the slow program of the grammar's definitions (`plain`), which the parser is compared with.
 //!
 //! They stand here, in a crate of their own, since a crate with tests is proved twice. What a proof costs grows with the square of what one
 //! function does, so tables are statics, and short helpers say whether a row of one holds.

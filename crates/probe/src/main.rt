@@ -1,13 +1,16 @@
-//! A probe of crossterm: runs a script of device answers and reader calls, and prints what comes of them.
+//! A probe of crossterm: runs a script of device answers and reader calls and prints what comes of them, or writes commands.
 //!
 //! `probe play` reads lines from standard input. Acts of the device: `piece HEX`, `raw HEX`, `resize COLUMNS ROWS`, `wake`, `idle`, `fault`.
-//! Calls of the reader: `poll FILTER TRIES`, `read FILTER TRIES`, `take FILTER`. It stands on `crossterm` alone, by its public calls.
+//! Calls of the reader: `poll FILTER TRIES`, `read FILTER TRIES`, `take FILTER`. `probe say` reads commands by their names and arguments,
+//! and `colors on|off`, and writes the commands' bytes. Its code stands on `crossterm` alone, by its public calls.
 #![tactic(auto)]
 
+mod bench;
 mod event_line;
 mod fault;
 mod input;
 mod play;
+mod say;
 #[cfg(test)]
 mod tests;
 
@@ -31,6 +34,7 @@ fn mode(rt: &HostRuntime) -> Result<String, Fault> {
 fn run(rt: &HostRuntime) -> Result<(), Fault> {
     match mode(rt)?.as_str() {
         "play" => play::run_play(rt.alloc(), &mut rt.reader(), &mut io::writer(rt)),
+        "say" => say::run_say(rt.alloc(), &mut rt.reader(), &mut io::writer(rt)),
         _ => Err(Fault::Usage),
     }
 }

@@ -2,7 +2,7 @@
 
 use crate::event_line::EventLine;
 use crate::fault::{Fault, Wrong};
-use crate::input::{bytes, number, read_text};
+use crate::input::{Lines, bytes, divided, number};
 use crossterm::event::InternalEvent;
 use crossterm::event::filter::AnyFilter;
 use crossterm::event::read::{Call, Reply, Trace, play};
@@ -127,14 +127,6 @@ fn read_plain<A: Allocator>(word: PlainWord, rest: Option<&str>) -> Result<State
     statement.ok_or(Wrong::Argument)
 }
 
-/// A line's first word, and what follows the blank behind it.
-fn divided(line: &str) -> (&str, Option<&str>) {
-    match line.split_once(' ') {
-        Some((word, rest)) => (word, Some(rest)),
-        None => (line, None),
-    }
-}
-
 /// Reads one line, of words with one blank between.
 fn read_statement<A: Allocator + Clone>(alloc: &A, line: &str) -> Result<Statement<A>, Wrong> {
     let (word, rest) = divided(line);
@@ -166,32 +158,12 @@ impl<A: Allocator + Clone> Statements<A> {
         }
         Ok(())
     }
+}
 
-    /// Adds what a line says, if it isn't empty.
+impl<A: Allocator + Clone> Lines<A> for Statements<A> {
     fn add_line(&mut self, alloc: &A, line: &str) -> Result<(), Wrong> {
-        if line.is_empty() {
-            return Ok(());
-        }
         let statement = read_statement(alloc, line)?;
         Ok(self.add(statement)?)
-    }
-
-    /// Adds what all lines say. The empty ones are counted too.
-    fn add_lines(&mut self, alloc: &A, text: &str) -> Result<(), Fault> {
-        let mut number = 0usize;
-        for line in text.split('\n') {
-            number = number.saturating_add(1);
-            if let Err(wrong) = self.add_line(alloc, line) {
-                return Err(wrong.at(number));
-            }
-        }
-        Ok(())
-    }
-
-    /// Adds what all lines of the input say.
-    fn read<R: Read>(&mut self, alloc: &A, reader: &mut R) -> Result<(), Fault> {
-        let text = read_text(alloc.clone()?, reader)?;
-        self.add_lines(alloc, text.as_str())
     }
 }
 

@@ -1,9 +1,13 @@
-//! Scripts and calls beside what must come of them, run through the program's own function.
+//! Scripts and calls beside what must come of them, run through the program's own functions.
 
+mod bench;
+mod looks;
 mod numbered;
+mod say;
 
 use crate::fault::Fault;
 use crate::play::run_play;
+use crate::say::run_say;
 use std::alloc::{AllocError, Global};
 use std::io::{self, Read, Write};
 use std::process::Abort;
@@ -14,28 +18,48 @@ pub fn expect(rt: &impl Abort, holds: bool, what: &str) {
     assert!(rt; holds, "{what}");
 }
 
-/// What `run_play` prints for an input.
-pub fn played(alloc: Global, input: &[u8]) -> Result<Vec<u8>, Fault> {
+/// A mode that reads lines.
+#[derive(Clone, Copy)]
+pub enum Mode {
+    Play,
+    Say,
+}
+
+/// Runs a mode.
+pub fn run<R: Read, W: Write>(
+    mode: Mode,
+    alloc: Global,
+    reader: &mut R,
+    writer: &mut W,
+) -> Result<(), Fault> {
+    match mode {
+        Mode::Play => run_play(alloc, reader, writer),
+        Mode::Say => run_say(alloc, reader, writer),
+    }
+}
+
+/// What comes of an input: what is written, and behind it the line of the fault, which has no end.
+pub fn answer(mode: Mode, alloc: Global, input: &[u8]) -> Result<Vec<u8>, AllocError> {
     let mut output = Vec::new(alloc);
     let mut reader = input;
-    run_play(alloc, &mut reader, &mut output)?;
+    if let Err(fault) = run(mode, alloc, &mut reader, &mut output) {
+        let line = format!(in alloc; "{fault}")?;
+        output.extend_from_slice(line.as_bytes())?;
+    }
     Ok(output)
 }
 
-/// What comes of an input: what is printed, or the line of the fault, which has no end.
-fn answer(alloc: Global, input: &[u8]) -> Result<Vec<u8>, AllocError> {
-    match played(alloc, input) {
-        Ok(output) => Ok(output),
-        Err(fault) => Ok(format!(in alloc; "{fault}")?.into_bytes()),
-    }
-}
-
 /// Whether this comes of an input.
-pub fn is_answer(alloc: Global, input: &[u8], want: &[u8]) -> bool {
-    match answer(alloc, input) {
+pub fn is_answer(mode: Mode, alloc: Global, input: &[u8], want: &[u8]) -> bool {
+    match answer(mode, alloc, input) {
         Ok(output) => output.as_slice() == want,
         Err(_) => false,
     }
+}
+
+/// Whether this comes of an input that is played.
+fn is_played(alloc: Global, input: &[u8], want: &[u8]) -> bool {
+    is_answer(Mode::Play, alloc, input, want)
 }
 
 /// A case to a line, which is its name: an input and what comes of it, with `;` in place of each line's end. A second blank before the
@@ -163,7 +187,7 @@ const CASES: usize = 114;
 fn is_answer_unfolded(alloc: Global, input: &str, want: &str) -> Result<bool, AllocError> {
     let input = input.replace(alloc, ';', "\n")?;
     let want = want.replace(alloc, ';', "\n")?;
-    Ok(is_answer(alloc, input.as_bytes(), want.as_bytes()))
+    Ok(is_played(alloc, input.as_bytes(), want.as_bytes()))
 }
 
 /// Whether a case is as it says.
@@ -218,7 +242,7 @@ fn an_escape_at_the_end_of_a_full_buffer_waits(rt: HostRuntime) -> Result<(), Fa
     let mut want = Vec::new(rt.alloc());
     put(&mut input, &FULL_BUFFER)?;
     put(&mut want, &LETTERS_AND_ARROW)?;
-    let holds = is_answer(rt.alloc(), input.as_slice(), want.as_slice());
+    let holds = is_played(rt.alloc(), input.as_slice(), want.as_slice());
     expect(&rt, holds, "1023 letters and an arrow");
     Ok(())
 }
@@ -233,14 +257,14 @@ const ZEROS: [(&str, u32); 3] = [
 fn zeros_before_a_number_have_no_end(rt: HostRuntime) -> Result<(), Fail> {
     let mut input = Vec::new(rt.alloc());
     put(&mut input, &ZEROS)?;
-    let holds = is_answer(rt.alloc(), input.as_slice(), b"key PageUp 0 Press 0\n");
+    let holds = is_played(rt.alloc(), input.as_slice(), b"key PageUp 0 Press 0\n");
     expect(&rt, holds, "one key");
     Ok(())
 }
 
 #[test]
 fn bytes_that_are_not_utf_8_are_named(rt: HostRuntime) {
-    let holds = is_answer(rt.alloc(), b"\xff", b"probe: input is not UTF-8");
+    let holds = is_played(rt.alloc(), b"\xff", b"probe: input is not UTF-8");
     expect(&rt, holds, "not UTF-8");
 }
 
@@ -248,10 +272,10 @@ fn bytes_that_are_not_utf_8_are_named(rt: HostRuntime) {
 fn an_input_has_its_limit(rt: HostRuntime) -> Result<(), Fail> {
     let mut long = Vec::new(rt.alloc());
     repeat(&mut long, "\n", 1_048_576)?;
-    let holds = is_answer(rt.alloc(), long.as_slice(), b"");
+    let holds = is_played(rt.alloc(), long.as_slice(), b"");
     expect(&rt, holds, "as long as may be");
     repeat(&mut long, "\n", 1)?;
-    let holds = is_answer(rt.alloc(), long.as_slice(), b"probe: input too long");
+    let holds = is_played(rt.alloc(), long.as_slice(), b"probe: input too long");
     expect(&rt, holds, "too long");
     Ok(())
 }
@@ -276,23 +300,31 @@ impl Write for Failing {
     }
 }
 
+/// Whether a reader that fails is named.
+fn names_the_reader(mode: Mode, alloc: Global) -> bool {
+    let mut output = Vec::new(alloc);
+    let fault = run(mode, alloc, &mut Failing, &mut output);
+    matches!(fault, Err(Fault::ReadFailed)) && output.is_empty()
+}
+
+/// Whether a writer that fails is named, where an input has something written.
+fn names_the_writer(mode: Mode, alloc: Global, input: &[u8]) -> bool {
+    let mut reader = input;
+    let fault = run(mode, alloc, &mut reader, &mut Failing);
+    matches!(fault, Err(Fault::WriteFailed))
+}
+
+/// An input of each mode that has something written.
+const SOMETHING: [(Mode, &str); 2] = [(Mode::Play, "read event 1"), (Mode::Say, "Hide")];
+
 #[test]
-fn failing_readers_and_writers_are_named(rt: HostRuntime) -> Result<(), Fail> {
-    let mut output = Vec::new(rt.alloc());
-    let read = run_play(rt.alloc(), &mut Failing, &mut output);
-    expect(
-        &rt,
-        matches!(read, Err(Fault::ReadFailed)),
-        "a reader that fails",
-    );
-    let mut input: &[u8] = b"read event 1";
-    let written = run_play(rt.alloc(), &mut input, &mut Failing);
-    expect(
-        &rt,
-        matches!(written, Err(Fault::WriteFailed)),
-        "a writer that fails",
-    );
-    Ok(())
+fn failing_readers_and_writers_are_named(rt: HostRuntime) {
+    for (mode, input) in SOMETHING {
+        let holds = names_the_reader(mode, rt.alloc());
+        expect(&rt, holds, "a reader that fails");
+        let holds = names_the_writer(mode, rt.alloc(), input.as_bytes());
+        expect(&rt, holds, "a writer that fails");
+    }
 }
 
 const FAULTS: [(Fault, &str); 8] = [

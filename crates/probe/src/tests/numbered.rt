@@ -1,6 +1,6 @@
 //! Every line of the tables of numbered sequences, of keys by code point and of replies: one table, run by one test.
 
-use crate::tests::{expect, played};
+use crate::tests::{Mode, answer, expect};
 use std::alloc::{AllocError, Global};
 
 /// A case to a line, which is its name: what follows ESC, and the line of its event. In order: the final `~` by its number; functional
@@ -205,7 +205,7 @@ fn read_after_escape(alloc: Global, text: &str) -> Result<Vec<u8>, AllocError> {
 
 /// Whether what is printed for an input is this one line.
 fn is_line(alloc: Global, input: &[u8], want: &str) -> bool {
-    match played(alloc, input) {
+    match answer(Mode::Play, alloc, input) {
         Ok(output) => output.as_slice().strip_suffix(b"\n") == Some(want.as_bytes()),
         Err(_) => false,
     }

@@ -1,0 +1,4 @@
+pub mod Clipboards
+pub mod Commands
+pub mod Controls
+pub mod StyleReadings

@@ -1,0 +1,357 @@
+//! Commands of the cursor.
+//!
+//! Each shows (`Display`) as the text that it writes.
+ghost use Rattle.std.specs.Prelude.{Some};
+ghost use Rattle.crossterm.specs.Texts.{cursor_style_text, disable_blinking_text, enable_blinking_text, hide_text, move_down_text, move_left_text, move_right_text, move_to_column_text, move_to_next_line_text, move_to_previous_line_text, move_to_row_text, move_to_text, move_up_text, restore_position_text, save_position_text, show_text};
+
+use crate::command::{Command, execute_fmt, write_number, write_numbers, write_once};
+use crate::csi;
+use crate::style::ColorOutput;
+use std::fmt;
+
+/// Moves the cursor to a column and a row, both from 0 (CUP: ECMA-48, 8.3.21).
+///
+/// The text counts from 1: `MoveTo(65535, 0)` writes `ESC [ 1 ; 65536 H`.
+#[derive(Clone, Copy, PartialEq, Eq, Debug)]
+pub struct MoveTo(pub u16, pub u16);
+
+impl Command for MoveTo {
+    ghost text = { λ c _. Some (move_to_text c.0 c.1) };
+
+    fn write_ansi<W: fmt::Write>(&self, f: &mut W, _colors: ColorOutput) -> fmt::Result {
+        write_numbers(
+            f,
+            csi!(),
+            (u32::from(self.1) + 1, u32::from(self.0) + 1),
+            "H",
+        )
+    }
+}
+
+impl fmt::Display for MoveTo {
+    ghost output = { λ c. Some (move_to_text c.0 c.1) };
+
+    fn fmt<W: fmt::Write>(&self, f: &mut fmt::Formatter<W>) -> fmt::Result {
+        execute_fmt(f, self)
+    }
+}
+
+/// Moves the cursor to a column, from 0, in its row (CHA: ECMA-48, 8.3.9).
+#[derive(Clone, Copy, PartialEq, Eq, Debug)]
+pub struct MoveToColumn(pub u16);
+
+impl Command for MoveToColumn {
+    ghost text = { λ c _. Some (move_to_column_text c.0) };
+
+    fn write_ansi<W: fmt::Write>(&self, f: &mut W, _colors: ColorOutput) -> fmt::Result {
+        let column = self.0;
+        write_number(f, csi!(), u32::from(column) + 1, "G")
+    }
+}
+
+impl fmt::Display for MoveToColumn {
+    ghost output = { λ c. Some (move_to_column_text c.0) };
+
+    fn fmt<W: fmt::Write>(&self, f: &mut fmt::Formatter<W>) -> fmt::Result {
+        execute_fmt(f, self)
+    }
+}
+
+/// Moves the cursor to a row, from 0, in its column (VPA: ECMA-48, 8.3.158).
+#[derive(Clone, Copy, PartialEq, Eq, Debug)]
+pub struct MoveToRow(pub u16);
+
+impl Command for MoveToRow {
+    ghost text = { λ c _. Some (move_to_row_text c.0) };
+
+    fn write_ansi<W: fmt::Write>(&self, f: &mut W, _colors: ColorOutput) -> fmt::Result {
+        let row = self.0;
+        write_number(f, csi!(), u32::from(row) + 1, "d")
+    }
+}
+
+impl fmt::Display for MoveToRow {
+    ghost output = { λ c. Some (move_to_row_text c.0) };
+
+    fn fmt<W: fmt::Write>(&self, f: &mut fmt::Formatter<W>) -> fmt::Result {
+        execute_fmt(f, self)
+    }
+}
+
+/// Moves the cursor to the first column, some lines down (CNL: ECMA-48, 8.3.12).
+#[derive(Clone, Copy, PartialEq, Eq, Debug)]
+pub struct MoveToNextLine(pub u16);
+
+impl Command for MoveToNextLine {
+    ghost text = { λ c _. Some (move_to_next_line_text c.0) };
+
+    fn write_ansi<W: fmt::Write>(&self, f: &mut W, _colors: ColorOutput) -> fmt::Result {
+        write_number(f, csi!(), u32::from(self.0), "E")
+    }
+}
+
+impl fmt::Display for MoveToNextLine {
+    ghost output = { λ c. Some (move_to_next_line_text c.0) };
+
+    fn fmt<W: fmt::Write>(&self, f: &mut fmt::Formatter<W>) -> fmt::Result {
+        execute_fmt(f, self)
+    }
+}
+
+/// Moves the cursor to the first column, some lines up (CPL: ECMA-48, 8.3.13).
+#[derive(Clone, Copy, PartialEq, Eq, Debug)]
+pub struct MoveToPreviousLine(pub u16);
+
+impl Command for MoveToPreviousLine {
+    ghost text = { λ c _. Some (move_to_previous_line_text c.0) };
+
+    fn write_ansi<W: fmt::Write>(&self, f: &mut W, _colors: ColorOutput) -> fmt::Result {
+        write_number(f, csi!(), u32::from(self.0), "F")
+    }
+}
+
+impl fmt::Display for MoveToPreviousLine {
+    ghost output = { λ c. Some (move_to_previous_line_text c.0) };
+
+    fn fmt<W: fmt::Write>(&self, f: &mut fmt::Formatter<W>) -> fmt::Result {
+        execute_fmt(f, self)
+    }
+}
+
+/// Moves the cursor some rows up (CUU: ECMA-48, 8.3.22). Most terminals take 0 as 1.
+#[derive(Clone, Copy, PartialEq, Eq, Debug)]
+pub struct MoveUp(pub u16);
+
+impl Command for MoveUp {
+    ghost text = { λ c _. Some (move_up_text c.0) };
+
+    fn write_ansi<W: fmt::Write>(&self, f: &mut W, _colors: ColorOutput) -> fmt::Result {
+        write_number(f, csi!(), u32::from(self.0), "A")
+    }
+}
+
+impl fmt::Display for MoveUp {
+    ghost output = { λ c. Some (move_up_text c.0) };
+
+    fn fmt<W: fmt::Write>(&self, f: &mut fmt::Formatter<W>) -> fmt::Result {
+        execute_fmt(f, self)
+    }
+}
+
+/// Moves the cursor some columns to the right (CUF: ECMA-48, 8.3.20). Most terminals take 0 as 1.
+#[derive(Clone, Copy, PartialEq, Eq, Debug)]
+pub struct MoveRight(pub u16);
+
+impl Command for MoveRight {
+    ghost text = { λ c _. Some (move_right_text c.0) };
+
+    fn write_ansi<W: fmt::Write>(&self, f: &mut W, _colors: ColorOutput) -> fmt::Result {
+        write_number(f, csi!(), u32::from(self.0), "C")
+    }
+}
+
+impl fmt::Display for MoveRight {
+    ghost output = { λ c. Some (move_right_text c.0) };
+
+    fn fmt<W: fmt::Write>(&self, f: &mut fmt::Formatter<W>) -> fmt::Result {
+        execute_fmt(f, self)
+    }
+}
+
+/// Moves the cursor some rows down (CUD: ECMA-48, 8.3.19). Most terminals take 0 as 1.
+#[derive(Clone, Copy, PartialEq, Eq, Debug)]
+pub struct MoveDown(pub u16);
+
+impl Command for MoveDown {
+    ghost text = { λ c _. Some (move_down_text c.0) };
+
+    fn write_ansi<W: fmt::Write>(&self, f: &mut W, _colors: ColorOutput) -> fmt::Result {
+        write_number(f, csi!(), u32::from(self.0), "B")
+    }
+}
+
+impl fmt::Display for MoveDown {
+    ghost output = { λ c. Some (move_down_text c.0) };
+
+    fn fmt<W: fmt::Write>(&self, f: &mut fmt::Formatter<W>) -> fmt::Result {
+        execute_fmt(f, self)
+    }
+}
+
+/// Moves the cursor some columns to the left (CUB: ECMA-48, 8.3.18). Most terminals take 0 as 1.
+#[derive(Clone, Copy, PartialEq, Eq, Debug)]
+pub struct MoveLeft(pub u16);
+
+impl Command for MoveLeft {
+    ghost text = { λ c _. Some (move_left_text c.0) };
+
+    fn write_ansi<W: fmt::Write>(&self, f: &mut W, _colors: ColorOutput) -> fmt::Result {
+        write_number(f, csi!(), u32::from(self.0), "D")
+    }
+}
+
+impl fmt::Display for MoveLeft {
+    ghost output = { λ c. Some (move_left_text c.0) };
+
+    fn fmt<W: fmt::Write>(&self, f: &mut fmt::Formatter<W>) -> fmt::Result {
+        execute_fmt(f, self)
+    }
+}
+
+/// Saves the cursor's place (DECSC: xterm ctlseqs, `ESC 7`).
+#[derive(Clone, Copy, PartialEq, Eq, Debug)]
+pub struct SavePosition;
+
+impl Command for SavePosition {
+    ghost text = { λ _ _. Some save_position_text };
+
+    fn write_ansi<W: fmt::Write>(&self, f: &mut W, _colors: ColorOutput) -> fmt::Result {
+        write_once(f, "\x1b7")
+    }
+}
+
+impl fmt::Display for SavePosition {
+    ghost output = { λ _. Some save_position_text };
+
+    fn fmt<W: fmt::Write>(&self, f: &mut fmt::Formatter<W>) -> fmt::Result {
+        execute_fmt(f, self)
+    }
+}
+
+/// Moves the cursor to the saved place (DECRC: xterm ctlseqs, `ESC 8`).
+#[derive(Clone, Copy, PartialEq, Eq, Debug)]
+pub struct RestorePosition;
+
+impl Command for RestorePosition {
+    ghost text = { λ _ _. Some restore_position_text };
+
+    fn write_ansi<W: fmt::Write>(&self, f: &mut W, _colors: ColorOutput) -> fmt::Result {
+        write_once(f, "\x1b8")
+    }
+}
+
+impl fmt::Display for RestorePosition {
+    ghost output = { λ _. Some restore_position_text };
+
+    fn fmt<W: fmt::Write>(&self, f: &mut fmt::Formatter<W>) -> fmt::Result {
+        execute_fmt(f, self)
+    }
+}
+
+/// Hides the cursor (DECTCEM: xterm ctlseqs, `CSI ? 25 l`).
+#[derive(Clone, Copy, PartialEq, Eq, Debug)]
+pub struct Hide;
+
+impl Command for Hide {
+    ghost text = { λ _ _. Some hide_text };
+
+    fn write_ansi<W: fmt::Write>(&self, f: &mut W, _colors: ColorOutput) -> fmt::Result {
+        write_once(f, csi!("?25l"))
+    }
+}
+
+impl fmt::Display for Hide {
+    ghost output = { λ _. Some hide_text };
+
+    fn fmt<W: fmt::Write>(&self, f: &mut fmt::Formatter<W>) -> fmt::Result {
+        execute_fmt(f, self)
+    }
+}
+
+/// Shows the cursor (DECTCEM: xterm ctlseqs, `CSI ? 25 h`).
+#[derive(Clone, Copy, PartialEq, Eq, Debug)]
+pub struct Show;
+
+impl Command for Show {
+    ghost text = { λ _ _. Some show_text };
+
+    fn write_ansi<W: fmt::Write>(&self, f: &mut W, _colors: ColorOutput) -> fmt::Result {
+        write_once(f, csi!("?25h"))
+    }
+}
+
+impl fmt::Display for Show {
+    ghost output = { λ _. Some show_text };
+
+    fn fmt<W: fmt::Write>(&self, f: &mut fmt::Formatter<W>) -> fmt::Result {
+        execute_fmt(f, self)
+    }
+}
+
+/// Lets the cursor blink (xterm ctlseqs, `CSI ? 12 h`).
+#[derive(Clone, Copy, PartialEq, Eq, Debug)]
+pub struct EnableBlinking;
+
+impl Command for EnableBlinking {
+    ghost text = { λ _ _. Some enable_blinking_text };
+
+    fn write_ansi<W: fmt::Write>(&self, f: &mut W, _colors: ColorOutput) -> fmt::Result {
+        write_once(f, csi!("?12h"))
+    }
+}
+
+impl fmt::Display for EnableBlinking {
+    ghost output = { λ _. Some enable_blinking_text };
+
+    fn fmt<W: fmt::Write>(&self, f: &mut fmt::Formatter<W>) -> fmt::Result {
+        execute_fmt(f, self)
+    }
+}
+
+/// Stops the cursor's blinking (xterm ctlseqs, `CSI ? 12 l`).
+#[derive(Clone, Copy, PartialEq, Eq, Debug)]
+pub struct DisableBlinking;
+
+impl Command for DisableBlinking {
+    ghost text = { λ _ _. Some disable_blinking_text };
+
+    fn write_ansi<W: fmt::Write>(&self, f: &mut W, _colors: ColorOutput) -> fmt::Result {
+        write_once(f, csi!("?12l"))
+    }
+}
+
+impl fmt::Display for DisableBlinking {
+    ghost output = { λ _. Some disable_blinking_text };
+
+    fn fmt<W: fmt::Write>(&self, f: &mut fmt::Formatter<W>) -> fmt::Result {
+        execute_fmt(f, self)
+    }
+}
+
+/// The cursor's shape (DECSCUSR: xterm ctlseqs, `CSI Ps SP q`).
+#[derive(Clone, Copy, PartialEq, Eq, Debug, Hash)]
+pub enum SetCursorStyle {
+    /// The shape that the user has set.
+    DefaultUserShape,
+    BlinkingBlock,
+    SteadyBlock,
+    BlinkingUnderScore,
+    SteadyUnderScore,
+    BlinkingBar,
+    SteadyBar,
+}
+
+impl Command for SetCursorStyle {
+    ghost text = { λ c _. Some (cursor_style_text c) };
+
+    fn write_ansi<W: fmt::Write>(&self, f: &mut W, _colors: ColorOutput) -> fmt::Result {
+        let text = match self {
+            SetCursorStyle::DefaultUserShape => csi!("0 q"),
+            SetCursorStyle::BlinkingBlock => csi!("1 q"),
+            SetCursorStyle::SteadyBlock => csi!("2 q"),
+            SetCursorStyle::BlinkingUnderScore => csi!("3 q"),
+            SetCursorStyle::SteadyUnderScore => csi!("4 q"),
+            SetCursorStyle::BlinkingBar => csi!("5 q"),
+            SetCursorStyle::SteadyBar => csi!("6 q"),
+        };
+        write_once(f, text)
+    }
+}
+
+impl fmt::Display for SetCursorStyle {
+    ghost output = { λ c. Some (cursor_style_text c) };
+
+    fn fmt<W: fmt::Write>(&self, f: &mut fmt::Formatter<W>) -> fmt::Result {
+        execute_fmt(f, self)
+    }
+}

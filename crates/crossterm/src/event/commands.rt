@@ -1,0 +1,124 @@
+//! Commands that tell a terminal which events to report.
+ghost use Rattle.std.specs.Prelude.{Some};
+ghost use Rattle.crossterm.specs.Texts.{disable_focus_text, disable_mouse_text, disable_paste_text, enable_focus_text, enable_mouse_text, enable_paste_text, pop_flags_text, push_flags_text};
+
+use crate::command::{Command, write_number, write_once};
+use crate::csi;
+use crate::style::ColorOutput;
+use crossterm_types::event::KeyboardEnhancementFlags;
+use std::fmt;
+
+/// The mouse is reported: buttons, drags and moves, as numbers and as far as 223 columns and beyond (xterm ctlseqs, modes 1000, 1002,
+/// 1003, 1015 and 1006).
+#[derive(Clone, Copy, PartialEq, Eq, Debug)]
+pub struct EnableMouseCapture;
+
+impl Command for EnableMouseCapture {
+    ghost text = { λ _ _. Some enable_mouse_text };
+
+    fn write_ansi<W: fmt::Write>(&self, f: &mut W, _colors: ColorOutput) -> fmt::Result {
+        write_once(
+            f,
+            concat!(
+                "\x1b[?1000h",
+                "\x1b[?1002h",
+                "\x1b[?1003h",
+                "\x1b[?1015h",
+                "\x1b[?1006h",
+            ),
+        )
+    }
+}
+
+/// The mouse isn't reported any more: the same modes, off in the other order.
+#[derive(Clone, Copy, PartialEq, Eq, Debug)]
+pub struct DisableMouseCapture;
+
+impl Command for DisableMouseCapture {
+    ghost text = { λ _ _. Some disable_mouse_text };
+
+    fn write_ansi<W: fmt::Write>(&self, f: &mut W, _colors: ColorOutput) -> fmt::Result {
+        write_once(
+            f,
+            concat!(
+                "\x1b[?1006l",
+                "\x1b[?1015l",
+                "\x1b[?1003l",
+                "\x1b[?1002l",
+                "\x1b[?1000l",
+            ),
+        )
+    }
+}
+
+/// The terminal tells when it gains or loses the focus (xterm ctlseqs, mode 1004).
+#[derive(Clone, Copy, PartialEq, Eq, Debug)]
+pub struct EnableFocusChange;
+
+impl Command for EnableFocusChange {
+    ghost text = { λ _ _. Some enable_focus_text };
+
+    fn write_ansi<W: fmt::Write>(&self, f: &mut W, _colors: ColorOutput) -> fmt::Result {
+        write_once(f, csi!("?1004h"))
+    }
+}
+
+/// The focus isn't told any more (xterm ctlseqs, mode 1004).
+#[derive(Clone, Copy, PartialEq, Eq, Debug)]
+pub struct DisableFocusChange;
+
+impl Command for DisableFocusChange {
+    ghost text = { λ _ _. Some disable_focus_text };
+
+    fn write_ansi<W: fmt::Write>(&self, f: &mut W, _colors: ColorOutput) -> fmt::Result {
+        write_once(f, csi!("?1004l"))
+    }
+}
+
+/// A pasted text comes between marks, as one event (xterm ctlseqs, mode 2004).
+#[derive(Clone, Copy, PartialEq, Eq, Debug)]
+pub struct EnableBracketedPaste;
+
+impl Command for EnableBracketedPaste {
+    ghost text = { λ _ _. Some enable_paste_text };
+
+    fn write_ansi<W: fmt::Write>(&self, f: &mut W, _colors: ColorOutput) -> fmt::Result {
+        write_once(f, csi!("?2004h"))
+    }
+}
+
+/// A pasted text comes as if it were typed (xterm ctlseqs, mode 2004).
+#[derive(Clone, Copy, PartialEq, Eq, Debug)]
+pub struct DisableBracketedPaste;
+
+impl Command for DisableBracketedPaste {
+    ghost text = { λ _ _. Some disable_paste_text };
+
+    fn write_ansi<W: fmt::Write>(&self, f: &mut W, _colors: ColorOutput) -> fmt::Result {
+        write_once(f, csi!("?2004l"))
+    }
+}
+
+/// Turns on flags of kitty's keyboard protocol, on top of those that stand (`CSI > flags u`).
+#[derive(Clone, Copy, PartialEq, Eq, Debug)]
+pub struct PushKeyboardEnhancementFlags(pub KeyboardEnhancementFlags);
+
+impl Command for PushKeyboardEnhancementFlags {
+    ghost text = { λ c _. Some (push_flags_text c.0.0) };
+
+    fn write_ansi<W: fmt::Write>(&self, f: &mut W, _colors: ColorOutput) -> fmt::Result {
+        write_number(f, csi!(">"), u32::from(self.0.bits()), "u")
+    }
+}
+
+/// Drops the flags that were pushed last (kitty's keyboard protocol, `CSI < 1 u`).
+#[derive(Clone, Copy, PartialEq, Eq, Debug)]
+pub struct PopKeyboardEnhancementFlags;
+
+impl Command for PopKeyboardEnhancementFlags {
+    ghost text = { λ _ _. Some pop_flags_text };
+
+    fn write_ansi<W: fmt::Write>(&self, f: &mut W, _colors: ColorOutput) -> fmt::Result {
+        write_once(f, csi!("<1u"))
+    }
+}

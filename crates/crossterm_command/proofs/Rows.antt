@@ -1,0 +1,50 @@
+-- The texts of a list, one after another.
+use Rattle.std.proofs.Common.{◌≡◌, ℕ, ◌+◌, ◌<◌, ◌≤◌, List, [], ◌∷◌, ◌++◌, Option, sym, ap, ◌∙◌, append_assoc, append-nil, subst, take_all, length, get_or, take, drop, take-append-drop, flat_map}
+use Rattle.std.proofs.lemmas.List.{take_more}
+use Rattle.std.proofs.lemmas.List.Concat.{flat_map-append}
+use Rattle.std.specs.Io.KnownBytes.{Appends}
+use Rattle.std.proofs.KnownBytes.{Appends-trans}
+use Rattle.crossterm_command.specs.Writing.{AppendsFront}
+
+-- the texts before a place and the text at it
+grown_at : {X : Type 0} (f : X → List ℕ) (xs : List X) (i : ℕ) (x : X) → i < length xs → get_or xs i x ≡ x → flat_map f (take (i + 1) xs) ≡ flat_map f (take i xs) ++ f x
+grown_at f xs i x l e =
+    ap (flat_map f) (take_more xs i x l ∙ ap (λ y. take i xs ++ (y ∷ [])) e)
+    ∙ flat_map-append f (take i xs) (x ∷ []) ∙ ap (λ h. flat_map f (take i xs) ++ h) (append-nil (f x))
+
+-- After all texts before a place, the text at it is taken.
+pub more_taken : {X : Type 0} (f : X → List ℕ) (xs : List X) (i : ℕ) (x : X) (a b c : Option (List ℕ)) → i < length xs → get_or xs i x ≡ x
+    → Appends a b (flat_map f (take i xs)) → Appends b c (f x) → Appends a c (flat_map f (take (i + 1) xs))
+more_taken f xs i x a b c l e p q = subst (Appends a c) (sym (grown_at f xs i x l e)) (Appends-trans a b c (flat_map f (take i xs)) (f x) p q)
+
+-- the texts before a place, the text at it, and some more are the whole
+whole_at : {X : Type 0} (f : X → List ℕ) (xs : List X) (i : ℕ) (x : X) → i < length xs → get_or xs i x ≡ x
+    → flat_map f xs ≡ flat_map f (take i xs) ++ (f x ++ flat_map f (drop (i + 1) xs))
+whole_at {X} f xs i x l e =
+    ap (flat_map f) (sym (take-append-drop (i + 1) xs)) ∙ flat_map-append f (take (i + 1) xs) (drop (i + 1) xs)
+    ∙ ap (λ h. h ++ flat_map f (drop (i + 1) xs)) (grown_at f xs i x l e)
+    ∙ append_assoc (flat_map f (take i xs)) (f x) (flat_map f (drop (i + 1) xs))
+
+-- A beginning of a first text is a beginning of both.
+pub front_of_first : (a b : Option (List ℕ)) (x y : List ℕ) → AppendsFront a b x → AppendsFront a b (x ++ y)
+front_of_first a b x y (front, rest, split, grown) = (front, rest ++ y, ap (λ l. l ++ y) split ∙ append_assoc front rest y, grown)
+
+-- A whole first text and then a beginning of the second are a beginning of both.
+pub front_of_second : (a b c : Option (List ℕ)) (x y : List ℕ) → Appends a b x → AppendsFront b c y → AppendsFront a c (x ++ y)
+front_of_second a b c x y p (front, rest, split, grown) =
+    (x ++ front, rest, ap (λ l. x ++ l) split ∙ sym (append_assoc x front rest), Appends-trans a b c x front p grown)
+
+-- After all texts before a place, a beginning of the text at it is a beginning of all.
+pub front_at : {X : Type 0} (f : X → List ℕ) (xs : List X) (i : ℕ) (x : X) (a b c : Option (List ℕ)) → i < length xs → get_or xs i x ≡ x
+    → Appends a b (flat_map f (take i xs)) → AppendsFront b c (f x) → AppendsFront a c (flat_map f xs)
+front_at f xs i x a b c l e p (front, rest, split, grown) =
+    let before = flat_map f (take i xs) in
+    let after = flat_map f (drop (i + 1) xs) in (
+      before ++ front,
+      rest ++ after,
+      whole_at f xs i x l e ∙ ap (λ h. before ++ (h ++ after)) split ∙ ap (λ h. before ++ h) (append_assoc front rest after) ∙ sym (append_assoc before front (rest ++ after)),
+      Appends-trans a b c before front p grown,
+    )
+
+pub all_taken : {X : Type 0} (f : X → List ℕ) (xs : List X) (i : ℕ) (a b : Option (List ℕ)) → length xs ≤ i → Appends a b (flat_map f (take i xs)) → Appends a b (flat_map f xs)
+all_taken f xs i a b l p = subst (λ ys. Appends a b (flat_map f ys)) (take_all i xs l) p

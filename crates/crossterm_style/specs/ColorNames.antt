@@ -1,0 +1,45 @@
+-- The names of colours.
+use Rattle.std.specs.Prelude.{ℕ, List, [], ◌∷◌, Contains, codes, map}
+use Rattle.std.specs.Borrow.{Bor}
+use Rattle.std.specs.Str.{str_to_ascii_lowercase}
+use Rattle.crossterm_style.specs.declared.types.color.Color.{Color}
+use Rattle.crossterm_style.specs.declared.types.color.Color.TheVariants as color
+
+abbrev pub names : List (List ℕ × Color)
+names =
+    (codes "reset", color.Reset) ∷
+    (codes "black", color.Black) ∷
+    (codes "dark_grey", color.DarkGrey) ∷
+    (codes "red", color.Red) ∷
+    (codes "dark_red", color.DarkRed) ∷
+    (codes "green", color.Green) ∷
+    (codes "dark_green", color.DarkGreen) ∷
+    (codes "yellow", color.Yellow) ∷
+    (codes "dark_yellow", color.DarkYellow) ∷
+    (codes "blue", color.Blue) ∷
+    (codes "dark_blue", color.DarkBlue) ∷
+    (codes "magenta", color.Magenta) ∷
+    (codes "dark_magenta", color.DarkMagenta) ∷
+    (codes "cyan", color.Cyan) ∷
+    (codes "dark_cyan", color.DarkCyan) ∷
+    (codes "white", color.White) ∷
+    (codes "grey", color.Grey) ∷
+    []
+
+-- The text, in small ASCII letters, is a name of the colour in a table of them.
+abbrev pub NamesIn : List (List ℕ × Color) → List ℕ → Color → Type 0
+NamesIn table text c = Contains table (str_to_ascii_lowercase text, c)
+
+-- The text is no name in the table.
+abbrev pub NamesNoneIn : List (List ℕ × Color) → List ℕ → Type 0
+NamesNoneIn table text = (c : Color) → NamesIn table text c → ⊥
+
+abbrev pub Names : List ℕ → Color → Type 0
+Names text c = NamesIn names text c
+
+abbrev pub NamesNone : List ℕ → Type 0
+NamesNone text = NamesNoneIn names text
+
+-- a program's table of names, in small ASCII letters
+abbrev pub entries : List (Bor (List ℕ) × Color) → List (List ℕ × Color)
+entries table = map (λ entry. (str_to_ascii_lowercase entry.0.now, entry.1)) table

@@ -1,0 +1,165 @@
+//! Sets of attributes.
+ghost use Rattle.std.specs.Prelude.{◌≡◌, ◌==◌};
+ghost use Rattle.std.specs.Int.{bit_not, w32};
+ghost use Rattle.std.specs.Int.RustNames.{bit_and, bit_or, bit_xor};
+ghost use Rattle.crossterm_style.specs.Attributes.{bit_of, has, of_list};
+
+use crate::Attribute;
+use std::ops::{BitAnd, BitOr, BitXor};
+
+/// A set of attributes: a bit for each, the first from bit 1 on.
+#[derive(Clone, Copy, PartialEq, Eq, Default, Debug)]
+pub struct Attributes(u32);
+
+impl Attributes {
+    /// The empty set.
+    pub fn none() -> Attributes
+        ensures { result.0 ≡ 0 }
+    {
+        Attributes(0)
+    }
+
+    /// The set with an attribute.
+    pub fn with(self, attribute: Attribute) -> Attributes
+        ensures { result.0 ≡ bit_or self.0 (bit_of attribute) }
+    {
+        Attributes(self.0 | attribute.bytes())
+    }
+
+    /// The set without an attribute.
+    pub fn without(self, attribute: Attribute) -> Attributes
+        ensures { result.0 ≡ bit_and self.0 (bit_not w32 (bit_of attribute)) }
+    {
+        Attributes(self.0 & !attribute.bytes())
+    }
+
+    /// Adds an attribute.
+    pub fn set(&mut self, attribute: Attribute)
+        ensures { self.new.0 ≡ bit_or self.old.0 (bit_of attribute) }
+    {
+        self.0 |= attribute.bytes();
+    }
+
+    /// Takes an attribute away.
+    pub fn unset(&mut self, attribute: Attribute)
+        ensures { self.new.0 ≡ bit_and self.old.0 (bit_not w32 (bit_of attribute)) }
+    {
+        self.0 &= !attribute.bytes();
+    }
+
+    /// Adds an attribute that isn't there, and takes one away that is.
+    pub fn toggle(&mut self, attribute: Attribute)
+        ensures { self.new.0 ≡ bit_xor self.old.0 (bit_of attribute) }
+    {
+        self.0 ^= attribute.bytes();
+    }
+
+    /// Whether an attribute is in the set.
+    pub fn has(self, attribute: Attribute) -> bool
+        ensures { result ≡ has self.0 attribute }
+    {
+        self.0 >> (attribute.place() + 1) & 1 == 1
+    }
+
+    /// Adds the attributes of another set.
+    pub fn extend(&mut self, attributes: Attributes)
+        ensures { self.new.0 ≡ bit_or self.old.0 attributes.0 }
+    {
+        self.0 |= attributes.0;
+    }
+
+    /// Whether no attribute is in the set.
+    pub fn is_empty(self) -> bool
+        ensures { result ≡ (self.0 == 0) }
+    {
+        self.0 == 0
+    }
+}
+
+impl From<Attribute> for Attributes {
+    ghost from_gives = { λ a r. r.0 ≡ bit_of a };
+
+    /// The set of one attribute.
+    fn from(attribute: Attribute) -> Attributes {
+        Attributes(attribute.bytes())
+    }
+}
+
+impl From<&[Attribute]> for Attributes {
+    ghost from_gives = { λ all r. r.0 ≡ of_list all.now };
+
+    /// The set of these attributes; one that stands twice counts once.
+    fn from(all: &[Attribute]) -> Attributes {
+        let mut attributes = Attributes::none();
+        for attribute in all {
+            attributes.set(*attribute);
+        }
+        attributes
+    }
+}
+
+impl BitAnd for Attributes {
+    type Output = Attributes;
+
+    ghost bitand_gives = { λ a b r. r.0 ≡ bit_and a.0 b.0 };
+
+    /// The attributes that both sets have.
+    fn bitand(self, other: Attributes) -> Attributes {
+        Attributes(self.0 & other.0)
+    }
+}
+
+impl BitAnd<Attribute> for Attributes {
+    type Output = Attributes;
+
+    ghost bitand_gives = { λ a b r. r.0 ≡ bit_and a.0 (bit_of b) };
+
+    /// The attributes that both the set and the one of this attribute have.
+    fn bitand(self, attribute: Attribute) -> Attributes {
+        Attributes(self.0 & attribute.bytes())
+    }
+}
+
+impl BitOr for Attributes {
+    type Output = Attributes;
+
+    ghost bitor_gives = { λ a b r. r.0 ≡ bit_or a.0 b.0 };
+
+    /// The attributes that either set has.
+    fn bitor(self, other: Attributes) -> Attributes {
+        Attributes(self.0 | other.0)
+    }
+}
+
+impl BitOr<Attribute> for Attributes {
+    type Output = Attributes;
+
+    ghost bitor_gives = { λ a b r. r.0 ≡ bit_or a.0 (bit_of b) };
+
+    /// The attributes that the set or the one of this attribute has.
+    fn bitor(self, attribute: Attribute) -> Attributes {
+        Attributes(self.0 | attribute.bytes())
+    }
+}
+
+impl BitXor for Attributes {
+    type Output = Attributes;
+
+    ghost bitxor_gives = { λ a b r. r.0 ≡ bit_xor a.0 b.0 };
+
+    /// The attributes that one of the two sets has.
+    fn bitxor(self, other: Attributes) -> Attributes {
+        Attributes(self.0 ^ other.0)
+    }
+}
+
+impl BitXor<Attribute> for Attributes {
+    type Output = Attributes;
+
+    ghost bitxor_gives = { λ a b r. r.0 ≡ bit_xor a.0 (bit_of b) };
+
+    /// The attributes that one of the the set and the one of this attribute has.
+    fn bitxor(self, attribute: Attribute) -> Attributes {
+        Attributes(self.0 ^ attribute.bytes())
+    }
+}

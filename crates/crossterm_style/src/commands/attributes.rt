@@ -1,0 +1,49 @@
+//! Commands that set attributes.
+ghost use Rattle.std.specs.Prelude.{Some};
+ghost use Rattle.crossterm_style.specs.Styles.{set_attribute_text, set_attributes_text};
+
+use crate::{Attribute, Attributes};
+use arrayvec::ArrayString;
+use crossterm_command::{ColorOutput, Command, execute_fmt, write_once};
+use std::fmt;
+
+/// Sets an attribute (SGR: ECMA-48, 8.3.117).
+#[derive(Clone, Copy, PartialEq, Eq, Debug)]
+pub struct SetAttribute(pub Attribute);
+
+impl Command for SetAttribute {
+    ghost text = { λ c _. Some (set_attribute_text c.0) };
+
+    fn write_ansi<W: fmt::Write>(&self, f: &mut W, _colors: ColorOutput) -> fmt::Result {
+        let mut text = ArrayString::<8>::new();
+        text.push_str("\x1b[");
+        text.push_str(self.0.code());
+        text.push_str("m");
+        write_once(f, text.as_str())
+    }
+}
+
+impl fmt::Display for SetAttribute {
+    ghost output = { λ c. Some (set_attribute_text c.0) };
+
+    fn fmt<W: fmt::Write>(&self, f: &mut fmt::Formatter<W>) -> fmt::Result {
+        execute_fmt(f, self)
+    }
+}
+
+/// Sets the attributes of a set, one sequence each, in declared order.
+#[derive(Clone, Copy, PartialEq, Eq, Debug)]
+pub struct SetAttributes(pub Attributes);
+
+impl Command for SetAttributes {
+    ghost text = { λ c _. Some (set_attributes_text c.0.0) };
+
+    fn write_ansi<W: fmt::Write>(&self, f: &mut W, colors: ColorOutput) -> fmt::Result {
+        for attribute in Attribute::all() {
+            if self.0.has(*attribute) {
+                SetAttribute(*attribute).write_ansi(f, colors)?;
+            }
+        }
+        Ok(())
+    }
+}

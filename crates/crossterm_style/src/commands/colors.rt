@@ -1,0 +1,157 @@
+//! Commands of colours.
+//!
+//! Each selects a graphic rendition (SGR: ECMA-48, 8.3.117) and is written by one call.
+ghost use Rattle.std.specs.Prelude.{OnOk, Some};
+ghost use Rattle.std.specs.Fmt.{WritesInCalls};
+ghost use Rattle.crossterm_style.specs.Styles.{reset_color_text, set_color_text, set_colors_text};
+
+use crate::{Color, ColorOutput, Colored, Colors};
+use arrayvec::ArrayString;
+use crossterm_command::{Command, execute_fmt, write_once};
+use std::fmt;
+
+/// Writes the sequence that sets a colour.
+fn write_color<W: fmt::Write>(f: &mut W, colored: Colored, colors: ColorOutput) -> fmt::Result
+    ensures { OnOk result (WritesInCalls W.write_str_gives f.old (set_color_text colors colored) f.new) }
+{
+    let mut text = ArrayString::<24>::new();
+    text.push_str("\x1b[");
+    colored.push_to(&mut text, colors);
+    text.push_str("m");
+    write_once(f, text.as_str())
+}
+
+/// Writes the sequence that sets a foreground and a background.
+fn write_both<W: fmt::Write>(
+    f: &mut W,
+    foreground: Color,
+    background: Color,
+    colors: ColorOutput,
+) -> fmt::Result
+    ensures { OnOk result (WritesInCalls W.write_str_gives f.old (set_colors_text colors (Some foreground) (Some background)) f.new) }
+{
+    let mut text = ArrayString::<40>::new();
+    text.push_str("\x1b[");
+    Colored::ForegroundColor(foreground).push_to(&mut text, colors);
+    text.push_str(";");
+    Colored::BackgroundColor(background).push_to(&mut text, colors);
+    text.push_str("m");
+    write_once(f, text.as_str())
+}
+
+/// Sets the colour of the text. Where colours are not written, this is `ESC [ m`.
+#[derive(Clone, Copy, PartialEq, Eq, Debug)]
+pub struct SetForegroundColor(pub Color);
+
+impl Command for SetForegroundColor {
+    ghost use Rattle.crossterm_style.specs.declared.types.colored.Colored.TheVariants.{ForegroundColor};
+
+    ghost text = { λ c colors. Some (set_color_text colors (ForegroundColor c.0)) };
+
+    fn write_ansi<W: fmt::Write>(&self, f: &mut W, colors: ColorOutput) -> fmt::Result {
+        write_color(f, Colored::ForegroundColor(self.0), colors)
+    }
+}
+
+impl fmt::Display for SetForegroundColor {
+    ghost use Rattle.crossterm_command.specs.declared.color_output.ColorOutput.TheVariants.{Enabled};
+    ghost use Rattle.crossterm_style.specs.declared.types.colored.Colored.TheVariants.{ForegroundColor};
+
+    ghost output = { λ c. Some (set_color_text Enabled (ForegroundColor c.0)) };
+
+    fn fmt<W: fmt::Write>(&self, f: &mut fmt::Formatter<W>) -> fmt::Result {
+        execute_fmt(f, self)
+    }
+}
+
+/// Sets the colour behind the text. Where colours are not written, this is `ESC [ m`.
+#[derive(Clone, Copy, PartialEq, Eq, Debug)]
+pub struct SetBackgroundColor(pub Color);
+
+impl Command for SetBackgroundColor {
+    ghost use Rattle.crossterm_style.specs.declared.types.colored.Colored.TheVariants.{BackgroundColor};
+
+    ghost text = { λ c colors. Some (set_color_text colors (BackgroundColor c.0)) };
+
+    fn write_ansi<W: fmt::Write>(&self, f: &mut W, colors: ColorOutput) -> fmt::Result {
+        write_color(f, Colored::BackgroundColor(self.0), colors)
+    }
+}
+
+impl fmt::Display for SetBackgroundColor {
+    ghost use Rattle.crossterm_command.specs.declared.color_output.ColorOutput.TheVariants.{Enabled};
+    ghost use Rattle.crossterm_style.specs.declared.types.colored.Colored.TheVariants.{BackgroundColor};
+
+    ghost output = { λ c. Some (set_color_text Enabled (BackgroundColor c.0)) };
+
+    fn fmt<W: fmt::Write>(&self, f: &mut fmt::Formatter<W>) -> fmt::Result {
+        execute_fmt(f, self)
+    }
+}
+
+/// Sets the colour of the line below the text. Where colours are not written, this is `ESC [ m`.
+#[derive(Clone, Copy, PartialEq, Eq, Debug)]
+pub struct SetUnderlineColor(pub Color);
+
+impl Command for SetUnderlineColor {
+    ghost use Rattle.crossterm_style.specs.declared.types.colored.Colored.TheVariants.{UnderlineColor};
+
+    ghost text = { λ c colors. Some (set_color_text colors (UnderlineColor c.0)) };
+
+    fn write_ansi<W: fmt::Write>(&self, f: &mut W, colors: ColorOutput) -> fmt::Result {
+        write_color(f, Colored::UnderlineColor(self.0), colors)
+    }
+}
+
+/// Sets the colours of the text and behind it that are there, by one sequence.
+///
+/// Where colours are not written, this is `ESC [ ; m` for both and `ESC [ m` for one.
+#[derive(Clone, Copy, PartialEq, Eq, Debug)]
+pub struct SetColors(pub Colors);
+
+impl Command for SetColors {
+    ghost text = { λ c colors. Some (set_colors_text colors c.0.foreground c.0.background) };
+
+    fn write_ansi<W: fmt::Write>(&self, f: &mut W, colors: ColorOutput) -> fmt::Result {
+        let Colors {
+            foreground,
+            background,
+        } = self.0;
+        match (foreground, background) {
+            (Some(foreground), Some(background)) => write_both(f, foreground, background, colors),
+            (Some(color), None) => write_color(f, Colored::ForegroundColor(color), colors),
+            (None, Some(color)) => write_color(f, Colored::BackgroundColor(color), colors),
+            (None, None) => Ok(()),
+        }
+    }
+}
+
+impl fmt::Display for SetColors {
+    ghost use Rattle.crossterm_command.specs.declared.color_output.ColorOutput.TheVariants.{Enabled};
+
+    ghost output = { λ c. Some (set_colors_text Enabled c.0.foreground c.0.background) };
+
+    fn fmt<W: fmt::Write>(&self, f: &mut fmt::Formatter<W>) -> fmt::Result {
+        execute_fmt(f, self)
+    }
+}
+
+/// Resets all colours and attributes.
+#[derive(Clone, Copy, PartialEq, Eq, Debug)]
+pub struct ResetColor;
+
+impl Command for ResetColor {
+    ghost text = { λ _ _. Some reset_color_text };
+
+    fn write_ansi<W: fmt::Write>(&self, f: &mut W, _colors: ColorOutput) -> fmt::Result {
+        write_once(f, "\x1b[0m")
+    }
+}
+
+impl fmt::Display for ResetColor {
+    ghost output = { λ _. Some reset_color_text };
+
+    fn fmt<W: fmt::Write>(&self, f: &mut fmt::Formatter<W>) -> fmt::Result {
+        execute_fmt(f, self)
+    }
+}

@@ -1,0 +1,36 @@
+//! What holds of colours and of sets of attributes.
+ghost use Rattle.std.specs.Prelude.{◌≡◌, ◌<◌, ◌^◌, ◌||◌, ◌&&◌, ℕ, Bool, not, true, false};
+ghost use Rattle.std.specs.Int.{bit_not, w32};
+ghost use Rattle.std.specs.Int.RustNames.{bit_and, bit_or, bit_xor};
+ghost use Rattle.crossterm_style.specs.Attributes.{Makes, bit_of, differ, has};
+ghost use Rattle.crossterm_style.specs.declared.types.attribute.Attribute.{Attribute};
+ghost use Rattle.crossterm_style.specs.Colors.{LaterIsAssociative, LaterWins, NoColorsAreNeutral};
+ghost use Rattle.crossterm_style.specs.Fields.{OneColor, OneColored, TextIsReadBack};
+
+/// `Attributes` is a set: `with`, `set`, `extend` and `|` make the union, `without` and `unset` the difference, `&` the intersection,
+/// `toggle` and `^` the symmetric difference; a set of one attribute has that one alone, and the empty set none.
+pub fn sets()
+    ensures union { (x y : ℕ) → Makes (λ p q. p || q) x y (bit_or x y) }
+    ensures intersection { (x y : ℕ) → Makes (λ p q. p && q) x y (bit_and x y) }
+    ensures symmetric_difference { (x y : ℕ) → Makes differ x y (bit_xor x y) }
+    ensures difference { (x y : ℕ) → y < 2 ^ 32 → Makes (λ p q. p && not q) x y (bit_and x (bit_not w32 y)) }
+    ensures one { (a b : Attribute) → has (bit_of a) b ≡ true → b ≡ a }
+    ensures itself { (a : Attribute) → has (bit_of a) a ≡ true }
+    ensures none { (a : Attribute) → has 0 a ≡ false }
+{}
+
+/// Colours set one after another: the later colour wins at its place, colours that aren't there change nothing, and how the steps are grouped
+/// doesn't matter.
+pub fn colors_then()
+    ensures wins { LaterWins }
+    ensures neutral { NoColorsAreNeutral }
+    ensures grouped { LaterIsAssociative }
+{}
+
+/// What `parse_ansi` answers is settled by the text, and at the text of a colour it is that colour, `AnsiValue(0)` to `AnsiValue(15)` by
+/// their names.
+pub fn colors_read()
+    ensures color { OneColor }
+    ensures colored { OneColored }
+    ensures back { TextIsReadBack }
+{}

@@ -1,0 +1,15 @@
+//! Colours and attributes.
+
+mod attribute;
+mod attribute_iter;
+mod color;
+mod colored;
+mod colors;
+mod ink;
+
+pub use attribute::{Attribute, SGR};
+pub use attribute_iter::AttributeIter;
+pub use color::Color;
+pub use colored::Colored;
+pub use colors::Colors;
+pub(crate) use ink::Ink;

@@ -1,0 +1,29 @@
+//! Bodies with the macros of `crossterm`, and what they write.
+ghost use Rattle.std.specs.Prelude.{◌≢◌, OnOk, IfErr, codes};
+ghost use Rattle.std.specs.IoError.{error_kind};
+ghost use Rattle.std.specs.Io.KnownBytes.{Appends};
+ghost use Rattle.crossterm_command.specs.Writing.{AppendsFront};
+
+use crossterm::cursor::{MoveTo, Show};
+use crossterm::style::{ColorOutput, Print};
+use crossterm::{QueueableCommand, execute, queue};
+use std::io;
+use std::io::ErrorKind;
+
+/// Prints at the screen's first cell.
+pub fn print_first<W: io::Write>(w: &mut W, colors: ColorOutput) -> io::Result<()>
+    ensures ok { OnOk result (Appends (W.contents w.old) (W.contents w.new) (codes "\u{1b}[1;1Hab")) }
+    ensures err { IfErr result (λ e. error_kind e ≢ ErrorKind.Other → AppendsFront (W.contents w.old) (W.contents w.new)
+        (codes "\u{1b}[1;1Hab")) }
+{
+    queue!(w, colors, MoveTo(0, 0), Print("ab"))
+}
+
+/// Shows the cursor at once.
+pub fn show_now<W: io::Write>(w: &mut W, colors: ColorOutput) -> io::Result<()>
+    ensures ok { OnOk result (Appends (W.contents w.old) (W.contents w.new) (codes "\u{1b}[?25h")) }
+    ensures err { IfErr result (λ e. error_kind e ≢ ErrorKind.Other → AppendsFront (W.contents w.old) (W.contents w.new)
+        (codes "\u{1b}[?25h")) }
+{
+    execute!(w, colors, Show,)
+}

@@ -1,0 +1,67 @@
+//! Lines of commands of style and of the clipboard, beside the bytes that must come of them.
+
+/// Cases as those of the other commands.
+pub const LINES: &str = "\
+SetForegroundColor ansi:9 -> ^[38;5;9m
+SetForegroundColor red -> ^[38;5;9m
+SetForegroundColor reset -> ^[39m
+SetBackgroundColor Dark_Grey -> ^[48;5;8m
+SetBackgroundColor ansi:255 -> ^[48;5;255m
+SetUnderlineColor rgb:0,0,255 -> ^[58;2;0;0;255m
+SetUnderlineColor reset -> ^[59m
+SetColors red blue -> ^[38;5;9;48;5;12m
+SetColors reset rgb:1,2,3 -> ^[39;48;2;1;2;3m
+SetColors red - -> ^[38;5;9m
+SetColors - red -> ^[48;5;9m
+SetColors - - ->
+SetAttribute Reset -> ^[0m
+SetAttribute Underdashed -> ^[4:5m
+SetAttribute NotOverLined -> ^[55m
+SetAttributes Bold,Reset,Bold -> ^[0m^[1m
+SetAttributes Dim -> ^[2m
+SetAttributes - ->
+SetStyle red blue - Reset,Bold -> ^[48;5;12m^[38;5;9m^[0m^[1m
+SetStyle - - green - -> ^[58;5;10m
+SetStyle - - - - ->
+ResetColor -> ^[0m
+PrintStyledContent - - green - 78 -> ^[58;5;10mx^[39m
+PrintStyledContent red - - Bold 78 -> ^[38;5;9m^[1mx^[0m
+PrintStyledContent red blue - - 78 -> ^[48;5;12m^[38;5;9mx^[49m^[39m
+PrintStyledContent - blue - - 78 -> ^[48;5;12mx^[49m
+PrintStyledContent - - - Italic 78 -> ^[3mx^[0m
+PrintStyledContent - - - - 78 -> x
+PrintStyledContent - - - - - ->
+PrintStyledContent red - - - - -> ^[38;5;9m^[39m
+colors off;SetForegroundColor red -> ^[m
+colors off;SetColors red blue -> ^[;m
+colors off;SetColors - blue -> ^[m
+colors off;SetColors - - ->
+colors off;SetStyle red - - Bold -> ^[m^[1m
+colors off;PrintStyledContent red blue - - 78 -> ^[m^[mx^[m^[m
+colors off;SetForegroundColor red;colors on;SetForegroundColor red -> ^[m^[38;5;9m
+CopyToClipboard pc 666f6f -> ^]52;pc;Zm9v^\\
+CopyToClipboard - 666f6f -> ^]52;;Zm9v^\\
+CopyToClipboard c - -> ^]52;c;^\\
+SetForegroundColor - -> probe: line 1: bad argument
+SetForegroundColor ANSI:9 -> probe: line 1: bad argument
+SetForegroundColor ansi:256 -> probe: line 1: bad argument
+SetForegroundColor ansi:+9 -> probe: line 1: bad argument
+SetForegroundColor rgb:1,2 -> probe: line 1: bad argument
+SetForegroundColor rgb:1,2,3,4 -> probe: line 1: bad argument
+SetForegroundColor pink -> probe: line 1: bad argument
+SetForegroundColor -> probe: line 1: bad argument
+SetAttribute - -> probe: line 1: bad argument
+SetAttribute bold -> probe: line 1: bad argument
+SetAttribute Bold,Dim -> probe: line 1: bad argument
+SetAttributes Bold, -> probe: line 1: bad argument
+SetColors red -> probe: line 1: bad argument
+SetStyle red blue - -> probe: line 1: bad argument
+SetStyle - - - - - -> probe: line 1: bad argument
+PrintStyledContent - - - - ff -> probe: line 1: bad argument
+CopyToClipboard pc -> probe: line 1: bad argument
+CopyToClipboard pc 6 -> probe: line 1: bad argument
+ResetColor 1 -> probe: line 1: bad argument
+SetColor red -> probe: line 1: unknown word";
+
+/// How many there are.
+pub const CASES: usize = 60;
