@@ -72,7 +72,7 @@ impl Attributes {
     pub fn is_empty(self) -> bool
         ensures { result ≡ (self.0 == 0) }
     {
-        self.0 == 0
+        self == Attributes::none()
     }
 }
 
@@ -138,7 +138,7 @@ impl BitOr<Attribute> for Attributes {
 
     /// The attributes that the set or the one of this attribute has.
     fn bitor(self, attribute: Attribute) -> Attributes {
-        Attributes(self.0 | attribute.bytes())
+        self.with(attribute)
     }
 }
 
@@ -158,7 +158,7 @@ impl BitXor<Attribute> for Attributes {
 
     ghost bitxor_gives = { λ a b r. r.0 ≡ bit_xor a.0 (bit_of b) };
 
-    /// The attributes that one of the the set and the one of this attribute has.
+    /// The attributes of the set but this one, and this one where the set doesn't have it.
     fn bitxor(self, attribute: Attribute) -> Attributes {
         Attributes(self.0 ^ attribute.bytes())
     }

@@ -5,6 +5,7 @@ use crate::say::run_say;
 use crate::tests::{Mode, expect, is_answer, looks};
 use std::alloc::{AllocError, Global};
 use std::io::{self, ErrorKind, Write};
+use std::process::Abort;
 
 /// A case to a line, which is its name: an input, with `;` in place of each line's end, and what comes of it, with `^` in place of ESC and
 /// `~` in place of the bell. A second blank before the arrow is the input's. Where nothing is behind the arrow, nothing is written.
@@ -145,10 +146,10 @@ fn holds(alloc: Global, case: &str) -> bool {
 }
 
 /// Fails the test where a case isn't as it says, or where there are more or fewer than so many.
-fn expect_all(rt: &HostRuntime, cases: &str, count: usize) {
+fn expect_all(rt: &impl Abort, alloc: Global, cases: &str, count: usize) {
     let mut seen = 0usize;
     for case in cases.split('\n') {
-        expect(rt, holds(rt.alloc(), case), case);
+        expect(rt, holds(alloc, case), case);
         seen = seen.saturating_add(1);
     }
     expect(rt, seen == count, "a case is lost");
@@ -156,12 +157,12 @@ fn expect_all(rt: &HostRuntime, cases: &str, count: usize) {
 
 #[test]
 fn commands_give_their_bytes(rt: HostRuntime) {
-    expect_all(&rt, LINES, CASES);
+    expect_all(&rt, rt.alloc(), LINES, CASES);
 }
 
 #[test]
 fn commands_of_style_give_their_bytes(rt: HostRuntime) {
-    expect_all(&rt, looks::LINES, looks::CASES);
+    expect_all(&rt, rt.alloc(), looks::LINES, looks::CASES);
 }
 
 #[test]
