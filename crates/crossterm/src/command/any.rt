@@ -140,8 +140,9 @@ impl<A: Allocator> Command for AnyCommand<A> {
 
 /// Queues the commands, one after another, up to the first that fails.
 ///
-/// What was written reads back as the functions of the commands, in order, and as nothing else, where no printed text holds an escape
-/// and no title an escape or a bell. The error is the writer's own, and then a beginning of the text was written.
+/// What was written reads back as the functions of the commands, in order, and as nothing else, where no printed text holds an escape,
+/// and no title and no letter of a clipboard's places an escape or a bell. The error is the writer's own; where its kind isn't `Other`,
+/// a beginning of the text was written.
 pub fn queue_all<A: Allocator, W: io::Write>(
     writer: &mut W,
     colors: ColorOutput,
