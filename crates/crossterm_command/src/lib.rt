@@ -12,8 +12,6 @@ pub mod laws;
 mod once;
 mod queueable;
 mod shown;
-#[cfg(test)]
-mod tests;
 mod tries;
 mod writing;
 

@@ -1,7 +1,10 @@
-//! Commands from outside: the macros, updates, lists of commands, and what commands show.
+//! Commands from outside: the macros, updates, lists of commands, and what each command derives.
 
+use crate::is_text;
+use crate::queueing::kind;
+use crate::tape::Tape;
 use crossterm::cursor::{Hide, MoveTo, SetCursorStyle, Show};
-use crossterm::event::{EnableFocusChange, PopKeyboardEnhancementFlags};
+use crossterm::event::PopKeyboardEnhancementFlags;
 use crossterm::style::{ColorOutput, Print};
 use crossterm::terminal::{Clear, ClearType, SetTitle};
 use crossterm::{
@@ -12,125 +15,86 @@ use std::alloc::{AllocError, Global};
 use std::fmt::Debug;
 use std::io::{self, ErrorKind, Write};
 
-mod shown;
-
 const ON: ColorOutput = ColorOutput::Enabled;
-
-/// A writer that fails once, after some bytes, and knows whether it was flushed after them.
-#[derive(Drop)]
-struct Tape {
-    bytes: Vec<u8>,
-    /// How many bytes it takes a call.
-    step: usize,
-    /// How many bytes it takes before it fails.
-    room: usize,
-    flushed: bool,
-}
-
-impl Tape {
-    /// One that fails after so many bytes.
-    fn failing_at(alloc: Global, room: usize) -> Tape {
-        Tape {
-            bytes: Vec::new(alloc),
-            step: usize::MAX,
-            room,
-            flushed: false,
-        }
-    }
-
-    /// One that takes all bytes of a test.
-    fn new(alloc: Global) -> Tape {
-        Tape::failing_at(alloc, usize::MAX)
-    }
-
-    /// Whether it holds these bytes, and was flushed after them or wasn't.
-    fn holds(&self, bytes: &[u8], flushed: bool) -> bool {
-        self.bytes.as_slice() == bytes && self.flushed == flushed
-    }
-}
-
-impl Write for Tape {
-    fn write(&mut self, buf: &[u8]) -> io::Result<usize> {
-        if self.room == 0 {
-            self.room = usize::MAX;
-            return Err(io::Error::from(ErrorKind::BrokenPipe));
-        }
-        let count = buf.len().min(self.step).min(self.room);
-        self.flushed = false;
-        self.bytes.extend_from_slice(&buf[..count])?;
-        self.room -= count;
-        Ok(count)
-    }
-
-    fn flush(&mut self) -> io::Result<()> {
-        self.flushed = true;
-        Ok(())
-    }
-}
 
 /// Whether a call failed as the tape does.
 fn failed<T: Drop>(outcome: io::Result<T>) -> bool {
-    match outcome {
-        Ok(_) => false,
-        Err(e) => e.kind() == ErrorKind::BrokenPipe,
-    }
+    kind(outcome) == Some(ErrorKind::BrokenPipe)
+}
+
+/// Whether nothing is queued and executed by the macros, on a writer of its own.
+fn none_are_written(alloc: Global) -> bool {
+    let mut tape = Tape::new(alloc);
+    let queued = queue!(tape, ON).is_ok() && tape.holds(b"", 0);
+    queued && execute!(tape, ON).is_ok() && tape.holds(b"", 1)
+}
+
+/// Queues a move, a text and an end.
+fn queue_three(tape: &mut Tape) -> io::Result<()> {
+    queue!(tape, ON, MoveTo(65535, 0), Print("x"), Hide,)
+}
+
+/// Executes the same.
+fn execute_three(tape: &mut Tape) -> io::Result<()> {
+    execute!(tape, ON, MoveTo(65535, 0), Print("x"), Hide,)
+}
+
+/// What these write.
+const THREE: &[u8] = b"\x1b[1;65536Hx\x1b[?25l";
+
+/// Whether three commands are queued in order, and not flushed.
+fn three_are_queued(alloc: Global) -> bool {
+    let mut tape = Tape::new(alloc);
+    queue_three(&mut tape).is_ok() && tape.holds(THREE, 0)
+}
+
+/// Whether three commands are executed in order, and flushed once.
+fn three_are_executed(alloc: Global) -> bool {
+    let mut tape = Tape::new(alloc);
+    execute_three(&mut tape).is_ok() && tape.holds(THREE, 1)
 }
 
 #[test]
-fn queue_of_none_writes_nothing(rt: HostRuntime) -> io::Result<()> {
-    let mut tape = Tape::new(rt.alloc());
-    queue!(tape, ON)?;
-    expect!(rt; tape.holds(b"", false));
-    Ok(())
+fn macros_write_their_commands_in_order(rt: HostRuntime) {
+    expect!(rt; none_are_written(rt.alloc()));
+    expect!(rt; three_are_queued(rt.alloc()));
+    expect!(rt; three_are_executed(rt.alloc()));
 }
 
-#[test]
-fn queue_writes_its_commands_in_order(rt: HostRuntime) -> io::Result<()> {
-    let mut tape = Tape::new(rt.alloc());
-    queue!(tape, ON, Show)?;
-    let writer = &mut tape;
-    queue!(writer, ON, MoveTo(2, 1), Print("x"), Hide,)?;
-    expect!(rt; tape.holds(b"\x1b[?25h\x1b[2;3Hx\x1b[?25l", false));
-    Ok(())
+/// Whether the first error stops what is queued after so many bytes.
+fn queueing_stops(alloc: Global, room: usize) -> bool {
+    let mut tape = Tape::failing_at(alloc, room);
+    failed(queue_three(&mut tape)) && tape.holds(&THREE[..room.min(THREE.len())], 0)
 }
 
-#[test]
-fn execute_of_none_flushes(rt: HostRuntime) -> io::Result<()> {
-    let mut tape = Tape::new(rt.alloc());
-    execute!(tape, ON)?;
-    expect!(rt; tape.holds(b"", true));
-    Ok(())
-}
-
-#[test]
-fn execute_writes_its_commands_in_order(rt: HostRuntime) -> io::Result<()> {
-    let mut tape = Tape::new(rt.alloc());
-    execute!(tape, ON, Show)?;
-    let writer = &mut tape;
-    execute!(writer, ON, MoveTo(2, 1), Print("x"), Hide,)?;
-    expect!(rt; tape.holds(b"\x1b[?25h\x1b[2;3Hx\x1b[?25l", true));
-    Ok(())
+/// Whether it stops what is executed.
+fn executing_stops(alloc: Global, room: usize) -> bool {
+    let mut tape = Tape::failing_at(alloc, room);
+    failed(execute_three(&mut tape)) && tape.holds(&THREE[..room.min(THREE.len())], 0)
 }
 
 #[test]
 fn the_first_error_stops_the_rest(rt: HostRuntime) {
-    let mut tape = Tape::failing_at(rt.alloc(), 4);
-    expect!(rt; failed(queue!(tape, ON, MoveTo(65535, 0), Print("x"), Show)));
-    expect!(rt; tape.holds(b"\x1b[1;", false));
-    let mut tape = Tape::failing_at(rt.alloc(), 7);
-    expect!(rt; failed(execute!(tape, ON, Show, Hide, Print("x"))));
-    expect!(rt; tape.holds(b"\x1b[?25h\x1b", false));
+    for room in [4, 10, 11] {
+        expect!(rt; queueing_stops(rt.alloc(), room));
+        expect!(rt; executing_stops(rt.alloc(), room));
+    }
 }
 
-#[test]
-fn a_command_is_queued_and_executed_by_name(rt: HostRuntime) -> io::Result<()> {
-    let mut tape = Tape::new(rt.alloc());
+/// Queues and executes one command after the other.
+fn write_by_name(tape: &mut Tape) -> io::Result<()> {
     tape.queue(ON, Show)?.execute(ON, &Hide)?;
-    expect!(rt; tape.holds(b"\x1b[?25h\x1b[?25l", true));
     Ok(())
 }
 
-/// An update that prints: what it answers, and whether its closure was called.
+#[test]
+fn commands_are_written_by_name(rt: HostRuntime) {
+    let mut tape = Tape::new(rt.alloc());
+    expect!(rt; write_by_name(&mut tape).is_ok());
+    expect!(rt; tape.holds(b"\x1b[?25h\x1b[?25l", 1));
+}
+
+/// What an update answers that prints, and whether its closure was called.
 fn update(tape: &mut Tape) -> (io::Result<u8>, bool) {
     let mut called = false;
     let outcome = tape.sync_update(|w| {
@@ -143,96 +107,103 @@ fn update(tape: &mut Tape) -> (io::Result<u8>, bool) {
     (outcome, called)
 }
 
-#[test]
-fn an_update_stands_between_its_brackets(rt: HostRuntime) {
-    let mut tape = Tape::new(rt.alloc());
+/// Whether an update is made between its brackets.
+fn is_made(alloc: Global) -> bool {
+    let mut tape = Tape::new(alloc);
     let (outcome, called) = update(&mut tape);
-    expect!(rt; called && matches!(outcome, Ok(7)));
-    expect!(rt; tape.holds(b"\x1b[?2026hx\x1b[?2026l", true));
+    called && matches!(outcome, Ok(7)) && tape.holds(b"\x1b[?2026hx\x1b[?2026l", 1)
 }
 
-#[test]
-fn an_update_that_cannot_begin_is_not_made(rt: HostRuntime) {
-    let mut tape = Tape::failing_at(rt.alloc(), 0);
+/// Whether an update that fails after so many bytes is told, and whether it was called.
+fn is_told(alloc: Global, room: usize, bytes: &[u8], makes: bool) -> bool {
+    let mut tape = Tape::failing_at(alloc, room);
     let (outcome, called) = update(&mut tape);
-    expect!(rt; !called && failed(outcome));
-    expect!(rt; tape.holds(b"", false));
+    called == makes && failed(outcome) && tape.holds(bytes, 0)
 }
 
 #[test]
-fn an_update_that_cannot_end_is_told(rt: HostRuntime) {
-    let mut tape = Tape::failing_at(rt.alloc(), 9);
-    let (outcome, called) = update(&mut tape);
-    expect!(rt; called && failed(outcome));
-    expect!(rt; tape.holds(b"\x1b[?2026hx", false));
+fn updates_stand_between_their_brackets(rt: HostRuntime) {
+    expect!(rt; is_made(rt.alloc()));
+    expect!(rt; is_told(rt.alloc(), 0, b"", false));
+    expect!(rt; is_told(rt.alloc(), 9, b"\x1b[?2026hx", true));
 }
 
-/// Commands of some kinds.
-fn commands(alloc: Global) -> Result<Vec<AnyCommand>, AllocError> {
-    let text = String::from_str(alloc, "hi")?;
-    let title = SetTitle(text.clone()?);
-    Ok(vec![in alloc;
-        AnyCommand::MoveTo(MoveTo(65535, 0)),
-        AnyCommand::Print(Print(text)),
-        AnyCommand::SetTitle(title),
-        AnyCommand::EnableFocusChange(EnableFocusChange),
-    ]?)
+/// Whether a list is written byte by byte.
+fn list_is_written(alloc: Global, commands: &[AnyCommand]) -> bool {
+    let mut tape = Tape {
+        step: 1,
+        ..Tape::new(alloc)
+    };
+    queue_all(&mut tape, ON, commands).is_ok() && tape.holds(b"\x1b[1;65536H\x1b[?25l", 0)
 }
 
-/// What these commands write.
-const TEXT: &[u8] = b"\x1b[1;65536Hhi\x1b]0;hi\x07\x1b[?1004h";
+/// Whether a list stops at the first fault.
+fn list_stops(alloc: Global, commands: &[AnyCommand]) -> bool {
+    let mut tape = Tape::failing_at(alloc, 4);
+    failed(queue_all(&mut tape, ON, commands)) && tape.holds(b"\x1b[1;", 0)
+}
+
+/// A command so many times.
+fn shows_often(alloc: Global, count: usize) -> Result<Vec<AnyCommand>, AllocError> {
+    let mut commands = Vec::new(alloc);
+    for _ in 0..count {
+        commands.push(AnyCommand::Show(Show))?;
+    }
+    Ok(commands)
+}
 
 #[test]
-fn a_list_is_written_byte_by_byte(rt: HostRuntime) -> io::Result<()> {
-    let commands = commands(rt.alloc())?;
+fn a_long_list_is_written_whole(rt: HostRuntime) -> io::Result<()> {
+    let commands = shows_often(rt.alloc(), 5000)?;
     let mut tape = Tape::new(rt.alloc());
     queue_all(&mut tape, ON, commands.as_slice())?;
-    expect!(rt; tape.holds(TEXT, false));
-    let mut tape = Tape::new(rt.alloc());
-    tape.step = 1;
-    queue_all(&mut tape, ON, commands.as_slice())?;
-    expect!(rt; tape.holds(TEXT, false));
+    expect!(rt; tape.bytes.len() == 5000 * b"\x1b[?25h".len());
     Ok(())
 }
 
 #[test]
-fn a_list_stops_at_the_first_fault(rt: HostRuntime) -> Result<(), AllocError> {
-    let commands = commands(rt.alloc())?;
-    let mut tape = Tape::failing_at(rt.alloc(), 4);
-    expect!(rt; failed(queue_all(&mut tape, ON, commands.as_slice())));
-    expect!(rt; tape.holds(b"\x1b[1;", false));
+fn lists_are_written(rt: HostRuntime) {
+    let commands = [AnyCommand::MoveTo(MoveTo(65535, 0)), AnyCommand::Hide(Hide)];
+    expect!(rt; list_is_written(rt.alloc(), &commands));
+    expect!(rt; list_stops(rt.alloc(), &commands));
+}
+
+/// Whether the clone of a command of any kind is printed so for a programmer.
+fn is_cloned_as(alloc: Global, command: &AnyCommand, want: &str) -> bool {
+    match command.clone() {
+        Ok(other) => is_text(format!(in alloc; "{other:?}"), want),
+        Err(_) => false,
+    }
+}
+
+#[test]
+fn any_command_is_cloned(rt: HostRuntime) -> Result<(), AllocError> {
+    let title = AnyCommand::SetTitle(SetTitle(String::from_str(rt.alloc(), "hi")?));
+    expect!(rt; is_cloned_as(rt.alloc(), &title, "SetTitle(SetTitle(\"hi\"))"));
     Ok(())
 }
 
 #[test]
 fn literal_sequences_have_their_ends(rt: HostRuntime) {
-    expect!(rt; csi!() == "\x1b[");
-    expect!(rt; csi!("?25", "h") == "\x1b[?25h");
-    expect!(rt; osc!("52;c;", "aGk=") == "\x1b]52;c;aGk=\x1b\\");
+    let sequences = [csi!(), csi!("?25", "h"), osc!("52;c;", "aGk=")];
+    expect!(rt; sequences == ["\x1b[", "\x1b[?25h", "\x1b]52;c;aGk=\x1b\\"]);
 }
 
-/// Whether a value is printed so for a programmer.
-fn prints<T: Debug + Drop>(alloc: Global, value: T, want: &str) -> bool {
-    match format!(in alloc; "{value:?}") {
-        Ok(text) => text.as_str() == want,
-        Err(_) => false,
-    }
-}
-
-/// Whether a value is the same as its clone.
-fn is_its_clone<T: Clone + PartialEq + Drop>(value: T) -> bool {
+/// Whether a value is the same as its clone, which is printed so for a programmer.
+fn is_cloned<T: Clone + PartialEq + Debug + Drop>(alloc: Global, value: T, want: &str) -> bool {
     match value.clone() {
-        Ok(other) => value == other,
+        Ok(other) => value == other && is_text(format!(in alloc; "{other:?}"), want),
         Err(_) => false,
     }
 }
 
 #[test]
-fn a_command_is_its_clone(rt: HostRuntime) {
-    expect!(rt; is_its_clone(MoveTo(1, 2)));
-    expect!(rt; is_its_clone(Hide));
-    expect!(rt; is_its_clone(SetCursorStyle::SteadyBar));
-    expect!(rt; is_its_clone(SetTitle("x")));
+fn commands_are_cloned_and_printed(rt: HostRuntime) {
+    expect!(rt; is_cloned(rt.alloc(), MoveTo(1, 2), "MoveTo(1, 2)"));
+    expect!(rt; is_cloned(rt.alloc(), Clear(ClearType::Purge), "Clear(Purge)"));
+    expect!(rt; is_cloned(rt.alloc(), Print("x"), "Print(\"x\")"));
+    let pop = PopKeyboardEnhancementFlags;
+    expect!(rt; is_cloned(rt.alloc(), pop, "PopKeyboardEnhancementFlags"));
 }
 
 #[test]
@@ -241,21 +212,4 @@ fn commands_are_told_apart_by_their_fields(rt: HostRuntime) {
     expect!(rt; SetCursorStyle::SteadyBar != SetCursorStyle::BlinkingBar);
     expect!(rt; Clear(ClearType::All) != Clear(ClearType::CurrentLine));
     expect!(rt; Print('x') != Print('y'));
-}
-
-#[test]
-fn commands_are_printed_by_their_names(rt: HostRuntime) {
-    expect!(rt; prints(rt.alloc(), MoveTo(1, 2), "MoveTo(1, 2)"));
-    expect!(rt; prints(rt.alloc(), Clear(ClearType::Purge), "Clear(Purge)"));
-    expect!(rt; prints(rt.alloc(), PopKeyboardEnhancementFlags, "PopKeyboardEnhancementFlags"));
-    expect!(rt; prints(rt.alloc(), Print("x"), "Print(\"x\")"));
-}
-
-#[test]
-fn any_command_is_cloned_and_printed(rt: HostRuntime) -> Result<(), AllocError> {
-    let commands = commands(rt.alloc())?.clone()?;
-    let want =
-        "[MoveTo(MoveTo(65535, 0)), Print(Print(\"hi\")), SetTitle(SetTitle(\"hi\")), EnableFocusChange(EnableFocusChange)]";
-    expect!(rt; prints(rt.alloc(), commands, want));
-    Ok(())
 }

@@ -1,6 +1,8 @@
-//! Tests of commands, the macros, updates and the clipboard by their public calls.
+//! Tests of commands, colours, attributes, styles, the macros, updates and the clipboard by their public calls, and tables that come from
+//! outside.
 //!
-//! They stand here, in a crate of their own beside the tests of events, since a crate with tests is proved twice.
+//! They stand here, in a crate of their own beside the tests of events, since a crate with tests is proved twice. What a line of
+//! `probe say` can tell of a command, its bytes, stands in the tables of `probe` alone.
 #![tactic(auto)]
 
 /// Fails the test where something doesn't hold, and says what.
@@ -20,7 +22,30 @@ macro_rules! expect {
     };
 }
 
+/// Whether a text was made, and is this one.
+#[cfg(test)]
+fn is_text<E: Drop>(made: Result<std::string::String, E>, want: &str) -> bool {
+    match made {
+        Ok(text) => text.as_str() == want,
+        Err(_) => false,
+    }
+}
+
+#[cfg(test)]
+mod attributes;
 #[cfg(test)]
 mod clipboard;
 #[cfg(test)]
+mod colors;
+#[cfg(test)]
 mod commands;
+#[cfg(test)]
+mod queueing;
+#[cfg(test)]
+mod refused;
+#[cfg(test)]
+mod shown;
+#[cfg(test)]
+mod styles;
+#[cfg(test)]
+mod tape;

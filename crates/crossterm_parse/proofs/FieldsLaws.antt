@@ -1,11 +1,13 @@
 -- The fields of a text that grows byte by byte.
-use Rattle.std.proofs.Common.{◌≡◌, ◌==◌, ℕ, Bool, true, false, cond, List, [], ◌∷◌, ◌++◌, refl, ap, sym, ◌∙◌, subst, Option, option_and_then}
-use Rattle.crossterm_parse.specs.Fields.{push_first, cut, nth, empty_field, parts_at, field_after, fields_at, fields_after, ReadsParts, ReadsField, ReadsFields}
-use Rattle.crossterm_parse.specs.Number.{number, number_after, reading}
+use Rattle.std.proofs.Common.{◌≡◌, ◌==◌, ℕ, Bool, true, false, cond, List, [], ◌∷◌, ◌++◌, refl, ap, sym, ◌∙◌, subst, Option, option_and_then, eqb-true}
+use Rattle.crossterm_parse.specs.Fields.{push_first, cut, nth, empty_field, parts_at, field_after, fields_at, fields_after, whole_at, whole_of, ReadsParts, ReadsField, ReadsFields}
+use Rattle.crossterm_parse.specs.Number.{number, number_after, reading, Tracks}
 use Rattle.crossterm_parse.specs.declared.fields.Field.{Field}
 use Rattle.crossterm_parse.specs.declared.fields.Fields.{Fields}
 use Rattle.crossterm_parse.specs.declared.fields.Part.{Part}
 use Rattle.crossterm_parse.specs.declared.fields.Part.TheVariants as part
+use Rattle.crossterm_parse.specs.declared.number.Number.{Number}
+use Rattle.crossterm_parse.specs.declared.number.Number.TheVariants.{Empty, Plus, Value, Big, Bad}
 use Rattle.crossterm_parse.specs.declared.fields.Place.{Place}
 use Rattle.crossterm_parse.specs.declared.fields.Place.TheVariants as place
 use Rattle.crossterm_parse.proofs.NumberLaws.{tracks_more, tracks_reading}
@@ -50,11 +52,25 @@ cut_more s (c ∷ cs) b = go (c == s) (cut_more s cs b) where
   go true e = ap (λ (parts : List (List ℕ)). [] ∷ parts) e ∙ more_after_part (b == s) b (cut s cs) (cut_not_nil s cs)
   go false e = ap (push_first c) e ∙ more_in_part (b == s) b c (cut s cs) (cut_not_nil s cs)
 
-whole_kept : (p : Part) (f : Field) (b : ℕ) (parts : List (List ℕ)) → ReadsParts (parts_at p f b) parts → ReadsParts (record (parts_at p f b) { whole = number_after f.whole b }) parts
-whole_kept p f b [] r = r
-whole_kept p f b (x ∷ []) r = r
-whole_kept p f b (x ∷ y ∷ []) r = r
-whole_kept p f b (x ∷ y ∷ z ∷ zs) r = r
+-- no number goes on with a `:`
+colon_ends : (n : Number) → number_after n 58 ≡ Bad
+colon_ends Empty = refl
+colon_ends Plus = refl
+colon_ends (Value v) = refl
+colon_ends Big = refl
+colon_ends Bad = refl
+
+-- the field as one number is read on
+whole_more : (p : Part) (n m : Number) (b : ℕ) → whole_of (parts_at p (record { first = n; second = m; part = p }) b) ≡ number_after (whole_at p n) b
+whole_more part.First n m b = go (b == 58) refl where
+  go : (t : Bool) → (b == 58) ≡ t → whole_of (cond t (record { first = n; second = m; part = part.Second }) (record { first = number_after n b; second = m; part = part.First })) ≡ number_after n b
+  go true e = sym (subst (λ (c : ℕ). number_after n c ≡ Bad) (sym (eqb-true b 58 e)) (colon_ends n))
+  go false e = refl
+whole_more part.Second n m b = go (b == 58) where
+  go : (t : Bool) → whole_of (cond t (record { first = n; second = m; part = part.Later }) (record { first = n; second = number_after m b; part = part.Second })) ≡ Bad
+  go true = refl
+  go false = refl
+whole_more part.Later n m b = refl
 
 -- the parts are read on
 parts_more : (f : Field) (parts : List (List ℕ)) (b : ℕ) → ReadsParts f parts → ReadsParts (parts_at f.part f b) (part_more (b == 58) b parts)
@@ -76,8 +92,8 @@ parts_more f (x ∷ y ∷ z ∷ zs) b r = subst (λ (p : Part). ReadsParts (part
 -- a field is read on
 field_more : (f : Field) (text : List ℕ) (b : ℕ) → ReadsField f text → ReadsField (field_after f b) (text ++ b ∷ [])
 field_more f text b r = (
-  tracks_more text f.whole b r.0,
-  whole_kept f.part f b (cut 58 (text ++ b ∷ [])) (subst (ReadsParts (parts_at f.part f b)) (sym (cut_more 58 text b)) (parts_more f (cut 58 text) b r.1)),
+  subst (Tracks (text ++ b ∷ [])) (sym (whole_more f.part f.first f.second b)) (tracks_more text (whole_of f) b r.0),
+  subst (ReadsParts (parts_at f.part f b)) (sym (cut_more 58 text b)) (parts_more f (cut 58 text) b r.1),
 )
 
 pub empty_reads : ReadsField empty_field []
@@ -134,8 +150,8 @@ in_parts k j fields = option_and_then (λ field. option_and_then number (nth j (
 
 -- what three fields tell is what stands in the text
 pub record Numbers (f : Fields) (fields : List (List ℕ)) : Type 0 where
-  pub first : reading f.first.whole ≡ in_fields 0 fields
-  pub second : reading f.second.whole ≡ in_fields 1 fields
+  pub first : reading (whole_of f.first) ≡ in_fields 0 fields
+  pub second : reading (whole_of f.second) ≡ in_fields 1 fields
   pub third : reading f.third ≡ in_fields 2 fields
   pub code : reading f.first.first ≡ in_parts 0 0 fields
   pub alternate : reading f.first.second ≡ in_parts 0 1 fields
@@ -146,7 +162,7 @@ pub record Numbers (f : Fields) (fields : List (List ℕ)) : Type 0 where
 pub numbers_of : (f : Fields) (fields : List (List ℕ)) → ReadsFields f fields → Numbers f fields
 numbers_of f [] r = absurd r
 numbers_of f (x ∷ []) r = record {
-  first = tracks_reading x f.first.whole r.1.0;
+  first = tracks_reading x (whole_of f.first) r.1.0;
   second = rw r.2 refl;
   third = rw r.3 refl;
   code = first_part f.first (cut 58 x) r.1.1;
@@ -155,8 +171,8 @@ numbers_of f (x ∷ []) r = record {
   kind = rw r.2 refl;
 }
 numbers_of f (x ∷ y ∷ []) r = record {
-  first = tracks_reading x f.first.whole r.1.0;
-  second = tracks_reading y f.second.whole r.2.0;
+  first = tracks_reading x (whole_of f.first) r.1.0;
+  second = tracks_reading y (whole_of f.second) r.2.0;
   third = rw r.3 refl;
   code = first_part f.first (cut 58 x) r.1.1;
   alternate = second_part f.first (cut 58 x) r.1.1;
@@ -164,8 +180,8 @@ numbers_of f (x ∷ y ∷ []) r = record {
   kind = second_part f.second (cut 58 y) r.2.1;
 }
 numbers_of f (x ∷ y ∷ z ∷ []) r = record {
-  first = tracks_reading x f.first.whole r.1.0;
-  second = tracks_reading y f.second.whole r.2.0;
+  first = tracks_reading x (whole_of f.first) r.1.0;
+  second = tracks_reading y (whole_of f.second) r.2.0;
   third = tracks_reading z f.third r.3;
   code = first_part f.first (cut 58 x) r.1.1;
   alternate = second_part f.first (cut 58 x) r.1.1;
@@ -173,8 +189,8 @@ numbers_of f (x ∷ y ∷ z ∷ []) r = record {
   kind = second_part f.second (cut 58 y) r.2.1;
 }
 numbers_of f (x ∷ y ∷ z ∷ w ∷ ws) r = record {
-  first = tracks_reading x f.first.whole r.1.0;
-  second = tracks_reading y f.second.whole r.2.0;
+  first = tracks_reading x (whole_of f.first) r.1.0;
+  second = tracks_reading y (whole_of f.second) r.2.0;
   third = tracks_reading z f.third r.3;
   code = first_part f.first (cut 58 x) r.1.1;
   alternate = second_part f.first (cut 58 x) r.1.1;

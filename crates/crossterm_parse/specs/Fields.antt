@@ -7,7 +7,8 @@ use Rattle.crossterm_parse.specs.declared.fields.Part.TheVariants as part
 use Rattle.crossterm_parse.specs.declared.fields.Fields.{Fields}
 use Rattle.crossterm_parse.specs.declared.fields.Place.{Place}
 use Rattle.crossterm_parse.specs.declared.fields.Place.TheVariants as place
-use Rattle.crossterm_parse.specs.declared.number.Number.TheVariants.{Empty}
+use Rattle.crossterm_parse.specs.declared.number.Number.{Number}
+use Rattle.crossterm_parse.specs.declared.number.Number.TheVariants.{Empty, Bad}
 
 -- The text cut at a separator: fields at `;`, and parts of a field at `:`.
 abbrev pub push_first : ℕ → List (List ℕ) → List (List ℕ)
@@ -32,7 +33,7 @@ part_number k j text = option_and_then (λ field. option_and_then number (nth j 
 
 -- a field before its first byte
 abbrev pub empty_field : Field
-empty_field = record { whole = Empty; first = Empty; second = Empty; part = part.First }
+empty_field = record { first = Empty; second = Empty; part = part.First }
 
 abbrev pub empty_fields : Fields
 empty_fields = record { first = empty_field; second = empty_field; third = Empty; place = place.First }
@@ -44,7 +45,16 @@ parts_at part.Second f b = if b == 58 then record f { part = part.Later } else r
 parts_at part.Later f b = f
 
 abbrev pub field_after : Field → ℕ → Field
-field_after f b = record (parts_at f.part f b) { whole = number_after f.whole b }
+field_after f b = parts_at f.part f b
+
+-- the field as one number: that of its first part, and none where it has more
+abbrev pub whole_at : Part → Number → Number
+whole_at part.First n = n
+whole_at part.Second n = Bad
+whole_at part.Later n = Bad
+
+abbrev pub whole_of : Field → Number
+whole_of f = whole_at f.part f.first
 
 -- one more byte of the text
 abbrev pub fields_at : Place → Fields → ℕ → Fields
@@ -65,7 +75,7 @@ ReadsParts f (x ∷ y ∷ z ∷ zs) = (f.part ≡ part.Later) × Tracks x f.firs
 
 -- A field tells of its text: the number that it is, and those of its first two parts.
 abbrev pub ReadsField : Field → List ℕ → Type 0
-ReadsField f text = Tracks text f.whole × ReadsParts f (cut 58 text)
+ReadsField f text = Tracks text (whole_of f) × ReadsParts f (cut 58 text)
 
 -- The fields tell of the first three fields of a text.
 abbrev pub ReadsFields : Fields → List (List ℕ) → Type 0

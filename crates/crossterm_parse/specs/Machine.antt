@@ -7,7 +7,7 @@ use Rattle.crossterm_types.specs.Seen.{Seen}
 use Rattle.crossterm_types.specs.declared.event.key.KeyCode.TheVariants.{Esc}
 use Rattle.crossterm_parse.specs.Characters.{begun_bytes}
 use Rattle.crossterm_parse.specs.Deciding.{is_decided, begins, ends_paste, is_digit, is_final, is_mouse_end, is_lead, is_continuing, further_after}
-use Rattle.crossterm_parse.specs.Fields.{cut, empty_fields, fields_after, ReadsFields}
+use Rattle.crossterm_parse.specs.Fields.{cut, empty_fields, fields_after, whole_of, ReadsFields}
 use Rattle.crossterm_parse.specs.Grammar.{IsLead, IsContinuing, IsDigit, IsFinal, EndsNoMouse, HasNoEnd, paste_mark, paste_start}
 use Rattle.crossterm_parse.specs.Meaning.{pressed_with, single, with_alt, after_ss3, after_csi, after_bracket, flags_reply, decoded_character, meaning, seen_meaning, pasted}
 use Rattle.crossterm_parse.specs.Number.{reading}
@@ -61,8 +61,8 @@ is_sound Broken = false
 -- what was read of it
 abbrev pub readings_at : Digits → Readings
 readings_at d = record {
-  first = reading d.fields.first.whole;
-  second = reading d.fields.second.whole;
+  first = reading (whole_of d.fields.first);
+  second = reading (whole_of d.fields.second);
   third = reading d.fields.third;
   code = reading d.fields.first.first;
   alternate = reading d.fields.first.second;

@@ -1,10 +1,12 @@
 //! A character in UTF-8 that is open.
-ghost use Rattle.std.specs.Prelude.{◌≡◌};
+ghost use Rattle.std.specs.Prelude.{◌≡◌, ◌∷◌, [], ◌++◌, IsTrue, IsFalse};
 ghost use Rattle.bstr.specs.Utf8.{decoded};
+ghost use Rattle.crossterm_parse.specs.Characters.{begun_bytes};
 ghost use Rattle.crossterm_parse.specs.Deciding.{is_lead, is_continuing, further_after};
 ghost use Rattle.crossterm_parse.specs.Machine.{grown, over};
 
 use crate::meaning::{Meaning, meaning_of_character, plus_alt};
+use bstr::decode_utf8;
 
 /// The bytes of a character so far.
 #[derive(Clone, Copy)]
@@ -54,6 +56,19 @@ pub fn further_bytes(lead: u8) -> u8
     }
 }
 
+impl Begun {
+    /// The character of the bytes with one more.
+    pub fn character_with(self, byte: u8) -> Option<char>
+        ensures { result ≡ (decoded (begun_bytes self ++ byte ∷ [])).char }
+    {
+        match self {
+            Begun::One(lead) => decode_utf8(&[lead, byte]).0,
+            Begun::Two(lead, second) => decode_utf8(&[lead, second, byte]).0,
+            Begun::Three(lead, second, third) => decode_utf8(&[lead, second, third, byte]).0,
+        }
+    }
+}
+
 impl Character {
     fn over(self, bytes: &[u8]) -> Grown
         ensures { result ≡ over self.escaped (decoded bytes.now).char }
@@ -86,6 +101,42 @@ impl Character {
                 }
             }
             Begun::Three(lead, second, third) => self.over(&[lead, second, third, byte]),
+        }
+    }
+
+    /// Whether the character is over with one more byte.
+    pub fn ends(&self, byte: u8) -> bool
+        ensures { IsTrue result → grown self.now.escaped self.now.begun byte ≡ over self.now.escaped (decoded (begun_bytes self.now.begun ++ byte ∷ [])).char }
+    {
+        if !is_continuing_byte(byte) {
+            return true;
+        }
+        match self.begun {
+            Begun::One(lead) => further_bytes(lead) == 0,
+            Begun::Two(lead, _) => further_bytes(lead) <= 1,
+            Begun::Three(_, _, _) => true,
+        }
+    }
+
+    /// Reads a byte in place, where the character goes on with it, and tells whether it did.
+    pub fn goes_on(&mut self, byte: u8) -> bool
+        ensures yes { IsTrue result → grown self.old.escaped self.old.begun byte ≡ Grown.More self.new.begun }
+        ensures escaped { self.new.escaped ≡ self.old.escaped }
+        ensures no { IsFalse result → self.new ≡ self.old }
+    {
+        if !is_continuing_byte(byte) {
+            return false;
+        }
+        match self.begun {
+            Begun::One(lead) if further_bytes(lead) > 0 => {
+                self.begun = Begun::Two(lead, byte);
+                true
+            }
+            Begun::Two(lead, second) if further_bytes(lead) > 1 => {
+                self.begun = Begun::Three(lead, second, byte);
+                true
+            }
+            _ => false,
         }
     }
 }

@@ -1,15 +1,13 @@
 //! The first three fields of a sequence that is open, as numbers.
 ghost use Rattle.std.specs.Prelude.{◌≡◌};
-ghost use Rattle.crossterm_parse.specs.Fields.{empty_field, empty_fields, field_after, fields_after};
+ghost use Rattle.crossterm_parse.specs.Fields.{empty_field, empty_fields, field_after, fields_after, whole_of};
 ghost use Rattle.crossterm_parse.specs.Number.{number_after};
 
 use crate::number::Number;
 
-/// A field of which the number and those of its first two parts are read. Parts are cut at `:`.
+/// A field of which the numbers of its first two parts are read. Parts are cut at `:`.
 #[derive(Clone, Copy)]
 pub struct Field {
-    /// The field as one number.
-    pub whole: Number,
     /// Its first part.
     pub first: Number,
     /// Its second part.
@@ -48,23 +46,36 @@ impl Field {
         ensures { result ≡ empty_field }
     {
         Field {
-            whole: Number::Empty,
             first: Number::Empty,
             second: Number::Empty,
             part: Part::First,
         }
     }
 
+    /// The field as one number: none where it has a second part, for no number has a `:`.
+    pub fn whole(&self) -> Number
+        ensures { result ≡ whole_of self.now }
+    {
+        match self.part {
+            Part::First => self.first,
+            Part::Second | Part::Later => Number::Bad,
+        }
+    }
+
+    #[inline(always)]
     fn read(&mut self, byte: u8)
         ensures { self.new ≡ field_after self.old byte }
     {
-        self.whole = self.whole.put(byte);
-        match (self.part, byte) {
-            (Part::First, b':') => self.part = Part::Second,
-            (Part::Second, b':') => self.part = Part::Later,
-            (Part::First, _) => self.first = self.first.put(byte),
-            (Part::Second, _) => self.second = self.second.put(byte),
-            (Part::Later, _) => {}
+        if byte == b':' {
+            match self.part {
+                Part::First => self.part = Part::Second,
+                Part::Second => self.part = Part::Later,
+                Part::Later => {}
+            }
+        } else if matches!(self.part, Part::First) {
+            self.first.read(byte);
+        } else if matches!(self.part, Part::Second) {
+            self.second.read(byte);
         }
     }
 }
@@ -83,17 +94,23 @@ impl Fields {
     }
 
     /// Reads one more byte.
+    #[inline(always)]
     pub fn read(&mut self, byte: u8)
         ensures { self.new ≡ fields_after self.old byte }
     {
-        match (self.place, byte) {
-            (Place::First, b';') => self.place = Place::Second,
-            (Place::Second, b';') => self.place = Place::Third,
-            (Place::Third, b';') => self.place = Place::Later,
-            (Place::First, _) => self.first.read(byte),
-            (Place::Second, _) => self.second.read(byte),
-            (Place::Third, _) => self.third = self.third.put(byte),
-            (Place::Later, _) => {}
+        if byte == b';' {
+            match self.place {
+                Place::First => self.place = Place::Second,
+                Place::Second => self.place = Place::Third,
+                Place::Third => self.place = Place::Later,
+                Place::Later => {}
+            }
+        } else if matches!(self.place, Place::First) {
+            self.first.read(byte);
+        } else if matches!(self.place, Place::Second) {
+            self.second.read(byte);
+        } else if matches!(self.place, Place::Third) {
+            self.third.read(byte);
         }
     }
 }

@@ -61,16 +61,23 @@ pub fn pressed_alone(code: KeyCode) -> Meaning
     pressed_key(code, KeyModifiers::NONE)
 }
 
-/// A character that was typed: with SHIFT where it is upper case.
-fn typed_character(c: char) -> Meaning
-    ensures { result ≡ typed c }
+/// The key of a character that was typed: with SHIFT where it is upper case.
+pub fn typed_key(c: char) -> KeyEvent
+    ensures { Meaning.Key result ≡ typed c }
 {
     let modifiers = if is_uppercase(c) {
         KeyModifiers::SHIFT
     } else {
         KeyModifiers::NONE
     };
-    pressed_key(KeyCode::Char(c), modifiers)
+    KeyEvent::new(KeyCode::Char(c), modifiers)
+}
+
+/// A character that was typed.
+fn typed_character(c: char) -> Meaning
+    ensures { result ≡ typed c }
+{
+    Meaning::Key(typed_key(c))
 }
 
 /// Whether the byte is one of `A` to `Z`.
@@ -80,17 +87,25 @@ fn is_capital(byte: u8) -> bool
     matches!(byte, b'A'..=b'Z')
 }
 
-/// What a byte from space to tilde means by itself.
-pub fn meaning_of_letter(byte: u8) -> Meaning
+/// The key of a byte from space to tilde.
+pub fn letter_key(byte: u8) -> KeyEvent
     requires { (32 ≤ byte) × (byte < 127) }
-    ensures { result ≡ typed byte }
+    ensures { Meaning.Key result ≡ typed byte }
 {
     let modifiers = if is_capital(byte) {
         KeyModifiers::SHIFT
     } else {
         KeyModifiers::NONE
     };
-    pressed_key(KeyCode::Char(byte as char), modifiers)
+    KeyEvent::new(KeyCode::Char(byte as char), modifiers)
+}
+
+/// What a byte from space to tilde means by itself.
+pub fn meaning_of_letter(byte: u8) -> Meaning
+    requires { (32 ≤ byte) × (byte < 127) }
+    ensures { result ≡ typed byte }
+{
+    Meaning::Key(letter_key(byte))
 }
 
 /// What a byte means by itself.

@@ -36,6 +36,28 @@ impl Number {
         }
     }
 
+    /// Reads one more byte. Where the value only grows, nothing but it is written.
+    #[inline(always)]
+    pub fn read(&mut self, byte: u8)
+        ensures { self.new ≡ number_after self.old byte }
+    {
+        if let Number::Value(value) = self
+            && matches!(byte, b'0'..=b'9')
+            && *value < 429_496_729
+        {
+            *value = *value * 10 + u32::from(byte - b'0');
+        } else {
+            self.change(byte);
+        }
+    }
+
+    #[inline(never)]
+    fn change(&mut self, byte: u8)
+        ensures { self.new ≡ number_after self.old byte }
+    {
+        *self = self.put(byte);
+    }
+
     /// The number, where it is one.
     pub fn value(self) -> Option<u32>
         ensures { result ≡ reading self }

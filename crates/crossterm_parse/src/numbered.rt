@@ -146,16 +146,25 @@ impl Digits {
     }
 
     /// Reads a byte that doesn't end the sequence.
+    #[inline(always)]
     pub fn read(&mut self, byte: u8)
         ensures { self.new ≡ digits_after self.old byte }
     {
         self.fields.read(byte);
         self.last = byte;
-        self.validity = self.validity.put(byte);
+        self.validity.read(byte);
     }
 
-    fn held(self) -> Option<Held>
-        ensures { result ≡ held_of (readings_at self) }
+    /// Reads the first digit in place.
+    #[inline(never)]
+    pub fn begin(&mut self, digit: u8)
+        ensures { self.new ≡ digits_after self.old digit }
+    {
+        self.read(digit);
+    }
+
+    fn held(&self) -> Option<Held>
+        ensures { result ≡ held_of (readings_at self.now) }
     {
         Held::read(
             self.fields.second.first.byte(),
@@ -163,8 +172,8 @@ impl Digits {
         )
     }
 
-    fn held_or_nothing(self) -> Held
-        ensures { result ≡ or_nothing_held (held_of (readings_at self)) }
+    fn held_or_nothing(&self) -> Held
+        ensures { result ≡ or_nothing_held (held_of (readings_at self.now)) }
     {
         match self.held() {
             Some(held) => held,
@@ -172,15 +181,15 @@ impl Digits {
         }
     }
 
-    fn tilde(self) -> Option<Meaning>
-        ensures { result ≡ tilde_meaning (readings_at self) }
+    fn tilde(&self) -> Option<Meaning>
+        ensures { result ≡ tilde_meaning (readings_at self.now) }
     {
-        let code = tilde_key(self.fields.first.whole.byte()?)?;
+        let code = tilde_key(self.fields.first.whole().byte()?)?;
         Some(held_key(code, self.held_or_nothing()))
     }
 
-    fn code_point(self, raw: bool) -> Option<Meaning>
-        ensures { result ≡ code_meaning raw (readings_at self) }
+    fn code_point(&self, raw: bool) -> Option<Meaning>
+        ensures { result ≡ code_meaning raw (readings_at self.now) }
     {
         let held = self.held_or_nothing();
         let shift = held.modifiers.contains(KeyModifiers::SHIFT);
@@ -188,25 +197,25 @@ impl Digits {
         Some(pointed_key(held, self.fields.first.second.value(), key))
     }
 
-    fn cursor(self) -> Option<Meaning>
-        ensures { result ≡ cursor_meaning (readings_at self) }
+    fn cursor(&self) -> Option<Meaning>
+        ensures { result ≡ cursor_meaning (readings_at self.now) }
     {
-        let row = coordinate_of(self.fields.first.whole)?;
-        let column = coordinate_of(self.fields.second.whole)?;
+        let row = coordinate_of(self.fields.first.whole())?;
+        let column = coordinate_of(self.fields.second.whole())?;
         Some(Meaning::CursorPosition(column, row))
     }
 
-    fn mouse(self, code: Option<u8>) -> Option<MouseEvent>
-        ensures { result ≡ mouse_report code (coordinate (readings_at self).second) (coordinate (readings_at self).third) }
+    fn mouse(&self, code: Option<u8>) -> Option<MouseEvent>
+        ensures { result ≡ mouse_report code (coordinate (readings_at self.now).second) (coordinate (readings_at self.now).third) }
     {
-        let column = coordinate_of(self.fields.second.whole);
+        let column = coordinate_of(self.fields.second.whole());
         report(code, column, coordinate_of(self.fields.third))
     }
 
-    fn rxvt(self) -> Option<Meaning>
-        ensures { result ≡ rxvt_meaning (readings_at self) }
+    fn rxvt(&self) -> Option<Meaning>
+        ensures { result ≡ rxvt_meaning (readings_at self.now) }
     {
-        let code = match self.fields.first.whole.byte() {
+        let code = match self.fields.first.whole().byte() {
             Some(code) => byte_less(32, code),
             None => None,
         };
@@ -218,20 +227,20 @@ impl Digits {
 
     /// What a report of the mouse after `ESC [ <` means with this final byte.
     #[inline(never)]
-    pub fn sgr(self, last: u8) -> Option<Meaning>
-        ensures { result ≡ sgr_by last (readings_at self) }
+    pub fn sgr(&self, last: u8) -> Option<Meaning>
+        ensures { result ≡ sgr_by last (readings_at self.now) }
     {
         if !matches!(self.validity, Validity::Sound) {
             return None;
         }
-        match self.mouse(self.fields.first.whole.byte()) {
+        match self.mouse(self.fields.first.whole().byte()) {
             Some(event) => Some(Meaning::Mouse(ended_by(last, event))),
             None => None,
         }
     }
 
-    fn letter(self, last: u8) -> Option<Meaning>
-        ensures { result ≡ letter_meaning last (readings_at self) }
+    fn letter(&self, last: u8) -> Option<Meaning>
+        ensures { result ≡ letter_meaning last (readings_at self.now) }
     {
         let code = letter_key(last)?;
         let held = match self.held() {
@@ -249,8 +258,8 @@ impl Digits {
 
     /// What the sequence means with this final byte.
     #[inline(never)]
-    pub fn meaning(self, last: u8, raw: bool) -> Option<Meaning>
-        ensures { result ≡ numbered_by raw last (readings_at self) }
+    pub fn meaning(&self, last: u8, raw: bool) -> Option<Meaning>
+        ensures { result ≡ numbered_by raw last (readings_at self.now) }
     {
         if !matches!(self.validity, Validity::Sound) {
             return None;

@@ -9,11 +9,11 @@ ghost use Rattle.std.specs.VecDeque.{deque_len, deque_capacity};
 ghost use Rattle.std.specs.declared.io.ErrorKind.TheVariants.{OutOfMemory};
 ghost use Rattle.crossterm_types.specs.Seen.{seen};
 ghost use Rattle.crossterm_parse.specs.Machine.{text_of, state_after, state_left, text_left, events_left, is_paste};
-ghost use Rattle.crossterm_parse.specs.Meaning.{seen_meaning, pasted};
+ghost use Rattle.crossterm_parse.specs.Meaning.{decoded_character, seen_meaning, pasted, typed};
 ghost use Rattle.crossterm_parse.specs.Marked.{Marked, marked};
 ghost use Rattle.crossterm_parse.specs.Standing.{Standing, Stands, StandsStill, AdvancesOver, EndsNoEvent, OpensNoPaste, TakesSteps};
 
-use crate::meaning::{Meaning, meaning_of_letter};
+use crate::meaning::{Meaning, letter_key, typed_key};
 use crate::paste::{Met, PasteText};
 use crate::state::{State, Step};
 use crate::steps::Steps;
@@ -108,11 +108,94 @@ impl<A: Allocator + Clone> Parser<A> {
         ensures reserved { 0 < self.old.room → IsOk result }
         ensures room { self.old.room ≤ self.new.room + 1 }
     {
-        if let Some(meaning) = meaning {
+        match meaning {
+            Some(Meaning::Key(key)) => {
+                self.waiting.reserve(1)?;
+                self.waiting
+                    .push_back_reserved(InternalEvent::Event(Event::Key(key)));
+            }
+            Some(Meaning::Mouse(mouse)) => {
+                self.waiting.reserve(1)?;
+                self.waiting
+                    .push_back_reserved(InternalEvent::Event(Event::Mouse(mouse)));
+            }
+            Some(meaning) => {
+                self.waiting.reserve(1)?;
+                self.waiting
+                    .push_back_reserved(InternalEvent::from(meaning));
+            }
+            None => {}
+        }
+        Ok(())
+    }
+
+    /// Gives the event of a whole sequence.
+    fn finish<L: Ledger>(
+        &mut self,
+        meaning: Option<Meaning>,
+        steps: &mut Steps<L>,
+    ) -> Result<(), AllocError>
+        ensures state { OnOk result (self.new.state ≡ State.Ground) }
+        ensures text { self.new.text ≡ self.old.text }
+        ensures waiting { OnOk result (self.new.waiting ≡ self.old.waiting ++ option_to_list (option_map seen_meaning meaning)) }
+        ensures err { OnErr result ((self.new.waiting ≡ self.old.waiting) × (self.new.state ≡ self.old.state) × (self.old.room ≤ self.new.room)) }
+        ensures free { option_map seen_meaning meaning ≡ None → IsOk result }
+        ensures reserved { 0 < self.old.room → IsOk result }
+        ensures room { self.old.room ≤ self.new.room + 1 }
+        ensures steps { steps.new ≡ steps.old + 1 }
+    {
+        steps.count(1);
+        self.give(meaning)?;
+        self.state = State::Ground;
+        Ok(())
+    }
+
+    /// Gives the event of a character that was typed, where the bytes are one.
+    fn give_character(&mut self, c: Option<char>) -> Result<(), AllocError>
+        ensures state { self.new.state ≡ self.old.state }
+        ensures text { self.new.text ≡ self.old.text }
+        ensures waiting { OnOk result (self.new.waiting ≡ self.old.waiting ++ option_to_list (option_map seen_meaning (decoded_character c))) }
+        ensures err { OnErr result ((self.new.waiting ≡ self.old.waiting) × (self.old.room ≤ self.new.room)) }
+        ensures free { option_map seen_meaning (decoded_character c) ≡ None → IsOk result }
+        ensures reserved { 0 < self.old.room → IsOk result }
+        ensures room { self.old.room ≤ self.new.room + 1 }
+    {
+        if let Some(c) = c {
             self.waiting.reserve(1)?;
             self.waiting
-                .push_back_reserved(InternalEvent::from(meaning));
+                .push_back_reserved(InternalEvent::Event(Event::Key(typed_key(c))));
         }
+        Ok(())
+    }
+
+    /// Gives the event of a byte from space to tilde.
+    fn give_letter(&mut self, byte: u8) -> Result<(), AllocError>
+        requires { (32 ≤ byte) × (byte < 127) }
+        ensures state { self.new.state ≡ self.old.state }
+        ensures text { self.new.text ≡ self.old.text }
+        ensures waiting { OnOk result (self.new.waiting ≡ self.old.waiting ++ seen_meaning (typed byte) ∷ []) }
+        ensures err { OnErr result ((self.new.waiting ≡ self.old.waiting) × (self.old.room ≤ self.new.room)) }
+        ensures reserved { 0 < self.old.room → IsOk result }
+        ensures room { self.old.room ≤ self.new.room + 1 }
+    {
+        self.waiting.reserve(1)?;
+        self.waiting
+            .push_back_reserved(InternalEvent::Event(Event::Key(letter_key(byte))));
+        Ok(())
+    }
+
+    /// Begins the text of the open paste with a byte.
+    #[inline(never)]
+    fn keep_first(&mut self, byte: u8) -> Result<(), AllocError>
+        ensures state { self.new.state ≡ self.old.state }
+        ensures waiting { self.new.waiting ≡ self.old.waiting }
+        ensures room { self.new.room ≡ self.old.room }
+        ensures ok { OnOk result (self.new.text ≡ byte ∷ []) }
+        ensures err { OnErr result (self.new.text ≡ self.old.text) }
+    {
+        let mut text = PasteText::new(self.waiting.allocator().clone()?);
+        text.push(byte)?;
+        self.paste = Some(text);
         Ok(())
     }
 
@@ -124,13 +207,10 @@ impl<A: Allocator + Clone> Parser<A> {
         ensures ok { OnOk result (self.new.text ≡ self.old.text ++ byte ∷ []) }
         ensures err { OnErr result (self.new.text ≡ self.old.text) }
     {
-        if let Some(text) = &mut self.paste {
-            return text.push(byte);
+        match &mut self.paste {
+            Some(text) => text.push(byte),
+            None => self.keep_first(byte),
         }
-        let mut text = PasteText::new(self.waiting.allocator().clone()?);
-        text.push(byte)?;
-        self.paste = Some(text);
-        Ok(())
     }
 
     /// The paste goes on with a byte, or is opened by it.
@@ -183,6 +263,7 @@ impl<A: Allocator + Clone> Parser<A> {
     }
 
     /// Puts a byte into the state, and gives the event that it ends.
+    #[inline(never)]
     fn step<L: Ledger>(
         &mut self,
         byte: u8,
@@ -211,6 +292,40 @@ impl<A: Allocator + Clone> Parser<A> {
         Ok(())
     }
 
+    /// Puts a byte into the state that mostly ends a sequence, and gives its event.
+    #[inline(never)]
+    fn end<L: Ledger>(
+        &mut self,
+        byte: u8,
+        raw: bool,
+        pause: bool,
+        steps: &mut Steps<L>,
+    ) -> Result<(), AllocError>
+        ensures state { OnOk result (self.new.state ≡ state_left (state_after self.old.state byte raw pause)) }
+        ensures text { OnOk result (self.new.text ≡ text_left (state_after self.old.state byte raw pause) self.old.state self.old.text byte) }
+        ensures waiting { OnOk result (self.new.waiting ≡ self.old.waiting ++ events_left (state_after self.old.state byte raw pause) self.old.text) }
+        ensures err { OnErr result ((self.new.waiting ≡ self.old.waiting) × (self.new.state ≡ self.old.state) × (self.new.text ≡ self.old.text) × (self.old.room ≤ self.new.room)) }
+        ensures free { is_paste self.old.state ≡ false → events_left (state_after self.old.state byte raw pause) self.old.text ≡ [] → IsOk result }
+        ensures reserved { is_paste self.old.state ≡ false → 0 < self.old.room → IsOk result }
+        ensures room { self.old.room ≤ self.new.room + 1 }
+        ensures steps { OnOk result (steps.new + length self.new.text ≤ steps.old + length self.old.text + 2) }
+    {
+        if let State::Utf8(character) = &self.state
+            && !character.escaped
+            && character.ends(byte)
+        {
+            let c = character.begun.character_with(byte);
+            steps.count(1);
+            self.give_character(c)?;
+            self.state = State::Ground;
+            return Ok(());
+        }
+        match self.state.ended(byte, raw) {
+            Some(meaning) => self.finish(meaning, steps),
+            None => self.step(byte, raw, pause, steps),
+        }
+    }
+
     fn put<L: Ledger>(
         &mut self,
         byte: u8,
@@ -230,12 +345,17 @@ impl<A: Allocator + Clone> Parser<A> {
         // Most bytes of a terminal are letters.
         if matches!(self.state, State::Ground) && matches!(byte, 32..=126) {
             steps.count(1);
-            return self.give(Some(meaning_of_letter(byte)));
+            return self.give_letter(byte);
         }
-        if self.state.goes_on(byte, steps) {
+        if self.state.goes_on(byte, pause, steps) {
             return Ok(());
         }
-        self.step(byte, raw, pause, steps)
+        // So are those of a paste, and most of them begin no end of it.
+        if matches!(self.state, State::Paste(Met::Nothing)) && byte != 27 {
+            steps.count(1);
+            return self.keep(byte);
+        }
+        self.end(byte, raw, pause, steps)
     }
 
     /// Takes the bytes of a piece, and tells how many: fewer than the piece has only where memory was refused, and then the others are handed in again later.

@@ -38,6 +38,7 @@ impl Opening {
     }
 
     /// With one more byte.
+    #[inline(never)]
     pub(crate) fn put(self, byte: u8) -> Opening
         ensures { result ≡ opens_after self byte }
     {
@@ -120,7 +121,8 @@ impl<A: Allocator + Clone> PasteText<A> {
         ensures ok { OnOk result (self.new ≡ self.old ++ byte ∷ []) }
         ensures err { OnErr result (self.new ≡ self.old) }
     {
-        self.bytes.push(byte)?;
+        self.bytes.reserve(1)?;
+        self.bytes.push_reserved(byte);
         Ok(())
     }
 

@@ -84,4 +84,20 @@ impl Validity {
             Validity::Broken => Validity::Broken,
         }
     }
+
+    /// Reads one more byte. Where the bytes stay sound, nothing is written.
+    pub fn read(&mut self, byte: u8)
+        ensures { self.new ≡ utf8_after self.old byte }
+    {
+        if !matches!(self, Validity::Sound) || byte >= 0x80 {
+            self.change(byte);
+        }
+    }
+
+    #[inline(never)]
+    fn change(&mut self, byte: u8)
+        ensures { self.new ≡ utf8_after self.old byte }
+    {
+        *self = self.put(byte);
+    }
 }

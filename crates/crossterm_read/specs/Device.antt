@@ -1,8 +1,10 @@
 -- What a device tells.
-use Rattle.std.specs.Prelude.{◌≤◌, ◌==◌, ℕ, Bool, List, length, take, Result, Ok, Err}
+use Rattle.std.specs.Prelude.{◌≡◌, ◌≤◌, ◌==◌, ℕ, Bool, List, length, take, Option, Result, Ok, Err, IsSomeAnd}
+use Rattle.std.specs.Duration.{as_nanos}
 use Rattle.std.specs.IoError.{error_kind}
 use Rattle.std.specs.declared.io.Error.{Error}
 use Rattle.std.specs.declared.io.ErrorKind.{ErrorKind}
+use Rattle.std.specs.declared.time.Duration.{Duration}
 use Rattle.crossterm_parse.specs.declared.marked.Marked.{Marked}
 use Rattle.crossterm_parse.specs.Marked.{marked}
 use Rattle.crossterm_read.specs.declared.source.device.Answer.{Answer}
@@ -23,6 +25,10 @@ word_of (Ok (answer.Resize columns rows)) buffer = Resized columns rows
 word_of (Ok answer.Woken) buffer = Woken
 word_of (Ok answer.Idle) buffer = Idle
 word_of (Err e) buffer = Fault (error_kind e)
+
+-- The limit is zero, so that a device answers without waiting.
+abbrev pub IsAtOnce : Option Duration → Type 0
+IsAtOnce limit = IsSomeAnd limit (λ d. as_nanos d ≡ 0)
 
 -- As many bytes as the buffer holds, at most.
 abbrev pub CountWithin : Answer → ℕ → Type 0

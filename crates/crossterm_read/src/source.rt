@@ -1,11 +1,13 @@
 //! Where events come from.
-ghost use Rattle.std.specs.Prelude.{◌≡◌, ◌⊎◌, ◌-◌, ◌==◌, ◌≤◌, ◌<◌, ℕ, List, [], ◌∷◌, ◌++◌, take, drop, IfErr};
+ghost use Rattle.std.specs.Prelude.{◌≡◌, ◌⊎◌, ◌-◌, ◌==◌, ◌≤◌, ◌<◌, ℕ, List, [], ◌∷◌, ◌++◌, take, drop, IfOk, IfErr, ⊤};
 ghost use Rattle.std.specs.IoError.{error_kind};
 ghost use Rattle.std.specs.declared.io.ErrorKind.TheVariants.{OutOfMemory};
 ghost use Rattle.crossterm_parse.specs.Marked.{marked};
 ghost use Rattle.crossterm_parse.specs.Standing.{Stands};
 ghost use Rattle.crossterm_read.specs.Answers.{SourceAnswer, answer_of, IsOwn};
+ghost use Rattle.crossterm_read.specs.Device.{IsAtOnce};
 ghost use Rattle.crossterm_read.specs.Turns.{Source, SourceDrawn, source_none, source_on, Hands};
+ghost use Rattle.crossterm_read.specs.declared.source.waker.Waker.{Waker};
 
 mod device;
 mod script;
@@ -29,6 +31,12 @@ pub trait EventSource<A: Allocator>: Drop {
     /// How often the device failed.
     ghost failed: { Self → ℕ };
 
+    /// How often the device was asked to wait, with a limit above zero or none.
+    ghost waits: { Self → ℕ } = { λ _. 0 };
+
+    /// The wakers of the device.
+    ghost wakes: { Self → Waker → Type 0 } = { λ _ _. ⊤ };
+
     /// The next event, or `None` where none came within the limit.
     ///
     /// The error is `OutOfMemory` where memory was refused, `UnexpectedEof` at the end of input, `Interrupted` where the source
@@ -36,6 +44,8 @@ pub trait EventSource<A: Allocator>: Drop {
     fn try_read(&mut self, limit: Option<Duration>) -> io::Result<Option<InternalEvent<A>>>
         // What it answers is drawn.
         ensures drawn { drawn self.old (answer_of result ∷ []) self.new }
+        // With limit zero the device isn't asked to wait.
+        ensures waits { IsAtOnce limit → waits self.new ≡ waits self.old }
         // An error that isn't a source's own comes only where the device's failures rose, and they never fall.
         ensures rise { failed self.old ≤ failed self.new }
         ensures err { IfErr result (λ e. IsOwn (error_kind e) ⊎ (failed self.old < failed self.new)) };
@@ -46,7 +56,8 @@ pub trait EventSource<A: Allocator>: Drop {
 
     /// A waker of the device.
     fn waker(&self) -> io::Result<Waker>
-        ensures { IfErr result (λ e. error_kind e ≡ OutOfMemory) };
+        ensures waker { IfOk result (wakes self.now) }
+        ensures err { IfErr result (λ e. error_kind e ≡ OutOfMemory) };
 
     // Where nothing is drawn nothing changes, and what is drawn in two runs is drawn in one.
     ghost none_drawn: { (s : Self) → drawn s [] s };
@@ -120,6 +131,10 @@ impl<D: Device, A: Allocator + Clone> EventSource<A> for DeviceSource<D, A> {
     ghost drawn = { SourceDrawn D.told };
 
     ghost failed = { λ s. D.failed s.device };
+
+    ghost waits = { λ s. D.waits s.device };
+
+    ghost wakes = { λ s. D.wakes s.device };
 
     ghost none_drawn = { source_none D.told D.none_told };
 

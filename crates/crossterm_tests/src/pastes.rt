@@ -1,4 +1,4 @@
-//! Pastes and reports of the mouse that are long or cut, and the calls that count steps.
+//! Pastes that are long or cut, and the calls that count steps.
 
 ghost use Rattle.std.specs.Prelude.{◌≡◌, ◌<◌};
 
@@ -10,7 +10,7 @@ use crossterm::event::sys::unix::parse::Parser;
 use crossterm::event::sys::unix::paste::PasteText;
 use crossterm::event::sys::unix::state::{State, Step};
 use crossterm::event::sys::unix::steps::Steps;
-use crossterm::event::{Event, InternalEvent, MouseButton, MouseEventKind};
+use crossterm::event::{Event, InternalEvent};
 use std::alloc::{AllocError, Global};
 use std::io;
 use std::marker::Brand;
@@ -44,30 +44,6 @@ fn a_paste_is_one_however_it_is_cut(rt: HostRuntime) {
         holds = holds && pastes_hi(rt.alloc(), cuts);
     }
     expect!(rt; holds, "each of 4096 cuttings");
-}
-
-/// Whether the left button goes down in the first cell.
-fn is_click(event: Option<InternalEvent>) -> bool {
-    match event {
-        Some(InternalEvent::Event(Event::Mouse(mouse))) => {
-            mouse.kind == MouseEventKind::Down(MouseButton::Left)
-                && (mouse.column, mouse.row) == (0, 0)
-        }
-        _ => false,
-    }
-}
-
-/// Whether these bytes are one click.
-fn clicks(alloc: Global, bytes: &[u8]) -> bool {
-    let mut parser: Parser<Global> = Parser::new(alloc);
-    parser.feed(bytes, false, false) == bytes.len() && is_click(parser.next())
-}
-
-#[test]
-fn zeros_before_a_code_have_no_end(rt: HostRuntime) -> Result<(), AllocError> {
-    let bytes = endless(rt.alloc(), b"\x1b[<", b'0', b";1;1M")?;
-    expect!(rt; clicks(rt.alloc(), &bytes));
-    Ok(())
 }
 
 fn piece(alloc: Global, text: &[u8]) -> Result<Act, AllocError> {
@@ -105,6 +81,31 @@ fn gives_nothing(trace: &Trace) -> bool {
 fn an_endless_paste_gives_nothing_yet(rt: HostRuntime) -> io::Result<()> {
     let trace = trace_of_one_read(rt.alloc())?;
     expect!(rt; gives_nothing(&trace));
+    Ok(())
+}
+
+/// Whether a paste is this often this letter and nothing else.
+fn is_pasted_often(event: Option<InternalEvent>, letter: u8, count: usize) -> bool {
+    match event {
+        Some(InternalEvent::Event(Event::Paste(text))) => {
+            text.len() == count && text.as_bytes().iter().all(|byte| *byte == letter)
+        }
+        _ => false,
+    }
+}
+
+/// Whether a million letters between the two ends of a paste are taken, and are one event.
+fn pastes_a_million(alloc: Global) -> Result<bool, AllocError> {
+    let bytes = endless(alloc, b"\x1b[200~", b'x', b"\x1b[201~")?;
+    let mut parser: Parser<Global> = Parser::new(alloc);
+    let taken = parser.feed(bytes.as_slice(), false, false);
+    let is_one = is_pasted_often(parser.next(), b'x', 1_000_000) && parser.next().is_none();
+    Ok(taken == bytes.len() && is_one)
+}
+
+#[test]
+fn a_long_paste_ends(rt: HostRuntime) -> Result<(), AllocError> {
+    expect!(rt; pastes_a_million(rt.alloc())?);
     Ok(())
 }
 

@@ -223,7 +223,7 @@ fn give<A: Allocator + Clone>(
 }
 
 /// What the slow program makes of bytes.
-#[derive(Debug, Drop)]
+#[derive(Drop)]
 pub struct Divided<A: Allocator = Global> {
     /// How many bytes each whole sequence has, in order.
     pub lengths: Vec<usize, A>,

@@ -1,10 +1,12 @@
 //! A script as a device, and what a source makes of it.
 
 use crate::scripts::{Part, acts_of, source_of};
+use crossterm::event::filter::EventFilter;
+use crossterm::event::read::InternalEventReader;
 use crossterm::event::source::{Answer, Device, DeviceSource, EventSource, Script, Waker};
-use crossterm::event::{Event, InternalEvent, KeyCode};
-use std::alloc::AllocError;
-use std::io;
+use crossterm::event::{Event, InternalEvent};
+use std::alloc::{AllocError, Global};
+use std::io::{self, ErrorKind};
 use std::time::Duration;
 
 static PARTS: [Part; 5] = [
@@ -12,57 +14,59 @@ static PARTS: [Part; 5] = [
     Part::Idle,
     Part::Resize(80, 24),
     Part::Woken,
-    Part::Fault(io::ErrorKind::Other),
+    Part::Fault(ErrorKind::Other),
 ];
-
-/// What a source answers.
-enum Given {
-    Char(char),
-    Resize(u16, u16),
-    Nothing,
-    Fault(io::ErrorKind),
-}
 
 /// The limit of a question, what is given within it, and how often the device has failed then.
-type Row = (Option<Duration>, Given, u64);
+type Row = (Option<Duration>, char, u64);
 
-/// What a source over `PARTS` gives.
+/// What a source over `PARTS` gives, by letters.
 static GIVEN: [Row; 7] = [
-    (None, Given::Char('a'), 0),
-    (Some(Duration::ZERO), Given::Char('b'), 0),
-    (None, Given::Nothing, 0),
-    (None, Given::Resize(80, 24), 0),
-    (None, Given::Fault(io::ErrorKind::Interrupted), 0),
-    (None, Given::Fault(io::ErrorKind::Other), 1),
-    (None, Given::Fault(io::ErrorKind::UnexpectedEof), 1),
+    (None, 'a', 0),
+    (Some(Duration::ZERO), 'b', 0),
+    (None, '-', 0),
+    (None, 'R', 0),
+    (None, 'I', 0),
+    (None, 'F', 1),
+    (None, 'E', 1),
 ];
 
-fn is_event(event: &InternalEvent, given: &Given) -> bool {
-    match (event, given) {
-        (InternalEvent::Event(Event::Key(key)), Given::Char(c)) => key.code == KeyCode::Char(*c),
-        (InternalEvent::Event(Event::Resize(columns, rows)), Given::Resize(wide, high)) => {
-            columns == wide && rows == high
-        }
-        _ => false,
+/// A key's own letter, and `R` for the resize to 80 columns and 24 rows.
+fn letter_of(event: &InternalEvent) -> char {
+    match event {
+        InternalEvent::Event(Event::Key(key)) => key.code.as_char().unwrap_or('?'),
+        InternalEvent::Event(Event::Resize(80, 24)) => 'R',
+        _ => '?',
     }
 }
 
-/// Whether a source gives this next.
-fn gives(source: &mut DeviceSource<Script>, limit: Option<Duration>, given: &Given) -> bool {
-    match source.try_read(limit) {
-        Ok(Some(event)) => is_event(&event, given),
-        Ok(None) => matches!(given, Given::Nothing),
-        Err(error) => matches!(given, Given::Fault(kind) if error.kind() == *kind),
+/// `I` for an interrupted call, `F` for the script's fault, and `E` for the end of input.
+fn letter_of_fault(kind: ErrorKind) -> char {
+    match kind {
+        ErrorKind::Interrupted => 'I',
+        ErrorKind::Other => 'F',
+        ErrorKind::UnexpectedEof => 'E',
+        _ => '?',
+    }
+}
+
+/// What a source gives, by its letter; `-` is nothing.
+fn letter(outcome: io::Result<Option<InternalEvent>>) -> char {
+    match outcome {
+        Ok(Some(event)) => letter_of(&event),
+        Ok(None) => '-',
+        Err(error) => letter_of_fault(error.kind()),
     }
 }
 
 fn goes_on(source: &mut DeviceSource<Script>, row: &Row) -> bool {
-    let (limit, given, failures) = row;
-    gives(source, *limit, given) && source.failures() == *failures
+    let (limit, given, failures) = *row;
+    letter(source.try_read(limit)) == given && source.failures() == failures
 }
 
-fn wakes(source: &DeviceSource<Script>) -> bool {
-    match source.waker() {
+/// Whether there is a waker, and it wakes.
+fn wakes(waker: io::Result<Waker>) -> bool {
+    match waker {
         Ok(waker) => waker.wake().is_ok(),
         Err(_) => false,
     }
@@ -74,15 +78,8 @@ fn events_and_faults_come_one_by_one(rt: HostRuntime) -> Result<(), AllocError> 
     for row in &GIVEN {
         expect!(rt; goes_on(&mut source, row));
     }
-    expect!(rt; wakes(&source));
+    expect!(rt; wakes(source.waker()));
     Ok(())
-}
-
-#[test]
-fn nobody_is_woken(rt: HostRuntime) {
-    let waker = Waker::none();
-    expect!(rt; waker.wake().is_ok());
-    expect!(rt; waker.wake().is_ok());
 }
 
 static ACTS: [Part; 6] = [
@@ -91,7 +88,7 @@ static ACTS: [Part; 6] = [
     Part::Resize(80, 24),
     Part::Woken,
     Part::Idle,
-    Part::Fault(io::ErrorKind::Other),
+    Part::Fault(ErrorKind::Other),
 ];
 
 /// What a script of `ACTS` answers until it fails.
@@ -149,19 +146,12 @@ fn answers(script: &mut Script, wanted: Answer) -> bool {
     }
 }
 
-fn script_wakes(script: &Script) -> bool {
-    match script.waker() {
-        Ok(waker) => waker.wake().is_ok(),
-        Err(_) => false,
-    }
-}
-
 /// Whether the script fails once, is at its end then, and has a waker.
 fn fails_and_ends(script: &mut Script) -> bool {
     let before = script.failures();
     let fails = answer(script).is_none();
     let after = script.failures();
-    fails && before == 0 && after == 1 && answers(script, END) && script_wakes(script)
+    fails && before == 0 && after == 1 && answers(script, END) && wakes(script.waker())
 }
 
 #[test]
@@ -171,5 +161,61 @@ fn acts_are_told_in_order(rt: HostRuntime) -> Result<(), AllocError> {
         expect!(rt; answers(&mut script, *wanted));
     }
     expect!(rt; fails_and_ends(&mut script));
+    expect!(rt; wakes(Ok(Waker::none())));
     Ok(())
+}
+
+/// Tells the limit that it was asked with: a wake-up where there is none, a size where it is zero, and nothing at any other.
+#[derive(Drop)]
+struct Asked;
+
+impl Device for Asked {
+    ghost use Rattle.std.specs.Prelude.{⊤};
+
+    ghost told = { λ _ _ _. ⊤ };
+
+    ghost failed = { λ _. 0 };
+
+    ghost none_told = { λ _. tt };
+
+    ghost told_on = { λ _ _ _ _ _ _ _. tt };
+
+    fn answer(&mut self, _buf: &mut [u8], limit: Option<Duration>) -> io::Result<Answer> {
+        match limit {
+            None => Ok(Answer::Woken),
+            Some(limit) if limit.is_zero() => Ok(Answer::Resize(80, 24)),
+            Some(_) => Ok(Answer::Idle),
+        }
+    }
+
+    fn failures(&self) -> u64 {
+        0
+    }
+
+    fn waker(&self) -> io::Result<Waker> {
+        Ok(Waker::none())
+    }
+}
+
+/// A limit, and what a source gives that asks its device with it, by letters.
+static LIMITS: [(Option<Duration>, char); 3] = [
+    (None, 'I'),
+    (Some(Duration::ZERO), 'R'),
+    (Some(Duration::MAX), '-'),
+];
+
+/// Whether a poll and a read ask with limit zero, and so at once.
+fn asks_at_once(alloc: Global) -> bool {
+    let mut reader = InternalEventReader::new(alloc, DeviceSource::new(alloc, Asked));
+    let is_read = matches!(reader.read_within(1, &EventFilter), Ok(Some(_)));
+    is_read && matches!(reader.poll_within(1, &EventFilter), Ok(true))
+}
+
+#[test]
+fn limits_are_handed_on(rt: HostRuntime) {
+    let mut source = DeviceSource::new(rt.alloc(), Asked);
+    for (limit, given) in &LIMITS {
+        expect!(rt; letter(source.try_read(*limit)) == *given);
+    }
+    expect!(rt; asks_at_once(rt.alloc()));
 }

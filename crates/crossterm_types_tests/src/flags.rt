@@ -115,13 +115,6 @@ fn enhancements_have_bits() -> bool {
     has_bits!(KeyboardEnhancementFlags, 15)
 }
 
-#[test]
-fn bits_become_sets(rt: HostRuntime) {
-    expect!(rt; modifiers_have_bits());
-    expect!(rt; states_have_bits());
-    expect!(rt; enhancements_have_bits());
-}
-
 fn modifiers_know_bits() -> bool {
     knows_bits!(KeyModifiers)
 }
@@ -135,10 +128,10 @@ fn enhancements_know_bits() -> bool {
 }
 
 #[test]
-fn bits_have_names(rt: HostRuntime) {
-    expect!(rt; modifiers_know_bits());
-    expect!(rt; states_know_bits());
-    expect!(rt; enhancements_know_bits());
+fn bits_become_sets(rt: HostRuntime) {
+    expect!(rt; modifiers_have_bits() && modifiers_know_bits());
+    expect!(rt; states_have_bits() && states_know_bits());
+    expect!(rt; enhancements_have_bits() && enhancements_know_bits());
 }
 
 static MODIFIERS: [KeyModifiers; 6] = [
@@ -201,24 +194,6 @@ fn enhancements_join_by_sign(pair: &Pair) -> bool {
     joins_by_sign!(KeyboardEnhancementFlags, pair)
 }
 
-#[test]
-fn sets_are_joined(rt: HostRuntime) {
-    for pair in &PAIRS {
-        expect!(rt; modifiers_join(pair));
-        expect!(rt; states_join(pair));
-        expect!(rt; enhancements_join(pair));
-    }
-}
-
-#[test]
-fn sets_are_joined_by_sign(rt: HostRuntime) {
-    for pair in &PAIRS {
-        expect!(rt; modifiers_join_by_sign(pair));
-        expect!(rt; states_join_by_sign(pair));
-        expect!(rt; enhancements_join_by_sign(pair));
-    }
-}
-
 fn modifiers_meet(pair: &Pair) -> bool {
     meets!(KeyModifiers, pair)
 }
@@ -232,10 +207,11 @@ fn enhancements_meet(pair: &Pair) -> bool {
 }
 
 #[test]
-fn sets_meet(rt: HostRuntime) {
+fn sets_are_joined_and_meet(rt: HostRuntime) {
     for pair in &PAIRS {
-        expect!(rt; modifiers_meet(pair));
-        expect!(rt; states_meet(pair));
+        expect!(rt; modifiers_join(pair) && modifiers_join_by_sign(pair) && modifiers_meet(pair));
+        expect!(rt; states_join(pair) && states_join_by_sign(pair) && states_meet(pair));
+        expect!(rt; enhancements_join(pair) && enhancements_join_by_sign(pair));
         expect!(rt; enhancements_meet(pair));
     }
 }
@@ -264,18 +240,14 @@ fn assigned_enhancements() -> [u8; 4] {
     assigned!(KeyboardEnhancementFlags)
 }
 
-#[test]
-fn sets_are_changed(rt: HostRuntime) {
-    expect!(rt; changed_modifiers() == [3, 2, 3, 1]);
-    expect!(rt; changed_states() == [3, 2, 3, 1]);
-    expect!(rt; changed_enhancements() == [3, 2, 3, 1]);
-}
+/// The bits of the sets in turn where one and two are put in, left out, and changed about.
+const CHANGED: [u8; 4] = [3, 2, 3, 1];
 
 #[test]
-fn sets_are_assigned(rt: HostRuntime) {
-    expect!(rt; assigned_modifiers() == [3, 2, 3, 1]);
-    expect!(rt; assigned_states() == [3, 2, 3, 1]);
-    expect!(rt; assigned_enhancements() == [3, 2, 3, 1]);
+fn sets_are_changed(rt: HostRuntime) {
+    expect!(rt; changed_modifiers() == CHANGED && assigned_modifiers() == CHANGED);
+    expect!(rt; changed_states() == CHANGED && assigned_states() == CHANGED);
+    expect!(rt; changed_enhancements() == CHANGED && assigned_enhancements() == CHANGED);
 }
 
 /// The bits of the part of a set, where there is one.

@@ -162,39 +162,30 @@ fn keys_are_in_order(rt: HostRuntime) {
 }
 
 /// Whether the filters for events, positions, flags and attributes admit an event so.
-fn is_admitted(event: InternalEvent, admitted: [bool; 4]) -> bool {
+fn is_admitted(event: &InternalEvent, admitted: [bool; 4]) -> bool {
     let alone = [
-        EventFilter.eval(&event),
-        CursorPositionFilter.eval(&event),
-        KeyboardEnhancementFlagsFilter.eval(&event),
-        PrimaryDeviceAttributesFilter.eval(&event),
+        EventFilter.eval(event),
+        CursorPositionFilter.eval(event),
+        KeyboardEnhancementFlagsFilter.eval(event),
+        PrimaryDeviceAttributesFilter.eval(event),
     ];
     let by_name = [
-        AnyFilter::Event.eval(&event),
-        AnyFilter::Cursor.eval(&event),
-        AnyFilter::Flags.eval(&event),
-        AnyFilter::Attributes.eval(&event),
+        AnyFilter::Event.eval(event),
+        AnyFilter::Cursor.eval(event),
+        AnyFilter::Flags.eval(event),
+        AnyFilter::Attributes.eval(event),
     ];
     alone == admitted && by_name == admitted
 }
 
 #[test]
-fn filters_admit_their_events(rt: HostRuntime) -> Result<(), AllocError> {
-    let pasted = InternalEvent::Event(Event::Paste(String::from_str(rt.alloc(), "paste")?));
-    expect!(rt; is_admitted(pasted, [true, false, false, false]));
-    let resized = InternalEvent::Event(Event::Resize(80, 24));
-    expect!(rt; is_admitted(resized, [true, false, false, false]));
-    Ok(())
-}
-
-#[test]
 fn filters_admit_their_replies(rt: HostRuntime) {
     let position = InternalEvent::CursorPosition(1, 2);
-    expect!(rt; is_admitted(position, [false, true, false, false]));
+    expect!(rt; is_admitted(&position, [false, true, false, false]));
     let flags = InternalEvent::KeyboardEnhancementFlags(KeyboardEnhancementFlags::empty());
-    expect!(rt; is_admitted(flags, [false, false, true, false]));
+    expect!(rt; is_admitted(&flags, [false, false, true, false]));
     let attributes = InternalEvent::PrimaryDeviceAttributes;
-    expect!(rt; is_admitted(attributes, [false, false, true, true]));
+    expect!(rt; is_admitted(&attributes, [false, false, true, true]));
 }
 
 fn is_cloned(event: &Event) -> bool {
@@ -212,9 +203,11 @@ fn is_cloned_inside(event: &InternalEvent) -> bool {
 }
 
 #[test]
-fn clones_events(rt: HostRuntime) -> Result<(), AllocError> {
+fn events_are_admitted_and_cloned(rt: HostRuntime) -> Result<(), AllocError> {
     let event = Event::Paste(String::from_str(rt.alloc(), "two\nlines")?);
     expect!(rt; is_cloned(&event));
-    expect!(rt; is_cloned_inside(&InternalEvent::Event(event)));
+    let event = InternalEvent::Event(event);
+    expect!(rt; is_cloned_inside(&event));
+    expect!(rt; is_admitted(&event, [true, false, false, false]));
     Ok(())
 }

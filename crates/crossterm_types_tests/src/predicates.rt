@@ -7,7 +7,7 @@ use crossterm_types::event::{
 use std::alloc::AllocError;
 
 /// The keys that are named by their variant alone.
-const PLAIN: [KeyCode; 23] = [
+static PLAIN: [KeyCode; 23] = [
     KeyCode::Backspace,
     KeyCode::Enter,
     KeyCode::Left,
@@ -71,14 +71,6 @@ fn hold_at(answers: &[bool], places: &[usize]) -> bool {
     as_wanted
 }
 
-#[test]
-fn tests_of_plain_keys(rt: HostRuntime) {
-    for (i, code) in PLAIN.iter().enumerate() {
-        expect!(rt; hold_at(&plain_tests(*code), &[i]));
-        expect!(rt; code.as_char() == None);
-    }
-}
-
 /// Keys with something to name, which of the tests for F1, `a`, Play and the left Shift hold of them, and their characters.
 static OTHERS: [(KeyCode, &[usize], Option<char>); 8] = [
     (KeyCode::F(1), &[0], None),
@@ -101,12 +93,20 @@ fn other_tests(code: KeyCode) -> [bool; 4] {
     ]
 }
 
+/// Whether just these tests hold of a key, and this is its character.
+fn is_key(code: KeyCode, plain: &[usize], others: &[usize], character: Option<char>) -> bool {
+    hold_at(&plain_tests(code), plain)
+        && hold_at(&other_tests(code), others)
+        && code.as_char() == character
+}
+
 #[test]
-fn tests_of_other_keys(rt: HostRuntime) {
+fn tests_of_keys(rt: HostRuntime) {
+    for (i, code) in PLAIN.iter().enumerate() {
+        expect!(rt; is_key(*code, &[i], &[], None));
+    }
     for (code, places, character) in &OTHERS {
-        expect!(rt; hold_at(&other_tests(*code), places));
-        expect!(rt; code.as_char() == *character);
-        expect!(rt; hold_at(&plain_tests(*code), &[]));
+        expect!(rt; is_key(*code, &[], places, *character));
     }
 }
 

@@ -74,6 +74,9 @@ piece 0a;read event 1 -> key Enter 0 Press 0;
 read event 1 -> fault UnexpectedEof;
 piece 1b4f;resize 80 24;piece 41;read event 1;read event 1;read event 1 -> none;resize 80 24;key Up 0 Press 0;
 piece 61;fault;resize 80 24;wake;piece 62;read event 9;read event 9;read event 9;read event 9;poll event 1 -> key Char:61 0 Press 0;fault Other;resize 80 24;key Char:62 0 Press 0;fault UnexpectedEof;
+wake;resize 80 24;poll event 9;poll event 1 -> false;true;held resize 80 24;
+wake;resize 80 24;read event 1;read event 1;read event 1 -> none;resize 80 24;fault UnexpectedEof;
+piece 6162;take event;poll event 1;take event;poll event 1 -> none;true;key Char:61 0 Press 0;true;held key Char:62 0 Press 0;
 piece 6162;poll event 1;take event;read event 0 -> true;key Char:61 0 Press 0;none;
 piece 6162;poll event 1;take event;read event 0;read cursor 1 -> true;key Char:61 0 Press 0;none;none;held key Char:62 0 Press 0;
 piece 1b;piece 5b;piece 41;read event 1;read event 1;read event 1 -> key Esc 0 Press 0;key Char:5b 0 Press 0;key Char:41 1 Press 0;
@@ -89,6 +92,7 @@ piece 1b5b3130;raw 75;read event 1;read event 1 -> none;key Char:a 0 Press 0;
 raw 1b5b3130;piece 75;read event 1;read event 1 -> none;key Enter 0 Press 0;
 piece 611b5b32303b31305262;read cursor 2;read event 1;read event 1 -> cursor 9 19;key Char:61 0 Press 0;key Char:62 0 Press 0;
 piece 611b5b32303b31305262;read cursor 1;read event 1;read event 1 -> none;key Char:61 0 Press 0;none;held cursor 9 19;
+piece 6162631b5b32303b313052;read flags 4;poll cursor 0;take cursor;take event;take event;take event -> none;true;cursor 9 19;key Char:61 0 Press 0;key Char:62 0 Press 0;key Char:63 0 Press 0;
 piece 61;fault;piece 621b5b32303b313052;read cursor 9;read cursor 9;read event 0;read event 0 -> fault Other;cursor 9 19;key Char:61 0 Press 0;key Char:62 0 Press 0;
 piece 1b5b3f75;piece 63;read attributes 2 -> attributes;
 piece 1b5b3f313575;read flags 1 -> flags 1;
@@ -181,7 +185,7 @@ read event  -> probe: line 1: bad argument
 poll  1 -> probe: line 1: bad argument";
 
 /// How many scripts there are.
-const CASES: usize = 114;
+const CASES: usize = 118;
 
 /// Whether this comes of an input, with `;` in place of each line's end.
 fn is_answer_unfolded(alloc: Global, input: &str, want: &str) -> Result<bool, AllocError> {
@@ -208,6 +212,9 @@ fn scripts_give_their_lines(rt: HostRuntime) {
     expect(&rt, count == CASES, "a case is lost");
 }
 
+/// Parts of a text, each so many times.
+type Parts = &'static [(&'static str, u32)];
+
 /// Puts a part behind a text, again and again.
 fn repeat(text: &mut Vec<u8>, part: &str, times: u32) -> Result<(), AllocError> {
     for _ in 0..times {
@@ -216,50 +223,58 @@ fn repeat(text: &mut Vec<u8>, part: &str, times: u32) -> Result<(), AllocError> 
     Ok(())
 }
 
-/// Puts parts behind a text, each again and again.
-fn put(text: &mut Vec<u8>, parts: &[(&str, u32)]) -> Result<(), AllocError> {
+/// A text of these parts.
+fn joined(alloc: Global, parts: Parts) -> Result<Vec<u8>, AllocError> {
+    let mut text = Vec::new(alloc);
     for (part, times) in parts {
-        repeat(text, part, *times)?;
+        repeat(&mut text, part, *times)?;
     }
-    Ok(())
+    Ok(text)
 }
 
-const FULL_BUFFER: [(&str, u32); 4] = [
-    ("piece ", 1),
-    ("61", 1023),
-    ("1b\npiece 5b41\n", 1),
-    ("read event 9\n", 1024),
+/// Long inputs and what comes of each: an escape at the end of a full buffer waits, and zeros before a number and before a mouse's code
+/// have no end.
+static LONG: [(Parts, Parts); 3] = [
+    (
+        &[
+            ("piece ", 1),
+            ("61", 1023),
+            ("1b\npiece 5b41\n", 1),
+            ("read event 9\n", 1024),
+        ],
+        &[("key Char:61 0 Press 0\n", 1023), ("key Up 0 Press 0\n", 1)],
+    ),
+    (
+        &[
+            ("piece 1b5b", 1),
+            ("30", 100_000),
+            ("357e\nread event 99\n", 1),
+        ],
+        &[("key PageUp 0 Press 0\n", 1)],
+    ),
+    (
+        &[
+            ("piece 1b5b3c", 1),
+            ("30", 500_000),
+            ("3b313b314d\nread event 999\n", 1),
+        ],
+        &[("mouse Down:Left 0 0 0\n", 1)],
+    ),
 ];
 
-const LETTERS_AND_ARROW: [(&str, u32); 2] = [
-    ("key Char:61 0 Press 0\n", 1023),
-    ("key Up 0 Press 0\n", 1),
-];
-
-#[test]
-fn an_escape_at_the_end_of_a_full_buffer_waits(rt: HostRuntime) -> Result<(), Fail> {
-    let mut input = Vec::new(rt.alloc());
-    let mut want = Vec::new(rt.alloc());
-    put(&mut input, &FULL_BUFFER)?;
-    put(&mut want, &LETTERS_AND_ARROW)?;
-    let holds = is_played(rt.alloc(), input.as_slice(), want.as_slice());
-    expect(&rt, holds, "1023 letters and an arrow");
-    Ok(())
+/// Whether this comes of an input that is played, both by their parts.
+fn is_played_whole(alloc: Global, input: Parts, want: Parts) -> Result<bool, AllocError> {
+    let input = joined(alloc, input)?;
+    let want = joined(alloc, want)?;
+    Ok(is_played(alloc, input.as_slice(), want.as_slice()))
 }
 
-const ZEROS: [(&str, u32); 3] = [
-    ("piece 1b5b", 1),
-    ("30", 100_000),
-    ("357e\nread event 99\n", 1),
-];
-
 #[test]
-fn zeros_before_a_number_have_no_end(rt: HostRuntime) -> Result<(), Fail> {
-    let mut input = Vec::new(rt.alloc());
-    put(&mut input, &ZEROS)?;
-    let holds = is_played(rt.alloc(), input.as_slice(), b"key PageUp 0 Press 0\n");
-    expect(&rt, holds, "one key");
-    Ok(())
+fn long_inputs_give_their_lines(rt: HostRuntime) {
+    for (input, want) in &LONG {
+        let holds = is_played_whole(rt.alloc(), input, want).unwrap_or(false);
+        expect(&rt, holds, "a long input");
+    }
 }
 
 #[test]

@@ -83,58 +83,30 @@ pub enum AnyCommand<A: Allocator = Global> {
     Print(Print<String<A>>),
 }
 
+/// Writes the command of each kind that is named.
+macro_rules! each_kind {
+    ($any:expr, $f:expr, $colors:expr; $($kind:ident)*) => {
+        match $any {
+            $(AnyCommand::$kind(command) => command.write_ansi($f, $colors),)*
+        }
+    };
+}
+
 impl<A: Allocator> Command for AnyCommand<A> {
     ghost text = { λ c colors. Some (text_of colors c) };
 
     fn write_ansi<W: fmt::Write>(&self, f: &mut W, colors: ColorOutput) -> fmt::Result {
-        match self {
-            AnyCommand::MoveTo(command) => command.write_ansi(f, colors),
-            AnyCommand::MoveToColumn(command) => command.write_ansi(f, colors),
-            AnyCommand::MoveToRow(command) => command.write_ansi(f, colors),
-            AnyCommand::MoveToNextLine(command) => command.write_ansi(f, colors),
-            AnyCommand::MoveToPreviousLine(command) => command.write_ansi(f, colors),
-            AnyCommand::MoveUp(command) => command.write_ansi(f, colors),
-            AnyCommand::MoveDown(command) => command.write_ansi(f, colors),
-            AnyCommand::MoveRight(command) => command.write_ansi(f, colors),
-            AnyCommand::MoveLeft(command) => command.write_ansi(f, colors),
-            AnyCommand::SavePosition(command) => command.write_ansi(f, colors),
-            AnyCommand::RestorePosition(command) => command.write_ansi(f, colors),
-            AnyCommand::Hide(command) => command.write_ansi(f, colors),
-            AnyCommand::Show(command) => command.write_ansi(f, colors),
-            AnyCommand::EnableBlinking(command) => command.write_ansi(f, colors),
-            AnyCommand::DisableBlinking(command) => command.write_ansi(f, colors),
-            AnyCommand::SetCursorStyle(command) => command.write_ansi(f, colors),
-            AnyCommand::DisableLineWrap(command) => command.write_ansi(f, colors),
-            AnyCommand::EnableLineWrap(command) => command.write_ansi(f, colors),
-            AnyCommand::EnterAlternateScreen(command) => command.write_ansi(f, colors),
-            AnyCommand::LeaveAlternateScreen(command) => command.write_ansi(f, colors),
-            AnyCommand::Clear(command) => command.write_ansi(f, colors),
-            AnyCommand::ScrollUp(command) => command.write_ansi(f, colors),
-            AnyCommand::ScrollDown(command) => command.write_ansi(f, colors),
-            AnyCommand::SetSize(command) => command.write_ansi(f, colors),
-            AnyCommand::SetTitle(command) => command.write_ansi(f, colors),
-            AnyCommand::BeginSynchronizedUpdate(command) => command.write_ansi(f, colors),
-            AnyCommand::EndSynchronizedUpdate(command) => command.write_ansi(f, colors),
-            AnyCommand::EnableMouseCapture(command) => command.write_ansi(f, colors),
-            AnyCommand::DisableMouseCapture(command) => command.write_ansi(f, colors),
-            AnyCommand::EnableFocusChange(command) => command.write_ansi(f, colors),
-            AnyCommand::DisableFocusChange(command) => command.write_ansi(f, colors),
-            AnyCommand::EnableBracketedPaste(command) => command.write_ansi(f, colors),
-            AnyCommand::DisableBracketedPaste(command) => command.write_ansi(f, colors),
-            AnyCommand::PushKeyboardEnhancementFlags(command) => command.write_ansi(f, colors),
-            AnyCommand::PopKeyboardEnhancementFlags(command) => command.write_ansi(f, colors),
-            AnyCommand::SetForegroundColor(command) => command.write_ansi(f, colors),
-            AnyCommand::SetBackgroundColor(command) => command.write_ansi(f, colors),
-            AnyCommand::SetUnderlineColor(command) => command.write_ansi(f, colors),
-            AnyCommand::SetColors(command) => command.write_ansi(f, colors),
-            AnyCommand::SetAttribute(command) => command.write_ansi(f, colors),
-            AnyCommand::SetAttributes(command) => command.write_ansi(f, colors),
-            AnyCommand::SetStyle(command) => command.write_ansi(f, colors),
-            AnyCommand::PrintStyledContent(command) => command.write_ansi(f, colors),
-            AnyCommand::ResetColor(command) => command.write_ansi(f, colors),
-            AnyCommand::CopyToClipboard(command) => command.write_ansi(f, colors),
-            AnyCommand::Print(command) => command.write_ansi(f, colors),
-        }
+        each_kind!(self, f, colors;
+            MoveTo MoveToColumn MoveToRow MoveToNextLine MoveToPreviousLine MoveUp MoveDown
+            MoveRight MoveLeft SavePosition RestorePosition Hide Show EnableBlinking
+            DisableBlinking SetCursorStyle DisableLineWrap EnableLineWrap EnterAlternateScreen
+            LeaveAlternateScreen Clear ScrollUp ScrollDown SetSize SetTitle BeginSynchronizedUpdate
+            EndSynchronizedUpdate EnableMouseCapture DisableMouseCapture EnableFocusChange
+            DisableFocusChange EnableBracketedPaste DisableBracketedPaste
+            PushKeyboardEnhancementFlags PopKeyboardEnhancementFlags SetForegroundColor
+            SetBackgroundColor SetUnderlineColor SetColors SetAttribute SetAttributes SetStyle
+            PrintStyledContent ResetColor CopyToClipboard Print
+        )
     }
 }
 

@@ -105,6 +105,7 @@ impl<S: EventSource<A>, A: Allocator> InternalEventReader<S, A> {
     // Asks the source once, and holds what it gives.
     fn draw<F: Filter>(&mut self, filter: &F, patient: bool) -> Once
         ensures one { DrawsOne S.drawn patient (F.admits filter.now) self.old self.new result }
+        ensures at_once { S.waits self.new.source ≡ S.waits self.old.source }
         ensures rise { S.failed self.old.source ≤ S.failed self.new.source }
         ensures err { BreaksWhere result (λ kind. IsOwn kind ⊎ (S.failed self.old.source < S.failed self.new.source)) }
     {
@@ -133,6 +134,7 @@ impl<S: EventSource<A>, A: Allocator> InternalEventReader<S, A> {
     // Asks the source until an admitted event is held.
     fn ask<F: Filter>(&mut self, tries: u32, filter: &F, patient: bool) -> io::Result<bool>
         ensures asked { Asked S.drawn patient (F.admits filter.now) tries self.old self.new (end_of result) }
+        ensures at_once { S.waits self.new.source ≡ S.waits self.old.source }
         ensures err { IfErr result (λ e. IsOwn (error_kind e) ⊎ (S.failed self.old.source < S.failed self.new.source)) }
     {
         if self.first(filter).is_some() {
@@ -160,6 +162,8 @@ impl<S: EventSource<A>, A: Allocator> InternalEventReader<S, A> {
     pub fn poll_within<F: Filter>(&mut self, tries: u32, filter: &F) -> io::Result<bool>
         ensures step { (zs : List SourceAnswer) × S.drawn self.old.source zs self.new.source
             × PollStep tries (F.admits filter.now) zs self.old.shelf self.new.shelf (poll_said result) }
+        // The device isn't asked to wait.
+        ensures at_once { S.waits self.new.source ≡ S.waits self.old.source }
         ensures err { IfErr result (λ e. IsOwn (error_kind e) ⊎ (S.failed self.old.source < S.failed self.new.source)) }
     {
         match self.ask(tries, filter, false) {
@@ -183,6 +187,8 @@ impl<S: EventSource<A>, A: Allocator> InternalEventReader<S, A> {
     ) -> io::Result<Option<InternalEvent<A>>>
         ensures step { (zs : List SourceAnswer) × S.drawn self.old.source zs self.new.source
             × ReadStep tries (F.admits filter.now) zs self.old.shelf self.new.shelf (read_said result) }
+        // The device isn't asked to wait.
+        ensures at_once { S.waits self.new.source ≡ S.waits self.old.source }
         ensures err { IfErr result (λ e. IsOwn (error_kind e) ⊎ (S.failed self.old.source < S.failed self.new.source)) }
     {
         match self.ask(tries, filter, true) {

@@ -1,8 +1,9 @@
 //! Where bytes come from.
-ghost use Rattle.std.specs.Prelude.{◌≡◌, ◌≤◌, ◌<◌, ℕ, List, [], ◌∷◌, ◌++◌, length, IfOk, IfErr, OnErr};
+ghost use Rattle.std.specs.Prelude.{◌≡◌, ◌≤◌, ◌<◌, ℕ, List, [], ◌∷◌, ◌++◌, length, IfOk, IfErr, OnErr, ⊤};
 ghost use Rattle.std.specs.IoError.{error_kind};
 ghost use Rattle.std.specs.declared.io.ErrorKind.TheVariants.{OutOfMemory};
-ghost use Rattle.crossterm_read.specs.Device.{Word, word_of, CountWithin};
+ghost use Rattle.crossterm_read.specs.Device.{Word, word_of, CountWithin, IsAtOnce};
+ghost use Rattle.crossterm_read.specs.declared.source.waker.Waker.{Waker};
 
 use crate::source::Waker;
 use std::io;
@@ -35,12 +36,20 @@ pub trait Device: Drop {
     /// How often the device failed.
     ghost failed: { Self → ℕ };
 
+    /// How often the device was asked to wait, with a limit above zero or none: never, if it doesn't say more.
+    ghost waits: { Self → ℕ } = { λ _. 0 };
+
+    /// The wakers of this device: any, if it doesn't say more.
+    ghost wakes: { Self → Waker → Type 0 } = { λ _ _. ⊤ };
+
     /// Answers once, after the limit at the latest where there is one. Bytes are put into `buf`, which holds 1024.
     fn answer(&mut self, buf: &mut [u8], limit: Option<Duration>) -> io::Result<Answer>
         requires { length buf.now ≡ 1024 }
         // What it answers is told.
         ensures told { told self.old (word_of result buf.new ∷ []) self.new }
         ensures count { IfOk result (λ a. CountWithin a (length buf.new)) }
+        // It waits only where it may.
+        ensures waits { IsAtOnce limit → waits self.new ≡ waits self.old }
         // It answers an error only where its failures rise, and they never fall.
         ensures rise { failed self.old ≤ failed self.new }
         ensures err { OnErr result (failed self.old < failed self.new) };
@@ -51,7 +60,8 @@ pub trait Device: Drop {
 
     /// A waker of this device.
     fn waker(&self) -> io::Result<Waker>
-        ensures { IfErr result (λ e. error_kind e ≡ OutOfMemory) };
+        ensures waker { IfOk result (wakes self.now) }
+        ensures err { IfErr result (λ e. error_kind e ≡ OutOfMemory) };
 
     // Where nothing is told nothing changes, and what is told in two runs is told in one.
     ghost none_told: { (s : Self) → told s [] s };

@@ -80,6 +80,8 @@ impl<A: Allocator> Device for Script<A> {
 
     ghost failed = { λ s. s.failed };
 
+    ghost wakes = { λ _. IsSure };
+
     ghost none_told = { script_none };
 
     ghost told_on = { script_on };

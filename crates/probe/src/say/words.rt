@@ -88,29 +88,29 @@ fn placed<A: Allocator>(word: &str, columns: u16, rows: u16) -> Option<AnyComman
 }
 
 /// A cursor's shape by its name.
-fn shape(name: &str) -> Option<SetCursorStyle> {
+fn shape(name: &str) -> Result<SetCursorStyle, Wrong> {
     match name {
-        "DefaultUserShape" => Some(SetCursorStyle::DefaultUserShape),
-        "BlinkingBlock" => Some(SetCursorStyle::BlinkingBlock),
-        "SteadyBlock" => Some(SetCursorStyle::SteadyBlock),
-        "BlinkingUnderScore" => Some(SetCursorStyle::BlinkingUnderScore),
-        "SteadyUnderScore" => Some(SetCursorStyle::SteadyUnderScore),
-        "BlinkingBar" => Some(SetCursorStyle::BlinkingBar),
-        "SteadyBar" => Some(SetCursorStyle::SteadyBar),
-        _ => None,
+        "DefaultUserShape" => Ok(SetCursorStyle::DefaultUserShape),
+        "BlinkingBlock" => Ok(SetCursorStyle::BlinkingBlock),
+        "SteadyBlock" => Ok(SetCursorStyle::SteadyBlock),
+        "BlinkingUnderScore" => Ok(SetCursorStyle::BlinkingUnderScore),
+        "SteadyUnderScore" => Ok(SetCursorStyle::SteadyUnderScore),
+        "BlinkingBar" => Ok(SetCursorStyle::BlinkingBar),
+        "SteadyBar" => Ok(SetCursorStyle::SteadyBar),
+        _ => Err(Wrong::Argument),
     }
 }
 
 /// What is cleared, by its name.
-fn cleared(name: &str) -> Option<ClearType> {
+fn cleared(name: &str) -> Result<ClearType, Wrong> {
     match name {
-        "All" => Some(ClearType::All),
-        "Purge" => Some(ClearType::Purge),
-        "FromCursorDown" => Some(ClearType::FromCursorDown),
-        "FromCursorUp" => Some(ClearType::FromCursorUp),
-        "CurrentLine" => Some(ClearType::CurrentLine),
-        "UntilNewLine" => Some(ClearType::UntilNewLine),
-        _ => None,
+        "All" => Ok(ClearType::All),
+        "Purge" => Ok(ClearType::Purge),
+        "FromCursorDown" => Ok(ClearType::FromCursorDown),
+        "FromCursorUp" => Ok(ClearType::FromCursorUp),
+        "CurrentLine" => Ok(ClearType::CurrentLine),
+        "UntilNewLine" => Ok(ClearType::UntilNewLine),
+        _ => Err(Wrong::Argument),
     }
 }
 
@@ -126,19 +126,18 @@ fn named<A: Allocator + Clone>(
     word: &str,
     argument: &str,
 ) -> Result<AnyCommand<A>, Wrong> {
-    let command = match word {
-        "SetCursorStyle" => shape(argument).map(|style| AnyCommand::SetCursorStyle(style)),
-        "Clear" => cleared(argument).map(|kind| AnyCommand::Clear(Clear(kind))),
-        "PushKeyboardEnhancementFlags" => number(argument).map(|bits| pushed(bits)),
-        _ => return styling(alloc, word, argument),
-    };
-    command.ok_or(Wrong::Argument)
+    match word {
+        "SetCursorStyle" => Ok(AnyCommand::SetCursorStyle(shape(argument)?)),
+        "Clear" => Ok(AnyCommand::Clear(Clear(cleared(argument)?))),
+        "PushKeyboardEnhancementFlags" => pushed(number(argument)),
+        _ => styling(alloc, word, argument),
+    }
 }
 
 /// Any bits of the flags are pushed as they are.
-fn pushed<A: Allocator>(bits: u8) -> AnyCommand<A> {
-    let flags = KeyboardEnhancementFlags::from_bits_retain(bits);
-    AnyCommand::PushKeyboardEnhancementFlags(PushKeyboardEnhancementFlags(flags))
+fn pushed<A: Allocator>(bits: Option<u8>) -> Result<AnyCommand<A>, Wrong> {
+    let flags = KeyboardEnhancementFlags::from_bits_retain(bits.ok_or(Wrong::Argument)?);
+    Ok(AnyCommand::PushKeyboardEnhancementFlags(PushKeyboardEnhancementFlags(flags)))
 }
 
 /// A copy of any bytes to places by their letters.
@@ -177,27 +176,44 @@ fn alone<A: Allocator>(word: &str) -> Option<AnyCommand<A>> {
     }
 }
 
+/// A command, where its arguments are what it takes.
+fn complete<A: Allocator>(
+    command: AnyCommand<A>,
+    is_complete: bool,
+) -> Result<AnyCommand<A>, Wrong> {
+    if is_complete {
+        Ok(command)
+    } else {
+        Err(Wrong::Argument)
+    }
+}
+
+/// A command of arguments.
+fn with_arguments<A: Allocator + Clone>(
+    alloc: &A,
+    word: &str,
+    argument: &str,
+) -> Result<AnyCommand<A>, Wrong> {
+    let count = number(argument);
+    if let Some(command) = numbered(word, count.unwrap_or(0)) {
+        return complete(command, count.is_some());
+    }
+    let place = pair(argument);
+    let (columns, rows) = place.unwrap_or((0, 0));
+    if let Some(command) = placed(word, columns, rows) {
+        return complete(command, place.is_some());
+    }
+    textual(alloc, word, argument)
+}
+
 /// A command by its name and what follows the blank behind it.
 pub fn command<A: Allocator + Clone>(
     alloc: &A,
     word: &str,
     rest: Option<&str>,
 ) -> Result<AnyCommand<A>, Wrong> {
-    if let Some(command) = alone(word) {
-        return match rest {
-            None => Ok(command),
-            Some(_) => Err(Wrong::Argument),
-        };
+    match alone(word) {
+        Some(command) => complete(command, rest.is_none()),
+        None => with_arguments(alloc, word, rest.unwrap_or("")),
     }
-    let argument = rest.unwrap_or("");
-    let count = number(argument);
-    if let Some(command) = numbered(word, count.unwrap_or(0)) {
-        return count.map(|_| command).ok_or(Wrong::Argument);
-    }
-    let place = pair(argument);
-    let (columns, rows) = place.unwrap_or((0, 0));
-    if let Some(command) = placed(word, columns, rows) {
-        return place.map(|_| command).ok_or(Wrong::Argument);
-    }
-    textual(alloc, word, argument)
 }

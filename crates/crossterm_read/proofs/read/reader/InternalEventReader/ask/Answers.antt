@@ -17,6 +17,7 @@ returns-in-Broke-clause-asked g c =
 
 pub loop-i-preserved : goal.loop-i-preserved
 loop-i-preserved g c = record {
+  at_once = c.draw.ensures.at_once ∙ c.loop-i.invariant.at_once;
   rise = omega (arith, c.draw.ensures.rise);
   so_far = elim c.match-draw.branch [
     | in-Came+else-admitted w ↦ asking_came g.S.EventSource.drawn g.met.S.EventSource.drawn_on _ _ _ c.loop-i.self c.draw.new.self c.loop-i._i _ w.if-admitted.false c.loop-i.invariant.so_far w.in-Came.ensures.one
@@ -28,6 +29,7 @@ pub loop-i-init : goal.loop-i-init
 loop-i-init g c = record {
   so_far = asking_none g.S.EventSource.drawn g.met.S.EventSource.drawn_on _ _ g.met.S.EventSource.none_drawn c.args.self.now c.args.self.now refl
       (sym c.first.ensures ∙ none_of c.first.result (sym c.is_some.ensures ∙ c.if-is_some.false));
+  at_once = refl;
   rise = omega arith;
 }
 
