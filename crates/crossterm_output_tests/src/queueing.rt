@@ -2,7 +2,7 @@
 ghost use Rattle.std.specs.Prelude.{None};
 
 use crate::tape::Tape;
-use crossterm::cursor::MoveTo;
+use crossterm::cursor::{MoveTo, Show};
 use crossterm::style::ColorOutput;
 use crossterm::{
     Command, CommandFault, ExecutableCommand, QueueableCommand, execute_command, queue_command,
@@ -105,8 +105,28 @@ fn moves_in_pieces(alloc: Global, row: &Row) -> bool {
     answer == row.2 && tape.holds(row.3, 0)
 }
 
+/// A writer, and what a command without parameters answers and writes there.
+type ShowRow = (Maker, Option<ErrorKind>, &'static [u8]);
+
+static SHOWS: [ShowRow; 4] = [
+    ((1, ALL, None, 0), None, b"\x1b[?25h"),
+    ((ALL, ALL, None, 64), None, b"\x1b[?25h"),
+    ((ALL, ALL, None, 65), Some(ErrorKind::Interrupted), b""),
+    ((ALL, 3, None, 0), Some(ErrorKind::WriteZero), b"\x1b[?"),
+];
+
+/// Whether such a command answers and writes what a row says.
+fn shows(alloc: Global, row: &ShowRow) -> bool {
+    let mut tape = made(alloc, &row.0);
+    let answer = kind(tape.queue(ON, Show));
+    answer == row.1 && tape.holds(row.2, 0)
+}
+
 #[test]
 fn writers_take_a_beginning(rt: HostRuntime) {
+    for row in &SHOWS {
+        expect!(rt; shows(rt.alloc(), row));
+    }
     for row in &ROWS {
         expect!(rt; moves(rt.alloc(), row));
         expect!(rt; moves_in_pieces(rt.alloc(), row));
