@@ -1,11 +1,11 @@
 -- What a parser stands for.
-use Rattle.std.specs.Prelude.{◌≡◌, ◌≤◌, ℕ, ◌+◌, ◌-◌, ◌*◌, length, if◌then◌else◌, drop, List, ◌++◌, ◌∷◌, [], false}
+use Rattle.std.specs.Prelude.{◌≡◌, ◌≤◌, Bool, ℕ, ◌+◌, ◌-◌, ◌*◌, length, if◌then◌else◌, drop, List, ◌++◌, ◌∷◌, [], false}
 use Rattle.std.specs.List.{filter_map, flat_map, AllByRecursion}
 use Rattle.crossterm_types.specs.Seen.{Seen}
 use Rattle.crossterm_parse.specs.Deciding.{begins}
 use Rattle.crossterm_parse.specs.Division.{Divides, IsUndecided}
 use Rattle.crossterm_parse.specs.Grammar.{Whole, paste_start}
-use Rattle.crossterm_parse.specs.Machine.{StandsFor, is_paste}
+use Rattle.crossterm_parse.specs.Machine.{StandsFor, events_left, is_paste, state_after, state_left, text_left}
 use Rattle.crossterm_parse.specs.Marked.{Marked, bytes_of}
 use Rattle.crossterm_parse.specs.Meaning.{meaning_of}
 use Rattle.crossterm_parse.specs.declared.state.State.{State}
@@ -29,6 +29,16 @@ Stands parser before = StandsFor parser.state (bytes_of before) × (parser.text 
 -- It stands for what it stood for.
 abbrev pub StandsStill : Standing → Standing → Type 0
 StandsStill old new = (before : List Marked) → Stands old before → Stands new before
+
+-- A byte was put in, with the step that follows from the state: the state that it leads to, the text of an open paste, and the event that it gives, if any.
+abbrev pub PutsByte : Standing → Standing → ℕ → Bool → Bool → Type 0
+PutsByte old new byte raw pause = (new.state ≡ state_left (state_after old.state byte raw pause))
+    × (new.text ≡ text_left (state_after old.state byte raw pause) old.state old.text byte)
+    × (new.waiting ≡ old.waiting ++ events_left (state_after old.state byte raw pause) old.text)
+
+-- Nothing was taken and nothing lost; there may be more room.
+abbrev pub StaysAsItWas : Standing → Standing → Type 0
+StaysAsItWas old new = (new.waiting ≡ old.waiting) × (new.state ≡ old.state) × (new.text ≡ old.text) × (old.room ≤ new.room)
 
 -- From the bytes before on, the parser took more bytes: the events not yet given grew by the meanings of the parts of the division, and it stands for the rest.
 pub record Advances (old new : Standing) (before taken : List Marked) : Type 0 where

@@ -8,10 +8,10 @@ ghost use Rattle.bstr.specs.Utf8.{lossy_chars};
 ghost use Rattle.std.specs.VecDeque.{deque_len, deque_capacity};
 ghost use Rattle.std.specs.declared.io.ErrorKind.TheVariants.{OutOfMemory};
 ghost use Rattle.crossterm_types.specs.Seen.{seen};
-ghost use Rattle.crossterm_parse.specs.Machine.{text_of, state_after, state_left, text_left, events_left, is_paste};
+ghost use Rattle.crossterm_parse.specs.Machine.{text_of, state_after, text_left, events_left, is_paste};
 ghost use Rattle.crossterm_parse.specs.Meaning.{decoded_character, seen_meaning, pasted, typed};
 ghost use Rattle.crossterm_parse.specs.Marked.{Marked, marked};
-ghost use Rattle.crossterm_parse.specs.Standing.{Standing, Stands, StandsStill, AdvancesOver, EndsNoEvent, OpensNoPaste, TakesSteps};
+ghost use Rattle.crossterm_parse.specs.Standing.{Standing, Stands, StandsStill, AdvancesOver, PutsByte, StaysAsItWas, EndsNoEvent, OpensNoPaste, TakesSteps};
 
 use crate::meaning::{Meaning, letter_key, typed_key};
 use crate::paste::{Met, PasteText};
@@ -249,7 +249,7 @@ impl<A: Allocator + Clone> Parser<A> {
         ensures state { OnOk result (self.new.state ≡ State.Ground) }
         ensures text { OnOk result (self.new.text ≡ []) }
         ensures waiting { OnOk result (self.new.waiting ≡ self.old.waiting ++ pasted (take (length self.old.text - 5) self.old.text) ∷ []) }
-        ensures err { OnErr result ((self.new.waiting ≡ self.old.waiting) × (self.new.state ≡ self.old.state) × (self.new.text ≡ self.old.text) × (self.old.room ≤ self.new.room)) }
+        ensures err { OnErr result (StaysAsItWas self.old self.new) }
         ensures steps { OnOk result (steps.new ≡ steps.old + (length self.old.text - 5)) }
         ensures room { self.old.room ≤ self.new.room + 1 }
     {
@@ -271,10 +271,8 @@ impl<A: Allocator + Clone> Parser<A> {
         pause: bool,
         steps: &mut Steps<L>,
     ) -> Result<(), AllocError>
-        ensures state { OnOk result (self.new.state ≡ state_left (state_after self.old.state byte raw pause)) }
-        ensures text { OnOk result (self.new.text ≡ text_left (state_after self.old.state byte raw pause) self.old.state self.old.text byte) }
-        ensures waiting { OnOk result (self.new.waiting ≡ self.old.waiting ++ events_left (state_after self.old.state byte raw pause) self.old.text) }
-        ensures err { OnErr result ((self.new.waiting ≡ self.old.waiting) × (self.new.state ≡ self.old.state) × (self.new.text ≡ self.old.text) × (self.old.room ≤ self.new.room)) }
+        ensures put { OnOk result (PutsByte self.old self.new byte raw pause) }
+        ensures err { OnErr result (StaysAsItWas self.old self.new) }
         ensures free { is_paste self.old.state ≡ false → events_left (state_after self.old.state byte raw pause) self.old.text ≡ [] → IsOk result }
         ensures reserved { is_paste self.old.state ≡ false → 0 < self.old.room → IsOk result }
         ensures room { self.old.room ≤ self.new.room + 1 }
@@ -301,10 +299,8 @@ impl<A: Allocator + Clone> Parser<A> {
         pause: bool,
         steps: &mut Steps<L>,
     ) -> Result<(), AllocError>
-        ensures state { OnOk result (self.new.state ≡ state_left (state_after self.old.state byte raw pause)) }
-        ensures text { OnOk result (self.new.text ≡ text_left (state_after self.old.state byte raw pause) self.old.state self.old.text byte) }
-        ensures waiting { OnOk result (self.new.waiting ≡ self.old.waiting ++ events_left (state_after self.old.state byte raw pause) self.old.text) }
-        ensures err { OnErr result ((self.new.waiting ≡ self.old.waiting) × (self.new.state ≡ self.old.state) × (self.new.text ≡ self.old.text) × (self.old.room ≤ self.new.room)) }
+        ensures put { OnOk result (PutsByte self.old self.new byte raw pause) }
+        ensures err { OnErr result (StaysAsItWas self.old self.new) }
         ensures free { is_paste self.old.state ≡ false → events_left (state_after self.old.state byte raw pause) self.old.text ≡ [] → IsOk result }
         ensures reserved { is_paste self.old.state ≡ false → 0 < self.old.room → IsOk result }
         ensures room { self.old.room ≤ self.new.room + 1 }
@@ -333,10 +329,8 @@ impl<A: Allocator + Clone> Parser<A> {
         pause: bool,
         steps: &mut Steps<L>,
     ) -> Result<(), AllocError>
-        ensures state { OnOk result (self.new.state ≡ state_left (state_after self.old.state byte raw pause)) }
-        ensures text { OnOk result (self.new.text ≡ text_left (state_after self.old.state byte raw pause) self.old.state self.old.text byte) }
-        ensures waiting { OnOk result (self.new.waiting ≡ self.old.waiting ++ events_left (state_after self.old.state byte raw pause) self.old.text) }
-        ensures err { OnErr result ((self.new.waiting ≡ self.old.waiting) × (self.new.state ≡ self.old.state) × (self.new.text ≡ self.old.text) × (self.old.room ≤ self.new.room)) }
+        ensures put { OnOk result (PutsByte self.old self.new byte raw pause) }
+        ensures err { OnErr result (StaysAsItWas self.old self.new) }
         ensures free { is_paste self.old.state ≡ false → events_left (state_after self.old.state byte raw pause) self.old.text ≡ [] → IsOk result }
         ensures reserved { is_paste self.old.state ≡ false → 0 < self.old.room → IsOk result }
         ensures room { self.old.room ≤ self.new.room + 1 }

@@ -9,7 +9,7 @@ loop-i-init g c = record { divided = advance_none c.args.self.now; room = omega 
 pub loop-i-preserved : goal.loop-i-preserved
 loop-i-preserved g c = record {
   divided = advance_more c.args.self.now c.loop-i.self c.put.new.self c.args.piece.now c.args.more c.args.raw c.loop-i.i _ _ (omega arith) refl c.pauses-pause.ensures
-      c.in-Ok.ensures.state c.in-Ok.ensures.text c.in-Ok.ensures.waiting c.loop-i.invariant.divided;
+      c.in-Ok.ensures.put.0 c.in-Ok.ensures.put.1 c.in-Ok.ensures.put.2 c.loop-i.invariant.divided;
   room = omega arith;
   steps = omega (arith, c.in-Ok.ensures.steps);
 }
