@@ -1,9 +1,9 @@
 //! A character in UTF-8 that is open.
-ghost use Rattle.std.specs.Prelude.{◌≡◌, ◌∷◌, [], ◌++◌, IsTrue, IsFalse};
+ghost use Rattle.std.specs.Prelude.{◌≡◌, ◌∷◌, [], ◌++◌, not, IsTrue, IsFalse};
 ghost use Rattle.bstr.specs.Utf8.{decoded};
 ghost use Rattle.crossterm_parse.specs.Characters.{begun_bytes};
 ghost use Rattle.crossterm_parse.specs.Deciding.{is_lead, is_continuing, further_after};
-ghost use Rattle.crossterm_parse.specs.Machine.{grown, over};
+ghost use Rattle.crossterm_parse.specs.Machine.{grown, is_over, over};
 
 use crate::meaning::{Meaning, meaning_of_character, plus_alt};
 use bstr::decode_utf8;
@@ -106,7 +106,8 @@ impl Character {
 
     /// Whether the character is over with one more byte.
     pub fn ends(&self, byte: u8) -> bool
-        ensures { IsTrue result → grown self.now.escaped self.now.begun byte ≡ over self.now.escaped (decoded (begun_bytes self.now.begun ++ byte ∷ [])).char }
+        ensures tells { result ≡ is_over (grown self.now.escaped self.now.begun byte) }
+        ensures character { IsTrue result → grown self.now.escaped self.now.begun byte ≡ over self.now.escaped (decoded (begun_bytes self.now.begun ++ byte ∷ [])).char }
     {
         if !is_continuing_byte(byte) {
             return true;
@@ -120,6 +121,7 @@ impl Character {
 
     /// Reads a byte in place, where the character goes on with it, and tells whether it did.
     pub fn goes_on(&mut self, byte: u8) -> bool
+        ensures tells { result ≡ not (is_over (grown self.old.escaped self.old.begun byte)) }
         ensures yes { IsTrue result → grown self.old.escaped self.old.begun byte ≡ Grown.More self.new.begun }
         ensures escaped { self.new.escaped ≡ self.old.escaped }
         ensures no { IsFalse result → self.new ≡ self.old }
