@@ -4,3 +4,4 @@ pub mod Keys
 pub mod Names
 pub mod Normal
 pub mod Seen
+pub mod Timing

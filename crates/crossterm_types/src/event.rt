@@ -5,6 +5,7 @@ pub mod filter;
 mod key;
 pub mod laws;
 mod mouse;
+pub mod timeout;
 
 pub use crossterm_flags::{KeyEventState, KeyModifiers, KeyboardEnhancementFlags};
 pub use key::{KeyCode, KeyEvent, KeyEventKind, MediaKeyCode, ModifierKeyCode};

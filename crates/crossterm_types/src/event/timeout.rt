@@ -1,0 +1,120 @@
+//! Clocks, and limits of time.
+ghost use Rattle.std.specs.Prelude.{◌≡◌, ◌≤◌, ◌↔◌, ℕ, IsTrue};
+ghost use Rattle.std.specs.Duration.{as_nanos};
+ghost use Rattle.std.specs.Option.{option_map};
+ghost use Rattle.crossterm_types.specs.Timing.{HasElapsed, gone, left_over};
+
+use std::time::{Duration, Instant};
+
+/// Tells the time since some moment, and never goes back.
+pub trait Clock {
+    /// What `now` told last, in nanoseconds; 0 at first.
+    ghost told: { Self → ℕ };
+
+    /// The time that it is.
+    fn now(&mut self) -> Duration
+        ensures told { as_nanos result ≡ told self.new }
+        ensures later { told self.old ≤ told self.new };
+
+    /// What `now` told last, and zero where it has told nothing yet.
+    fn last(&self) -> Duration
+        ensures { as_nanos result ≡ told self.now };
+}
+
+/// The system's monotonic clock, from the moment on at which it is asked first.
+///
+/// Where the system can't tell the time, `now` tells the last moment again.
+#[derive(Drop)]
+pub struct SystemClock<'a, C> {
+    system: &'a C,
+    start: Option<Instant>,
+    last: Duration,
+}
+
+impl<'a, C: std::rt::Clock> SystemClock<'a, C> {
+    /// A clock that has told nothing yet.
+    pub fn new(system: &'a C) -> Self
+        ensures { as_nanos result.last ≡ 0 }
+    {
+        SystemClock {
+            system,
+            start: None,
+            last: Duration::ZERO,
+        }
+    }
+
+    /// The time since the first moment, where the system tells it.
+    fn gone(&mut self) -> Option<Duration>
+        ensures { self.new.last ≡ self.old.last }
+    {
+        let now = Instant::now(self.system).ok()?;
+        match self.start {
+            Some(start) => Some(now.duration_since(start)),
+            None => {
+                self.start = Some(now);
+                Some(Duration::ZERO)
+            }
+        }
+    }
+}
+
+impl<C: std::rt::Clock> Clock for SystemClock<'_, C> {
+    ghost told = { λ clock. as_nanos clock.last };
+
+    fn now(&mut self) -> Duration {
+        if let Some(gone) = self.gone() {
+            if gone.as_nanos() > self.last.as_nanos() {
+                self.last = gone;
+            }
+        }
+        self.last
+    }
+
+    fn last(&self) -> Duration {
+        self.last
+    }
+}
+
+/// How long to wait, from a moment on.
+#[derive(Clone, Copy, Debug)]
+pub struct PollTimeout {
+    limit: Option<Duration>,
+    start: Duration,
+}
+
+impl PollTimeout {
+    /// So long from this moment on, or without a limit.
+    pub fn new(limit: Option<Duration>, now: Duration) -> PollTimeout
+        ensures limit { result.limit ≡ limit }
+        ensures start { result.start ≡ now }
+    {
+        PollTimeout { limit, start: now }
+    }
+
+    /// The time that has gone from the start to a moment; zero where the moment stands before it.
+    fn gone(self, now: Duration) -> Duration
+        ensures { as_nanos result ≡ gone self (as_nanos now) }
+    {
+        now.saturating_sub(self.start)
+    }
+
+    /// Whether there is a limit and at this moment it has passed.
+    pub fn elapsed(&self, now: Duration) -> bool
+        ensures { IsTrue result ↔ HasElapsed self.now (as_nanos now) }
+    {
+        match self.limit {
+            Some(limit) => self.gone(now).as_nanos() >= limit.as_nanos(),
+            None => false,
+        }
+    }
+
+    /// What is left of the limit at this moment, zero where it has passed; `None` without a limit.
+    pub fn leftover(&self, now: Duration) -> Option<Duration>
+        ensures { option_map as_nanos result ≡ left_over self.now (as_nanos now) }
+    {
+        match self.limit {
+            Some(limit) => Some(limit.saturating_sub(self.gone(now))),
+            None => None,
+        }
+    }
+}
