@@ -1,10 +1,10 @@
 //! A script as a device, and what a source makes of it.
 
 use crate::scripts::{Part, acts_of, source_of};
-use crossterm::event::filter::EventFilter;
-use crossterm::event::read::InternalEventReader;
-use crossterm::event::source::{Answer, Device, DeviceSource, EventSource, Script, Waker};
-use crossterm::event::{Event, InternalEvent};
+use crossterm_read::read::InternalEventReader;
+use crossterm_read::source::{Answer, Device, DeviceSource, EventSource, Script, Waker};
+use crossterm_types::event::filter::EventFilter;
+use crossterm_types::event::{Event, InternalEvent};
 use std::alloc::{AllocError, Global};
 use std::io::{self, ErrorKind};
 use std::time::Duration;
