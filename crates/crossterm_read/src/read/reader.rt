@@ -106,7 +106,7 @@ impl<S: EventSource<A>, A: Allocator> InternalEventReader<S, A> {
     // Makes room for an event, asks the source once, with limit zero, and holds what it gives.
     fn draw<F: Filter>(&mut self, filter: &F, patient: bool) -> Once
         ensures one { DrawsOne S.drawn patient (F.admits filter.now) self.old self.new result }
-        ensures asked { AsksWith (Some Duration.ZERO) (S.asked self.old.source) (S.asked self.new.source) }
+        ensures at_once { AsksWith (Some Duration.ZERO) (S.asked self.old.source) (S.asked self.new.source) }
         ensures room { capacity self.old ≤ capacity self.new }
         ensures full { IsRefused result → self.old.room ≡ 0 }
         ensures rise { S.failed self.old.source ≤ S.failed self.new.source }
@@ -167,6 +167,7 @@ impl<S: EventSource<A>, A: Allocator> InternalEventReader<S, A> {
     ///
     /// Where one is held already the answer is true at once. Else the source is asked with limit zero. The answer is true at the
     /// first admitted event, and false after a wake-up or the last try. Every other fault is answered. Events that came are held.
+    /// The error is `OutOfMemory` only where the source's was, or where there was no room left for an event and none could be made.
     pub fn poll_within<F: Filter>(&mut self, tries: u32, filter: &F) -> io::Result<bool>
         ensures step { (zs : List SourceAnswer) × S.drawn self.old.source zs self.new.source
             × PollStep tries (F.admits filter.now) zs self.old.shelf self.new.shelf (poll_said result)

@@ -17,7 +17,7 @@ returns-in-Broke-clause-asked g c =
 
 pub loop-i-preserved : goal.loop-i-preserved
 loop-i-preserved g c = record {
-  at_once = at_once_more _ _ _ _ c.loop-i.invariant.at_once refl c.draw.ensures.asked;
+  at_once = at_once_more _ _ _ _ c.loop-i.invariant.at_once refl c.draw.ensures.at_once;
   room = omega (arith, c.draw.ensures.room);
   rise = omega (arith, c.draw.ensures.rise);
   steady = λ p. elim c.match-draw.branch [
