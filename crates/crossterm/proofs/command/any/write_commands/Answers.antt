@@ -1,10 +1,9 @@
 use Rattle.std.proofs.Common.{rules, flat_map, sym}
-use Rattle.crossterm_command.proofs.Rows.{all_taken, front_at, more_taken}
-use Rattle.crossterm_command.proofs.Taking.{stopped_at}
+use Rattle.crossterm_command.proofs.Rows.{all_taken, more_taken, stopped_in}
 use Rattle.crossterm_command.proofs.TokenLaws.{one_reading}
 use Rattle.crossterm.specs.Functions.{functions, text_of}
 use Rattle.crossterm.proofs.Commands.{commands_read}
-use Rattle.crossterm.proofs.command.any.queue_all.Goals as goal
+use Rattle.crossterm.proofs.command.any.write_commands.Goals as goal
 
 pub loop-command-preserved : goal.loop-command-preserved
 loop-command-preserved g c =
@@ -17,5 +16,5 @@ returns-clause-reads g c readable =
     (text, all_taken (text_of c.args.colors) c.args.commands.now _ _ _ (search rules) c.loop-command.invariant, read, λ us other. one_reading text us (flat_map (functions c.args.colors) c.args.commands.now) other read)
 
 pub returns-in-Err-clause-err : goal.returns-in-Err-clause-err
-returns-in-Err-clause-err g c other =
-    front_at (text_of c.args.colors) c.args.commands.now _ c.command-item.result _ _ _ (search rules) (sym c.command-item.is) c.loop-command.invariant ((stopped_at _ _ _ _ _ _ c.from.ensures c.in-Err.ensures.err).front other)
+returns-in-Err-clause-err g c =
+    stopped_in (text_of c.args.colors) c.args.commands.now _ c.command-item.result _ _ _ _ (search rules) (sym c.command-item.is) c.loop-command.invariant c.in-Err.fault c.in-Err.ensures.err
