@@ -6,17 +6,8 @@
 //! `letters`, `utf8`, `keys`, `mouse`, `paste` or `hostile`. Its code stands on `crossterm` alone, by its public calls.
 #![tactic(auto)]
 
-mod fault;
-mod frame;
-mod input;
-mod mode;
-#[cfg(test)]
-mod tests;
-mod timing;
-mod workload;
-
-use fault::Fault;
-use mode::Mode;
+use bench_modes::fault::Fault;
+use bench_modes::mode::Mode;
 use std::process::ExitCode;
 use std::{env, io};
 

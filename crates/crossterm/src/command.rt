@@ -4,10 +4,10 @@ mod any;
 mod sequence;
 mod synchronized;
 
-pub use any::{AnyCommand, queue_all};
+pub use any::{AnyCommand, queue_all, write_commands};
 pub use crossterm_command::{
     Command, CommandFault, ExecutableCommand, QueueableCommand, execute_command, queue_command,
-    write_command,
+    send_command, write_command,
 };
 pub(crate) use crossterm_command::{execute_fmt, write_once};
 pub(crate) use sequence::{write_number, write_numbers};

@@ -17,5 +17,5 @@ pub mod terminal;
 
 pub use command::{
     AnyCommand, Command, CommandFault, ExecutableCommand, QueueableCommand, SynchronizedUpdate,
-    execute_command, queue_all, queue_command, write_command,
+    execute_command, queue_all, queue_command, send_command, write_command, write_commands,
 };

@@ -19,7 +19,8 @@ macro_rules! osc {
 /// Queues commands on a writer, in order: `queue!(writer, colors, MoveTo(0, 0), Print("x"))`.
 ///
 /// It gives an `io::Result<()>`. The first command that fails stops the rest. Without a command nothing is written. The writer is a `W`
-/// or a `&mut W`, and `QueueableCommand` has to be in scope.
+/// or a `&mut W`, and `QueueableCommand` has to be in scope. The second argument is a `ColorOutput`: a command in its place, as in
+/// `queue!(writer, MoveTo(0, 0))`, doesn't compile.
 #[macro_export]
 macro_rules! queue {
     ($writer:expr, $colors:expr $(, $command:expr)* $(,)?) => {
@@ -49,7 +50,7 @@ macro_rules! execute {
 macro_rules! queue_on {
     ($writer:ident, $colors:ident) => {{
         let _ = $writer;
-        let _ = $colors;
+        let _: $crate::style::ColorOutput = $colors;
         Ok::<(), std::io::Error>(())
     }};
     ($writer:ident, $colors:ident, $command:expr) => {

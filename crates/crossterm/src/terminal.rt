@@ -184,6 +184,12 @@ impl<T: Display> Command for SetTitle<T> {
     }
 }
 
+/// The text of `BeginSynchronizedUpdate`.
+pub(crate) const BEGIN_UPDATE: &str = csi!("?2026h");
+
+/// The text of `EndSynchronizedUpdate`.
+pub(crate) const END_UPDATE: &str = csi!("?2026l");
+
 /// What follows is shown at once, when the update ends (synchronized output, `CSI ? 2026 h`).
 #[derive(Clone, Copy, PartialEq, Eq, Debug)]
 pub struct BeginSynchronizedUpdate;
@@ -192,7 +198,7 @@ impl Command for BeginSynchronizedUpdate {
     ghost text = { λ _ _. Some begin_update_text };
 
     fn write_ansi<W: fmt::Write>(&self, f: &mut W, _colors: ColorOutput) -> fmt::Result {
-        write_once(f, csi!("?2026h"))
+        write_once(f, BEGIN_UPDATE)
     }
 }
 
@@ -204,6 +210,6 @@ impl Command for EndSynchronizedUpdate {
     ghost text = { λ _ _. Some end_update_text };
 
     fn write_ansi<W: fmt::Write>(&self, f: &mut W, _colors: ColorOutput) -> fmt::Result {
-        write_once(f, csi!("?2026l"))
+        write_once(f, END_UPDATE)
     }
 }

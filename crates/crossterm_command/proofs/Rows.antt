@@ -1,9 +1,12 @@
 -- The texts of a list, one after another.
-use Rattle.std.proofs.Common.{◌≡◌, ℕ, ◌+◌, ◌<◌, ◌≤◌, List, [], ◌∷◌, ◌++◌, Option, sym, ap, ◌∙◌, append_assoc, append-nil, subst, take_all, length, get_or, take, drop, take-append-drop, flat_map}
+use Rattle.std.proofs.Common.{◌≡◌, ◌≢◌, ℕ, ◌+◌, ◌<◌, ◌≤◌, arith, List, [], ◌∷◌, ◌++◌, Option, Some, sym, ap, ◌∙◌, append_assoc, append-nil, subst, take_all, length, get_or, take, drop, take-append-drop, flat_map}
 use Rattle.std.proofs.lemmas.List.{take_more}
 use Rattle.std.proofs.lemmas.List.Concat.{flat_map-append}
 use Rattle.std.specs.Io.KnownBytes.{Appends}
 use Rattle.std.proofs.KnownBytes.{Appends-trans}
+use Rattle.crossterm_command.specs.declared.fault.CommandFault.{CommandFault}
+use Rattle.crossterm_command.specs.declared.fault.CommandFault.TheVariants.{Writer, Text, Both}
+use Rattle.crossterm_command.specs.Faults.{Stopped}
 use Rattle.crossterm_command.specs.Writing.{AppendsFront}
 
 -- the texts before a place and the text at it
@@ -45,6 +48,17 @@ front_at f xs i x a b c l e p (front, rest, split, grown) =
       whole_at f xs i x l e ∙ ap (λ h. before ++ (h ++ after)) split ∙ ap (λ h. before ++ h) (append_assoc front rest after) ∙ sym (append_assoc before front (rest ++ after)),
       Appends-trans a b c before front p grown,
     )
+
+-- A list that has something at a place isn't empty.
+not_empty : {X : Type 0} (xs : List X) (i : ℕ) → i < length xs → xs ≢ []
+not_empty xs i l none = omega (arith, l, ap length none)
+
+-- After all texts before a place, what stops at it stops the list.
+pub stopped_in : {X : Type 0} (f : X → List ℕ) (xs : List X) (i : ℕ) (x : X) (failed : Type 0) (a b c : Option (List ℕ)) → i < length xs → get_or xs i x ≡ x
+    → Appends a b (flat_map f (take i xs)) → (fault : CommandFault) → Stopped fault (Some (f x)) failed b c → Stopped fault (Some (flat_map f xs)) (xs ≢ []) a c
+stopped_in f xs i x failed a b c l e p (Writer fault) q = front_at f xs i x a b c l e p q
+stopped_in f xs i x failed a b c l e p Text q = not_empty xs i l
+stopped_in f xs i x failed a b c l e p (Both fault) q = not_empty xs i l
 
 pub all_taken : {X : Type 0} (f : X → List ℕ) (xs : List X) (i : ℕ) (a b : Option (List ℕ)) → length xs ≤ i → Appends a b (flat_map f (take i xs)) → Appends a b (flat_map f xs)
 all_taken f xs i a b l p = subst (λ ys. Appends a b (flat_map f ys)) (take_all i xs l) p

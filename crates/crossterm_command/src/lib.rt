@@ -21,4 +21,4 @@ pub use fault::CommandFault;
 pub use once::write_once;
 pub use queueable::{ExecutableCommand, QueueableCommand, execute_command, queue_command};
 pub use shown::execute_fmt;
-pub use writing::write_command;
+pub use writing::{send_command, write_command, write_text};

@@ -4,7 +4,7 @@ ghost use Rattle.std.specs.IoError.{error_kind};
 ghost use Rattle.std.specs.Borrow.{sem, RestsIfErr};
 ghost use Rattle.crossterm_command.specs.Writing.{AppendsText, Stops};
 
-use crate::{ColorOutput, Command, write_command};
+use crate::{ColorOutput, Command, send_command, write_command};
 use std::io;
 
 /// Writes a command's text: `queue` where the writer isn't to be handed back.
@@ -37,9 +37,9 @@ pub fn execute_command<W: io::Write, C: Command + Drop>(
     ensures err { IfErr result (λ e. Stops (error_kind e) (C.text command colors) (C.fails command colors)
         (W.contents writer.old) (W.contents writer.new)) }
 {
-    match queue_command(writer, colors, command) {
-        Ok(()) => writer.flush(),
-        Err(e) => Err(e),
+    match send_command(writer, colors, &command) {
+        Ok(()) => Ok(()),
+        Err(fault) => Err(io::Error::from(fault)),
     }
 }
 

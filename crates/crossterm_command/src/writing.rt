@@ -9,13 +9,13 @@ use crate::{ColorOutput, Command, CommandFault};
 use std::io::ErrorKind;
 use std::{fmt, io};
 
-/// Writes all the bytes, however few a call takes. An interrupted write is tried again at most 64 times in a row; a write that takes 0 bytes
-/// is `WriteZero`. At an error the bytes that were written are a beginning.
-pub(crate) fn write_bytes<W: io::Write>(writer: &mut W, bytes: &[u8]) -> io::Result<()>
-    ensures ok { OnOk result (Appends (W.contents writer.old) (W.contents writer.new) bytes.now) }
-    ensures err { OnErr result (AppendsFront (W.contents writer.old) (W.contents writer.new) bytes.now) }
+/// Writes all of a text, however few bytes a call takes. An interrupted write is tried again at most 64 times in a row; a write that takes
+/// 0 bytes is `WriteZero`. At an error, which is the writer's own, a beginning was written.
+pub fn write_text<W: io::Write>(writer: &mut W, text: &str) -> io::Result<()>
+    ensures ok { OnOk result (Appends (W.contents writer.old) (W.contents writer.new) text.now) }
+    ensures err { OnErr result (AppendsFront (W.contents writer.old) (W.contents writer.new) text.now) }
 {
-    let mut rest = bytes;
+    let mut rest = text.as_bytes();
     let mut tries = Tries::new();
     while !rest.is_empty() {
         match writer.write(rest) {
@@ -46,7 +46,7 @@ impl<W: io::Write> fmt::Write for Adapter<'_, W> {
 
     fn write_str(&mut self, s: &str) -> fmt::Result {
         if self.fault.is_none() {
-            self.fault = write_bytes(self.inner, s.as_bytes()).err();
+            self.fault = write_text(self.inner, s).err();
         }
         Ok(())
     }
@@ -74,5 +74,26 @@ pub fn write_command<W: io::Write, C: Command>(
         (Ok(()), Some(e)) => Err(CommandFault::Writer(e)),
         (Err(fmt::Error), None) => Err(CommandFault::Text),
         (Err(fmt::Error), Some(e)) => Err(CommandFault::Both(e)),
+    }
+}
+
+/// Writes a command's text as `write_command` does, and flushes: `execute` with an error that tells who failed.
+///
+/// Where only the flush failed, which is the writer's fault, the whole text was written.
+pub fn send_command<W: io::Write, C: Command>(
+    writer: &mut W,
+    colors: ColorOutput,
+    command: &C,
+) -> Result<(), CommandFault>
+    ensures ok { OnOk result (AppendsText (W.contents writer.old) (W.contents writer.new) (C.text command.now colors)) }
+    ensures err { IfErr result (λ fault. Stopped fault (C.text command.now colors) (C.fails command.now colors)
+        (W.contents writer.old) (W.contents writer.new)) }
+{
+    match write_command(writer, colors, command) {
+        Ok(()) => match writer.flush() {
+            Ok(()) => Ok(()),
+            Err(e) => Err(CommandFault::Writer(e)),
+        },
+        Err(fault) => Err(fault),
     }
 }

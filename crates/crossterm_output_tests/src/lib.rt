@@ -40,12 +40,18 @@ mod colors;
 #[cfg(test)]
 mod commands;
 #[cfg(test)]
+mod faults;
+#[cfg(test)]
 mod queueing;
 #[cfg(test)]
 mod refused;
 #[cfg(test)]
 mod shown;
 #[cfg(test)]
+mod sizes;
+#[cfg(test)]
 mod styles;
 #[cfg(test)]
 mod tape;
+#[cfg(test)]
+mod witness;

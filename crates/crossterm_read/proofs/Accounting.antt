@@ -7,9 +7,8 @@ use Rattle.std.proofs.lemmas.List.{length-map, map-append}
 use Rattle.std.proofs.lemmas.List.Sorted.{IsPermutation-refl, IsPermutation-append_left, IsPermutation-more}
 use Rattle.std.proofs.lemmas.List.Quantifiers.{position-Some}
 use Rattle.crossterm_types.specs.Seen.{Seen}
-use Rattle.crossterm_read.specs.Answers.{SourceAnswer, Gave, Nothing, Failed}
+use Rattle.crossterm_read.specs.Answers.{SourceAnswer, Gave, Nothing, Failed, gave}
 use Rattle.crossterm_read.specs.Device.{Word}
-use Rattle.crossterm_read.specs.Blocks.{gave}
 use Rattle.crossterm_read.proofs.Happening.{told_front}
 use Rattle.crossterm_read.specs.declared.read.trace.Call.{Call}
 use Rattle.crossterm_read.specs.declared.read.trace.Call.TheVariants as call

@@ -1,17 +1,21 @@
 -- Asking a source again and again.
-use Rattle.std.proofs.Common.{◌≡◌, ◌≢◌, ◌<◌, ℕ, ◌+◌, Bool, true, false, List, [], ◌∷◌, ◌++◌, length, Option, None, Some, Ok, inl, inr, refl, sym, ap, subst, ◌∙◌, arith, append_assoc, append-nil, length-append}
+use Rattle.std.proofs.Common.{◌≡◌, ◌≢◌, ◌<◌, ◌≤◌, ℕ, suc, ◌+◌, Bool, true, false, List, [], ◌∷◌, ◌++◌, length, Option, None, Some, Result, Ok, Err, inl, inr, refl, sym, ap, subst, ◌∙◌, arith, append_assoc, append-nil, length-append}
 use mathlib.Core.Bool.{true≢false}
-use Rattle.std.specs.Prelude.{is_some}
+use Rattle.std.specs.Prelude.{is_some, IfErr}
+use Rattle.std.specs.declared.io.Error.{Error}
+use Rattle.std.specs.IoError.{error_kind}
 use Rattle.std.specs.List.{AllByRecursion}
 use Rattle.std.specs.declared.io.ErrorKind.{ErrorKind}
+use Rattle.std.specs.declared.time.Duration.{Duration}
 use Rattle.std.specs.declared.io.ErrorKind.TheVariants.{OutOfMemory, Interrupted}
 use Rattle.crossterm_types.specs.Seen.{Seen}
-use Rattle.crossterm_read.specs.Answers.{SourceAnswer, Gave, Nothing, Failed}
+use Rattle.crossterm_read.specs.Answers.{SourceAnswer, Gave, Nothing, Failed, gave}
+use Rattle.crossterm_read.specs.Device.{IsAtOnce, AsksWith, AsksAtOnce}
 use Rattle.crossterm_read.specs.declared.read.reader.Once.{Once}
 use Rattle.crossterm_read.specs.declared.read.reader.Once.TheVariants as once
 use Rattle.crossterm_read.specs.Shelf.{Shelf, ReaderState}
-use Rattle.crossterm_read.specs.Shelf.{arrived, numbered_after, next_number, Arrives}
-use Rattle.crossterm_read.specs.Steps.{first_admitted, Passes, held_already, came, broke, tried, refused, Ready, Tried, Broke, Asked, DrawsOne, PollStep, Polled, Faulted, end_of}
+use Rattle.crossterm_read.specs.Shelf.{arrived, numbered_after, next_number, Arrives, capacity}
+use Rattle.crossterm_read.specs.Steps.{first_admitted, Passes, held_already, came, broke, tried, refused, Ready, Tried, Broke, Asked, DrawsOne, PollStep, poll_said, end_of, RefusedOnlyWithoutRoom}
 
 pub arrived-append : (n : ℕ) (xs ys : List SourceAnswer) → arrived n (xs ++ ys) ≡ arrived n xs ++ arrived (numbered_after n xs) ys
 arrived-append n [] ys = refl
@@ -38,6 +42,30 @@ arrives_more s m t xs ys a b = record {
 all_push : {Y : Type 0} (P : Y → Type 0) (ys : List Y) (y : Y) → AllByRecursion P ys → P y → AllByRecursion P (ys ++ y ∷ [])
 all_push P [] y a h = (h, tt)
 all_push P (x ∷ ys) y a h = (a.0, all_push P ys y a.1 h)
+
+pub at_once_none : (l : List (Option Duration)) → AsksAtOnce l l
+at_once_none l = ([], sym (append-nil l), tt)
+
+pub at_once_more : (l m k : List (Option Duration)) (limit : Option Duration) → AsksAtOnce l m → IsAtOnce limit → AsksWith limit m k → AsksAtOnce l k
+at_once_more l m k limit a h (inl e) = (a.0, e ∙ a.1, a.2)
+at_once_more l m k limit a h (inr e) = (
+  a.0 ++ limit ∷ [],
+  e ∙ ap (λ (x : List (Option Duration)). x ++ limit ∷ []) a.1 ∙ append_assoc l a.0 (limit ∷ []),
+  all_push IsAtOnce a.0 limit a.2 h,
+)
+
+length-arrived : (n : ℕ) (zs : List SourceAnswer) → length (arrived n zs) ≡ length (gave zs)
+length-arrived n [] = refl
+length-arrived n (Gave x ∷ zs) = ap (λ (k : ℕ). suc k) (length-arrived (next_number n) zs)
+length-arrived n (Nothing ∷ zs) = length-arrived n zs
+length-arrived n (Failed k ∷ zs) = length-arrived n zs
+
+-- Where there is no room left as many events came as there was room for.
+came_to_room : {S : Type 0} (s t : ReaderState S) (zs : List SourceAnswer) → Arrives s.shelf zs t.shelf → capacity s ≤ capacity t → t.room ≡ 0 → s.room ≤ length (gave zs)
+came_to_room s t zs a h e =
+    let held = ap length a.held ∙ length-append s.shelf.held (arrived s.shelf.arrivals zs) in
+    let came = length-arrived s.shelf.arrivals zs in
+    omega arith
 
 pub none_of : (x : Option ℕ) → is_some x ≡ false → x ≡ None
 none_of None h = refl
@@ -68,13 +96,13 @@ module _ {S : Type 0} (drawn : S → List SourceAnswer → S → Type 0) (on : (
   }
 
   pub asked_held : ((s : S) → drawn s [] s) → (s : ReaderState S) (tries : ℕ) → is_some (first_admitted f s.shelf.held) ≡ true → Asked drawn patient f tries s s Ready
-  asked_held law s tries h = ([], law s.source, arrives_none s.shelf, held_already h refl refl)
+  asked_held law s tries h = ([], law s.source, arrives_none s.shelf, held_already h refl refl, tt)
 
   pub asked_tried : (s t : ReaderState S) (tries : ℕ) → Asking s t tries → Asked drawn patient f tries s t Tried
-  asked_tried s t tries a = (a.answers, a.drawn_so, a.arrives, tried a.none a.passes a.count refl)
+  asked_tried s t tries a = (a.answers, a.drawn_so, a.arrives, tried a.none a.passes a.count refl, tt)
 
-  pub asked_refused : (s t : ReaderState S) (i tries : ℕ) (kind : ErrorKind) → Asking s t i → i < tries → kind ≡ OutOfMemory → Asked drawn patient f tries s t (Broke kind)
-  asked_refused s t i tries kind a h e = (a.answers, a.drawn_so, a.arrives, refused a.none a.passes (let c = a.count in omega arith) (ap Broke e))
+  pub asked_refused : (s t : ReaderState S) (i tries : ℕ) (kind : ErrorKind) → Asking s t i → i < tries → kind ≡ OutOfMemory → capacity s ≤ capacity t → t.room ≡ 0 → Asked drawn patient f tries s t (Broke kind)
+  asked_refused s t i tries kind a h e r n = (a.answers, a.drawn_so, a.arrives, refused a.none a.passes (let c = a.count in omega arith) (ap Broke e), λ k. inr (came_to_room s t a.answers a.arrives r n))
 
   pub asked_came : (s m t : ReaderState S) (i tries : ℕ) (x : Seen) → Asking s m i → i < tries → drawn m.source (Gave x ∷ []) t.source → Arrives m.shelf (Gave x ∷ []) t.shelf → f x ≡ true
       → Asked drawn patient f tries s t Ready
@@ -83,6 +111,7 @@ module _ {S : Type 0} (drawn : S → List SourceAnswer → S → Type 0) (on : (
     on s.source m.source t.source a.answers (Gave x ∷ []) a.drawn_so d,
     arrives_more s.shelf m.shelf t.shelf a.answers (Gave x ∷ []) a.arrives r,
     came a.none a.answers x refl a.passes y (let c = a.count in let l = length-append a.answers (Gave x ∷ []) in omega arith) refl,
+    tt,
   )
 
   pub asked_broke : (s m t : ReaderState S) (i tries : ℕ) (kind : ErrorKind) → Asking s m i → i < tries → drawn m.source (Failed kind ∷ []) t.source → Arrives m.shelf (Failed kind ∷ []) t.shelf
@@ -92,6 +121,7 @@ module _ {S : Type 0} (drawn : S → List SourceAnswer → S → Type 0) (on : (
     on s.source m.source t.source a.answers (Failed kind ∷ []) a.drawn_so d,
     arrives_more s.shelf m.shelf t.shelf a.answers (Failed kind ∷ []) a.arrives r,
     broke a.none a.answers kind refl a.passes y (let c = a.count in let l = length-append a.answers (Failed kind ∷ []) in omega arith) refl,
+    λ e. inl (a.answers, ap (λ (k : ErrorKind). a.answers ++ Failed k ∷ []) e),
   )
 
   pub draws_from : (i s t : ReaderState S) (o : Once) → i ≡ s → DrawsOne drawn patient f i t o → DrawsOne drawn patient f s t o
@@ -104,12 +134,16 @@ module _ {S : Type 0} (drawn : S → List SourceAnswer → S → Type 0) (on : (
   asking_nothing s m t i a d = asking_more s m t i d.0 a d.1 d.2 d.3
 
 module _ {S : Type 0} (drawn : S → List SourceAnswer → S → Type 0) (f : Seen → Bool) (tries : ℕ) (s t : ReaderState S) where
-  pub poll_ok : (b : Bool) → Asked drawn false f tries s t (end_of (Ok b)) → (zs : List SourceAnswer) × drawn s.source zs t.source × PollStep tries f zs s.shelf t.shelf (Polled b)
-  poll_ok true a = (a.0, a.1, (Ready, a.3, a.2, refl))
-  poll_ok false a = (a.0, a.1, (Tried, a.3, a.2, refl))
+  -- a poll that says this
+  abbrev pub Polls : Result Bool Error → Type 0
+  Polls r = (zs : List SourceAnswer) × drawn s.source zs t.source × PollStep tries f zs s.shelf t.shelf (poll_said r) × IfErr r (λ e. RefusedOnlyWithoutRoom s.room zs (error_kind e))
 
-  pub poll_woken : (kind : ErrorKind) → kind ≡ Interrupted → Asked drawn false f tries s t (Broke kind) → (zs : List SourceAnswer) × drawn s.source zs t.source × PollStep tries f zs s.shelf t.shelf (Polled false)
-  poll_woken kind h a = (a.0, a.1, (Broke kind, a.3, a.2, inl (h, refl)))
+  pub poll_ok : (b : Bool) → Asked drawn false f tries s t (end_of (Ok b)) → Polls (Ok b)
+  poll_ok true a = (a.0, a.1, (Ready, a.3, a.2, refl), tt)
+  poll_ok false a = (a.0, a.1, (Tried, a.3, a.2, refl), tt)
 
-  pub poll_fault : (kind : ErrorKind) → kind ≢ Interrupted → Asked drawn false f tries s t (Broke kind) → (zs : List SourceAnswer) × drawn s.source zs t.source × PollStep tries f zs s.shelf t.shelf (Faulted kind)
-  poll_fault kind h a = (a.0, a.1, (Broke kind, a.3, a.2, inr (h, refl)))
+  pub poll_woken : (kind : ErrorKind) → kind ≡ Interrupted → Asked drawn false f tries s t (Broke kind) → Polls (Ok false)
+  poll_woken kind h a = (a.0, a.1, (Broke kind, a.3, a.2, inl (h, refl)), tt)
+
+  pub poll_fault : (e : Error) → error_kind e ≢ Interrupted → Asked drawn false f tries s t (Broke (error_kind e)) → Polls (Err e)
+  poll_fault e h a = (a.0, a.1, (Broke (error_kind e), a.3, a.2, inr (h, refl)), a.4)

@@ -9,11 +9,11 @@ use Rattle.crossterm_parse.specs.Meaning.{meaning_of}
 use Rattle.crossterm_parse.specs.Division.{Divides, IsUndecided}
 use Rattle.crossterm_parse.proofs.DivisionLaws as laws
 use Rattle.crossterm_parse.proofs.GrammarLaws.{nil_not_whole, whole_or_not}
-use Rattle.crossterm_read.specs.Answers.{SourceAnswer, Gave, Nothing, Failed}
+use Rattle.crossterm_read.specs.Answers.{SourceAnswer, Gave, Nothing, Failed, gave}
 use Rattle.crossterm_read.specs.Device.{Word, Bytes, Resized, Woken, Idle, Fault, told_bytes}
 use Rattle.crossterm_read.specs.Scripted.{Tells}
 use Rattle.std.specs.declared.io.ErrorKind.TheVariants.{UnexpectedEof, Interrupted}
-use Rattle.crossterm_read.specs.Blocks.{Block, Ended, Single, Brings, Happens, Says, SaysAll, Told, events_of, block_events, all_bytes, byte_events, gave, Happened, HappensByDivision}
+use Rattle.crossterm_read.specs.Blocks.{Block, Ended, Single, Brings, Happens, Says, SaysAll, Told, events_of, block_events, all_bytes, byte_events, Happened, HappensByDivision}
 
 none_divided : (before : List Marked) → IsUndecided Whole before → Divides Whole (before ++ []) [] before
 none_divided before u = record { joined = append-nil before; whole = tt; undecided = u }

@@ -318,4 +318,4 @@ pub script_told : (s t : Source ScriptLeft) (xs : List SourceAnswer) → s.parse
 script_told s t xs w h u d =
     let r = d.2 [] h nil_undecided in
     let same : at s [] ≡ record { waiting = []; untaken = []; undecided = [] } = λ i. record { waiting = w i; untaken = u i; undecided = [] } in
-    told_of (at t r.0) s.device.left d.0 t.device.left xs d.1 (subst (λ (y : At). Turns y d.0 xs (at t r.0)) same r.3)
+    told_of (at t r.0) s.device.left d.0 t.device.left xs d.1.0 (subst (λ (y : At). Turns y d.0 xs (at t r.0)) same r.3)

@@ -4,12 +4,14 @@ use Rattle.std.specs.List.{filter_map}
 use Rattle.crossterm_parse.specs.declared.marked.Marked.{Marked}
 use Rattle.crossterm_parse.specs.Marked.{marked}
 use Rattle.crossterm_types.specs.Seen.{Seen}
+use Rattle.crossterm_parse.specs.Division.{Divides}
+use Rattle.crossterm_parse.specs.Grammar.{Whole}
 use Rattle.crossterm_parse.specs.Meaning.{meaning_of}
-use Rattle.crossterm_parse.specs.Standing.{Standing, StandsStill, AdvancesOver}
+use Rattle.crossterm_parse.specs.Standing.{Standing, StandsStill, AdvancesOver, EndsNoEvent}
 use Rattle.crossterm_read.specs.Answers.{SourceAnswer, Gave, Failed}
 use Rattle.std.specs.declared.io.ErrorKind.TheVariants.{OutOfMemory}
 use Rattle.std.proofs.Math.Seq.{drop-nil}
-use Rattle.std.proofs.lemmas.List.{drop-take, length-take-le}
+use Rattle.std.proofs.lemmas.List.{drop_all, drop-take, length-take-le}
 use Rattle.crossterm_parse.proofs.StandingLaws.{length-marked}
 use Rattle.crossterm_read.specs.Device.{Word, Bytes, told_bytes}
 use Rattle.crossterm_read.specs.Turns.{Takes, GivesFirst, without_event, waited, again, fresh, other, Answers, Source, at, SourceDrawn, Hands}
@@ -81,13 +83,17 @@ gives_none w new left x after h i e = subst
     (λ (l : List Seen). GivesFirst l (record { waiting = l; untaken = left; undecided = after }) x (record { waiting = new; untaken = left; undecided = after }))
     (sym h) (e, λ j. record { waiting = i j; untaken = left; undecided = after })
 
+-- nothing is left where as many were taken as there were
+taken_whole : (n : ℕ) (rest : List ℕ) (more raw : Bool) → n ≡ length rest → marked (drop n rest) more raw ≡ []
+taken_whole n rest more raw h = ap (λ (l : List ℕ). marked l more raw) (drop_all n rest (omega arith))
+
 -- a front was taken, and then the first event given
 pub hands_next : {D : Type 0} (i s : Source D) (m new : Standing) (left : List Marked) (d : D) (n : ℕ) (rest : List ℕ) (more raw : Bool) (x : SourceAnswer) → i ≡ s
     → s.parser.waiting ≡ [] → i.untaken ≡ marked rest more raw → n ≤ length rest → left ≡ marked (drop n rest) more raw
-    → AdvancesOver i.parser m (take n (marked rest more raw)) → StandsStill m new
+    → AdvancesOver i.parser m (take n (marked rest more raw)) → (EndsNoEvent i.parser (marked rest more raw) → n ≡ length rest) → StandsStill m new
     → ((after : List Marked) → GivesFirst m.waiting (record { waiting = m.waiting; untaken = left; undecided = after }) x (record { waiting = new.waiting; untaken = left; undecided = after }))
     → Hands s x (record { parser = new; untaken = left; device = d })
-hands_next {D} i s m new left d n rest more raw x e w u h v a st gives =
+hands_next {D} i s m new left d n rest more raw x e w u h v a whole st gives =
     let done : Hands i x (record { parser = new; untaken = left; device = d }) = λ before stands undecided.
     let adv = a before stands undecided in (
       adv.rest,
@@ -100,6 +106,7 @@ hands_next {D} i s m new left d n rest more raw x e w u h v a st gives =
         cut = u ∙ marked_split n rest more raw h ∙ ap (λ (l : List Marked). take n (marked rest more raw) ++ l) (sym v);
         division = adv.division;
         waiting = adv.given ∙ ap (λ (l : List Seen). l ++ filter_map meaning_of adv.parts) (ap (λ (y : Source D). y.parser.waiting) e ∙ w);
+        quiet = λ q. v ∙ taken_whole n rest more raw (whole (before, q.0, q.1, stands, undecided, subst (λ (l : List Marked). Divides Whole (before ++ l) q.0 q.1) u q.2, q.3, q.4));
       },
       gives adv.rest,
     ) in

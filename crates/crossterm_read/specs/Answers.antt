@@ -1,5 +1,5 @@
 -- What a source answers.
-use Rattle.std.specs.Prelude.{◌≡◌, ◌⊎◌, Option, Some, None, Result, Ok, Err}
+use Rattle.std.specs.Prelude.{◌≡◌, ◌⊎◌, List, [], ◌∷◌, Option, Some, None, Result, Ok, Err}
 use Rattle.std.specs.IoError.{error_kind}
 use Rattle.std.specs.declared.io.Error.{Error}
 use Rattle.std.specs.declared.io.ErrorKind.{ErrorKind}
@@ -17,6 +17,13 @@ abbrev pub answer_of : {A : Type 0} → Result (Option (InternalEvent A)) Error 
 answer_of (Ok (Some event)) = Gave (seen event)
 answer_of (Ok None) = Nothing
 answer_of (Err e) = Failed (error_kind e)
+
+-- The events among answers.
+abbrev pub gave : List SourceAnswer → List Seen
+gave [] = []
+gave (Gave x ∷ xs) = x ∷ gave xs
+gave (Nothing ∷ xs) = gave xs
+gave (Failed kind ∷ xs) = gave xs
 
 -- The kinds of a source's own faults: memory was refused, the input ended, or somebody woke it. Every other fault is the device's.
 abbrev pub IsOwn : ErrorKind → Type 0

@@ -69,13 +69,6 @@ pub record Told (words : List Word) (list : List SourceAnswer) : Type 0 where
   pub happens : Happens [] told blocks undecided
   pub says : SaysAll blocks (list ++ more)
 
--- The events among answers.
-abbrev pub gave : List SourceAnswer → List Seen
-gave [] = []
-gave (Gave x ∷ xs) = x ∷ gave xs
-gave (Nothing ∷ xs) = gave xs
-gave (Failed kind ∷ xs) = gave xs
-
 -- All events that happen by these words.
 abbrev pub Happened : List Word → List Seen → Type 0
 Happened words es = (blocks : List Block) × (undecided : List Marked) × Happens [] words blocks undecided × (es ≡ events_of blocks)

@@ -1,5 +1,6 @@
 -- What a device tells.
-use Rattle.std.specs.Prelude.{◌≡◌, ◌≤◌, ◌==◌, ℕ, Bool, List, length, take, Option, Result, Ok, Err, IsSomeAnd}
+use Rattle.std.specs.Prelude.{◌≡◌, ◌⊎◌, ◌≤◌, ◌==◌, ℕ, Bool, List, [], ◌∷◌, ◌++◌, length, take, Option, Result, Ok, Err, IsSomeAnd}
+use Rattle.std.specs.List.{AllByRecursion}
 use Rattle.std.specs.Duration.{as_nanos}
 use Rattle.std.specs.IoError.{error_kind}
 use Rattle.std.specs.declared.io.Error.{Error}
@@ -29,6 +30,14 @@ word_of (Err e) buffer = Fault (error_kind e)
 -- The limit is zero, so that a device answers without waiting.
 abbrev pub IsAtOnce : Option Duration → Type 0
 IsAtOnce limit = IsSomeAnd limit (λ d. as_nanos d ≡ 0)
+
+-- The device was asked once at most, with this limit.
+abbrev pub AsksWith : Option Duration → List (Option Duration) → List (Option Duration) → Type 0
+AsksWith limit old new = (new ≡ old) ⊎ (new ≡ old ++ limit ∷ [])
+
+-- It was asked some more times, each time with limit zero.
+abbrev pub AsksAtOnce : List (Option Duration) → List (Option Duration) → Type 0
+AsksAtOnce old new = (more : List (Option Duration)) × (new ≡ old ++ more) × AllByRecursion IsAtOnce more
 
 -- As many bytes as the buffer holds, at most.
 abbrev pub CountWithin : Answer → ℕ → Type 0

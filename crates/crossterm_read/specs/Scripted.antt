@@ -1,6 +1,8 @@
 -- What a script tells.
-use Rattle.std.specs.Prelude.{◌≡◌, ℕ, zero, suc, Bool, false, List, [], ◌∷◌, ◌++◌, length, take, drop, map, refl}
-use Rattle.std.proofs.Common.{subst, sym}
+use Rattle.std.specs.Prelude.{◌≡◌, ℕ, ◌+◌, zero, suc, Bool, true, false, List, [], ◌∷◌, ◌++◌, length, take, drop, map, refl}
+use Rattle.std.specs.List.{count_by}
+use Rattle.std.proofs.Common.{subst, sym, ap, ◌∙◌, add-zero, add_assoc}
+use Rattle.std.proofs.lemmas.List.Sums.{sum_by-append}
 use Rattle.crossterm_read.specs.Device.{Word, Bytes, Resized, Woken, Idle, Fault}
 use Rattle.crossterm_read.specs.declared.source.script.Act.{Act}
 use Rattle.crossterm_read.specs.declared.source.script.Act.TheVariants as act
@@ -42,17 +44,29 @@ Tells left [] after = left ≡ after
 Tells [] (x ∷ xs) after = (x ≡ Bytes [] false) × Tells [] xs after
 Tells (w ∷ left) (x ∷ xs) after = (x ≡ w) × Tells left xs after
 
+-- How many words are faults.
+abbrev pub is_fault : Word → Bool
+is_fault (Bytes bytes raw) = false
+is_fault (Resized columns rows) = false
+is_fault Woken = false
+is_fault Idle = false
+is_fault (Fault kind) = true
+
+abbrev pub faults : List Word → ℕ
+faults ws = count_by is_fault ws
+
 -- A script as its callers see it: the words that are left, and how often it failed.
 pub record ScriptLeft : Type 0 where
   pub left : List Word
   pub failed : ℕ
 
+-- The words are told, and the faults among them counted.
 abbrev pub ScriptTells : ScriptLeft → List Word → ScriptLeft → Type 0
-ScriptTells s xs t = Tells s.left xs t.left
+ScriptTells s xs t = Tells s.left xs t.left × (t.failed ≡ s.failed + faults xs)
 
 -- Its two laws as a device.
 pub script_none : (s : ScriptLeft) → ScriptTells s [] s
-script_none s = refl
+script_none s = (refl, sym (add-zero s.failed))
 
 tells_on : (l m k : List Word) (xs ys : List Word) → Tells l xs m → Tells m ys k → Tells l (xs ++ ys) k
 tells_on l m k [] ys d e = subst (λ (i : List Word). Tells i ys k) (sym d) e
@@ -60,4 +74,7 @@ tells_on [] m k (x ∷ xs) ys d e = (d.0, tells_on [] m k xs ys d.1 e)
 tells_on (w ∷ l) m k (x ∷ xs) ys d e = (d.0, tells_on l m k xs ys d.1 e)
 
 pub script_on : (s t u : ScriptLeft) (xs ys : List Word) → ScriptTells s xs t → ScriptTells t ys u → ScriptTells s (xs ++ ys) u
-script_on s t u xs ys d e = tells_on s.left t.left u.left xs ys d e
+script_on s t u xs ys d e = (
+  tells_on s.left t.left u.left xs ys d.0 e.0,
+  e.1 ∙ ap (λ (n : ℕ). n + faults ys) d.1 ∙ add_assoc s.failed (faults xs) (faults ys) ∙ ap (λ (n : ℕ). s.failed + n) (sym (sum_by-append _ xs ys)),
+)

@@ -1,5 +1,5 @@
 -- A reader as its callers see it.
-use Rattle.std.specs.Prelude.{◌≡◌, ℕ, ◌+◌, ◌-◌, ◌^◌, min, List, [], ◌∷◌, ◌++◌}
+use Rattle.std.specs.Prelude.{◌≡◌, ℕ, ◌+◌, ◌-◌, ◌^◌, min, List, [], ◌∷◌, ◌++◌, length}
 use Rattle.crossterm_types.specs.Seen.{Seen, seen}
 use Rattle.crossterm_types.specs.declared.event.InternalEvent.{InternalEvent}
 use Rattle.crossterm_read.specs.Answers.{SourceAnswer, Gave, Nothing, Failed}
@@ -9,10 +9,15 @@ pub record Shelf : Type 0 where
   pub held : List (Seen × ℕ)
   pub arrivals : ℕ
 
--- A reader: what it holds, and its source.
+-- A reader: what it holds, for how many more events it has room without memory, and its source.
 pub record ReaderState (S : Type 0) : Type 0 where
   pub shelf : Shelf
+  pub room : ℕ
   pub source : S
+
+-- How many events it holds at most without memory: those that it holds, and those for which it has room.
+abbrev pub capacity : {S : Type 0} → ReaderState S → ℕ
+capacity s = length s.shelf.held + s.room
 
 -- A held event as a clause sees it.
 abbrev pub kept : {A : Type 0} → InternalEvent A × ℕ → Seen × ℕ

@@ -8,7 +8,7 @@ use Rattle.std.specs.declared.io.ErrorKind.{ErrorKind}
 use Rattle.std.specs.declared.io.ErrorKind.TheVariants.{OutOfMemory, Interrupted}
 use Rattle.crossterm_types.specs.Seen.{Seen, seen}
 use Rattle.crossterm_types.specs.declared.event.InternalEvent.{InternalEvent}
-use Rattle.crossterm_read.specs.Answers.{SourceAnswer, Gave, Nothing, Failed}
+use Rattle.crossterm_read.specs.Answers.{SourceAnswer, Gave, Nothing, Failed, gave}
 use Rattle.crossterm_read.specs.declared.read.reader.Once.{Once}
 use Rattle.crossterm_read.specs.declared.read.reader.Once.TheVariants as once
 use Rattle.crossterm_read.specs.Shelf.{Shelf, ReaderState, Arrives}
@@ -90,9 +90,20 @@ TakeStep f zs s t (Came x) = (zs ≡ []) × TakeSays f s t x
 TakeStep f zs s t (Polled b) = ⊥
 TakeStep f zs s t (Faulted kind) = ⊥
 
+-- Memory is refused only where that was the source's last answer, or where as many events had come as there was room for.
+abbrev pub RefusedOnlyWithoutRoom : ℕ → List SourceAnswer → ErrorKind → Type 0
+RefusedOnlyWithoutRoom room zs kind = kind ≡ OutOfMemory → ((ys : List SourceAnswer) × (zs ≡ ys ++ Failed OutOfMemory ∷ [])) ⊎ (room ≤ length (gave zs))
+
+-- Where asking broke the fault is of such a kind.
+abbrev pub BrokeWhere : End → (ErrorKind → Type 0) → Type 0
+BrokeWhere Ready P = Unit {0}
+BrokeWhere Tried P = Unit {0}
+BrokeWhere (Broke kind) P = P kind
+
 -- Some answers were drawn, and asking ended so.
 abbrev pub Asked : {S : Type 0} → (S → List SourceAnswer → S → Type 0) → Bool → (Seen → Bool) → ℕ → ReaderState S → ReaderState S → End → Type 0
 Asked drawn patient f tries s t end = (zs : List SourceAnswer) × drawn s.source zs t.source × Arrives s.shelf zs t.shelf × Asks patient f tries s.shelf.held zs end
+    × BrokeWhere end (RefusedOnlyWithoutRoom s.room zs)
 
 -- What one question came to, where room for one event is made before it.
 abbrev pub DrawsOne : {S : Type 0} → (S → List SourceAnswer → S → Type 0) → Bool → (Seen → Bool) → ReaderState S → ReaderState S → Once → Type 0
@@ -107,3 +118,17 @@ BreaksWhere (once.Broke e) P = P (error_kind e)
 BreaksWhere once.Refused P = Unit {0}
 BreaksWhere (once.Came b) P = Unit {0}
 BreaksWhere once.Nothing P = Unit {0}
+
+-- No room for an event could be made.
+abbrev pub IsRefused : Once → Type 0
+IsRefused (once.Broke e) = ⊥
+IsRefused once.Refused = Unit {0}
+IsRefused (once.Came b) = ⊥
+IsRefused once.Nothing = ⊥
+
+-- The source answered no fault. A patient question tells a wake-up as nothing.
+abbrev pub MeetsNoFault : Bool → Once → Type 0
+MeetsNoFault patient (once.Broke e) = ⊥
+MeetsNoFault patient once.Refused = Unit {0}
+MeetsNoFault patient (once.Came b) = Unit {0}
+MeetsNoFault patient once.Nothing = patient ≡ false

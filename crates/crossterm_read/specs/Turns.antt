@@ -1,11 +1,13 @@
 -- What a source answers, by what its device tells.
-use Rattle.std.specs.Prelude.{◌≡◌, ◌≢◌, ℕ, Bool, List, [], ◌∷◌, ◌++◌, refl}
+use Rattle.std.specs.Prelude.{◌≡◌, ◌≢◌, ℕ, Bool, false, List, [], ◌∷◌, ◌++◌, refl}
 use Rattle.std.specs.List.{filter_map}
 use Rattle.std.specs.declared.io.ErrorKind.TheVariants.{OutOfMemory, UnexpectedEof, Interrupted}
 use Rattle.std.proofs.Common.{subst, sym, ap, ◌∙◌, append_assoc}
 use Rattle.crossterm_types.specs.Seen.{Seen, Resize}
 use Rattle.crossterm_parse.specs.declared.marked.Marked.{Marked}
-use Rattle.crossterm_parse.specs.Grammar.{Whole}
+use Rattle.crossterm_parse.specs.Deciding.{begins}
+use Rattle.crossterm_parse.specs.Grammar.{Whole, paste_start}
+use Rattle.crossterm_parse.specs.Marked.{bytes_of}
 use Rattle.crossterm_parse.specs.Meaning.{meaning_of}
 use Rattle.crossterm_parse.specs.Division.{Divides, IsUndecided}
 use Rattle.crossterm_parse.specs.Standing.{Standing, Stands}
@@ -18,13 +20,19 @@ pub record At : Type 0 where
   pub untaken : List Marked
   pub undecided : List Marked
 
--- Of some bytes the parser takes a front, where it stood for undecided ones.
+-- After undecided bytes these end no event, and no paste is open after them.
+abbrev pub EndNoEvent : List Marked → List Marked → Type 0
+EndNoEvent undecided bytes = (parts : List (List Marked)) × (rest : List Marked) × Divides Whole (undecided ++ bytes) parts rest
+    × (filter_map meaning_of parts ≡ []) × (begins paste_start (bytes_of rest) ≡ false)
+
+-- Of some bytes the parser takes a front, where it stood for undecided ones. Those that end no event it takes whole.
 pub record Takes (undecided bytes : List Marked) (mid : At) : Type 0 where
   pub taken : List Marked
   pub parts : List (List Marked)
   pub cut : bytes ≡ taken ++ mid.untaken
   pub division : Divides Whole (undecided ++ taken) parts mid.undecided
   pub waiting : mid.waiting ≡ filter_map meaning_of parts
+  pub quiet : EndNoEvent undecided bytes → mid.untaken ≡ []
 
 -- What is answered where no event came: nothing where all bytes were taken, and else that memory was refused.
 abbrev pub without_event : List Marked → SourceAnswer

@@ -1,11 +1,12 @@
 //! Where events come from.
-ghost use Rattle.std.specs.Prelude.{◌≡◌, ◌⊎◌, ◌-◌, ◌==◌, ◌≤◌, ◌<◌, ℕ, List, [], ◌∷◌, ◌++◌, take, drop, IfOk, IfErr, ⊤};
+ghost use Rattle.std.specs.Prelude.{◌≡◌, ◌⊎◌, ◌-◌, ◌==◌, ◌≤◌, ◌<◌, ℕ, List, [], ◌∷◌, ◌++◌, take, drop, Option, IfOk, IfErr, OnOk, ⊤};
 ghost use Rattle.std.specs.IoError.{error_kind};
 ghost use Rattle.std.specs.declared.io.ErrorKind.TheVariants.{OutOfMemory};
+ghost use Rattle.std.specs.declared.time.Duration.{Duration};
 ghost use Rattle.crossterm_parse.specs.Marked.{marked};
 ghost use Rattle.crossterm_parse.specs.Standing.{Stands};
 ghost use Rattle.crossterm_read.specs.Answers.{SourceAnswer, answer_of, IsOwn};
-ghost use Rattle.crossterm_read.specs.Device.{IsAtOnce};
+ghost use Rattle.crossterm_read.specs.Device.{AsksWith};
 ghost use Rattle.crossterm_read.specs.Turns.{Source, SourceDrawn, source_none, source_on, Hands};
 ghost use Rattle.crossterm_read.specs.declared.source.waker.Waker.{Waker};
 
@@ -31,8 +32,8 @@ pub trait EventSource<A: Allocator>: Drop {
     /// How often the device failed.
     ghost failed: { Self → ℕ };
 
-    /// How often the device was asked to wait, with a limit above zero or none.
-    ghost waits: { Self → ℕ } = { λ _. 0 };
+    /// The limits that the device was asked with, in order: none, if the source doesn't say more.
+    ghost asked: { Self → List (Option Duration) } = { λ _. [] };
 
     /// The wakers of the device.
     ghost wakes: { Self → Waker → Type 0 } = { λ _ _. ⊤ };
@@ -44,10 +45,11 @@ pub trait EventSource<A: Allocator>: Drop {
     fn try_read(&mut self, limit: Option<Duration>) -> io::Result<Option<InternalEvent<A>>>
         // What it answers is drawn.
         ensures drawn { drawn self.old (answer_of result ∷ []) self.new }
-        // With limit zero the device isn't asked to wait.
-        ensures waits { IsAtOnce limit → waits self.new ≡ waits self.old }
-        // An error that isn't a source's own comes only where the device's failures rose, and they never fall.
+        // The device is asked once at most, with this very limit.
+        ensures asked { AsksWith limit (asked self.old) (asked self.new) }
+        // An error that isn't a source's own comes only where the device's failures rose. They never fall, and rise at no other answer.
         ensures rise { failed self.old ≤ failed self.new }
+        ensures ok { OnOk result (failed self.new ≡ failed self.old) }
         ensures err { IfErr result (λ e. IsOwn (error_kind e) ⊎ (failed self.old < failed self.new)) };
 
     /// How often the device failed.
@@ -132,7 +134,7 @@ impl<D: Device, A: Allocator + Clone> EventSource<A> for DeviceSource<D, A> {
 
     ghost failed = { λ s. D.failed s.device };
 
-    ghost waits = { λ s. D.waits s.device };
+    ghost asked = { λ s. D.asked s.device };
 
     ghost wakes = { λ s. D.wakes s.device };
 

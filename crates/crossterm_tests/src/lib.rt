@@ -1,4 +1,4 @@
-//! Tests of the parser, the source, the reader and the commands by their public calls: each call once, and tables that come from outside.
+//! Tests of the parser, the source and the reader by their public calls: each call once, and tables that come from outside.
 //! Beside them stands the slow program of the grammar's definitions (`plain`), which the parser is compared with.
 //!
 //! They stand here, in a crate of their own, since a crate with tests is proved twice. What a proof costs grows with the square of what one

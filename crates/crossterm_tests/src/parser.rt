@@ -1,9 +1,9 @@
 //! The parser beside the slow program of the definitions, and its calls at a concrete type.
 
 use crate::plain::{Divided, divide};
-use crossterm::event::sys::unix::marked::Marked;
-use crossterm::event::sys::unix::parse::Parser;
-use crossterm::event::{Event, InternalEvent, KeyCode, KeyEvent, KeyModifiers};
+use crossterm_parse::marked::Marked;
+use crossterm_parse::parse::Parser;
+use crossterm_types::event::{Event, InternalEvent, KeyCode, KeyEvent, KeyModifiers};
 use std::alloc::{AllocError, Global};
 
 /// What a device told at once: bytes, whether more follow at once, and the mode.

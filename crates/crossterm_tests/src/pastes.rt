@@ -3,14 +3,14 @@
 ghost use Rattle.std.specs.Prelude.{◌≡◌, ◌<◌};
 
 use crate::refused::endless;
-use crossterm::event::filter::AnyFilter;
-use crossterm::event::read::{Call, Reply, Trace, play};
-use crossterm::event::source::Act;
-use crossterm::event::sys::unix::parse::Parser;
-use crossterm::event::sys::unix::paste::PasteText;
-use crossterm::event::sys::unix::state::{State, Step};
-use crossterm::event::sys::unix::steps::Steps;
-use crossterm::event::{Event, InternalEvent};
+use crossterm_parse::parse::Parser;
+use crossterm_parse::paste::PasteText;
+use crossterm_parse::state::{State, Step};
+use crossterm_parse::steps::Steps;
+use crossterm_read::read::{Call, Reply, Trace, play};
+use crossterm_read::source::Act;
+use crossterm_types::event::filter::AnyFilter;
+use crossterm_types::event::{Event, InternalEvent};
 use std::alloc::{AllocError, Global};
 use std::io;
 use std::marker::Brand;

@@ -8,8 +8,8 @@ ghost use Rattle.crossterm_tests.specs.Plain.{IsDivided};
 
 mod meanings;
 
-use crossterm::event::sys::unix::marked::Marked;
-use crossterm::event::{Event, InternalEvent};
+use crossterm_parse::marked::Marked;
+use crossterm_types::event::{Event, InternalEvent};
 use meanings::meaning_of_sequence;
 use std::alloc::{AllocError, Allocator, Global};
 use std::string::String;

@@ -1,10 +1,10 @@
 //! The calls of a reader, with a filter from outside.
 
 use crate::scripts::{Part, source_of};
-use crossterm::event::filter::{AnyFilter, Filter};
-use crossterm::event::read::InternalEventReader;
-use crossterm::event::source::{DeviceSource, Script};
-use crossterm::event::{Event, InternalEvent, KeyCode};
+use crossterm_read::read::InternalEventReader;
+use crossterm_read::source::{DeviceSource, Script};
+use crossterm_types::event::filter::{AnyFilter, Filter};
+use crossterm_types::event::{Event, InternalEvent, KeyCode};
 use std::alloc::{AllocError, Allocator, Global};
 
 // Admits no event.

@@ -1,6 +1,6 @@
 //! A parser whose memory is refused.
 
-use crossterm::event::sys::unix::parse::Parser;
+use crossterm_parse::parse::Parser;
 use linked_list_allocator::LocalHeap;
 use std::alloc::{AllocError, Global};
 

@@ -1,6 +1,6 @@
 //! Scripts from tables.
 
-use crossterm::event::source::{Act, DeviceSource, Script};
+use crossterm_read::source::{Act, DeviceSource, Script};
 use std::alloc::{AllocError, Global};
 use std::io;
 

@@ -1,11 +1,9 @@
 //! A script as a device, and what a source makes of it.
 
 use crate::scripts::{Part, acts_of, source_of};
-use crossterm::event::filter::EventFilter;
-use crossterm::event::read::InternalEventReader;
-use crossterm::event::source::{Answer, Device, DeviceSource, EventSource, Script, Waker};
-use crossterm::event::{Event, InternalEvent};
-use std::alloc::{AllocError, Global};
+use crossterm_read::source::{Answer, Device, DeviceSource, EventSource, Script, Waker};
+use crossterm_types::event::{Event, InternalEvent};
+use std::alloc::AllocError;
 use std::io::{self, ErrorKind};
 use std::time::Duration;
 
@@ -163,59 +161,4 @@ fn acts_are_told_in_order(rt: HostRuntime) -> Result<(), AllocError> {
     expect!(rt; fails_and_ends(&mut script));
     expect!(rt; wakes(Ok(Waker::none())));
     Ok(())
-}
-
-/// Tells the limit that it was asked with: a wake-up where there is none, a size where it is zero, and nothing at any other.
-#[derive(Drop)]
-struct Asked;
-
-impl Device for Asked {
-    ghost use Rattle.std.specs.Prelude.{⊤};
-
-    ghost told = { λ _ _ _. ⊤ };
-
-    ghost failed = { λ _. 0 };
-
-    ghost none_told = { λ _. tt };
-
-    ghost told_on = { λ _ _ _ _ _ _ _. tt };
-
-    fn answer(&mut self, _buf: &mut [u8], limit: Option<Duration>) -> io::Result<Answer> {
-        match limit {
-            None => Ok(Answer::Woken),
-            Some(limit) if limit.is_zero() => Ok(Answer::Resize(80, 24)),
-            Some(_) => Ok(Answer::Idle),
-        }
-    }
-
-    fn failures(&self) -> u64 {
-        0
-    }
-
-    fn waker(&self) -> io::Result<Waker> {
-        Ok(Waker::none())
-    }
-}
-
-/// A limit, and what a source gives that asks its device with it, by letters.
-static LIMITS: [(Option<Duration>, char); 3] = [
-    (None, 'I'),
-    (Some(Duration::ZERO), 'R'),
-    (Some(Duration::MAX), '-'),
-];
-
-/// Whether a poll and a read ask with limit zero, and so at once.
-fn asks_at_once(alloc: Global) -> bool {
-    let mut reader = InternalEventReader::new(alloc, DeviceSource::new(alloc, Asked));
-    let is_read = matches!(reader.read_within(1, &EventFilter), Ok(Some(_)));
-    is_read && matches!(reader.poll_within(1, &EventFilter), Ok(true))
-}
-
-#[test]
-fn limits_are_handed_on(rt: HostRuntime) {
-    let mut source = DeviceSource::new(rt.alloc(), Asked);
-    for (limit, given) in &LIMITS {
-        expect!(rt; letter(source.try_read(*limit)) == *given);
-    }
-    expect!(rt; asks_at_once(rt.alloc()));
 }

@@ -5,16 +5,9 @@
 //! and `colors on|off`, and writes the commands' bytes. Its code stands on `crossterm` alone, by its public calls.
 #![tactic(auto)]
 
-mod bench;
-mod event_line;
-mod fault;
-mod input;
-mod play;
-mod say;
-#[cfg(test)]
-mod tests;
-
-use fault::Fault;
+use probe_modes::fault::Fault;
+use probe_modes::play::run_play;
+use probe_modes::say::run_say;
 use std::process::ExitCode;
 use std::{env, io};
 
@@ -33,8 +26,8 @@ fn mode(rt: &HostRuntime) -> Result<String, Fault> {
 
 fn run(rt: &HostRuntime) -> Result<(), Fault> {
     match mode(rt)?.as_str() {
-        "play" => play::run_play(rt.alloc(), &mut rt.reader(), &mut io::writer(rt)),
-        "say" => say::run_say(rt.alloc(), &mut rt.reader(), &mut io::writer(rt)),
+        "play" => run_play(rt.alloc(), &mut rt.reader(), &mut io::writer(rt)),
+        "say" => run_say(rt.alloc(), &mut rt.reader(), &mut io::writer(rt)),
         _ => Err(Fault::Usage),
     }
 }

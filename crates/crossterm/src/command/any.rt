@@ -1,8 +1,9 @@
 //! All commands as one type.
-ghost use Rattle.std.specs.Prelude.{OnOk, IfErr, Some, flat_map, ◌≢◌};
+ghost use Rattle.std.specs.Prelude.{OnOk, IfErr, Some, [], flat_map, ◌≢◌};
 ghost use Rattle.std.specs.IoError.{error_kind};
 ghost use Rattle.std.specs.List.{AllByRecursion};
 ghost use Rattle.std.specs.Io.KnownBytes.{Appends};
+ghost use Rattle.crossterm_command.specs.Faults.{Stopped};
 ghost use Rattle.crossterm_command.specs.Writing.{AppendsFront};
 ghost use Rattle.crossterm.specs.Functions.{text_of, functions, IsReadable, AppendsReading};
 
@@ -25,7 +26,7 @@ use crate::terminal::{
     BeginSynchronizedUpdate, Clear, DisableLineWrap, EnableLineWrap, EndSynchronizedUpdate,
     EnterAlternateScreen, LeaveAlternateScreen, ScrollDown, ScrollUp, SetSize, SetTitle,
 };
-use crossterm_command::{Command, write_command};
+use crossterm_command::{Command, CommandFault, write_command};
 use std::alloc::{Allocator, Global};
 use std::io::ErrorKind;
 use std::{fmt, io};
@@ -110,6 +111,29 @@ impl<A: Allocator> Command for AnyCommand<A> {
     }
 }
 
+/// Writes the commands, one after another, up to the first that fails: `queue_all` with an error that tells who failed.
+///
+/// Where the writer alone failed, whatever its error's kind, a beginning of the text was written and nothing after it.
+pub fn write_commands<A: Allocator, W: io::Write>(
+    writer: &mut W,
+    colors: ColorOutput,
+    commands: &[AnyCommand<A>],
+) -> Result<(), CommandFault>
+    ensures texts { OnOk result (Appends (W.contents writer.old) (W.contents writer.new)
+        (flat_map (text_of colors) commands.now)) }
+    ensures reads { OnOk result (AllByRecursion IsReadable commands.now → AppendsReading (W.contents writer.old)
+        (W.contents writer.new) (flat_map (functions colors) commands.now)) }
+    ensures err { IfErr result (λ fault. Stopped fault (Some (flat_map (text_of colors) commands.now))
+        (commands.now ≢ []) (W.contents writer.old) (W.contents writer.new)) }
+{
+    for command in commands {
+        if let Err(fault) = write_command(writer, colors, command) {
+            return Err(fault);
+        }
+    }
+    Ok(())
+}
+
 /// Queues the commands, one after another, up to the first that fails.
 ///
 /// What was written reads back as the functions of the commands, in order, and as nothing else, where no printed text holds an escape,
@@ -127,10 +151,8 @@ pub fn queue_all<A: Allocator, W: io::Write>(
     ensures err { IfErr result (λ e. error_kind e ≢ ErrorKind.Other → AppendsFront (W.contents writer.old)
         (W.contents writer.new) (flat_map (text_of colors) commands.now)) }
 {
-    for command in commands {
-        if let Err(fault) = write_command(writer, colors, command) {
-            return Err(io::Error::from(fault));
-        }
+    match write_commands(writer, colors, commands) {
+        Ok(()) => Ok(()),
+        Err(fault) => Err(io::Error::from(fault)),
     }
-    Ok(())
 }

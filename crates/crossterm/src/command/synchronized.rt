@@ -1,39 +1,50 @@
 //! Several writes that a terminal shows as one.
-ghost use Rattle.std.specs.Prelude.{◌≢◌, IfOk, IfErr};
-ghost use Rattle.std.specs.IoError.{error_kind};
+ghost use Rattle.std.specs.Prelude.{OnOk, OnErr, IfOk};
 ghost use Rattle.std.specs.Fn.{FnOnceReturnsAtMut};
+ghost use Rattle.std.specs.Io.KnownBytes.{Appends};
+ghost use Rattle.crossterm_command.specs.Writing.{AppendsFront};
+ghost use Rattle.crossterm.specs.Texts.{end_update_text};
 ghost use Rattle.crossterm.specs.Updates.{Synchronized, StopsSynchronized};
 
-use crate::style::ColorOutput;
-use crate::terminal::{BeginSynchronizedUpdate, EndSynchronizedUpdate};
-use crossterm_command::{execute_command, queue_command};
+use crate::terminal::{BEGIN_UPDATE, END_UPDATE};
+use crossterm_command::write_text;
 use std::io;
-use std::io::ErrorKind;
+
+/// Writes the end of an update, and flushes.
+fn end_update<W: io::Write>(writer: &mut W) -> io::Result<()>
+    ensures ok { OnOk result (Appends (W.contents writer.old) (W.contents writer.new) end_update_text) }
+    ensures err { OnErr result (AppendsFront (W.contents writer.old) (W.contents writer.new) end_update_text) }
+{
+    match write_text(writer, END_UPDATE) {
+        Ok(()) => writer.flush(),
+        Err(e) => Err(e),
+    }
+}
 
 /// Shows several writes at once.
 pub trait SynchronizedUpdate: io::Write {
-    /// Queues the beginning of an update, calls the closure once on the writer as it then stands, and executes the update's end after what
-    /// the closure left. It gives what the closure gave.
+    /// Writes the beginning of an update, calls the closure once on the writer as it then stands, and writes the update's end after what
+    /// the closure left, and flushes. It gives what the closure gave.
     ///
-    /// Where the beginning fails the closure isn't called. The error is the writer's own.
+    /// Where the beginning fails the closure isn't called. The error is the writer's own, of whatever kind.
     fn sync_update<T: Drop, F: FnOnce(&mut Self) -> T>(&mut self, operations: F) -> io::Result<T>
     where
         Self: Sized,
         requires { F.IsAlwaysCallable operations }
         ensures ok { IfOk result (λ r. Synchronized Self.contents
             (λ old new. FnOnceReturnsAtMut F.FnOnce operations old r new) self.old self.new) }
-        ensures err { IfErr result (λ e. error_kind e ≢ ErrorKind.Other → StopsSynchronized Self.contents
+        ensures err { OnErr result (StopsSynchronized Self.contents
             (λ old r new. FnOnceReturnsAtMut F.FnOnce operations old r new) self.old self.new) };
 }
 
 impl<W: io::Write> SynchronizedUpdate for W {
     fn sync_update<T: Drop, F: FnOnce(&mut W) -> T>(&mut self, operations: F) -> io::Result<T> {
-        match queue_command(self, ColorOutput::Enabled, BeginSynchronizedUpdate) {
+        match write_text(self, BEGIN_UPDATE) {
             Ok(()) => {}
             Err(e) => return Err(e),
         }
         let outcome = operations(self);
-        match execute_command(self, ColorOutput::Enabled, EndSynchronizedUpdate) {
+        match end_update(self) {
             Ok(()) => Ok(outcome),
             Err(e) => Err(e),
         }

@@ -1,5 +1,5 @@
 //! Holds events in the order of their arrival.
-ghost use Rattle.std.specs.Prelude.{◌≡◌, ◌≢◌, ◌⊎◌, ◌≤◌, ◌<◌, IfErr, ℕ, List, [], map, position};
+ghost use Rattle.std.specs.Prelude.{◌≡◌, ◌≢◌, ◌⊎◌, ◌-◌, ◌≤◌, ◌<◌, IfOk, IfErr, OnOk, IsTrue, false, ℕ, List, [], map, position, vec_capacity, vec_len};
 ghost use Rattle.std.specs.Bool.{OnTrue, OnFalse};
 ghost use Rattle.std.specs.IoError.{error_kind};
 ghost use Rattle.std.specs.Iterator.{YieldsFirstBy, item_count};
@@ -7,8 +7,9 @@ ghost use Rattle.std.specs.Option.{option_map};
 ghost use Rattle.std.specs.declared.io.ErrorKind.TheVariants.{Interrupted};
 ghost use Rattle.crossterm_types.specs.Seen.{Seen, seen};
 ghost use Rattle.crossterm_read.specs.Answers.{SourceAnswer, IsOwn};
-ghost use Rattle.crossterm_read.specs.Shelf.{ReaderState, kept};
-ghost use Rattle.crossterm_read.specs.Steps.{Asked, BreaksWhere, DrawsOne, PollStep, ReadStep, TakeSays, end_of, first_admitted, poll_said, read_said};
+ghost use Rattle.crossterm_read.specs.Device.{AsksWith, AsksAtOnce};
+ghost use Rattle.crossterm_read.specs.Shelf.{ReaderState, capacity, kept};
+ghost use Rattle.crossterm_read.specs.Steps.{Asked, BreaksWhere, DrawsOne, IsRefused, MeetsNoFault, PollStep, ReadStep, RefusedOnlyWithoutRoom, TakeSays, end_of, first_admitted, poll_said, read_said};
 
 use crate::source::EventSource;
 use crossterm_types::event::InternalEvent;
@@ -31,7 +32,7 @@ pub struct InternalEventReader<S, A: Allocator = Global> {
 impl<S, A: Allocator> Model for InternalEventReader<S, A> {
     ghost Value = { ReaderState S };
 
-    ghost view = { λ r. record { shelf = record { held = map kept r.held.items; arrivals = r.arrivals }; source = r.source } };
+    ghost view = { λ r. record { shelf = record { held = map kept r.held.items; arrivals = r.arrivals }; room = vec_capacity r.held - vec_len r.held; source = r.source } };
 }
 
 /// The events that a reader holds, in the order of their arrival.
@@ -84,9 +85,9 @@ fn first_of<F: Filter, A: Allocator>(held: &[(InternalEvent<A>, u64)], filter: &
 }
 
 impl<S: EventSource<A>, A: Allocator> InternalEventReader<S, A> {
-    /// A reader that holds nothing yet.
+    /// A reader that holds nothing yet, and has no room yet.
     pub fn new(alloc: A, source: S) -> Self
-        ensures { result ≡ record { shelf = record { held = []; arrivals = 0 }; source = source } }
+        ensures { result ≡ record { shelf = record { held = []; arrivals = 0 }; room = 0; source = source } }
     {
         InternalEventReader {
             held: Vec::new(alloc),
@@ -102,15 +103,19 @@ impl<S: EventSource<A>, A: Allocator> InternalEventReader<S, A> {
         first_of(&self.held, filter)
     }
 
-    // Asks the source once, and holds what it gives.
+    // Makes room for an event, asks the source once, with limit zero, and holds what it gives.
     fn draw<F: Filter>(&mut self, filter: &F, patient: bool) -> Once
         ensures one { DrawsOne S.drawn patient (F.admits filter.now) self.old self.new result }
-        ensures at_once { S.waits self.new.source ≡ S.waits self.old.source }
+        ensures at_once { AsksWith (Some Duration.ZERO) (S.asked self.old.source) (S.asked self.new.source) }
+        ensures room { capacity self.old ≤ capacity self.new }
+        ensures full { IsRefused result → self.old.room ≡ 0 }
         ensures rise { S.failed self.old.source ≤ S.failed self.new.source }
+        ensures steady { MeetsNoFault patient result → S.failed self.new.source ≡ S.failed self.old.source }
         ensures err { BreaksWhere result (λ kind. IsOwn kind ⊎ (S.failed self.old.source < S.failed self.new.source)) }
     {
-        if self.held.reserve(1).is_err() {
-            return Once::Refused;
+        match self.held.reserve(1) {
+            Ok(()) => {}
+            Err(_) => return Once::Refused,
         }
         match self.source.try_read(Some(Duration::ZERO)) {
             Ok(Some(event)) => {
@@ -134,7 +139,10 @@ impl<S: EventSource<A>, A: Allocator> InternalEventReader<S, A> {
     // Asks the source until an admitted event is held.
     fn ask<F: Filter>(&mut self, tries: u32, filter: &F, patient: bool) -> io::Result<bool>
         ensures asked { Asked S.drawn patient (F.admits filter.now) tries self.old self.new (end_of result) }
-        ensures at_once { S.waits self.new.source ≡ S.waits self.old.source }
+        ensures at_once { AsksAtOnce (S.asked self.old.source) (S.asked self.new.source) }
+        ensures room { capacity self.old ≤ capacity self.new }
+        ensures rise { S.failed self.old.source ≤ S.failed self.new.source }
+        ensures steady { patient ≡ false → OnOk result (S.failed self.new.source ≡ S.failed self.old.source) }
         ensures err { IfErr result (λ e. IsOwn (error_kind e) ⊎ (S.failed self.old.source < S.failed self.new.source)) }
     {
         if self.first(filter).is_some() {
@@ -159,11 +167,18 @@ impl<S: EventSource<A>, A: Allocator> InternalEventReader<S, A> {
     ///
     /// Where one is held already the answer is true at once. Else the source is asked with limit zero. The answer is true at the
     /// first admitted event, and false after a wake-up or the last try. Every other fault is answered. Events that came are held.
+    /// The error is `OutOfMemory` only where the source's was, or where there was no room left for an event and none could be made.
     pub fn poll_within<F: Filter>(&mut self, tries: u32, filter: &F) -> io::Result<bool>
         ensures step { (zs : List SourceAnswer) × S.drawn self.old.source zs self.new.source
-            × PollStep tries (F.admits filter.now) zs self.old.shelf self.new.shelf (poll_said result) }
-        // The device isn't asked to wait.
-        ensures at_once { S.waits self.new.source ≡ S.waits self.old.source }
+            × PollStep tries (F.admits filter.now) zs self.old.shelf self.new.shelf (poll_said result)
+            × IfErr result (λ e. RefusedOnlyWithoutRoom self.old.room zs (error_kind e)) }
+        // The source is asked with limit zero alone, and so at once.
+        ensures at_once { AsksAtOnce (S.asked self.old.source) (S.asked self.new.source) }
+        // No room is lost.
+        ensures room { capacity self.old ≤ capacity self.new }
+        // Failures never fall, and where an event is there none was new.
+        ensures rise { S.failed self.old.source ≤ S.failed self.new.source }
+        ensures steady { IfOk result (λ ready. IsTrue ready → S.failed self.new.source ≡ S.failed self.old.source) }
         ensures err { IfErr result (λ e. IsOwn (error_kind e) ⊎ (S.failed self.old.source < S.failed self.new.source)) }
     {
         match self.ask(tries, filter, false) {
@@ -186,9 +201,13 @@ impl<S: EventSource<A>, A: Allocator> InternalEventReader<S, A> {
         filter: &F,
     ) -> io::Result<Option<InternalEvent<A>>>
         ensures step { (zs : List SourceAnswer) × S.drawn self.old.source zs self.new.source
-            × ReadStep tries (F.admits filter.now) zs self.old.shelf self.new.shelf (read_said result) }
-        // The device isn't asked to wait.
-        ensures at_once { S.waits self.new.source ≡ S.waits self.old.source }
+            × ReadStep tries (F.admits filter.now) zs self.old.shelf self.new.shelf (read_said result)
+            × IfErr result (λ e. RefusedOnlyWithoutRoom self.old.room zs (error_kind e)) }
+        // The source is asked with limit zero alone, and so at once.
+        ensures at_once { AsksAtOnce (S.asked self.old.source) (S.asked self.new.source) }
+        // No room is lost, and failures never fall.
+        ensures room { capacity self.old ≤ capacity self.new }
+        ensures rise { S.failed self.old.source ≤ S.failed self.new.source }
         ensures err { IfErr result (λ e. IsOwn (error_kind e) ⊎ (S.failed self.old.source < S.failed self.new.source)) }
     {
         match self.ask(tries, filter, true) {
@@ -205,6 +224,8 @@ impl<S: EventSource<A>, A: Allocator> InternalEventReader<S, A> {
     /// Takes the first held event that the filter admits, and no other. The source isn't asked, and no memory is taken.
     pub fn take<F: Filter>(&mut self, filter: &F) -> Option<InternalEvent<A>>
         ensures step { TakeSays (F.admits filter.now) self.old.shelf self.new.shelf (option_map seen result) }
+        // An event that is given leaves room for one more.
+        ensures room { capacity self.new ≡ capacity self.old }
         ensures source { self.new.source ≡ self.old.source }
     {
         match self.first(filter) {

@@ -1,8 +1,9 @@
 //! Where bytes come from.
-ghost use Rattle.std.specs.Prelude.{◌≡◌, ◌≤◌, ◌<◌, ℕ, List, [], ◌∷◌, ◌++◌, length, IfOk, IfErr, OnErr, ⊤};
+ghost use Rattle.std.specs.Prelude.{◌≡◌, ◌≤◌, ◌<◌, ℕ, List, [], ◌∷◌, ◌++◌, length, Option, IfOk, IfErr, OnOk, OnErr, ⊤};
 ghost use Rattle.std.specs.IoError.{error_kind};
 ghost use Rattle.std.specs.declared.io.ErrorKind.TheVariants.{OutOfMemory};
-ghost use Rattle.crossterm_read.specs.Device.{Word, word_of, CountWithin, IsAtOnce};
+ghost use Rattle.std.specs.declared.time.Duration.{Duration};
+ghost use Rattle.crossterm_read.specs.Device.{Word, word_of, CountWithin, AsksWith};
 ghost use Rattle.crossterm_read.specs.declared.source.waker.Waker.{Waker};
 
 use crate::source::Waker;
@@ -36,8 +37,8 @@ pub trait Device: Drop {
     /// How often the device failed.
     ghost failed: { Self → ℕ };
 
-    /// How often the device was asked to wait, with a limit above zero or none: never, if it doesn't say more.
-    ghost waits: { Self → ℕ } = { λ _. 0 };
+    /// The limits that the device was asked with, in order: none, if it doesn't say more.
+    ghost asked: { Self → List (Option Duration) } = { λ _. [] };
 
     /// The wakers of this device: any, if it doesn't say more.
     ghost wakes: { Self → Waker → Type 0 } = { λ _ _. ⊤ };
@@ -48,10 +49,11 @@ pub trait Device: Drop {
         // What it answers is told.
         ensures told { told self.old (word_of result buf.new ∷ []) self.new }
         ensures count { IfOk result (λ a. CountWithin a (length buf.new)) }
-        // It waits only where it may.
-        ensures waits { IsAtOnce limit → waits self.new ≡ waits self.old }
-        // It answers an error only where its failures rise, and they never fall.
+        // It was asked with this limit, and with no other.
+        ensures asked { AsksWith limit (asked self.old) (asked self.new) }
+        // Its failures rise where it answers an error, and there alone.
         ensures rise { failed self.old ≤ failed self.new }
+        ensures ok { OnOk result (failed self.new ≡ failed self.old) }
         ensures err { OnErr result (failed self.old < failed self.new) };
 
     /// How often the device failed.

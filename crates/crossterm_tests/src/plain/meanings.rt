@@ -4,12 +4,12 @@ ghost use Rattle.crossterm_parse.specs.Machine.{readings_at};
 ghost use Rattle.crossterm_parse.specs.Meaning.{character_meaning, coded_meaning, reply_meaning, csi_meaning, escape_meaning, meaning};
 ghost use Rattle.crossterm_parse.specs.Numbered.{numbered, readings_of, sgr};
 
-use crossterm::event::KeyCode;
 use crossterm_parse::meaning::{
     Meaning, meaning_after_bracket, meaning_after_csi, meaning_after_ss3, meaning_of_byte,
     meaning_of_character, meaning_of_codes, meaning_of_flags, plus_alt, pressed_alone,
 };
 use crossterm_parse::numbered::Digits;
+use crossterm_types::event::KeyCode;
 
 /// What a byte by itself or a character means.
 fn meaning_of_text(bytes: &[u8], raw: bool) -> Option<Meaning>

@@ -1,21 +1,5 @@
-use Rattle.std.proofs.Common.{rules, flat_map, sym}
-use Rattle.crossterm_command.proofs.Rows.{all_taken, front_at, more_taken}
 use Rattle.crossterm_command.proofs.Taking.{stopped_at}
-use Rattle.crossterm_command.proofs.TokenLaws.{one_reading}
-use Rattle.crossterm.specs.Functions.{functions, text_of}
-use Rattle.crossterm.proofs.Commands.{commands_read}
 use Rattle.crossterm.proofs.command.any.queue_all.Goals as goal
 
-pub loop-command-preserved : goal.loop-command-preserved
-loop-command-preserved g c =
-    more_taken (text_of c.args.colors) c.args.commands.now c.loop-command.command-index c.command-item.result _ _ _ c.loop-command-test.true (sym c.command-item.is) c.loop-command.invariant c.in_default.ensures.ok
-
-pub returns-clause-reads : goal.returns-clause-reads
-returns-clause-reads g c readable =
-    let text = flat_map (text_of c.args.colors) c.args.commands.now in
-    let read = commands_read c.args.colors c.args.commands.now readable in
-    (text, all_taken (text_of c.args.colors) c.args.commands.now _ _ _ (search rules) c.loop-command.invariant, read, λ us other. one_reading text us (flat_map (functions c.args.colors) c.args.commands.now) other read)
-
 pub returns-in-Err-clause-err : goal.returns-in-Err-clause-err
-returns-in-Err-clause-err g c other =
-    front_at (text_of c.args.colors) c.args.commands.now _ c.command-item.result _ _ _ (search rules) (sym c.command-item.is) c.loop-command.invariant ((stopped_at _ _ _ _ _ _ c.from.ensures c.in-Err.ensures.err).front other)
+returns-in-Err-clause-err g c other = (stopped_at _ _ _ _ _ _ c.from.ensures c.in-Err.ensures.err).front other

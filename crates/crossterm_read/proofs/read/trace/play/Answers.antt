@@ -28,7 +28,7 @@ pub returns-clause-run : goal.returns-clause-run
 returns-clause-run g c =
     let source = c.new-source.result in
     let all : take c.loop-call.call-index c.args.calls.now ≡ c.args.calls.now = take_all c.loop-call.call-index c.args.calls.now (omega arith) in
-    let p : Played (SourceDrawn ScriptTells) (record { shelf = empty; source = source }) (take c.loop-call.call-index c.args.calls.now) (map said c.loop-call.replies.items) c.loop-call.reader =
+    let p : Played (SourceDrawn ScriptTells) (record { shelf = empty; room = 0; source = source }) (take c.loop-call.call-index c.args.calls.now) (map said c.loop-call.replies.items) c.loop-call.reader =
     subst (λ (y : ReaderState (Source ScriptLeft)). Played (SourceDrawn ScriptTells) y (take c.loop-call.call-index c.args.calls.now) (map said c.loop-call.replies.items) c.loop-call.reader) c.new-reader.ensures c.loop-call.invariant in
     let told = script_told source c.loop-call.reader.source (joined p.answers) c.new-source.ensures.waiting c.new-source.ensures.stands c.new-source.ensures.untaken p.drawn_so in
     record {

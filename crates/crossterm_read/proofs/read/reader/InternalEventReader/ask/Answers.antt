@@ -1,6 +1,6 @@
 use Rattle.std.proofs.Common.{◌≡◌, ℕ, arith, refl, sym, ap, subst, ◌∙◌}
 use Rattle.std.specs.Prelude.{is_some}
-use Rattle.crossterm_read.proofs.Asking.{Asking, none_of, asking_none, asking_came, asking_nothing, asked_held, asked_came, asked_broke, asked_refused, asked_tried}
+use Rattle.crossterm_read.proofs.Asking.{Asking, none_of, asking_none, asking_came, asking_nothing, asked_held, asked_came, asked_broke, asked_refused, asked_tried, at_once_none, at_once_more}
 use Rattle.crossterm_read.specs.Shelf.{ReaderState}
 use Rattle.crossterm_read.proofs.read.reader.InternalEventReader.ask.Goals.{in-Came+else-admitted, in-Nothing}
 use Rattle.crossterm_read.proofs.read.reader.InternalEventReader.ask.Goals as goal
@@ -17,8 +17,13 @@ returns-in-Broke-clause-asked g c =
 
 pub loop-i-preserved : goal.loop-i-preserved
 loop-i-preserved g c = record {
-  at_once = c.draw.ensures.at_once ∙ c.loop-i.invariant.at_once;
+  at_once = at_once_more _ _ _ _ c.loop-i.invariant.at_once refl c.draw.ensures.at_once;
+  room = omega (arith, c.draw.ensures.room);
   rise = omega (arith, c.draw.ensures.rise);
+  steady = λ p. elim c.match-draw.branch [
+    | in-Came+else-admitted w ↦ w.in-Came.ensures.steady tt ∙ c.loop-i.invariant.steady p
+    | in-Nothing w ↦ w.in-Nothing.ensures.steady p ∙ c.loop-i.invariant.steady p
+  ];
   so_far = elim c.match-draw.branch [
     | in-Came+else-admitted w ↦ asking_came g.S.EventSource.drawn g.met.S.EventSource.drawn_on _ _ _ c.loop-i.self c.draw.new.self c.loop-i._i _ w.if-admitted.false c.loop-i.invariant.so_far w.in-Came.ensures.one
     | in-Nothing w ↦ asking_nothing g.S.EventSource.drawn g.met.S.EventSource.drawn_on _ _ _ c.loop-i.self c.draw.new.self c.loop-i._i c.loop-i.invariant.so_far w.in-Nothing.ensures.one
@@ -29,8 +34,10 @@ pub loop-i-init : goal.loop-i-init
 loop-i-init g c = record {
   so_far = asking_none g.S.EventSource.drawn g.met.S.EventSource.drawn_on _ _ g.met.S.EventSource.none_drawn c.args.self.now c.args.self.now refl
       (sym c.first.ensures ∙ none_of c.first.result (sym c.is_some.ensures ∙ c.if-is_some.false));
-  at_once = refl;
+  at_once = at_once_none _;
+  room = omega arith;
   rise = omega arith;
+  steady = λ p. refl;
 }
 
 pub returns-then-is_some-clause-asked : goal.returns-then-is_some-clause-asked
@@ -42,7 +49,9 @@ pub returns-in-Refused-clause-asked : goal.returns-in-Refused-clause-asked
 returns-in-Refused-clause-asked g c =
     let so_far = subst (λ (t : ReaderState g.row.S.Denot). Asking g.S.EventSource.drawn g.met.S.EventSource.drawn_on c.args.patient (g.F.Filter.admits c.args.filter.now) c.args.self.now t c.loop-i._i)
     (sym c.in-Refused.ensures.one) c.loop-i.invariant.so_far in
+    let room = ap (λ (t : ReaderState g.row.S.Denot). t.room) c.in-Refused.ensures.one ∙ c.in-Refused.ensures.full tt in
     asked_refused g.S.EventSource.drawn g.met.S.EventSource.drawn_on _ _ c.args.self.now c.draw.new.self c.loop-i._i c.args.tries _ so_far c.loop-i-test.true c.from.ensures
+    (omega (arith, c.in-Refused.ensures.room)) room
 
 pub returns-clause-asked : goal.returns-clause-asked
 returns-clause-asked g c =

@@ -8,4 +8,4 @@ pub returns-in-Ok-clause-step : goal.returns-in-Ok-clause-step
 returns-in-Ok-clause-step g c = poll_ok g.S.EventSource.drawn _ _ c.args.self.now c.ask.new.self c.in-Ok.ready c.in-Ok.ensures.asked
 
 pub returns-else-is_woken-clause-step : goal.returns-else-is_woken-clause-step
-returns-else-is_woken-clause-step g c = poll_fault g.S.EventSource.drawn _ _ c.args.self.now c.ask.new.self _ c.if-is_woken.ensures.no c.in-Err.ensures.asked
+returns-else-is_woken-clause-step g c = poll_fault g.S.EventSource.drawn _ _ c.args.self.now c.ask.new.self c.in-Err.error c.if-is_woken.ensures.no c.in-Err.ensures.asked

@@ -5,4 +5,4 @@ use Rattle.crossterm_read.proofs.read.reader.InternalEventReader.read_within.Goa
 pub returns-then-ready-clause-step : goal.returns-then-ready-clause-step
 returns-then-ready-clause-step g c =
     let a = rw (c.if-ready.true) at c.in-Ok.ensures.asked in
-    (a.0, subst (λ (x : g.row.S.Denot). g.S.EventSource.drawn c.args.self.now.source a.0 x) (sym c.take.ensures.source) a.1, (Ready, c.ask.new.self.shelf, a.3, a.2, c.take.ensures.step))
+    (a.0, subst (λ (x : g.row.S.Denot). g.S.EventSource.drawn c.args.self.now.source a.0 x) (sym c.take.ensures.source) a.1, (Ready, c.ask.new.self.shelf, a.3, a.2, c.take.ensures.step), tt)

@@ -1,0 +1,15 @@
+//! Tests of the programs `probe` and `bench`, run through the functions of their libraries: tables of inputs beside what must come of them.
+#![tactic(auto)]
+
+#[cfg(test)]
+mod bench;
+#[cfg(test)]
+mod failing;
+#[cfg(test)]
+mod probe;
+
+/// Fails the test where something doesn't hold, and says of what. A test's proof grows with its branches, so they stand here.
+#[cfg(test)]
+fn expect(rt: &impl std::process::Abort, holds: bool, what: &str) {
+    assert!(rt; holds, "{what}");
+}

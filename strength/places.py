@@ -1,0 +1,105 @@
+"""Where a text stands: its function, and the names by which the prover may tell of that."""
+import dataclasses
+import re
+
+FUNCTION = re.compile(r"^( *)(?:pub(?:\([^)]*\))? )?(?:final )?(?:const )?(?:unsafe )?fn (\w+)", re.M)
+OWNER = re.compile(r"^(?:pub(?:\([^)]*\))? )?(?:unsafe )?(impl|trait)\b", re.M)
+
+
+@dataclasses.dataclass(frozen=True)
+class Function:
+    """A function of a file: its name, its lines, and the head of the impl or trait that holds it."""
+
+    name: str
+    start: int
+    end: int
+    owner: str
+
+
+def end_of(text, start, indent):
+    """Where the item that begins here ends, by the formatter's layout: at its closing brace, or where it has no body at its semicolon."""
+    at, is_open = start, False
+    for line in text[start:].split("\n"):
+        at += len(line) + 1
+        if is_open and line == indent + "}":
+            break
+        if not is_open and (line == indent + "{}" or line.endswith(";") or line.startswith(f"{indent}{{") and line.endswith("}")):
+            break
+        if not is_open and line.count("{") == line.count("}") and line.endswith("}") and " fn " in f" {line}":
+            break
+        is_open = is_open or line.endswith("{")
+    return at
+
+
+def owner_of(text, start, indent):
+    """The head of the impl or trait around a method, as one line."""
+    if not indent:
+        return ""
+    heads = [it for it in OWNER.finditer(text) if it.start() < start]
+    if not heads:
+        return ""
+    head = text[heads[-1].start() : text.find("{", heads[-1].start())]
+    return " ".join(head.split())
+
+
+def functions_of(text):
+    """The functions of a file."""
+    return [
+        Function(it[2], it.start(), end_of(text, it.start(), it[1]), owner_of(text, it.start(), it[1]))
+        for it in FUNCTION.finditer(text)
+    ]
+
+
+def function_at(text, pair):
+    """The function that an old text stands in, or begins above."""
+    at = text.index(pair.old)
+    for place in (at, at + len(pair.old) - 1):
+        inside = [it for it in functions_of(text) if it.start <= place < it.end]
+        if inside:
+            return inside[-1]
+    return None
+
+
+def without_parameters(head):
+    """A head without what stands between angle brackets, and the names that it declares in the first ones."""
+    depth, kept, declared = 0, "", ""
+    for at, letter in enumerate(head):
+        depth += letter == "<"
+        if depth == 0:
+            kept += letter
+        elif not re.search(r"\w", kept.removeprefix("impl")):
+            declared += letter
+        depth -= letter == ">" and head[at - 1] != "-"
+    return kept, set(re.findall(r"[<,] *(?:const )?(\w+)", declared))
+
+
+def owner_fits(segment, head):
+    """Whether a method's owner may have this name: the type's, or the type's and the trait's."""
+    plain, declared = without_parameters(head)
+    plain = re.sub(r"\bwhere\b.*|\b(?:requires|ensures)\b.*", "", plain)
+    named = re.match(r"(?:pub(?:\([^)]*\))? )?(?:unsafe )?trait (\w+)", plain)
+    if named:
+        return segment == named[1]
+    trait, _, of = plain.removeprefix("impl").strip().rpartition(" for ")
+    words = re.findall(r"\w+", of)
+    word = words[-1] if words else ""
+    if not trait:
+        return segment == word
+    trait = re.findall(r"\w+", trait)[-1]
+    if word in declared or not re.fullmatch(r"[\w:]+", of.strip()):
+        return trait in segment
+    return segment.lower().startswith(word.lower()) and trait in segment
+
+
+def names_of(names, path, function):
+    """Those of the prover's names that may be this function's: in its file's module, else (a type may stand elsewhere) anywhere."""
+    module = re.sub(r"^src/|(/mod)?\.rt$", "", path).replace("/", "::")
+    module = "" if module in ("lib", "main") else f"{module}::"
+    if not function.owner:
+        return [it for it in names if it == module + function.name]
+    fitting = []
+    for name in names:
+        parts = name.split("::")
+        if len(parts) > 1 and parts[-1] == function.name and owner_fits(parts[-2], function.owner):
+            fitting.append(name)
+    return [it for it in fitting if it.startswith(module)] or fitting

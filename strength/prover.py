@@ -1,0 +1,85 @@
+"""Checks of a crate with wrong bodies in it, and what the prover finds of each function."""
+import collections
+import functools
+import importlib.machinery
+import importlib.util
+import os
+import re
+import shutil
+import subprocess
+import sys
+import tempfile
+
+OPEN = re.compile(r"^note: (?:\./)?(src/\S+?:\d+):\d+: (it is not proved that .*)")
+IN_PROOF = re.compile(r"^(?:\./)?proofs/(\S+)/(?:Answers|Invariants|Proof)\.antt:\d+:\d+: error: (.*)")
+OF_FUNCTION = re.compile(r"^fn (\S+?): (.*)")
+# What a proof says that only cites a name which isn't there any more, or rests on what was refused.
+SAYS_LITTLE = re.compile(r"that depends on|has no field|is not in scope|has no `|was not admitted")
+
+
+@functools.lru_cache(maxsize=None)
+def kit():
+    """The kit's own library of commands: it knows how a crate is checked."""
+    page = subprocess.run(["rt", "doc"], capture_output=True, text=True, check=True).stdout.strip()
+    path = f"{os.path.dirname(page)}/bin/rtlib.py"
+    loader = importlib.machinery.SourceFileLoader("rtlib", path)
+    made = importlib.util.module_from_spec(importlib.util.spec_from_loader("rtlib", loader))
+    sys.modules["rtlib"] = made
+    loader.exec_module(made)
+    return made
+
+
+def crates(root):
+    """The crates of a repository by their names, lowest first."""
+    return {it.name: it for it in kit().crates_below(root)}
+
+
+def texts_of(folder):
+    """The texts of a crate's files, by their paths."""
+    found = {}
+    for part in ("src", "specs", "proofs"):
+        for at, _, names in os.walk(f"{folder}/{part}"):
+            for name in names:
+                with open(f"{at}/{name}", encoding="utf-8") as it:
+                    found[os.path.relpath(f"{at}/{name}", folder)] = it.read()
+    return found
+
+
+def check(crate, texts, flags):
+    """What a check of a copy of the crate says, with these texts as its files."""
+    with tempfile.TemporaryDirectory(prefix="strength-") as room:
+        for path, text in texts.items():
+            os.makedirs(os.path.dirname(f"{room}/{path}"), exist_ok=True)
+            with open(f"{room}/{path}", "w", encoding="utf-8") as it:
+                it.write(text)
+        words = [kit().RATTLE, "check", *crate.words(["--jobs", "1"], keeps=False), *flags]
+        how = {"cwd": room, "stdin": subprocess.DEVNULL, "stdout": subprocess.PIPE, "stderr": subprocess.STDOUT}
+        return subprocess.run(words, text=True, errors="replace", **how).stdout
+
+
+def check_only(crate, texts, names):
+    """What a check of these functions says, and of no other's proof."""
+    flags = [it for name in names for it in ("--only", name)]
+    return check(crate, texts, flags or ["--only", ""])
+
+
+def faults(answer, crate):
+    """Each function's own faults by its name below the crate: its open goals, and errors in its proof that say something of it."""
+    found, pending = collections.defaultdict(list), []
+    for line in answer.split("\n"):
+        opened, proof, function = OPEN.match(line), IN_PROOF.match(line), OF_FUNCTION.match(line)
+        if opened:
+            pending.append(f"{opened[1]}: {opened[2]}")
+        elif proof and not SAYS_LITTLE.search(proof[2]):
+            found[proof[1].replace("/", "::")].append(proof[2])
+        elif function:
+            # A function's open goals stand right above its line.
+            found[function[1].removeprefix(f"{crate}::")] += pending
+            pending = []
+    return found
+
+
+def names_in(log, crate):
+    """The names of a crate's functions, as a gate's lines tell them."""
+    lines = re.findall(rf"^[\d. ]*fn {crate}::(\S+): ", log, re.M)
+    return list(dict.fromkeys(lines))
