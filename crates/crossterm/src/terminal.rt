@@ -1,14 +1,19 @@
-//! Commands of the terminal.
+//! Commands of the terminal, its modes and its size.
 //!
 //! `Clear`, `ScrollUp`, `ScrollDown` and `SetSize` show (`Display`) as the text that they write.
 ghost use Rattle.std.specs.Prelude.{Some};
 ghost use Rattle.crossterm.specs.Texts.{begin_update_text, clear_text, disable_line_wrap_text, enable_line_wrap_text, end_update_text, enter_alternate_screen_text, leave_alternate_screen_text, scroll_down_text, scroll_up_text, set_size_text, set_title_text};
 
+mod size;
+pub mod sys;
+
 use crate::command::{Command, execute_fmt, write_number, write_numbers, write_once};
 use crate::csi;
 use crate::style::ColorOutput;
+pub use size::{WindowSize, tput_value};
 use std::fmt;
 use std::fmt::Display;
+pub use sys::unix::{ModeDevice, Terminal};
 
 /// Lines end at the last column (DECAWM: xterm ctlseqs, `CSI ? 7 l`).
 #[derive(Clone, Copy, PartialEq, Eq, Debug)]

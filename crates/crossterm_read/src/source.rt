@@ -11,12 +11,14 @@ ghost use Rattle.crossterm_read.specs.Turns.{Source, SourceDrawn, source_none, s
 ghost use Rattle.crossterm_read.specs.declared.source.waker.Waker.{Waker};
 
 mod device;
+mod raw_flag;
 mod script;
 mod waker;
 
 use crossterm_parse::parse::Parser;
 use crossterm_types::event::{Event, InternalEvent};
 pub use device::{Answer, Device};
+pub use raw_flag::RawFlag;
 pub use script::{Act, Script};
 use std::alloc::{Allocator, Global};
 use std::io;

@@ -1,0 +1,24 @@
+-- What one more byte does to a number that is read from its digits.
+use Rattle.std.proofs.Common.{◌≡◌, ◌≤◌, ◌<◌, ℕ, zero, suc, ◌+◌, ◌-◌, ◌*◌, ◌&&◌, nat_le, Bool, true, false, cond, min, List, [], ◌∷◌, filter, refl, sym, ap, subst, ◌∙◌, arith, length, drop}
+use Rattle.std.specs.List.{fold}
+use Rattle.std.proofs.Math.Nat.{min-eq_left, min-eq_right}
+use Rattle.std.proofs.lemmas.List.{drop_more}
+use Rattle.crossterm.specs.Sizes.{is_digit, number_after}
+
+-- A number that is cut at 65536 before a digit is the same as one that is cut after it.
+cut_between : (n d : ℕ) → min (min n 65536 * 10 + d) 65536 ≡ min (n * 10 + d) 65536
+cut_between n d = omega arith
+
+-- A number may be cut before further digits.
+cut : (n : ℕ) (digits : List ℕ) → min (fold (λ n digit. n * 10 + (digit - 48)) (min n 65536) digits) 65536 ≡ min (fold (λ n digit. n * 10 + (digit - 48)) n digits) 65536
+cut n [] = omega arith
+cut n (d ∷ ds) =
+    sym (cut (min n 65536 * 10 + (d - 48)) ds) ∙ ap (λ m. min (fold (λ n digit. n * 10 + (digit - 48)) m ds) 65536) (cut_between n (d - 48)) ∙ cut (n * 10 + (d - 48)) ds
+
+pub digit_read : (n byte : ℕ) (rest : List ℕ) → is_digit byte ≡ true → number_after (min (n * 10 + (byte - 48)) 65536) rest ≡ number_after n (byte ∷ rest)
+digit_read n byte rest is =
+    cut (n * 10 + (byte - 48)) (filter is_digit rest)
+    ∙ ap (λ (b : Bool). min (fold (λ n digit. n * 10 + (digit - 48)) n (cond b (byte ∷ filter is_digit rest) (filter is_digit rest))) 65536) (sym is)
+
+pub other_read : (n byte : ℕ) (rest : List ℕ) → is_digit byte ≡ false → number_after n rest ≡ number_after n (byte ∷ rest)
+other_read n byte rest is = ap (λ (b : Bool). min (fold (λ n digit. n * 10 + (digit - 48)) n (cond b (byte ∷ filter is_digit rest) (filter is_digit rest))) 65536) (sym is)

@@ -1,0 +1,150 @@
+//! Modes of a Unix terminal: raw mode on and off, and the size of the window.
+ghost use Rattle.std.specs.Prelude.{◌≡◌, ◌⊎◌, ◌<◌, ◌≤◌, ◌^◌, ◌-◌, ℕ, Option, Some, None, is_some, IfOk, IfErr, OnOk, OnErr, IsOk, IsOkAnd, IsTrue};
+ghost use Rattle.std.specs.Result.{result_ok};
+ghost use Rattle.crossterm.specs.Modes.{Modes, Refuses, told_size};
+ghost use Rattle.crossterm.specs.declared.terminal.size.WindowSize.{WindowSize};
+
+use crate::terminal::size::{WindowSize, tput_size};
+use crossterm_read::source::RawFlag;
+use std::alloc::{Allocator, Global};
+use std::io;
+use std::marker::Model;
+
+/// Switches a terminal's modes, and tells its size: what stands in the place of termios.
+pub trait ModeDevice: Drop {
+    /// A mode, as it can be set again.
+    type Mode: Drop;
+
+    /// The mode that stands.
+    ghost stands: { Self → Self.Mode };
+
+    /// From one state to another, its size was told, or wasn't.
+    ghost sized: { Self → Option WindowSize → Self → Type 0 };
+
+    /// How often it failed.
+    ghost failed: { Self → ℕ };
+
+    /// The mode that stands.
+    fn mode(&mut self) -> io::Result<Self::Mode>
+        ensures mode { IfOk result (λ mode. mode ≡ stands self.old) }
+        ensures rise { failed self.old ≤ failed self.new }
+        ensures err { OnErr result (Refuses (failed self.old) (failed self.new)) };
+
+    /// Sets the raw mode that a mode becomes: no echo, no lines, no signals by keys.
+    fn set_raw(&mut self, mode: &Self::Mode) -> io::Result<()>
+        ensures rise { failed self.old ≤ failed self.new }
+        ensures err { OnErr result (Refuses (failed self.old) (failed self.new)) };
+
+    /// Sets a mode.
+    fn set_mode(&mut self, mode: &Self::Mode) -> io::Result<()>
+        ensures mode { OnOk result (stands self.new ≡ mode.now) }
+        ensures rise { failed self.old ≤ failed self.new }
+        ensures err { OnErr result (Refuses (failed self.old) (failed self.new)) };
+
+    /// How large the window is.
+    fn window_size(&mut self) -> io::Result<WindowSize>
+        ensures size { sized self.old (result_ok result) self.new }
+        ensures rise { failed self.old ≤ failed self.new }
+        ensures err { OnErr result (Refuses (failed self.old) (failed self.new)) };
+
+    /// How often it failed.
+    fn failures(&self) -> u64
+        ensures { result ≡ failed self.now };
+}
+
+/// A terminal whose raw mode is switched on and off.
+#[derive(Drop)]
+pub struct Terminal<D: ModeDevice, A: Allocator = Global> {
+    device: D,
+    // The mode that stood before raw mode was switched on, while it is on.
+    prior: Option<D::Mode>,
+    flag: RawFlag<A>,
+}
+
+impl<D: ModeDevice, A: Allocator> Model for Terminal<D, A> {
+    ghost Value = { Modes D D.Mode };
+
+    ghost view = { λ t. record { device = t.device; prior = t.prior } };
+}
+
+impl<D: ModeDevice, A: Allocator + Clone> Terminal<D, A> {
+    /// A terminal that isn't in raw mode. The flag says from now on whether it is.
+    pub fn new(device: D, flag: RawFlag<A>) -> Terminal<D, A>
+        ensures device { result.device ≡ device }
+        ensures prior { result.prior ≡ None }
+    {
+        Terminal {
+            device,
+            prior: None,
+            flag,
+        }
+    }
+
+    /// Whether raw mode is on: always `Ok`.
+    pub fn is_raw_mode_enabled(&self) -> io::Result<bool>
+        ensures { IsOkAnd result (λ raw. raw ≡ is_some self.now.prior) }
+    {
+        Ok(self.prior.is_some())
+    }
+
+    /// Switches raw mode on, and keeps the mode that stood before. Where it is on already nothing is done.
+    pub fn enable_raw_mode(&mut self) -> io::Result<()>
+        ensures already { IsTrue (is_some self.old.prior) → IsOk result × (self.new ≡ self.old) }
+        ensures ok { OnOk result (self.old.prior ≡ None → self.new.prior ≡ Some (D.stands self.old.device)) }
+        ensures refused { OnErr result (self.new.prior ≡ None) }
+        ensures rise { D.failed self.old.device ≤ D.failed self.new.device }
+        ensures err { OnErr result (Refuses (D.failed self.old.device) (D.failed self.new.device)) }
+    {
+        if self.prior.is_some() {
+            return Ok(());
+        }
+        let mode = self.device.mode()?;
+        self.device.set_raw(&mode)?;
+        self.flag.set(true);
+        self.prior = Some(mode);
+        Ok(())
+    }
+
+    /// Sets the mode that stood before raw mode. Where raw mode isn't on nothing is done.
+    pub fn disable_raw_mode(&mut self) -> io::Result<()>
+        ensures already { self.old.prior ≡ None → IsOk result × (self.new ≡ self.old) }
+        ensures prior { OnOk result (self.new.prior ≡ None) }
+        ensures ok { OnOk result (IsTrue (is_some self.old.prior) → Some (D.stands self.new.device) ≡ self.old.prior) }
+        ensures refused { OnErr result (self.new.prior ≡ self.old.prior) }
+        ensures rise { D.failed self.old.device ≤ D.failed self.new.device }
+        ensures err { OnErr result (Refuses (D.failed self.old.device) (D.failed self.new.device)) }
+    {
+        if let Some(mode) = &self.prior {
+            self.device.set_mode(mode)?;
+            self.flag.set(false);
+            self.prior = None;
+        }
+        Ok(())
+    }
+
+    /// How large the window is.
+    pub fn window_size(&mut self) -> io::Result<WindowSize>
+        ensures size { D.sized self.old.device (result_ok result) self.new.device }
+        ensures prior { self.new.prior ≡ self.old.prior }
+        ensures rise { D.failed self.old.device ≤ D.failed self.new.device }
+        ensures err { OnErr result (Refuses (D.failed self.old.device) (D.failed self.new.device)) }
+    {
+        self.device.window_size()
+    }
+
+    /// How many columns and rows the window has.
+    pub fn size(&mut self, columns: &[u8], lines: &[u8]) -> io::Result<(u16, u16)>
+        ensures size { (told : Option WindowSize) × D.sized self.old.device told self.new.device × (result_ok result ≡ told_size told columns.now lines.now) }
+        ensures prior { self.new.prior ≡ self.old.prior }
+        ensures rise { D.failed self.old.device ≤ D.failed self.new.device }
+        ensures err { OnErr result (Refuses (D.failed self.old.device) (D.failed self.new.device)) }
+    {
+        match self.device.window_size() {
+            Ok(size) => Ok((size.columns, size.rows)),
+            Err(error) => match tput_size(columns, lines) {
+                Some(size) => Ok(size),
+                None => Err(error),
+            },
+        }
+    }
+}
