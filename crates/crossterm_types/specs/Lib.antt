@@ -3,4 +3,5 @@ pub mod Compared
 pub mod Keys
 pub mod Names
 pub mod Normal
+pub mod Ranks
 pub mod Seen
