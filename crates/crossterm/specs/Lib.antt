@@ -2,6 +2,7 @@ pub mod Clipboard
 pub mod Controls
 pub mod Functions
 pub mod Modes
+pub mod Ranks
 pub mod Sizes
 pub mod StyleFunctions
 pub mod Texts

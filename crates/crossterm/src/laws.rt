@@ -1,5 +1,10 @@
 //! What holds of commands, whatever they are made of.
+ghost use Rattle.crossterm_flags.specs.Orders.{ComparesBy};
 ghost use Rattle.crossterm.specs.Clipboard.{CopiesRead, ReadsBack, ReadsSame, WritesBack};
+ghost use Rattle.crossterm.specs.Ranks.{clear_order};
+
+use crate::terminal::ClearType;
+use std::cmp::{Ord, PartialOrd};
 
 /// Reading a selection's text gives the selection back, where `Other('c')` and `Other('p')` are the clipboard and the primary selection;
 /// and the selection of a text shows as that text.
@@ -12,4 +17,9 @@ pub fn selections_read_back()
 /// A terminal reads the text of a `CopyToClipboard` as one operating system command, where no letter of its destination is ESC or bell.
 pub fn copies_read()
     ensures { CopiesRead }
+{}
+
+/// The declared order of `ClearType`: its variants in the order of their ranks.
+pub fn declared_order()
+    ensures { ComparesBy clear_order ⟦<ClearType as Ord>⟧.cmp ⟦<ClearType as PartialOrd>⟧.partial_cmp }
 {}

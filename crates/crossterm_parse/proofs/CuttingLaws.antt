@@ -1,12 +1,13 @@
 -- Pieces that a parser takes one after another.
 use Rattle.std.proofs.Common.{◌≡◌, ◌≤◌, ◌+◌, ◌*◌, ℕ, List, [], ◌∷◌, ◌++◌, length, ap, sym, ◌∙◌, subst, arith, length-append}
 use Rattle.std.proofs.lemmas.List.{append-nil}
+use Rattle.std.proofs.lemmas.List.Sums.{sum_by-cons}
 use Rattle.std.specs.List.{filter_map, flat_map}
 use Rattle.crossterm_parse.specs.Marked.{Marked, bytes_of}
 use Rattle.crossterm_parse.specs.Division.{Divides, IsUndecided}
 use Rattle.crossterm_parse.specs.Grammar.{Whole}
 use Rattle.crossterm_parse.specs.Meaning.{meaning_of}
-use Rattle.crossterm_parse.specs.Standing.{Standing, Stands, AdvancesOver, AdvancesThrough, CutsAlike, EmptyDoesNothing, StepsThrough, TwoStepsAByte, paste_length}
+use Rattle.crossterm_parse.specs.Standing.{Standing, Stands, AdvancesOver, AdvancesThrough, CutsAlike, EmptyDoesNothing, StepsThrough, TwoStepsAByte, AStepAByte, paste_length}
 use Rattle.crossterm_parse.proofs.DivisionLaws.{one_division}
 use Rattle.crossterm_parse.proofs.GrammarLaws.{nil_not_whole, whole_closes}
 use Rattle.crossterm_parse.proofs.StandingLaws.{advance_join, advance_none}
@@ -48,3 +49,7 @@ steps_through old new s t (piece ∷ pieces) before stands undecided (mid, m, ad
 
 pub two_steps_a_byte : TwoStepsAByte
 two_steps_a_byte old new s t pieces before stands undecided none steps = omega (arith, none, steps_through old new s t pieces before stands undecided steps)
+
+pub a_step_a_byte : AStepAByte
+a_step_a_byte s t [] e = omega (arith, e)
+a_step_a_byte s t (n ∷ ns) (m, more, later) = omega (arith, more, a_step_a_byte m t ns later, sum_by-cons (λ x. x) n ns)

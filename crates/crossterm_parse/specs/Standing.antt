@@ -1,5 +1,5 @@
 -- What a parser stands for.
-use Rattle.std.specs.Prelude.{◌≡◌, ◌≤◌, Bool, ℕ, ◌+◌, ◌-◌, ◌*◌, length, if◌then◌else◌, drop, List, ◌++◌, ◌∷◌, [], false}
+use Rattle.std.specs.Prelude.{◌≡◌, ◌≤◌, Bool, ℕ, ◌+◌, ◌-◌, ◌*◌, length, sum, if◌then◌else◌, drop, List, ◌++◌, ◌∷◌, [], false}
 use Rattle.std.specs.List.{filter_map, flat_map, AllByRecursion}
 use Rattle.crossterm_types.specs.Seen.{Seen}
 use Rattle.crossterm_parse.specs.Deciding.{begins}
@@ -99,3 +99,12 @@ StepsThrough old s (piece ∷ pieces) new t =
 abbrev pub TwoStepsAByte : Type 0
 TwoStepsAByte = (old new : Standing) (s t : ℕ) (pieces : List (List Marked)) (before : List Marked) → Stands old before → IsUndecided Whole before
     → paste_length (bytes_of before) ≡ 0 → StepsThrough old s pieces new t → t ≤ s + 2 * length (flat_map (λ piece. piece) pieces)
+
+-- The steps before and after calls that took so many bytes one after another, whole pieces or not.
+abbrev pub CountsThrough : ℕ → List ℕ → ℕ → Type 0
+CountsThrough s [] t = t ≡ s
+CountsThrough s (n ∷ ns) t = (m : ℕ) × (s + n ≤ m) × CountsThrough m ns t
+
+-- Over any list of calls the steps are at least the bytes taken.
+abbrev pub AStepAByte : Type 0
+AStepAByte = (s t : ℕ) (taken : List ℕ) → CountsThrough s taken t → s + sum taken ≤ t

@@ -1,7 +1,7 @@
 //! What holds of the grammar and of the parser.
 ghost use Rattle.crossterm_parse.specs.Division.{NoneBeginsAnother, OneDivision, SomeDivision};
 ghost use Rattle.crossterm_parse.specs.Grammar.{Whole};
-ghost use Rattle.crossterm_parse.specs.Standing.{CutsAlike, EmptyDoesNothing, TwoStepsAByte};
+ghost use Rattle.crossterm_parse.specs.Standing.{AStepAByte, CutsAlike, EmptyDoesNothing, TwoStepsAByte};
 
 /// The law of the grammar: no whole sequence is a proper front of another, so bytes are divided in one way and in no second.
 pub fn one_division()
@@ -22,4 +22,10 @@ pub fn cuttings()
 /// the steps are at most twice the bytes.
 pub fn two_steps_a_byte()
     ensures { TwoStepsAByte }
+{}
+
+/// The law of steps from below: over any list of calls, of which each took the whole of its piece or the front of it, the steps are at least
+/// the bytes taken.
+pub fn a_step_a_byte()
+    ensures { AStepAByte }
 {}

@@ -236,6 +236,7 @@ impl<A: Allocator + Clone> Parser<A> {
     fn pasted<L: Ledger>(&self, steps: &mut Steps<L>) -> Result<String<A>, AllocError>
         ensures text { IfOk result (λ text. string_bytes text ≡ encode_utf8_all (lossy_chars (take (length self.now.text - 5) self.now.text))) }
         ensures steps { OnOk result (steps.new ≡ steps.old + (length self.now.text - 5)) }
+        ensures counted { steps.old ≤ steps.new }
     {
         match &self.paste {
             Some(text) => text.close(steps),
@@ -251,6 +252,7 @@ impl<A: Allocator + Clone> Parser<A> {
         ensures waiting { OnOk result (self.new.waiting ≡ self.old.waiting ++ pasted (take (length self.old.text - 5) self.old.text) ∷ []) }
         ensures err { OnErr result (StaysAsItWas self.old self.new) }
         ensures steps { OnOk result (steps.new ≡ steps.old + (length self.old.text - 5)) }
+        ensures counted { steps.old ≤ steps.new }
         ensures room { self.old.room ≤ self.new.room + 1 }
     {
         self.waiting.reserve(1)?;
@@ -277,6 +279,7 @@ impl<A: Allocator + Clone> Parser<A> {
         ensures reserved { is_paste self.old.state ≡ false → 0 < self.old.room → IsOk result }
         ensures room { self.old.room ≤ self.new.room + 1 }
         ensures steps { OnOk result (steps.new + length self.new.text ≤ steps.old + length self.old.text + 2) }
+        ensures counted { steps.old < steps.new }
     {
         match self.state.put(byte, raw, pause, steps) {
             Step::Open(State::Paste(met)) => self.go_on(met, byte)?,
@@ -305,6 +308,7 @@ impl<A: Allocator + Clone> Parser<A> {
         ensures reserved { is_paste self.old.state ≡ false → 0 < self.old.room → IsOk result }
         ensures room { self.old.room ≤ self.new.room + 1 }
         ensures steps { OnOk result (steps.new + length self.new.text ≤ steps.old + length self.old.text + 2) }
+        ensures counted { steps.old < steps.new }
     {
         if let State::Utf8(character) = &self.state
             && !character.escaped
@@ -335,6 +339,7 @@ impl<A: Allocator + Clone> Parser<A> {
         ensures reserved { is_paste self.old.state ≡ false → 0 < self.old.room → IsOk result }
         ensures room { self.old.room ≤ self.new.room + 1 }
         ensures steps { OnOk result (steps.new + length self.new.text ≤ steps.old + length self.old.text + 2) }
+        ensures counted { steps.old < steps.new }
     {
         // Most bytes of a terminal are letters.
         if matches!(self.state, State::Ground) && matches!(byte, 32..=126) {
@@ -373,6 +378,8 @@ impl<A: Allocator + Clone> Parser<A> {
         ensures room { self.old.room ≤ self.new.room + result }
         // Where all are taken, the steps and the open paste's length are at most its length before and twice the bytes.
         ensures steps { result ≡ length piece.now → TakesSteps self.old self.new steps.old steps.new result }
+        // Each byte taken is a step at least.
+        ensures counted { steps.old + result ≤ steps.new }
     {
         for (i, byte) in piece.iter().enumerate() {
             let pause = pauses(more, i, piece.len());

@@ -2,7 +2,9 @@ pub mod CountLaws
 pub mod FieldLaws
 pub mod Members
 pub mod NameLaws
+pub mod Orders
 pub mod Parameters
 pub mod ReadingLaws
 pub mod SetLaws
+pub mod SetMembers
 pub mod TextLaws

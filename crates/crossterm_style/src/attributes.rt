@@ -89,6 +89,7 @@ impl From<&[Attribute]> for Attributes {
     ghost from_gives = { λ all r. r.0 ≡ of_list all.now };
 
     /// The set of these attributes; one that stands twice counts once.
+    #[tactic(auto, using(crate::proofs::Members::bits_more))]
     fn from(all: &[Attribute]) -> Attributes {
         let mut attributes = Attributes::none();
         for attribute in all {

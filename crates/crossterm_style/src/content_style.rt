@@ -70,12 +70,24 @@ pub trait AsStyle {
     where
         Self: Sized,
         ensures { result ≡ restyled self style };
+
+    // In another style it has that style.
+    ghost has_style: { (s : Self) (style : ContentStyle) → style_of (restyled s style) ≡ style };
+
+    // Of two styles one after the other the later counts alone.
+    ghost later_style: { (s : Self) (first second : ContentStyle) → restyled (restyled s first) second ≡ restyled s second };
 }
 
 impl AsStyle for ContentStyle {
+    ghost use Rattle.std.specs.Prelude.{refl};
+
     ghost style_of = { λ s. s };
 
     ghost restyled = { λ _ s. s };
+
+    ghost has_style = { λ s style. refl };
+
+    ghost later_style = { λ s first second. refl };
 
     fn style(&self) -> &ContentStyle {
         self

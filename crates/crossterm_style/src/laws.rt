@@ -1,14 +1,20 @@
 //! What holds of colours and of sets of attributes.
-ghost use Rattle.std.specs.Prelude.{◌≡◌, ◌<◌, ◌^◌, ◌||◌, ◌&&◌, ℕ, Bool, not, true, false};
+ghost use Rattle.std.specs.Prelude.{◌≡◌, ◌<◌, ◌^◌, ◌||◌, ◌&&◌, ◌↔◌, ℕ, Bool, IsTrue, List, not, true, false};
 ghost use Rattle.std.specs.Int.{bit_not, w32};
 ghost use Rattle.std.specs.Int.RustNames.{bit_and, bit_or, bit_xor};
-ghost use Rattle.crossterm_style.specs.Attributes.{Makes, bit_of, differ, has};
+ghost use Rattle.std.specs.List.{Contains};
+ghost use Rattle.crossterm_flags.specs.Orders.{ComparesBy};
+ghost use Rattle.crossterm_style.specs.Attributes.{HoldAttributes, Makes, OnlyAttributes, bit_of, differ, has, of_list};
 ghost use Rattle.crossterm_style.specs.declared.types.attribute.Attribute.{Attribute};
 ghost use Rattle.crossterm_style.specs.Colors.{LaterIsAssociative, LaterWins, NoColorsAreNeutral};
 ghost use Rattle.crossterm_style.specs.Fields.{OneColor, OneColored, TextIsReadBack};
+ghost use Rattle.crossterm_style.specs.Ranks.{attribute_order, color_order, colored_order};
+
+use crate::{Attribute, Color, Colored};
+use std::cmp::{Ord, PartialOrd};
 
 /// `Attributes` is a set: `with`, `set`, `extend` and `|` make the union, `without` and `unset` the difference, `&` the intersection,
-/// `toggle` and `^` the symmetric difference; a set of one attribute has that one alone, and the empty set none.
+/// `toggle` and `^` the symmetric difference; a set of one attribute has that one alone, that of a list exactly the list's, and the empty set none.
 pub fn sets()
     ensures union { (x y : ℕ) → Makes (λ p q. p || q) x y (bit_or x y) }
     ensures intersection { (x y : ℕ) → Makes (λ p q. p && q) x y (bit_and x y) }
@@ -17,6 +23,15 @@ pub fn sets()
     ensures one { (a b : Attribute) → has (bit_of a) b ≡ true → b ≡ a }
     ensures itself { (a : Attribute) → has (bit_of a) a ≡ true }
     ensures none { (a : Attribute) → has 0 a ≡ false }
+    ensures listed { (all : List Attribute) (a : Attribute) → IsTrue (has (of_list all) a) ↔ Contains all a }
+{}
+
+/// A set of `Attributes` is its members. Whatever calls made it, it holds attributes alone (`held`); of those, one without members is the
+/// empty set, and two with the same members are equal.
+pub fn sets_are_their_members()
+    ensures held { HoldAttributes }
+    ensures empty { (x : ℕ) → OnlyAttributes x → ((a : Attribute) → has x a ≡ false) → x ≡ 0 }
+    ensures same { (x y : ℕ) → OnlyAttributes x → OnlyAttributes y → ((a : Attribute) → has x a ≡ has y a) → x ≡ y }
 {}
 
 /// Colours set one after another: the later colour wins at its place, colours that aren't there change nothing, and how the steps are grouped
@@ -33,4 +48,11 @@ pub fn colors_read()
     ensures color { OneColor }
     ensures colored { OneColored }
     ensures back { TextIsReadBack }
+{}
+
+/// The declared orders of attributes and colours: variants in the order of their ranks, and two of one variant by what they hold.
+pub fn declared_orders()
+    ensures attributes { ComparesBy attribute_order ⟦<Attribute as Ord>⟧.cmp ⟦<Attribute as PartialOrd>⟧.partial_cmp }
+    ensures colors { ComparesBy color_order ⟦<Color as Ord>⟧.cmp ⟦<Color as PartialOrd>⟧.partial_cmp }
+    ensures colored { ComparesBy colored_order ⟦<Colored as Ord>⟧.cmp ⟦<Colored as PartialOrd>⟧.partial_cmp }
 {}

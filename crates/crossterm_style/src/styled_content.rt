@@ -51,9 +51,15 @@ impl<D> StyledContent<D> {
 }
 
 impl<D> AsStyle for StyledContent<D> {
+    ghost use Rattle.std.specs.Prelude.{refl};
+
     ghost style_of = { λ c. c.style };
 
     ghost restyled = { λ c s. record c { style = s } };
+
+    ghost has_style = { λ c style. refl };
+
+    ghost later_style = { λ c first second. refl };
 
     fn style(&self) -> &ContentStyle {
         &self.style

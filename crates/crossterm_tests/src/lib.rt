@@ -36,4 +36,6 @@ mod refused;
 #[cfg(test)]
 mod scripts;
 #[cfg(test)]
+mod sizes;
+#[cfg(test)]
 mod sources;

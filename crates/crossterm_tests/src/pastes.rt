@@ -94,18 +94,21 @@ fn is_pasted_often(event: Option<InternalEvent>, letter: u8, count: usize) -> bo
     }
 }
 
-/// Whether a million letters between the two ends of a paste are taken, and are one event.
-fn pastes_a_million(alloc: Global) -> Result<bool, AllocError> {
-    let bytes = endless(alloc, b"\x1b[200~", b'x', b"\x1b[201~")?;
+/// How many bytes a long paste has: 1 MiB.
+const LONG: usize = 1 << 20;
+
+/// Whether so many letters between the two ends of a paste are taken, and are one event.
+fn pastes_long(alloc: Global) -> Result<bool, AllocError> {
+    let bytes = endless(alloc, b"\x1b[200~", (b'x', LONG), b"\x1b[201~")?;
     let mut parser: Parser<Global> = Parser::new(alloc);
     let taken = parser.feed(bytes.as_slice(), false, false);
-    let is_one = is_pasted_often(parser.next(), b'x', 1_000_000) && parser.next().is_none();
+    let is_one = is_pasted_often(parser.next(), b'x', LONG) && parser.next().is_none();
     Ok(taken == bytes.len() && is_one)
 }
 
 #[test]
 fn a_long_paste_ends(rt: HostRuntime) -> Result<(), AllocError> {
-    expect!(rt; pastes_a_million(rt.alloc())?);
+    expect!(rt; pastes_long(rt.alloc())?);
     Ok(())
 }
 

@@ -11,11 +11,16 @@ fn takes(parser: &mut Poor<'_>, bytes: &[u8], count: usize) -> bool {
     parser.feed(bytes, false, false) == count
 }
 
-/// A front, a million times the same byte, and a back.
-pub fn endless(alloc: Global, front: &[u8], byte: u8, back: &[u8]) -> Result<Vec<u8>, AllocError> {
+/// A front, so many times the same byte, and a back.
+pub fn endless(
+    alloc: Global,
+    front: &[u8],
+    (byte, count): (u8, usize),
+    back: &[u8],
+) -> Result<Vec<u8>, AllocError> {
     let mut bytes = Vec::new(alloc);
     bytes.extend_from_slice(front)?;
-    for _ in 0..1_000_000u32 {
+    for _ in 0..count {
         bytes.push(byte)?;
     }
     bytes.extend_from_slice(back)?;
@@ -45,7 +50,7 @@ fn takes_no_memory(heap: &LocalHeap, bytes: &[u8]) -> bool {
 
 #[test]
 fn an_endless_sequence_takes_no_memory(rt: HostRuntime) -> Result<(), AllocError> {
-    let bytes = endless(rt.alloc(), b"\x1b[1", b';', b"A")?;
+    let bytes = endless(rt.alloc(), b"\x1b[1", (b';', 1_000_000), b"A")?;
     // A heap with no room for an event: each allocation is refused.
     let heap = LocalHeap::new(rt.alloc(), 16)?;
     expect!(rt; takes_no_memory(&heap, &bytes));

@@ -1,3 +1,4 @@
 mod NormalForm
+mod Orders
 mod SameKeys
 mod Variants

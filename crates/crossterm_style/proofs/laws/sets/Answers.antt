@@ -1,4 +1,5 @@
 use Rattle.crossterm_style.proofs.SetLaws as law
+use Rattle.crossterm_style.proofs.SetMembers as members
 use Rattle.crossterm_style.proofs.laws.sets.Goals as goal
 
 pub returns-clause-union : goal.returns-clause-union
@@ -21,3 +22,6 @@ returns-clause-itself c = law.itself
 
 pub returns-clause-none : goal.returns-clause-none
 returns-clause-none c = law.none
+
+pub returns-clause-listed : goal.returns-clause-listed
+returns-clause-listed c = members.listed

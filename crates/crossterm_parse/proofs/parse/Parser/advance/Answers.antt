@@ -4,7 +4,7 @@ use Rattle.crossterm_parse.proofs.StandingLaws.{advance_more, advance_none, byte
 use Rattle.crossterm_parse.proofs.parse.Parser.advance.Goals as goal
 
 pub loop-i-init : goal.loop-i-init
-loop-i-init g c = record { divided = advance_none c.args.self.now; room = omega arith; steps = omega arith }
+loop-i-init g c = record { divided = advance_none c.args.self.now; room = omega arith; steps = omega arith; counted = omega arith }
 
 pub loop-i-preserved : goal.loop-i-preserved
 loop-i-preserved g c = record {
@@ -12,6 +12,7 @@ loop-i-preserved g c = record {
       c.in-Ok.ensures.put.0 c.in-Ok.ensures.put.1 c.in-Ok.ensures.put.2 c.loop-i.invariant.divided;
   room = omega arith;
   steps = omega (arith, c.in-Ok.ensures.steps);
+  counted = omega (arith, c.in-Ok.ensures.counted);
 }
 
 pub returns-clause-steps : goal.returns-clause-steps

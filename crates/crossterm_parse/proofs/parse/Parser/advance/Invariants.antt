@@ -9,4 +9,5 @@ invariant-loop-i g l = record {
   divided : AdvancesOver l.initial.self l.self (take l.i (marked l.piece l.more l.raw));
   room : l.initial.self.room ≤ l.self.room + l.i;
   steps : l.steps + length l.self.text ≤ l.initial.steps + length l.initial.self.text + 2 * l.i;
+  counted : l.initial.steps + l.i ≤ l.steps;
 }
