@@ -42,6 +42,8 @@ mod commands;
 #[cfg(test)]
 mod faults;
 #[cfg(test)]
+mod modes;
+#[cfg(test)]
 mod queueing;
 #[cfg(test)]
 mod refused;

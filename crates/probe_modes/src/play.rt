@@ -36,6 +36,8 @@ enum PlainWord {
     Poll,
     Read,
     Take,
+    Position,
+    Keyboard,
 }
 
 fn first_word(word: &str) -> Option<Word> {
@@ -49,6 +51,8 @@ fn first_word(word: &str) -> Option<Word> {
         "poll" => Some(Word::Plain(PlainWord::Poll)),
         "read" => Some(Word::Plain(PlainWord::Read)),
         "take" => Some(Word::Plain(PlainWord::Take)),
+        "position" => Some(Word::Plain(PlainWord::Position)),
+        "keyboard" => Some(Word::Plain(PlainWord::Keyboard)),
         _ => None,
     }
 }
@@ -98,6 +102,16 @@ fn take<A: Allocator>(rest: &str) -> Option<Statement<A>> {
     Some(Statement::Call(Call::Take { filter }))
 }
 
+fn position<A: Allocator>(rest: &str) -> Option<Statement<A>> {
+    let tries = number(rest)?;
+    Some(Statement::Call(Call::Position { tries }))
+}
+
+fn keyboard<A: Allocator>(rest: &str) -> Option<Statement<A>> {
+    let tries = number(rest)?;
+    Some(Statement::Call(Call::Keyboard { tries }))
+}
+
 /// What a word and the words behind it say.
 fn read_with_rest<A: Allocator>(word: PlainWord, rest: &str) -> Option<Statement<A>> {
     match word {
@@ -105,6 +119,8 @@ fn read_with_rest<A: Allocator>(word: PlainWord, rest: &str) -> Option<Statement
         PlainWord::Poll => poll(rest),
         PlainWord::Read => read(rest),
         PlainWord::Take => take(rest),
+        PlainWord::Position => position(rest),
+        PlainWord::Keyboard => keyboard(rest),
         PlainWord::Wake | PlainWord::Idle | PlainWord::Fault => None,
     }
 }
@@ -115,7 +131,12 @@ fn read_alone<A: Allocator>(word: PlainWord) -> Option<Statement<A>> {
         PlainWord::Wake => Some(Statement::Act(Act::Woken)),
         PlainWord::Idle => Some(Statement::Act(Act::Idle)),
         PlainWord::Fault => Some(Statement::Act(Act::Fault(ErrorKind::Other))),
-        PlainWord::Resize | PlainWord::Poll | PlainWord::Read | PlainWord::Take => None,
+        PlainWord::Resize
+        | PlainWord::Poll
+        | PlainWord::Read
+        | PlainWord::Take
+        | PlainWord::Position
+        | PlainWord::Keyboard => None,
     }
 }
 
@@ -177,6 +198,9 @@ impl<A: Allocator> fmt::Display for ReplyLine<'_, A> {
             Reply::Poll(ready) => fmt::Display::fmt(ready, f),
             Reply::Event(Some(event)) => fmt::Display::fmt(&EventLine(event), f),
             Reply::Event(None) => f.write_str("none"),
+            Reply::Position(column, row) => write!(f, "cursor {column} {row}"),
+            Reply::Keyboard(Some(flags)) => write!(f, "flags {}", flags.bits()),
+            Reply::Keyboard(None) => f.write_str("unsupported"),
             Reply::Fault(kind) => write!(f, "fault {kind:?}"),
         }
     }

@@ -86,6 +86,17 @@ piece c041eda080;read event 1 -> none;
 ;;poll event 1;;idle;;poll event 1; -> false;fault UnexpectedEof;
 piece 1b5b3130;raw 75;read event 1;read event 1 -> none;key Char:a 0 Press 0;
 raw 1b5b3130;piece 75;read event 1;read event 1 -> none;key Enter 0 Press 0;
+piece 611b5b32303b313052;position 2 -> cursor 9 19;held key Char:61 0 Press 0;
+piece 611b5b32303b313052;position 1 -> fault Other;held key Char:61 0 Press 0;
+piece 1b5b3f3175;keyboard 1 -> flags 1;
+piece 1b5b3f31751b5b3f363263;keyboard 3 -> flags 1;
+piece 1b5b3f363263;keyboard 3 -> unsupported;
+piece 1b5b32303b313052;piece 1b5b313b3152;position 2;position 1 -> cursor 9 19;cursor 0 0;
+piece 1b5b32303b313052;piece 1b5b313b3152;read event 2;position 0;position 0 -> none;cursor 9 19;cursor 0 0;
+piece 61;wake;piece 1b5b32303b313052;position 9;position 9 -> fault Other;cursor 9 19;held key Char:61 0 Press 0;
+fault;piece 1b5b3f3175;keyboard 9;keyboard 9 -> fault Other;flags 1;
+piece 1b5b3f3175;fault;piece 1b5b3f363263;keyboard 9;take attributes -> flags 1;none;
+wake;piece 1b5b3f3175;keyboard 1;keyboard 1 -> fault Other;flags 1;
 piece 611b5b32303b31305262;read cursor 2;read event 1;read event 1 -> cursor 9 19;key Char:61 0 Press 0;key Char:62 0 Press 0;
 piece 611b5b32303b31305262;read cursor 1;read event 1;read event 1 -> none;key Char:61 0 Press 0;none;held cursor 9 19;
 piece 6162631b5b32303b313052;read flags 4;poll cursor 0;take cursor;take event;take event;take event -> none;true;cursor 9 19;key Char:61 0 Press 0;key Char:62 0 Press 0;key Char:63 0 Press 0;
@@ -155,7 +166,12 @@ piece 1b5b3230307e61;piece 1b;resize 80 24;piece 5b3230317e62;read event 9;read 
 piece 1b5b313b313bc3a941;read event 1 -> key Up 0 Press 0;
 ;frobnicate -> probe: line 2: unknown word
  piece 61 -> probe: line 1: unknown word
-position 1 -> probe: line 1: unknown word
+position -> probe: line 1: bad argument
+position x -> probe: line 1: bad argument
+position 4294967296 -> probe: line 1: bad argument
+keyboard -> probe: line 1: bad argument
+keyboard 1 1 -> probe: line 1: bad argument
+cursor 1 -> probe: line 1: unknown word
 wake\r -> probe: line 1: unknown word
 piece -> probe: line 1: bad argument
 piece 6 -> probe: line 1: bad argument
@@ -181,7 +197,7 @@ read event  -> probe: line 1: bad argument
 poll  1 -> probe: line 1: bad argument";
 
 /// How many scripts there are.
-const CASES: usize = 118;
+const CASES: usize = 134;
 
 /// Whether this comes of an input, with `;` in place of each line's end.
 fn is_answer_unfolded(alloc: Global, input: &str, want: &str) -> Result<bool, AllocError> {

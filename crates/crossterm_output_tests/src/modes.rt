@@ -1,0 +1,209 @@
+//! Raw mode on and off over a device of modes, and sizes.
+
+ghost use Rattle.std.specs.Prelude.{◌≡◌, ◌≤◌, None, OnOk, OnErr, ⊤};
+ghost use Rattle.crossterm.specs.Modes.{Refuses};
+
+use crossterm::event::source::RawFlag;
+use crossterm::terminal::{ModeDevice, Terminal, WindowSize, tput_value};
+use std::alloc::Global;
+use std::io::{self, ErrorKind};
+
+/// What a device refuses.
+#[derive(Clone, Copy, PartialEq, Eq)]
+enum Refused {
+    Nothing,
+    Mode,
+    Raw,
+    Back,
+    Size,
+}
+
+/// A device whose modes are numbers: the one that it has at first is 7, and the raw mode of a mode is 100 more.
+#[derive(Drop)]
+struct Modes {
+    mode: u8,
+    refused: Refused,
+    asked: u32,
+    failures: u64,
+}
+
+impl Modes {
+    fn new(refused: Refused) -> Modes {
+        Modes {
+            mode: 7,
+            refused,
+            asked: 0,
+            failures: 0,
+        }
+    }
+
+    /// Counts a call, and fails where it is refused.
+    fn unless(&mut self, refused: Refused) -> io::Result<()>
+        ensures mode { self.new.mode ≡ self.old.mode }
+        ensures rise { self.old.failures ≤ self.new.failures }
+        ensures err { OnErr result (Refuses self.old.failures self.new.failures) }
+    {
+        self.asked = self.asked.saturating_add(1);
+        if self.refused == refused {
+            self.failures = self.failures.saturating_add(1);
+            return Err(io::Error::from(ErrorKind::PermissionDenied));
+        }
+        Ok(())
+    }
+}
+
+impl ModeDevice for Modes {
+    type Mode = u8;
+
+    ghost stands = { λ s. s.mode };
+
+    ghost sized = { λ _ _ _. ⊤ };
+
+    ghost failed = { λ s. s.failures };
+
+    fn mode(&mut self) -> io::Result<u8> {
+        self.unless(Refused::Mode)?;
+        Ok(self.mode)
+    }
+
+    fn set_raw(&mut self, mode: &u8) -> io::Result<()> {
+        self.unless(Refused::Raw)?;
+        self.mode = mode.saturating_add(100);
+        Ok(())
+    }
+
+    fn set_mode(&mut self, mode: &u8) -> io::Result<()> {
+        self.unless(Refused::Back)?;
+        self.mode = *mode;
+        Ok(())
+    }
+
+    fn window_size(&mut self) -> io::Result<WindowSize> {
+        self.unless(Refused::Size)?;
+        Ok(WindowSize {
+            rows: 24,
+            columns: 80,
+            width: 640,
+            height: 480,
+        })
+    }
+
+    fn failures(&self) -> u64 {
+        self.failures
+    }
+}
+
+/// A terminal over such a device, and its flag once more.
+fn terminal_of(alloc: Global, refused: Refused) -> io::Result<(Terminal<Modes>, RawFlag)> {
+    let flag = RawFlag::new(alloc)?;
+    let shared = flag.share()?;
+    Ok((Terminal::new(Modes::new(refused), flag), shared))
+}
+
+/// Whether raw mode is on, by the terminal and by the flag.
+fn is_raw(terminal: &Terminal<Modes>, flag: &RawFlag) -> bool {
+    matches!(terminal.is_raw_mode_enabled(), Ok(true)) && flag.get()
+}
+
+/// Whether raw mode is off, by both.
+fn is_cooked(terminal: &Terminal<Modes>, flag: &RawFlag) -> bool {
+    matches!(terminal.is_raw_mode_enabled(), Ok(false)) && !flag.get()
+}
+
+fn is_denied<T: Drop>(answer: io::Result<T>) -> bool {
+    matches!(answer, Err(error) if error.kind() == ErrorKind::PermissionDenied)
+}
+
+/// Raw mode on and off. Both leave the mode that stood before.
+fn raw_and_back<D: ModeDevice>(terminal: &mut Terminal<D>) -> io::Result<()>
+    requires { terminal.old.prior ≡ None }
+    ensures { OnOk result (D.stands terminal.new.device ≡ D.stands terminal.old.device) }
+{
+    terminal.enable_raw_mode()?;
+    terminal.disable_raw_mode()
+}
+
+/// Whether raw mode is on once however often it is switched on, and off in the same way.
+fn switches(terminal: &mut Terminal<Modes>, flag: &RawFlag) -> bool {
+    let off = is_cooked(terminal, flag) && terminal.disable_raw_mode().is_ok();
+    let on = terminal.enable_raw_mode().is_ok() && is_raw(terminal, flag);
+    let twice = terminal.enable_raw_mode().is_ok() && is_raw(terminal, flag);
+    let back = terminal.disable_raw_mode().is_ok() && is_cooked(terminal, flag);
+    off && on && twice && back
+}
+
+#[test]
+fn raw_mode_is_switched_on_and_off(rt: HostRuntime) -> io::Result<()> {
+    let (mut terminal, flag) = terminal_of(rt.alloc(), Refused::Nothing)?;
+    expect!(rt; switches(&mut terminal, &flag));
+    raw_and_back(&mut terminal)?;
+    expect!(rt; is_cooked(&terminal, &flag));
+    Ok(())
+}
+
+/// Whether a device that refuses to tell its mode, or to set the raw one, leaves raw mode off.
+fn stays_cooked(alloc: Global, refused: Refused) -> io::Result<bool> {
+    let (mut terminal, flag) = terminal_of(alloc, refused)?;
+    let denied = is_denied(terminal.enable_raw_mode());
+    Ok(denied && is_cooked(&terminal, &flag))
+}
+
+/// Whether a device that refuses to set the mode that stood before leaves raw mode on, each time.
+fn stays_raw(alloc: Global) -> io::Result<bool> {
+    let (mut terminal, flag) = terminal_of(alloc, Refused::Back)?;
+    let on = terminal.enable_raw_mode().is_ok();
+    let once = is_denied(terminal.disable_raw_mode()) && is_raw(&terminal, &flag);
+    let twice = is_denied(terminal.disable_raw_mode()) && is_raw(&terminal, &flag);
+    Ok(on && once && twice)
+}
+
+#[test]
+fn refused_switches_leave_the_mode_as_it_was(rt: HostRuntime) -> io::Result<()> {
+    expect!(rt; stays_cooked(rt.alloc(), Refused::Mode)?);
+    expect!(rt; stays_cooked(rt.alloc(), Refused::Raw)?);
+    expect!(rt; stays_raw(rt.alloc())?);
+    Ok(())
+}
+
+const SIZE: WindowSize = WindowSize {
+    rows: 24,
+    columns: 80,
+    width: 640,
+    height: 480,
+};
+
+/// Whether the window's size is told, and both texts of `tput` where it isn't.
+fn tells_sizes(alloc: Global) -> io::Result<bool> {
+    let (mut told, _flag) = terminal_of(alloc, Refused::Nothing)?;
+    let (mut untold, _flag) = terminal_of(alloc, Refused::Size)?;
+    let window = matches!(told.window_size(), Ok(size) if size == SIZE);
+    let size = matches!(told.size(b"132", b"50"), Ok((80, 24)));
+    let tput = matches!(untold.size(b"132\n", b"50\n"), Ok((132, 50)));
+    let neither = is_denied(untold.size(b"132\n", b"")) && is_denied(untold.size(b"0", b"50"));
+    Ok(window && size && tput && neither && is_denied(untold.window_size()))
+}
+
+#[test]
+fn sizes_are_told_by_the_window_or_by_tput(rt: HostRuntime) -> io::Result<()> {
+    expect!(rt; tells_sizes(rt.alloc())?);
+    Ok(())
+}
+
+/// What `tput` wrote, and the number that it tells.
+static TPUT: [(&[u8], Option<u16>); 8] = [
+    (b"80\n", Some(80)),
+    (b"1a2", Some(12)),
+    (b"70000", None),
+    (b"", None),
+    (b"0", None),
+    (b"\x1b[1m", Some(1)),
+    (b"0065535", Some(65535)),
+    (b"99999999999999999999999", None),
+];
+
+#[test]
+fn tput_tells_numbers(rt: HostRuntime) {
+    for (text, want) in TPUT {
+        expect!(rt; tput_value(text) == want, "what tput wrote");
+    }
+}
