@@ -91,6 +91,12 @@ impl Attributes {
         ensures members { IsTrue result ↔ ((a : Attribute) → has self.0 a ≡ false) }
     {
         self.known();
+        self.has_no_bits()
+    }
+
+    fn has_no_bits(self) -> bool
+        ensures { result ≡ (self.0 == 0) }
+    {
         self == Attributes::none()
     }
 
