@@ -1,17 +1,18 @@
 -- Sets of attributes and their members.
-use Rattle.std.proofs.Common.{◌≡◌, ◌≢◌, ℕ, zero, suc, ◌+◌, ◌*◌, ◌/◌, ◌%◌, ◌^◌, ◌<◌, ◌≤◌, ◌==◌, ◌⊎◌, ◌↔◌, inl, inr, max, min, Bool, true, false, ◌||◌, IsTrue, List, [], ◌∷◌, length, get_or, refl, sym, ◌∙◌, subst, arith, rules}
+use Rattle.std.proofs.Common.{◌≡◌, ℕ, zero, suc, ◌+◌, ◌*◌, ◌/◌, ◌%◌, ◌^◌, ◌<◌, ◌≤◌, ◌==◌, ◌⊎◌, ◌↔◌, inl, inr, max, min, Bool, true, false, ◌||◌, IsTrue, List, [], ◌∷◌, length, get_or, refl, sym, ◌∙◌, subst, arith, rules}
 use Rattle.std.proofs.Math.Nat.{pow-suc}
 use Rattle.std.proofs.Math.Pow.{pow-lt}
 use Rattle.std.proofs.lemmas.Bool.{cases_lt}
 use Rattle.std.proofs.lemmas.List.Elements.{Contains-append_cases, Contains-append_right}
 use Rattle.std.proofs.lemmas.Nat.{or_lt, xor_lt, and_le_l}
 use Rattle.std.proofs.lemmas.Nat.Bits.{bit_at-zero, bit_at-lt, bit_at-suc, bit_at_above, bit_at_and, bit_at_lowest, bit_at_or, bit_at_xor, bit_at-pow_other}
+use Rattle.std.specs.Cmp.{unsigned_Decides}
 use Rattle.std.specs.Int.{bit_at}
 use Rattle.std.specs.Int.RustNames.{bit_and, bit_or, bit_xor}
 use Rattle.std.specs.List.{Contains}
 use Rattle.crossterm_style.specs.declared.types.attribute.Attribute.{Attribute}
 use Rattle.crossterm_style.specs.declared.types.attribute.Attribute.TheVariants as attribute
-use Rattle.crossterm_style.specs.Attributes.{HoldAttributes, OnlyAttributes, all_attributes, bit_of, has, of_list, place_of, with_all}
+use Rattle.crossterm_style.specs.Attributes.{OnlyAttributes, all_attributes, bit_of, has, of_list, place_of, with_all}
 use Rattle.crossterm_style.proofs.SetLaws as law
 
 -- ---- the set of a list
@@ -62,39 +63,39 @@ listed all a =
 
 -- ---- sets of attributes alone
 
+pub one_low : (a : Attribute) → bit_at (bit_of a) 0 ≡ 0
+one_low a = bit_at-pow_other (place_of a + 1) 0 (λ e. omega (arith, e))
+
+pub one_few : (a : Attribute) → bit_of a < 2 ^ 29
+one_few a =
+    let few : place_of a + 1 < 29 = omega (arith, law.place_few a) in
+    pow-lt few
+
+pub union_low : (x y : ℕ) → bit_at x 0 ≡ 0 → bit_at y 0 ≡ 0 → bit_at (bit_or x y) 0 ≡ 0
+union_low x y p q = bit_at_or x y 0 ∙ (λ i. max (p i) (q i))
+
+pub union_few : (x y : ℕ) → x < 2 ^ 29 → y < 2 ^ 29 → bit_or x y < 2 ^ 29
+union_few x y = or_lt 29 x y
+
+pub differing_low : (x y : ℕ) → bit_at x 0 ≡ 0 → bit_at y 0 ≡ 0 → bit_at (bit_xor x y) 0 ≡ 0
+differing_low x y p q = bit_at_xor x y 0 ∙ (λ i. (p i + q i) % 2)
+
+pub differing_few : (x y : ℕ) → x < 2 ^ 29 → y < 2 ^ 29 → bit_xor x y < 2 ^ 29
+differing_few x y = xor_lt 29 x y
+
+pub less_low : (x y : ℕ) → bit_at x 0 ≡ 0 → bit_at (bit_and x y) 0 ≡ 0
+less_low x y p =
+    let low : min (bit_at x 0) (bit_at y 0) ≡ 0 = omega (arith, p) in
+    bit_at_and x y 0 ∙ low
+
+pub less_few : (x y : ℕ) → x < 2 ^ 29 → bit_and x y < 2 ^ 29
+less_few x y p = omega (arith, p, and_le_l x y)
+
+-- What each operation makes holds attributes alone.
+pub ruleset kept = (one_low, one_few, union_low, union_few, differing_low, differing_few, less_low, less_few)
+
 no_bit : OnlyAttributes 0
 no_bit = (bit_at-zero 0, omega arith)
-
-one_bit : (a : Attribute) → OnlyAttributes (bit_of a)
-one_bit a =
-    let apart : 0 ≢ place_of a + 1 = λ e. omega (arith, e) in
-    let few : place_of a + 1 < 29 = omega (arith, law.place_few a) in
-    (bit_at-pow_other (place_of a + 1) 0 apart, pow-lt few)
-
-union_alone : (x y : ℕ) → OnlyAttributes x → OnlyAttributes y → OnlyAttributes (bit_or x y)
-union_alone x y p q = (bit_at_or x y 0 ∙ (λ i. max (p.0 i) (q.0 i)), or_lt 29 x y p.1 q.1)
-
-differing_alone : (x y : ℕ) → OnlyAttributes x → OnlyAttributes y → OnlyAttributes (bit_xor x y)
-differing_alone x y p q = (bit_at_xor x y 0 ∙ (λ i. (p.0 i + q.0 i) % 2), xor_lt 29 x y p.1 q.1)
-
-less_alone : (x y : ℕ) → OnlyAttributes x → OnlyAttributes (bit_and x y)
-less_alone x y p =
-    let low : min (bit_at x 0) (bit_at y 0) ≡ 0 = omega (arith, p.0) in
-    (bit_at_and x y 0 ∙ low, omega (arith, p.1, and_le_l x y))
-
-all_alone : (bits : ℕ) (all : List Attribute) → OnlyAttributes bits → OnlyAttributes (with_all bits all)
-all_alone bits [] p = p
-all_alone bits (a ∷ all) p = all_alone (bit_or bits (bit_of a)) all (union_alone bits (bit_of a) p (one_bit a))
-
-pub hold_attributes : HoldAttributes
-hold_attributes = record {
-  none = no_bit;
-  one = one_bit;
-  list = λ all. all_alone 0 all no_bit;
-  union = union_alone;
-  symmetric_difference = differing_alone;
-  less = less_alone;
-}
 
 -- ---- numbers of the same bits
 
@@ -147,6 +148,12 @@ module _ (x y : ℕ) (p : OnlyAttributes x) (q : OnlyAttributes y) (same : (a : 
   pub same_members : x ≡ y
   same_members = same_bits 29 x y p.1 q.1 (λ i. same_bit i (below_or i))
 
--- Such a set without members is empty.
-pub no_members : (x : ℕ) → OnlyAttributes x → ((a : Attribute) → has x a ≡ false) → x ≡ 0
-no_members x p none = same_members x 0 p no_bit (λ a. none a ∙ sym (law.none a))
+-- Such a set is empty exactly where it has no members.
+pub no_members : (x : ℕ) → OnlyAttributes x → (x == 0) ≡ true ↔ ((a : Attribute) → has x a ≡ false)
+no_members x p = (
+  λ h a. subst (λ (n : ℕ). has n a ≡ false) (sym (same_number h)) (law.none a),
+  λ none. let empty : x ≡ 0 = same_members x 0 p no_bit (λ a. none a ∙ sym (law.none a)) in rw empty,
+)
+  where
+    same_number : (x == 0) ≡ true → x ≡ 0
+    same_number = (unsigned_Decides x 0).0

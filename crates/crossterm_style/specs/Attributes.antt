@@ -2,7 +2,7 @@
 use Rattle.std.specs.Prelude.{◌≡◌, ℕ, ◌+◌, ◌^◌, ◌<◌, ◌==◌, not, Bool, true, false, List, [], ◌∷◌, codes}
 use Rattle.std.specs.List.{filter}
 use Rattle.std.specs.Int.{bit_at}
-use Rattle.std.specs.Int.RustNames.{bit_and, bit_or, bit_xor}
+use Rattle.std.specs.Int.RustNames.{bit_or}
 use Rattle.crossterm_style.specs.declared.types.attribute.Attribute.{Attribute}
 use Rattle.crossterm_style.specs.declared.types.attribute.Attribute.TheVariants as attribute
 
@@ -131,15 +131,6 @@ abbrev pub differ : Bool → Bool → Bool
 differ true q = not q
 differ false q = q
 
--- Bits of attributes alone: none below the first's and none past the last's.
+-- The bits of a set: of attributes alone, none below the first's and none past the last's.
 abbrev pub OnlyAttributes : ℕ → Type 0
 OnlyAttributes bits = (bit_at bits 0 ≡ 0) × (bits < 2 ^ 29)
-
--- The empty set, the sets of one attribute and of a list, and what is made of sets of attributes alone, are sets of attributes alone.
-pub record HoldAttributes : Type 0 where
-  pub none : OnlyAttributes 0
-  pub one : (a : Attribute) → OnlyAttributes (bit_of a)
-  pub list : (all : List Attribute) → OnlyAttributes (of_list all)
-  pub union : (x y : ℕ) → OnlyAttributes x → OnlyAttributes y → OnlyAttributes (bit_or x y)
-  pub symmetric_difference : (x y : ℕ) → OnlyAttributes x → OnlyAttributes y → OnlyAttributes (bit_xor x y)
-  pub less : (x y : ℕ) → OnlyAttributes x → OnlyAttributes (bit_and x y)

@@ -1,3 +1,4 @@
+pub mod AttributeSet
 pub mod Attributes
 pub mod ColorNames
 pub mod Colors

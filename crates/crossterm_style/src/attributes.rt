@@ -1,15 +1,32 @@
 //! Sets of attributes.
-ghost use Rattle.std.specs.Prelude.{◌≡◌, ◌==◌};
+#![tactic(auto, using(crate::proofs::SetMembers::kept, crate::proofs::Members::bits_more))]
+
+ghost use Rattle.std.specs.Prelude.{◌≡◌, ◌==◌, ◌↔◌, IsTrue, false};
 ghost use Rattle.std.specs.Int.{bit_not, w32};
 ghost use Rattle.std.specs.Int.RustNames.{bit_and, bit_or, bit_xor};
-ghost use Rattle.crossterm_style.specs.Attributes.{bit_of, has, of_list};
+ghost use Rattle.crossterm_style.specs.Attributes.{OnlyAttributes, bit_of, has, of_list};
+ghost use Rattle.crossterm_style.specs.declared.types.attribute.Attribute.{Attribute};
 
 use crate::Attribute;
+use std::marker::Model;
 use std::ops::{BitAnd, BitOr, BitXor};
 
 /// A set of attributes: a bit for each, the first from bit 1 on.
 #[derive(Clone, Copy, PartialEq, Eq, Default, Debug)]
 pub struct Attributes(u32);
+
+impl Model for Attributes {
+    ghost use Rattle.crossterm_style.specs.AttributeSet.{AttributeSet};
+    ghost use Rattle.crossterm_style.specs.Attributes.{OnlyAttributes};
+
+    ghost Value = { AttributeSet };
+
+    ghost view = { λ s. record { 0 = s.0 } };
+
+    ghost inverse = { λ s. record { 0 = s.0 } };
+
+    ghost invariant = { λ s. OnlyAttributes s.0 };
+}
 
 impl Attributes {
     /// The empty set.
@@ -70,9 +87,24 @@ impl Attributes {
 
     /// Whether no attribute is in the set.
     pub fn is_empty(self) -> bool
+        ensures bits { result ≡ (self.0 == 0) }
+        ensures members { IsTrue result ↔ ((a : Attribute) → has self.0 a ≡ false) }
+    {
+        self.known();
+        self.has_no_bits()
+    }
+
+    fn has_no_bits(self) -> bool
         ensures { result ≡ (self.0 == 0) }
     {
         self == Attributes::none()
+    }
+
+    /// What is known of each set: it holds attributes alone. It does nothing when it runs.
+    pub(crate) fn known(self)
+        ensures { OnlyAttributes self.0 }
+    {
+        let _ = &self.0;
     }
 }
 
@@ -89,7 +121,6 @@ impl From<&[Attribute]> for Attributes {
     ghost from_gives = { λ all r. r.0 ≡ of_list all.now };
 
     /// The set of these attributes; one that stands twice counts once.
-    #[tactic(auto, using(crate::proofs::Members::bits_more))]
     fn from(all: &[Attribute]) -> Attributes {
         let mut attributes = Attributes::none();
         for attribute in all {

@@ -4,13 +4,13 @@ ghost use Rattle.std.specs.Int.{bit_not, w32};
 ghost use Rattle.std.specs.Int.RustNames.{bit_and, bit_or, bit_xor};
 ghost use Rattle.std.specs.List.{Contains};
 ghost use Rattle.crossterm_flags.specs.Orders.{ComparesBy};
-ghost use Rattle.crossterm_style.specs.Attributes.{HoldAttributes, Makes, OnlyAttributes, bit_of, differ, has, of_list};
+ghost use Rattle.crossterm_style.specs.Attributes.{Makes, bit_of, differ, has, of_list};
 ghost use Rattle.crossterm_style.specs.declared.types.attribute.Attribute.{Attribute};
 ghost use Rattle.crossterm_style.specs.Colors.{LaterIsAssociative, LaterWins, NoColorsAreNeutral};
 ghost use Rattle.crossterm_style.specs.Fields.{OneColor, OneColored, TextIsReadBack};
 ghost use Rattle.crossterm_style.specs.Ranks.{attribute_order, color_order, colored_order};
 
-use crate::{Attribute, Color, Colored};
+use crate::{Attribute, Attributes, Color, Colored};
 use std::cmp::{Ord, PartialOrd};
 
 /// `Attributes` is a set: `with`, `set`, `extend` and `|` make the union, `without` and `unset` the difference, `&` the intersection,
@@ -26,13 +26,13 @@ pub fn sets()
     ensures listed { (all : List Attribute) (a : Attribute) → IsTrue (has (of_list all) a) ↔ Contains all a }
 {}
 
-/// A set of `Attributes` is its members. Whatever calls made it, it holds attributes alone (`held`); of those, one without members is the
-/// empty set, and two with the same members are equal.
-pub fn sets_are_their_members()
-    ensures held { HoldAttributes }
-    ensures empty { (x : ℕ) → OnlyAttributes x → ((a : Attribute) → has x a ≡ false) → x ≡ 0 }
-    ensures same { (x y : ℕ) → OnlyAttributes x → OnlyAttributes y → ((a : Attribute) → has x a ≡ has y a) → x ≡ y }
-{}
+/// Two sets of `Attributes` are equal exactly where their members are the same. It does nothing when it runs.
+pub fn sets_are_their_members(left: Attributes, right: Attributes)
+    ensures { (left ≡ right) ↔ ((a : Attribute) → has left.0 a ≡ has right.0 a) }
+{
+    left.known();
+    right.known();
+}
 
 /// Colours set one after another: the later colour wins at its place, colours that aren't there change nothing, and how the steps are grouped
 /// doesn't matter.

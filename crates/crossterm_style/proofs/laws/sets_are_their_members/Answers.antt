@@ -1,11 +1,12 @@
-use Rattle.crossterm_style.proofs.SetMembers as members
+use Rattle.std.proofs.Common.{ℕ, ap}
+use Rattle.crossterm_style.specs.AttributeSet.{AttributeSet}
+use Rattle.crossterm_style.specs.Attributes.{has}
+use Rattle.crossterm_style.proofs.SetMembers.{same_members}
 use Rattle.crossterm_style.proofs.laws.sets_are_their_members.Goals as goal
 
-pub returns-clause-held : goal.returns-clause-held
-returns-clause-held c = members.hold_attributes
-
-pub returns-clause-empty : goal.returns-clause-empty
-returns-clause-empty c = members.no_members
-
-pub returns-clause-same : goal.returns-clause-same
-returns-clause-same c = members.same_members
+pub returns : goal.returns
+returns c =
+    let set = λ (bits : ℕ). let s : AttributeSet = record { 0 = bits } in s in (
+      λ e a. ap (λ (s : AttributeSet). has s.0 a) e,
+      λ same. ap set (same_members c.args.left.0 c.args.right.0 c.known.ensures c.known-2.ensures same),
+    )
