@@ -37,3 +37,5 @@ mod keys;
 mod names;
 #[cfg(test)]
 mod predicates;
+#[cfg(test)]
+mod timeouts;
