@@ -1,5 +1,4 @@
-//! Tests of commands, colours, attributes, styles, the macros, updates and the clipboard by their public calls, and tables that come from
-//! outside.
+//! Tests of commands, the macros, updates, writers and the clipboard by their public calls, and tables that come from outside.
 //!
 //! They stand here, in a crate of their own beside the tests of events, since a crate with tests is proved twice. What a line of
 //! `probe say` can tell of a command, its bytes, stands in the tables of `probe` alone.
@@ -32,11 +31,7 @@ fn is_text<E: Drop>(made: Result<std::string::String, E>, want: &str) -> bool {
 }
 
 #[cfg(test)]
-mod attributes;
-#[cfg(test)]
 mod clipboard;
-#[cfg(test)]
-mod colors;
 #[cfg(test)]
 mod commands;
 #[cfg(test)]
@@ -51,8 +46,6 @@ mod refused;
 mod shown;
 #[cfg(test)]
 mod sizes;
-#[cfg(test)]
-mod styles;
 #[cfg(test)]
 mod tape;
 #[cfg(test)]

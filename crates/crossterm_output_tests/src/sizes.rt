@@ -1,6 +1,5 @@
 //! Long texts and the greatest numbers, through a writer that takes little at a time.
 
-use crate::attributes::ATTRIBUTES;
 use crate::is_text;
 use crate::tape::Tape;
 use crossterm::clipboard::{ClipboardSelection, CopyToClipboard};
@@ -50,10 +49,16 @@ fn the_greatest_numbers_are_written(rt: HostRuntime) {
     expect!(rt; arrives(rt.alloc(), &ScrollDown(65535), b"\x1b[65535T"));
 }
 
+/// The parameters of all attributes, in declared order.
+static PARAMETERS: [&str; 28] = [
+    "0", "1", "2", "3", "4", "4:2", "4:3", "4:4", "4:5", "5", "6", "7", "8", "9", "20", "21", "22",
+    "23", "24", "25", "27", "28", "29", "51", "52", "53", "54", "55",
+];
+
 /// The sequences of all attributes.
 fn all_sequences(alloc: Global) -> Result<String, AllocError> {
     let mut text = String::new(alloc);
-    for (_, _, parameter) in &ATTRIBUTES {
+    for parameter in PARAMETERS {
         text.push_str("\x1b[")?;
         text.push_str(parameter)?;
         text.push_str("m")?;

@@ -2,7 +2,8 @@
 
 use crate::attributes::{ATTRIBUTES, bold_and_dim};
 use crate::is_text;
-use crossterm::style::{AsStyle, Attribute, Color, ContentStyle, StyledContent, Stylize, style};
+use crossterm_style::{AsStyle, Attribute, Color, ContentStyle, StyledContent, style};
+use crossterm_stylize::Stylize;
 use std::alloc::{AllocError, Global};
 
 /// A style with every field.
