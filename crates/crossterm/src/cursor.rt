@@ -1,13 +1,16 @@
-//! Commands of the cursor.
+//! Commands of the cursor, and its place.
 //!
-//! Each shows (`Display`) as the text that it writes.
+//! Each command shows (`Display`) as the text that it writes.
 ghost use Rattle.std.specs.Prelude.{Some};
 ghost use Rattle.crossterm.specs.Texts.{cursor_style_text, disable_blinking_text, enable_blinking_text, hide_text, move_down_text, move_left_text, move_right_text, move_to_column_text, move_to_next_line_text, move_to_previous_line_text, move_to_row_text, move_to_text, move_up_text, restore_position_text, save_position_text, show_text};
+
+pub mod sys;
 
 use crate::command::{Command, execute_fmt, write_number, write_numbers, write_once};
 use crate::csi;
 use crate::style::ColorOutput;
 use std::fmt;
+pub use sys::unix::position_within;
 
 /// Moves the cursor to a column and a row, both from 0 (CUP: ECMA-48, 8.3.21).
 ///

@@ -12,5 +12,5 @@ pub use crossterm_read::{read, source};
 pub use crossterm_types::event::{
     Event, InternalEvent, KeyCode, KeyEvent, KeyEventKind, KeyEventState, KeyModifiers,
     KeyboardEnhancementFlags, MediaKeyCode, ModifierKeyCode, MouseButton, MouseEvent,
-    MouseEventKind, filter,
+    MouseEventKind, filter, timeout,
 };
