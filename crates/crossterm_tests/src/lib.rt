@@ -39,3 +39,5 @@ mod scripts;
 mod sizes;
 #[cfg(test)]
 mod sources;
+#[cfg(test)]
+mod waiting;
