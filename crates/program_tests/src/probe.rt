@@ -244,9 +244,9 @@ fn joined(alloc: Global, parts: Parts) -> Result<Vec<u8>, AllocError> {
     Ok(text)
 }
 
-/// Long inputs and what comes of each: an escape at the end of a full buffer waits, and zeros before a number and before a mouse's code
-/// have no end.
-static LONG: [(Parts, Parts); 3] = [
+/// Long inputs and what comes of each: an escape at the end of a full buffer waits, zeros before a number and before a mouse's code have no
+/// end, and all that is held has a line.
+static LONG: [(Parts, Parts); 4] = [
     (
         &[
             ("piece ", 1),
@@ -271,6 +271,10 @@ static LONG: [(Parts, Parts); 3] = [
             ("3b313b314d\nread event 999\n", 1),
         ],
         &[("mouse Down:Left 0 0 0\n", 1)],
+    ),
+    (
+        &[("piece ", 1), ("61", 300), ("\nread cursor 300\n", 1)],
+        &[("none\n", 1), ("held key Char:61 0 Press 0\n", 300)],
     ),
 ];
 

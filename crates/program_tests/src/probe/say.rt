@@ -1,9 +1,8 @@
 //! Lines of commands beside the bytes that must come of them.
 
 use crate::expect;
-use crate::probe::{Mode, is_answer, looks};
+use crate::probe::{Mode, is_answer, looks, run};
 use probe_modes::fault::Fault;
-use probe_modes::say::run_say;
 use std::alloc::{AllocError, Global};
 use std::io::{self, ErrorKind, Write};
 use std::process::Abort;
@@ -199,28 +198,37 @@ impl Write for Narrow {
     }
 }
 
-/// What comes of three commands on a writer with so much room.
-fn said(alloc: Global, room: usize) -> (Result<(), Fault>, Narrow) {
+/// What comes of an input on a writer with so much room.
+fn written(mode: Mode, alloc: Global, input: &str, room: usize) -> (Result<(), Fault>, Narrow) {
     let bytes = Vec::new(alloc);
     let mut narrow = Narrow {
         bytes,
         room,
         flushed: false,
     };
-    let mut input: &[u8] = b"Show\nMoveTo 65535 0\nHide";
-    let outcome = run_say(alloc, &mut input, &mut narrow);
+    let mut reader = input.as_bytes();
+    let outcome = run(mode, alloc, &mut reader, &mut narrow);
     (outcome, narrow)
+}
+
+const THREE: &str = "Show\nMoveTo 65535 0\nHide";
+
+/// Whether a mode flushes what it wrote of an input.
+fn is_flushed(mode: Mode, alloc: Global, input: &str) -> bool {
+    let (outcome, narrow) = written(mode, alloc, input, 100);
+    outcome.is_ok() && narrow.flushed
 }
 
 #[test]
 fn what_was_written_is_flushed(rt: HostRuntime) {
-    let (outcome, narrow) = said(rt.alloc(), 100);
-    expect(&rt, outcome.is_ok() && narrow.flushed, "flushed at the end");
+    expect(&rt, is_flushed(Mode::Say, rt.alloc(), THREE), "commands");
+    let holds = is_flushed(Mode::Play, rt.alloc(), "wake\npoll event 1");
+    expect(&rt, holds, "replies");
 }
 
 #[test]
 fn a_writer_that_fails_has_a_beginning(rt: HostRuntime) {
-    let (outcome, narrow) = said(rt.alloc(), 10);
+    let (outcome, narrow) = written(Mode::Say, rt.alloc(), THREE, 10);
     let named = matches!(outcome, Err(Fault::WriteFailed));
     expect(&rt, named && !narrow.flushed, "the writer is named");
     let holds = narrow.bytes.as_slice() == b"\x1b[?25h\x1b[1;".as_slice();
