@@ -1,22 +1,23 @@
 -- What is taken and what is held, against what came.
-use Rattle.std.proofs.Common.{◌≡◌, inl, inr, ℕ, zero, suc, Bool, List, [], ◌∷◌, ◌++◌, length, map, Option, Some, None, refl, sym, ap, subst, ◌∙◌, append-nil, append_assoc}
-use Rattle.std.specs.List.{zip, remove}
+use Rattle.std.proofs.Common.{◌≡◌, inl, inr, ℕ, zero, suc, Bool, true, false, List, [], ◌∷◌, ◌++◌, Option, Some, None, refl, sym, ap, subst, ◌∙◌, append-nil, append_assoc}
+use Rattle.std.specs.List.{remove}
 use Rattle.std.specs.List.Sorted.{IsPermutation}
 use Rattle.std.specs.Option.{option_to_list}
-use Rattle.std.proofs.lemmas.List.{length-map, map-append}
 use Rattle.std.proofs.lemmas.List.Sorted.{IsPermutation-refl, IsPermutation-append_left, IsPermutation-more}
 use Rattle.std.proofs.lemmas.List.Quantifiers.{position-Some}
 use Rattle.crossterm_types.specs.Seen.{Seen}
+use Rattle.crossterm_types.specs.Seen as event
 use Rattle.crossterm_read.specs.Answers.{SourceAnswer, Gave, Nothing, Failed, gave}
 use Rattle.crossterm_read.specs.Device.{Word}
 use Rattle.crossterm_read.proofs.Happening.{told_front}
 use Rattle.crossterm_read.specs.declared.read.trace.Call.{Call}
-use Rattle.crossterm_read.specs.declared.read.trace.Call.TheVariants as call
 use Rattle.crossterm_read.specs.Shelf.{Shelf, arrived, numbered_after, next_number, Arrives}
-use Rattle.crossterm_read.specs.Steps.{TakeSays, ReadSays, PollSays, End, Ready, Tried, Broke, Said, Polled, Came, Faulted, TakeStep}
-use Rattle.crossterm_read.specs.Calls.{Step, Run, joined, empty, taken, numbered, IsWithin, Accounts, Plays}
-use Rattle.crossterm_types.specs.Admitting.{admitted}
-use Rattle.crossterm_read.proofs.Asking.{arrived-append}
+use Rattle.crossterm_read.specs.Steps.{TakeSays, ReadSays, PollSays, End, Ready, Tried, Broke, TakeStep, PollStep}
+use Rattle.crossterm_read.specs.Queries.{QuerySays, QueryStep, AfterReply, LeftSays, FlagsSay, KeyboardStep}
+use Rattle.crossterm_read.specs.Replies.{Said, Replied, ToPoll, ToTake, ToQuery, Fault}
+use Rattle.crossterm_read.specs.Calls.{Step, Request, Poll, Read, Take, Position, Keyboard, request, Run, joined, empty, taken, numbered, IsWithin, Accounts, Plays}
+use Rattle.crossterm_types.specs.Admitting.{admitted, is_cursor_position, is_flags_reply, is_attributes}
+use Rattle.crossterm_read.proofs.Asking.{arrived-append, numbered_after-append}
 
 within_none : (ys : List (Seen × ℕ)) → IsWithin [] ys
 within_none ys = tt
@@ -60,83 +61,167 @@ arrives_account all done s m zs a h = record {
   within = subst (λ l. IsWithin l (all ++ arrived s.arrivals zs)) (sym h.held) (within_append s.held all (arrived s.arrivals zs) a.within);
 }
 
-abbrev Taken : List (Seen × ℕ) → List (Seen × ℕ) → Shelf → List Seen → ℕ → Type 0
-Taken all done t xs n = (more : List (Seen × ℕ)) × Account all (done ++ more) t × (map (λ h. h.0) more ≡ xs) × (t.arrivals ≡ n)
+abbrev Taken : List (Seen × ℕ) → List (Seen × ℕ) → Shelf → List (Seen × ℕ) → ℕ → Type 0
+Taken all done t more n = Account all (done ++ more) t × (t.arrivals ≡ n)
 
 none_taken : (all done : List (Seen × ℕ)) (s t : Shelf) → t ≡ s → Account all done s → Taken all done t [] s.arrivals
-none_taken all done s t e a = ([], subst (λ l. Account all l t) (sym (append-nil done)) (subst (λ (y : Shelf). Account all done y) (sym e) a), refl, ap (λ (y : Shelf). y.arrivals) e)
+none_taken all done s t e a = (subst (λ l. Account all l t) (sym (append-nil done)) (subst (λ (y : Shelf). Account all done y) (sym e) a), ap (λ (y : Shelf). y.arrivals) e)
 
-take_account : (f : Seen → Bool) (all done : List (Seen × ℕ)) (s t : Shelf) (x : Option Seen) → Account all done s → TakeSays f s t x → Taken all done t (option_to_list x) s.arrivals
+take_account : (f : Seen → Bool) (all done : List (Seen × ℕ)) (s t : Shelf) (x : Option (Seen × ℕ)) → Account all done s → TakeSays f s t x → Taken all done t (option_to_list x) s.arrivals
 take_account f all done s t None a h = none_taken all done s t h.1 a
 take_account f all done s t (Some x) a h =
-    let b = position-Some (λ p. f p.0) s.held h.0 (x, h.1) h.2 in
-    let g : Account all (done ++ (x, h.1) ∷ []) (record s { held = remove s.held h.0 }) = record {
-      once = IsPermutation-more all done s.held h.0 (x, h.1) b.0 (sym h.3) a.once;
+    let b = position-Some (λ p. f p.0) s.held h.0 x h.1 in
+    let g : Account all (done ++ x ∷ []) (record s { held = remove s.held h.0 }) = record {
+      once = IsPermutation-more all done s.held h.0 x b.0 (sym h.2) a.once;
       within = within_trans_remove s.held all h.0 a.within;
     } in
-    ((x, h.1) ∷ [], subst (λ (y : Shelf). Account all (done ++ (x, h.1) ∷ []) y) (sym h.4) g, refl, ap (λ (y : Shelf). y.arrivals) h.4)
+    (subst (λ (y : Shelf). Account all (done ++ x ∷ []) y) (sym h.3) g, ap (λ (y : Shelf). y.arrivals) h.3)
 
-poll_taken : (end : End) (r : Said) → PollSays end r → taken (r ∷ []) ≡ []
-poll_taken Ready r h = ap (λ (y : Said). taken (y ∷ [])) h
-poll_taken Tried r h = ap (λ (y : Said). taken (y ∷ [])) h
-poll_taken (Broke kind) r (inl h) = ap (λ (y : Said). taken (y ∷ [])) h.1
-poll_taken (Broke kind) r (inr h) = ap (λ (y : Said). taken (y ∷ [])) h.1
+poll_taken : (end : End) (r : Replied) → PollSays end r → taken (r ∷ []) ≡ []
+poll_taken Ready r h = ap (λ (y : Replied). taken (y ∷ [])) h
+poll_taken Tried r h = ap (λ (y : Replied). taken (y ∷ [])) h
+poll_taken (Broke kind) r (inl h) = ap (λ (y : Replied). taken (y ∷ [])) h.1
+poll_taken (Broke kind) r (inr h) = ap (λ (y : Replied). taken (y ∷ [])) h.1
 
-came_taken : (x : Option Seen) → taken (Came x ∷ []) ≡ option_to_list x
+came_taken : (x : Option (Seen × ℕ)) → taken (ToTake x ∷ []) ≡ option_to_list x
 came_taken None = refl
 came_taken (Some x) = refl
 
-read_account : (f : Seen → Bool) (all done : List (Seen × ℕ)) (end : End) (m t : Shelf) (r : Said) → Account all done m → ReadSays f end m t r → Taken all done t (taken (r ∷ [])) m.arrivals
-read_account f all done Ready m t (Came x) a h = subst (λ (l : List Seen). Taken all done t l m.arrivals) (sym (came_taken x)) (take_account f all done m t x a h)
-read_account f all done Ready m t (Polled b) a h = absurd h
-read_account f all done Ready m t (Faulted kind) a h = absurd h
-read_account f all done Tried m t r a h = subst (λ (y : Said). Taken all done t (taken (y ∷ [])) m.arrivals) (sym h.1) (none_taken all done m t h.0 a)
-read_account f all done (Broke kind) m t r a h = subst (λ (y : Said). Taken all done t (taken (y ∷ [])) m.arrivals) (sym h.1) (none_taken all done m t h.0 a)
+read_account : (f : Seen → Bool) (all done : List (Seen × ℕ)) (end : End) (m t : Shelf) (r : Replied) → Account all done m → ReadSays f end m t r → Taken all done t (taken (r ∷ [])) m.arrivals
+read_account f all done Ready m t (ToTake x) a h = subst (λ (l : List (Seen × ℕ)). Taken all done t l m.arrivals) (sym (came_taken x)) (take_account f all done m t x a h)
+read_account f all done Ready m t (ToPoll b) a h = absurd h
+read_account f all done Ready m t (ToQuery x y) a h = absurd h
+read_account f all done Ready m t (Fault kind) a h = absurd h
+read_account f all done Tried m t r a h = subst (λ (y : Replied). Taken all done t (taken (y ∷ [])) m.arrivals) (sym h.1) (none_taken all done m t h.0 a)
+read_account f all done (Broke kind) m t r a h = subst (λ (y : Replied). Taken all done t (taken (y ∷ [])) m.arrivals) (sym h.1) (none_taken all done m t h.0 a)
 
-take_step : (f : Seen → Bool) (zs : List SourceAnswer) (all done : List (Seen × ℕ)) (s t : Shelf) (r : Said) → Account all done s → TakeStep f zs s t r
+take_step : (f : Seen → Bool) (zs : List SourceAnswer) (all done : List (Seen × ℕ)) (s t : Shelf) (r : Replied) → Account all done s → TakeStep f zs s t r
     → Taken (all ++ arrived s.arrivals zs) done t (taken (r ∷ [])) (numbered_after s.arrivals zs)
-take_step f zs all done s t (Came x) a h =
-    let k = subst (λ (l : List Seen). Taken all done t l s.arrivals) (sym (came_taken x)) (take_account f all done s t x a h.1) in
-    let k2 = subst (λ l. Taken l done t (taken (Came x ∷ [])) s.arrivals) (sym (append-nil all)) k in
-    subst (λ (l : List SourceAnswer). Taken (all ++ arrived s.arrivals l) done t (taken (Came x ∷ [])) (numbered_after s.arrivals l)) (sym h.0) k2
-take_step f zs all done s t (Polled b) a h = absurd h
-take_step f zs all done s t (Faulted kind) a h = absurd h
+take_step f zs all done s t (ToTake x) a h =
+    let k = subst (λ (l : List (Seen × ℕ)). Taken all done t l s.arrivals) (sym (came_taken x)) (take_account f all done s t x a h.1) in
+    let k2 = subst (λ l. Taken l done t (taken (ToTake x ∷ [])) s.arrivals) (sym (append-nil all)) k in
+    subst (λ (l : List SourceAnswer). Taken (all ++ arrived s.arrivals l) done t (taken (ToTake x ∷ [])) (numbered_after s.arrivals l)) (sym h.0) k2
+take_step f zs all done s t (ToPoll b) a h = absurd h
+take_step f zs all done s t (ToQuery x y) a h = absurd h
+take_step f zs all done s t (Fault kind) a h = absurd h
 
-step_account : (c : Call) (zs : List SourceAnswer) (all done : List (Seen × ℕ)) (s t : Shelf) (r : Said) → Account all done s → Step c zs s t r
+-- what a poll, and then what is said of it, do to what came
+poll_account : (f : Seen → Bool) (tries : ℕ) (zs : List SourceAnswer) (all done : List (Seen × ℕ)) (s t : Shelf) (r : Replied) → Account all done s → PollStep tries f zs s t r
+    → Account (all ++ arrived s.arrivals zs) done t × (t.arrivals ≡ numbered_after s.arrivals zs)
+poll_account f tries zs all done s t r a h = (arrives_account all done s t zs a h.2, h.2.arrivals)
+
+query_account : (f : Seen → Bool) (all done : List (Seen × ℕ)) (p : Replied) (m t : Shelf) (r : Replied) → Account all done m → QuerySays f p m t r → Taken all done t (taken (r ∷ [])) m.arrivals
+query_account f all done (ToPoll true) m t r a h = subst (λ (y : Replied). Taken all done t (taken (y ∷ [])) m.arrivals) (sym h.2) (take_account f all done m t (Some h.0) a h.1)
+query_account f all done (ToPoll false) m t r a h = subst (λ (y : Replied). Taken all done t (taken (y ∷ [])) m.arrivals) (sym h.1) (none_taken all done m t h.0 a)
+query_account f all done (ToTake x) m t r a h = absurd h
+query_account f all done (ToQuery x y) m t r a h = absurd h
+query_account f all done (Fault kind) m t r a h = subst (λ (y : Replied). Taken all done t (taken (y ∷ [])) m.arrivals) (sym h.1) (none_taken all done m t h.0 a)
+
+asked_account : (f : Seen → Bool) (tries : ℕ) (zs : List SourceAnswer) (all done : List (Seen × ℕ)) (s t : Shelf) (r : Replied) → Account all done s → QueryStep f tries zs s t r
     → Taken (all ++ arrived s.arrivals zs) done t (taken (r ∷ [])) (numbered_after s.arrivals zs)
-step_account (call.Poll tries f) zs all done s t r a h =
+asked_account f tries zs all done s t r a h =
+    let p = poll_account f tries zs all done s h.0 h.1 a h.2 in
+    subst (λ (n : ℕ). Taken (all ++ arrived s.arrivals zs) done t (taken (r ∷ [])) n) p.1 (query_account f (all ++ arrived s.arrivals zs) done h.1 h.0 t r p.0 h.3)
+
+left_account : (all done : List (Seen × ℕ)) (p : Replied) (x : Seen × ℕ) (m t : Shelf) (r : Replied) → Account all (done ++ x ∷ []) m → LeftSays p x m t r → Taken all done t (taken (r ∷ [])) m.arrivals
+left_account all done (ToPoll true) x m t r a h =
+    let k = take_account is_attributes all (done ++ x ∷ []) m t (Some h.0) a h.1 in
+    let k2 : Taken all done t (x ∷ h.0 ∷ []) m.arrivals = (subst (λ l. Account all l t) (append_assoc done (x ∷ []) (h.0 ∷ [])) k.0, k.1) in
+    subst (λ (y : Replied). Taken all done t (taken (y ∷ [])) m.arrivals) (sym h.2) k2
+left_account all done (ToPoll false) x m t r a h = left_none all done x m t r a h
+  where
+    left_none : (all done : List (Seen × ℕ)) (x : Seen × ℕ) (m t : Shelf) (r : Replied) → Account all (done ++ x ∷ []) m → (t ≡ m) × (r ≡ ToQuery x None) → Taken all done t (taken (r ∷ [])) m.arrivals
+    left_none all done x m t r a h =
+        let k : Taken all done t (x ∷ []) m.arrivals = (subst (λ (y : Shelf). Account all (done ++ x ∷ []) y) (sym h.0) a, ap (λ (y : Shelf). y.arrivals) h.0) in
+        subst (λ (y : Replied). Taken all done t (taken (y ∷ [])) m.arrivals) (sym h.1) k
+left_account all done (ToTake y) x m t r a h = absurd h
+left_account all done (ToQuery y z) x m t r a h = absurd h
+left_account all done (Fault kind) x m t r a h =
+    let k : Taken all done t (x ∷ []) m.arrivals = (subst (λ (y : Shelf). Account all (done ++ x ∷ []) y) (sym h.0) a, ap (λ (y : Shelf). y.arrivals) h.0) in
+    subst (λ (y : Replied). Taken all done t (taken (y ∷ [])) m.arrivals) (sym h.1) k
+
+abbrev AfterTaken : List SourceAnswer → List (Seen × ℕ) → List (Seen × ℕ) → Shelf → Shelf → List (Seen × ℕ) → Type 0
+AfterTaken zs all done s t more = Taken (all ++ arrived s.arrivals zs) done t more (numbered_after s.arrivals zs)
+
+nothing_after : (zs : List SourceAnswer) (all done : List (Seen × ℕ)) (s t : Shelf) (q r : Replied) → Taken all done s (taken (q ∷ [])) s.arrivals → (zs ≡ []) × (t ≡ s) × (r ≡ q) → AfterTaken zs all done s t (taken (r ∷ []))
+nothing_after zs all done s t q r k h =
+    let a = subst (λ (y : Shelf). Taken all done y (taken (q ∷ [])) s.arrivals) (sym h.1) k in
+    let b = subst (λ l. Taken l done t (taken (q ∷ [])) s.arrivals) (sym (append-nil all)) a in
+    subst (λ (l : List SourceAnswer). AfterTaken l all done s t (taken (r ∷ []))) (sym h.0) (subst (λ (y : Replied). Taken (all ++ []) done t (taken (y ∷ [])) s.arrivals) (sym h.2) b)
+
+after_account : (again : ℕ) (zs : List SourceAnswer) (y : Seen) (x : Seen × ℕ) (all done : List (Seen × ℕ)) (s t : Shelf) (r : Replied) → Taken all done s (x ∷ []) s.arrivals → AfterReply again zs y x s t r
+    → AfterTaken zs all done s t (taken (r ∷ []))
+after_account again zs (event.KeyboardFlags flags) x all done s t r k h =
+    let p = poll_account is_attributes again zs all (done ++ x ∷ []) s h.0 h.1 k.0 h.2 in
+    subst (λ (n : ℕ). Taken (all ++ arrived s.arrivals zs) done t (taken (r ∷ [])) n) p.1 (left_account (all ++ arrived s.arrivals zs) done h.1 x h.0 t r p.0 h.3)
+after_account again zs event.FocusGained x all done s t r k h = nothing_after zs all done s t (ToTake (Some x)) r k h
+after_account again zs event.FocusLost x all done s t r k h = nothing_after zs all done s t (ToTake (Some x)) r k h
+after_account again zs (event.Key key) x all done s t r k h = nothing_after zs all done s t (ToTake (Some x)) r k h
+after_account again zs (event.Mouse mouse) x all done s t r k h = nothing_after zs all done s t (ToTake (Some x)) r k h
+after_account again zs (event.Paste text) x all done s t r k h = nothing_after zs all done s t (ToTake (Some x)) r k h
+after_account again zs (event.Resize c l) x all done s t r k h = nothing_after zs all done s t (ToTake (Some x)) r k h
+after_account again zs (event.CursorPosition c l) x all done s t r k h = nothing_after zs all done s t (ToTake (Some x)) r k h
+after_account again zs event.PrimaryDeviceAttributes x all done s t r k h = nothing_after zs all done s t (ToTake (Some x)) r k h
+
+flags_account : (again : ℕ) (zs : List SourceAnswer) (q : Replied) (all done : List (Seen × ℕ)) (s t : Shelf) (r : Replied) → Taken all done s (taken (q ∷ [])) s.arrivals → FlagsSay again zs q s t r → AfterTaken zs all done s t (taken (r ∷ []))
+flags_account again zs (ToTake (Some x)) all done s t r k h = after_account again zs x.0 x all done s t r k h
+flags_account again zs (ToTake None) all done s t r k h = absurd h
+flags_account again zs (ToPoll b) all done s t r k h = absurd h
+flags_account again zs (ToQuery x y) all done s t r k h = absurd h
+flags_account again zs (Fault kind) all done s t r k h = nothing_after zs all done s t (Fault kind) r k h
+
+keyboard_account : (tries again : ℕ) (zs : List SourceAnswer) (all done : List (Seen × ℕ)) (s t : Shelf) (r : Replied) → Account all done s → KeyboardStep tries again zs s t r
+    → Taken (all ++ arrived s.arrivals zs) done t (taken (r ∷ [])) (numbered_after s.arrivals zs)
+keyboard_account tries again zs all done s t r a h =
+    let xs = h.0 in
+    let ys = h.1 in
+    let m = h.2 in
+    let k = asked_account is_flags_reply tries xs all done s m h.3 a h.5 in
+    let here : Taken (all ++ arrived s.arrivals xs) done m (taken (h.3 ∷ [])) m.arrivals = (k.0, refl) in
+    let f = flags_account again ys h.3 (all ++ arrived s.arrivals xs) done m t r here h.6 in
+    let more : (all ++ arrived s.arrivals xs) ++ arrived m.arrivals ys ≡ all ++ arrived s.arrivals (xs ++ ys) =
+    append_assoc all (arrived s.arrivals xs) (arrived m.arrivals ys) ∙ ap (λ l. all ++ l) (ap (λ (i : ℕ). arrived s.arrivals xs ++ arrived i ys) k.1 ∙ sym (arrived-append s.arrivals xs ys)) in
+    let count : numbered_after m.arrivals ys ≡ numbered_after s.arrivals (xs ++ ys) = ap (λ (i : ℕ). numbered_after i ys) k.1 ∙ sym (numbered_after-append s.arrivals xs ys) in
+    subst (λ (l : List SourceAnswer). Taken (all ++ arrived s.arrivals l) done t (taken (r ∷ [])) (numbered_after s.arrivals l)) (sym h.4)
+    (subst (λ l. Taken l done t (taken (r ∷ [])) (numbered_after s.arrivals (xs ++ ys))) more (subst (λ (n : ℕ). Taken ((all ++ arrived s.arrivals xs) ++ arrived m.arrivals ys) done t (taken (r ∷ [])) n) count f))
+
+step_account : (c : Request) (zs : List SourceAnswer) (all done : List (Seen × ℕ)) (s t : Shelf) (r : Replied) → Account all done s → Step c zs s t r
+    → Taken (all ++ arrived s.arrivals zs) done t (taken (r ∷ [])) (numbered_after s.arrivals zs)
+step_account (Poll tries f) zs all done s t r a h =
     let b = arrives_account all done s t zs a h.2 in
     let k = none_taken (all ++ arrived s.arrivals zs) done t t refl b in
-    subst (λ (l : List Seen). Taken (all ++ arrived s.arrivals zs) done t l (numbered_after s.arrivals zs)) (sym (poll_taken h.0 r h.3))
+    subst (λ (l : List (Seen × ℕ)). Taken (all ++ arrived s.arrivals zs) done t l (numbered_after s.arrivals zs)) (sym (poll_taken h.0 r h.3))
     (subst (λ (n : ℕ). Taken (all ++ arrived s.arrivals zs) done t [] n) h.2.arrivals k)
-step_account (call.Read tries f) zs all done s t r a h =
+step_account (Read tries f) zs all done s t r a h =
     subst (λ (n : ℕ). Taken (all ++ arrived s.arrivals zs) done t (taken (r ∷ [])) n) h.3.arrivals
     (read_account (admitted f) (all ++ arrived s.arrivals zs) done h.0 h.1 t r (arrives_account all done s h.1 zs a h.3) h.4)
-step_account (call.Take f) zs all done s t r a h = take_step (admitted f) zs all done s t r a h
+step_account (Take f) zs all done s t r a h = take_step (admitted f) zs all done s t r a h
+step_account (Position tries) zs all done s t r a h = asked_account is_cursor_position tries zs all done s t r a h
+step_account (Keyboard tries again) zs all done s t r a h = keyboard_account tries again zs all done s t r a h
 
-taken_cons : (r : Said) (rs : List Said) → taken (r ∷ rs) ≡ taken (r ∷ []) ++ taken rs
-taken_cons (Came None) rs = refl
-taken_cons (Came (Some x)) rs = refl
-taken_cons (Polled b) rs = refl
-taken_cons (Faulted kind) rs = refl
+taken_cons : (r : Replied) (rs : List Replied) → taken (r ∷ rs) ≡ taken (r ∷ []) ++ taken rs
+taken_cons (ToTake None) rs = refl
+taken_cons (ToTake (Some x)) rs = refl
+taken_cons (ToQuery x None) rs = refl
+taken_cons (ToQuery x (Some y)) rs = refl
+taken_cons (ToPoll b) rs = refl
+taken_cons (Fault kind) rs = refl
 
-run_account : (cs : List Call) (zss : List (List SourceAnswer)) (rs : List Said) (all done : List (Seen × ℕ)) (s t : Shelf) → Account all done s → Run s cs zss rs t
-    → (more : List (Seen × ℕ)) × Account (all ++ arrived s.arrivals (joined zss)) (done ++ more) t × (map (λ h. h.0) more ≡ taken rs)
-run_account [] [] [] all done s t a h = ([], subst (λ (y : Shelf). Account (all ++ []) (done ++ []) y) (sym h) (subst (λ l. Account l (done ++ []) s) (sym (append-nil all)) (subst (λ l. Account all l s) (sym (append-nil done)) a)), refl)
+run_account : (cs : List Call) (zss : List (List SourceAnswer)) (rs : List Replied) (all done : List (Seen × ℕ)) (s t : Shelf) → Account all done s → Run s cs zss rs t
+    → Account (all ++ arrived s.arrivals (joined zss)) (done ++ taken rs) t
+run_account [] [] [] all done s t a h = subst (λ (y : Shelf). Account (all ++ []) (done ++ []) y) (sym h) (subst (λ l. Account l (done ++ []) s) (sym (append-nil all)) (subst (λ l. Account all l s) (sym (append-nil done)) a))
 run_account [] [] (r ∷ rs) all done s t a h = absurd h
 run_account [] (zs ∷ zss) rs all done s t a h = absurd h
 run_account (c ∷ cs) [] rs all done s t a h = absurd h
 run_account (c ∷ cs) (zs ∷ zss) [] all done s t a h = absurd h
 run_account (c ∷ cs) (zs ∷ zss) (r ∷ rs) all done s t a h =
-    let k = step_account c zs all done s h.0 r a h.1 in
-    let n = run_account cs zss rs (all ++ arrived s.arrivals zs) (done ++ k.0) h.0 t k.1 h.2 in
+    let k = step_account (request c) zs all done s h.0 r a h.1 in
+    let n = run_account cs zss rs (all ++ arrived s.arrivals zs) (done ++ taken (r ∷ [])) h.0 t k.0 h.2 in
     let e : (all ++ arrived s.arrivals zs) ++ arrived h.0.arrivals (joined zss) ≡ all ++ arrived s.arrivals (zs ++ joined zss) =
     append_assoc all (arrived s.arrivals zs) (arrived h.0.arrivals (joined zss))
-    ∙ ap (λ l. all ++ l) (ap (λ (i : ℕ). arrived s.arrivals zs ++ arrived i (joined zss)) k.3 ∙ sym (arrived-append s.arrivals zs (joined zss))) in (
-      k.0 ++ n.0,
-      subst (λ l. Account l (done ++ (k.0 ++ n.0)) t) e (subst (λ l. Account ((all ++ arrived s.arrivals zs) ++ arrived h.0.arrivals (joined zss)) l t) (append_assoc done k.0 n.0) n.1),
-      map-append (λ h. h.0) k.0 n.0 ∙ ap (λ (l : List Seen). l ++ map (λ h. h.0) n.0) k.2 ∙ ap (λ (l : List Seen). taken (r ∷ []) ++ l) n.2 ∙ sym (taken_cons r rs),
-    )
+    ∙ ap (λ l. all ++ l) (ap (λ (i : ℕ). arrived s.arrivals zs ++ arrived i (joined zss)) k.1 ∙ sym (arrived-append s.arrivals zs (joined zss))) in
+    let d : (done ++ taken (r ∷ [])) ++ taken rs ≡ done ++ taken (r ∷ rs) = append_assoc done (taken (r ∷ [])) (taken rs) ∙ ap (λ l. done ++ l) (sym (taken_cons r rs)) in
+    subst (λ l. Account l (done ++ taken (r ∷ rs)) t) e (subst (λ l. Account ((all ++ arrived s.arrivals zs) ++ arrived h.0.arrivals (joined zss)) l t) d n)
 
 arrived_gave : (n : ℕ) (zs : List SourceAnswer) → arrived n zs ≡ numbered n (gave zs)
 arrived_gave n [] = refl
@@ -144,29 +229,22 @@ arrived_gave n (Gave x ∷ zs) = ap (λ l. (x, n) ∷ l) (arrived_gave (next_num
 arrived_gave n (Nothing ∷ zs) = arrived_gave n zs
 arrived_gave n (Failed kind ∷ zs) = arrived_gave n zs
 
-unzipped : (ps : List (Seen × ℕ)) → zip (map (λ h. h.0) ps) (map (λ h. h.1) ps) ≡ ps
-unzipped [] = refl
-unzipped (p ∷ ps) = ap (λ l. p ∷ l) (unzipped ps)
-
-pub accounts : (words : List Word) (calls : List Call) (replies : List Said) (held : List Seen) → Plays words calls replies held → Accounts words replies held
-accounts words calls replies held p =
+pub accounts : (words : List Word) (calls : List Call) (said : List Said) (held : List Seen) → Plays words calls said held → Accounts words said held
+accounts words calls said held p =
     let start : Account [] [] empty = record { once = IsPermutation-refl []; within = tt } in
-    let k = run_account calls p.drawn replies [] [] empty p.last start p.run in
+    let k = run_account calls p.drawn p.replies [] [] empty p.last start p.run in
     let f = told_front words (joined p.drawn) p.told in
     let numbers = arrived_gave 0 (joined p.drawn) in
-    let pairs : k.0 ≡ zip (taken replies) (map (λ h. h.1) k.0) = sym (unzipped k.0) ∙ ap (λ (l : List Seen). zip l (map (λ h. h.1) k.0)) k.2 in
-    let last : p.last.held ≡ zip held (map (λ h. h.1) p.last.held) = sym (unzipped p.last.held) ∙ ap (λ (l : List Seen). zip l (map (λ h. h.1) p.last.held)) (sym p.left) in
     record {
       all = f.0;
       front = gave (joined p.drawn);
       rest = f.1;
-      numbers = map (λ h. h.1) k.0;
-      places = map (λ h. h.1) p.last.held;
+      replies = p.replies;
+      kept = p.last.held;
       happened = f.2;
       first = f.3;
-      once = subst (λ l. IsPermutation l (zip (taken replies) (map (λ h. h.1) k.0) ++ zip held (map (λ h. h.1) p.last.held))) numbers
-          (subst (λ l. IsPermutation (arrived 0 (joined p.drawn)) (l ++ zip held (map (λ h. h.1) p.last.held))) pairs (subst (λ l. IsPermutation (arrived 0 (joined p.drawn)) (k.0 ++ l)) last k.1.once));
-      count_taken = length-map k.0 (λ h. h.1) ∙ sym (length-map k.0 (λ h. h.0)) ∙ ap length k.2;
-      count_held = length-map p.last.held (λ h. h.1) ∙ sym (length-map p.last.held (λ h. h.0)) ∙ ap length (sym p.left);
-      in_order = subst (λ l. IsWithin l (numbered 0 (gave (joined p.drawn)))) last (subst (λ l. IsWithin p.last.held l) numbers k.1.within);
+      shows = p.shows;
+      left = p.left;
+      once = subst (λ l. IsPermutation l (taken p.replies ++ p.last.held)) numbers k.once;
+      in_order = subst (λ l. IsWithin p.last.held l) numbers k.within;
     }

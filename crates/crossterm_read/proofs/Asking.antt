@@ -10,12 +10,15 @@ use Rattle.std.specs.declared.time.Duration.{Duration}
 use Rattle.std.specs.declared.io.ErrorKind.TheVariants.{OutOfMemory, Interrupted}
 use Rattle.crossterm_types.specs.Seen.{Seen}
 use Rattle.crossterm_read.specs.Answers.{SourceAnswer, Gave, Nothing, Failed, gave}
-use Rattle.crossterm_read.specs.Device.{IsAtOnce, AsksWith, AsksAtOnce}
+use Rattle.crossterm_read.specs.Device.{AsksWith, AsksEach}
+use Rattle.crossterm_read.specs.declared.read.reader.AtWake.{AtWake}
+use Rattle.crossterm_read.specs.declared.read.reader.AtWake.TheVariants.{Stops, GoesOn}
 use Rattle.crossterm_read.specs.declared.read.reader.Once.{Once}
 use Rattle.crossterm_read.specs.declared.read.reader.Once.TheVariants as once
 use Rattle.crossterm_read.specs.Shelf.{Shelf, ReaderState}
 use Rattle.crossterm_read.specs.Shelf.{arrived, numbered_after, next_number, Arrives, capacity}
-use Rattle.crossterm_read.specs.Steps.{first_admitted, Passes, held_already, came, broke, tried, refused, Ready, Tried, Broke, Asked, DrawsOne, PollStep, poll_said, end_of, RefusedOnlyWithoutRoom}
+use Rattle.crossterm_read.specs.Steps.{first_admitted, Passes, held_already, came, broke, tried, refused, Ready, Tried, Broke, Asked, DrawsOne, PollStep, end_of, RefusedOnlyWithoutRoom}
+use Rattle.crossterm_read.specs.Replies.{poll_reply}
 
 pub arrived-append : (n : ℕ) (xs ys : List SourceAnswer) → arrived n (xs ++ ys) ≡ arrived n xs ++ arrived (numbered_after n xs) ys
 arrived-append n [] ys = refl
@@ -39,20 +42,27 @@ arrives_more s m t xs ys a b = record {
   arrivals = b.arrivals ∙ ap (λ (k : ℕ). numbered_after k ys) a.arrivals ∙ sym (numbered_after-append s.arrivals xs ys);
 }
 
-all_push : {Y : Type 0} (P : Y → Type 0) (ys : List Y) (y : Y) → AllByRecursion P ys → P y → AllByRecursion P (ys ++ y ∷ [])
+pub all_push : {Y : Type 0} (P : Y → Type 0) (ys : List Y) (y : Y) → AllByRecursion P ys → P y → AllByRecursion P (ys ++ y ∷ [])
 all_push P [] y a h = (h, tt)
 all_push P (x ∷ ys) y a h = (a.0, all_push P ys y a.1 h)
 
-pub at_once_none : (l : List (Option Duration)) → AsksAtOnce l l
-at_once_none l = ([], sym (append-nil l), tt)
+pub asks_none : (P : Option Duration → Type 0) (l : List (Option Duration)) → AsksEach P l l
+asks_none P l = ([], sym (append-nil l), tt)
 
-pub at_once_more : (l m k : List (Option Duration)) (limit : Option Duration) → AsksAtOnce l m → IsAtOnce limit → AsksWith limit m k → AsksAtOnce l k
-at_once_more l m k limit a h (inl e) = (a.0, e ∙ a.1, a.2)
-at_once_more l m k limit a h (inr e) = (
+pub asks_more : (P : Option Duration → Type 0) (l m k : List (Option Duration)) (limit : Option Duration) → AsksEach P l m → P limit → AsksWith limit m k → AsksEach P l k
+asks_more P l m k limit a h (inl e) = (a.0, e ∙ a.1, a.2)
+asks_more P l m k limit a h (inr e) = (
   a.0 ++ limit ∷ [],
   e ∙ ap (λ (x : List (Option Duration)). x ++ limit ∷ []) a.1 ∙ append_assoc l a.0 (limit ∷ []),
-  all_push IsAtOnce a.0 limit a.2 h,
+  all_push P a.0 limit a.2 h,
 )
+
+all_append : {Y : Type 0} (P : Y → Type 0) (xs ys : List Y) → AllByRecursion P xs → AllByRecursion P ys → AllByRecursion P (xs ++ ys)
+all_append P [] ys a b = b
+all_append P (x ∷ xs) ys a b = (a.0, all_append P xs ys a.1 b)
+
+pub asks_both : (P : Option Duration → Type 0) (l m k : List (Option Duration)) → AsksEach P l m → AsksEach P m k → AsksEach P l k
+asks_both P l m k a b = (a.0 ++ b.0, b.1 ∙ ap (λ (x : List (Option Duration)). x ++ b.0) a.1 ∙ append_assoc l a.0 b.0, all_append P a.0 b.0 a.2 b.2)
 
 length-arrived : (n : ℕ) (zs : List SourceAnswer) → length (arrived n zs) ≡ length (gave zs)
 length-arrived n [] = refl
@@ -71,13 +81,13 @@ pub none_of : (x : Option ℕ) → is_some x ≡ false → x ≡ None
 none_of None h = refl
 none_of (Some i) h = absurd (true≢false h)
 
-module _ {S : Type 0} (drawn : S → List SourceAnswer → S → Type 0) (on : (s t u : S) (xs ys : List SourceAnswer) → drawn s xs t → drawn t ys u → drawn s (xs ++ ys) u) (patient : Bool) (f : Seen → Bool) where
+module _ {S : Type 0} (drawn : S → List SourceAnswer → S → Type 0) (on : (s t u : S) (xs ys : List SourceAnswer) → drawn s xs t → drawn t ys u → drawn s (xs ++ ys) u) (wake : AtWake) (f : Seen → Bool) where
   -- so far no answer ended it
   pub record Asking (s t : ReaderState S) (i : ℕ) : Type 0 where
     pub answers : List SourceAnswer
     pub drawn_so : drawn s.source answers t.source
     pub arrives : Arrives s.shelf answers t.shelf
-    pub passes : AllByRecursion (Passes patient f) answers
+    pub passes : AllByRecursion (Passes wake f) answers
     pub count : length answers ≡ i
     pub none : first_admitted f s.shelf.held ≡ None
 
@@ -85,27 +95,27 @@ module _ {S : Type 0} (drawn : S → List SourceAnswer → S → Type 0) (on : (
   asking_none law s t e n = subst (λ (y : ReaderState S). Asking s y 0) (sym e)
       (record { answers = []; drawn_so = law s.source; arrives = arrives_none s.shelf; passes = tt; count = refl; none = n })
 
-  pub asking_more : (s m t : ReaderState S) (i : ℕ) (z : SourceAnswer) → Asking s m i → drawn m.source (z ∷ []) t.source → Arrives m.shelf (z ∷ []) t.shelf → Passes patient f z → Asking s t (i + 1)
+  pub asking_more : (s m t : ReaderState S) (i : ℕ) (z : SourceAnswer) → Asking s m i → drawn m.source (z ∷ []) t.source → Arrives m.shelf (z ∷ []) t.shelf → Passes wake f z → Asking s t (i + 1)
   asking_more s m t i z a d h p = record {
     answers = a.answers ++ z ∷ [];
     drawn_so = on s.source m.source t.source a.answers (z ∷ []) a.drawn_so d;
     arrives = arrives_more s.shelf m.shelf t.shelf a.answers (z ∷ []) a.arrives h;
-    passes = all_push (Passes patient f) a.answers z a.passes p;
+    passes = all_push (Passes wake f) a.answers z a.passes p;
     count = length-append a.answers (z ∷ []) ∙ ap (λ (k : ℕ). k + 1) a.count;
     none = a.none;
   }
 
-  pub asked_held : ((s : S) → drawn s [] s) → (s : ReaderState S) (tries : ℕ) → is_some (first_admitted f s.shelf.held) ≡ true → Asked drawn patient f tries s s Ready
+  pub asked_held : ((s : S) → drawn s [] s) → (s : ReaderState S) (tries : ℕ) → is_some (first_admitted f s.shelf.held) ≡ true → Asked drawn wake f tries s s Ready
   asked_held law s tries h = ([], law s.source, arrives_none s.shelf, held_already h refl refl, tt)
 
-  pub asked_tried : (s t : ReaderState S) (tries : ℕ) → Asking s t tries → Asked drawn patient f tries s t Tried
+  pub asked_tried : (s t : ReaderState S) (tries : ℕ) → Asking s t tries → Asked drawn wake f tries s t Tried
   asked_tried s t tries a = (a.answers, a.drawn_so, a.arrives, tried a.none a.passes a.count refl, tt)
 
-  pub asked_refused : (s t : ReaderState S) (i tries : ℕ) (kind : ErrorKind) → Asking s t i → i < tries → kind ≡ OutOfMemory → capacity s ≤ capacity t → t.room ≡ 0 → Asked drawn patient f tries s t (Broke kind)
+  pub asked_refused : (s t : ReaderState S) (i tries : ℕ) (kind : ErrorKind) → Asking s t i → i < tries → kind ≡ OutOfMemory → capacity s ≤ capacity t → t.room ≡ 0 → Asked drawn wake f tries s t (Broke kind)
   asked_refused s t i tries kind a h e r n = (a.answers, a.drawn_so, a.arrives, refused a.none a.passes (let c = a.count in omega arith) (ap Broke e), λ k. inr (came_to_room s t a.answers a.arrives r n))
 
   pub asked_came : (s m t : ReaderState S) (i tries : ℕ) (x : Seen) → Asking s m i → i < tries → drawn m.source (Gave x ∷ []) t.source → Arrives m.shelf (Gave x ∷ []) t.shelf → f x ≡ true
-      → Asked drawn patient f tries s t Ready
+      → Asked drawn wake f tries s t Ready
   asked_came s m t i tries x a h d r y = (
     a.answers ++ Gave x ∷ [],
     on s.source m.source t.source a.answers (Gave x ∷ []) a.drawn_so d,
@@ -115,7 +125,7 @@ module _ {S : Type 0} (drawn : S → List SourceAnswer → S → Type 0) (on : (
   )
 
   pub asked_broke : (s m t : ReaderState S) (i tries : ℕ) (kind : ErrorKind) → Asking s m i → i < tries → drawn m.source (Failed kind ∷ []) t.source → Arrives m.shelf (Failed kind ∷ []) t.shelf
-      → (patient ≡ true → kind ≢ Interrupted) → Asked drawn patient f tries s t (Broke kind)
+      → (wake ≡ GoesOn → kind ≢ Interrupted) → Asked drawn wake f tries s t (Broke kind)
   asked_broke s m t i tries kind a h d r y = (
     a.answers ++ Failed kind ∷ [],
     on s.source m.source t.source a.answers (Failed kind ∷ []) a.drawn_so d,
@@ -124,26 +134,26 @@ module _ {S : Type 0} (drawn : S → List SourceAnswer → S → Type 0) (on : (
     λ e. inl (a.answers, ap (λ (k : ErrorKind). a.answers ++ Failed k ∷ []) e),
   )
 
-  pub draws_from : (i s t : ReaderState S) (o : Once) → i ≡ s → DrawsOne drawn patient f i t o → DrawsOne drawn patient f s t o
-  draws_from i s t o e d = subst (λ (y : ReaderState S). DrawsOne drawn patient f y t o) e d
+  pub draws_from : (i s t : ReaderState S) (o : Once) → i ≡ s → DrawsOne drawn wake f i t o → DrawsOne drawn wake f s t o
+  draws_from i s t o e d = subst (λ (y : ReaderState S). DrawsOne drawn wake f y t o) e d
 
-  pub asking_came : (s m t : ReaderState S) (i : ℕ) (b : Bool) → b ≡ false → Asking s m i → DrawsOne drawn patient f m t (once.Came b) → Asking s t (i + 1)
+  pub asking_came : (s m t : ReaderState S) (i : ℕ) (b : Bool) → b ≡ false → Asking s m i → DrawsOne drawn wake f m t (once.Came b) → Asking s t (i + 1)
   asking_came s m t i b h a d = asking_more s m t i (Gave d.0) a d.1 d.2 (sym d.3 ∙ h)
 
-  pub asking_nothing : (s m t : ReaderState S) (i : ℕ) → Asking s m i → DrawsOne drawn patient f m t once.Nothing → Asking s t (i + 1)
+  pub asking_nothing : (s m t : ReaderState S) (i : ℕ) → Asking s m i → DrawsOne drawn wake f m t once.Nothing → Asking s t (i + 1)
   asking_nothing s m t i a d = asking_more s m t i d.0 a d.1 d.2 d.3
 
 module _ {S : Type 0} (drawn : S → List SourceAnswer → S → Type 0) (f : Seen → Bool) (tries : ℕ) (s t : ReaderState S) where
   -- a poll that says this
   abbrev pub Polls : Result Bool Error → Type 0
-  Polls r = (zs : List SourceAnswer) × drawn s.source zs t.source × PollStep tries f zs s.shelf t.shelf (poll_said r) × IfErr r (λ e. RefusedOnlyWithoutRoom s.room zs (error_kind e))
+  Polls r = (zs : List SourceAnswer) × drawn s.source zs t.source × PollStep tries f zs s.shelf t.shelf (poll_reply r) × IfErr r (λ e. RefusedOnlyWithoutRoom s.room zs (error_kind e))
 
-  pub poll_ok : (b : Bool) → Asked drawn false f tries s t (end_of (Ok b)) → Polls (Ok b)
+  pub poll_ok : (b : Bool) → Asked drawn Stops f tries s t (end_of (Ok b)) → Polls (Ok b)
   poll_ok true a = (a.0, a.1, (Ready, a.3, a.2, refl), tt)
   poll_ok false a = (a.0, a.1, (Tried, a.3, a.2, refl), tt)
 
-  pub poll_woken : (kind : ErrorKind) → kind ≡ Interrupted → Asked drawn false f tries s t (Broke kind) → Polls (Ok false)
+  pub poll_woken : (kind : ErrorKind) → kind ≡ Interrupted → Asked drawn Stops f tries s t (Broke kind) → Polls (Ok false)
   poll_woken kind h a = (a.0, a.1, (Broke kind, a.3, a.2, inl (h, refl)), tt)
 
-  pub poll_fault : (e : Error) → error_kind e ≢ Interrupted → Asked drawn false f tries s t (Broke (error_kind e)) → Polls (Err e)
+  pub poll_fault : (e : Error) → error_kind e ≢ Interrupted → Asked drawn Stops f tries s t (Broke (error_kind e)) → Polls (Err e)
   poll_fault e h a = (a.0, a.1, (Broke (error_kind e), a.3, a.2, inr (h, refl)), a.4)

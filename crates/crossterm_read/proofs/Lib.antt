@@ -3,6 +3,10 @@ pub mod Asking
 pub mod Cutting
 pub mod Happening
 pub mod Mapped
+pub mod Numbers
+pub mod Querying
+pub mod Ready
 pub mod Runs
 pub mod Spelling
 pub mod Turning
+pub mod Waiting

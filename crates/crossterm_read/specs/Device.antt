@@ -35,9 +35,13 @@ IsAtOnce limit = IsSomeAnd limit (λ d. as_nanos d ≡ 0)
 abbrev pub AsksWith : Option Duration → List (Option Duration) → List (Option Duration) → Type 0
 AsksWith limit old new = (new ≡ old) ⊎ (new ≡ old ++ limit ∷ [])
 
+-- It was asked some more times, each time with such a limit.
+abbrev pub AsksEach : (Option Duration → Type 0) → List (Option Duration) → List (Option Duration) → Type 0
+AsksEach P old new = (more : List (Option Duration)) × (new ≡ old ++ more) × AllByRecursion P more
+
 -- It was asked some more times, each time with limit zero.
 abbrev pub AsksAtOnce : List (Option Duration) → List (Option Duration) → Type 0
-AsksAtOnce old new = (more : List (Option Duration)) × (new ≡ old ++ more) × AllByRecursion IsAtOnce more
+AsksAtOnce old new = AsksEach IsAtOnce old new
 
 -- As many bytes as the buffer holds, at most.
 abbrev pub CountWithin : Answer → ℕ → Type 0

@@ -2,8 +2,12 @@ pub mod Answers
 pub mod Blocks
 pub mod Calls
 pub mod Device
+pub mod Numbers
+pub mod Queries
+pub mod Replies
 pub mod Scripted
 pub mod Shelf
 pub mod Steps
 pub mod Turns
+pub mod Waiting
 pub mod Waking

@@ -9,6 +9,11 @@ pub record Shelf : Type 0 where
   pub held : List (Seen × ℕ)
   pub arrivals : ℕ
 
+-- What a reader holds, and for how many more events there is room without memory.
+pub record Holding : Type 0 where
+  pub shelf : Shelf
+  pub room : ℕ
+
 -- A reader: what it holds, for how many more events it has room without memory, and its source.
 pub record ReaderState (S : Type 0) : Type 0 where
   pub shelf : Shelf

@@ -6,7 +6,8 @@
 //!
 //! It stands on `crossterm_parse`, for the division of bytes into sequences, and on `crossterm_types`, for events and filters.
 //!
-//! The layers above use the steps of `InternalEventReader::{poll_within, read_within, take}` over any `source::EventSource`, and
+//! The layers above use the steps of `InternalEventReader::{poll_within, read_within, take, position_within, keyboard_within}` over
+//! any `source::EventSource`, those of `poll` and `read`, which wait for a limit of time or without one, and
 //! the headline of `read::play`: what calls answer is a run over the answers of a source, which are told by the device's words.
 //! `laws::one_happening` says that the events of bytes are those of the only division of all bytes.
 //!
@@ -15,7 +16,9 @@
 //! | `specs/Device.antt`, `specs/Scripted.antt` | what a device tells, and what a script does |
 //! | `specs/Answers.antt`, `specs/Turns.antt` | what a source answers, one turn after another |
 //! | `specs/Blocks.antt` | what a device's words bring about, and what a source tells of it |
-//! | `specs/Shelf.antt`, `specs/Steps.antt` | what a reader holds, and what one call does |
+//! | `specs/Shelf.antt`, `specs/Numbers.antt` | what a reader holds, and how arrivals are numbered |
+//! | `specs/Replies.antt`, `specs/Steps.antt`, `specs/Queries.antt` | what one call replies and does |
+//! | `specs/Waiting.antt` | what a call with a limit of time does |
 //! | `specs/Calls.antt` | runs of calls, and the account of all events |
 #![tactic(auto)]
 

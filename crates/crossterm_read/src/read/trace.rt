@@ -4,13 +4,14 @@ ghost use Rattle.std.specs.IoError.{error_kind};
 ghost use Rattle.std.specs.declared.io.ErrorKind.TheVariants.{OutOfMemory};
 ghost use Rattle.crossterm_types.specs.Seen.{seen};
 ghost use Rattle.crossterm_read.specs.Answers.{SourceAnswer};
-ghost use Rattle.crossterm_read.specs.Calls.{said, Step, Plays, Accounts};
+ghost use Rattle.crossterm_read.specs.Calls.{said, request, Step, Plays, Accounts};
+ghost use Rattle.crossterm_read.specs.Replies.{Replied, shown};
 ghost use Rattle.crossterm_read.specs.Scripted.{words};
 
 use crate::read::InternalEventReader;
 use crate::source::{Act, DeviceSource, EventSource, Script};
-use crossterm_types::event::InternalEvent;
 use crossterm_types::event::filter::AnyFilter;
+use crossterm_types::event::{InternalEvent, KeyboardEnhancementFlags};
 use std::alloc::{AllocError, Allocator, Global};
 use std::io;
 
@@ -36,6 +37,16 @@ pub enum Call {
         /// Which events are admitted.
         filter: AnyFilter,
     },
+    /// `InternalEventReader::position_within`.
+    Position {
+        /// How often the source is asked at most.
+        tries: u32,
+    },
+    /// `InternalEventReader::keyboard_within`.
+    Keyboard {
+        /// How often the source is asked at most, for the reply, and for the attributes after it.
+        tries: u32,
+    },
 }
 
 /// What a call answered.
@@ -46,6 +57,10 @@ pub enum Reply<A: Allocator = Global> {
     Poll(bool),
     /// The event that was taken, where there was one.
     Event(Option<InternalEvent<A>>),
+    /// The cursor's place: its column and row.
+    Position(u16, u16),
+    /// The flags of the keyboard protocol, where the terminal has it.
+    Keyboard(Option<KeyboardEnhancementFlags>),
     /// A fault of this kind.
     Fault(io::ErrorKind),
 }
@@ -63,7 +78,8 @@ pub struct Trace<A: Allocator = Global> {
 impl<S: EventSource<A>, A: Allocator> InternalEventReader<S, A> {
     // Makes one call.
     fn call(&mut self, call: Call) -> Reply<A>
-        ensures { (zs : List SourceAnswer) × S.drawn self.old.source zs self.new.source × Step call zs self.old.shelf self.new.shelf (said result) }
+        ensures { (zs : List SourceAnswer) × (r : Replied) × S.drawn self.old.source zs self.new.source
+            × Step (request call) zs self.old.shelf self.new.shelf r × (said result ≡ shown r) }
     {
         match call {
             Call::Poll { tries, filter } => match self.poll_within(tries, &filter) {
@@ -75,6 +91,14 @@ impl<S: EventSource<A>, A: Allocator> InternalEventReader<S, A> {
                 Err(error) => Reply::Fault(error.kind()),
             },
             Call::Take { filter } => Reply::Event(self.take(&filter)),
+            Call::Position { tries } => match self.position_within(tries) {
+                Ok((column, row)) => Reply::Position(column, row),
+                Err(error) => Reply::Fault(error.kind()),
+            },
+            Call::Keyboard { tries } => match self.keyboard_within(tries) {
+                Ok(flags) => Reply::Keyboard(flags),
+                Err(error) => Reply::Fault(error.kind()),
+            },
         }
     }
 }

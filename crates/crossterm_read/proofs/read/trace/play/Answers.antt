@@ -22,7 +22,7 @@ pub loop-call-preserved : goal.loop-call-preserved
 loop-call-preserved g c =
     let e = c.call-reply.ensures in
     subst (λ (l : List (Reply g.row.A.Denot)). Played (SourceDrawn ScriptTells) c.new-reader.result (take (c.loop-call.call-index + 1) c.args.calls.now) (map said l) c.call-reply.new.self) (sym c.in_ok-push.ensures.items)
-    (played_more (SourceDrawn ScriptTells) (source_on ScriptTells script_on) _ c.loop-call.reader c.call-reply.new.self c.args.calls.now c.loop-call.call-index _ c.loop-call.replies.items c.call-reply.result e.0 (omega arith) c.loop-call.invariant e.1 e.2)
+    (played_more (SourceDrawn ScriptTells) (source_on ScriptTells script_on) _ c.loop-call.reader c.call-reply.new.self c.args.calls.now c.loop-call.call-index _ c.loop-call.replies.items c.call-reply.result e.1 e.0 (omega arith) c.loop-call.invariant e.2 e.3 e.4)
 
 pub returns-clause-run : goal.returns-clause-run
 returns-clause-run g c =
@@ -33,9 +33,11 @@ returns-clause-run g c =
     let told = script_told source c.loop-call.reader.source (joined p.answers) c.new-source.ensures.waiting c.new-source.ensures.stands c.new-source.ensures.untaken p.drawn_so in
     record {
       drawn = p.answers;
+      replies = p.replies;
+      shows = p.said_so;
       last = c.loop-call.reader.shelf;
       told = subst (λ (l : List Word). Told l (joined p.answers)) (ap (λ (d : ScriptLeft). d.left) (c.new-source.ensures.device ∙ c.new.ensures)) told;
-      run = subst (λ (l : List Call). Run empty l p.answers (map said c.loop-call.replies.items) c.loop-call.reader.shelf) all p.run;
+      run = subst (λ (l : List Call). Run empty l p.answers p.replies c.loop-call.reader.shelf) all p.run;
       left = c.in_ok-held.ensures ∙ sym (map-map (λ h. h.0) kept c.into_held.result.items) ∙ ap (λ l. map (λ h. h.0) l) c.into_held.ensures;
     }
 

@@ -1,6 +1,7 @@
 use Rattle.std.proofs.Common.{◌≡◌, ℕ, arith, refl, sym, ap, subst, ◌∙◌}
 use Rattle.std.specs.Prelude.{is_some}
-use Rattle.crossterm_read.proofs.Asking.{Asking, none_of, asking_none, asking_came, asking_nothing, asked_held, asked_came, asked_broke, asked_refused, asked_tried, at_once_none, at_once_more}
+use Rattle.crossterm_read.proofs.Asking.{Asking, none_of, asking_none, asking_came, asking_nothing, asked_held, asked_came, asked_broke, asked_refused, asked_tried, asks_none, asks_more}
+use Rattle.crossterm_read.specs.Device.{IsAtOnce}
 use Rattle.crossterm_read.specs.Shelf.{ReaderState}
 use Rattle.crossterm_read.proofs.read.reader.InternalEventReader.ask.Goals.{in-Came+else-admitted, in-Nothing}
 use Rattle.crossterm_read.proofs.read.reader.InternalEventReader.ask.Goals as goal
@@ -17,7 +18,7 @@ returns-in-Broke-clause-asked g c =
 
 pub loop-i-preserved : goal.loop-i-preserved
 loop-i-preserved g c = record {
-  at_once = at_once_more _ _ _ _ c.loop-i.invariant.at_once refl c.draw.ensures.at_once;
+  at_once = asks_more IsAtOnce _ _ _ _ c.loop-i.invariant.at_once refl c.draw.ensures.asked;
   room = omega (arith, c.draw.ensures.room);
   rise = omega (arith, c.draw.ensures.rise);
   steady = λ p. elim c.match-draw.branch [
@@ -34,7 +35,7 @@ pub loop-i-init : goal.loop-i-init
 loop-i-init g c = record {
   so_far = asking_none g.S.EventSource.drawn g.met.S.EventSource.drawn_on _ _ g.met.S.EventSource.none_drawn c.args.self.now c.args.self.now refl
       (sym c.first.ensures ∙ none_of c.first.result (sym c.is_some.ensures ∙ c.if-is_some.false));
-  at_once = at_once_none _;
+  at_once = asks_none IsAtOnce _;
   room = omega arith;
   rise = omega arith;
   steady = λ p. refl;
@@ -47,7 +48,7 @@ returns-then-is_some-clause-asked g c =
 
 pub returns-in-Refused-clause-asked : goal.returns-in-Refused-clause-asked
 returns-in-Refused-clause-asked g c =
-    let so_far = subst (λ (t : ReaderState g.row.S.Denot). Asking g.S.EventSource.drawn g.met.S.EventSource.drawn_on c.args.patient (g.F.Filter.admits c.args.filter.now) c.args.self.now t c.loop-i._i)
+    let so_far = subst (λ (t : ReaderState g.row.S.Denot). Asking g.S.EventSource.drawn g.met.S.EventSource.drawn_on c.args.at_wake (g.F.Filter.admits c.args.filter.now) c.args.self.now t c.loop-i._i)
     (sym c.in-Refused.ensures.one) c.loop-i.invariant.so_far in
     let room = ap (λ (t : ReaderState g.row.S.Denot). t.room) c.in-Refused.ensures.one ∙ c.in-Refused.ensures.full tt in
     asked_refused g.S.EventSource.drawn g.met.S.EventSource.drawn_on _ _ c.args.self.now c.draw.new.self c.loop-i._i c.args.tries _ so_far c.loop-i-test.true c.from.ensures
@@ -56,5 +57,5 @@ returns-in-Refused-clause-asked g c =
 pub returns-clause-asked : goal.returns-clause-asked
 returns-clause-asked g c =
     let all : c.loop-i._i ≡ c.args.tries = omega arith in
-    let so_far = subst (λ (i : ℕ). Asking g.S.EventSource.drawn g.met.S.EventSource.drawn_on c.args.patient (g.F.Filter.admits c.args.filter.now) c.args.self.now c.loop-i.self i) all c.loop-i.invariant.so_far in
+    let so_far = subst (λ (i : ℕ). Asking g.S.EventSource.drawn g.met.S.EventSource.drawn_on c.args.at_wake (g.F.Filter.admits c.args.filter.now) c.args.self.now c.loop-i.self i) all c.loop-i.invariant.so_far in
     asked_tried g.S.EventSource.drawn g.met.S.EventSource.drawn_on _ _ c.args.self.now c.loop-i.self c.args.tries so_far

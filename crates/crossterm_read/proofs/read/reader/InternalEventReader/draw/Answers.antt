@@ -1,61 +1,60 @@
-use Rattle.std.proofs.Common.{◌≡◌, ◌≢◌, ◌-◌, List, ℕ, map, refl, sym, ap, ◌∙◌, append-nil, vec_capacity, vec_len}
-use mathlib.Core.Bool.{true≢false}
+use Rattle.std.proofs.Common.{◌≡◌, ◌≢◌, [], ◌∷◌, ◌++◌, sym, ap, subst, ◌∙◌, append-nil}
 use Rattle.std.specs.IoError.{error_kind}
-use Rattle.crossterm_types.specs.Seen.{seen}
 use Rattle.std.specs.declared.io.ErrorKind.TheVariants.{Interrupted}
-use Rattle.crossterm_read.specs.Answers.{Nothing, Failed}
-use Rattle.crossterm_types.specs.declared.event.InternalEvent.{InternalEvent}
+use Rattle.crossterm_types.specs.Seen.{seen}
+use Rattle.crossterm_read.specs.Answers.{Gave, Nothing, Failed}
+use Rattle.crossterm_read.specs.declared.read.reader.AtWake.TheVariants.{Stops, GoesOn}
 use Rattle.crossterm_read.specs.declared.read.reader.Once.TheVariants as once
-use Rattle.crossterm_read.specs.Shelf.{ReaderState, kept}
+use Rattle.crossterm_read.specs.Shelf.{Shelf, Holding, ReaderState, Arrives}
 use Rattle.crossterm_read.proofs.Asking.{draws_from}
-use Rattle.crossterm_read.proofs.Mapped.{map_push}
-use Rattle.crossterm_read.proofs.read.reader.InternalEventReader.draw.Goals.{then-patient+else-is_woken, else-patient}
+use Rattle.crossterm_read.proofs.read.reader.InternalEventReader.draw.Goals.{in-GoesOn+else-is_woken, in-Stops}
 use Rattle.crossterm_read.proofs.read.reader.InternalEventReader.draw.Goals as goal
+
+-- the shelf after an answer without an event
+same : (s t : Shelf) → t ≡ s → (t.held ≡ s.held ++ []) × (t.arrivals ≡ s.arrivals)
+same s t e = (ap (λ (y : Shelf). y.held) e ∙ sym (append-nil s.held), ap (λ (y : Shelf). y.arrivals) e)
+
+stops_not : Stops ≡ GoesOn → ⊥
+stops_not e = absurd (cc)
 
 pub returns-in-Ok-Some-clause-one : goal.returns-in-Ok-Some-clause-one
 returns-in-Ok-Some-clause-one g c =
-    let d = rw (c.in-Ok-Some.field-0-is, c.in-Ok-Some.event-is) at c.in-Ok-Some.ensures in
-    let new : InternalEvent g.row.A.Denot × ℕ = (c.in-Ok-Some.event, c.self.inside.arrivals) in
-    let held = map_push kept c.self.inside.held.items c.reserve.new.self.items c.push_reserved.new.self.items new c.reserve.ensures.items c.push_reserved.ensures.items in
-    draws_from g.S.EventSource.drawn g.met.S.EventSource.drawn_on c.args.patient (g.F.Filter.admits c.args.filter.now) _ c.args.self.now
-    (record { shelf = record { held = map kept c.push_reserved.new.self.items; arrivals = c.saturating_add-self-inside.result }; room = vec_capacity c.push_reserved.new.self - vec_len c.push_reserved.new.self; source = c.try_read.new.self })
-    (once.Came c.eval-admitted.result) c.self.view_is (seen c.in-Ok-Some.event, d.drawn, record { held = held; arrivals = c.saturating_add-self-inside.ensures }, c.eval-admitted.ensures)
+    let d = rw c.in-Ok-Some.field-0-is at c.in-Ok-Some.ensures in
+    let admitted = rw c.in-Ok-Some.field-0-is at c.eval-admitted.ensures in
+    let pushed = rw c.in-Ok-Some.field-0-is at c.push_reserved.ensures.shelf in
+    let arrives = subst (λ (s : Shelf). Arrives s (Gave (seen c.in-Ok-Some.event) ∷ []) c.push_reserved.new.self.shelf) c.reserve.ensures.shelf pushed in
+    draws_from g.S.EventSource.drawn g.met.S.EventSource.drawn_on c.args.at_wake (g.F.Filter.admits c.args.filter.now) _ c.args.self.now
+    (record { shelf = c.push_reserved.new.self.shelf; room = c.push_reserved.new.self.room; source = c.try_read.new.self })
+    (once.Came c.eval-admitted.result) c.self.view_is (seen c.in-Ok-Some.event, d.drawn, arrives, admitted)
 
 pub returns-then-is_woken-clause-one : goal.returns-then-is_woken-clause-one
 returns-then-is_woken-clause-one g c =
-    let held = ap (λ l. map kept l) c.reserve.ensures.items in
-    draws_from g.S.EventSource.drawn g.met.S.EventSource.drawn_on c.args.patient (g.F.Filter.admits c.args.filter.now) _ c.args.self.now
-    (record { shelf = record { held = map kept c.reserve.new.self.items; arrivals = c.self.inside.arrivals }; room = vec_capacity c.reserve.new.self - vec_len c.reserve.new.self; source = c.try_read.new.self })
+    let e = same c.self.inside.held.shelf c.reserve.new.self.shelf c.reserve.ensures.shelf in
+    draws_from g.S.EventSource.drawn g.met.S.EventSource.drawn_on c.args.at_wake (g.F.Filter.admits c.args.filter.now) _ c.args.self.now
+    (record { shelf = c.reserve.new.self.shelf; room = c.reserve.new.self.room; source = c.try_read.new.self })
     once.Nothing c.self.view_is
-    (Failed (error_kind c.in-Err-try_read.error), c.in-Err-try_read.ensures.drawn, record { held = held ∙ sym (append-nil _); arrivals = refl }, (c.if-patient.true, c.if-is_woken.ensures.yes))
+    (Failed (error_kind c.in-Err-try_read.error), c.in-Err-try_read.ensures.drawn, record { held = e.0; arrivals = e.1 }, (c.in-GoesOn.is, c.if-is_woken.ensures.yes))
 
 pub returns-in-Err-clause-one : goal.returns-in-Err-clause-one
 returns-in-Err-clause-one g c =
-    let e = c.in-Err.ensures in
-    let reader : List (InternalEvent g.row.A.Denot × ℕ) → ℕ → ReaderState g.row.S.Denot =
-    λ held room. record { shelf = record { held = map kept held; arrivals = c.self.inside.arrivals }; room = room; source = c.self.inside.source } in
-    let room : vec_capacity c.reserve.new.self - vec_len c.reserve.new.self ≡ vec_capacity c.self.inside.held - vec_len c.self.inside.held = let cap = e.err in let len = e.len in cc in
-    ap (λ l. reader l (vec_capacity c.reserve.new.self - vec_len c.reserve.new.self)) e.items ∙ ap (reader c.self.inside.held.items) room ∙ c.self.view_is
+    let reader : Holding → ReaderState g.row.S.Denot = λ h. record { shelf = h.shelf; room = h.room; source = c.self.inside.source } in
+    ap reader c.in-Err.ensures.err.0 ∙ c.self.view_is
 
 pub returns-in-Ok-None-clause-one : goal.returns-in-Ok-None-clause-one
 returns-in-Ok-None-clause-one g c =
     let d = rw c.in-Ok-None.field-0-is at c.in-Ok-None.ensures in
-    let held = ap (λ l. map kept l) c.reserve.ensures.items in
-    draws_from g.S.EventSource.drawn g.met.S.EventSource.drawn_on c.args.patient (g.F.Filter.admits c.args.filter.now) _ c.args.self.now
-    (record { shelf = record { held = map kept c.reserve.new.self.items; arrivals = c.self.inside.arrivals }; room = vec_capacity c.reserve.new.self - vec_len c.reserve.new.self; source = c.try_read.new.self })
-    once.Nothing c.self.view_is (Nothing, d.drawn, record { held = held ∙ sym (append-nil _); arrivals = refl }, tt)
+    let e = same c.self.inside.held.shelf c.reserve.new.self.shelf c.reserve.ensures.shelf in
+    draws_from g.S.EventSource.drawn g.met.S.EventSource.drawn_on c.args.at_wake (g.F.Filter.admits c.args.filter.now) _ c.args.self.now
+    (record { shelf = c.reserve.new.self.shelf; room = c.reserve.new.self.room; source = c.try_read.new.self })
+    once.Nothing c.self.view_is (Nothing, d.drawn, record { held = e.0; arrivals = e.1 }, tt)
 
-pub returns-after-patient-clause-one : goal.returns-after-patient-clause-one
-returns-after-patient-clause-one g c =
-    let held = ap (λ l. map kept l) c.reserve.ensures.items in
-    draws_from g.S.EventSource.drawn g.met.S.EventSource.drawn_on c.args.patient (g.F.Filter.admits c.args.filter.now) _ c.args.self.now
-    (record { shelf = record { held = map kept c.reserve.new.self.items; arrivals = c.self.inside.arrivals }; room = vec_capacity c.reserve.new.self - vec_len c.reserve.new.self; source = c.try_read.new.self })
-    (once.Broke c.in-Err-try_read.error) c.self.view_is (
-      c.in-Err-try_read.ensures.drawn,
-      record { held = held ∙ sym (append-nil _); arrivals = refl },
-      λ patient.
-          let other : error_kind c.in-Err-try_read.error ≢ Interrupted = elim c.if-patient.branch [
-            | then-patient+else-is_woken w ↦ w.if-is_woken.ensures.no
-            | else-patient w ↦ absurd (true≢false (sym patient ∙ w.if-patient.false))
-          ] in other,
-    )
+pub returns-after-at_wake-clause-one : goal.returns-after-at_wake-clause-one
+returns-after-at_wake-clause-one g c =
+    let e = same c.self.inside.held.shelf c.reserve.new.self.shelf c.reserve.ensures.shelf in
+    let other : c.args.at_wake ≡ GoesOn → error_kind c.in-Err-try_read.error ≢ Interrupted = λ goes. elim c.match-at_wake.branch [
+      | in-GoesOn+else-is_woken w ↦ w.if-is_woken.ensures.no
+      | in-Stops w ↦ absurd (stops_not (sym w.in-Stops.is ∙ goes))
+    ] in
+    draws_from g.S.EventSource.drawn g.met.S.EventSource.drawn_on c.args.at_wake (g.F.Filter.admits c.args.filter.now) _ c.args.self.now
+    (record { shelf = c.reserve.new.self.shelf; room = c.reserve.new.self.room; source = c.try_read.new.self })
+    (once.Broke c.in-Err-try_read.error) c.self.view_is (c.in-Err-try_read.ensures.drawn, record { held = e.0; arrivals = e.1 }, other)

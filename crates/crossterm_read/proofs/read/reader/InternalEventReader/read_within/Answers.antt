@@ -1,8 +1,9 @@
-use Rattle.std.proofs.Common.{sym, subst}
-use Rattle.crossterm_read.specs.Steps.{Ready}
+use Rattle.std.proofs.Common.{ap, refl}
+use Rattle.crossterm_read.specs.Replies.{Came}
 use Rattle.crossterm_read.proofs.read.reader.InternalEventReader.read_within.Goals as goal
 
-pub returns-then-ready-clause-step : goal.returns-then-ready-clause-step
-returns-then-ready-clause-step g c =
-    let a = rw (c.if-ready.true) at c.in-Ok.ensures.asked in
-    (a.0, subst (λ (x : g.row.S.Denot). g.S.EventSource.drawn c.args.self.now.source a.0 x) (sym c.take.ensures.source) a.1, (Ready, c.ask.new.self.shelf, a.3, a.2, c.take.ensures.step), tt)
+pub returns-in-Ok-clause-step : goal.returns-in-Ok-clause-step
+returns-in-Ok-clause-step g c = let e = c.in-Ok.ensures.step in (e.0, _, e.1, e.2, ap Came c.unnumbered.ensures, tt)
+
+pub returns-in-Err-clause-step : goal.returns-in-Err-clause-step
+returns-in-Err-clause-step g c = let e = c.in-Err.ensures.step in (e.0, _, e.1, e.2, refl, e.3)

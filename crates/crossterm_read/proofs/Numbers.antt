@@ -1,0 +1,45 @@
+-- Arrival numbers rise.
+use Rattle.std.proofs.Common.{◌≡◌, ℕ, zero, suc, ◌+◌, ◌<◌, ◌≤◌, List, [], ◌∷◌, ◌++◌, arith}
+use Rattle.std.specs.List.{AllByRecursion, remove}
+use Rattle.crossterm_types.specs.Seen.{Seen}
+use Rattle.crossterm_read.specs.Numbers.{Rise, IsLow, IsOrderly}
+use Rattle.crossterm_read.specs.Shelf.{next_number}
+use Rattle.crossterm_read.proofs.Asking.{all_push}
+
+low_next : (n : ℕ) → IsLow (next_number n) → (next_number n ≡ n + 1) × IsLow n
+low_next n h = (omega arith, omega arith)
+
+below_later : (xs : List (Seen × ℕ)) (m n : ℕ) → m ≤ n → AllByRecursion (λ k. k.1 < m) xs → AllByRecursion (λ k. k.1 < n) xs
+below_later [] m n h a = tt
+below_later (x ∷ xs) m n h a = (let b = a.0 in omega arith, below_later xs m n h a.1)
+
+rise_push : (xs : List (Seen × ℕ)) (x : Seen) (n : ℕ) → Rise xs → AllByRecursion (λ k. k.1 < n) xs → Rise (xs ++ (x, n) ∷ [])
+rise_push [] x n r b = (tt, tt)
+rise_push (y ∷ ys) x n r b = (all_push (λ k. y.1 < k.1) ys (x, n) r.0 b.0, rise_push ys x n r.1 b.1)
+
+-- One more is held.
+pub orderly_more : (held : List (Seen × ℕ)) (n : ℕ) (x : Seen) → IsOrderly held n → IsOrderly (held ++ (x, n) ∷ []) (next_number n)
+orderly_more held n x h low =
+    let l = low_next n low in
+    let s = h l.1 in
+    let e = l.0 in
+    record {
+      rise = rise_push held x n s.rise s.below;
+      below = all_push (λ k. k.1 < next_number n) held (x, n) (below_later held n (next_number n) (omega arith) s.below) (omega arith);
+    }
+
+all_remove : (P : Seen × ℕ → Type 0) (xs : List (Seen × ℕ)) (i : ℕ) → AllByRecursion P xs → AllByRecursion P (remove xs i)
+all_remove P [] zero a = tt
+all_remove P [] (suc i) a = tt
+all_remove P (x ∷ xs) zero a = a.1
+all_remove P (x ∷ xs) (suc i) a = (a.0, all_remove P xs i a.1)
+
+rise_remove : (xs : List (Seen × ℕ)) (i : ℕ) → Rise xs → Rise (remove xs i)
+rise_remove [] zero r = tt
+rise_remove [] (suc i) r = tt
+rise_remove (x ∷ xs) zero r = r.1
+rise_remove (x ∷ xs) (suc i) r = (all_remove (λ k. x.1 < k.1) xs i r.0, rise_remove xs i r.1)
+
+-- One is taken.
+pub orderly_less : (held : List (Seen × ℕ)) (n i : ℕ) → IsOrderly held n → IsOrderly (remove held i) n
+orderly_less held n i h low = let s = h low in record { rise = rise_remove held i s.rise; below = all_remove (λ k. k.1 < n) held i s.below }

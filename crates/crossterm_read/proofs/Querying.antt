@@ -1,0 +1,50 @@
+-- What a query takes.
+use Rattle.std.proofs.Common.{◌≡◌, ℕ, Bool, true, false, List, None, Some, inl, inr, sym, subst, ◌∙◌}
+use Rattle.std.specs.declared.io.ErrorKind.{ErrorKind}
+use Rattle.std.specs.declared.io.ErrorKind.TheVariants.{Other}
+use Rattle.std.proofs.lemmas.List.Quantifiers.{position-Some}
+use Rattle.crossterm_types.specs.Seen.{Seen}
+use Rattle.crossterm_read.specs.Answers.{SourceAnswer}
+use Rattle.crossterm_read.specs.declared.read.reader.AtWake.TheVariants.{Stops}
+use Rattle.crossterm_read.specs.Queries.{QuerySays}
+use Rattle.crossterm_read.specs.Replies.{Replied, ToPoll, ToTake, ToQuery, Fault}
+use Rattle.crossterm_read.specs.Shelf.{Shelf}
+use Rattle.crossterm_read.specs.Steps.{first_admitted, Asks, End, Ready, Tried, Broke, PollStep, PollSays, TakeSays}
+use Rattle.crossterm_read.proofs.Ready.{ready_there}
+
+not_false : ToPoll true ≡ ToPoll false → ⊥
+not_false e = cc
+
+-- Where a poll was true an admitted event is held.
+pub polled_there : (f : Seen → Bool) (tries : ℕ) (s m : Shelf) (zs : List SourceAnswer) (r : Replied) → PollStep tries f zs s m r → r ≡ ToPoll true → first_admitted f m.held ≡ None → ⊥
+polled_there f tries s m zs r p said none = by_end p.0 p.1 p.3
+  where
+    by_end : (end : End) → Asks Stops f tries s.held zs end → PollSays end r → ⊥
+    by_end Ready a q = ready_there Stops f tries s m zs a p.2 none
+    by_end Tried a q = absurd (not_false (sym said ∙ q))
+    by_end (Broke kind) a (inl q) = absurd (not_false (sym said ∙ q.1))
+    by_end (Broke kind) a (inr q) = absurd (fault_true kind (sym q.1 ∙ said))
+      where
+        fault_true : (kind : ErrorKind) → Fault kind ≡ ToPoll true → ⊥
+        fault_true kind e = cc
+
+-- What was taken is admitted.
+pub taken_admitted : (f : Seen → Bool) (s t : Shelf) (x : Seen × ℕ) → TakeSays f s t (Some x) → f x.0 ≡ true
+taken_admitted f s t x h = let p = position-Some (λ e. f e.0) s.held h.0 x h.1 in subst (λ (e : Seen × ℕ). f e.0 ≡ true) h.2 p.1
+
+-- What a query took is admitted.
+pub query_admitted : (f : Seen → Bool) (p : Replied) (s t : Shelf) (x : Seen × ℕ) → QuerySays f p s t (ToTake (Some x)) → f x.0 ≡ true
+query_admitted f (ToPoll true) s t x h = subst (λ (e : Seen × ℕ). f e.0 ≡ true) (sym (same x h.0 h.2)) (taken_admitted f s t h.0 h.1)
+  where
+    same : (x y : Seen × ℕ) → ToTake (Some x) ≡ ToTake (Some y) → x ≡ y
+    same x y e = cc
+query_admitted f (ToPoll false) s t x h = absurd (no_take x h.1)
+  where
+    no_take : (x : Seen × ℕ) → ToTake (Some x) ≡ Fault Other → ⊥
+    no_take x e = cc
+query_admitted f (ToTake y) s t x h = absurd h
+query_admitted f (ToQuery y z) s t x h = absurd h
+query_admitted f (Fault kind) s t x h = absurd (no_take x kind h.1)
+  where
+    no_take : (x : Seen × ℕ) (kind : ErrorKind) → ToTake (Some x) ≡ Fault kind → ⊥
+    no_take x kind e = cc

@@ -1,0 +1,104 @@
+use Rattle.std.proofs.Common.{◌+◌, ℕ, arith, refl, sym, ap, subst, ◌∙◌}
+use mathlib.Core.Bool.{true≢false}
+use Rattle.std.specs.Prelude.{is_some}
+use Rattle.crossterm_types.specs.Timing.{HasElapsed}
+use Rattle.crossterm_read.specs.Shelf.{ReaderState}
+use Rattle.crossterm_read.proofs.Asking.{Asking, none_of, asking_none, asking_came, asking_nothing, asked_held, asked_came, asked_broke, asked_refused, asked_tried, asks_none}
+use Rattle.crossterm_read.proofs.Waiting.{in_time, in_time_ready, in_time_broke, limits_more, lasts}
+use Rattle.crossterm_read.proofs.read.reader.InternalEventReader.ask_in_time.Goals.{in-Came+else-admitted, in-Nothing}
+use Rattle.crossterm_read.proofs.read.reader.InternalEventReader.ask_in_time.Goals as goal
+
+pub returns-then-is_some-clause-asked : goal.returns-then-is_some-clause-asked
+returns-then-is_some-clause-asked g c =
+    in_time_ready g.S.EventSource.drawn c.args.at_wake (g.F.Filter.admits c.args.filter.now) _ _ _ c.args.self.now c.args.self.now 1 (omega arith) (λ z. omega arith)
+    (asked_held g.S.EventSource.drawn g.met.S.EventSource.drawn_on _ _ g.met.S.EventSource.none_drawn c.args.self.now 1 (ap is_some (sym c.first.ensures) ∙ sym c.is_some.ensures ∙ c.if-is_some.true))
+
+pub returns-then-is_some-clause-limits : goal.returns-then-is_some-clause-limits
+returns-then-is_some-clause-limits g c = asks_none _ _
+
+pub loop-init : goal.loop-init
+loop-init g c = record {
+  so_far = (
+    0,
+    asking_none g.S.EventSource.drawn g.met.S.EventSource.drawn_on _ _ g.met.S.EventSource.none_drawn c.args.self.now c.args.self.now refl
+        (sym c.first.ensures ∙ none_of c.first.result (sym c.is_some.ensures ∙ c.if-is_some.false)),
+    λ z. refl,
+  );
+  later = omega arith;
+  limits = asks_none _ _;
+  room = omega arith;
+  rise = omega arith;
+  steady = λ p. refl;
+  can = tt;
+  ends = tt;
+}
+
+pub returns-then-admitted-clause-asked : goal.returns-then-admitted-clause-asked
+returns-then-admitted-clause-asked g c =
+    let d = c.in-Came.ensures.one in
+    let n = c.loop.invariant.so_far.0 in
+    in_time_ready g.S.EventSource.drawn c.args.at_wake (g.F.Filter.admits c.args.filter.now) _ _ _ c.args.self.now c.draw_in_time.new.self (n + 1) (omega arith) (λ z. let y = c.loop.invariant.so_far.2 z in omega arith)
+    (asked_came g.S.EventSource.drawn g.met.S.EventSource.drawn_on _ _ _ c.loop.self c.draw_in_time.new.self n _ d.0 c.loop.invariant.so_far.1 (omega arith) d.1 d.2 (sym d.3 ∙ c.if-admitted.true))
+
+pub returns-in-Broke-clause-asked : goal.returns-in-Broke-clause-asked
+returns-in-Broke-clause-asked g c =
+    let d = c.in-Broke.ensures.one in
+    let n = c.loop.invariant.so_far.0 in
+    in_time_broke g.S.EventSource.drawn c.args.at_wake (g.F.Filter.admits c.args.filter.now) _ _ _ c.args.self.now c.draw_in_time.new.self _ (n + 1) (omega arith) (λ z. let y = c.loop.invariant.so_far.2 z in omega arith)
+    (asked_broke g.S.EventSource.drawn g.met.S.EventSource.drawn_on _ _ _ c.loop.self c.draw_in_time.new.self n _ _ c.loop.invariant.so_far.1 (omega arith) d.0 d.1 d.2)
+
+pub returns-in-Refused-clause-asked : goal.returns-in-Refused-clause-asked
+returns-in-Refused-clause-asked g c =
+    let n = c.loop.invariant.so_far.0 in
+    let so_far = subst (λ (t : ReaderState g.row.S.Denot). Asking g.S.EventSource.drawn g.met.S.EventSource.drawn_on c.args.at_wake (g.F.Filter.admits c.args.filter.now) c.args.self.now t n)
+    (sym c.in-Refused.ensures.one) c.loop.invariant.so_far.1 in
+    let room = ap (λ (t : ReaderState g.row.S.Denot). t.room) c.in-Refused.ensures.one ∙ c.in-Refused.ensures.full tt in
+    in_time_broke g.S.EventSource.drawn c.args.at_wake (g.F.Filter.admits c.args.filter.now) _ _ _ c.args.self.now c.draw_in_time.new.self _ (n + 1) (omega arith) (λ z. let y = c.loop.invariant.so_far.2 z in omega arith)
+    (asked_refused g.S.EventSource.drawn g.met.S.EventSource.drawn_on _ _ c.args.self.now c.draw_in_time.new.self n _ _ so_far (omega arith) c.from.ensures (omega (arith, c.loop.invariant.room, c.in-Refused.ensures.room)) room)
+
+pub returns-then-elapsed-clause-asked : goal.returns-then-elapsed-clause-asked
+returns-then-elapsed-clause-asked g c =
+    let n = c.loop.invariant.so_far.0 in
+    let so_far : Asking g.S.EventSource.drawn g.met.S.EventSource.drawn_on c.args.at_wake (g.F.Filter.admits c.args.filter.now) c.args.self.now c.draw_in_time.new.self (n + 1) = elim c.match-draw_in_time.branch [
+      | in-Came+else-admitted w ↦ asking_came g.S.EventSource.drawn g.met.S.EventSource.drawn_on _ _ _ c.loop.self c.draw_in_time.new.self n _ w.if-admitted.false c.loop.invariant.so_far.1 w.in-Came.ensures.one
+      | in-Nothing w ↦ asking_nothing g.S.EventSource.drawn g.met.S.EventSource.drawn_on _ _ _ c.loop.self c.draw_in_time.new.self n c.loop.invariant.so_far.1 w.in-Nothing.ensures.one
+    ] in
+    in_time g.S.EventSource.drawn c.args.at_wake (g.F.Filter.admits c.args.filter.now) _ _ _ c.args.self.now c.draw_in_time.new.self _ (n + 1) (omega arith) (λ z. let y = c.loop.invariant.so_far.2 z in omega arith) (λ e. subst (λ (n : ℕ). HasElapsed c.args.timeout n) c.now.ensures.told (c.if-elapsed.ensures.0 refl))
+    (asked_tried g.S.EventSource.drawn g.met.S.EventSource.drawn_on _ _ c.args.self.now c.draw_in_time.new.self (n + 1) so_far)
+
+pub returns-in-Refused-clause-limits : goal.returns-in-Refused-clause-limits
+returns-in-Refused-clause-limits g c =
+    limits_more _ _ _ _ _ _ _ c.draw_in_time.ensures.later (omega (arith, c.requires, c.loop.invariant.later, c.draw_in_time.ensures.later)) (omega arith) c.loop.invariant.limits c.draw_in_time.ensures.asked
+
+pub returns-in-Broke-clause-limits : goal.returns-in-Broke-clause-limits
+returns-in-Broke-clause-limits g c =
+    limits_more _ _ _ _ _ _ _ c.draw_in_time.ensures.later (omega (arith, c.requires, c.loop.invariant.later, c.draw_in_time.ensures.later)) (omega arith) c.loop.invariant.limits c.draw_in_time.ensures.asked
+
+pub returns-then-admitted-clause-limits : goal.returns-then-admitted-clause-limits
+returns-then-admitted-clause-limits g c =
+    limits_more _ _ _ _ _ _ _ c.draw_in_time.ensures.later (omega (arith, c.requires, c.loop.invariant.later, c.draw_in_time.ensures.later)) (omega arith) c.loop.invariant.limits c.draw_in_time.ensures.asked
+
+pub returns-then-elapsed-clause-limits : goal.returns-then-elapsed-clause-limits
+returns-then-elapsed-clause-limits g c =
+    limits_more _ _ _ _ _ _ _ (omega (arith, c.draw_in_time.ensures.later, c.now.ensures.later)) (omega (arith, c.requires, c.loop.invariant.later, c.draw_in_time.ensures.later)) (omega (arith, c.now.ensures.later)) c.loop.invariant.limits c.draw_in_time.ensures.asked
+
+pub loop-preserved : goal.loop-preserved
+loop-preserved g c =
+    let n = c.loop.invariant.so_far.0 in
+    let so_far : Asking g.S.EventSource.drawn g.met.S.EventSource.drawn_on c.args.at_wake (g.F.Filter.admits c.args.filter.now) c.args.self.now c.draw_in_time.new.self (n + 1) = elim c.match-draw_in_time.branch [
+      | in-Came+else-admitted w ↦ asking_came g.S.EventSource.drawn g.met.S.EventSource.drawn_on _ _ _ c.loop.self c.draw_in_time.new.self n _ w.if-admitted.false c.loop.invariant.so_far.1 w.in-Came.ensures.one
+      | in-Nothing w ↦ asking_nothing g.S.EventSource.drawn g.met.S.EventSource.drawn_on _ _ _ c.loop.self c.draw_in_time.new.self n c.loop.invariant.so_far.1 w.in-Nothing.ensures.one
+    ] in
+    record {
+      so_far = (n + 1, so_far, λ z. absurd (lasts c.args.timeout _ (λ h. true≢false (sym (c.if-elapsed.ensures.1 h))) z));
+      later = omega (arith, c.loop.invariant.later, c.draw_in_time.ensures.later, c.now.ensures.later);
+      limits = limits_more _ _ _ _ _ _ _ (omega (arith, c.draw_in_time.ensures.later, c.now.ensures.later)) (omega (arith, c.requires, c.loop.invariant.later, c.draw_in_time.ensures.later)) (omega (arith, c.now.ensures.later)) c.loop.invariant.limits c.draw_in_time.ensures.asked;
+      room = omega (arith, c.loop.invariant.room, c.draw_in_time.ensures.room);
+      rise = omega (arith, c.loop.invariant.rise, c.draw_in_time.ensures.rise);
+      steady = λ p. elim c.match-draw_in_time.branch [
+        | in-Came+else-admitted w ↦ w.in-Came.ensures.steady tt ∙ c.loop.invariant.steady p
+        | in-Nothing w ↦ w.in-Nothing.ensures.steady p ∙ c.loop.invariant.steady p
+      ];
+      can = tt;
+      ends = tt;
+    }

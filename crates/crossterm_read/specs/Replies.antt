@@ -1,0 +1,65 @@
+-- What a call of a reader replies, and what its caller sees of it.
+use Rattle.std.specs.Prelude.{ℕ, Bool, Option, Some, None, Result, Ok, Err}
+use Rattle.std.specs.Option.{option_map}
+use Rattle.std.specs.IoError.{error_kind}
+use Rattle.std.specs.declared.io.Error.{Error}
+use Rattle.std.specs.declared.io.ErrorKind.{ErrorKind}
+use Rattle.crossterm_flags.specs.declared.enhancement.KeyboardEnhancementFlags.{KeyboardEnhancementFlags}
+use Rattle.crossterm_types.specs.Seen.{Seen, seen, CursorPosition, KeyboardFlags, PrimaryDeviceAttributes}
+use Rattle.crossterm_types.specs.declared.event.InternalEvent.{InternalEvent}
+use Rattle.crossterm_read.specs.Shelf.{kept}
+
+-- What a call replies: whether an event is there, the event that it took, the flags that it took and the attributes after them where they were
+-- taken, or a fault. Each event stands with its arrival number.
+pub data Replied : Type 0 where
+  ToPoll : Bool → Replied
+  ToTake : Option (Seen × ℕ) → Replied
+  ToQuery : Seen × ℕ → Option (Seen × ℕ) → Replied
+  Fault : ErrorKind → Replied
+
+-- What a caller sees of it: whether an event is there, the event that was taken, or a fault.
+pub data Said : Type 0 where
+  Polled : Bool → Said
+  Came : Option Seen → Said
+  Faulted : ErrorKind → Said
+
+abbrev pub shown : Replied → Said
+shown (ToPoll b) = Polled b
+shown (ToTake x) = Came (option_map (λ e. e.0) x)
+shown (ToQuery x y) = Came (Some x.0)
+shown (Fault kind) = Faulted kind
+
+-- The replies of calls that give the number too.
+abbrev pub poll_reply : Result Bool Error → Replied
+poll_reply (Ok b) = ToPoll b
+poll_reply (Err e) = Fault (error_kind e)
+
+abbrev pub try_reply : {A : Type 0} → Result (Option (InternalEvent A × ℕ)) Error → Replied
+try_reply (Ok x) = ToTake (option_map kept x)
+try_reply (Err e) = Fault (error_kind e)
+
+abbrev pub read_reply : {A : Type 0} → Result (InternalEvent A × ℕ) Error → Replied
+read_reply (Ok x) = ToTake (Some (kept x))
+read_reply (Err e) = Fault (error_kind e)
+
+-- What callers see of a result.
+abbrev pub try_said : {A : Type 0} → Result (Option (InternalEvent A)) Error → Said
+try_said (Ok x) = Came (option_map seen x)
+try_said (Err e) = Faulted (error_kind e)
+
+abbrev pub read_said : {A : Type 0} → Result (InternalEvent A) Error → Said
+read_said (Ok x) = Came (Some (seen x))
+read_said (Err e) = Faulted (error_kind e)
+
+abbrev pub position_said : Result (ℕ × ℕ) Error → Said
+position_said (Ok x) = Came (Some (CursorPosition x.0 x.1))
+position_said (Err e) = Faulted (error_kind e)
+
+-- The reply of a query for the keyboard's flags: the flags, or the attributes alone.
+abbrev pub flags_seen : Option KeyboardEnhancementFlags → Seen
+flags_seen (Some flags) = KeyboardFlags flags
+flags_seen None = PrimaryDeviceAttributes
+
+abbrev pub keyboard_said : Result (Option KeyboardEnhancementFlags) Error → Said
+keyboard_said (Ok flags) = Came (Some (flags_seen flags))
+keyboard_said (Err e) = Faulted (error_kind e)

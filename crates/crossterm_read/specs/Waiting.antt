@@ -1,0 +1,61 @@
+-- Calls with a limit of time.
+use Rattle.std.specs.Prelude.{◌≡◌, ◌≢◌, ◌⊎◌, ◌≤◌, ◌-◌, ℕ, Bool, List, [], ◌∷◌, ◌++◌, length, Option, None, false}
+use Rattle.std.specs.Duration.{as_nanos}
+use Rattle.std.specs.Option.{option_map}
+use Rattle.std.specs.declared.io.ErrorKind.{ErrorKind}
+use Rattle.std.specs.declared.io.ErrorKind.TheVariants.{OutOfMemory, Interrupted}
+use Rattle.std.specs.declared.time.Duration.{Duration}
+use Rattle.crossterm_types.specs.Seen.{Seen}
+use Rattle.crossterm_types.specs.Timing.{Reaches, left_over}
+use Rattle.crossterm_types.specs.declared.event.timeout.PollTimeout.{PollTimeout}
+use Rattle.crossterm_read.specs.Answers.{SourceAnswer, Failed}
+use Rattle.crossterm_read.specs.Device.{AsksEach, AsksWith, IsAtOnce}
+use Rattle.crossterm_read.specs.Replies.{Replied, ToPoll, Fault}
+use Rattle.crossterm_read.specs.Shelf.{ReaderState, Arrives}
+use Rattle.crossterm_read.specs.Steps.{Asks, BrokeWhere, End, Broke, Tried, PollStep, RefusedOnlyWithoutRoom, first_admitted}
+use Rattle.crossterm_read.specs.declared.read.reader.AtWake.{AtWake}
+
+-- The last answer is a wake-up.
+abbrev pub EndsWoken : List SourceAnswer → Type 0
+EndsWoken zs = (ys : List SourceAnswer) × (zs ≡ ys ++ Failed Interrupted ∷ [])
+
+-- The device was asked once at most, with what is left of the limit at this moment.
+abbrev pub AsksInTime : PollTimeout → ℕ → List (Option Duration) → List (Option Duration) → Type 0
+AsksInTime timeout now old new = (left : Option Duration) × (option_map as_nanos left ≡ left_over timeout now) × AsksWith left old new
+
+-- So much was left of the limit at some moment from its start on, and not after this one.
+abbrev pub WasLeft : PollTimeout → ℕ → Option Duration → Type 0
+WasLeft timeout last left = (now : ℕ) × (as_nanos timeout.start ≤ now) × (now ≤ last) × (option_map as_nanos left ≡ left_over timeout now)
+
+-- From a moment on to another the device was asked some more times, each time with what was left of the limit. That runs from one moment between these on.
+abbrev pub AsksWithin : Option Duration → ℕ → ℕ → List (Option Duration) → List (Option Duration) → Type 0
+AsksWithin limit before after old new = (timeout : PollTimeout) × (timeout.limit ≡ limit) × (before ≤ as_nanos timeout.start) × AsksEach (WasLeft timeout after) old new
+
+-- It was asked some more times, each time without a limit.
+abbrev pub AsksForever : List (Option Duration) → List (Option Duration) → Type 0
+AsksForever old new = AsksEach (λ limit. limit ≡ None) old new
+
+-- Asking with a limit of time, to this moment. All tries, however many, are used only where the limit has passed. Where nothing admitted is held
+-- the source answers at least once, or there is no memory. With limit zero it answers once at most.
+pub record AskedInTime {S : Type 0} (drawn : S → List SourceAnswer → S → Type 0) (wake : AtWake) (f : Seen → Bool) (limit : Option Duration) (start last : ℕ) (s t : ReaderState S) (end : End) : Type 0 where
+  pub tries : ℕ
+  pub answers : List SourceAnswer
+  pub drawn_so : drawn s.source answers t.source
+  pub arrives : Arrives s.shelf answers t.shelf
+  pub asks : Asks wake f tries s.shelf.held answers end
+  pub memory : BrokeWhere end (RefusedOnlyWithoutRoom s.room answers)
+  pub patient : end ≡ Tried → Reaches limit (last - start)
+  pub begun : first_admitted f s.shelf.held ≡ None → (answers ≢ []) ⊎ (end ≡ Broke OutOfMemory)
+  pub once : IsAtOnce limit → length answers ≤ 1
+
+-- A poll with a limit of time is a poll with some number of tries. Without a wake-up it is false only where the limit has passed since the moment
+-- before. Where nothing admitted is held the source answers at least once, or there is no room. With limit zero it answers once at most.
+pub record TimedPoll {S : Type 0} (drawn : S → List SourceAnswer → S → Type 0) (f : Seen → Bool) (limit : Option Duration) (before after : ℕ) (s t : ReaderState S) (r : Replied) : Type 0 where
+  pub tries : ℕ
+  pub answers : List SourceAnswer
+  pub drawn_so : drawn s.source answers t.source
+  pub step : PollStep tries f answers s.shelf t.shelf r
+  pub memory : (kind : ErrorKind) → r ≡ Fault kind → RefusedOnlyWithoutRoom s.room answers kind
+  pub patient : r ≡ ToPoll false → EndsWoken answers ⊎ Reaches limit (after - before)
+  pub begun : first_admitted f s.shelf.held ≡ None → (answers ≢ []) ⊎ (r ≡ Fault OutOfMemory)
+  pub once : IsAtOnce limit → length answers ≤ 1

@@ -1,0 +1,151 @@
+//! Queries: a reply is waited for, and taken.
+ghost use Rattle.std.specs.Prelude.{◌≡◌, ◌≢◌, ◌≤◌, true, IfOk, ℕ, List, None};
+ghost use Rattle.std.specs.Option.{option_map};
+ghost use Rattle.crossterm_types.specs.Admitting.{is_attributes, is_cursor_position, is_flags_reply};
+ghost use Rattle.crossterm_types.specs.Seen.{CursorPosition, Seen, seen};
+ghost use Rattle.crossterm_read.specs.Answers.{SourceAnswer};
+ghost use Rattle.crossterm_read.specs.Device.{AsksAtOnce};
+ghost use Rattle.crossterm_read.specs.Queries.{KeyboardStep, LeftSays, QuerySays, QueryStep};
+ghost use Rattle.crossterm_read.specs.Replies.{Replied, ToPoll, ToQuery, flags_seen, keyboard_said, poll_reply, position_said, read_reply, shown};
+ghost use Rattle.crossterm_read.specs.Shelf.{capacity, kept};
+ghost use Rattle.crossterm_read.specs.Steps.{first_admitted};
+
+use crate::read::InternalEventReader;
+use crate::source::EventSource;
+use crossterm_types::event::filter::{
+    CursorPositionFilter, Filter, KeyboardEnhancementFlagsFilter, PrimaryDeviceAttributesFilter,
+};
+use crossterm_types::event::{InternalEvent, KeyboardEnhancementFlags};
+use std::alloc::Allocator;
+use std::io;
+
+// The cursor's place that a reply tells: column and row.
+fn place<A: Allocator>(event: &InternalEvent<A>) -> (u16, u16)
+    requires { is_cursor_position (seen event.now) ≡ true }
+    ensures { seen event.now ≡ CursorPosition result.0 result.1 }
+{
+    match event {
+        InternalEvent::CursorPosition(column, row) => (*column, *row),
+        _ => unreachable!(),
+    }
+}
+
+// The flags that a reply tells, or `None` where it tells the attributes alone.
+fn flags_of<A: Allocator>(event: &InternalEvent<A>) -> Option<KeyboardEnhancementFlags>
+    requires { is_flags_reply (seen event.now) ≡ true }
+    ensures { seen event.now ≡ flags_seen result }
+{
+    match event {
+        InternalEvent::KeyboardEnhancementFlags(flags) => Some(*flags),
+        InternalEvent::PrimaryDeviceAttributes => None,
+        _ => unreachable!(),
+    }
+}
+
+impl<S: EventSource<A>, A: Allocator> InternalEventReader<S, A> {
+    // Takes the reply that was polled for.
+    fn reply_taken<F: Filter>(
+        &mut self,
+        ready: io::Result<bool>,
+        filter: &F,
+    ) -> io::Result<(InternalEvent<A>, u64)>
+        requires { poll_reply ready ≡ ToPoll true → first_admitted (F.admits filter.now) self.old.shelf.held ≢ None }
+        ensures says { QuerySays (F.admits filter.now) (poll_reply ready) self.old.shelf self.new.shelf (read_reply result) }
+        ensures room { capacity self.new ≡ capacity self.old }
+        ensures source { self.new.source ≡ self.old.source }
+        ensures admitted { IfOk result (λ x. F.admits filter.now (seen x.0) ≡ true) }
+    {
+        match ready {
+            Ok(ready) => {
+                if ready {
+                    match self.take_numbered(filter) {
+                        Some(taken) => return Ok(taken),
+                        None => unreachable!(),
+                    }
+                }
+                Err(io::Error::from(io::ErrorKind::Other))
+            }
+            Err(error) => Err(error),
+        }
+    }
+
+    // Polls for a reply, and takes it.
+    fn query_within<F: Filter>(
+        &mut self,
+        tries: u32,
+        filter: &F,
+    ) -> io::Result<(InternalEvent<A>, u64)>
+        ensures step { (zs : List SourceAnswer) × S.drawn self.old.source zs self.new.source
+            × QueryStep (F.admits filter.now) tries zs self.old.shelf self.new.shelf (read_reply result) }
+        ensures at_once { AsksAtOnce (S.asked self.old.source) (S.asked self.new.source) }
+        ensures room { capacity self.old ≤ capacity self.new }
+        ensures rise { S.failed self.old.source ≤ S.failed self.new.source }
+        ensures admitted { IfOk result (λ x. F.admits filter.now (seen x.0) ≡ true) }
+    {
+        let ready = self.poll_within(tries, filter);
+        self.reply_taken(ready, filter)
+    }
+
+    /// Takes the first reply that tells the cursor's place, after so many questions to the source at most: its column and row.
+    ///
+    /// It polls as `poll_within` does. The error is `Other` where that is false, and else that poll's.
+    pub fn position_within(&mut self, tries: u32) -> io::Result<(u16, u16)>
+        ensures step { (zs : List SourceAnswer) × (r : Replied) × S.drawn self.old.source zs self.new.source
+            × QueryStep is_cursor_position tries zs self.old.shelf self.new.shelf r × (position_said result ≡ shown r) }
+        // The source is asked with limit zero alone, and so at once.
+        ensures at_once { AsksAtOnce (S.asked self.old.source) (S.asked self.new.source) }
+        // No room is lost, and failures never fall.
+        ensures room { capacity self.old ≤ capacity self.new }
+        ensures rise { S.failed self.old.source ≤ S.failed self.new.source }
+    {
+        match self.query_within(tries, &CursorPositionFilter) {
+            Ok((event, _number)) => Ok(place(&event)),
+            Err(error) => Err(error),
+        }
+    }
+
+    // Takes the attributes that came after the flags.
+    fn left_taken(&mut self, ready: io::Result<bool>) -> Option<(InternalEvent<A>, u64)>
+        requires { poll_reply ready ≡ ToPoll true → first_admitted is_attributes self.old.shelf.held ≢ None }
+        ensures says { (x : Seen × ℕ) → LeftSays (poll_reply ready) x self.old.shelf self.new.shelf (ToQuery x (option_map kept result)) }
+        ensures room { capacity self.new ≡ capacity self.old }
+        ensures source { self.new.source ≡ self.old.source }
+    {
+        match ready {
+            Ok(ready) => {
+                if ready {
+                    return self.take_numbered(&PrimaryDeviceAttributesFilter);
+                }
+                None
+            }
+            Err(_) => None,
+        }
+    }
+
+    /// Takes the first reply that tells the flags of the keyboard protocol, or the terminal's attributes alone, for which the
+    /// answer is `None`, after so many questions to the source at most.
+    ///
+    /// After the flags it polls as often for the attributes, and takes them where they came. The flags are the answer in any case.
+    /// The error is `Other` where the first poll is false, and else that poll's.
+    pub fn keyboard_within(&mut self, tries: u32) -> io::Result<Option<KeyboardEnhancementFlags>>
+        ensures step { (zs : List SourceAnswer) × (r : Replied) × S.drawn self.old.source zs self.new.source
+            × KeyboardStep tries tries zs self.old.shelf self.new.shelf r × (keyboard_said result ≡ shown r) }
+        // The source is asked with limit zero alone, and so at once.
+        ensures at_once { AsksAtOnce (S.asked self.old.source) (S.asked self.new.source) }
+        // No room is lost, and failures never fall.
+        ensures room { capacity self.old ≤ capacity self.new }
+        ensures rise { S.failed self.old.source ≤ S.failed self.new.source }
+    {
+        match self.query_within(tries, &KeyboardEnhancementFlagsFilter) {
+            Ok((event, _number)) => match flags_of(&event) {
+                Some(flags) => {
+                    let ready = self.poll_within(tries, &PrimaryDeviceAttributesFilter);
+                    let _left = self.left_taken(ready);
+                    Ok(Some(flags))
+                }
+                None => Ok(None),
+            },
+            Err(error) => Err(error),
+        }
+    }
+}

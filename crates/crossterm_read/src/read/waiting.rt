@@ -1,0 +1,181 @@
+//! Polls with a limit of time, and reads without one.
+ghost use Rattle.std.specs.Prelude.{◌≡◌, ◌⊎◌, ◌-◌, ◌≤◌, ◌<◌, IfOk, IfErr, OnOk, IsTrue, ℕ, List, None};
+ghost use Rattle.std.specs.Duration.{as_nanos};
+ghost use Rattle.std.specs.IoError.{error_kind};
+ghost use Rattle.crossterm_read.specs.Answers.{SourceAnswer, IsOwn};
+ghost use Rattle.crossterm_read.specs.Device.{AsksEach};
+ghost use Rattle.crossterm_read.specs.Replies.{Replied, poll_reply, read_reply, read_said, shown};
+ghost use Rattle.crossterm_read.specs.Shelf.{capacity};
+ghost use Rattle.crossterm_read.specs.Steps.{BreaksWhere, DrawsOne, IsRefused, MeetsNoFault, ReadStep, RefusedOnlyWithoutRoom, end_of};
+ghost use Rattle.crossterm_read.specs.Waiting.{AskedInTime, AsksForever, AsksInTime, AsksWithin, TimedPoll, WasLeft};
+ghost use Rattle.crossterm_read.specs.declared.read.reader.AtWake.TheVariants.{Stops};
+
+use crate::read::InternalEventReader;
+use crate::read::reader::{AtWake, Once, is_woken};
+use crate::source::EventSource;
+use crossterm_types::event::InternalEvent;
+use crossterm_types::event::filter::Filter;
+use crossterm_types::event::timeout::{Clock, PollTimeout};
+use std::alloc::Allocator;
+use std::io;
+use std::sync::Wait;
+use std::time::Duration;
+
+// The clock of a call that has no limit. It stands still.
+#[derive(Drop)]
+struct Still;
+
+impl Clock for Still {
+    ghost told = { λ _. 0 };
+
+    fn now(&mut self) -> Duration {
+        Duration::ZERO
+    }
+
+    fn last(&self) -> Duration {
+        Duration::ZERO
+    }
+}
+
+impl<S: EventSource<A>, A: Allocator> InternalEventReader<S, A> {
+    // Asks the source once, with what is left of the limit now.
+    fn draw_in_time<F: Filter, C: Clock>(
+        &mut self,
+        timeout: &PollTimeout,
+        clock: &mut C,
+        filter: &F,
+        at_wake: AtWake,
+    ) -> Once
+        ensures later { C.told clock.old ≤ C.told clock.new }
+        ensures asked { AsksInTime timeout.now (C.told clock.new) (S.asked self.old.source) (S.asked self.new.source) }
+        ensures one { DrawsOne S.drawn at_wake (F.admits filter.now) self.old self.new result }
+        ensures room { capacity self.old ≤ capacity self.new }
+        ensures full { IsRefused result → self.old.room ≡ 0 }
+        ensures rise { S.failed self.old.source ≤ S.failed self.new.source }
+        ensures steady { MeetsNoFault at_wake result → S.failed self.new.source ≡ S.failed self.old.source }
+        ensures err { BreaksWhere result (λ kind. IsOwn kind ⊎ (S.failed self.old.source < S.failed self.new.source)) }
+    {
+        let left = timeout.leftover(clock.now());
+        self.draw(filter, at_wake, left)
+    }
+
+    // Asks the source until an admitted event is held, or the limit has passed.
+    fn ask_in_time<F: Filter, C: Clock, R: Wait>(
+        &mut self,
+        rt: &R,
+        timeout: PollTimeout,
+        clock: &mut C,
+        filter: &F,
+        at_wake: AtWake,
+    ) -> io::Result<bool>
+        requires { as_nanos timeout.start ≤ C.told clock.old }
+        ensures later { C.told clock.old ≤ C.told clock.new }
+        ensures asked { AskedInTime S.drawn at_wake (F.admits filter.now) timeout.limit (as_nanos timeout.start) (C.told clock.new) self.old self.new (end_of result) }
+        ensures limits { AsksEach (WasLeft timeout (C.told clock.new)) (S.asked self.old.source) (S.asked self.new.source) }
+        ensures room { capacity self.old ≤ capacity self.new }
+        ensures rise { S.failed self.old.source ≤ S.failed self.new.source }
+        ensures steady { at_wake ≡ Stops → OnOk result (S.failed self.new.source ≡ S.failed self.old.source) }
+        ensures err { IfErr result (λ e. IsOwn (error_kind e) ⊎ (S.failed self.old.source < S.failed self.new.source)) }
+    {
+        if self.first(filter).is_some() {
+            return Ok(true);
+        }
+        for _ in rt.forever() {
+            match self.draw_in_time(&timeout, clock, filter, at_wake) {
+                Once::Refused => return Err(io::Error::from(io::ErrorKind::OutOfMemory)),
+                Once::Broke(error) => return Err(error),
+                Once::Came(admitted) => {
+                    if admitted {
+                        return Ok(true);
+                    }
+                }
+                Once::Nothing => {}
+            }
+            if timeout.elapsed(clock.now()) {
+                return Ok(false);
+            }
+        }
+        unreachable!()
+    }
+
+    /// Whether an event is held that the filter admits, within the limit.
+    ///
+    /// Where one is held already the answer is true at once. Else the source is asked, each time with what is left of the limit,
+    /// until that has passed: at least once, and with limit zero no more than that. The answer is true at the first admitted event,
+    /// and false after a wake-up or the limit. Every other fault is answered. Events that came are held. The error is `OutOfMemory`
+    /// only where the source's was, or where there was no room left for an event and none could be made.
+    pub fn poll<F: Filter, C: Clock, R: Wait>(
+        &mut self,
+        rt: &R,
+        limit: Option<Duration>,
+        clock: &mut C,
+        filter: &F,
+    ) -> io::Result<bool>
+        ensures step { TimedPoll S.drawn (F.admits filter.now) limit (C.told clock.old) (C.told clock.new) self.old self.new (poll_reply result) }
+        // The device is asked with what is left of the limit alone.
+        ensures asked { AsksWithin limit (C.told clock.old) (C.told clock.new) (S.asked self.old.source) (S.asked self.new.source) }
+        // The clock doesn't go back.
+        ensures later { C.told clock.old ≤ C.told clock.new }
+        // No room is lost.
+        ensures room { capacity self.old ≤ capacity self.new }
+        // Failures never fall, and where an event is there none was new.
+        ensures rise { S.failed self.old.source ≤ S.failed self.new.source }
+        ensures steady { IfOk result (λ ready. IsTrue ready → S.failed self.new.source ≡ S.failed self.old.source) }
+        ensures err { IfErr result (λ e. IsOwn (error_kind e) ⊎ (S.failed self.old.source < S.failed self.new.source)) }
+    {
+        let timeout = PollTimeout::new(limit, clock.now());
+        match self.ask_in_time(rt, timeout, clock, filter, AtWake::Stops) {
+            Ok(ready) => Ok(ready),
+            Err(error) => {
+                if is_woken(&error) {
+                    return Ok(false);
+                }
+                Err(error)
+            }
+        }
+    }
+
+    /// Takes the first event that the filter admits. Where none is held the source is asked until there is one, without a limit.
+    ///
+    /// It goes on after a wake-up. Every other fault is answered.
+    pub fn read<F: Filter, R: Wait>(&mut self, rt: &R, filter: &F) -> io::Result<InternalEvent<A>>
+        ensures step { (tries : ℕ) × (zs : List SourceAnswer) × (r : Replied) × S.drawn self.old.source zs self.new.source
+            × ReadStep tries (F.admits filter.now) zs self.old.shelf self.new.shelf r × (read_said result ≡ shown r)
+            × IfErr result (λ e. RefusedOnlyWithoutRoom self.old.room zs (error_kind e)) }
+        // The device is asked without a limit.
+        ensures asked { AsksForever (S.asked self.old.source) (S.asked self.new.source) }
+        // No room is lost, and failures never fall.
+        ensures room { capacity self.old ≤ capacity self.new }
+        ensures rise { S.failed self.old.source ≤ S.failed self.new.source }
+        ensures err { IfErr result (λ e. IsOwn (error_kind e) ⊎ (S.failed self.old.source < S.failed self.new.source)) }
+    {
+        match self.read_numbered(rt, filter) {
+            Ok((event, _number)) => Ok(event),
+            Err(error) => Err(error),
+        }
+    }
+
+    // Takes the first event that the filter admits, with its number.
+    pub(crate) fn read_numbered<F: Filter, R: Wait>(
+        &mut self,
+        rt: &R,
+        filter: &F,
+    ) -> io::Result<(InternalEvent<A>, u64)>
+        ensures step { (tries : ℕ) × (zs : List SourceAnswer) × S.drawn self.old.source zs self.new.source
+            × ReadStep tries (F.admits filter.now) zs self.old.shelf self.new.shelf (read_reply result)
+            × IfErr result (λ e. RefusedOnlyWithoutRoom self.old.room zs (error_kind e)) }
+        ensures asked { AsksForever (S.asked self.old.source) (S.asked self.new.source) }
+        ensures room { capacity self.old ≤ capacity self.new }
+        ensures rise { S.failed self.old.source ≤ S.failed self.new.source }
+        ensures err { IfErr result (λ e. IsOwn (error_kind e) ⊎ (S.failed self.old.source < S.failed self.new.source)) }
+    {
+        let timeout = PollTimeout::new(None, Duration::ZERO);
+        match self.ask_in_time(rt, timeout, &mut Still, filter, AtWake::GoesOn) {
+            Ok(_ready) => match self.take_numbered(filter) {
+                Some(taken) => Ok(taken),
+                None => unreachable!(),
+            },
+            Err(error) => Err(error),
+        }
+    }
+}
