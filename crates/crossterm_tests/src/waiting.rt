@@ -11,16 +11,25 @@ use std::io::{self, ErrorKind};
 use std::sync::Wait;
 use std::time::Duration;
 
-/// A device that is idle while it is asked with the limits that it expects, fails at another one, and has a new size after the last.
+/// Whether a limit is of so many milliseconds, or there is none.
+fn is_limit(limit: Option<Duration>, millis: Option<u64>) -> bool {
+    match (limit, millis) {
+        (Some(limit), Some(millis)) => limit == Duration::from_millis(millis),
+        (None, None) => true,
+        _ => false,
+    }
+}
+
+/// A device that is idle while it is asked with the limits that it expects, in milliseconds, fails at another one, and has a new size after the last.
 #[derive(Drop)]
 struct Expecting {
-    limits: &'static [Option<Duration>],
+    limits: &'static [Option<u64>],
     asked: usize,
     failures: u64,
 }
 
 impl Expecting {
-    fn new(limits: &'static [Option<Duration>]) -> Expecting {
+    fn new(limits: &'static [Option<u64>]) -> Expecting {
         Expecting {
             limits,
             asked: 0,
@@ -43,7 +52,7 @@ impl Device for Expecting {
     fn answer(&mut self, _buf: &mut [u8], limit: Option<Duration>) -> io::Result<Answer> {
         match self.limits.get(self.asked) {
             None => Ok(Answer::Resize(80, 24)),
-            Some(expected) if *expected == limit => {
+            Some(expected) if is_limit(limit, *expected) => {
                 self.asked += 1;
                 Ok(Answer::Idle)
             }
@@ -124,14 +133,10 @@ fn no_time_asks_once(rt: HostRuntime) -> Result<(), AllocError> {
     Ok(())
 }
 
-const SEVENTY: Duration = Duration::from_millis(70);
-
-const TEN: Duration = Duration::from_millis(10);
-
 /// What is left of 100 ms, where the clock goes on by 30 ms each time that it is looked at.
-static LEFT: [Option<Duration>; 2] = [Some(SEVENTY), Some(TEN)];
+static LEFT: [Option<u64>; 2] = [Some(70), Some(10)];
 
-static ENDLESS: [Option<Duration>; 2] = [None, None];
+static ENDLESS: [Option<u64>; 2] = [None, None];
 
 /// Whether each question has what is left of the limit, and none after it has passed.
 fn waits_so_long<R: Wait>(rt: &R, alloc: Global) -> bool {
