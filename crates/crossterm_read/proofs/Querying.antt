@@ -1,13 +1,16 @@
 -- What a query takes.
-use Rattle.std.proofs.Common.{◌≡◌, ℕ, Bool, true, false, List, None, Some, inl, inr, sym, subst, ◌∙◌}
+use Rattle.std.proofs.Common.{◌≡◌, ◌⊎◌, ℕ, Bool, true, false, List, None, Some, Result, Ok, Err, inl, inr, sym, subst, ◌∙◌}
+use Rattle.std.specs.Prelude.{IfErr}
+use Rattle.std.specs.IoError.{error_kind}
+use Rattle.std.specs.declared.io.Error.{Error}
 use Rattle.std.specs.declared.io.ErrorKind.{ErrorKind}
-use Rattle.std.specs.declared.io.ErrorKind.TheVariants.{Other}
+use Rattle.std.specs.declared.io.ErrorKind.TheVariants.{OutOfMemory, Other}
 use Rattle.std.proofs.lemmas.List.Quantifiers.{position-Some}
 use Rattle.crossterm_types.specs.Seen.{Seen}
 use Rattle.crossterm_read.specs.Answers.{SourceAnswer}
 use Rattle.crossterm_read.specs.declared.read.reader.AtWake.TheVariants.{Stops}
 use Rattle.crossterm_read.specs.Queries.{QuerySays}
-use Rattle.crossterm_read.specs.Replies.{Replied, ToPoll, ToTake, ToQuery, Fault}
+use Rattle.crossterm_read.specs.Replies.{Replied, ToPoll, ToTake, ToQuery, Fault, poll_reply}
 use Rattle.crossterm_read.specs.Shelf.{Shelf}
 use Rattle.crossterm_read.specs.Steps.{first_admitted, Asks, End, Ready, Tried, Broke, PollStep, PollSays, TakeSays}
 use Rattle.crossterm_read.proofs.Ready.{ready_there}
@@ -48,3 +51,26 @@ query_admitted f (Fault kind) s t x h = absurd (no_take x kind h.1)
   where
     no_take : (x : Seen × ℕ) (kind : ErrorKind) → ToTake (Some x) ≡ Fault kind → ⊥
     no_take x kind e = cc
+
+-- What holds of a poll's fault, and of Other, holds of the query's.
+pub query_fault : {X : Type 0} (P : ErrorKind → Type 0) → P Other → (r : Result Bool Error) → IfErr r (λ e. P (error_kind e)) → (q : Result X Error) → IfErr q (λ e. (error_kind e ≡ Other) ⊎ (poll_reply r ≡ Fault (error_kind e))) → IfErr q (λ e. P (error_kind e))
+query_fault P o r h (Ok x) f = tt
+query_fault P o r h (Err e) (inl k) = subst P (sym k) o
+query_fault P o (Ok b) h (Err e) (inr k) = absurd (poll_not b (error_kind e) k)
+  where
+    poll_not : (b : Bool) (kind : ErrorKind) → ToPoll b ≡ Fault kind → ⊥
+    poll_not b kind e = cc
+query_fault P o (Err x) h (Err e) (inr k) = subst P (fault_of (error_kind x) (error_kind e) k) h
+  where
+    fault_of : (k l : ErrorKind) → Fault k ≡ Fault l → k ≡ l
+    fault_of k l e = cc
+
+pub fault_weaker : {X : Type 0} (P Q : ErrorKind → Type 0) (r : Result X Error) → ((kind : ErrorKind) → P kind → Q kind) → IfErr r (λ e. P (error_kind e)) → IfErr r (λ e. Q (error_kind e))
+fault_weaker P Q (Ok x) f h = tt
+fault_weaker P Q (Err e) f h = f (error_kind e) h
+
+pub other_not : (P : Type 0) → Other ≡ OutOfMemory → P
+other_not P e = absurd (memory e)
+  where
+    memory : Other ≡ OutOfMemory → ⊥
+    memory e = cc

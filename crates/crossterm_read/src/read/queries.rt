@@ -1,14 +1,16 @@
 //! Queries: a reply is waited for, and taken.
-ghost use Rattle.std.specs.Prelude.{◌≡◌, ◌≢◌, ◌≤◌, true, IfOk, ℕ, List, None};
+ghost use Rattle.std.specs.Prelude.{◌≡◌, ◌≢◌, ◌⊎◌, ◌≤◌, ◌<◌, true, IfOk, IfErr, ℕ, List, None};
+ghost use Rattle.std.specs.IoError.{error_kind};
+ghost use Rattle.std.specs.declared.io.ErrorKind.TheVariants.{Other};
 ghost use Rattle.std.specs.Option.{option_map};
 ghost use Rattle.crossterm_types.specs.Admitting.{is_attributes, is_cursor_position, is_flags_reply};
 ghost use Rattle.crossterm_types.specs.Seen.{CursorPosition, Seen, seen};
-ghost use Rattle.crossterm_read.specs.Answers.{SourceAnswer};
+ghost use Rattle.crossterm_read.specs.Answers.{SourceAnswer, IsOwn};
 ghost use Rattle.crossterm_read.specs.Device.{AsksAtOnce};
 ghost use Rattle.crossterm_read.specs.Queries.{KeyboardStep, LeftSays, QuerySays, QueryStep};
-ghost use Rattle.crossterm_read.specs.Replies.{Replied, ToPoll, ToQuery, flags_seen, keyboard_said, poll_reply, position_said, read_reply, shown};
+ghost use Rattle.crossterm_read.specs.Replies.{Fault, Replied, ToPoll, ToQuery, flags_seen, keyboard_said, poll_reply, position_said, read_reply, shown};
 ghost use Rattle.crossterm_read.specs.Shelf.{capacity, kept};
-ghost use Rattle.crossterm_read.specs.Steps.{first_admitted};
+ghost use Rattle.crossterm_read.specs.Steps.{RefusedOnlyWithoutRoom, first_admitted};
 
 use crate::read::InternalEventReader;
 use crate::source::EventSource;
@@ -54,6 +56,7 @@ impl<S: EventSource<A>, A: Allocator> InternalEventReader<S, A> {
         ensures room { capacity self.new ≡ capacity self.old }
         ensures source { self.new.source ≡ self.old.source }
         ensures admitted { IfOk result (λ x. F.admits filter.now (seen x.0) ≡ true) }
+        ensures fault { IfErr result (λ e. (error_kind e ≡ Other) ⊎ (poll_reply ready ≡ Fault (error_kind e))) }
     {
         match ready {
             Ok(ready) => {
@@ -76,11 +79,13 @@ impl<S: EventSource<A>, A: Allocator> InternalEventReader<S, A> {
         filter: &F,
     ) -> io::Result<(InternalEvent<A>, u64)>
         ensures step { (zs : List SourceAnswer) × S.drawn self.old.source zs self.new.source
-            × QueryStep (F.admits filter.now) tries zs self.old.shelf self.new.shelf (read_reply result) }
+            × QueryStep (F.admits filter.now) tries zs self.old.shelf self.new.shelf (read_reply result)
+            × IfErr result (λ e. RefusedOnlyWithoutRoom self.old.room zs (error_kind e)) }
         ensures at_once { AsksAtOnce (S.asked self.old.source) (S.asked self.new.source) }
         ensures room { capacity self.old ≤ capacity self.new }
         ensures rise { S.failed self.old.source ≤ S.failed self.new.source }
         ensures admitted { IfOk result (λ x. F.admits filter.now (seen x.0) ≡ true) }
+        ensures err { IfErr result (λ e. (error_kind e ≡ Other) ⊎ IsOwn (error_kind e) ⊎ (S.failed self.old.source < S.failed self.new.source)) }
     {
         let ready = self.poll_within(tries, filter);
         self.reply_taken(ready, filter)
@@ -91,12 +96,14 @@ impl<S: EventSource<A>, A: Allocator> InternalEventReader<S, A> {
     /// It polls as `poll_within` does. The error is `Other` where that is false, and else that poll's.
     pub fn position_within(&mut self, tries: u32) -> io::Result<(u16, u16)>
         ensures step { (zs : List SourceAnswer) × (r : Replied) × S.drawn self.old.source zs self.new.source
-            × QueryStep is_cursor_position tries zs self.old.shelf self.new.shelf r × (position_said result ≡ shown r) }
+            × QueryStep is_cursor_position tries zs self.old.shelf self.new.shelf r × (position_said result ≡ shown r)
+            × IfErr result (λ e. RefusedOnlyWithoutRoom self.old.room zs (error_kind e)) }
         // The source is asked with limit zero alone, and so at once.
         ensures at_once { AsksAtOnce (S.asked self.old.source) (S.asked self.new.source) }
         // No room is lost, and failures never fall.
         ensures room { capacity self.old ≤ capacity self.new }
         ensures rise { S.failed self.old.source ≤ S.failed self.new.source }
+        ensures err { IfErr result (λ e. (error_kind e ≡ Other) ⊎ IsOwn (error_kind e) ⊎ (S.failed self.old.source < S.failed self.new.source)) }
     {
         match self.query_within(tries, &CursorPositionFilter) {
             Ok((event, _number)) => Ok(place(&event)),
@@ -129,12 +136,14 @@ impl<S: EventSource<A>, A: Allocator> InternalEventReader<S, A> {
     /// The error is `Other` where the first poll is false, and else that poll's.
     pub fn keyboard_within(&mut self, tries: u32) -> io::Result<Option<KeyboardEnhancementFlags>>
         ensures step { (zs : List SourceAnswer) × (r : Replied) × S.drawn self.old.source zs self.new.source
-            × KeyboardStep tries tries zs self.old.shelf self.new.shelf r × (keyboard_said result ≡ shown r) }
+            × KeyboardStep tries tries zs self.old.shelf self.new.shelf r × (keyboard_said result ≡ shown r)
+            × IfErr result (λ e. RefusedOnlyWithoutRoom self.old.room zs (error_kind e)) }
         // The source is asked with limit zero alone, and so at once.
         ensures at_once { AsksAtOnce (S.asked self.old.source) (S.asked self.new.source) }
         // No room is lost, and failures never fall.
         ensures room { capacity self.old ≤ capacity self.new }
         ensures rise { S.failed self.old.source ≤ S.failed self.new.source }
+        ensures err { IfErr result (λ e. (error_kind e ≡ Other) ⊎ IsOwn (error_kind e) ⊎ (S.failed self.old.source < S.failed self.new.source)) }
     {
         match self.query_within(tries, &KeyboardEnhancementFlagsFilter) {
             Ok((event, _number)) => match flags_of(&event) {

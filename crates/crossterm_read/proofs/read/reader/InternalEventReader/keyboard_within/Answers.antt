@@ -32,6 +32,7 @@ returns-in-Some-clause-step g c =
       subst (λ (y : g.row.S.Denot). g.S.EventSource.drawn c.args.self.now.source (e.0 ++ d.0) y) (sym c.left_taken-left.ensures.source) drawn,
       (e.0, d.0, c.query_within.new.self.shelf, ToTake (Some x), refl, e.2, after),
       ap (λ (y : Seen). Came (Some y)) (sym c.in-Some.ensures),
+      tt,
     )
 
 pub returns-in-Ok-clause-step : goal.returns-in-Ok-clause-step
@@ -40,12 +41,12 @@ returns-in-Ok-clause-step g c =
     let x : Seen × ℕ = kept (c.in-Ok.event, c.in-Ok._number) in
     let after : AfterReply c.args.tries [] x.0 x c.query_within.new.self.shelf c.query_within.new.self.shelf (ToTake (Some x)) = subst
     (λ (y : Seen). AfterReply c.args.tries [] y x c.query_within.new.self.shelf c.query_within.new.self.shelf (ToTake (Some x))) (sym c.in-None.ensures) (refl, refl, refl) in
-    (e.0, ToTake (Some x), e.1, (e.0, [], c.query_within.new.self.shelf, ToTake (Some x), sym (append-nil e.0), e.2, after), ap (λ (y : Seen). Came (Some y)) (sym c.in-None.ensures))
+    (e.0, ToTake (Some x), e.1, (e.0, [], c.query_within.new.self.shelf, ToTake (Some x), sym (append-nil e.0), e.2, after), ap (λ (y : Seen). Came (Some y)) (sym c.in-None.ensures), tt)
 
 pub returns-clause-step : goal.returns-clause-step
 returns-clause-step g c =
     let e = c.in-Err.ensures.step in
-    (e.0, Fault (error_kind c.in-Err.error), e.1, (e.0, [], c.query_within.new.self.shelf, Fault (error_kind c.in-Err.error), sym (append-nil e.0), e.2, (refl, refl, refl)), refl)
+    (e.0, Fault (error_kind c.in-Err.error), e.1, (e.0, [], c.query_within.new.self.shelf, Fault (error_kind c.in-Err.error), sym (append-nil e.0), e.2, (refl, refl, refl)), refl, e.3)
 
 pub returns-in-Some-clause-at_once : goal.returns-in-Some-clause-at_once
 returns-in-Some-clause-at_once g c =

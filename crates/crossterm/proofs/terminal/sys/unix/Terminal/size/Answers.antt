@@ -9,8 +9,8 @@ returns-clause-size g c = (
   result_ok c.window_size.result,
   search rules,
   elim c.match-window_size.branch [
-    in-Ok w ↦ grind (arith, w.in-Ok, w.result-is)
-  | in-Err+in-Some w ↦ grind (arith, w.in-Err, w.result-is, w.tput_size.ensures, w.in-Some)
-  | in-Err+in-None w ↦ grind (arith, w.in-Err, w.result-is, w.tput_size.ensures, w.in-None)
+    | in-Ok w ↦ grind (arith, w.in-Ok, w.result-is)
+    | in-Err+in-Some w ↦ grind (arith, w.in-Err, w.result-is, w.tput_size.ensures, w.in-Some)
+    | in-Err+in-None w ↦ grind (arith, w.in-Err, w.result-is, w.tput_size.ensures, w.in-None)
   ],
 )
