@@ -1,9 +1,11 @@
 -- Arrival numbers rise.
-use Rattle.std.proofs.Common.{◌≡◌, ℕ, zero, suc, ◌+◌, ◌<◌, ◌≤◌, List, [], ◌∷◌, ◌++◌, arith}
+use Rattle.std.proofs.Common.{◌≡◌, ℕ, zero, suc, ◌+◌, ◌<◌, ◌≤◌, Bool, List, [], ◌∷◌, ◌++◌, Option, Some, None, sym, subst, arith}
 use Rattle.std.specs.List.{AllByRecursion, remove}
 use Rattle.crossterm_types.specs.Seen.{Seen}
 use Rattle.crossterm_read.specs.Numbers.{Rise, IsLow, IsOrderly}
-use Rattle.crossterm_read.specs.Shelf.{next_number}
+use Rattle.crossterm_read.specs.Answers.{Gave}
+use Rattle.crossterm_read.specs.Shelf.{Shelf, Arrives, next_number}
+use Rattle.crossterm_read.specs.Steps.{TakeSays}
 use Rattle.crossterm_read.proofs.Asking.{all_push}
 
 low_next : (n : ℕ) → IsLow (next_number n) → (next_number n ≡ n + 1) × IsLow n
@@ -18,7 +20,7 @@ rise_push [] x n r b = (tt, tt)
 rise_push (y ∷ ys) x n r b = (all_push (λ k. y.1 < k.1) ys (x, n) r.0 b.0, rise_push ys x n r.1 b.1)
 
 -- One more is held.
-pub orderly_more : (held : List (Seen × ℕ)) (n : ℕ) (x : Seen) → IsOrderly held n → IsOrderly (held ++ (x, n) ∷ []) (next_number n)
+orderly_more : (held : List (Seen × ℕ)) (n : ℕ) (x : Seen) → IsOrderly held n → IsOrderly (held ++ (x, n) ∷ []) (next_number n)
 orderly_more held n x h low =
     let l = low_next n low in
     let s = h l.1 in
@@ -41,5 +43,13 @@ rise_remove (x ∷ xs) zero r = r.1
 rise_remove (x ∷ xs) (suc i) r = (all_remove (λ k. x.1 < k.1) xs i r.0, rise_remove xs i r.1)
 
 -- One is taken.
-pub orderly_less : (held : List (Seen × ℕ)) (n i : ℕ) → IsOrderly held n → IsOrderly (remove held i) n
+orderly_less : (held : List (Seen × ℕ)) (n i : ℕ) → IsOrderly held n → IsOrderly (remove held i) n
 orderly_less held n i h low = let s = h low in record { rise = rise_remove held i s.rise; below = all_remove (λ k. k.1 < n) held i s.below }
+
+-- What an answer and a take leave is orderly.
+pub orderly_arrives : (s t : Shelf) (x : Seen) → IsOrderly s.held s.arrivals → Arrives s (Gave x ∷ []) t → IsOrderly t.held t.arrivals
+orderly_arrives s t x o a = subst (λ (y : List (Seen × ℕ) × ℕ). IsOrderly y.0 y.1) (λ i. (sym a.held i, sym a.arrivals i)) (orderly_more s.held s.arrivals x o)
+
+pub orderly_takes : (f : Seen → Bool) (s t : Shelf) (x : Option (Seen × ℕ)) → IsOrderly s.held s.arrivals → TakeSays f s t x → IsOrderly t.held t.arrivals
+orderly_takes f s t None o h = subst (λ (y : Shelf). IsOrderly y.held y.arrivals) (sym h.1) o
+orderly_takes f s t (Some x) o h = subst (λ (y : Shelf). IsOrderly y.held y.arrivals) (sym h.3) (orderly_less s.held s.arrivals h.0 o)

@@ -4,7 +4,6 @@ ghost use Rattle.std.specs.Iterator.{YieldsFirstBy, item_count};
 ghost use Rattle.std.specs.Option.{option_map};
 ghost use Rattle.crossterm_types.specs.Seen.{Seen, seen};
 ghost use Rattle.crossterm_read.specs.Answers.{Gave};
-ghost use Rattle.crossterm_read.specs.Numbers.{IsOrderly};
 ghost use Rattle.crossterm_read.specs.Shelf.{Arrives, Holding, kept};
 ghost use Rattle.crossterm_read.specs.Steps.{TakeSays, first_admitted};
 
@@ -57,8 +56,6 @@ impl<A: Allocator> Model for HeldEvents<A> {
     ghost Value = { Holding };
 
     ghost view = { λ h. record { shelf = record { held = map kept h.events.items; arrivals = h.arrivals }; room = vec_capacity h.events - vec_len h.events } };
-
-    ghost invariant = { λ h. IsOrderly (map kept h.events.items) h.arrivals };
 }
 
 impl<A: Allocator> HeldEvents<A> {

@@ -7,6 +7,7 @@ ghost use Rattle.std.specs.declared.io.ErrorKind.TheVariants.{Interrupted};
 ghost use Rattle.crossterm_types.specs.Seen.{Seen, seen};
 ghost use Rattle.crossterm_read.specs.Answers.{SourceAnswer, IsOwn};
 ghost use Rattle.crossterm_read.specs.Device.{AsksWith, AsksAtOnce};
+ghost use Rattle.crossterm_read.specs.Numbers.{IsOrderly};
 ghost use Rattle.crossterm_read.specs.Replies.{Replied, poll_reply, shown, try_reply, try_said};
 ghost use Rattle.crossterm_read.specs.Shelf.{ReaderState, capacity, kept};
 ghost use Rattle.crossterm_read.specs.Steps.{Asked, BreaksWhere, DrawsOne, IsRefused, MeetsNoFault, PollStep, ReadStep, RefusedOnlyWithoutRoom, TakeSays, end_of, first_admitted};
@@ -35,6 +36,8 @@ impl<S, A: Allocator> Model for InternalEventReader<S, A> {
     ghost Value = { ReaderState S };
 
     ghost view = { λ r. record { shelf = r.held.shelf; room = r.held.room; source = r.source } };
+
+    ghost invariant = { λ r. IsOrderly r.held.shelf.held r.held.shelf.arrivals };
 }
 
 // What a call does at a wake-up.

@@ -1,9 +1,7 @@
-use Rattle.std.proofs.Common.{◌≡◌, ◌∙◌, ap, sym, subst, get_or, map}
+use Rattle.std.proofs.Common.{◌≡◌, ◌∙◌, ap, sym, get_or, map}
 use Rattle.std.specs.List.{remove}
-use Rattle.crossterm_read.specs.Numbers.{IsOrderly}
 use Rattle.crossterm_read.specs.Shelf.{kept}
 use Rattle.crossterm_read.proofs.Mapped.{remove_map, get_map}
-use Rattle.crossterm_read.proofs.Numbers.{orderly_less}
 use Rattle.crossterm_read.proofs.read.held.HeldEvents.take.Goals as goal
 
 pub returns-in-Some-clause-step : goal.returns-in-Some-clause-step
@@ -14,9 +12,3 @@ returns-in-Some-clause-step g c =
     let value : get_or c.args.self.now.shelf.held at (kept c.remove.result) ≡ kept c.remove.result =
     ap (λ l. get_or l at (kept c.remove.result)) (sym held) ∙ get_map kept c.self.inside.events.items at c.remove.result (sym c.remove.ensures.value) in
     (at, sym c.in-Some.ensures, value, λ i. record { held = gone i; arrivals = ap (λ s. s.shelf.arrivals) c.self.view_is i })
-
-pub invariant_of-self : goal.invariant_of-self
-invariant_of-self g c =
-    let at = c.in-Some.at in
-    let gone = ap (λ l. map kept l) c.remove.ensures.items ∙ remove_map kept c.self.inside.events.items at in
-    subst (λ l. IsOrderly l c.self.inside.arrivals) (sym gone) (orderly_less (map kept c.self.inside.events.items) c.self.inside.arrivals at c.self.invariant)

@@ -6,7 +6,9 @@ use Rattle.crossterm_read.specs.Answers.{Gave, Nothing, Failed}
 use Rattle.crossterm_read.specs.declared.read.reader.AtWake.TheVariants.{Stops, GoesOn}
 use Rattle.crossterm_read.specs.declared.read.reader.Once.TheVariants as once
 use Rattle.crossterm_read.specs.Shelf.{Shelf, Holding, ReaderState, Arrives}
+use Rattle.crossterm_read.specs.Numbers.{IsOrderly}
 use Rattle.crossterm_read.proofs.Asking.{draws_from}
+use Rattle.crossterm_read.proofs.Numbers.{orderly_arrives}
 use Rattle.crossterm_read.proofs.read.reader.InternalEventReader.draw.Goals.{in-GoesOn+else-is_woken, in-Stops}
 use Rattle.crossterm_read.proofs.read.reader.InternalEventReader.draw.Goals as goal
 
@@ -58,3 +60,8 @@ returns-after-at_wake-clause-one g c =
     draws_from g.S.EventSource.drawn g.met.S.EventSource.drawn_on c.args.at_wake (g.F.Filter.admits c.args.filter.now) _ c.args.self.now
     (record { shelf = c.reserve.new.self.shelf; room = c.reserve.new.self.room; source = c.try_read.new.self })
     (once.Broke c.in-Err-try_read.error) c.self.view_is (c.in-Err-try_read.ensures.drawn, record { held = e.0; arrivals = e.1 }, other)
+
+pub invariant_of-self-in-Ok-Some : goal.invariant_of-self-in-Ok-Some
+invariant_of-self-in-Ok-Some g c =
+    let before = subst (λ (s : Shelf). IsOrderly s.held s.arrivals) (sym c.reserve.ensures.shelf) c.self.invariant in
+    orderly_arrives c.reserve.new.self.shelf c.push_reserved.new.self.shelf _ before c.push_reserved.ensures.shelf
