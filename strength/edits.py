@@ -3,7 +3,8 @@
 A file has paragraphs, and each is one wrong body: lines `file: PATH` of the crate, and below it pairs of lines `old: TEXT` and
 `new: TEXT`, where the old text stands once in that file. A line `file:` holds on until the next one. Further lines of a paragraph:
 
-    at: NAME, NAME      the functions that refuse it, by the ends of their names, where that is another one than it stands in
+    at: NAME, NAME      the functions that refuse it, by the ends of their names, where that is another one than it stands in; `*` where
+                        only a check of the whole crate does, as of a law of an `impl`
     error: TEXT         what the compiler says of it, where it isn't left to the prover
     # ..                what it gets wrong, in words
 """

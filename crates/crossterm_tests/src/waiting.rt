@@ -78,28 +78,26 @@ impl Device for Expecting {
 /// A clock that goes on by 30 ms each time.
 #[derive(Drop)]
 struct Steady {
-    last: Duration,
+    millis: u32,
 }
 
 impl Clock for Steady {
-    ghost use Rattle.std.specs.Duration.{as_nanos};
+    ghost use Rattle.std.specs.Prelude.{◌*◌};
 
-    ghost told = { λ clock. as_nanos clock.last };
+    ghost told = { λ clock. clock.millis * 1000000 };
 
     fn now(&mut self) -> Duration {
-        self.last = self.last.saturating_add(Duration::from_millis(30));
-        self.last
+        self.millis = self.millis.saturating_add(30);
+        self.last()
     }
 
     fn last(&self) -> Duration {
-        self.last
+        Duration::from_millis(u64::from(self.millis))
     }
 }
 
 fn clock() -> Steady {
-    Steady {
-        last: Duration::ZERO,
-    }
+    Steady { millis: 0 }
 }
 
 type Reader<D> = InternalEventReader<DeviceSource<D>>;
