@@ -114,10 +114,9 @@ fn is_denied<T: Drop>(answer: io::Result<T>) -> bool {
     matches!(answer, Err(error) if error.kind() == ErrorKind::PermissionDenied)
 }
 
-/// Raw mode on and off. Both leave the mode that stood before.
+/// Raw mode on and off. Where it wasn't on, both leave the mode that stood before.
 fn raw_and_back<D: ModeDevice>(terminal: &mut Terminal<D>) -> io::Result<()>
-    requires { terminal.old.prior ≡ None }
-    ensures { OnOk result (D.stands terminal.new.device ≡ D.stands terminal.old.device) }
+    ensures { OnOk result (terminal.old.prior ≡ None → D.stands terminal.new.device ≡ D.stands terminal.old.device) }
 {
     terminal.enable_raw_mode()?;
     terminal.disable_raw_mode()
