@@ -22,7 +22,8 @@ use Rattle.crossterm_read.proofs.Asking.{arrived-append, numbered_after-append}
 within_none : (ys : List (Seen × ℕ)) → IsWithin [] ys
 within_none ys = tt
 
-within_refl : (xs : List (Seen × ℕ)) → IsWithin xs xs
+-- A list is within itself.
+pub within_refl : (xs : List (Seen × ℕ)) → IsWithin xs xs
 within_refl [] = tt
 within_refl (x ∷ xs) = inl (refl, within_refl xs)
 
@@ -49,10 +50,10 @@ within_trans_remove (x ∷ xs) [] (suc i) h = absurd h
 within_trans_remove (x ∷ xs) (y ∷ ys) (suc i) (inl h) = inl (h.0, within_trans_remove xs ys i h.1)
 within_trans_remove (x ∷ xs) (y ∷ ys) (suc i) (inr h) = inr (within_trans_remove (x ∷ xs) ys (suc i) h)
 
--- what came is what was taken and what is held
-record Account (all done : List (Seen × ℕ)) (s : Shelf) : Type 0 where
-  once : IsPermutation all (done ++ s.held)
-  within : IsWithin s.held all
+-- What came is what was taken and what is held.
+pub record Account (all done : List (Seen × ℕ)) (s : Shelf) : Type 0 where
+  pub once : IsPermutation all (done ++ s.held)
+  pub within : IsWithin s.held all
 
 arrives_account : (all done : List (Seen × ℕ)) (s m : Shelf) (zs : List SourceAnswer) → Account all done s → Arrives s zs m → Account (all ++ arrived s.arrivals zs) done m
 arrives_account all done s m zs a h = record {
@@ -61,10 +62,12 @@ arrives_account all done s m zs a h = record {
   within = subst (λ l. IsWithin l (all ++ arrived s.arrivals zs)) (sym h.held) (within_append s.held all (arrived s.arrivals zs) a.within);
 }
 
-abbrev Taken : List (Seen × ℕ) → List (Seen × ℕ) → Shelf → List (Seen × ℕ) → ℕ → Type 0
+-- The same after a step that took more, and left this number.
+abbrev pub Taken : List (Seen × ℕ) → List (Seen × ℕ) → Shelf → List (Seen × ℕ) → ℕ → Type 0
 Taken all done t more n = Account all (done ++ more) t × (t.arrivals ≡ n)
 
-none_taken : (all done : List (Seen × ℕ)) (s t : Shelf) → t ≡ s → Account all done s → Taken all done t [] s.arrivals
+-- Nothing is taken where nothing changes.
+pub none_taken : (all done : List (Seen × ℕ)) (s t : Shelf) → t ≡ s → Account all done s → Taken all done t [] s.arrivals
 none_taken all done s t e a = (subst (λ l. Account all l t) (sym (append-nil done)) (subst (λ (y : Shelf). Account all done y) (sym e) a), ap (λ (y : Shelf). y.arrivals) e)
 
 take_account : (f : Seen → Bool) (all done : List (Seen × ℕ)) (s t : Shelf) (x : Option (Seen × ℕ)) → Account all done s → TakeSays f s t x → Taken all done t (option_to_list x) s.arrivals
@@ -185,7 +188,8 @@ keyboard_account tries again zs all done s t r a h =
     subst (λ (l : List SourceAnswer). Taken (all ++ arrived s.arrivals l) done t (taken (r ∷ [])) (numbered_after s.arrivals l)) (sym h.4)
     (subst (λ l. Taken l done t (taken (r ∷ [])) (numbered_after s.arrivals (xs ++ ys))) more (subst (λ (n : ℕ). Taken ((all ++ arrived s.arrivals xs) ++ arrived m.arrivals ys) done t (taken (r ∷ [])) n) count f))
 
-step_account : (c : Request) (zs : List SourceAnswer) (all done : List (Seen × ℕ)) (s t : Shelf) (r : Replied) → Account all done s → Step c zs s t r
+-- A step of any request.
+pub step_account : (c : Request) (zs : List SourceAnswer) (all done : List (Seen × ℕ)) (s t : Shelf) (r : Replied) → Account all done s → Step c zs s t r
     → Taken (all ++ arrived s.arrivals zs) done t (taken (r ∷ [])) (numbered_after s.arrivals zs)
 step_account (Poll tries f) zs all done s t r a h =
     let b = arrives_account all done s t zs a h.2 in
@@ -207,6 +211,16 @@ taken_cons (ToQuery x (Some y)) rs = refl
 taken_cons (ToPoll b) rs = refl
 taken_cons (Fault kind) rs = refl
 
+-- A step, and what follows it.
+pub account_more : (zs ws : List SourceAnswer) (r : Replied) (rs : List Replied) (all done : List (Seen × ℕ)) (s m t : Shelf) → m.arrivals ≡ numbered_after s.arrivals zs
+    → Account ((all ++ arrived s.arrivals zs) ++ arrived m.arrivals ws) ((done ++ taken (r ∷ [])) ++ taken rs) t → Account (all ++ arrived s.arrivals (zs ++ ws)) (done ++ taken (r ∷ rs)) t
+account_more zs ws r rs all done s m t k n =
+    let e : (all ++ arrived s.arrivals zs) ++ arrived m.arrivals ws ≡ all ++ arrived s.arrivals (zs ++ ws) =
+    append_assoc all (arrived s.arrivals zs) (arrived m.arrivals ws)
+    ∙ ap (λ l. all ++ l) (ap (λ (i : ℕ). arrived s.arrivals zs ++ arrived i ws) k ∙ sym (arrived-append s.arrivals zs ws)) in
+    let d : (done ++ taken (r ∷ [])) ++ taken rs ≡ done ++ taken (r ∷ rs) = append_assoc done (taken (r ∷ [])) (taken rs) ∙ ap (λ l. done ++ l) (sym (taken_cons r rs)) in
+    subst (λ l. Account l (done ++ taken (r ∷ rs)) t) e (subst (λ l. Account ((all ++ arrived s.arrivals zs) ++ arrived m.arrivals ws) l t) d n)
+
 run_account : (cs : List Call) (zss : List (List SourceAnswer)) (rs : List Replied) (all done : List (Seen × ℕ)) (s t : Shelf) → Account all done s → Run s cs zss rs t
     → Account (all ++ arrived s.arrivals (joined zss)) (done ++ taken rs) t
 run_account [] [] [] all done s t a h = subst (λ (y : Shelf). Account (all ++ []) (done ++ []) y) (sym h) (subst (λ l. Account l (done ++ []) s) (sym (append-nil all)) (subst (λ l. Account all l s) (sym (append-nil done)) a))
@@ -216,12 +230,7 @@ run_account (c ∷ cs) [] rs all done s t a h = absurd h
 run_account (c ∷ cs) (zs ∷ zss) [] all done s t a h = absurd h
 run_account (c ∷ cs) (zs ∷ zss) (r ∷ rs) all done s t a h =
     let k = step_account (request c) zs all done s h.0 r a h.1 in
-    let n = run_account cs zss rs (all ++ arrived s.arrivals zs) (done ++ taken (r ∷ [])) h.0 t k.0 h.2 in
-    let e : (all ++ arrived s.arrivals zs) ++ arrived h.0.arrivals (joined zss) ≡ all ++ arrived s.arrivals (zs ++ joined zss) =
-    append_assoc all (arrived s.arrivals zs) (arrived h.0.arrivals (joined zss))
-    ∙ ap (λ l. all ++ l) (ap (λ (i : ℕ). arrived s.arrivals zs ++ arrived i (joined zss)) k.1 ∙ sym (arrived-append s.arrivals zs (joined zss))) in
-    let d : (done ++ taken (r ∷ [])) ++ taken rs ≡ done ++ taken (r ∷ rs) = append_assoc done (taken (r ∷ [])) (taken rs) ∙ ap (λ l. done ++ l) (sym (taken_cons r rs)) in
-    subst (λ l. Account l (done ++ taken (r ∷ rs)) t) e (subst (λ l. Account ((all ++ arrived s.arrivals zs) ++ arrived h.0.arrivals (joined zss)) l t) d n)
+    account_more zs (joined zss) r rs all done s h.0 t k.1 (run_account cs zss rs (all ++ arrived s.arrivals zs) (done ++ taken (r ∷ [])) h.0 t k.0 h.2)
 
 arrived_gave : (n : ℕ) (zs : List SourceAnswer) → arrived n zs ≡ numbered n (gave zs)
 arrived_gave n [] = refl

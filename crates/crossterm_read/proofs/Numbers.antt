@@ -8,7 +8,8 @@ use Rattle.crossterm_read.specs.Shelf.{Shelf, Arrives, next_number}
 use Rattle.crossterm_read.specs.Steps.{TakeSays}
 use Rattle.crossterm_read.proofs.Asking.{all_push}
 
-low_next : (n : ℕ) → IsLow (next_number n) → (next_number n ≡ n + 1) × IsLow n
+-- The number before a low one is low, and one less.
+pub low_next : (n : ℕ) → IsLow (next_number n) → (next_number n ≡ n + 1) × IsLow n
 low_next n h = (omega arith, omega arith)
 
 below_later : (xs : List (Seen × ℕ)) (m n : ℕ) → m ≤ n → AllByRecursion (λ k. k.1 < m) xs → AllByRecursion (λ k. k.1 < n) xs
@@ -20,7 +21,7 @@ rise_push [] x n r b = (tt, tt)
 rise_push (y ∷ ys) x n r b = (all_push (λ k. y.1 < k.1) ys (x, n) r.0 b.0, rise_push ys x n r.1 b.1)
 
 -- One more is held.
-orderly_more : (held : List (Seen × ℕ)) (n : ℕ) (x : Seen) → IsOrderly held n → IsOrderly (held ++ (x, n) ∷ []) (next_number n)
+pub orderly_more : (held : List (Seen × ℕ)) (n : ℕ) (x : Seen) → IsOrderly held n → IsOrderly (held ++ (x, n) ∷ []) (next_number n)
 orderly_more held n x h low =
     let l = low_next n low in
     let s = h l.1 in
@@ -30,7 +31,8 @@ orderly_more held n x h low =
       below = all_push (λ k. k.1 < next_number n) held (x, n) (below_later held n (next_number n) (omega arith) s.below) (omega arith);
     }
 
-all_remove : (P : Seen × ℕ → Type 0) (xs : List (Seen × ℕ)) (i : ℕ) → AllByRecursion P xs → AllByRecursion P (remove xs i)
+-- What holds of each holds of each that is left.
+pub all_remove : (P : Seen × ℕ → Type 0) (xs : List (Seen × ℕ)) (i : ℕ) → AllByRecursion P xs → AllByRecursion P (remove xs i)
 all_remove P [] zero a = tt
 all_remove P [] (suc i) a = tt
 all_remove P (x ∷ xs) zero a = a.1

@@ -1,5 +1,5 @@
 -- Asking with a limit of time.
-use Rattle.std.proofs.Common.{◌≡◌, ◌≢◌, ◌⊎◌, ◌≤◌, ◌-◌, ℕ, Bool, true, false, List, [], ◌∷◌, ◌++◌, length, Option, None, Some, Ok, inl, inr, refl, sym, ap, subst, ◌∙◌, arith, length-append}
+use Rattle.std.proofs.Common.{◌≡◌, ◌≢◌, ◌⊎◌, ◌≤◌, ◌-◌, ℕ, Bool, true, false, List, [], ◌∷◌, ◌++◌, length, Option, None, Some, Ok, inl, inr, ⊎_elim, refl, sym, ap, subst, ◌∙◌, arith, length-append}
 use mathlib.Core.Bool.{true≢false}
 use Rattle.std.specs.Prelude.{is_some}
 use Rattle.std.specs.Duration.{as_nanos}
@@ -15,14 +15,15 @@ use Rattle.crossterm_read.specs.Answers.{SourceAnswer, Failed}
 use Rattle.crossterm_read.specs.Device.{AsksEach, IsAtOnce}
 use Rattle.crossterm_read.specs.declared.read.reader.AtWake.{AtWake}
 use Rattle.crossterm_read.specs.declared.read.reader.AtWake.TheVariants.{Stops, GoesOn}
-use Rattle.crossterm_read.specs.Replies.{ToPoll, ToTake, Fault}
+use Rattle.crossterm_read.specs.Replies.{Replied, ToPoll, ToTake, Fault}
 use Rattle.crossterm_read.specs.Shelf.{ReaderState}
 use Rattle.crossterm_read.specs.Steps.{first_admitted, Asks, held_already, came, broke, tried, refused, End, Ready, Tried, Broke, Asked, ReadStep, RefusedOnlyWithoutRoom, TakeSays, end_of}
 use Rattle.crossterm_read.specs.Waiting.{AskedInTime, AsksInTime, EndsWoken, TimedPoll, WasLeft}
 use Rattle.crossterm_read.proofs.Asking.{asks_more}
 use Rattle.crossterm_read.proofs.Ready.{ready_there}
 
-all_map : {X : Type 0} (P Q : X → Type 0) (xs : List X) → ((x : X) → P x → Q x) → AllByRecursion P xs → AllByRecursion Q xs
+-- What holds of each, made another.
+pub all_map : {X : Type 0} (P Q : X → Type 0) (xs : List X) → ((x : X) → P x → Q x) → AllByRecursion P xs → AllByRecursion Q xs
 all_map P Q [] f a = tt
 all_map P Q (x ∷ xs) f a = (f x a.0, all_map P Q xs f a.1)
 
@@ -207,6 +208,20 @@ module _ {S : Type 0} (drawn : S → List SourceAnswer → S → Type 0) (f : Se
       begun_of : (a.answers ≢ []) ⊎ (Broke kind ≡ Broke OutOfMemory) → (a.answers ≢ []) ⊎ (Fault kind ≡ Fault OutOfMemory)
       begun_of (inl x) = inl x
       begun_of (inr e) = inr (ap Fault (kind_of kind OutOfMemory e))
+
+module _ {S : Type 0} (drawn : S → List SourceAnswer → S → Type 0) (f : Seen → Bool) (limit : Option Duration) (before start last : ℕ) (s t : ReaderState S) where
+  -- A poll in time from a moment on is one in time from an earlier one on.
+  pub timed_longer : (r : Replied) → before ≤ start → TimedPoll drawn f limit start last s t r → TimedPoll drawn f limit before last s t r
+  timed_longer r h p = record {
+    tries = p.tries;
+    answers = p.answers;
+    drawn_so = p.drawn_so;
+    step = p.step;
+    memory = p.memory;
+    patient = λ e. ⊎_elim (λ w. inl w) (λ q. inr (reaches_later limit (last - start) (last - before) (omega arith) q)) (p.patient e);
+    begun = p.begun;
+    once = p.once;
+  }
 
 module _ {S : Type 0} (drawn : S → List SourceAnswer → S → Type 0) (f : Seen → Bool) (limit : Option Duration) (none : limit ≡ None) (start last : ℕ) (s m : ReaderState S) where
   unlimited : Reaches limit (last - start) → ⊥

@@ -2,11 +2,16 @@ pub mod Answers
 pub mod Blocks
 pub mod Calls
 pub mod Device
+pub mod Entries
+pub mod History
 pub mod Numbers
 pub mod Queries
 pub mod Replies
 pub mod Scripted
+pub mod Seats
+pub mod Shared
 pub mod Shelf
+pub mod Slot
 pub mod Steps
 pub mod Turns
 pub mod Waiting

@@ -3,21 +3,27 @@ use Rattle.std.specs.Prelude.{◌≡◌, ◌≢◌, ◌⊎◌, ◌≤◌, ◌-�
 use Rattle.std.specs.Duration.{as_nanos}
 use Rattle.std.specs.Option.{option_map}
 use Rattle.std.specs.declared.io.ErrorKind.{ErrorKind}
-use Rattle.std.specs.declared.io.ErrorKind.TheVariants.{OutOfMemory, Interrupted}
+use Rattle.std.specs.declared.io.ErrorKind.TheVariants.{OutOfMemory, Interrupted, Other}
 use Rattle.std.specs.declared.time.Duration.{Duration}
+use Rattle.crossterm_types.specs.Admitting.{is_flags_reply}
 use Rattle.crossterm_types.specs.Seen.{Seen}
 use Rattle.crossterm_types.specs.Timing.{Reaches, left_over}
 use Rattle.crossterm_types.specs.declared.event.timeout.PollTimeout.{PollTimeout}
 use Rattle.crossterm_read.specs.Answers.{SourceAnswer, Failed}
 use Rattle.crossterm_read.specs.Device.{AsksEach, AsksWith, IsAtOnce}
+use Rattle.crossterm_read.specs.Queries.{QueryStep, KeyboardStep}
 use Rattle.crossterm_read.specs.Replies.{Replied, ToPoll, Fault}
 use Rattle.crossterm_read.specs.Shelf.{ReaderState, Arrives}
 use Rattle.crossterm_read.specs.Steps.{Asks, BrokeWhere, End, Broke, Tried, PollStep, RefusedOnlyWithoutRoom, first_admitted}
 use Rattle.crossterm_read.specs.declared.read.reader.AtWake.{AtWake}
 
+-- The last answer is a fault of this kind.
+abbrev pub EndsWith : ErrorKind → List SourceAnswer → Type 0
+EndsWith kind zs = (ys : List SourceAnswer) × (zs ≡ ys ++ Failed kind ∷ [])
+
 -- The last answer is a wake-up.
 abbrev pub EndsWoken : List SourceAnswer → Type 0
-EndsWoken zs = (ys : List SourceAnswer) × (zs ≡ ys ++ Failed Interrupted ∷ [])
+EndsWoken zs = EndsWith Interrupted zs
 
 -- The device was asked once at most, with what is left of the limit at this moment.
 abbrev pub AsksInTime : PollTimeout → ℕ → List (Option Duration) → List (Option Duration) → Type 0
@@ -59,3 +65,25 @@ pub record TimedPoll {S : Type 0} (drawn : S → List SourceAnswer → S → Typ
   pub patient : r ≡ ToPoll false → EndsWoken answers ⊎ Reaches limit (after - before)
   pub begun : first_admitted f s.shelf.held ≡ None → (answers ≢ []) ⊎ (r ≡ Fault OutOfMemory)
   pub once : IsAtOnce limit → length answers ≤ 1
+
+-- A query with a limit of time is a query with some number of tries. It fails with Other, where the source neither woke nor failed so, only where the limit
+-- has passed since the moment before.
+pub record TimedQuery {S : Type 0} (drawn : S → List SourceAnswer → S → Type 0) (f : Seen → Bool) (limit : Option Duration) (before after : ℕ) (s t : ReaderState S) (r : Replied) : Type 0 where
+  pub tries : ℕ
+  pub answers : List SourceAnswer
+  pub drawn_so : drawn s.source answers t.source
+  pub step : QueryStep f tries answers s.shelf t.shelf r
+  pub memory : (kind : ErrorKind) → r ≡ Fault kind → RefusedOnlyWithoutRoom s.room answers kind
+  pub patient : r ≡ Fault Other → EndsWoken answers ⊎ EndsWith Other answers ⊎ Reaches limit (after - before)
+  pub begun : first_admitted f s.shelf.held ≡ None → (answers ≢ []) ⊎ (r ≡ Fault OutOfMemory)
+
+-- A query for the keyboard's flags, likewise: its second wait has some number of tries of its own.
+pub record TimedKeyboard {S : Type 0} (drawn : S → List SourceAnswer → S → Type 0) (limit : Option Duration) (before after : ℕ) (s t : ReaderState S) (r : Replied) : Type 0 where
+  pub tries : ℕ
+  pub again : ℕ
+  pub answers : List SourceAnswer
+  pub drawn_so : drawn s.source answers t.source
+  pub step : KeyboardStep tries again answers s.shelf t.shelf r
+  pub memory : (kind : ErrorKind) → r ≡ Fault kind → RefusedOnlyWithoutRoom s.room answers kind
+  pub patient : r ≡ Fault Other → EndsWoken answers ⊎ EndsWith Other answers ⊎ Reaches limit (after - before)
+  pub begun : first_admitted is_flags_reply s.shelf.held ≡ None → (answers ≢ []) ⊎ (r ≡ Fault OutOfMemory)

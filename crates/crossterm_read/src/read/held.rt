@@ -107,6 +107,13 @@ impl<A: Allocator> HeldEvents<A> {
         }
     }
 
+    // How many events arrived, as far as the numbers go.
+    pub(crate) fn arrivals(&self) -> u64
+        ensures { result ≡ self.now.shelf.arrivals }
+    {
+        self.arrivals
+    }
+
     // The events, in the order of their arrival.
     pub(crate) fn iter(&self) -> Held<'_, A>
         ensures { result ≡ map (λ h. h.0) self.now.shelf.held }

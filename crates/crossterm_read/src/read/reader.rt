@@ -3,7 +3,7 @@ ghost use Rattle.std.specs.Prelude.{◌≡◌, ◌≢◌, ◌⊎◌, ◌≤◌, 
 ghost use Rattle.std.specs.Bool.{OnTrue, OnFalse};
 ghost use Rattle.std.specs.IoError.{error_kind};
 ghost use Rattle.std.specs.Option.{option_map};
-ghost use Rattle.std.specs.declared.io.ErrorKind.TheVariants.{Interrupted};
+ghost use Rattle.std.specs.declared.io.ErrorKind.TheVariants.{Interrupted, OutOfMemory};
 ghost use Rattle.crossterm_types.specs.Seen.{Seen, seen};
 ghost use Rattle.crossterm_read.specs.Answers.{SourceAnswer, IsOwn};
 ghost use Rattle.crossterm_read.specs.Device.{AsksWith, AsksAtOnce};
@@ -15,7 +15,7 @@ ghost use Rattle.crossterm_read.specs.declared.read.reader.AtWake.TheVariants.{S
 
 use crate::read::Held;
 use crate::read::held::HeldEvents;
-use crate::source::EventSource;
+use crate::source::{EventSource, Waker};
 use crossterm_types::event::InternalEvent;
 use crossterm_types::event::filter::Filter;
 use std::alloc::{Allocator, Global};
@@ -84,6 +84,21 @@ impl<S: EventSource<A>, A: Allocator> InternalEventReader<S, A> {
             held: HeldEvents::new(alloc),
             source,
         }
+    }
+
+    // A waker of the source.
+    pub(crate) fn waker(&self) -> io::Result<Waker>
+        ensures waker { IfOk result (S.wakes self.now.source) }
+        ensures err { IfErr result (λ e. error_kind e ≡ OutOfMemory) }
+    {
+        self.source.waker()
+    }
+
+    // How many events arrived, as far as the numbers go.
+    pub(crate) fn arrivals(&self) -> u64
+        ensures { result ≡ self.now.shelf.arrivals }
+    {
+        self.held.arrivals()
     }
 
     // The place of the first held event that is admitted.

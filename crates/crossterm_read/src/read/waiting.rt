@@ -23,7 +23,7 @@ use std::time::Duration;
 
 // The clock of a call that has no limit. It stands still.
 #[derive(Drop)]
-struct Still;
+pub(crate) struct Still;
 
 impl Clock for Still {
     ghost told = { λ _. 0 };
@@ -124,6 +124,26 @@ impl<S: EventSource<A>, A: Allocator> InternalEventReader<S, A> {
         ensures err { IfErr result (λ e. IsOwn (error_kind e) ⊎ (S.failed self.old.source < S.failed self.new.source)) }
     {
         let timeout = PollTimeout::new(limit, clock.now());
+        self.poll_until(rt, timeout, clock, filter)
+    }
+
+    // Whether an event is held that the filter admits, within what is left of the limit.
+    pub(crate) fn poll_until<F: Filter, C: Clock, R: Wait>(
+        &mut self,
+        rt: &R,
+        timeout: PollTimeout,
+        clock: &mut C,
+        filter: &F,
+    ) -> io::Result<bool>
+        requires { as_nanos timeout.start ≤ C.told clock.old }
+        ensures step { TimedPoll S.drawn (F.admits filter.now) timeout.limit (as_nanos timeout.start) (C.told clock.new) self.old self.new (poll_reply result) }
+        ensures limits { AsksEach (WasLeft timeout (C.told clock.new)) (S.asked self.old.source) (S.asked self.new.source) }
+        ensures later { C.told clock.old ≤ C.told clock.new }
+        ensures room { capacity self.old ≤ capacity self.new }
+        ensures rise { S.failed self.old.source ≤ S.failed self.new.source }
+        ensures steady { IfOk result (λ ready. IsTrue ready → S.failed self.new.source ≡ S.failed self.old.source) }
+        ensures err { IfErr result (λ e. IsOwn (error_kind e) ⊎ (S.failed self.old.source < S.failed self.new.source)) }
+    {
         match self.ask_in_time(rt, timeout, clock, filter, AtWake::Stops) {
             Ok(ready) => Ok(ready),
             Err(error) => {

@@ -1,8 +1,13 @@
 //! Wakes who waits for a device.
-ghost use Rattle.std.specs.Prelude.{IsOk};
-ghost use Rattle.crossterm_read.specs.Waking.{IsSure};
+ghost use Rattle.std.specs.Prelude.{◌≡◌, IsOk, IfOk, IfErr};
+ghost use Rattle.std.specs.IoError.{error_kind};
+ghost use Rattle.std.specs.declared.io.ErrorKind.TheVariants.{OutOfMemory};
+ghost use Rattle.crossterm_read.specs.Waking.{IsSure, WakesAs};
+ghost use Rattle.crossterm_read.specs.declared.source.waker.Kind.TheVariants.{Flag, Nobody};
 
 use std::io;
+use std::sync::Arc;
+use std::sync::atomic::{AtomicBool, Ordering};
 
 /// Wakes who waits for a device, which then answers `Woken`.
 #[derive(Debug, Drop)]
@@ -14,22 +19,47 @@ pub struct Waker {
 #[derive(Debug, Drop)]
 enum Kind {
     Nobody,
+    Flag(Arc<AtomicBool>),
 }
 
 impl Waker {
     /// A waker that wakes nobody.
     pub fn none() -> Waker
-        ensures { IsSure result }
+        ensures nobody { result.kind ≡ Nobody }
+        ensures sure { IsSure result }
     {
         Waker { kind: Kind::Nobody }
     }
 
-    /// Wakes who waits. A waker that is sure never fails.
+    /// A waker that raises a flag, for a device that looks at it.
+    pub fn from_flag(flag: Arc<AtomicBool>) -> Waker
+        ensures flag { result.kind ≡ Flag flag }
+        ensures sure { IsSure result }
+    {
+        Waker {
+            kind: Kind::Flag(flag),
+        }
+    }
+
+    /// The same waker, for another who wakes. The error is `OutOfMemory`.
+    pub fn share(&self) -> io::Result<Waker>
+        ensures same { IfOk result (WakesAs self.now) }
+        ensures err { IfErr result (λ e. error_kind e ≡ OutOfMemory) }
+    {
+        match &self.kind {
+            Kind::Nobody => Ok(Waker::none()),
+            Kind::Flag(flag) => Ok(Waker::from_flag(Arc::try_clone(flag)?)),
+        }
+    }
+
+    /// Wakes who waits. It waits for nobody. A waker that is sure never fails.
     pub fn wake(&self) -> io::Result<()>
         ensures { IsSure self.now → IsOk result }
     {
-        match self.kind {
-            Kind::Nobody => Ok(()),
+        match &self.kind {
+            Kind::Nobody => {}
+            Kind::Flag(flag) => flag.store(true, Ordering::SeqCst),
         }
+        Ok(())
     }
 }

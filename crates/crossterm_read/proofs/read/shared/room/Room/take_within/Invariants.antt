@@ -1,0 +1,12 @@
+use Rattle.std.proofs.Common.{◌≡◌, ◌≤◌}
+use Rattle.crossbeam_queue.specs.Passes.{view, IsSamePass}
+use Rattle.crossterm_read.proofs.read.shared.room.Room.take_within.Given as goal
+
+abbrev pub invariant-loop : goal.invariant-loop
+invariant-loop g l = record {
+  seat : IsSamePass l.fn.seat l.seat;
+  same : view l.seat ≡ view l.fn.seat;
+  later : g.C.Clock.told l.fn.clock ≤ g.C.Clock.told l.clock;
+  can : (goal.iterator-loop g).can_next l.iterator';
+  ends : (goal.iterator-loop g).is_finite l.iterator';
+}

@@ -1,0 +1,170 @@
+-- One legal history of the calls of all passes of a shared reader.
+use Rattle.std.specs.Prelude.{◌≡◌, ◌≢◌, ◌≤◌, ◌<◌, ◌==◌, ℕ, Bool, true, false, cond, List, [], ◌∷◌, ◌++◌, map, Option, Some, None, is_some, nat_lt}
+use Rattle.std.specs.List.{AllByRecursion, flat_map, list_all}
+use Rattle.std.specs.List.Sorted.{IsPermutation}
+use Rattle.crossterm_types.specs.Seen.{Seen}
+use Rattle.crossterm_types.specs.declared.event.filter.AnyFilter.{AnyFilter}
+use Rattle.crossterm_types.specs.declared.event.filter.AnyFilter.TheVariants as filter
+use Rattle.crossterm_read.specs.Answers.{SourceAnswer}
+use Rattle.crossterm_read.specs.Calls.{Request, Poll, Read, Take, Position, Keyboard, Step, IsWithin, taken}
+use Rattle.crossterm_read.specs.Numbers.{IsLow}
+use Rattle.crossterm_read.specs.Replies.{Replied, ToPoll, ToTake, ToQuery, Fault}
+use Rattle.crossterm_read.specs.Shelf.{ReaderState, arrived, numbered_after}
+
+-- One call: whose it was, what was asked, what the source answered, and the reply.
+pub record Entry : Type 0 where
+  pub by : ℕ
+  pub call : Request
+  pub answers : List SourceAnswer
+  pub reply : Replied
+
+-- The calls of one pass, in order.
+abbrev pub calls_by : ℕ → List Entry → List Entry
+calls_by by [] = []
+calls_by by (e ∷ es) = cond (e.by == by) (e ∷ calls_by by es) (calls_by by es)
+
+-- Each of these calls is one of so many passes, which are numbered from 0.
+abbrev pub are_of : ℕ → List Entry → Bool
+are_of passes log = list_all (λ e. nat_lt e.by passes) log
+
+-- The history begins with these calls.
+abbrev pub StartsWith : List Entry → List Entry → Type 0
+StartsWith log seen = (rest : List Entry) × (log ≡ seen ++ rest)
+
+-- What the source answered in these calls, in order.
+abbrev pub answers_of : List Entry → List SourceAnswer
+answers_of log = flat_map (λ e. e.answers) log
+
+-- The events that these calls took, each with its arrival number.
+abbrev pub taken_by : List Entry → List (Seen × ℕ)
+taken_by log = taken (map (λ e. e.reply) log)
+
+-- By which filter a call took, with the arrival number of what it took.
+abbrev pub took : Request → Replied → List (AnyFilter × ℕ)
+took (Read tries f) (ToTake (Some x)) = (f, x.1) ∷ []
+took (Take f) (ToTake (Some x)) = (f, x.1) ∷ []
+took (Position tries) (ToTake (Some x)) = (filter.Cursor, x.1) ∷ []
+took (Keyboard tries again) (ToTake (Some x)) = (filter.Flags, x.1) ∷ []
+took (Keyboard tries again) (ToQuery x (Some y)) = (filter.Flags, x.1) ∷ (filter.Attributes, y.1) ∷ []
+took (Keyboard tries again) (ToQuery x None) = (filter.Flags, x.1) ∷ []
+took c r = []
+
+abbrev pub takes_of : List Entry → List (AnyFilter × ℕ)
+takes_of log = flat_map (λ e. took e.call e.reply) log
+
+-- Of two that were taken by one filter the later one has the greater number.
+abbrev pub RiseByFilter : List (AnyFilter × ℕ) → Type 0
+RiseByFilter [] = Unit {0}
+RiseByFilter (x ∷ xs) = AllByRecursion (λ y. y.0 ≡ x.0 → x.1 < y.1) xs × RiseByFilter xs
+
+-- No two have one number.
+abbrev pub Differ : List (Seen × ℕ) → Type 0
+Differ [] = Unit {0}
+Differ (x ∷ xs) = AllByRecursion (λ y. x.1 ≢ y.1) xs × Differ xs
+
+-- All events of a history: those that were held when the reader was opened, and those that arrived since, each with its number.
+abbrev pub all_events : {S : Type 0} → ReaderState S → List Entry → List (Seen × ℕ)
+all_events o log = o.shelf.held ++ arrived o.shelf.arrivals (answers_of log)
+
+-- Of all events of a history each was taken once or is held, and what is held stands in the order of arrival. Until the numbers have come to the greatest
+-- u64, so while fewer than 2^64 - 1 events have arrived, no event that was taken has the number of another, and what one filter takes has rising numbers.
+pub record EachOnce {S : Type 0} (o : ReaderState S) (log : List Entry) (t : ReaderState S) : Type 0 where
+  pub once : IsPermutation (all_events o log) (taken_by log ++ t.shelf.held)
+  pub in_order : IsWithin t.shelf.held (all_events o log)
+  pub arrivals : t.shelf.arrivals ≡ numbered_after o.shelf.arrivals (answers_of log)
+  pub differ : IsLow t.shelf.arrivals → Differ (taken_by log)
+  pub rise : IsLow t.shelf.arrivals → RiseByFilter (takes_of log)
+
+-- What a pass heard when it met another: the number of that one, what that one had seen, and what it had seen itself.
+pub record Meeting : Type 0 where
+  pub other : ℕ
+  pub theirs : List Entry
+  pub ours : List Entry
+
+-- What a pass knows: its number, how many passes the reader has, for how many of these it stands besides itself, the reader as it was opened, the history so
+-- far, its own calls in that, whether it has the reader, and whom it met last.
+pub record Known (S : Type 0) : Type 0 where
+  pub number : ℕ
+  pub passes : ℕ
+  pub spare : ℕ
+  pub opening : Option (ReaderState S)
+  pub seen : List Entry
+  pub mine : List Entry
+  pub has : Bool
+  pub met : Option Meeting
+
+-- A pass with this number, of so many of a reader that stood so when it was opened. It has seen nothing.
+abbrev pub opened : {S : Type 0} → ReaderState S → ℕ → ℕ → Known S
+opened o passes number = record { number = number; passes = passes; spare = 0; opening = Some o; seen = []; mine = []; has = false; met = None }
+
+-- A pass stands for itself alone. Its calls stand in what it has seen, each once and in the order in which it made them, and every call there is one of a
+-- pass of the reader.
+pub record Sits {S : Type 0} (v : Known S) : Type 0 where
+  pub opened : is_some v.opening ≡ true
+  pub number : v.number < v.passes
+  pub alone : v.spare ≡ 0
+  pub mine : calls_by v.number v.seen ≡ v.mine
+  pub of_passes : are_of v.passes v.seen ≡ true
+
+-- The arrival number of the event that was taken last.
+abbrev pub last_of : Option ℕ → Replied → Option ℕ
+last_of n (ToTake (Some x)) = Some x.1
+last_of n (ToTake None) = n
+last_of n (ToQuery x (Some y)) = Some y.1
+last_of n (ToQuery x None) = Some x.1
+last_of n (ToPoll ready) = n
+last_of n (Fault kind) = n
+
+abbrev pub last_from : Option ℕ → List Entry → Option ℕ
+last_from n [] = n
+last_from n (e ∷ es) = last_from (last_of n e.reply) es
+
+module _ {S : Type 0} (drawn : S → List SourceAnswer → S → Type 0) where
+  -- A call leads from one state of the reader to another, as one of a reader of one thread does.
+  abbrev pub Makes : Entry → ReaderState S → ReaderState S → Type 0
+  Makes e s t = drawn s.source e.answers t.source × Step e.call e.answers s.shelf t.shelf e.reply
+
+  -- A legal history: each call follows from the state that the one before left, and the last leaves t.
+  abbrev pub Runs : ReaderState S → List Entry → ReaderState S → Type 0
+  Runs s [] t = s ≡ t
+  Runs s (e ∷ es) t = (m : ReaderState S) × Makes e s m × Runs m es t
+
+  -- What one call does to what its pass knows. Calls of others may have come between; then comes this one, from the state that these left: no event that the
+  -- pass has seen arrive is missing there. So the pass sees one legal history, which begins with all that it had seen, and in which this call is the last.
+  pub record Extends (made : ReaderState S → Entry → ReaderState S → Type 0) (v w : Known S) : Type 0 where
+    pub opening : ReaderState S
+    pub between : List Entry
+    pub call : Entry
+    pub found : ReaderState S
+    pub left : ReaderState S
+    pub such : made found call left
+    pub by : call.by ≡ v.number
+    pub opened : v.opening ≡ Some opening
+    pub before : Runs opening (v.seen ++ between) found
+    pub makes : Makes call found left
+    pub others : calls_by v.number between ≡ []
+    pub after : w ≡ record v { seen = (v.seen ++ between) ++ call ∷ []; mine = v.mine ++ call ∷ [] }
+    pub fresh : numbered_after opening.shelf.arrivals (answers_of v.seen) ≤ found.shelf.arrivals
+    pub each_once : EachOnce opening w.seen left
+
+  -- Two passes that met: the one sees one legal history that begins with all that it had seen, and with all that the other had seen.
+  pub record Meets (v other w : Known S) : Type 0 where
+    pub opening : ReaderState S
+    pub left : ReaderState S
+    pub opened : v.opening ≡ Some opening
+    pub runs : Runs opening w.seen left
+    pub each_once : EachOnce opening w.seen left
+    pub ours : StartsWith w.seen v.seen
+    pub theirs : StartsWith w.seen other.seen
+    pub apart : v.number ≢ other.number
+    pub kept : w ≡ record v { seen = w.seen; met = w.met }
+
+  -- A pass by which the reader was taken out for good: it stands as one legal history left it, which begins with all that the pass had seen.
+  pub record Closes (v : Known S) (r : ReaderState S) (w : Known S) : Type 0 where
+    pub opening : ReaderState S
+    pub between : List Entry
+    pub opened : v.opening ≡ Some opening
+    pub runs : Runs opening (v.seen ++ between) r
+    pub others : calls_by v.number between ≡ []
+    pub each_once : EachOnce opening (v.seen ++ between) r
+    pub after : w ≡ record v { seen = v.seen ++ between; has = true }

@@ -1,0 +1,19 @@
+-- What a clause says of a pass.
+use Rattle.std.specs.Prelude.{◌≡◌, ℕ, Bool, false}
+use Rattle.crossbeam_queue.specs.Passes.{view}
+use Rattle.crossbeam_queue.specs.declared.array_queue.Slotted.{Slotted}
+use Rattle.crossterm_read.specs.History.{Known}
+use Rattle.crossterm_read.specs.declared.read.shared.pass.Pass.{Pass}
+
+module _ {S A : Type 0} where
+  -- What the pass knows.
+  abbrev pub knows : Pass S A → Known S
+  knows p = view p.seat
+
+  -- The number of the pass.
+  abbrev pub number : Pass S A → ℕ
+  number p = (knows p).number
+
+-- The pass is one of those of this slot, and it doesn't have the reader.
+abbrev pub IsSeatOf : {S A T V Q : Type 0} → Slotted T V Q A → Pass S A → Type 0
+IsSeatOf slot p = (p.seat.table_id ≡ slot.table.shared.table_id) × ((knows p).has ≡ false)

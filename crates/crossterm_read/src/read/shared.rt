@@ -1,0 +1,10 @@
+//! One reader for many threads.
+
+mod pass;
+mod reader;
+mod room;
+mod rule;
+mod view;
+
+pub use pass::Pass;
+pub use reader::EventReader;

@@ -1,0 +1,118 @@
+//! The rule of the slot, and what each step on it tells.
+ghost use Rattle.std.specs.Prelude.{◌≡◌, ℕ, List, [], ⊤};
+ghost use Rattle.crossterm_read.specs.History.{Entry};
+ghost use Rattle.crossterm_read.specs.Slot.{Kept, Learnt, Put, Taken, first_of, newcomer, one_less, one_more, taught};
+
+use crate::read::InternalEventReader;
+use crate::read::shared::view::View;
+use crate::source::EventSource;
+use crossbeam_queue::protocol::{Join, Lesson, Outcome, Protocol, Split};
+use crossbeam_queue::{Pass, RuledArrayQueue};
+use std::alloc::Allocator;
+use std::marker::{Brand, PhantomData};
+
+/// All calls stand in one legal history.
+pub struct OneHistory;
+
+impl<S: EventSource<A>, A: Allocator> Protocol<InternalEventReader<S, A>, View<S>> for OneHistory {
+    ghost holds = { Kept S.drawn };
+
+    ghost first = { newcomer };
+}
+
+/// For how many passes besides itself the first one stands.
+pub trait Others {
+    ghost others: { ℕ };
+}
+
+impl Others for Brand {
+    ghost others = { 0 };
+}
+
+/// The reader is put in for the first time.
+pub struct Opens<M>(PhantomData<M>);
+
+impl<S: EventSource<A>, A: Allocator, M: Others> Outcome<InternalEventReader<S, A>, View<S>>
+    for Opens<M>
+{
+    ghost then = { λ v x w. w ≡ first_of x M.others M.others };
+}
+
+impl<S: EventSource<A>, A: Allocator, M: Others> Lesson<InternalEventReader<S, A>, View<S>>
+    for Opens<M>
+{
+    ghost fact = { λ v items. items ≡ [] };
+}
+
+/// A pass is made of the first one.
+pub struct Another;
+
+impl<S> Split<View<S>> for Another {
+    ghost left = { one_less };
+
+    ghost right = { one_more };
+}
+
+/// The reader is taken out.
+pub struct Takes;
+
+impl<S: EventSource<A>, A: Allocator> Outcome<InternalEventReader<S, A>, View<S>> for Takes {
+    ghost then = { Taken S.drawn };
+}
+
+impl<S: EventSource<A>, A: Allocator> Lesson<InternalEventReader<S, A>, View<S>> for Takes {
+    ghost fact = { λ v items. ⊤ };
+}
+
+/// Which call was made, from which state of the reader to which.
+pub trait Made<T> {
+    ghost made: { T → Entry → T → Type 0 };
+}
+
+impl<T> Made<T> for Brand {
+    ghost made = { λ found call left. ⊤ };
+}
+
+/// The reader is put back, after one call.
+pub struct Puts<M>(PhantomData<M>);
+
+impl<S: EventSource<A>, A: Allocator, M: Made<InternalEventReader<S, A>>>
+    Outcome<InternalEventReader<S, A>, View<S>> for Puts<M>
+{
+    ghost then = { Put S.drawn M.made };
+}
+
+impl<S: EventSource<A>, A: Allocator, M: Made<InternalEventReader<S, A>>>
+    Lesson<InternalEventReader<S, A>, View<S>> for Puts<M>
+{
+    ghost fact = { λ v items. items ≡ [] };
+}
+
+/// With what a pass that another met is left.
+pub trait Left<V> {
+    ghost left: { V };
+}
+
+impl<S> Left<View<S>> for Brand {
+    ghost left = { newcomer };
+}
+
+/// A pass takes in what another has seen.
+pub struct TakesIn<M>(PhantomData<M>);
+
+impl<S, M: Left<View<S>>> Join<View<S>> for TakesIn<M> {
+    ghost both = { taught };
+
+    ghost spent = { M.left };
+}
+
+/// What is learnt then.
+pub struct OneAndTheSame;
+
+impl<S: EventSource<A>, A: Allocator> Lesson<InternalEventReader<S, A>, View<S>> for OneAndTheSame {
+    ghost fact = { λ v items. Learnt S.drawn v };
+}
+
+pub type Slot<S, A> = RuledArrayQueue<InternalEventReader<S, A>, View<S>, OneHistory, A>;
+
+pub type Seat<S, A> = Pass<InternalEventReader<S, A>, View<S>>;

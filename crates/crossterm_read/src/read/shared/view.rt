@@ -1,0 +1,15 @@
+//! What a pass knows.
+
+use std::marker::{Model, PhantomData};
+
+/// What a pass knows of the reader that it shares. It stands in proofs alone: no value of it is made.
+pub struct View<S>(PhantomData<S>);
+
+impl<S> Model for View<S> {
+    ghost use Rattle.crossterm_read.specs.History.{Known};
+    ghost use Rattle.crossterm_read.specs.Slot.{newcomer};
+
+    ghost Value = { Known S };
+
+    ghost view = { λ _. newcomer };
+}
