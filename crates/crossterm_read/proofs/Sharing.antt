@@ -1,13 +1,23 @@
 -- What a call of a shared reader does to what its pass knows.
 use Rattle.std.proofs.Common.{◌≡◌, ◌≢◌, ◌⊎◌, ℕ, zero, suc, ◌+◌, ◌-◌, ◌^◌, ◌<◌, ◌≤◌, Bool, List, [], ◌∷◌, ◌++◌, length, Option, Some, None, Result, Ok, Err, true, false, refl, sym, ap, ◌∙◌, subst, arith, append-nil}
-use Rattle.std.specs.Prelude.{is_some, IfSome, IfNone}
+use Rattle.std.specs.Prelude.{is_some, IfSome, IfNone, IfErr, IfOk}
 use Rattle.std.specs.List.{range_with_len}
 use Rattle.std.specs.declared.io.Error.{Error}
 use Rattle.crossterm_read.specs.Answers.{SourceAnswer}
 use Rattle.crossterm_read.specs.Shelf.{ReaderState}
 use Rattle.crossterm_read.specs.History.{Entry, Known, Sits, Runs, Makes, Extends, EachOnce, opened, Meets, Closes, Meeting, answers_of, are_of, calls_by, last_of, last_from}
 use Rattle.crossterm_read.specs.Numbers.{IsOrderly}
-use Rattle.crossterm_read.specs.Replies.{Replied, poll_reply}
+use Rattle.crossterm_read.specs.Calls.{Request, Step}
+use Rattle.crossterm_read.specs.Entries.{IsPoll}
+use Rattle.crossterm_read.specs.Replies.{Replied, Fault, ToTake, Came, Faulted, poll_reply, read_reply, read_said, last_said, shown}
+use Rattle.crossterm_types.specs.Admitting.{admitted}
+use Rattle.crossterm_types.specs.Seen.{Seen, seen}
+use Rattle.crossterm_types.specs.declared.event.filter.AnyFilter.{AnyFilter}
+use Rattle.std.specs.declared.time.Duration.{Duration}
+use Rattle.crossterm_types.specs.declared.event.InternalEvent.{InternalEvent}
+use Rattle.std.specs.IoError.{error_kind}
+use Rattle.std.specs.declared.io.ErrorKind.{ErrorKind}
+use Rattle.crossterm_read.proofs.Waiting.{fault_of, timed_longer}
 use Rattle.crossterm_read.specs.Slot.{Taken, Put, Brings, Learnt, first_of, one_less, one_more, taught}
 use Rattle.crossterm_read.proofs.EachOnce.{each_once}
 use Rattle.crossterm_read.proofs.Histories.{runs_snoc, not_fewer}
@@ -56,6 +66,24 @@ module _ {S : Type 0} (drawn : S → List SourceAnswer → S → Type 0) where
     of_passes = are_snoc v.passes v.seen p.0.call sits.of_passes (let by = p.0.by in let low = sits.number in omega arith);
   }
 
+  -- What a put asks, after a take and one call.
+  pub brings : (made : ReaderState S → Entry → ReaderState S → Type 0) (v u : Known S) (x y : ReaderState S) → Taken drawn v x u → (call : Request) (answers : List SourceAnswer) (r : Replied)
+      → made x (record { by = u.number; call = call; answers = answers; reply = r }) y → drawn x.source answers y.source → Step call answers x.shelf y.shelf r → Brings drawn made u y
+  brings made v u x y t call answers r such d step = subst (λ (k : Known S). k.number ≡ u.number → Brings drawn made k y) (sym t.after) of_taken refl
+    where
+      of_taken : v.number ≡ u.number → Brings drawn made (record v { seen = v.seen ++ t.between; has = true }) y
+      of_taken same = record {
+        opening = t.opening;
+        found = x;
+        call = record { by = u.number; call = call; answers = answers; reply = r };
+        such = such;
+        by = sym same;
+        opened = t.opened;
+        has = refl;
+        runs = t.runs;
+        makes = (d, step);
+      }
+
   -- A take, and then a put.
   pub extends : (made : ReaderState S → Entry → ReaderState S → Type 0) (v u w : Known S) (x y : ReaderState S) → v.has ≡ false → Taken drawn v x u → Put drawn made u y w → Extends drawn made v w
   extends made v u w x y idle t p = from_seen (subst (λ (k : Known S). Put drawn made k y w) t.after p)
@@ -84,6 +112,36 @@ module _ {S : Type 0} (drawn : S → List SourceAnswer → S → Type 0) where
             fresh = not_fewer drawn b.opening b.found v.seen t.between (subst (λ (o : ReaderState S). o.shelf.arrivals < 2 ^ 64) same t.fits) b.runs;
             each_once = subst (λ (k : Known S). EachOnce b.opening k.seen y) (sym after) (each_once drawn b.opening y log orderly ran);
           }
+
+  -- What is known of the call, said weaker.
+  pub extends_as : (made such : ReaderState S → Entry → ReaderState S → Type 0) → ((o : ReaderState S) (e : Entry) (t : ReaderState S) → made o e t → such o e t) → (v w : Known S) → Extends drawn made v w → Extends drawn such v w
+  extends_as made such so v w x = record {
+    opening = x.opening;
+    between = x.between;
+    call = x.call;
+    found = x.found;
+    left = x.left;
+    such = so x.found x.call x.left x.such;
+    by = x.by;
+    opened = x.opened;
+    before = x.before;
+    makes = x.makes;
+    others = x.others;
+    after = x.after;
+    fresh = x.fresh;
+    each_once = x.each_once;
+  }
+
+  -- A poll in time from a moment on is one from an earlier one on.
+  pub poll_longer : (asked : S → List (Option Duration)) (f : AnyFilter) (limit : Option Duration) (before start last : ℕ) (r : Replied) → before ≤ start
+      → (o : ReaderState S) (e : Entry) (t : ReaderState S) → IsPoll drawn asked f limit start last r o e t → IsPoll drawn asked f limit before last r o e t
+  poll_longer asked f limit before start last r h o e t p = record {
+    timed = timed_longer drawn (admitted f) limit before start last o t r h p.timed;
+    call = p.call;
+    answers = p.answers;
+    reply = p.reply;
+    limits = let l = p.limits in let low = l.2 in (l.0, l.1, omega arith, l.3);
+  }
 
   -- A take for good.
   pub closes : (v w : Known S) (x : ReaderState S) → Taken drawn v x w → Closes drawn v x w
@@ -147,6 +205,30 @@ pub last_after : {S : Type 0} (drawn : S → List SourceAnswer → S → Type 0)
 last_after drawn made r v u w x y last t p is before =
     ap (λ (n : Option ℕ). last_of n r) (before ∙ ap (λ k. last_from None k.mine) (sym t.after)) ∙ ap (last_of (last_from None u.mine)) (sym (is p.0.found p.0.call y p.0.such)) ∙ sym (last_from-push None u.mine p.0.call)
     ∙ ap (λ k. last_from None k.mine) (sym p.1)
+
+-- What a read's number says, and its memory.
+pub last_read : {A : Type 0} (n : Option ℕ) (r : Result (InternalEvent A × ℕ) Error) → last_of n (read_reply r) ≡ last_said n r
+last_read n (Ok x) = refl
+last_read n (Err e) = refl
+
+pub read_memory : {A : Type 0} (r : Result (InternalEvent A × ℕ) Error) (P : ErrorKind → Type 0) → IfErr r (λ e. P (error_kind e)) → (kind : ErrorKind) → read_reply r ≡ Fault kind → P kind
+read_memory (Ok x) P h kind e = absurd (take_not e)
+  where
+    take_not : {x : Option (Seen × ℕ)} → ToTake x ≡ Fault kind → ⊥
+    take_not e = absurd (cc)
+read_memory (Err x) P h kind e = subst P (fault_of (error_kind x) kind e) h
+
+-- What holds of a read's event with its number holds of it without.
+pub read_kept : {A : Type 0} (P : Seen → Type 0) (taken : Result (InternalEvent A × ℕ) Error) (r : Result (InternalEvent A) Error) → read_said r ≡ shown (read_reply taken) → IfOk taken (λ x. P (seen x.0)) → IfOk r (λ e. P (seen e))
+read_kept P (Ok x) (Ok y) e h = subst P (seen_of (seen x.0) (seen y) (sym e)) h
+  where
+    seen_of : (a b : Seen) → Came (Some a) ≡ Came (Some b) → a ≡ b
+    seen_of a b e = cc
+read_kept P (Err x) (Ok y) e h = absurd (came_not (seen y) (error_kind x) e)
+  where
+    came_not : (a : Seen) (kind : ErrorKind) → Came (Some a) ≡ Faulted kind → ⊥
+    came_not a kind e = cc
+read_kept P taken (Err y) e h = tt
 
 -- A poll takes nothing.
 pub last_poll : (n : Option ℕ) (r : Result Bool Error) → last_of n (poll_reply r) ≡ n

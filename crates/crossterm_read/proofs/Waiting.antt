@@ -119,7 +119,7 @@ poll_not b kind e = cc
 fault_not : (kind : ErrorKind) → Fault kind ≡ ToPoll false → ⊥
 fault_not kind e = cc
 
-fault_of : (k l : ErrorKind) → Fault k ≡ Fault l → k ≡ l
+pub fault_of : (k l : ErrorKind) → Fault k ≡ Fault l → k ≡ l
 fault_of k l e = cc
 
 module _ {S : Type 0} (drawn : S → List SourceAnswer → S → Type 0) (wake : AtWake) (f : Seen → Bool) (limit : Option Duration) (start last : ℕ) (s t : ReaderState S) where
@@ -211,7 +211,7 @@ module _ {S : Type 0} (drawn : S → List SourceAnswer → S → Type 0) (f : Se
 
 module _ {S : Type 0} (drawn : S → List SourceAnswer → S → Type 0) (f : Seen → Bool) (limit : Option Duration) (before start last : ℕ) (s t : ReaderState S) where
   -- A poll in time from a moment on is one in time from an earlier one on.
-  pub timed_longer : (r : Replied) → before ≤ start → TimedPoll drawn f limit start last s t r → TimedPoll drawn f limit before last s t r
+  abbrev pub timed_longer : (r : Replied) → before ≤ start → TimedPoll drawn f limit start last s t r → TimedPoll drawn f limit before last s t r
   timed_longer r h p = record {
     tries = p.tries;
     answers = p.answers;

@@ -6,7 +6,9 @@ use Rattle.std.specs.declared.io.Error.{Error}
 use Rattle.std.specs.declared.io.ErrorKind.{ErrorKind}
 use Rattle.crossterm_flags.specs.declared.enhancement.KeyboardEnhancementFlags.{KeyboardEnhancementFlags}
 use Rattle.crossterm_types.specs.Seen.{Seen, seen, CursorPosition, KeyboardFlags, PrimaryDeviceAttributes}
+use Rattle.crossterm_types.specs.declared.event.Event.{Event}
 use Rattle.crossterm_types.specs.declared.event.InternalEvent.{InternalEvent}
+use Rattle.crossterm_types.specs.declared.event.InternalEvent.TheVariants as internal
 use Rattle.crossterm_read.specs.Shelf.{kept}
 
 -- What a call replies: whether an event is there, the event that it took, the flags that it took and the attributes after them where they were
@@ -63,3 +65,21 @@ flags_seen None = PrimaryDeviceAttributes
 abbrev pub keyboard_said : Result (Option KeyboardEnhancementFlags) Error → Said
 keyboard_said (Ok flags) = Came (Some (flags_seen flags))
 keyboard_said (Err e) = Faulted (error_kind e)
+
+-- What a caller sees of an event of the user.
+abbrev pub event_seen : {A : Type 0} → Event A → Seen
+event_seen event = seen (internal.Event event)
+
+abbrev pub event_said : {A : Type 0} → Result (Event A) Error → Said
+event_said (Ok event) = Came (Some (event_seen event))
+event_said (Err e) = Faulted (error_kind e)
+
+-- The number of what was taken last, after a call that gives one where it takes.
+abbrev pub last_said : {X : Type 0} → Option ℕ → Result (X × ℕ) Error → Option ℕ
+last_said n (Ok x) = Some x.1
+last_said n (Err e) = n
+
+-- What a query for the keyboard's flags gives, with the number of what it took last.
+abbrev pub flags_said : Result (Option KeyboardEnhancementFlags × ℕ) Error → Said
+flags_said (Ok x) = Came (Some (flags_seen x.0))
+flags_said (Err e) = Faulted (error_kind e)

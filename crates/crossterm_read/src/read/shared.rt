@@ -1,5 +1,6 @@
 //! One reader for many threads.
 
+mod calls;
 mod pass;
 mod reader;
 mod room;

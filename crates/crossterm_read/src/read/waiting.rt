@@ -1,7 +1,8 @@
 //! Polls with a limit of time, and reads without one.
-ghost use Rattle.std.specs.Prelude.{◌≡◌, ◌⊎◌, ◌-◌, ◌≤◌, ◌<◌, IfOk, IfErr, OnOk, IsTrue, ℕ, List, None};
+ghost use Rattle.std.specs.Prelude.{◌≡◌, ◌⊎◌, ◌-◌, ◌≤◌, ◌<◌, IfOk, IfErr, OnOk, IsTrue, ℕ, List, None, true};
 ghost use Rattle.std.specs.Duration.{as_nanos};
 ghost use Rattle.std.specs.IoError.{error_kind};
+ghost use Rattle.crossterm_types.specs.Seen.{seen};
 ghost use Rattle.crossterm_read.specs.Answers.{SourceAnswer, IsOwn};
 ghost use Rattle.crossterm_read.specs.Device.{AsksEach};
 ghost use Rattle.crossterm_read.specs.Replies.{Replied, poll_reply, read_reply, read_said, shown};
@@ -185,6 +186,7 @@ impl<S: EventSource<A>, A: Allocator> InternalEventReader<S, A> {
             × ReadStep tries (F.admits filter.now) zs self.old.shelf self.new.shelf (read_reply result)
             × IfErr result (λ e. RefusedOnlyWithoutRoom self.old.room zs (error_kind e)) }
         ensures asked { AsksForever (S.asked self.old.source) (S.asked self.new.source) }
+        ensures admitted { IfOk result (λ x. F.admits filter.now (seen x.0) ≡ true) }
         ensures room { capacity self.old ≤ capacity self.new }
         ensures rise { S.failed self.old.source ≤ S.failed self.new.source }
         ensures err { IfErr result (λ e. IsOwn (error_kind e) ⊎ (S.failed self.old.source < S.failed self.new.source)) }

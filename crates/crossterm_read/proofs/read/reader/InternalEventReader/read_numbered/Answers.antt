@@ -2,6 +2,7 @@ use Rattle.std.proofs.Common.{sym, subst, refl}
 use Rattle.std.specs.IoError.{error_kind}
 use Rattle.crossterm_read.specs.Steps.{Broke}
 use Rattle.crossterm_read.specs.Waiting.{AsksForever}
+use Rattle.crossterm_read.proofs.Querying.{taken_admitted}
 use Rattle.crossterm_read.proofs.Waiting.{waited_there, waited_read, limits_none}
 use Rattle.crossterm_read.proofs.read.reader.InternalEventReader.read_numbered.Goals as goal
 
@@ -24,3 +25,6 @@ pub returns-in-Some-clause-asked : goal.returns-in-Some-clause-asked
 returns-in-Some-clause-asked g c =
     subst (λ (y : g.row.S.Denot). AsksForever (g.S.EventSource.asked c.args.self.now.source) (g.S.EventSource.asked y)) (sym c.take_numbered.ensures.source)
     (limits_none c.new-timeout.result c.new-timeout.ensures.limit _ _ _ c.ask_in_time.ensures.limits)
+
+pub returns-in-Some-clause-admitted : goal.returns-in-Some-clause-admitted
+returns-in-Some-clause-admitted g c = taken_admitted (g.F.Filter.admits c.args.filter.now) c.ask_in_time.new.self.shelf c.take_numbered.new.self.shelf _ c.in-Some.ensures.step

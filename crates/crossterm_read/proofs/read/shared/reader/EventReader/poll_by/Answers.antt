@@ -1,0 +1,42 @@
+use Rattle.std.proofs.Common.{◌≡◌, ◌≤◌, ◌-◌, Option, refl, ap, sym, subst, inl, inr, arith, ◌∙◌}
+use Rattle.std.specs.Duration.{as_nanos}
+use Rattle.std.specs.declared.time.Duration.{Duration}
+use Rattle.crossbeam_queue.specs.Passes.{view}
+use Rattle.crossterm_types.specs.Admitting.{admitted}
+use Rattle.crossterm_types.specs.Timing.{Reaches}
+use Rattle.crossterm_read.specs.Calls.{Poll}
+use Rattle.crossterm_read.specs.Entries.{IsPoll}
+use Rattle.crossterm_read.specs.Replies.{poll_reply}
+use Rattle.crossterm_read.specs.Waiting.{TimedPoll}
+use Rattle.crossterm_read.proofs.Sharing.{some_there, brings, extends, extends_as, poll_longer, sits_taken, sits_put, last_after, last_poll}
+use Rattle.crossterm_read.proofs.Waiting.{reaches_later}
+use Rattle.crossterm_read.proofs.read.shared.reader.EventReader.poll_by.Goals as goal
+
+pub take_within-requires-clause-opened : goal.take_within-requires-clause-opened
+take_within-requires-clause-opened g c = some_there _ c.args.pass.now.sits.opened
+
+pub poll_until-result-requires : goal.poll_until-result-requires
+poll_until-result-requires g c = let start = ap as_nanos c.new-timeout.ensures.start ∙ c.now-start.ensures.told in omega (arith, c.take_within.ensures.later)
+
+pub put-requires-clause-brings : goal.put-requires-clause-brings
+put-requires-clause-brings g c =
+    let drawn = g.S.EventSource.drawn in
+    let start = ap as_nanos c.new-timeout.ensures.start in
+    let timed = subst (λ (limit : Option Duration). TimedPoll drawn (admitted c.args.filter) limit (as_nanos c.new-timeout.result.start) (g.C.Clock.told c.poll_until-result.new.clock) c.in-Some.reader c.poll_until-result.new.self (poll_reply c.poll_until-result.result))
+    c.new-timeout.ensures.limit c.poll_until-result.ensures.step in
+    let p = subst (λ n. TimedPoll drawn (admitted c.args.filter) c.args.limit n (g.C.Clock.told c.poll_until-result.new.clock) c.in-Some.reader c.poll_until-result.new.self (poll_reply c.poll_until-result.result)) start timed in
+    brings drawn _ _ _ c.in-Some.reader c.poll_until-result.new.self c.in-Some.ensures.taken (Poll p.tries c.args.filter) p.answers (poll_reply c.poll_until-result.result)
+    (record { timed = p; call = refl; answers = refl; reply = refl; limits = (c.new-timeout.result, c.new-timeout.ensures.limit, omega (arith, start), c.poll_until-result.ensures.limits) }) p.drawn_so p.step
+
+pub invariant_of-pass-2 : goal.invariant_of-pass-2
+invariant_of-pass-2 g c = record {
+  clear = c.put.ensures.seat.2 ∙ c.take_within.ensures.seat.2 ∙ c.args.pass.now.clear;
+  sits = sits_put g.S.EventSource.drawn _ _ _ _ (sits_taken g.S.EventSource.drawn _ _ _ c.args.pass.now.sits c.in-Some.ensures.taken) c.put.ensures.put;
+  taken = sym (last_poll c.args.pass.now.last c.poll_until-result.result)
+      ∙ last_after g.S.EventSource.drawn _ _ (view c.args.pass.now.seat) (view c.take_within.new.seat) (view c.put.new.seat) _ _ c.args.pass.now.last c.in-Some.ensures.taken c.put.ensures.put (λ o e t m. m.reply) c.args.pass.now.taken;
+}
+
+pub returns-clause-call : goal.returns-clause-call
+returns-clause-call g c =
+    inl (extends_as g.S.EventSource.drawn _ _ (poll_longer g.S.EventSource.drawn g.S.EventSource.asked c.args.filter c.args.limit _ _ _ _ (omega (arith, c.now-start.ensures.later, c.now-start.ensures.told))) _ _
+    (extends g.S.EventSource.drawn _ (view c.args.pass.now.seat) (view c.take_within.new.seat) (view c.put.new.seat) c.in-Some.reader c.poll_until-result.new.self c.requires.1 c.in-Some.ensures.taken c.put.ensures.put))

@@ -1,0 +1,34 @@
+use Rattle.std.proofs.Common.{◌≡◌, true, refl, ap, sym, ◌∙◌}
+use Rattle.crossbeam_queue.specs.Passes.{view}
+use Rattle.crossterm_types.specs.Admitting.{admitted}
+use Rattle.crossterm_read.specs.Calls.{Read}
+use Rattle.crossterm_read.specs.Replies.{read_reply}
+use Rattle.crossterm_read.proofs.Sharing.{some_there, brings, extends, sits_taken, sits_put, last_after, last_read, read_memory, read_kept}
+use Rattle.crossterm_read.proofs.read.shared.reader.EventReader.read_by.Goals as goal
+
+pub take-reader-requires-clause-opened : goal.take-reader-requires-clause-opened
+take-reader-requires-clause-opened g c = some_there _ c.args.pass.now.sits.opened
+
+pub put-requires-clause-brings : goal.put-requires-clause-brings
+put-requires-clause-brings g c =
+    let p = c.read_numbered-taken.ensures.step in
+    brings g.S.EventSource.drawn _ _ _ c.take-reader.result c.read_numbered-taken.new.self c.take-reader.ensures.taken (Read p.0 c.args.filter) p.1 (read_reply c.read_numbered-taken.result)
+    (record { tries = p.0; call = refl; reply = refl; limits = c.read_numbered-taken.ensures.asked; memory = read_memory c.read_numbered-taken.result _ p.4 }) p.2 p.3
+
+pub invariant_of-pass : goal.invariant_of-pass
+invariant_of-pass g c = record {
+  clear = c.put.ensures.seat.2 ∙ c.take-reader.ensures.seat.2 ∙ c.args.pass.now.clear;
+  sits = sits_put g.S.EventSource.drawn _ _ _ _ (sits_taken g.S.EventSource.drawn _ _ _ c.args.pass.now.sits c.take-reader.ensures.taken) c.put.ensures.put;
+  taken = c.last_after-pass.ensures ∙ sym (last_read c.args.pass.now.last c.read_numbered-taken.result)
+      ∙ last_after g.S.EventSource.drawn _ _ (view c.args.pass.now.seat) (view c.take-reader.new.seat) (view c.put.new.seat) _ _ c.args.pass.now.last c.take-reader.ensures.taken c.put.ensures.put (λ o e t m. m.reply) c.args.pass.now.taken;
+}
+
+pub returns-clause-call : goal.returns-clause-call
+returns-clause-call g c = (
+  read_reply c.read_numbered-taken.result,
+  c.unnumbered.ensures,
+  extends g.S.EventSource.drawn _ (view c.args.pass.now.seat) (view c.take-reader.new.seat) (view c.put.new.seat) c.take-reader.result c.read_numbered-taken.new.self c.requires.1 c.take-reader.ensures.taken c.put.ensures.put,
+)
+
+pub returns-clause-admitted : goal.returns-clause-admitted
+returns-clause-admitted g c = read_kept (λ x. admitted c.args.filter x ≡ true) c.read_numbered-taken.result c.unnumbered.result c.unnumbered.ensures c.read_numbered-taken.ensures.admitted

@@ -1,0 +1,144 @@
+//! The calls of a shared reader: polls and reads.
+ghost use Rattle.std.specs.Prelude.{◌≡◌, ◌⊎◌, ◌-◌, ◌≤◌, Ok, false, true, Some, IfOk};
+ghost use Rattle.crossterm_types.specs.Admitting.{admitted, is_event};
+ghost use Rattle.crossterm_types.specs.Seen.{seen};
+ghost use Rattle.crossterm_types.specs.Timing.{Reaches};
+ghost use Rattle.crossterm_types.specs.declared.event.filter.AnyFilter.TheVariants as filters;
+ghost use Rattle.crossterm_read.specs.Entries.{IsPoll, IsRead};
+ghost use Rattle.crossterm_read.specs.History.{Extends};
+ghost use Rattle.crossterm_read.specs.Replies.{Replied, event_said, event_seen, last_said, poll_reply, read_reply, read_said, shown};
+ghost use Rattle.crossterm_read.specs.Seats.{knows};
+ghost use Rattle.crossterm_read.specs.Shared.{IsPassOf};
+
+use crate::read::shared::pass::Pass;
+use crate::read::shared::reader::EventReader;
+use crate::source::EventSource;
+use crossterm_types::event::filter::AnyFilter;
+use crossterm_types::event::timeout::{Clock, PollTimeout};
+use crossterm_types::event::{Event, InternalEvent};
+use std::alloc::Allocator;
+use std::io;
+use std::marker::Brand;
+use std::sync::Wait;
+use std::time::Duration;
+
+// The number of what was taken last, after one more call.
+pub(crate) fn last_after<T>(last: Option<u64>, taken: &io::Result<(T, u64)>) -> Option<u64>
+    ensures { result ≡ last_said last taken.now }
+{
+    match taken {
+        Ok((_, number)) => Some(*number),
+        Err(_) => last,
+    }
+}
+
+// The event without its number.
+fn unnumbered<A: Allocator>(
+    taken: io::Result<(InternalEvent<A>, u64)>,
+) -> io::Result<InternalEvent<A>>
+    ensures { read_said result ≡ shown (read_reply taken) }
+{
+    match taken {
+        Ok((event, _number)) => Ok(event),
+        Err(error) => Err(error),
+    }
+}
+
+// A user's event.
+fn users<A: Allocator>(event: InternalEvent<A>) -> Event<A>
+    requires { is_event (seen event) ≡ true }
+    ensures { seen event ≡ event_seen result }
+{
+    match event {
+        InternalEvent::Event(event) => event,
+        _ => unreachable!(),
+    }
+}
+
+impl<S: EventSource<A>, A: Allocator> EventReader<S, A> {
+    /// Takes the first event that the filter admits. It waits for the reader, and then for the event, without a limit.
+    ///
+    /// It goes on after a wake-up. Every other fault of the source is answered, and what came until then is held.
+    pub fn read_by<R: Wait>(
+        &self,
+        rt: &R,
+        pass: &mut Pass<S, A>,
+        filter: AnyFilter,
+    ) -> io::Result<InternalEvent<A>>
+        requires { IsPassOf self.now pass.old }
+        ensures pass { IsPassOf self.now pass.new }
+        ensures call { (r : Replied) × (read_said result ≡ shown r) × Extends S.drawn (IsRead S.drawn S.asked filter r) (knows pass.old) (knows pass.new) }
+        ensures admitted { IfOk result (λ e. admitted filter (seen e) ≡ true) }
+    {
+        let mut reader = self.room.take(rt, &mut pass.seat);
+        let taken = reader.read_numbered(rt, &filter);
+        self.room
+            .put::<Brand, _, R>(rt, &mut pass.seat, reader, &(filter, &taken));
+        pass.last = last_after(pass.last, &taken);
+        unnumbered(taken)
+    }
+
+    /// Whether an event is held that the filter admits, within the limit, which counts from the beginning of the call.
+    ///
+    /// Where the reader isn't there in time the answer is false, and nothing was asked. Else it is as `InternalEventReader::poll`'s.
+    pub fn poll_by<C: Clock, R: Wait>(
+        &self,
+        rt: &R,
+        pass: &mut Pass<S, A>,
+        limit: Option<Duration>,
+        clock: &mut C,
+        filter: AnyFilter,
+    ) -> io::Result<bool>
+        requires { IsPassOf self.now pass.old }
+        ensures pass { IsPassOf self.now pass.new }
+        ensures call { Extends S.drawn (IsPoll S.drawn S.asked filter limit (C.told clock.old) (C.told clock.new) (poll_reply result)) (knows pass.old) (knows pass.new)
+            ⊎ ((result ≡ Ok false) × (knows pass.new ≡ knows pass.old) × Reaches limit (C.told clock.new - C.told clock.old)) }
+        ensures later { C.told clock.old ≤ C.told clock.new }
+    {
+        let start = clock.now();
+        let timeout = PollTimeout::new(limit, start);
+        let Some(mut reader) = self
+            .room
+            .take_within(rt, &mut pass.seat, &timeout, clock)
+        else {
+            return Ok(false);
+        };
+        let result = reader.poll_until(rt, timeout, clock, &filter);
+        self.room.put::<Brand, _, R>(
+            rt,
+            &mut pass.seat,
+            reader,
+            &(filter, limit, start, &*clock, &result),
+        );
+        result
+    }
+
+    /// Takes the first event of the user, as `read_by` does by `AnyFilter::Event`.
+    pub fn read<R: Wait>(&self, rt: &R, pass: &mut Pass<S, A>) -> io::Result<Event<A>>
+        requires { IsPassOf self.now pass.old }
+        ensures pass { IsPassOf self.now pass.new }
+        ensures call { (r : Replied) × (event_said result ≡ shown r) × Extends S.drawn (IsRead S.drawn S.asked filters.Event r) (knows pass.old) (knows pass.new) }
+    {
+        match self.read_by(rt, pass, AnyFilter::Event) {
+            Ok(event) => Ok(users(event)),
+            Err(error) => Err(error),
+        }
+    }
+
+    /// Whether an event of the user is held within the limit, as `poll_by` by `AnyFilter::Event`.
+    pub fn poll<C: Clock, R: Wait>(
+        &self,
+        rt: &R,
+        pass: &mut Pass<S, A>,
+        limit: Duration,
+        clock: &mut C,
+    ) -> io::Result<bool>
+        requires { IsPassOf self.now pass.old }
+        ensures pass { IsPassOf self.now pass.new }
+        ensures call { Extends S.drawn (IsPoll S.drawn S.asked filters.Event (Some limit) (C.told clock.old) (C.told clock.new) (poll_reply result)) (knows pass.old) (knows pass.new)
+            ⊎ ((result ≡ Ok false) × (knows pass.new ≡ knows pass.old) × Reaches (Some limit) (C.told clock.new - C.told clock.old)) }
+        ensures later { C.told clock.old ≤ C.told clock.new }
+    {
+        self.poll_by(rt, pass, Some(limit), clock, AnyFilter::Event)
+    }
+}
