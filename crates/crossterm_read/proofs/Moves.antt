@@ -1,13 +1,13 @@
 -- Each step keeps the rule of the slot.
-use Rattle.std.proofs.Common.{◌≡◌, ◌≢◌, ◌⊎◌, ℕ, zero, suc, ◌+◌, ◌-◌, ◌^◌, ◌==◌, ◌<◌, ◌≤◌, eq-eqb, ne_eqb, cond, List, [], ◌∷◌, ◌++◌, length, set, Option, Some, None, Bool, true, false, true≢false, refl, sym, ap, ◌∙◌, subst, inl, inr, ⊎_elim, arith, append_assoc, append-nil, length-append}
+use Rattle.std.proofs.Common.{◌≡◌, ◌≢◌, ◌⊎◌, ℕ, zero, suc, ◌+◌, ◌^◌, ◌<◌, ◌≤◌, List, [], ◌∷◌, ◌++◌, length, set, Some, Bool, true, false, refl, sym, ap, ◌∙◌, subst, inl, inr, ⊎_elim, arith, append-nil, length-append}
 use mathlib.Core.Option.{some, some-ne-none}
 use lib.ListN.{get_elem?, length-set}
 use Rattle.std.specs.Prelude.{⊤}
 use Rattle.crossbeam_queue.specs.Fifo.{Pushes, Pops, Forks, Learns, Merges}
-use Rattle.crossbeam_queue.proofs.Lists.{at_set, at_snoc, set_here, set_else, set_again, at_longer}
+use Rattle.crossbeam_queue.proofs.Lists.{at_set, set_here, set_else, set_again, at_longer}
 use Rattle.crossterm_read.specs.Answers.{SourceAnswer}
 use Rattle.crossterm_read.specs.Shelf.{ReaderState}
-use Rattle.crossterm_read.specs.History.{Entry, Known, Meeting, StartsWith, Makes, Runs, are_of, calls_by}
+use Rattle.crossterm_read.specs.History.{Entry, Known, Meeting, StartsWith, Runs, are_of, calls_by}
 use Rattle.crossterm_read.specs.Numbers.{IsOrderly}
 use Rattle.crossterm_read.specs.Slot.{newcomer, first_of, one_less, one_more, longer, taught, Fits, Nobody, Holder, Open, Kept, Taken, Brings, Put, Learnt}
 use Rattle.crossterm_read.proofs.Histories.{runs_front, runs_snoc}
@@ -120,13 +120,16 @@ module _ {S : Type 0} (drawn : S → List SourceAnswer → S → Type 0) where
           fits = h.fits;
           runs = h.runs;
           whole = (by, w, there, sym log);
-          place = inr (tail_of full.0, record {
-            by = by;
-            v = w;
-            there = there;
-            has = refl;
-            alone = all_set (λ j u. u.has ≡ true → j ≡ by) views by w (λ _. refl) (λ j u apart e has. absurd (off (sym (full.1 j u e) ∙ has)));
-          });
+          place = inr (
+            tail_of full.0,
+            record {
+              by = by;
+              v = w;
+              there = there;
+              has = refl;
+              alone = all_set (λ j u. u.has ≡ true → j ≡ by) views by w (λ _. refl) (λ j u apart e has. absurd (off (sym (full.1 j u e) ∙ has)));
+            },
+          );
           each = all_set (Fits drawn h.opening h.passes h.log) views by w record {
             number = mine.number;
             passes_so = mine.passes_so;
@@ -149,7 +152,7 @@ module _ {S : Type 0} (drawn : S → List SourceAnswer → S → Type 0) where
           fits = h.fits;
           runs = ran;
           others = subst (λ k. calls_by k between ≡ []) (sym mine.number) (none_more (calls_by by v.seen) (calls_by by between)
-          (sym (calls_by-append by v.seen between) ∙ ap (calls_by by) (sym log) ∙ mine.all_mine ∙ sym mine.mine));
+              (sym (calls_by-append by v.seen between) ∙ ap (calls_by by) (sym log) ∙ mine.all_mine ∙ sym mine.mine));
           callers = are_more (length views) v.passes (v.seen ++ between) (let same = mine.passes_so in omega arith) (subst (λ l. are_of (length views) l ≡ true) log h.callers);
           after = refl;
         },
@@ -197,8 +200,10 @@ module _ {S : Type 0} (drawn : S → List SourceAnswer → S → Type 0) where
           fits = h.fits;
           runs = subst (λ (s : ReaderState S). Runs drawn s log x) (sym same) ran;
           whole = (by, w, there, refl);
-          place = inl (ap (λ (l : List (ReaderState S)). l ++ x ∷ []) out.0,
-          all_set (λ j u. u.has ≡ false) views by w refl (λ j u apart at'. not_has_of u.has (λ q. apart (out.1.alone j u at' q ∙ sym holder))));
+          place = inl (
+            ap (λ (l : List (ReaderState S)). l ++ x ∷ []) out.0,
+            all_set (λ j u. u.has ≡ false) views by w refl (λ j u apart at'. not_has_of u.has (λ q. apart (out.1.alone j u at' q ∙ sym holder))),
+          );
           each = all_set (Fits drawn h.opening h.passes log) views by w
               record {
                 number = mine.number;
@@ -250,14 +255,14 @@ module _ {S : Type 0} (drawn : S → List SourceAnswer → S → Type 0) where
       let long = length-set views by w in
       let longer' = length-append (set views by w) (r ∷ []) in
       let back : All (λ j u. (u ≡ w) ⊎ ((j ≢ by) × (get_elem? views j ≡ some u))) (set views by w) =
-          all_set (λ j u. (u ≡ w) ⊎ ((j ≢ by) × (get_elem? views j ≡ some u))) views by w (inl refl) (λ j u apart e. inr (apart, e)) in
+      all_set (λ j u. (u ≡ w) ⊎ ((j ≢ by) × (get_elem? views j ≡ some u))) views by w (inl refl) (λ j u apart e. inr (apart, e)) in
       inr record {
         opening = h.opening;
         passes = h.passes;
         log = h.log;
         now = h.now;
         orderly = h.orderly;
-          fits = h.fits;
+        fits = h.fits;
         runs = h.runs;
         whole = ⊎_elim
             (λ (q : h.whole.0 ≡ by). (by, w, at_longer (set views by w) (r ∷ []) by w (set_here views by w (below views by v at)), ap (λ (y : Known S). y.seen) (some_at v h.whole.1 (sym at ∙ subst (λ j. get_elem? views j ≡ some h.whole.1) q h.whole.2)) ∙ h.whole.3))
@@ -265,13 +270,16 @@ module _ {S : Type 0} (drawn : S → List SourceAnswer → S → Type 0) where
             (same_or_not h.whole.0 by);
         place = ⊎_elim
             (λ (p : (items ≡ h.now ∷ []) × Nobody drawn views). inl (p.0, every (λ j u. u.has ≡ false) w r refl refl (λ j u apart e. p.1 j u e)))
-            (λ (p : (items ≡ []) × Holder drawn views). inr (p.0, record {
-              by = p.1.by;
-              v = p.1.v;
-              there = at_longer (set views by w) (r ∷ []) p.1.by p.1.v (set_else views by p.1.by w (λ q. off (ap (λ (y : Known S). y.has) (some_at v p.1.v (sym at ∙ subst (λ j. get_elem? views j ≡ some p.1.v) q p.1.there)) ∙ p.1.has)) ∙ p.1.there);
-              has = p.1.has;
-              alone = every (λ j u. u.has ≡ true → j ≡ p.1.by) w r (λ q. absurd (off q)) (λ q. absurd (off q)) (λ j u apart e q. p.1.alone j u e q);
-            }))
+            (λ (p : (items ≡ []) × Holder drawn views). inr (
+              p.0,
+              record {
+                by = p.1.by;
+                v = p.1.v;
+                there = at_longer (set views by w) (r ∷ []) p.1.by p.1.v (set_else views by p.1.by w (λ q. off (ap (λ (y : Known S). y.has) (some_at v p.1.v (sym at ∙ subst (λ j. get_elem? views j ≡ some p.1.v) q p.1.there)) ∙ p.1.has)) ∙ p.1.there);
+                has = p.1.has;
+                alone = every (λ j u. u.has ≡ true → j ≡ p.1.by) w r (λ q. absurd (off q)) (λ q. absurd (off q)) (λ j u apart e q. p.1.alone j u e q);
+              },
+            ))
             h.place;
         each = every (Fits drawn h.opening h.passes h.log) w r
             record {
@@ -334,11 +342,16 @@ module _ {S : Type 0} (drawn : S → List SourceAnswer → S → Type 0) where
         log = h.log;
         now = h.now;
         orderly = h.orderly;
-          fits = h.fits;
+        fits = h.fits;
         runs = h.runs;
         whole = ⊎_elim
-            (λ (q : h.whole.0 ≡ by). (by, both, there, longer_whole h.log v.seen w.seen theirs.seen
-            (ap (λ (y : Known S). y.seen) (some_at v h.whole.1 (sym at ∙ subst (λ j. get_elem? views j ≡ some h.whole.1) q h.whole.2)) ∙ h.whole.3)))
+            (λ (q : h.whole.0 ≡ by). (
+              by,
+              both,
+              there,
+              longer_whole h.log v.seen w.seen theirs.seen
+                  (ap (λ (y : Known S). y.seen) (some_at v h.whole.1 (sym at ∙ subst (λ j. get_elem? views j ≡ some h.whole.1) q h.whole.2)) ∙ h.whole.3),
+            ))
             (λ (q : h.whole.0 ≢ by). (h.whole.0, h.whole.1, set_else views by h.whole.0 both q ∙ h.whole.2, h.whole.3))
             (same_or_not h.whole.0 by);
         place = ⊎_elim
@@ -392,7 +405,7 @@ module _ {S : Type 0} (drawn : S → List SourceAnswer → S → Type 0) where
         left = front.0;
         opened = mine.opening;
         orderly = h.orderly;
-          runs = front.1;
+        runs = front.1;
         mine = subst (λ j. calls_by j v.seen ≡ v.mine) (sym mine.number) mine.mine;
         callers = are_more (length views) v.passes v.seen (let same = mine.passes_so in omega arith) (are_front (length views) v.seen mine.seen.0 (subst (λ l. are_of (length views) l ≡ true) mine.seen.1 h.callers));
         met = mine.met;

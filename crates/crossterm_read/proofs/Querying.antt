@@ -1,19 +1,26 @@
 -- What a query takes.
-use Rattle.std.proofs.Common.{◌≡◌, ◌⊎◌, ℕ, Bool, true, false, List, None, Some, Result, Ok, Err, inl, inr, sym, subst, ◌∙◌}
+use Rattle.std.proofs.Common.{◌≡◌, ◌≢◌, ◌⊎◌, ◌-◌, ℕ, Bool, true, false, List, [], ◌∷◌, ◌++◌, Option, None, Some, Result, Ok, Err, inl, inr, ⊎_elim, refl, sym, ap, subst, ◌∙◌, append-nil}
 use Rattle.std.specs.Prelude.{IfErr}
 use Rattle.std.specs.IoError.{error_kind}
 use Rattle.std.specs.declared.io.Error.{Error}
 use Rattle.std.specs.declared.io.ErrorKind.{ErrorKind}
 use Rattle.std.specs.declared.io.ErrorKind.TheVariants.{OutOfMemory, Other}
 use Rattle.std.proofs.lemmas.List.Quantifiers.{position-Some}
-use Rattle.crossterm_types.specs.Seen.{Seen}
-use Rattle.crossterm_read.specs.Answers.{SourceAnswer}
+use Rattle.crossterm_types.specs.Seen.{Seen, KeyboardFlags}
+use Rattle.std.specs.declared.time.Duration.{Duration}
+use Rattle.crossterm_flags.specs.declared.enhancement.KeyboardEnhancementFlags.{KeyboardEnhancementFlags}
+use Rattle.crossterm_types.specs.Admitting.{is_attributes, is_flags_reply}
+use Rattle.crossterm_types.specs.Timing.{Reaches}
+use Rattle.crossterm_read.specs.Answers.{SourceAnswer, Failed}
 use Rattle.crossterm_read.specs.declared.read.reader.AtWake.TheVariants.{Stops}
-use Rattle.crossterm_read.specs.Queries.{QuerySays}
+use Rattle.crossterm_read.specs.History.{last_of}
+use Rattle.crossterm_read.specs.Queries.{QuerySays, AfterReply, FlagsSay, LeftSays}
 use Rattle.crossterm_read.specs.Replies.{Replied, ToPoll, ToTake, ToQuery, Fault, poll_reply}
-use Rattle.crossterm_read.specs.Shelf.{Shelf}
-use Rattle.crossterm_read.specs.Steps.{first_admitted, Asks, End, Ready, Tried, Broke, PollStep, PollSays, TakeSays}
+use Rattle.crossterm_read.specs.Shelf.{Shelf, ReaderState}
+use Rattle.crossterm_read.specs.Steps.{first_admitted, Asks, held_already, came, broke, tried, refused, RefusedOnlyWithoutRoom, End, Ready, Tried, Broke, PollStep, PollSays, TakeSays}
+use Rattle.crossterm_read.specs.Waiting.{EndsWith, EndsWoken, TimedPoll, TimedQuery, TimedKeyboard}
 use Rattle.crossterm_read.proofs.Ready.{ready_there}
+use Rattle.crossterm_read.proofs.Waiting.{fault_of, kind_of}
 
 not_false : ToPoll true ≡ ToPoll false → ⊥
 not_false e = cc
@@ -74,3 +81,124 @@ other_not P e = absurd (memory e)
   where
     memory : Other ≡ OutOfMemory → ⊥
     memory e = cc
+
+-- What a query took last, whatever was taken before.
+pub last_query : (n : Option ℕ) (e : Seen) (before : ℕ) (y : Option (Seen × ℕ)) (last : ℕ) → ((x : Seen) → last_of None (ToQuery (x, before) y) ≡ Some last) → last_of n (ToQuery (e, before) y) ≡ Some last
+last_query n e before None last h = h e
+last_query n e before (Some y) last h = h e
+
+nil_front : {X : Type 0} (xs ys : List X) → xs ++ ys ≡ [] → xs ≡ []
+nil_front [] ys e = refl
+nil_front (x ∷ xs) ys e = absurd (cons_not e)
+  where
+    cons_not : {X : Type 0} {x : X} {xs : List X} → x ∷ xs ≡ [] → ⊥
+    cons_not e = absurd (cc)
+
+take_fault : {x : Option (Seen × ℕ)} {kind : ErrorKind} → ToTake x ≡ Fault kind → ⊥
+take_fault e = absurd (cc)
+
+query_not : {x : Seen × ℕ} {y : Option (Seen × ℕ)} {kind : ErrorKind} → ToQuery x y ≡ Fault kind → ⊥
+query_not e = absurd (cc)
+
+-- Where a fault broke asking, and it wasn't that memory was refused, it is the last answer.
+asked_broke : (f : Seen → Bool) (tries : ℕ) (held : List (Seen × ℕ)) (zs : List SourceAnswer) (kind : ErrorKind) → kind ≢ OutOfMemory → Asks Stops f tries held zs (Broke kind) → EndsWith kind zs
+asked_broke f tries held zs kind n (held_already is z e) = absurd (not_ready kind e)
+  where
+    not_ready : (kind : ErrorKind) → Broke kind ≡ Ready → ⊥
+    not_ready kind e = cc
+asked_broke f tries held zs kind n (came none ys x z p g l e) = absurd (not_ready kind e)
+  where
+    not_ready : (kind : ErrorKind) → Broke kind ≡ Ready → ⊥
+    not_ready kind e = cc
+asked_broke f tries held zs kind n (broke none ys k z p o l e) = (ys, z ∙ ap (λ (x : ErrorKind). ys ++ Failed x ∷ []) (sym (kind_of kind k e)))
+asked_broke f tries held zs kind n (tried none p l e) = absurd (not_tried kind e)
+  where
+    not_tried : (kind : ErrorKind) → Broke kind ≡ Tried → ⊥
+    not_tried kind e = cc
+asked_broke f tries held zs kind n (refused none p l e) = absurd (n (kind_of kind OutOfMemory e))
+
+module _ {S : Type 0} (drawn : S → List SourceAnswer → S → Type 0) where
+  -- A poll in time, and what is then taken, are a query in time.
+  pub timed_query : (f : Seen → Bool) (limit : Option Duration) (before after : ℕ) (s m t : ReaderState S) (p r : Replied) → TimedPoll drawn f limit before after s m p → QuerySays f p m.shelf t.shelf r → t.source ≡ m.source
+      → TimedQuery drawn f limit before after s t r
+  timed_query f limit before after s m t p r d says same = record {
+    tries = d.tries;
+    answers = d.answers;
+    drawn_so = subst (λ (y : S). drawn s.source d.answers y) (sym same) d.drawn_so;
+    step = (m.shelf, p, d.step, says);
+    memory = memory_of p d.memory says;
+    patient = patient_of p d.patient d.step says;
+    begun = λ none. ⊎_elim (λ n. inl n) (λ e. inr (memory_reply p e says)) (d.begun none);
+  }
+    where
+      memory_of : (p : Replied) → ((kind : ErrorKind) → p ≡ Fault kind → RefusedOnlyWithoutRoom s.room d.answers kind) → QuerySays f p m.shelf t.shelf r → (kind : ErrorKind) → r ≡ Fault kind → RefusedOnlyWithoutRoom s.room d.answers kind
+      memory_of (ToPoll true) h q kind e = absurd (take_fault (sym q.2 ∙ e))
+      memory_of (ToPoll false) h q kind e = λ oom. absurd (other_memory (fault_of Other kind (sym q.1 ∙ e) ∙ oom))
+        where
+          other_memory : Other ≡ OutOfMemory → ⊥
+          other_memory e = cc
+      memory_of (ToTake x) h q kind e = absurd q
+      memory_of (ToQuery x y) h q kind e = absurd q
+      memory_of (Fault k) h q kind e = h kind (sym q.1 ∙ e)
+
+      patient_of : (p : Replied) → (p ≡ ToPoll false → EndsWoken d.answers ⊎ Reaches limit (after - before)) → PollStep d.tries f d.answers s.shelf m.shelf p → QuerySays f p m.shelf t.shelf r
+          → r ≡ Fault Other → EndsWoken d.answers ⊎ EndsWith Other d.answers ⊎ Reaches limit (after - before)
+      patient_of (ToPoll true) h step q e = absurd (take_fault (sym q.2 ∙ e))
+      patient_of (ToPoll false) h step q e = ⊎_elim (λ w. inl w) (λ l. inr (inr l)) (h refl)
+      patient_of (ToTake x) h step q e = absurd q
+      patient_of (ToQuery x y) h step q e = absurd q
+      patient_of (Fault k) h step q e = by_end step.0 step.1 step.3
+        where
+          is_other : k ≡ Other
+          is_other = fault_of k Other (sym q.1 ∙ e)
+
+          other_memory : Other ≡ OutOfMemory → ⊥
+          other_memory e = cc
+
+          ready_fault : (b : Bool) → Fault k ≡ ToPoll b → ⊥
+          ready_fault b e = cc
+
+          by_end : (end : End) → Asks Stops f d.tries s.shelf.held d.answers end → PollSays end (Fault k) → EndsWoken d.answers ⊎ EndsWith Other d.answers ⊎ Reaches limit (after - before)
+          by_end Ready a says = absurd (ready_fault true says)
+          by_end Tried a says = absurd (ready_fault false says)
+          by_end (Broke kind) a (inl says) = absurd (ready_fault false says.1)
+          by_end (Broke kind) a (inr says) =
+              let same : kind ≡ Other = sym (fault_of k kind says.1) ∙ is_other in
+              inr (inl (subst (λ x. EndsWith x d.answers) same (asked_broke f d.tries s.shelf.held d.answers kind (λ m. other_memory (sym same ∙ m)) a)))
+
+      memory_reply : (p : Replied) → p ≡ Fault OutOfMemory → QuerySays f p m.shelf t.shelf r → r ≡ Fault OutOfMemory
+      memory_reply (ToPoll b) e q = absurd (poll_fault e)
+        where
+          poll_fault : ToPoll b ≡ Fault OutOfMemory → ⊥
+          poll_fault e = cc
+      memory_reply (ToTake x) e q = absurd q
+      memory_reply (ToQuery x y) e q = absurd q
+      memory_reply (Fault k) e q = q.1 ∙ e
+
+  -- A query whose answer is the keyboard query's own.
+  pub keyboard_alone : (limit : Option Duration) (before after : ℕ) (s t : ReaderState S) (r : Replied) → TimedQuery drawn is_flags_reply limit before after s t r → FlagsSay 0 [] r t.shelf t.shelf r → TimedKeyboard drawn limit before after s t r
+  keyboard_alone limit before after s t r q says = record {
+    tries = q.tries;
+    again = 0;
+    answers = q.answers;
+    drawn_so = q.drawn_so;
+    step = (q.answers, [], t.shelf, r, sym (append-nil q.answers), q.step, says);
+    memory = q.memory;
+    patient = q.patient;
+    begun = q.begun;
+  }
+
+  -- After the flags it waits for the attributes.
+  pub keyboard_flags : ((s t u : S) (xs ys : List SourceAnswer) → drawn s xs t → drawn t ys u → drawn s (xs ++ ys) u) → (limit again : Option Duration) (before mid start after : ℕ) (s m n t : ReaderState S) (x : Seen × ℕ) (y : Option (Seen × ℕ)) (p : Replied) (flags : KeyboardEnhancementFlags)
+      → x.0 ≡ KeyboardFlags flags → TimedQuery drawn is_flags_reply limit before mid s m (ToTake (Some x)) → TimedPoll drawn is_attributes again start after m n p → LeftSays p x n.shelf t.shelf (ToQuery x y) → t.source ≡ n.source
+      → TimedKeyboard drawn limit before after s t (ToQuery x y)
+  keyboard_flags on limit again before mid start after s m n t x y p flags is q d says same = record {
+    tries = q.tries;
+    again = d.tries;
+    answers = q.answers ++ d.answers;
+    drawn_so = subst (λ (z : S). drawn s.source (q.answers ++ d.answers) z) (sym same) (on s.source m.source n.source q.answers d.answers q.drawn_so d.drawn_so);
+    step = (q.answers, d.answers, m.shelf, ToTake (Some x), refl, q.step, subst (λ (z : Seen). AfterReply d.tries d.answers z x m.shelf t.shelf (ToQuery x y)) (sym is) (n.shelf, p, d.step, says));
+    memory = λ kind e. absurd (query_not e);
+    patient = λ e. absurd (query_not e);
+    begun = λ none. inl (λ nil. ⊎_elim (λ some. some (nil_front q.answers d.answers nil)) (λ e. take_fault e) (q.begun none));
+  }

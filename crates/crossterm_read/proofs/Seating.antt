@@ -1,5 +1,5 @@
 -- Lists of calls and of passes.
-use Rattle.std.proofs.Common.{◌≡◌, ◌≢◌, ◌⊎◌, ℕ, zero, suc, ◌+◌, ◌==◌, ◌<◌, ◌≤◌, nat_lt, eq-eqb, ne_eqb, lt-ltb, ltb-true, ltb-false, cond, ◌&&◌, List, [], ◌∷◌, ◌++◌, length, Option, Some, None, Bool, true, false, true≢false, refl, sym, ap, ◌∙◌, subst, inl, inr, ⊎_elim, arith, append_assoc, append-nil, length-append}
+use Rattle.std.proofs.Common.{◌≡◌, ◌≢◌, ◌⊎◌, ℕ, zero, suc, ◌==◌, ◌<◌, ◌≤◌, nat_lt, eq-eqb, ne_eqb, lt-ltb, ltb-true, ltb-false, cond, ◌&&◌, List, [], ◌∷◌, ◌++◌, length, Some, None, Bool, true, false, true≢false, refl, sym, ap, ◌∙◌, subst, inl, inr, ⊎_elim, arith, append_assoc, append-nil, length-append}
 use mathlib.Core.Option.{some, some-ne-none}
 use lib.ListN.{get_elem?}
 use Rattle.crossterm_read.specs.History.{Entry, StartsWith, are_of, calls_by}
@@ -143,7 +143,7 @@ longer_calls log xs ys by mine p q own all =
     let r = longer_ours log xs ys p q in
     let s = longer_starts log xs ys p q in
     let later : calls_by by log ≡ mine ++ (calls_by by r.0 ++ calls_by by s.0) =
-        ap (calls_by by) (s.1 ∙ ap (λ l. l ++ s.0) r.1 ∙ append_assoc xs r.0 s.0) ∙ calls_by-append by xs (r.0 ++ s.0) ∙ ap (λ l. l ++ calls_by by (r.0 ++ s.0)) own ∙ ap (λ l. mine ++ l) (calls_by-append by r.0 s.0) in
+    ap (calls_by by) (s.1 ∙ ap (λ l. l ++ s.0) r.1 ∙ append_assoc xs r.0 s.0) ∙ calls_by-append by xs (r.0 ++ s.0) ∙ ap (λ l. l ++ calls_by by (r.0 ++ s.0)) own ∙ ap (λ l. mine ++ l) (calls_by-append by r.0 s.0) in
     let none : calls_by by r.0 ++ calls_by by s.0 ≡ [] = none_more mine (calls_by by r.0 ++ calls_by by s.0) (sym later ∙ all) in
     let quiet : calls_by by r.0 ≡ [] = nil_of (calls_by by r.0) (let h = ap length none in let k = length-append (calls_by by r.0) (calls_by by s.0) in omega arith) in
     ap (calls_by by) r.1 ∙ calls_by-append by xs r.0 ∙ ap (λ l. l ++ calls_by by r.0) own ∙ ap (λ l. mine ++ l) quiet ∙ append-nil mine

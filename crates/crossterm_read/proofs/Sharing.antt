@@ -1,27 +1,27 @@
 -- What a call of a shared reader does to what its pass knows.
-use Rattle.std.proofs.Common.{◌≡◌, ◌≢◌, ◌⊎◌, ℕ, zero, suc, ◌+◌, ◌-◌, ◌^◌, ◌<◌, ◌≤◌, Bool, List, [], ◌∷◌, ◌++◌, length, Option, Some, None, Result, Ok, Err, true, false, refl, sym, ap, ◌∙◌, subst, arith, append-nil}
+use Rattle.std.proofs.Common.{◌≡◌, ℕ, zero, suc, ◌+◌, ◌-◌, ◌^◌, ◌<◌, ◌≤◌, Bool, List, [], ◌∷◌, ◌++◌, Option, Some, None, Result, Ok, Err, true, false, refl, sym, ap, ◌∙◌, subst, arith, append-nil}
 use Rattle.std.specs.Prelude.{is_some, IfSome, IfNone, IfErr, IfOk}
 use Rattle.std.specs.List.{range_with_len}
 use Rattle.std.specs.declared.io.Error.{Error}
 use Rattle.crossterm_read.specs.Answers.{SourceAnswer}
 use Rattle.crossterm_read.specs.Shelf.{ReaderState}
-use Rattle.crossterm_read.specs.History.{Entry, Known, Sits, Runs, Makes, Extends, EachOnce, opened, Meets, Closes, Meeting, answers_of, are_of, calls_by, last_of, last_from}
+use Rattle.crossterm_read.specs.History.{Entry, Known, Sits, Runs, Extends, EachOnce, opened, Meets, Closes, calls_by, last_of, last_from}
 use Rattle.crossterm_read.specs.Numbers.{IsOrderly}
 use Rattle.crossterm_read.specs.Calls.{Request, Step}
-use Rattle.crossterm_read.specs.Entries.{IsPoll}
+use Rattle.crossterm_read.specs.Entries.{IsPoll, IsPosition, IsKeyboard}
 use Rattle.crossterm_read.specs.Replies.{Replied, Fault, ToTake, Came, Faulted, poll_reply, read_reply, read_said, last_said, shown}
-use Rattle.crossterm_types.specs.Admitting.{admitted}
+use Rattle.crossterm_types.specs.Admitting.{admitted, is_cursor_position}
 use Rattle.crossterm_types.specs.Seen.{Seen, seen}
 use Rattle.crossterm_types.specs.declared.event.filter.AnyFilter.{AnyFilter}
 use Rattle.std.specs.declared.time.Duration.{Duration}
 use Rattle.crossterm_types.specs.declared.event.InternalEvent.{InternalEvent}
 use Rattle.std.specs.IoError.{error_kind}
 use Rattle.std.specs.declared.io.ErrorKind.{ErrorKind}
-use Rattle.crossterm_read.proofs.Waiting.{fault_of, timed_longer}
-use Rattle.crossterm_read.specs.Slot.{Taken, Put, Brings, Learnt, first_of, one_less, one_more, taught}
+use Rattle.crossterm_read.proofs.Waiting.{fault_of, timed_longer, query_longer, board_longer}
+use Rattle.crossterm_read.specs.Slot.{Taken, Put, Brings, Learnt, first_of, one_more, taught}
 use Rattle.crossterm_read.proofs.EachOnce.{each_once}
 use Rattle.crossterm_read.proofs.Histories.{runs_snoc, not_fewer}
-use Rattle.crossterm_read.proofs.Seating.{off, some_of, none_more, calls_by-append, calls_by-mine, are_snoc}
+use Rattle.crossterm_read.proofs.Seating.{off, some_of, calls_by-append, calls_by-mine, are_snoc}
 
 -- What stands there.
 pub some_there : {A : Type 0} (o : Option A) → is_some o ≡ true → (x : A) × (o ≡ Some x)
@@ -113,15 +113,15 @@ module _ {S : Type 0} (drawn : S → List SourceAnswer → S → Type 0) where
             each_once = subst (λ (k : Known S). EachOnce b.opening k.seen y) (sym after) (each_once drawn b.opening y log orderly ran);
           }
 
-  -- What is known of the call, said weaker.
-  pub extends_as : (made such : ReaderState S → Entry → ReaderState S → Type 0) → ((o : ReaderState S) (e : Entry) (t : ReaderState S) → made o e t → such o e t) → (v w : Known S) → Extends drawn made v w → Extends drawn such v w
-  extends_as made such so v w x = record {
+  -- What is known of the call, said otherwise.
+  pub extends_at : (made such : ReaderState S → Entry → ReaderState S → Type 0) (v w : Known S) (x : Extends drawn made v w) → such x.found x.call x.left → Extends drawn such v w
+  extends_at made such v w x so = record {
     opening = x.opening;
     between = x.between;
     call = x.call;
     found = x.found;
     left = x.left;
-    such = so x.found x.call x.left x.such;
+    such = so;
     by = x.by;
     opened = x.opened;
     before = x.before;
@@ -132,6 +132,9 @@ module _ {S : Type 0} (drawn : S → List SourceAnswer → S → Type 0) where
     each_once = x.each_once;
   }
 
+  pub extends_as : (made such : ReaderState S → Entry → ReaderState S → Type 0) → ((o : ReaderState S) (e : Entry) (t : ReaderState S) → made o e t → such o e t) → (v w : Known S) → Extends drawn made v w → Extends drawn such v w
+  extends_as made such so v w x = extends_at made such v w x (so x.found x.call x.left x.such)
+
   -- A poll in time from a moment on is one from an earlier one on.
   pub poll_longer : (asked : S → List (Option Duration)) (f : AnyFilter) (limit : Option Duration) (before start last : ℕ) (r : Replied) → before ≤ start
       → (o : ReaderState S) (e : Entry) (t : ReaderState S) → IsPoll drawn asked f limit start last r o e t → IsPoll drawn asked f limit before last r o e t
@@ -141,6 +144,25 @@ module _ {S : Type 0} (drawn : S → List SourceAnswer → S → Type 0) where
     answers = p.answers;
     reply = p.reply;
     limits = let l = p.limits in let low = l.2 in (l.0, l.1, omega arith, l.3);
+  }
+
+  -- So are queries.
+  pub position_longer : (asked : S → List (Option Duration)) (limit : Option Duration) (before start last : ℕ) (r : Replied) → before ≤ start
+      → (o : ReaderState S) (e : Entry) (t : ReaderState S) → IsPosition drawn asked limit start last r o e t → IsPosition drawn asked limit before last r o e t
+  position_longer asked limit before start last r h o e t p = record {
+    timed = query_longer drawn is_cursor_position limit before start last o t r h p.timed;
+    call = p.call;
+    answers = p.answers;
+    reply = p.reply;
+    limits = let l = p.limits in let low = l.2 in (l.0, l.1, omega arith, l.3);
+  }
+
+  pub keyboard_longer : (limit : Option Duration) (before start last : ℕ) (r : Replied) → before ≤ start → (o : ReaderState S) (e : Entry) (t : ReaderState S) → IsKeyboard drawn limit start last r o e t → IsKeyboard drawn limit before last r o e t
+  keyboard_longer limit before start last r h o e t p = record {
+    timed = board_longer drawn limit before start last o t r h p.timed;
+    call = p.call;
+    answers = p.answers;
+    reply = p.reply;
   }
 
   -- A take for good.
@@ -201,9 +223,9 @@ last_from-push n (x ∷ es) e = last_from-push (last_of n x.reply) es e
 
 -- The number of what was taken last, after one call with this reply.
 pub last_after : {S : Type 0} (drawn : S → List SourceAnswer → S → Type 0) (made : ReaderState S → Entry → ReaderState S → Type 0) (r : Replied) (v u w : Known S) (x y : ReaderState S) (last : Option ℕ)
-    → Taken drawn v x u → Put drawn made u y w → ((o : ReaderState S) (e : Entry) (t : ReaderState S) → made o e t → e.reply ≡ r) → last ≡ last_from None v.mine → last_of last r ≡ last_from None w.mine
+    → Taken drawn v x u → (p : Put drawn made u y w) → p.0.call.reply ≡ r → last ≡ last_from None v.mine → last_of last r ≡ last_from None w.mine
 last_after drawn made r v u w x y last t p is before =
-    ap (λ (n : Option ℕ). last_of n r) (before ∙ ap (λ k. last_from None k.mine) (sym t.after)) ∙ ap (last_of (last_from None u.mine)) (sym (is p.0.found p.0.call y p.0.such)) ∙ sym (last_from-push None u.mine p.0.call)
+    ap (λ (n : Option ℕ). last_of n r) (before ∙ ap (λ k. last_from None k.mine) (sym t.after)) ∙ ap (last_of (last_from None u.mine)) (sym is) ∙ sym (last_from-push None u.mine p.0.call)
     ∙ ap (λ k. last_from None k.mine) (sym p.1)
 
 -- What a read's number says, and its memory.

@@ -18,7 +18,7 @@ use Rattle.crossterm_read.specs.declared.read.reader.AtWake.TheVariants.{Stops, 
 use Rattle.crossterm_read.specs.Replies.{Replied, ToPoll, ToTake, Fault}
 use Rattle.crossterm_read.specs.Shelf.{ReaderState}
 use Rattle.crossterm_read.specs.Steps.{first_admitted, Asks, held_already, came, broke, tried, refused, End, Ready, Tried, Broke, Asked, ReadStep, RefusedOnlyWithoutRoom, TakeSays, end_of}
-use Rattle.crossterm_read.specs.Waiting.{AskedInTime, AsksInTime, EndsWoken, TimedPoll, WasLeft}
+use Rattle.crossterm_read.specs.Waiting.{AskedInTime, AsksInTime, EndsWoken, TimedPoll, TimedQuery, TimedKeyboard, WasLeft}
 use Rattle.crossterm_read.proofs.Asking.{asks_more}
 use Rattle.crossterm_read.proofs.Ready.{ready_there}
 
@@ -75,7 +75,7 @@ asked_begun wake f tries held zs end h (broke n ys kind z p o l e) none = inl (�
 asked_begun wake f tries held zs end h (tried n p l e) none = inl (λ y. let k = ap length y in omega arith)
 asked_begun wake f tries held zs end h (refused n p l e) none = inr e
 
-kind_of : (k l : ErrorKind) → Broke k ≡ Broke l → k ≡ l
+pub kind_of : (k l : ErrorKind) → Broke k ≡ Broke l → k ≡ l
 kind_of k l e = cc
 
 -- Where a wake-up broke asking it is the last answer.
@@ -221,6 +221,31 @@ module _ {S : Type 0} (drawn : S → List SourceAnswer → S → Type 0) (f : Se
     patient = λ e. ⊎_elim (λ w. inl w) (λ q. inr (reaches_later limit (last - start) (last - before) (omega arith) q)) (p.patient e);
     begun = p.begun;
     once = p.once;
+  }
+
+module _ {S : Type 0} (drawn : S → List SourceAnswer → S → Type 0) where
+  -- So is a query.
+  abbrev pub query_longer : (f : Seen → Bool) (limit : Option Duration) (before start last : ℕ) (s t : ReaderState S) (r : Replied) → before ≤ start → TimedQuery drawn f limit start last s t r → TimedQuery drawn f limit before last s t r
+  query_longer f limit before start last s t r h p = record {
+    tries = p.tries;
+    answers = p.answers;
+    drawn_so = p.drawn_so;
+    step = p.step;
+    memory = p.memory;
+    patient = λ e. ⊎_elim (λ w. inl w) (λ o. inr (⊎_elim (λ w. inl w) (λ q. inr (reaches_later limit (last - start) (last - before) (omega arith) q)) o)) (p.patient e);
+    begun = p.begun;
+  }
+
+  abbrev pub board_longer : (limit : Option Duration) (before start last : ℕ) (s t : ReaderState S) (r : Replied) → before ≤ start → TimedKeyboard drawn limit start last s t r → TimedKeyboard drawn limit before last s t r
+  board_longer limit before start last s t r h p = record {
+    tries = p.tries;
+    again = p.again;
+    answers = p.answers;
+    drawn_so = p.drawn_so;
+    step = p.step;
+    memory = p.memory;
+    patient = λ e. ⊎_elim (λ w. inl w) (λ o. inr (⊎_elim (λ w. inl w) (λ q. inr (reaches_later limit (last - start) (last - before) (omega arith) q)) o)) (p.patient e);
+    begun = p.begun;
   }
 
 module _ {S : Type 0} (drawn : S → List SourceAnswer → S → Type 0) (f : Seen → Bool) (limit : Option Duration) (none : limit ≡ None) (start last : ℕ) (s m : ReaderState S) where

@@ -37,9 +37,9 @@ module _ {S : Type 0} (drawn : S → List SourceAnswer → S → Type 0) (asked 
     pub reply : e.reply ≡ r
     pub limits : AsksWithin limit before after (asked found.source) (asked left.source)
 
-  -- A query for the keyboard's flags, likewise.
-  pub record IsKeyboard (limit : Option Duration) (before after : ℕ) (r : Replied) (found : ReaderState S) (e : Entry) (left : ReaderState S) : Type 0 where
-    pub timed : TimedKeyboard drawn limit before after found left r
-    pub call : e.call ≡ Keyboard timed.tries timed.again
-    pub answers : e.answers ≡ timed.answers
-    pub reply : e.reply ≡ r
+-- A query for the keyboard's flags, likewise.
+pub record IsKeyboard {S : Type 0} (drawn : S → List SourceAnswer → S → Type 0) (limit : Option Duration) (before after : ℕ) (r : Replied) (found : ReaderState S) (e : Entry) (left : ReaderState S) : Type 0 where
+  pub timed : TimedKeyboard drawn limit before after found left r
+  pub call : e.call ≡ Keyboard timed.tries timed.again
+  pub answers : e.answers ≡ timed.answers
+  pub reply : e.reply ≡ r

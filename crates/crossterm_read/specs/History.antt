@@ -6,7 +6,7 @@ use Rattle.crossterm_types.specs.Seen.{Seen}
 use Rattle.crossterm_types.specs.declared.event.filter.AnyFilter.{AnyFilter}
 use Rattle.crossterm_types.specs.declared.event.filter.AnyFilter.TheVariants as filter
 use Rattle.crossterm_read.specs.Answers.{SourceAnswer}
-use Rattle.crossterm_read.specs.Calls.{Request, Poll, Read, Take, Position, Keyboard, Step, IsWithin, taken}
+use Rattle.crossterm_read.specs.Calls.{Request, Read, Take, Position, Keyboard, Step, IsWithin, taken}
 use Rattle.crossterm_read.specs.Numbers.{IsLow}
 use Rattle.crossterm_read.specs.Replies.{Replied, ToPoll, ToTake, ToQuery, Fault}
 use Rattle.crossterm_read.specs.Shelf.{ReaderState, arrived, numbered_after}

@@ -1,28 +1,34 @@
 //! Queries: a reply is waited for, and taken.
-ghost use Rattle.std.specs.Prelude.{◌≡◌, ◌≢◌, ◌⊎◌, ◌≤◌, ◌<◌, true, IfOk, IfErr, ℕ, List, None};
+ghost use Rattle.std.specs.Prelude.{◌≡◌, ◌≢◌, ◌⊎◌, ◌≤◌, ◌<◌, true, IfOk, IfErr, ℕ, List, Option, Some, None};
+ghost use Rattle.std.specs.Duration.{as_nanos};
 ghost use Rattle.std.specs.IoError.{error_kind};
 ghost use Rattle.std.specs.declared.io.ErrorKind.TheVariants.{Other};
 ghost use Rattle.std.specs.Option.{option_map};
 ghost use Rattle.crossterm_types.specs.Admitting.{is_attributes, is_cursor_position, is_flags_reply};
 ghost use Rattle.crossterm_types.specs.Seen.{CursorPosition, Seen, seen};
 ghost use Rattle.crossterm_read.specs.Answers.{SourceAnswer, IsOwn};
-ghost use Rattle.crossterm_read.specs.Device.{AsksAtOnce};
+ghost use Rattle.crossterm_read.specs.Device.{AsksAtOnce, AsksEach};
+ghost use Rattle.crossterm_read.specs.History.{last_of};
 ghost use Rattle.crossterm_read.specs.Queries.{KeyboardStep, LeftSays, QuerySays, QueryStep};
-ghost use Rattle.crossterm_read.specs.Replies.{Fault, Replied, ToPoll, ToQuery, flags_seen, keyboard_said, poll_reply, position_said, read_reply, shown};
+ghost use Rattle.crossterm_read.specs.Replies.{Fault, Replied, ToPoll, ToQuery, flags_said, flags_seen, last_said, keyboard_said, poll_reply, position_said, read_reply, shown};
 ghost use Rattle.crossterm_read.specs.Shelf.{capacity, kept};
 ghost use Rattle.crossterm_read.specs.Steps.{RefusedOnlyWithoutRoom, first_admitted};
+ghost use Rattle.crossterm_read.specs.Waiting.{TimedKeyboard, TimedQuery, WasLeft};
 
 use crate::read::InternalEventReader;
 use crate::source::EventSource;
 use crossterm_types::event::filter::{
     CursorPositionFilter, Filter, KeyboardEnhancementFlagsFilter, PrimaryDeviceAttributesFilter,
 };
+use crossterm_types::event::timeout::{Clock, PollTimeout};
 use crossterm_types::event::{InternalEvent, KeyboardEnhancementFlags};
 use std::alloc::Allocator;
 use std::io;
+use std::sync::Wait;
+use std::time::Duration;
 
 // The cursor's place that a reply tells: column and row.
-fn place<A: Allocator>(event: &InternalEvent<A>) -> (u16, u16)
+pub(crate) fn place<A: Allocator>(event: &InternalEvent<A>) -> (u16, u16)
     requires { is_cursor_position (seen event.now) ≡ true }
     ensures { seen event.now ≡ CursorPosition result.0 result.1 }
 {
@@ -41,6 +47,16 @@ fn flags_of<A: Allocator>(event: &InternalEvent<A>) -> Option<KeyboardEnhancemen
         InternalEvent::KeyboardEnhancementFlags(flags) => Some(*flags),
         InternalEvent::PrimaryDeviceAttributes => None,
         _ => unreachable!(),
+    }
+}
+
+// The number of what was taken, or else of what was taken before.
+fn number_of<A: Allocator>(taken: &Option<(InternalEvent<A>, u64)>, before: u64) -> u64
+    ensures { (x : Seen) → last_of None (ToQuery (x, before) (option_map kept taken.now)) ≡ Some result }
+{
+    match taken {
+        Some((_event, number)) => *number,
+        None => before,
     }
 }
 
@@ -88,6 +104,24 @@ impl<S: EventSource<A>, A: Allocator> InternalEventReader<S, A> {
         ensures err { IfErr result (λ e. (error_kind e ≡ Other) ⊎ IsOwn (error_kind e) ⊎ (S.failed self.old.source < S.failed self.new.source)) }
     {
         let ready = self.poll_within(tries, filter);
+        self.reply_taken(ready, filter)
+    }
+
+    // Polls for a reply within what is left of the limit, and takes it.
+    pub(crate) fn query_until<F: Filter, C: Clock, R: Wait>(
+        &mut self,
+        rt: &R,
+        timeout: PollTimeout,
+        clock: &mut C,
+        filter: &F,
+    ) -> io::Result<(InternalEvent<A>, u64)>
+        requires { as_nanos timeout.start ≤ C.told clock.old }
+        ensures step { TimedQuery S.drawn (F.admits filter.now) timeout.limit (as_nanos timeout.start) (C.told clock.new) self.old self.new (read_reply result) }
+        ensures limits { AsksEach (WasLeft timeout (C.told clock.new)) (S.asked self.old.source) (S.asked self.new.source) }
+        ensures later { C.told clock.old ≤ C.told clock.new }
+        ensures admitted { IfOk result (λ x. F.admits filter.now (seen x.0) ≡ true) }
+    {
+        let ready = self.poll_until(rt, timeout, clock, filter);
         self.reply_taken(ready, filter)
     }
 
@@ -153,6 +187,33 @@ impl<S: EventSource<A>, A: Allocator> InternalEventReader<S, A> {
                     Ok(Some(flags))
                 }
                 None => Ok(None),
+            },
+            Err(error) => Err(error),
+        }
+    }
+
+    // Takes the reply to a query for the keyboard's flags within what is left of the limit, and gives the number of what was taken last.
+    // After the flags it waits as long again for the attributes.
+    pub(crate) fn keyboard_until<C: Clock, R: Wait>(
+        &mut self,
+        rt: &R,
+        timeout: PollTimeout,
+        again: Duration,
+        clock: &mut C,
+    ) -> io::Result<(Option<KeyboardEnhancementFlags>, u64)>
+        requires { as_nanos timeout.start ≤ C.told clock.old }
+        ensures step { (r : Replied) × TimedKeyboard S.drawn timeout.limit (as_nanos timeout.start) (C.told clock.new) self.old self.new r × (flags_said result ≡ shown r)
+            × ((n : Option ℕ) → last_of n r ≡ last_said n result) }
+        ensures later { C.told clock.old ≤ C.told clock.new }
+    {
+        match self.query_until(rt, timeout, clock, &KeyboardEnhancementFlagsFilter) {
+            Ok((event, number)) => match flags_of(&event) {
+                Some(flags) => {
+                    let ready = self.poll(rt, Some(again), clock, &PrimaryDeviceAttributesFilter);
+                    let left = self.left_taken(ready);
+                    Ok((Some(flags), number_of(&left, number)))
+                }
+                None => Ok((None, number)),
             },
             Err(error) => Err(error),
         }

@@ -2,6 +2,7 @@
 
 mod calls;
 mod pass;
+mod queries;
 mod reader;
 mod room;
 mod rule;

@@ -97,10 +97,7 @@ impl<S: EventSource<A>, A: Allocator> EventReader<S, A> {
     {
         let start = clock.now();
         let timeout = PollTimeout::new(limit, start);
-        let Some(mut reader) = self
-            .room
-            .take_within(rt, &mut pass.seat, &timeout, clock)
-        else {
+        let Some(mut reader) = self.room.take_within(rt, &mut pass.seat, &timeout, clock) else {
             return Ok(false);
         };
         let result = reader.poll_until(rt, timeout, clock, &filter);

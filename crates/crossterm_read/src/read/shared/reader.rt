@@ -7,9 +7,9 @@ ghost use Rattle.crossterm_read.specs.History.{Closes, Meets, opened};
 ghost use Rattle.crossterm_read.specs.Seats.{knows, number};
 ghost use Rattle.crossterm_read.specs.Shared.{IsPassOf, IsShareOf};
 
+use crate::read::InternalEventReader;
 use crate::read::shared::pass::Pass;
 use crate::read::shared::room::Room;
-use crate::read::InternalEventReader;
 use crate::source::{EventSource, Waker};
 use std::alloc::{Allocator, Global};
 use std::io;
@@ -79,11 +79,7 @@ impl<S: EventSource<A>, A: Allocator> EventReader<S, A> {
     /// Takes the reader out for good, where no other share of it is left, and else gives `None`.
     ///
     /// The reader holds what was left, and goes on where the last call ended. After that the pass is of no more use.
-    pub fn close<R: Wait>(
-        self,
-        rt: &R,
-        pass: &mut Pass<S, A>,
-    ) -> Option<InternalEventReader<S, A>>
+    pub fn close<R: Wait>(self, rt: &R, pass: &mut Pass<S, A>) -> Option<InternalEventReader<S, A>>
         requires { IsPassOf self pass.old }
         ensures closed { IfSome result (λ r. Closes S.drawn (knows pass.old) r (knows pass.new)) }
         ensures shared { IfNone result (knows pass.new ≡ knows pass.old) }

@@ -12,12 +12,12 @@ ghost use Rattle.crossterm_read.specs.Shelf.{ReaderState};
 ghost use Rattle.crossterm_read.specs.Slot.{Brings, Learnt, Put, Taken, first_of, one_less, one_more, taught};
 
 use crate::read::InternalEventReader;
-use crate::read::waiting::Still;
 use crate::read::shared::pass::Pass;
 use crate::read::shared::rule::{
     Another, Left, Made, OneAndTheSame, Opens, Others, Puts, Seat, Slot, Takes, TakesIn,
 };
 use crate::read::shared::view::View;
+use crate::read::waiting::Still;
 use crate::source::{EventSource, Waker};
 use crossterm_types::event::timeout::{Clock, PollTimeout};
 use std::alloc::Allocator;
@@ -154,11 +154,7 @@ impl<S: EventSource<A>, A: Allocator> Room<S, A> {
     }
 
     // Takes the reader out, and waits for it.
-    pub(crate) fn take<R: Wait>(
-        &self,
-        rt: &R,
-        seat: &mut Seat<S, A>,
-    ) -> InternalEventReader<S, A>
+    pub(crate) fn take<R: Wait>(&self, rt: &R, seat: &mut Seat<S, A>) -> InternalEventReader<S, A>
         requires seat { queue.IsPassOf self.now.slot seat.old }
         requires opened { (o : ReaderState S) × ((view seat.old).opening ≡ Some o) }
         ensures seat { IsSamePass seat.old seat.new }

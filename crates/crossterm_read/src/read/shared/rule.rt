@@ -33,14 +33,12 @@ impl Others for Brand {
 pub struct Opens<M>(PhantomData<M>);
 
 impl<S: EventSource<A>, A: Allocator, M: Others> Outcome<InternalEventReader<S, A>, View<S>>
-    for Opens<M>
-{
+    for Opens<M> {
     ghost then = { λ v x w. w ≡ first_of x M.others M.others };
 }
 
 impl<S: EventSource<A>, A: Allocator, M: Others> Lesson<InternalEventReader<S, A>, View<S>>
-    for Opens<M>
-{
+    for Opens<M> {
     ghost fact = { λ v items. items ≡ [] };
 }
 
@@ -76,15 +74,17 @@ impl<T> Made<T> for Brand {
 /// The reader is put back, after one call.
 pub struct Puts<M>(PhantomData<M>);
 
-impl<S: EventSource<A>, A: Allocator, M: Made<InternalEventReader<S, A>>>
-    Outcome<InternalEventReader<S, A>, View<S>> for Puts<M>
-{
+impl<S: EventSource<A>, A: Allocator, M: Made<InternalEventReader<S, A>>> Outcome<
+    InternalEventReader<S, A>,
+    View<S>,
+> for Puts<M> {
     ghost then = { Put S.drawn M.made };
 }
 
-impl<S: EventSource<A>, A: Allocator, M: Made<InternalEventReader<S, A>>>
-    Lesson<InternalEventReader<S, A>, View<S>> for Puts<M>
-{
+impl<S: EventSource<A>, A: Allocator, M: Made<InternalEventReader<S, A>>> Lesson<
+    InternalEventReader<S, A>,
+    View<S>,
+> for Puts<M> {
     ghost fact = { λ v items. items ≡ [] };
 }
 

@@ -1,4 +1,4 @@
-use Rattle.std.proofs.Common.{◌≡◌, sym, subst, subst₂}
+use Rattle.std.proofs.Common.{sym, subst}
 use Rattle.crossterm_read.specs.Waking.{AreOneKind}
 use Rattle.crossterm_read.specs.declared.source.waker.Kind.TheVariants.{Nobody, Flag}
 use Rattle.crossterm_read.proofs.source.waker.Waker.share.Goals as goal

@@ -1,4 +1,4 @@
-use Rattle.std.proofs.Common.{ap, sym, ◌∙◌}
+use Rattle.std.proofs.Common.{◌∙◌}
 use Rattle.crossterm_read.proofs.Sharing.{some_there, closed_as, closed_sits, closed_last}
 use Rattle.crossterm_read.specs.Seats.{knows}
 use Rattle.crossbeam_queue.specs.Passes.{view}

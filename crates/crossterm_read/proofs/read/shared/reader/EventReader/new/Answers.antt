@@ -1,6 +1,4 @@
 use Rattle.std.proofs.Common.{◌≡◌, sym, ap, subst, ◌∙◌, All}
-use Rattle.std.specs.Arc.{arc_value}
-use Rattle.crossbeam_queue.specs.Passes.{view}
 use Rattle.crossterm_read.specs.History.{opened}
 use Rattle.crossterm_read.specs.Seats.{IsSeatOf, knows, number}
 use Rattle.crossterm_read.specs.Slot.{first_of}

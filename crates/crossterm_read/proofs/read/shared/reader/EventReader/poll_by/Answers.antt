@@ -1,15 +1,12 @@
-use Rattle.std.proofs.Common.{◌≡◌, ◌≤◌, ◌-◌, Option, refl, ap, sym, subst, inl, inr, arith, ◌∙◌}
+use Rattle.std.proofs.Common.{Option, refl, ap, sym, subst, inl, arith, ◌∙◌}
 use Rattle.std.specs.Duration.{as_nanos}
 use Rattle.std.specs.declared.time.Duration.{Duration}
 use Rattle.crossbeam_queue.specs.Passes.{view}
 use Rattle.crossterm_types.specs.Admitting.{admitted}
-use Rattle.crossterm_types.specs.Timing.{Reaches}
 use Rattle.crossterm_read.specs.Calls.{Poll}
-use Rattle.crossterm_read.specs.Entries.{IsPoll}
 use Rattle.crossterm_read.specs.Replies.{poll_reply}
 use Rattle.crossterm_read.specs.Waiting.{TimedPoll}
 use Rattle.crossterm_read.proofs.Sharing.{some_there, brings, extends, extends_as, poll_longer, sits_taken, sits_put, last_after, last_poll}
-use Rattle.crossterm_read.proofs.Waiting.{reaches_later}
 use Rattle.crossterm_read.proofs.read.shared.reader.EventReader.poll_by.Goals as goal
 
 pub take_within-requires-clause-opened : goal.take_within-requires-clause-opened
@@ -33,7 +30,7 @@ invariant_of-pass-2 g c = record {
   clear = c.put.ensures.seat.2 ∙ c.take_within.ensures.seat.2 ∙ c.args.pass.now.clear;
   sits = sits_put g.S.EventSource.drawn _ _ _ _ (sits_taken g.S.EventSource.drawn _ _ _ c.args.pass.now.sits c.in-Some.ensures.taken) c.put.ensures.put;
   taken = sym (last_poll c.args.pass.now.last c.poll_until-result.result)
-      ∙ last_after g.S.EventSource.drawn _ _ (view c.args.pass.now.seat) (view c.take_within.new.seat) (view c.put.new.seat) _ _ c.args.pass.now.last c.in-Some.ensures.taken c.put.ensures.put (λ o e t m. m.reply) c.args.pass.now.taken;
+      ∙ last_after g.S.EventSource.drawn _ _ (view c.args.pass.now.seat) (view c.take_within.new.seat) (view c.put.new.seat) _ _ c.args.pass.now.last c.in-Some.ensures.taken c.put.ensures.put c.put.ensures.put.0.such.reply c.args.pass.now.taken;
 }
 
 pub returns-clause-call : goal.returns-clause-call

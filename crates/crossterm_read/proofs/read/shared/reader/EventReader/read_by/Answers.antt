@@ -1,4 +1,4 @@
-use Rattle.std.proofs.Common.{◌≡◌, true, refl, ap, sym, ◌∙◌}
+use Rattle.std.proofs.Common.{◌≡◌, true, refl, sym, ◌∙◌}
 use Rattle.crossbeam_queue.specs.Passes.{view}
 use Rattle.crossterm_types.specs.Admitting.{admitted}
 use Rattle.crossterm_read.specs.Calls.{Read}
@@ -20,7 +20,7 @@ invariant_of-pass g c = record {
   clear = c.put.ensures.seat.2 ∙ c.take-reader.ensures.seat.2 ∙ c.args.pass.now.clear;
   sits = sits_put g.S.EventSource.drawn _ _ _ _ (sits_taken g.S.EventSource.drawn _ _ _ c.args.pass.now.sits c.take-reader.ensures.taken) c.put.ensures.put;
   taken = c.last_after-pass.ensures ∙ sym (last_read c.args.pass.now.last c.read_numbered-taken.result)
-      ∙ last_after g.S.EventSource.drawn _ _ (view c.args.pass.now.seat) (view c.take-reader.new.seat) (view c.put.new.seat) _ _ c.args.pass.now.last c.take-reader.ensures.taken c.put.ensures.put (λ o e t m. m.reply) c.args.pass.now.taken;
+      ∙ last_after g.S.EventSource.drawn _ _ (view c.args.pass.now.seat) (view c.take-reader.new.seat) (view c.put.new.seat) _ _ c.args.pass.now.last c.take-reader.ensures.taken c.put.ensures.put c.put.ensures.put.0.such.reply c.args.pass.now.taken;
 }
 
 pub returns-clause-call : goal.returns-clause-call

@@ -1,5 +1,4 @@
-use Rattle.std.proofs.Common.{rules, ◌≡◌, ◌<◌, ◌^◌, sym, ap, subst, ◌∙◌}
-use Rattle.crossbeam_queue.specs.Passes.{view}
+use Rattle.std.proofs.Common.{rules}
 use Rattle.crossterm_read.proofs.Moves.{opens_as}
 use Rattle.crossterm_read.proofs.read.shared.room.Room.new.Goals as goal
 

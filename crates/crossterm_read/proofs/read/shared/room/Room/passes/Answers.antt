@@ -1,4 +1,4 @@
-use Rattle.std.proofs.Common.{◌≡◌, ◌∷◌, ◌++◌, [], ◌+◌, List, ◌-◌, ◌<◌, ◌≤◌, ℕ, suc, Some, All, map, insert, arith, refl, sym, ap, subst, ◌∙◌}
+use Rattle.std.proofs.Common.{◌≡◌, ◌∷◌, ◌++◌, [], ◌+◌, List, ◌-◌, ℕ, suc, All, map, arith, sym, ap, subst, ◌∙◌}
 use Rattle.std.specs.List.{range_with_len}
 use Rattle.std.proofs.lemmas.List.{map-append}
 use Rattle.std.proofs.lemmas.List.Elements.{All-cons, All-push}
@@ -27,7 +27,7 @@ loop-preserved g c =
     let items = c.in_ok-push.ensures.items in
     let left : (o : ReaderState g.row.S.Denot) → view c.args.first ≡ first_of o (n - 1) (n - 1) → view c.loop.first ≡ first_of o (n - 1) (suc (n - (k + 1))) = λ o is. i.left o is ∙ ap (first_of o (n - 1)) (omega (arith, c.loop-test.true)) in
     let made : (o : ReaderState g.row.S.Denot) → view c.args.first ≡ first_of o (n - 1) (n - 1) → (knows p ≡ opened o n (number p)) × (number p ≡ k) = λ o is.
-        made_knows (knows p) o n k (omega (arith, c.loop-test.true)) (omega (arith, c.loop.auto.counter)) (c.another.ensures.pass ∙ ap one_more (left o is)) in
+    made_knows (knows p) o n k (omega (arith, c.loop-test.true)) (omega (arith, c.loop.auto.counter)) (c.another.ensures.pass ∙ ap one_more (left o is)) in
     let here : k ≡ 1 + (k - 1) = omega (arith, c.loop.auto.counter) in
     let grown : suc (k - 1) ≡ k + 1 - 1 = omega (arith, c.loop.auto.counter) in
     record {

@@ -1,0 +1,41 @@
+use Rattle.std.proofs.Common.{Option, Some, refl, ap, sym, subst, inl, arith, ◌∙◌}
+use Rattle.std.specs.Duration.{as_nanos}
+use Rattle.std.specs.declared.time.Duration.{Duration}
+use Rattle.crossbeam_queue.specs.Passes.{view}
+use Rattle.crossterm_read.specs.Calls.{Keyboard}
+use Rattle.crossterm_read.specs.Waiting.{TimedKeyboard}
+use Rattle.crossterm_read.proofs.Sharing.{some_there, brings, extends, extends_at, keyboard_longer, sits_taken, sits_put, last_after}
+use Rattle.crossterm_read.proofs.read.shared.reader.EventReader.keyboard_by.Goals as goal
+
+pub take_within-requires-clause-opened : goal.take_within-requires-clause-opened
+take_within-requires-clause-opened g c = some_there _ c.args.pass.now.sits.opened
+
+pub keyboard_until-taken-requires : goal.keyboard_until-taken-requires
+keyboard_until-taken-requires g c = let start = ap as_nanos c.new-timeout.ensures.start ∙ c.now-start.ensures.told in omega (arith, c.take_within.ensures.later)
+
+pub put-requires-clause-brings : goal.put-requires-clause-brings
+put-requires-clause-brings g c =
+    let drawn = g.S.EventSource.drawn in
+    let s = c.keyboard_until-taken.ensures.step in
+    let timed = subst (λ (limit : Option Duration). TimedKeyboard drawn limit (as_nanos c.new-timeout.result.start) (g.C.Clock.told c.keyboard_until-taken.new.clock) c.in-Some.reader c.keyboard_until-taken.new.self s.0) c.new-timeout.ensures.limit s.1 in
+    let p = subst (λ n. TimedKeyboard drawn (Some c.args.limit) n (g.C.Clock.told c.keyboard_until-taken.new.clock) c.in-Some.reader c.keyboard_until-taken.new.self s.0) (ap as_nanos c.new-timeout.ensures.start) timed in
+    brings drawn _ _ _ c.in-Some.reader c.keyboard_until-taken.new.self c.in-Some.ensures.taken (Keyboard p.tries p.again) p.answers s.0
+    (record { timed = p; call = refl; answers = refl; reply = refl }, s.2, s.3) p.drawn_so p.step
+
+pub invariant_of-pass-2 : goal.invariant_of-pass-2
+invariant_of-pass-2 g c =
+    let b = c.put.ensures.put in record {
+      clear = c.put.ensures.seat.2 ∙ c.take_within.ensures.seat.2 ∙ c.args.pass.now.clear;
+      sits = sits_put g.S.EventSource.drawn _ _ _ _ (sits_taken g.S.EventSource.drawn _ _ _ c.args.pass.now.sits c.in-Some.ensures.taken) b;
+      taken = c.last_after-pass.ensures ∙ sym (b.0.such.2 c.args.pass.now.last)
+          ∙ last_after g.S.EventSource.drawn _ b.0.call.reply (view c.args.pass.now.seat) (view c.take_within.new.seat) (view c.put.new.seat) _ _ c.args.pass.now.last c.in-Some.ensures.taken b refl c.args.pass.now.taken;
+    }
+
+pub returns-clause-call : goal.returns-clause-call
+returns-clause-call g c =
+    let x = extends g.S.EventSource.drawn _ (view c.args.pass.now.seat) (view c.take_within.new.seat) (view c.put.new.seat) c.in-Some.reader c.keyboard_until-taken.new.self c.requires.1 c.in-Some.ensures.taken c.put.ensures.put in
+    inl (
+      x.call.reply,
+      c.flagged.ensures ∙ x.such.1,
+      extends_at g.S.EventSource.drawn _ _ _ _ x (keyboard_longer g.S.EventSource.drawn _ _ _ _ _ (omega (arith, c.now-start.ensures.later, c.now-start.ensures.told)) x.found x.call x.left x.such.0),
+    )

@@ -1,0 +1,42 @@
+use Rattle.std.proofs.Common.{Option, Some, refl, ap, sym, subst, inl, arith, ◌∙◌}
+use Rattle.std.specs.Duration.{as_nanos}
+use Rattle.std.specs.declared.time.Duration.{Duration}
+use Rattle.crossbeam_queue.specs.Passes.{view}
+use Rattle.crossterm_types.specs.Admitting.{is_cursor_position}
+use Rattle.crossterm_read.specs.Calls.{Position}
+use Rattle.crossterm_read.specs.Replies.{read_reply}
+use Rattle.crossterm_read.specs.Waiting.{TimedQuery}
+use Rattle.crossterm_read.proofs.Sharing.{some_there, brings, extends, extends_as, position_longer, sits_taken, sits_put, last_after, last_read}
+use Rattle.crossterm_read.proofs.read.shared.reader.EventReader.position_by.Goals as goal
+
+pub take_within-requires-clause-opened : goal.take_within-requires-clause-opened
+take_within-requires-clause-opened g c = some_there _ c.args.pass.now.sits.opened
+
+pub query_until-taken-requires : goal.query_until-taken-requires
+query_until-taken-requires g c = let start = ap as_nanos c.new-timeout.ensures.start ∙ c.now-start.ensures.told in omega (arith, c.take_within.ensures.later)
+
+pub put-requires-clause-brings : goal.put-requires-clause-brings
+put-requires-clause-brings g c =
+    let drawn = g.S.EventSource.drawn in
+    let start = ap as_nanos c.new-timeout.ensures.start in
+    let timed = subst (λ (limit : Option Duration). TimedQuery drawn is_cursor_position limit (as_nanos c.new-timeout.result.start) (g.C.Clock.told c.query_until-taken.new.clock) c.in-Some.reader c.query_until-taken.new.self (read_reply c.query_until-taken.result))
+    c.new-timeout.ensures.limit c.query_until-taken.ensures.step in
+    let p = subst (λ n. TimedQuery drawn is_cursor_position (Some c.args.limit) n (g.C.Clock.told c.query_until-taken.new.clock) c.in-Some.reader c.query_until-taken.new.self (read_reply c.query_until-taken.result)) start timed in
+    brings drawn _ _ _ c.in-Some.reader c.query_until-taken.new.self c.in-Some.ensures.taken (Position p.tries) p.answers (read_reply c.query_until-taken.result)
+    (record { timed = p; call = refl; answers = refl; reply = refl; limits = (c.new-timeout.result, c.new-timeout.ensures.limit, omega (arith, start), c.query_until-taken.ensures.limits) }) p.drawn_so p.step
+
+pub invariant_of-pass-2 : goal.invariant_of-pass-2
+invariant_of-pass-2 g c = record {
+  clear = c.put.ensures.seat.2 ∙ c.take_within.ensures.seat.2 ∙ c.args.pass.now.clear;
+  sits = sits_put g.S.EventSource.drawn _ _ _ _ (sits_taken g.S.EventSource.drawn _ _ _ c.args.pass.now.sits c.in-Some.ensures.taken) c.put.ensures.put;
+  taken = c.last_after-pass.ensures ∙ sym (last_read c.args.pass.now.last c.query_until-taken.result)
+      ∙ last_after g.S.EventSource.drawn _ _ (view c.args.pass.now.seat) (view c.take_within.new.seat) (view c.put.new.seat) _ _ c.args.pass.now.last c.in-Some.ensures.taken c.put.ensures.put c.put.ensures.put.0.such.reply c.args.pass.now.taken;
+}
+
+pub returns-clause-call : goal.returns-clause-call
+returns-clause-call g c = inl (
+  read_reply c.query_until-taken.result,
+  c.placed.ensures,
+  extends_as g.S.EventSource.drawn _ _ (position_longer g.S.EventSource.drawn g.S.EventSource.asked _ _ _ _ _ (omega (arith, c.now-start.ensures.later, c.now-start.ensures.told))) _ _
+      (extends g.S.EventSource.drawn _ (view c.args.pass.now.seat) (view c.take_within.new.seat) (view c.put.new.seat) c.in-Some.reader c.query_until-taken.new.self c.requires.1 c.in-Some.ensures.taken c.put.ensures.put),
+)
