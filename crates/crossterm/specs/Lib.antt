@@ -1,3 +1,4 @@
+pub mod Asking
 pub mod Clipboard
 pub mod Controls
 pub mod Functions

@@ -10,7 +10,7 @@ use crate::command::{Command, execute_fmt, write_number, write_numbers, write_on
 use crate::csi;
 use crate::style::ColorOutput;
 use std::fmt;
-pub use sys::unix::position_within;
+pub use sys::unix::{position, position_within};
 
 /// Moves the cursor to a column and a row, both from 0 (CUP: ECMA-48, 8.3.21).
 ///

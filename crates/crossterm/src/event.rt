@@ -8,6 +8,7 @@ pub use commands::{
     EnableFocusChange, EnableMouseCapture, PopKeyboardEnhancementFlags,
     PushKeyboardEnhancementFlags,
 };
+pub use crossterm_read::read::{EventReader, Pass};
 pub use crossterm_read::{read, source};
 pub use crossterm_types::event::{
     Event, InternalEvent, KeyCode, KeyEvent, KeyEventKind, KeyEventState, KeyModifiers,

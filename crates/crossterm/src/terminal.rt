@@ -13,7 +13,9 @@ use crate::style::ColorOutput;
 pub use size::{WindowSize, tput_value};
 use std::fmt;
 use std::fmt::Display;
-pub use sys::unix::{ModeDevice, Terminal};
+pub use sys::unix::{
+    ModeDevice, Terminal, query_keyboard_enhancement_flags, supports_keyboard_enhancement,
+};
 
 /// Lines end at the last column (DECAWM: xterm ctlseqs, `CSI ? 7 l`).
 #[derive(Clone, Copy, PartialEq, Eq, Debug)]

@@ -1,10 +1,10 @@
-//! From a device to the events that one thread reads: crossterm's `event::source` and `event::read`.
+//! From a device to the events that one thread reads, or many: crossterm's `event::source` and `event::read`.
 //!
 //! A device tells bytes, resizes and wake-ups (`source::Device`). A source hands the bytes to the parser and gives events
 //! (`source::DeviceSource`). A reader holds the events in the order of their arrival until they are taken
-//! (`read::InternalEventReader`).
+//! (`read::InternalEventReader`). Threads share a reader (`read::EventReader`), each with a `read::Pass`.
 //!
-//! It stands on `crossterm_parse`, for the division of bytes into sequences, and on `crossterm_types`, for events and filters.
+//! It stands on `crossbeam_queue`, for the slot of a shared reader, on `crossterm_parse`, for the division of bytes into sequences, and on `crossterm_types`, for events and filters.
 //!
 //! The layers above use the steps of `InternalEventReader::{poll_within, read_within, take, position_within, keyboard_within}` over
 //! any `source::EventSource`, those of `poll` and `read`, which wait for a limit of time or without one, and
@@ -20,6 +20,9 @@
 //! | `specs/Replies.antt`, `specs/Steps.antt`, `specs/Queries.antt` | what one call replies and does |
 //! | `specs/Waiting.antt` | what a call with a limit of time does |
 //! | `specs/Calls.antt` | runs of calls, and the account of all events |
+//! | `specs/History.antt`, `specs/Entries.antt` | the one legal history of a reader that threads share, and which call an entry is |
+//! | `specs/Seats.antt`, `specs/Shared.antt` | what a clause says of passes and of shares |
+//! | `specs/Slot.antt` | the rule of the slot, which only proofs need |
 #![tactic(auto)]
 
 pub mod laws;

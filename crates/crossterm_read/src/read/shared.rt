@@ -1,8 +1,9 @@
 //! One reader for many threads.
 
 mod calls;
+mod keyboard;
 mod pass;
-mod queries;
+mod position;
 mod reader;
 mod room;
 mod rule;

@@ -1,15 +1,24 @@
 //! The cursor's place, as a Unix terminal replies it.
 ghost use Rattle.std.specs.Prelude.{◌≡◌, ◌≤◌, List};
+ghost use Rattle.crossterm.specs.Asking.{InRawMode, InTwoSeconds, Queries, position_query};
 ghost use Rattle.crossterm_types.specs.Admitting.{is_cursor_position};
 ghost use Rattle.crossterm_read.specs.Answers.{SourceAnswer};
 ghost use Rattle.crossterm_read.specs.Device.{AsksAtOnce};
+ghost use Rattle.crossterm_read.specs.Entries.{AsksPosition};
 ghost use Rattle.crossterm_read.specs.Queries.{QueryStep};
 ghost use Rattle.crossterm_read.specs.Replies.{Replied, position_said, shown};
+ghost use Rattle.crossterm_read.specs.Seats.{knows};
+ghost use Rattle.crossterm_read.specs.Shared.{IsPassOf};
 
-use crossterm_read::read::InternalEventReader;
+use crate::csi;
+use crate::terminal::sys::unix::{ModeDevice, QUERY_MILLIS, Terminal, send_query};
+use crossterm_read::read::{EventReader, InternalEventReader, Pass};
 use crossterm_read::source::EventSource;
+use crossterm_types::event::timeout::Clock;
 use std::alloc::Allocator;
 use std::io;
+use std::sync::Wait;
+use std::time::Duration;
 
 /// The cursor's column and row, from 0, by the first reply that tells them, after so many questions to the source at most.
 ///
@@ -27,4 +36,65 @@ pub fn position_within<S: EventSource<A>, A: Allocator>(
     ensures rise { S.failed reader.old.source ≤ S.failed reader.new.source }
 {
     reader.position_within(tries)
+}
+
+/// The cursor's column and row, from 0 (DSR `CSI 6 n`: ECMA-48, 8.3.35).
+///
+/// It writes the query, flushes, and waits 2000 ms for the reply, which it takes; one that was held already is taken first. All other
+/// events are held. Where the terminal isn't in raw mode that is switched on before and off after.
+///
+/// # Errors
+/// The device's where a switch was refused, in place of all else. The writer's where the query couldn't be written. `Other` where no reply
+/// came in time, where other threads had the reader until then, and after a wake-up. Else the source's.
+pub fn position<
+    S: EventSource<A>,
+    A: Allocator,
+    D: ModeDevice,
+    B: Allocator + Clone,
+    W: io::Write,
+    C: Clock,
+    R: Wait,
+>(
+    rt: &R,
+    term: &mut Terminal<D, B>,
+    reader: &EventReader<S, A>,
+    pass: &mut Pass<S, A>,
+    out: &mut W,
+    clock: &mut C,
+) -> io::Result<(u16, u16)>
+    requires { IsPassOf reader.now pass.old }
+    ensures pass { IsPassOf reader.now pass.new }
+    ensures query { InRawMode D.stands D.failed term.old term.new ((W.contents out.new ≡ W.contents out.old) × (knows pass.new ≡ knows pass.old))
+        (Queries (W.contents out.old) (W.contents out.new) position_query (knows pass.new ≡ knows pass.old) (λ r. InTwoSeconds (λ limit. AsksPosition S.drawn S.asked limit (C.told clock.old) (C.told clock.new) (knows pass.old) (knows pass.new) r))) result }
+    ensures later { C.told clock.old ≤ C.told clock.new }
+{
+    if term.is_raw_mode_enabled()? {
+        return position_raw(rt, reader, pass, out, clock);
+    }
+    term.enable_raw_mode()?;
+    let place = position_raw(rt, reader, pass, out, clock);
+    term.disable_raw_mode()?;
+    place
+}
+
+// The cursor's place, where the terminal is in raw mode.
+fn position_raw<S: EventSource<A>, A: Allocator, W: io::Write, C: Clock, R: Wait>(
+    rt: &R,
+    reader: &EventReader<S, A>,
+    pass: &mut Pass<S, A>,
+    out: &mut W,
+    clock: &mut C,
+) -> io::Result<(u16, u16)>
+    requires { IsPassOf reader.now pass.old }
+    ensures pass { IsPassOf reader.now pass.new }
+    ensures query { Queries (W.contents out.old) (W.contents out.new) position_query (knows pass.new ≡ knows pass.old) (λ r. InTwoSeconds (λ limit. AsksPosition S.drawn S.asked limit (C.told clock.old) (C.told clock.new) (knows pass.old) (knows pass.new) r)) result }
+    ensures later { C.told clock.old ≤ C.told clock.new }
+{
+    match send_query(out, csi!("6n")) {
+        Ok(()) => {
+            let limit = Duration::from_millis(QUERY_MILLIS);
+            reader.position_by(rt, pass, limit, clock)
+        }
+        Err(error) => Err(error),
+    }
 }

@@ -1,14 +1,28 @@
 //! Modes of a Unix terminal: raw mode on and off, and the size of the window.
-ghost use Rattle.std.specs.Prelude.{◌≡◌, ◌⊎◌, ◌<◌, ◌≤◌, ◌^◌, ◌-◌, ℕ, Option, Some, None, is_some, IfOk, IfErr, OnOk, OnErr, IsOk, IsOkAnd, IsTrue};
-ghost use Rattle.std.specs.Result.{result_ok};
+ghost use Rattle.std.specs.Prelude.{◌≡◌, ◌⊎◌, ◌<◌, ◌≤◌, ◌^◌, ◌-◌, ℕ, Option, Some, None, is_some, IfOk, IfErr, OnOk, OnErr, IsOk, IsOkAnd, IsTrue, Result};
+ghost use Rattle.std.specs.Io.KnownBytes.{Appends};
+ghost use Rattle.std.specs.Result.{result_map_both, result_ok};
+ghost use Rattle.std.specs.declared.io.Error.{Error};
+ghost use Rattle.crossterm_command.specs.Writing.{AppendsFront};
+ghost use Rattle.crossterm_read.specs.Entries.{AsksKeyboard};
+ghost use Rattle.crossterm_read.specs.Seats.{knows};
+ghost use Rattle.crossterm_read.specs.Shared.{IsPassOf};
+ghost use Rattle.crossterm.specs.Asking.{InRawMode, InTwoSeconds, Queries, keyboard_query};
 ghost use Rattle.crossterm.specs.Modes.{Modes, Refuses, told_size};
 ghost use Rattle.crossterm.specs.declared.terminal.size.WindowSize.{WindowSize};
 
+use crate::csi;
 use crate::terminal::size::{WindowSize, tput_size};
-use crossterm_read::source::RawFlag;
+use crossterm_command::write_text;
+use crossterm_read::read::{EventReader, Pass};
+use crossterm_read::source::{EventSource, RawFlag};
+use crossterm_types::event::KeyboardEnhancementFlags;
+use crossterm_types::event::timeout::Clock;
 use std::alloc::{Allocator, Global};
 use std::io;
 use std::marker::Model;
+use std::sync::Wait;
+use std::time::Duration;
 
 /// Switches a terminal's modes, and tells its size: what stands in the place of termios.
 pub trait ModeDevice: Drop {
@@ -146,5 +160,114 @@ impl<D: ModeDevice, A: Allocator + Clone> Terminal<D, A> {
                 None => Err(error),
             },
         }
+    }
+}
+
+// How many milliseconds a query waits for its reply.
+pub(crate) const QUERY_MILLIS: u64 = 2000;
+
+// Writes a query's text, and flushes.
+pub(crate) fn send_query<W: io::Write>(out: &mut W, text: &str) -> io::Result<()>
+    ensures ok { OnOk result (Appends (W.contents out.old) (W.contents out.new) text.now) }
+    ensures err { OnErr result (AppendsFront (W.contents out.old) (W.contents out.new) text.now) }
+{
+    match write_text(out, text) {
+        Ok(()) => out.flush(),
+        Err(error) => Err(error),
+    }
+}
+
+/// Whether the terminal knows the keyboard protocol: whether `query_keyboard_enhancement_flags` gives flags.
+///
+/// # Errors
+/// Those of `query_keyboard_enhancement_flags`.
+pub fn supports_keyboard_enhancement<
+    S: EventSource<A>,
+    A: Allocator,
+    D: ModeDevice,
+    B: Allocator + Clone,
+    W: io::Write,
+    C: Clock,
+    R: Wait,
+>(
+    rt: &R,
+    term: &mut Terminal<D, B>,
+    reader: &EventReader<S, A>,
+    pass: &mut Pass<S, A>,
+    out: &mut W,
+    clock: &mut C,
+) -> io::Result<bool>
+    requires { IsPassOf reader.now pass.old }
+    ensures pass { IsPassOf reader.now pass.new }
+    ensures query { (flags : Result (Option KeyboardEnhancementFlags) Error) × (result_map_both is_some (λ e. e) flags ≡ result)
+        × InRawMode D.stands D.failed term.old term.new ((W.contents out.new ≡ W.contents out.old) × (knows pass.new ≡ knows pass.old))
+        (Queries (W.contents out.old) (W.contents out.new) keyboard_query (knows pass.new ≡ knows pass.old) (λ r. InTwoSeconds (λ limit. AsksKeyboard S.drawn limit (C.told clock.old) (C.told clock.new) (knows pass.old) (knows pass.new) r))) flags }
+    ensures later { C.told clock.old ≤ C.told clock.new }
+{
+    match query_keyboard_enhancement_flags(rt, term, reader, pass, out, clock) {
+        Ok(flags) => Ok(flags.is_some()),
+        Err(error) => Err(error),
+    }
+}
+
+/// The flags of the keyboard protocol that stand (kitty keyboard, `CSI ? u`), or `None` where the terminal doesn't know it.
+///
+/// It writes the query and after it one for the terminal's attributes (DA `CSI c`: ECMA-48, 8.3.24), which every terminal answers, flushes,
+/// and waits 2000 ms for the first of both replies. After the flags it waits as long again for the attributes. Replies are taken, and all
+/// other events are held. Where the terminal isn't in raw mode that is switched on before and off after.
+///
+/// # Errors
+/// The device's where a switch was refused, in place of all else. The writer's where the query couldn't be written. `Other` where no reply
+/// came in time, where other threads had the reader until then, and after a wake-up. Else the source's.
+pub fn query_keyboard_enhancement_flags<
+    S: EventSource<A>,
+    A: Allocator,
+    D: ModeDevice,
+    B: Allocator + Clone,
+    W: io::Write,
+    C: Clock,
+    R: Wait,
+>(
+    rt: &R,
+    term: &mut Terminal<D, B>,
+    reader: &EventReader<S, A>,
+    pass: &mut Pass<S, A>,
+    out: &mut W,
+    clock: &mut C,
+) -> io::Result<Option<KeyboardEnhancementFlags>>
+    requires { IsPassOf reader.now pass.old }
+    ensures pass { IsPassOf reader.now pass.new }
+    ensures query { InRawMode D.stands D.failed term.old term.new ((W.contents out.new ≡ W.contents out.old) × (knows pass.new ≡ knows pass.old))
+        (Queries (W.contents out.old) (W.contents out.new) keyboard_query (knows pass.new ≡ knows pass.old) (λ r. InTwoSeconds (λ limit. AsksKeyboard S.drawn limit (C.told clock.old) (C.told clock.new) (knows pass.old) (knows pass.new) r))) result }
+    ensures later { C.told clock.old ≤ C.told clock.new }
+{
+    if term.is_raw_mode_enabled()? {
+        return flags_raw(rt, reader, pass, out, clock);
+    }
+    term.enable_raw_mode()?;
+    let flags = flags_raw(rt, reader, pass, out, clock);
+    term.disable_raw_mode()?;
+    flags
+}
+
+// The flags of the keyboard protocol, where the terminal is in raw mode.
+fn flags_raw<S: EventSource<A>, A: Allocator, W: io::Write, C: Clock, R: Wait>(
+    rt: &R,
+    reader: &EventReader<S, A>,
+    pass: &mut Pass<S, A>,
+    out: &mut W,
+    clock: &mut C,
+) -> io::Result<Option<KeyboardEnhancementFlags>>
+    requires { IsPassOf reader.now pass.old }
+    ensures pass { IsPassOf reader.now pass.new }
+    ensures query { Queries (W.contents out.old) (W.contents out.new) keyboard_query (knows pass.new ≡ knows pass.old) (λ r. InTwoSeconds (λ limit. AsksKeyboard S.drawn limit (C.told clock.old) (C.told clock.new) (knows pass.old) (knows pass.new) r)) result }
+    ensures later { C.told clock.old ≤ C.told clock.new }
+{
+    match send_query(out, csi!("?u", "\x1b[c")) {
+        Ok(()) => {
+            let limit = Duration::from_millis(QUERY_MILLIS);
+            reader.keyboard_by(rt, pass, limit, clock)
+        }
+        Err(error) => Err(error),
     }
 }

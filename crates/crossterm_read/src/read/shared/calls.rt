@@ -1,12 +1,10 @@
 //! The calls of a shared reader: polls and reads.
-ghost use Rattle.std.specs.Prelude.{◌≡◌, ◌⊎◌, ◌-◌, ◌≤◌, Ok, false, true, Some, IfOk};
+ghost use Rattle.std.specs.Prelude.{◌≡◌, ◌≤◌, true, Some, IfOk};
 ghost use Rattle.crossterm_types.specs.Admitting.{admitted, is_event};
 ghost use Rattle.crossterm_types.specs.Seen.{seen};
-ghost use Rattle.crossterm_types.specs.Timing.{Reaches};
 ghost use Rattle.crossterm_types.specs.declared.event.filter.AnyFilter.TheVariants as filters;
-ghost use Rattle.crossterm_read.specs.Entries.{IsPoll, IsRead};
-ghost use Rattle.crossterm_read.specs.History.{Extends};
-ghost use Rattle.crossterm_read.specs.Replies.{Replied, event_said, event_seen, last_said, poll_reply, read_reply, read_said, shown};
+ghost use Rattle.crossterm_read.specs.Entries.{Polls, Reads};
+ghost use Rattle.crossterm_read.specs.Replies.{event_said, event_seen, last_said, read_reply, read_said, shown};
 ghost use Rattle.crossterm_read.specs.Seats.{knows};
 ghost use Rattle.crossterm_read.specs.Shared.{IsPassOf};
 
@@ -67,7 +65,7 @@ impl<S: EventSource<A>, A: Allocator> EventReader<S, A> {
     ) -> io::Result<InternalEvent<A>>
         requires { IsPassOf self.now pass.old }
         ensures pass { IsPassOf self.now pass.new }
-        ensures call { (r : Replied) × (read_said result ≡ shown r) × Extends S.drawn (IsRead S.drawn S.asked filter r) (knows pass.old) (knows pass.new) }
+        ensures call { Reads S.drawn S.asked filter (knows pass.old) (knows pass.new) (read_said result) }
         ensures admitted { IfOk result (λ e. admitted filter (seen e) ≡ true) }
     {
         let mut reader = self.room.take(rt, &mut pass.seat);
@@ -91,8 +89,7 @@ impl<S: EventSource<A>, A: Allocator> EventReader<S, A> {
     ) -> io::Result<bool>
         requires { IsPassOf self.now pass.old }
         ensures pass { IsPassOf self.now pass.new }
-        ensures call { Extends S.drawn (IsPoll S.drawn S.asked filter limit (C.told clock.old) (C.told clock.new) (poll_reply result)) (knows pass.old) (knows pass.new)
-            ⊎ ((result ≡ Ok false) × (knows pass.new ≡ knows pass.old) × Reaches limit (C.told clock.new - C.told clock.old)) }
+        ensures call { Polls S.drawn S.asked filter limit (C.told clock.old) (C.told clock.new) (knows pass.old) (knows pass.new) result }
         ensures later { C.told clock.old ≤ C.told clock.new }
     {
         let start = clock.now();
@@ -114,7 +111,7 @@ impl<S: EventSource<A>, A: Allocator> EventReader<S, A> {
     pub fn read<R: Wait>(&self, rt: &R, pass: &mut Pass<S, A>) -> io::Result<Event<A>>
         requires { IsPassOf self.now pass.old }
         ensures pass { IsPassOf self.now pass.new }
-        ensures call { (r : Replied) × (event_said result ≡ shown r) × Extends S.drawn (IsRead S.drawn S.asked filters.Event r) (knows pass.old) (knows pass.new) }
+        ensures call { Reads S.drawn S.asked filters.Event (knows pass.old) (knows pass.new) (event_said result) }
     {
         match self.read_by(rt, pass, AnyFilter::Event) {
             Ok(event) => Ok(users(event)),
@@ -132,8 +129,7 @@ impl<S: EventSource<A>, A: Allocator> EventReader<S, A> {
     ) -> io::Result<bool>
         requires { IsPassOf self.now pass.old }
         ensures pass { IsPassOf self.now pass.new }
-        ensures call { Extends S.drawn (IsPoll S.drawn S.asked filters.Event (Some limit) (C.told clock.old) (C.told clock.new) (poll_reply result)) (knows pass.old) (knows pass.new)
-            ⊎ ((result ≡ Ok false) × (knows pass.new ≡ knows pass.old) × Reaches (Some limit) (C.told clock.new - C.told clock.old)) }
+        ensures call { Polls S.drawn S.asked filters.Event (Some limit) (C.told clock.old) (C.told clock.new) (knows pass.old) (knows pass.new) result }
         ensures later { C.told clock.old ≤ C.told clock.new }
     {
         self.poll_by(rt, pass, Some(limit), clock, AnyFilter::Event)

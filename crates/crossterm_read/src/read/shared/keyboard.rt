@@ -1,0 +1,60 @@
+//! The query of a shared reader for the keyboard's flags.
+ghost use Rattle.std.specs.Prelude.{◌≡◌, ◌≤◌};
+ghost use Rattle.crossterm_read.specs.Entries.{AsksKeyboard};
+ghost use Rattle.crossterm_read.specs.Replies.{flags_said, keyboard_said};
+ghost use Rattle.crossterm_read.specs.Seats.{knows};
+ghost use Rattle.crossterm_read.specs.Shared.{IsPassOf};
+
+use crate::read::shared::calls::last_after;
+use crate::read::shared::pass::Pass;
+use crate::read::shared::reader::EventReader;
+use crate::source::EventSource;
+use crossterm_types::event::KeyboardEnhancementFlags;
+use crossterm_types::event::timeout::{Clock, PollTimeout};
+use std::alloc::Allocator;
+use std::io;
+use std::marker::Brand;
+use std::sync::Wait;
+use std::time::Duration;
+
+// The flags that were taken.
+fn flagged(
+    taken: io::Result<(Option<KeyboardEnhancementFlags>, u64)>,
+) -> io::Result<Option<KeyboardEnhancementFlags>>
+    ensures { keyboard_said result ≡ flags_said taken }
+{
+    match taken {
+        Ok((flags, _number)) => Ok(flags),
+        Err(error) => Err(error),
+    }
+}
+
+impl<S: EventSource<A>, A: Allocator> EventReader<S, A> {
+    /// Takes the first reply that tells the flags of the keyboard protocol, or the terminal's attributes alone, for which the answer
+    /// is `None`, within the limit, which counts from the beginning of the call.
+    ///
+    /// After the flags it waits as long again for the attributes, and takes them where they come. The flags are the answer in any
+    /// case. Nothing is written. Errors are those of `position_by`.
+    pub fn keyboard_by<C: Clock, R: Wait>(
+        &self,
+        rt: &R,
+        pass: &mut Pass<S, A>,
+        limit: Duration,
+        clock: &mut C,
+    ) -> io::Result<Option<KeyboardEnhancementFlags>>
+        requires { IsPassOf self.now pass.old }
+        ensures pass { IsPassOf self.now pass.new }
+        ensures call { AsksKeyboard S.drawn limit (C.told clock.old) (C.told clock.new) (knows pass.old) (knows pass.new) result }
+        ensures later { C.told clock.old ≤ C.told clock.new }
+    {
+        let start = clock.now();
+        let timeout = PollTimeout::new(Some(limit), start);
+        let Some(mut reader) = self.room.take_within(rt, &mut pass.seat, &timeout, clock) else {
+            return Err(io::Error::from(io::ErrorKind::Other));
+        };
+        let taken = reader.keyboard_until(rt, timeout, limit, clock);
+        self.room.put::<Brand, _, R>(rt, &mut pass.seat, reader, &(limit, start, &*clock, &taken));
+        pass.last = last_after(pass.last, &taken);
+        flagged(taken)
+    }
+}

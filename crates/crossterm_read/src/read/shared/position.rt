@@ -1,0 +1,63 @@
+//! The query of a shared reader for the cursor's place.
+ghost use Rattle.std.specs.Prelude.{◌≡◌, ◌≤◌, IfOk, true};
+ghost use Rattle.crossterm_types.specs.Admitting.{is_cursor_position};
+ghost use Rattle.crossterm_types.specs.Seen.{seen};
+ghost use Rattle.crossterm_read.specs.Entries.{AsksPosition};
+ghost use Rattle.crossterm_read.specs.Replies.{position_said, read_reply, shown};
+ghost use Rattle.crossterm_read.specs.Seats.{knows};
+ghost use Rattle.crossterm_read.specs.Shared.{IsPassOf};
+
+use crate::read::queries::place;
+use crate::read::shared::calls::last_after;
+use crate::read::shared::pass::Pass;
+use crate::read::shared::reader::EventReader;
+use crate::source::EventSource;
+use crossterm_types::event::InternalEvent;
+use crossterm_types::event::filter::CursorPositionFilter;
+use crossterm_types::event::timeout::{Clock, PollTimeout};
+use std::alloc::Allocator;
+use std::io;
+use std::marker::Brand;
+use std::sync::Wait;
+use std::time::Duration;
+
+// The place that was taken.
+fn placed<A: Allocator>(taken: io::Result<(InternalEvent<A>, u64)>) -> io::Result<(u16, u16)>
+    requires { IfOk taken (λ x. is_cursor_position (seen x.0) ≡ true) }
+    ensures { position_said result ≡ shown (read_reply taken) }
+{
+    match taken {
+        Ok((event, _number)) => Ok(place(&event)),
+        Err(error) => Err(error),
+    }
+}
+
+impl<S: EventSource<A>, A: Allocator> EventReader<S, A> {
+    /// Takes the first reply that tells the cursor's place, within the limit, which counts from the beginning of the call: column
+    /// and row.
+    ///
+    /// Nothing is written. The error is `Other` where no reply came in time, where the reader wasn't there in time, and after a wake-up,
+    /// and else the source's.
+    pub fn position_by<C: Clock, R: Wait>(
+        &self,
+        rt: &R,
+        pass: &mut Pass<S, A>,
+        limit: Duration,
+        clock: &mut C,
+    ) -> io::Result<(u16, u16)>
+        requires { IsPassOf self.now pass.old }
+        ensures pass { IsPassOf self.now pass.new }
+        ensures call { AsksPosition S.drawn S.asked limit (C.told clock.old) (C.told clock.new) (knows pass.old) (knows pass.new) result }
+        ensures later { C.told clock.old ≤ C.told clock.new }
+    {
+        let start = clock.now();
+        let timeout = PollTimeout::new(Some(limit), start);
+        let Some(mut reader) = self.room.take_within(rt, &mut pass.seat, &timeout, clock) else {
+            return Err(io::Error::from(io::ErrorKind::Other));
+        };
+        let taken = reader.query_until(rt, timeout, clock, &CursorPositionFilter);
+        self.room.put::<Brand, _, R>(rt, &mut pass.seat, reader, &(limit, start, &*clock, &taken));
+        pass.last = last_after(pass.last, &taken);
+        placed(taken)
+    }
+}
