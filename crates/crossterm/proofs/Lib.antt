@@ -1,5 +1,5 @@
 pub mod Clipboards
 pub mod Commands
-pub mod Controls
+pub mod Printed
 mod SizeLaws
 pub mod StyleReadings

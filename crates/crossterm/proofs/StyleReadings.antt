@@ -1,7 +1,8 @@
--- The texts of the commands of style read as their functions.
-use Rattle.std.proofs.Common.{ℕ, ◌==◌, true, false, cond, List, ◌++◌, Option, Some, None, refl, arith, codes}
-use Rattle.crossterm_command.specs.Tokens.{Token, IsParameter, Reads}
-use Rattle.crossterm_command.proofs.Readings.{all_joined, all_read, both_read, nothing_reads, parameters_at}
+-- The functions of the commands of style are well formed.
+use Rattle.std.proofs.Common.{ℕ, ◌==◌, true, false, cond, List, ◌++◌, Option, Some, None, refl, codes}
+use Rattle.std.specs.List.{AllByRecursion}
+use Rattle.crossterm_command.specs.Tokens.{Token, IsParameter, IsWellFormed}
+use Rattle.crossterm_command.proofs.Readings.{all_joined, all_of_each, control_formed, known_formed, parameters_at}
 use Rattle.crossterm_command.specs.declared.color_output.ColorOutput.{ColorOutput}
 use Rattle.crossterm_style.specs.declared.types.attribute.Attribute.{Attribute}
 use Rattle.crossterm_style.specs.declared.types.color.Color.{Color}
@@ -10,67 +11,64 @@ use Rattle.crossterm_style.specs.declared.types.colored.Colored.TheVariants.{For
 use Rattle.crossterm_style.specs.declared.content_style.ContentStyle.{ContentStyle}
 use Rattle.crossterm_style.specs.Attributes.{code_of, members}
 use Rattle.crossterm_style.specs.Colors.{colored_text}
-use Rattle.crossterm_style.specs.Styles.{either_there, end_style_text, reset_where, set_attribute_text, set_attributes_text, set_background_text, set_color_text, set_colors_text, set_foreground_text, set_style_text, set_underline_text}
-use Rattle.crossterm.specs.StyleFunctions.{attribute_functions, attributes_functions, background_functions, color_functions, colors_functions, end_functions, foreground_functions, style_functions, styled_functions, underline_functions}
-use Rattle.crossterm.specs.Controls.{control}
+use Rattle.crossterm_style.specs.Styles.{attribute_functions, attributes_functions, background_functions, color_functions, colors_functions, either_there, end_functions, foreground_functions, reset_functions, reset_where, style_functions, styled_functions, underline_functions}
 use Rattle.crossterm_style.proofs.Parameters.{code_known, colored_parameters}
-use Rattle.crossterm.proofs.Controls.{control_reads, known_reads}
+
+abbrev pub Formed : List Token → Type 0
+Formed ts = AllByRecursion IsWellFormed ts
 
 -- ---- one by one
 
-pub color_reads : (colors : ColorOutput) (c : Colored) → Reads (set_color_text colors c) (color_functions colors c)
-color_reads colors c = control_reads (colored_text colors c) "m" (colored_parameters colors c) (omega arith, omega arith)
+pub color_formed : (colors : ColorOutput) (c : Colored) → Formed (color_functions colors c)
+color_formed colors c = control_formed (colored_text colors c) "m" (colored_parameters colors c) refl
 
-pub colors_read : (colors : ColorOutput) (f b : Option Color) → Reads (set_colors_text colors f b) (colors_functions colors f b)
-colors_read colors (Some f) (Some b) =
+pub colors_formed : (colors : ColorOutput) (f b : Option Color) → Formed (colors_functions colors f b)
+colors_formed colors (Some f) (Some b) =
     let front = colored_text colors (ForegroundColor f) in
     let back = colored_text colors (BackgroundColor b) in
-    control_reads (front ++ (codes ";" ++ back)) "m" (all_joined IsParameter front _ (colored_parameters colors (ForegroundColor f))
-    (all_joined IsParameter (codes ";") back (parameters_at (codes ";") refl) (colored_parameters colors (BackgroundColor b)))) (omega arith, omega arith)
-colors_read colors (Some f) None = color_reads colors (ForegroundColor f)
-colors_read colors None (Some b) = color_reads colors (BackgroundColor b)
-colors_read colors None None = nothing_reads
+    control_formed (front ++ (codes ";" ++ back)) "m" (all_joined IsParameter front _ (colored_parameters colors (ForegroundColor f))
+    (all_joined IsParameter (codes ";") back (parameters_at (codes ";") refl) (colored_parameters colors (BackgroundColor b)))) refl
+colors_formed colors (Some f) None = color_formed colors (ForegroundColor f)
+colors_formed colors None (Some b) = color_formed colors (BackgroundColor b)
+colors_formed colors None None = tt
 
-pub attribute_reads : (a : Attribute) → Reads (set_attribute_text a) (attribute_functions a)
-attribute_reads a = known_reads (code_of a) "m" (code_known a) (omega arith, omega arith)
+pub attribute_formed : (a : Attribute) → Formed (attribute_functions a)
+attribute_formed a = control_formed (code_of a) "m" (parameters_at (code_of a) (code_known a)) refl
 
-pub attributes_read : (bits : ℕ) → Reads (set_attributes_text bits) (attributes_functions bits)
-attributes_read bits = all_read set_attribute_text attribute_functions attribute_reads (members bits)
+pub attributes_formed : (bits : ℕ) → Formed (attributes_functions bits)
+attributes_formed bits = all_of_each IsWellFormed attribute_functions attribute_formed (members bits)
 
-background_reads : (colors : ColorOutput) (o : Option Color) → Reads (set_background_text colors o) (background_functions colors o)
-background_reads colors None = nothing_reads
-background_reads colors (Some c) = color_reads colors (BackgroundColor c)
+background_formed : (colors : ColorOutput) (o : Option Color) → Formed (background_functions colors o)
+background_formed colors None = tt
+background_formed colors (Some c) = color_formed colors (BackgroundColor c)
 
-foreground_reads : (colors : ColorOutput) (o : Option Color) → Reads (set_foreground_text colors o) (foreground_functions colors o)
-foreground_reads colors None = nothing_reads
-foreground_reads colors (Some c) = color_reads colors (ForegroundColor c)
+foreground_formed : (colors : ColorOutput) (o : Option Color) → Formed (foreground_functions colors o)
+foreground_formed colors None = tt
+foreground_formed colors (Some c) = color_formed colors (ForegroundColor c)
 
-underline_reads : (colors : ColorOutput) (o : Option Color) → Reads (set_underline_text colors o) (underline_functions colors o)
-underline_reads colors None = nothing_reads
-underline_reads colors (Some c) = color_reads colors (UnderlineColor c)
+underline_formed : (colors : ColorOutput) (o : Option Color) → Formed (underline_functions colors o)
+underline_formed colors None = tt
+underline_formed colors (Some c) = color_formed colors (UnderlineColor c)
 
 -- ---- in a row
 
-pub style_reads : (colors : ColorOutput) (s : ContentStyle) → Reads (set_style_text colors s) (style_functions colors s)
-style_reads colors s =
-    let attributes = attributes_functions s.attributes.0 in
-    let underline = underline_functions colors s.underline_color in
-    let foreground = foreground_functions colors s.foreground_color in
-    both_read _ _ (background_functions colors s.background_color) (foreground ++ (underline ++ attributes)) (background_reads colors s.background_color)
-    (both_read _ _ foreground (underline ++ attributes) (foreground_reads colors s.foreground_color)
-    (both_read _ _ underline attributes (underline_reads colors s.underline_color) (attributes_read s.attributes.0)))
+both_formed : (ts us : List Token) → Formed ts → Formed us → Formed (ts ++ us)
+both_formed ts us = all_joined IsWellFormed ts us
 
-end_reads : (colors : ColorOutput) (s : ContentStyle) → Reads (end_style_text colors s) (end_functions colors s)
-end_reads colors s =
+pub style_formed : (colors : ColorOutput) (s : ContentStyle) → Formed (style_functions colors s)
+style_formed colors s =
+    both_formed (background_functions colors s.background_color) _ (background_formed colors s.background_color)
+    (both_formed (foreground_functions colors s.foreground_color) _ (foreground_formed colors s.foreground_color)
+    (both_formed (underline_functions colors s.underline_color) _ (underline_formed colors s.underline_color) (attributes_formed s.attributes.0)))
+
+end_formed : (colors : ColorOutput) (s : ContentStyle) → Formed (end_functions colors s)
+end_formed colors s =
     let back = reset_where (either_there s.background_color None) in
     let front = reset_where (either_there s.foreground_color s.underline_color) in
-    elim (s.attributes.0 == 0) as (λ b. Reads (cond b (set_background_text colors back ++ set_foreground_text colors front) (codes "\u{1b}[0m")) (cond b (background_functions colors back ++ foreground_functions colors front) (control (codes "0") "m"))) [
-      | true ↦ both_read _ _ (background_functions colors back) (foreground_functions colors front) (background_reads colors back) (foreground_reads colors front)
-      | false ↦ known_reads (codes "0") "m" refl (omega arith, omega arith)
+    elim (s.attributes.0 == 0) as (λ b. Formed (cond b (background_functions colors back ++ foreground_functions colors front) reset_functions)) [
+      | true ↦ both_formed (background_functions colors back) _ (background_formed colors back) (foreground_formed colors front)
+      | false ↦ known_formed reset_functions refl
     ]
 
-pub styled_reads : (colors : ColorOutput) (s : ContentStyle) (content : List ℕ) (tokens : List Token) → Reads content tokens
-    → Reads (set_style_text colors s ++ (content ++ end_style_text colors s)) (styled_functions colors s tokens)
-styled_reads colors s content tokens r =
-    both_read _ _ (style_functions colors s) (tokens ++ end_functions colors s) (style_reads colors s)
-    (both_read _ _ tokens (end_functions colors s) r (end_reads colors s))
+pub styled_formed : (colors : ColorOutput) (s : ContentStyle) (content : List Token) → Formed content → Formed (styled_functions colors s content)
+styled_formed colors s content f = both_formed (style_functions colors s) _ (style_formed colors s) (both_formed content _ f (end_formed colors s))

@@ -1,9 +1,7 @@
 pub mod Clipboard
-pub mod Controls
 pub mod Functions
 pub mod Modes
 pub mod Ranks
+pub mod Sequences
 pub mod Sizes
-pub mod StyleFunctions
-pub mod Texts
 pub mod Updates

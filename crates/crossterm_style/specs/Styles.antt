@@ -1,6 +1,8 @@
--- The texts of the commands of style, byte for byte.
+-- What a terminal is told by the commands of style, by their fields.
 use Rattle.std.specs.Prelude.{ℕ, ◌==◌, List, [], ◌++◌, Bool, true, false, Option, Some, None, codes, flat_map, if◌then◌else◌}
 use Rattle.std.specs.Fmt.{◌++?◌}
+use Rattle.crossterm_command.specs.Controls.{control}
+use Rattle.crossterm_command.specs.Tokens.{Token, text_of}
 use Rattle.crossterm_command.specs.declared.color_output.ColorOutput.{ColorOutput}
 use Rattle.crossterm_style.specs.declared.types.attribute.Attribute.{Attribute}
 use Rattle.crossterm_style.specs.declared.types.color.Color.{Color}
@@ -15,48 +17,47 @@ use Rattle.crossterm_style.specs.Colors.{colored_text}
 abbrev pub no_style : ContentStyle
 no_style = record { foreground_color = None; background_color = None; underline_color = None; attributes = record { 0 = 0 } }
 
--- selects a graphic rendition: `ESC [`, parameters and `m`
-abbrev pub sgr_text : List ℕ → List ℕ
-sgr_text parameters = codes "\u{1b}[" ++ (parameters ++ codes "m")
+-- SGR with a colour's parameters
+abbrev pub color_functions : ColorOutput → Colored → List Token
+color_functions colors c = control (colored_text colors c) "m"
 
-abbrev pub set_color_text : ColorOutput → Colored → List ℕ
-set_color_text colors c = sgr_text (colored_text colors c)
+-- one SGR for both, one alone, or none
+abbrev pub colors_functions : ColorOutput → Option Color → Option Color → List Token
+colors_functions colors (Some f) (Some b) = control (colored_text colors (ForegroundColor f) ++ (codes ";" ++ colored_text colors (BackgroundColor b))) "m"
+colors_functions colors (Some f) None = color_functions colors (ForegroundColor f)
+colors_functions colors None (Some b) = color_functions colors (BackgroundColor b)
+colors_functions colors None None = []
 
--- both by one sequence, one alone, or nothing
-abbrev pub set_colors_text : ColorOutput → Option Color → Option Color → List ℕ
-set_colors_text colors (Some f) (Some b) = sgr_text (colored_text colors (ForegroundColor f) ++ (codes ";" ++ colored_text colors (BackgroundColor b)))
-set_colors_text colors (Some f) None = set_color_text colors (ForegroundColor f)
-set_colors_text colors None (Some b) = set_color_text colors (BackgroundColor b)
-set_colors_text colors None None = []
+-- SGR with an attribute's parameter
+abbrev pub attribute_functions : Attribute → List Token
+attribute_functions a = control (code_of a) "m"
 
-abbrev pub set_attribute_text : Attribute → List ℕ
-set_attribute_text a = sgr_text (code_of a)
+-- one SGR for each member of a set, in declared order
+abbrev pub attributes_functions : ℕ → List Token
+attributes_functions bits = flat_map attribute_functions (members bits)
 
--- a sequence for each, in declared order
-abbrev pub set_attributes_text : ℕ → List ℕ
-set_attributes_text bits = flat_map set_attribute_text (members bits)
+-- all colours and attributes are reset
+abbrev pub reset_functions : List Token
+reset_functions = control (codes "0") "m"
 
-abbrev pub reset_color_text : List ℕ
-reset_color_text = sgr_text (codes "0")
+-- colours where they are there
+abbrev pub background_functions : ColorOutput → Option Color → List Token
+background_functions colors None = []
+background_functions colors (Some c) = color_functions colors (BackgroundColor c)
 
--- a colour where it is there
-abbrev pub set_background_text : ColorOutput → Option Color → List ℕ
-set_background_text colors None = []
-set_background_text colors (Some c) = set_color_text colors (BackgroundColor c)
+abbrev pub foreground_functions : ColorOutput → Option Color → List Token
+foreground_functions colors None = []
+foreground_functions colors (Some c) = color_functions colors (ForegroundColor c)
 
-abbrev pub set_foreground_text : ColorOutput → Option Color → List ℕ
-set_foreground_text colors None = []
-set_foreground_text colors (Some c) = set_color_text colors (ForegroundColor c)
+abbrev pub underline_functions : ColorOutput → Option Color → List Token
+underline_functions colors None = []
+underline_functions colors (Some c) = color_functions colors (UnderlineColor c)
 
-abbrev pub set_underline_text : ColorOutput → Option Color → List ℕ
-set_underline_text colors None = []
-set_underline_text colors (Some c) = set_color_text colors (UnderlineColor c)
-
--- background, foreground, underline and attributes, in this order
-abbrev pub set_style_text : ColorOutput → ContentStyle → List ℕ
-set_style_text colors s =
-    set_background_text colors s.background_color ++ (set_foreground_text colors s.foreground_color
-    ++ (set_underline_text colors s.underline_color ++ set_attributes_text s.attributes.0))
+-- background, foreground, underline colour, attributes
+abbrev pub style_functions : ColorOutput → ContentStyle → List Token
+style_functions colors s =
+    background_functions colors s.background_color ++ (foreground_functions colors s.foreground_color
+    ++ (underline_functions colors s.underline_color ++ attributes_functions s.attributes.0))
 
 -- whether one of two colours is there
 abbrev pub either_there : Option Color → Option Color → Bool
@@ -68,17 +69,20 @@ either_there (Some c) d = true
 abbrev pub reset_where : Bool → Option Color
 reset_where there = if there then Some Reset else None
 
-abbrev pub reset_colors_text : ColorOutput → Bool → Bool → List ℕ
-reset_colors_text colors background foreground = set_background_text colors (reset_where background) ++ set_foreground_text colors (reset_where foreground)
+abbrev pub reset_colors_functions : ColorOutput → Bool → Bool → List Token
+reset_colors_functions colors background foreground = background_functions colors (reset_where background) ++ foreground_functions colors (reset_where foreground)
 
--- What ends a styled text. Where there were attributes all is reset; else a background, and then the foreground where it or the underline
--- had a colour.
-abbrev pub end_style_text : ColorOutput → ContentStyle → List ℕ
-end_style_text colors s =
+-- All is reset where there were attributes; else a background, and the foreground where it or the underline had a colour.
+abbrev pub end_functions : ColorOutput → ContentStyle → List Token
+end_functions colors s =
     if s.attributes.0 == 0
-    then reset_colors_text colors (either_there s.background_color None) (either_there s.foreground_color s.underline_color)
-    else reset_color_text
+    then reset_colors_functions colors (either_there s.background_color None) (either_there s.foreground_color s.underline_color)
+    else reset_functions
 
--- a content's text in its style, where it is known
-abbrev pub print_styled_text : ColorOutput → ContentStyle → Option (List ℕ) → Option (List ℕ)
-print_styled_text colors s content = Some (set_style_text colors s) ++? content ++? Some (end_style_text colors s)
+-- a content between its style and the end of it
+abbrev pub styled_functions : ColorOutput → ContentStyle → List Token → List Token
+styled_functions colors s content = style_functions colors s ++ (content ++ end_functions colors s)
+
+-- the text of that, by the content's text, where it is known
+abbrev pub styled_text : ColorOutput → ContentStyle → Option (List ℕ) → Option (List ℕ)
+styled_text colors s content = Some (text_of (style_functions colors s)) ++? content ++? Some (text_of (end_functions colors s))

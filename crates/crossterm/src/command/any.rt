@@ -4,8 +4,9 @@ ghost use Rattle.std.specs.IoError.{error_kind};
 ghost use Rattle.std.specs.List.{AllByRecursion};
 ghost use Rattle.std.specs.Io.KnownBytes.{Appends};
 ghost use Rattle.crossterm_command.specs.Faults.{Stopped};
+ghost use Rattle.crossterm_command.specs.Tokens.{text_of};
 ghost use Rattle.crossterm_command.specs.Writing.{AppendsFront};
-ghost use Rattle.crossterm.specs.Functions.{text_of, functions, IsReadable, AppendsReading};
+ghost use Rattle.crossterm.specs.Functions.{functions, IsReadable, AppendsReading};
 
 use crate::clipboard::CopyToClipboard;
 use crate::cursor::{
@@ -94,7 +95,7 @@ macro_rules! each_kind {
 }
 
 impl<A: Allocator> Command for AnyCommand<A> {
-    ghost text = { λ c colors. Some (text_of colors c) };
+    ghost text = { λ c colors. Some (text_of (functions colors c)) };
 
     fn write_ansi<W: fmt::Write>(&self, f: &mut W, colors: ColorOutput) -> fmt::Result {
         each_kind!(self, f, colors;
@@ -120,10 +121,10 @@ pub fn write_commands<A: Allocator, W: io::Write>(
     commands: &[AnyCommand<A>],
 ) -> Result<(), CommandFault>
     ensures texts { OnOk result (Appends (W.contents writer.old) (W.contents writer.new)
-        (flat_map (text_of colors) commands.now)) }
+        (text_of (flat_map (functions colors) commands.now))) }
     ensures reads { OnOk result (AllByRecursion IsReadable commands.now → AppendsReading (W.contents writer.old)
         (W.contents writer.new) (flat_map (functions colors) commands.now)) }
-    ensures err { IfErr result (λ fault. Stopped fault (Some (flat_map (text_of colors) commands.now))
+    ensures err { IfErr result (λ fault. Stopped fault (Some (text_of (flat_map (functions colors) commands.now)))
         (commands.now ≢ []) (W.contents writer.old) (W.contents writer.new)) }
 {
     for command in commands {
@@ -145,11 +146,11 @@ pub fn queue_all<A: Allocator, W: io::Write>(
     commands: &[AnyCommand<A>],
 ) -> io::Result<()>
     ensures texts { OnOk result (Appends (W.contents writer.old) (W.contents writer.new)
-        (flat_map (text_of colors) commands.now)) }
+        (text_of (flat_map (functions colors) commands.now))) }
     ensures reads { OnOk result (AllByRecursion IsReadable commands.now → AppendsReading (W.contents writer.old)
         (W.contents writer.new) (flat_map (functions colors) commands.now)) }
     ensures err { IfErr result (λ e. error_kind e ≢ ErrorKind.Other → AppendsFront (W.contents writer.old)
-        (W.contents writer.new) (flat_map (text_of colors) commands.now)) }
+        (W.contents writer.new) (text_of (flat_map (functions colors) commands.now))) }
 {
     match write_commands(writer, colors, commands) {
         Ok(()) => Ok(()),
