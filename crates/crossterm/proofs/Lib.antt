@@ -1,4 +1,5 @@
 pub mod Clipboards
+pub mod CommandLooks
 pub mod Commands
 pub mod Printed
 mod SizeLaws

@@ -1,17 +1,22 @@
 -- The functions of the commands of style are well formed.
-use Rattle.std.proofs.Common.{ℕ, ◌==◌, true, false, cond, List, ◌++◌, Option, Some, None, refl, codes}
+use Rattle.std.proofs.Common.{ℕ, ◌==◌, true, false, cond, List, [], ◌∷◌, ◌++◌, Option, Some, None, refl, codes, map}
+use Rattle.std.specs.Bool.{⊤}
 use Rattle.std.specs.List.{AllByRecursion}
 use Rattle.crossterm_command.specs.Tokens.{Token, IsParameter, IsWellFormed}
-use Rattle.crossterm_command.proofs.Readings.{all_joined, all_of_each, control_formed, known_formed, parameters_at}
+use Rattle.crossterm_command.specs.Tokens.Token.{Char}
+use Rattle.crossterm_command.proofs.Readings.{all_joined, control_formed, parameters_at}
 use Rattle.crossterm_command.specs.declared.color_output.ColorOutput.{ColorOutput}
 use Rattle.crossterm_style.specs.declared.types.attribute.Attribute.{Attribute}
+use Rattle.crossterm_style.specs.declared.types.attribute.Attribute.TheVariants.{Reset}
 use Rattle.crossterm_style.specs.declared.types.color.Color.{Color}
 use Rattle.crossterm_style.specs.declared.types.colored.Colored.{Colored}
 use Rattle.crossterm_style.specs.declared.types.colored.Colored.TheVariants.{ForegroundColor, BackgroundColor, UnderlineColor}
 use Rattle.crossterm_style.specs.declared.content_style.ContentStyle.{ContentStyle}
 use Rattle.crossterm_style.specs.Attributes.{code_of, members}
 use Rattle.crossterm_style.specs.Colors.{colored_text}
-use Rattle.crossterm_style.specs.Styles.{attribute_functions, attributes_functions, background_functions, color_functions, colors_functions, either_there, end_functions, foreground_functions, reset_functions, reset_where, style_functions, styled_functions, underline_functions}
+use Rattle.crossterm_style.specs.Acts.{Act, either_there, end_acts, reset_where, style_acts, styled_acts, where_there}
+use Rattle.crossterm_style.specs.Acts.Act.{Prints, Colors, Takes}
+use Rattle.crossterm_style.specs.Styles.{act_functions, attribute_functions, color_functions, colors_functions, told}
 use Rattle.crossterm_style.proofs.Parameters.{code_known, colored_parameters}
 
 abbrev pub Formed : List Token → Type 0
@@ -35,40 +40,47 @@ colors_formed colors None None = tt
 pub attribute_formed : (a : Attribute) → Formed (attribute_functions a)
 attribute_formed a = control_formed (code_of a) "m" (parameters_at (code_of a) (code_known a)) refl
 
-pub attributes_formed : (bits : ℕ) → Formed (attributes_functions bits)
-attributes_formed bits = all_of_each IsWellFormed attribute_functions attribute_formed (members bits)
+-- ---- acts
 
-background_formed : (colors : ColorOutput) (o : Option Color) → Formed (background_functions colors o)
-background_formed colors None = tt
-background_formed colors (Some c) = color_formed colors (BackgroundColor c)
+-- What is printed is well formed.
+abbrev pub PrintsPlain : Act → Type 0
+PrintsPlain (Prints cs) = Formed (map Char cs)
+PrintsPlain a = ⊤
 
-foreground_formed : (colors : ColorOutput) (o : Option Color) → Formed (foreground_functions colors o)
-foreground_formed colors None = tt
-foreground_formed colors (Some c) = color_formed colors (ForegroundColor c)
+act_formed : (colors : ColorOutput) (a : Act) → PrintsPlain a → Formed (act_functions colors a)
+act_formed colors (Prints cs) h = h
+act_formed colors (Colors c) h = color_formed colors c
+act_formed colors (Takes a) h = attribute_formed a
 
-underline_formed : (colors : ColorOutput) (o : Option Color) → Formed (underline_functions colors o)
-underline_formed colors None = tt
-underline_formed colors (Some c) = color_formed colors (UnderlineColor c)
+pub told_formed : (colors : ColorOutput) (acts : List Act) → AllByRecursion PrintsPlain acts → Formed (told colors acts)
+told_formed colors [] h = tt
+told_formed colors (a ∷ acts) h = all_joined IsWellFormed (act_functions colors a) (told colors acts) (act_formed colors a h.0) (told_formed colors acts h.1)
 
--- ---- in a row
+there_plain : (place : Color → Colored) (o : Option Color) → AllByRecursion PrintsPlain (where_there place o)
+there_plain place None = tt
+there_plain place (Some c) = (tt, tt)
 
-both_formed : (ts us : List Token) → Formed ts → Formed us → Formed (ts ++ us)
-both_formed ts us = all_joined IsWellFormed ts us
+pub attributes_plain : (all : List Attribute) → AllByRecursion PrintsPlain (map Takes all)
+attributes_plain [] = tt
+attributes_plain (a ∷ all) = (tt, attributes_plain all)
 
-pub style_formed : (colors : ColorOutput) (s : ContentStyle) → Formed (style_functions colors s)
-style_formed colors s =
-    both_formed (background_functions colors s.background_color) _ (background_formed colors s.background_color)
-    (both_formed (foreground_functions colors s.foreground_color) _ (foreground_formed colors s.foreground_color)
-    (both_formed (underline_functions colors s.underline_color) _ (underline_formed colors s.underline_color) (attributes_formed s.attributes.0)))
+both_plain : (xs ys : List Act) → AllByRecursion PrintsPlain xs → AllByRecursion PrintsPlain ys → AllByRecursion PrintsPlain (xs ++ ys)
+both_plain = all_joined PrintsPlain
 
-end_formed : (colors : ColorOutput) (s : ContentStyle) → Formed (end_functions colors s)
-end_formed colors s =
-    let back = reset_where (either_there s.background_color None) in
-    let front = reset_where (either_there s.foreground_color s.underline_color) in
-    elim (s.attributes.0 == 0) as (λ b. Formed (cond b (background_functions colors back ++ foreground_functions colors front) reset_functions)) [
-      | true ↦ both_formed (background_functions colors back) _ (background_formed colors back) (foreground_formed colors front)
-      | false ↦ known_formed reset_functions refl
+pub style_plain : (s : ContentStyle) → AllByRecursion PrintsPlain (style_acts s)
+style_plain s =
+    both_plain (where_there BackgroundColor s.background_color) _ (there_plain BackgroundColor s.background_color)
+    (both_plain (where_there ForegroundColor s.foreground_color) _ (there_plain ForegroundColor s.foreground_color)
+    (both_plain (where_there UnderlineColor s.underline_color) _ (there_plain UnderlineColor s.underline_color) (attributes_plain (members s.attributes.0))))
+
+end_plain : (s : ContentStyle) → AllByRecursion PrintsPlain (end_acts s)
+end_plain s =
+    let back = where_there BackgroundColor (reset_where (either_there s.background_color None)) in
+    let front = where_there ForegroundColor (reset_where (either_there s.foreground_color s.underline_color)) in
+    elim (s.attributes.0 == 0) as (λ b. AllByRecursion PrintsPlain (cond b (back ++ front) (Takes Reset ∷ []))) [
+      | true ↦ both_plain back front (there_plain BackgroundColor _) (there_plain ForegroundColor _)
+      | false ↦ (tt, tt)
     ]
 
-pub styled_formed : (colors : ColorOutput) (s : ContentStyle) (content : List Token) → Formed content → Formed (styled_functions colors s content)
-styled_formed colors s content f = both_formed (style_functions colors s) _ (style_formed colors s) (both_formed content _ f (end_formed colors s))
+pub styled_plain : (s : ContentStyle) (content : List ℕ) → Formed (map Char content) → AllByRecursion PrintsPlain (styled_acts s content)
+styled_plain s content h = both_plain (style_acts s) (Prints content ∷ end_acts s) (style_plain s) (h, end_plain s)

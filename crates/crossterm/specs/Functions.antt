@@ -8,7 +8,8 @@ use Rattle.crossterm_command.specs.Tokens.{Token, IsPlain, IsOscText, Reads}
 use Rattle.crossterm_command.specs.Tokens.Token.{Char}
 use Rattle.crossterm_command.specs.declared.color_output.ColorOutput.{ColorOutput}
 use Rattle.crossterm_style.specs.declared.types.colored.Colored.TheVariants.{ForegroundColor, BackgroundColor, UnderlineColor}
-use Rattle.crossterm_style.specs.Styles.{attribute_functions, attributes_functions, color_functions, colors_functions, reset_functions, style_functions, styled_functions}
+use Rattle.crossterm_style.specs.Acts.{attribute_acts, style_acts, styled_acts}
+use Rattle.crossterm_style.specs.Styles.{attribute_functions, color_functions, colors_functions, reset_functions, told}
 use Rattle.crossterm.specs.declared.command.any.AnyCommand.{AnyCommand}
 use Rattle.crossterm.specs.declared.command.any.AnyCommand.TheVariants as any
 use Rattle.crossterm.specs.Clipboard.{AreReadable, copy_functions}
@@ -56,9 +57,9 @@ functions colors (any.SetBackgroundColor c) = color_functions colors (Background
 functions colors (any.SetUnderlineColor c) = color_functions colors (UnderlineColor c.0)
 functions colors (any.SetColors c) = colors_functions colors c.0.foreground c.0.background
 functions colors (any.SetAttribute c) = attribute_functions c.0
-functions colors (any.SetAttributes c) = attributes_functions c.0.0
-functions colors (any.SetStyle c) = style_functions colors c.0
-functions colors (any.PrintStyledContent c) = styled_functions colors c.0.style (map Char (chars (string_bytes c.0.content)))
+functions colors (any.SetAttributes c) = told colors (attribute_acts c.0.0)
+functions colors (any.SetStyle c) = told colors (style_acts c.0)
+functions colors (any.PrintStyledContent c) = told colors (styled_acts c.0.style (chars (string_bytes c.0.content)))
 functions colors (any.ResetColor c) = reset_functions
 functions colors (any.CopyToClipboard c) = copy_functions c.content.items c.destination.0.items
 functions colors (any.Print c) = map Char (chars (string_bytes c.0))

@@ -30,4 +30,4 @@ returns-clause-ok g c =
     let all = c.all-attribute-items.ensures in
     let text : List ℕ → Type 0 = λ l. WritesInCalls g.W.Write.write_str_gives c.args.f.now l c.loop-attribute.f in
     let end : length all_attributes ≤ at = subst (λ xs. length xs ≤ at) all (omega (arith, c.loop-attribute-test.false)) in
-    subst text (ap (λ xs. flat_map attribute_text (filter (has bits) (take at xs))) all ∙ all_written bits at end) c.loop-attribute.invariant
+    subst text (ap (λ xs. flat_map attribute_text (filter (has bits) (take at xs))) all ∙ all_written c.args.colors bits at end) c.loop-attribute.invariant
