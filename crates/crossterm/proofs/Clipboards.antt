@@ -1,24 +1,22 @@
--- A copy's text reads as what a terminal is told by it, and a selection's text as the selection.
-use Rattle.std.proofs.Common.{◌≡◌, ◌≢◌, ℕ, zero, suc, ◌<◌, ◌≤◌, ◌==◌, ◌&&◌, Bool, true, false, nat_le, List, [], ◌∷◌, ◌++◌, inl, refl, ap, ◌∙◌, append_assoc, subst, arith, codes, length, get_or, slice_index, map, replicate}
+-- A copy's functions are well formed, and a selection's text as the selection.
+use Rattle.std.proofs.Common.{◌≡◌, ◌≢◌, ℕ, zero, suc, ◌≤◌, ◌==◌, ◌&&◌, Bool, true, false, nat_le, List, [], ◌∷◌, ◌++◌, refl, ap, ◌∙◌, arith, codes, length, get_or, slice_index, map, replicate}
 use Rattle.std.specs.List.{AllByRecursion}
-use Rattle.std.specs.Str.{chars}
+use Rattle.std.specs.Char.{encode_utf8}
+use Rattle.std.specs.Str.{chars, IsUtf8}
 use Rattle.std.specs.Prelude.{encode_utf8_all}
 use Rattle.std.proofs.lemmas.Bool.Decides.{nat_tests}
-use Rattle.std.proofs.lemmas.Str.{chars-encodes, encodes-chars}
+use Rattle.std.proofs.lemmas.Str.{chars-encodes, encodes-chars, IsUtf8-append, IsUtf8-from_ascii}
+use Rattle.base64.proofs.EngineFacts.{IsAscii-encode_of}
 use Rattle.base64.specs.Engines.{standard}
 use Rattle.base64.specs.GeneralPurpose.{encode_of, engine_symbols}
 use Rattle.base64.specs.Rfc4648.{encode_symbols, padding_len}
-use Rattle.crossterm_command.specs.Tokens.{Reads, IsOscText}
-use Rattle.crossterm_command.proofs.Readings.{Encodes, Low, all_joined, all_weaker, both, encodes_joined, encodes_low, osc_reads}
+use Rattle.crossterm_command.specs.Tokens.{IsOscText, IsWellFormed}
+use Rattle.crossterm_command.proofs.Readings.{all_joined, both}
 use Rattle.crossterm.specs.declared.clipboard.ClipboardType.{ClipboardType}
 use Rattle.crossterm.specs.declared.clipboard.ClipboardType.TheVariants.{Clipboard, Primary, Other}
-use Rattle.crossterm.specs.Clipboard.{CopiesRead, IsNamed, ReadsBack, ReadsSame, WritesBack, char_of, copy_functions, named, selection_text, type_of}
+use Rattle.crossterm.specs.Clipboard.{AreReadable, CopiesRead, IsNamed, ReadsBack, ReadsSame, WritesBack, char_of, copy_functions, named, selection_text, type_of}
 
 -- ---- Base64
-
--- ASCII, and neither ESC nor bell
-abbrev IsQuiet : ℕ → Type 0
-IsQuiet c = (c < 128) × IsOscText c
 
 le_at : (m n : ℕ) → nat_le m n ≡ true → m ≤ n
 le_at m n e = grind (arith, nat_tests)
@@ -26,75 +24,67 @@ le_at m n e = grind (arith, nat_tests)
 abbrev is_printable : ℕ → Bool
 is_printable c = nat_le 32 c && nat_le c 126
 
-quiet_at : (c : ℕ) → is_printable c ≡ true → IsQuiet c
+pub quiet_at : (c : ℕ) → is_printable c ≡ true → IsOscText c
 quiet_at c e =
     let (low, high) = both (nat_le 32 c) (nat_le c 126) e in
     let l : 32 ≤ c = le_at 32 c low in
     let h : c ≤ 126 = le_at c 126 high in
-    (omega arith, ((λ e. omega arith), (λ e. omega arith)))
+    ((λ e. omega arith), (λ e. omega arith))
 
 abbrev all_printable : List ℕ → Bool
 all_printable [] = true
 all_printable (c ∷ cs) = is_printable c && all_printable cs
 
 -- what is at a place of a list, or past it
-quiet_in : (cs : List ℕ) → all_printable cs ≡ true → (i : ℕ) → IsQuiet (get_or cs i 0)
-quiet_in [] e i = (omega arith, ((λ e. omega arith), (λ e. omega arith)))
+quiet_in : (cs : List ℕ) → all_printable cs ≡ true → (i : ℕ) → IsOscText (get_or cs i 0)
+quiet_in [] e i = ((λ e. omega arith), (λ e. omega arith))
 quiet_in (c ∷ cs) e zero = let (first, rest) = both (is_printable c) (all_printable cs) e in quiet_at c first
 quiet_in (c ∷ cs) e (suc i) = let (first, rest) = both (is_printable c) (all_printable cs) e in quiet_in cs rest i
 
 -- all symbols of a message, where each of the table is
-quiet_symbols : (t : List ℕ) → ((i : ℕ) → IsQuiet (slice_index t i)) → (content : List ℕ) → AllByRecursion IsQuiet (encode_symbols t content)
+quiet_symbols : (t : List ℕ) → ((i : ℕ) → IsOscText (slice_index t i)) → (content : List ℕ) → AllByRecursion IsOscText (encode_symbols t content)
 unfolding encode_symbols
 quiet_symbols t at [] = tt
 quiet_symbols t at (a ∷ []) = (at _, (at _, tt))
 quiet_symbols t at (a ∷ b ∷ []) = (at _, (at _, (at _, tt)))
 quiet_symbols t at (a ∷ b ∷ c ∷ rest) = (at _, (at _, (at _, (at _, quiet_symbols t at rest))))
 
-quiet_padding : (n : ℕ) → AllByRecursion IsQuiet (replicate n 61)
+quiet_padding : (n : ℕ) → AllByRecursion IsOscText (replicate n 61)
 quiet_padding zero = tt
 quiet_padding (suc n) = (quiet_at 61 refl, quiet_padding n)
 
-quiet_base64 : (content : List ℕ) → AllByRecursion IsQuiet (encode_of standard content)
+quiet_base64 : (content : List ℕ) → AllByRecursion IsOscText (encode_of standard content)
 quiet_base64 content =
     let t = engine_symbols standard in
     let padding = padding_len (length content) in
-    all_joined IsQuiet (encode_symbols t content) (replicate padding 61) (quiet_symbols t (quiet_in t refl) content) (quiet_padding padding)
+    all_joined IsOscText (encode_symbols t content) (replicate padding 61) (quiet_symbols t (quiet_in t refl) content) (quiet_padding padding)
 
 -- ---- reading
 
-low_base64 : (content : List ℕ) → Low (encode_of standard content)
-unfolding Low
-low_base64 content = all_weaker IsQuiet (λ c. c < 128) (λ c q. q.0) (encode_of standard content) (quiet_base64 content)
+front_utf8 : IsUtf8 (codes "52;")
+unfolding encode_utf8
+front_utf8 = (codes "52;", (refl, refl))
 
-low_front : Low (codes "52;")
-unfolding Low
-low_front = (omega arith, (omega arith, (omega arith, tt)))
+between_utf8 : IsUtf8 (codes ";")
+unfolding encode_utf8
+between_utf8 = (codes ";", (refl, refl))
 
-low_between : Low (codes ";")
-unfolding Low
-low_between = (omega arith, tt)
-
-low_end : Low (codes "\u{1b}\\")
-unfolding Low
-low_end = (omega arith, (omega arith, tt))
+pub copy_formed : (content : List ℕ) (types : List ClipboardType) → AreReadable types → AllByRecursion IsWellFormed (copy_functions content types)
+copy_formed content types readable =
+    let letters = selection_text types in
+    let base64 = encode_of standard content in
+    let places : IsUtf8 letters = (map char_of types, (readable.0, refl)) in
+    let utf8 : IsUtf8 (codes "52;" ++ (letters ++ (codes ";" ++ base64))) =
+    IsUtf8-append (codes "52;") (letters ++ (codes ";" ++ base64)) front_utf8
+    (IsUtf8-append letters (codes ";" ++ base64) places
+    (IsUtf8-append (codes ";") base64 between_utf8 (IsUtf8-from_ascii base64 (IsAscii-encode_of standard content)))) in
+    let tail : AllByRecursion IsOscText (codes ";" ++ base64) = (quiet_at 59 refl, quiet_base64 content) in
+    let text : AllByRecursion IsOscText (codes "52;" ++ (letters ++ (codes ";" ++ base64))) =
+    (quiet_at 53 refl, (quiet_at 50 refl, (quiet_at 59 refl, all_joined IsOscText letters (codes ";" ++ base64) readable.1 tail))) in
+    ((utf8, text), tt)
 
 pub copy_reads : CopiesRead
-copy_reads content types readable =
-    let letters = map char_of types in
-    let base64 = encode_of standard content in
-    let end = codes "\u{1b}\\" in
-    let tail = codes ";" ++ base64 in
-    let encoded : Encodes (codes "52;" ++ (letters ++ tail)) (codes "52;" ++ (selection_text types ++ tail)) =
-    encodes_joined (codes "52;") (letters ++ tail) (codes "52;") (selection_text types ++ tail) (encodes_low (codes "52;") low_front)
-    (encodes_joined letters tail (selection_text types) tail (record { scalars = readable.0; same = refl })
-    (encodes_joined (codes ";") base64 (codes ";") base64 (encodes_low (codes ";") low_between) (encodes_low base64 (low_base64 content)))) in
-    let printable : (c : ℕ) → is_printable c ≡ true → IsOscText c = λ c e. (quiet_at c e).1 in
-    let texts : AllByRecursion IsOscText tail = (printable 59 refl, all_weaker IsQuiet IsOscText (λ c q. q.1) base64 (quiet_base64 content)) in
-    let plain : AllByRecursion IsOscText (codes "52;" ++ (letters ++ tail)) =
-    (printable 53 refl, (printable 50 refl, (printable 59 refl, all_joined IsOscText letters tail readable.1 texts))) in
-    let read = osc_reads (codes "52;" ++ (letters ++ tail)) (codes "52;" ++ (selection_text types ++ tail)) end encoded plain (inl refl) low_end in
-    subst (λ l. Reads (codes "\u{1b}]52;" ++ l) (copy_functions content types)) (append_assoc (selection_text types) tail end) read
+copy_reads content types readable = (copy_formed content types readable, refl)
 
 -- ---- there and back
 

@@ -1,132 +1,101 @@
--- The texts of commands read as their functions.
-use Rattle.std.proofs.Common.{ℕ, ◌+◌, List, [], ◌∷◌, ◌++◌, inr, refl, arith, codes, flat_map, string_bytes, ◌≤◌}
-use Rattle.std.specs.Fmt.{decimal, digits}
-use Rattle.std.specs.Str.{chars, IsUtf8}
+-- The functions of commands are well formed, so that their text reads as them.
+use Rattle.std.proofs.Common.{◌≡◌, ℕ, ◌+◌, arith, ◌==◌, true, false, cond, List, [], ◌∷◌, ◌++◌, refl, codes, flat_map, string_bytes}
+use Prim.Native.String.{String}
+use Rattle.std.specs.Fmt.{decimal}
+use Rattle.std.specs.Char.{encode_utf8}
+use Rattle.std.specs.Str.{IsUtf8}
 use Rattle.std.specs.List.{AllByRecursion}
-use Rattle.std.proofs.lemmas.Str.{IsUtf8-string_bytes}
-use Rattle.crossterm_command.specs.Tokens.{IsOscText, Reads}
-use Rattle.crossterm_command.specs.Tokens.Token.{Csi, Osc}
-use Rattle.crossterm_command.proofs.Readings.{Low, both_read, csi_reads, decimal_is_parameters, encodes_joined, encodes_low, encodes_text, nothing_reads, osc_reads, private_reads, text_reads}
+use Rattle.std.proofs.lemmas.Str.{IsUtf8-append, IsUtf8-string_bytes}
+use Rattle.crossterm_command.specs.Controls.{letter}
+use Rattle.crossterm_command.specs.Tokens.{IsOscText, IsParameter, IsWellFormed, Reads, text_of}
+use Rattle.crossterm_command.proofs.Readings.{all_joined, all_parameters, control_formed, decimal_is_parameters, is_final, known_formed, parameters_at, printed_formed}
 use Rattle.crossterm_command.specs.declared.color_output.ColorOutput.{ColorOutput}
 use Rattle.crossterm_style.specs.declared.types.colored.Colored.TheVariants.{ForegroundColor, BackgroundColor, UnderlineColor}
+use Rattle.crossterm_style.specs.Attributes.{members}
 use Rattle.crossterm.specs.declared.cursor.SetCursorStyle.{SetCursorStyle}
 use Rattle.crossterm.specs.declared.cursor.SetCursorStyle.TheVariants as shape
 use Rattle.crossterm.specs.declared.terminal.ClearType.{ClearType}
 use Rattle.crossterm.specs.declared.terminal.ClearType.TheVariants as cleared
 use Rattle.crossterm.specs.declared.command.any.AnyCommand.{AnyCommand}
 use Rattle.crossterm.specs.declared.command.any.AnyCommand.TheVariants as any
-use Rattle.crossterm.specs.Controls.{letter, reset, set}
-use Rattle.crossterm.specs.Functions.{IsReadable, clear_functions, functions, shape_number, text_of}
-use Rattle.crossterm.proofs.Clipboards.{copy_reads}
-use Rattle.crossterm.proofs.Controls.{control_reads, known_reads, number_reads, numbers_read, reset_reads, set_reads, unless_none}
-use Rattle.crossterm.proofs.StyleReadings.{attribute_reads, attributes_read, color_reads, colors_read, style_reads, styled_reads}
-use Rattle.crossterm.specs.Texts.{clear_text, cursor_style_text, disable_mouse_text, enable_mouse_text}
+use Rattle.crossterm.specs.Functions.{IsReadable, functions}
+use Rattle.crossterm.specs.Sequences.{by, clear, cursor_shape, cursor_style, scroll, set_title}
+use Rattle.crossterm.proofs.Clipboards.{copy_formed, quiet_at}
+use Rattle.crossterm.proofs.StyleReadings.{Formed, attribute_formed, attributes_plain, color_formed, colors_formed, style_plain, styled_plain, told_formed}
 
 -- ---- some commands
 
-shape_read : (n : ℕ) → Reads (codes "\u{1b}[" ++ (decimal n ++ codes " q")) (Csi (decimal n) (codes " ") (letter "q") ∷ [])
-shape_read n = csi_reads (decimal n) (codes " ") (letter "q") (decimal_is_parameters n) ((omega arith, omega arith), tt) (omega arith, omega arith)
+by_formed : (n : ℕ) (final : String) → is_final (letter final) ≡ true → Formed (by n final)
+by_formed n final f = control_formed (decimal n) final (decimal_is_parameters n) f
 
-shape_reads : (s : SetCursorStyle) → Reads (cursor_style_text s) (Csi (decimal (shape_number s)) (codes " ") (letter "q") ∷ [])
-unfolding digits
-shape_reads shape.DefaultUserShape = shape_read 0
-shape_reads shape.BlinkingBlock = shape_read 1
-shape_reads shape.SteadyBlock = shape_read 2
-shape_reads shape.BlinkingUnderScore = shape_read 3
-shape_reads shape.SteadyUnderScore = shape_read 4
-shape_reads shape.BlinkingBar = shape_read 5
-shape_reads shape.SteadyBar = shape_read 6
+-- two numbers behind a front
+two_formed : (front : List ℕ) (m n : ℕ) → all_parameters front ≡ true → AllByRecursion IsParameter (front ++ (decimal m ++ (codes ";" ++ decimal n)))
+two_formed front m n e =
+    let rest = decimal m ++ (codes ";" ++ decimal n) in
+    all_joined IsParameter front rest (parameters_at front e) (all_joined IsParameter (decimal m) (codes ";" ++ decimal n) (decimal_is_parameters m)
+    (all_joined IsParameter (codes ";") (decimal n) (parameters_at (codes ";") refl) (decimal_is_parameters n)))
 
-clear_reads : (c : ClearType) → Reads (clear_text c) (clear_functions c)
-clear_reads cleared.All = known_reads (codes "2") "J" refl (omega arith, omega arith)
-clear_reads cleared.Purge = known_reads (codes "3") "J" refl (omega arith, omega arith)
-clear_reads cleared.FromCursorDown = known_reads [] "J" refl (omega arith, omega arith)
-clear_reads cleared.FromCursorUp = known_reads (codes "1") "J" refl (omega arith, omega arith)
-clear_reads cleared.CurrentLine = known_reads (codes "2") "K" refl (omega arith, omega arith)
-clear_reads cleared.UntilNewLine = known_reads [] "K" refl (omega arith, omega arith)
+scroll_formed : (n : ℕ) (final : String) → is_final (letter final) ≡ true → Formed (scroll n final)
+scroll_formed n final f = elim (n == 0) as (λ b. Formed (cond b [] (by n final))) [ true ↦ tt | false ↦ by_formed n final f ]
 
-low_zero : Low (codes "0;")
-unfolding Low
-low_zero = (omega arith, (omega arith, tt))
+shape_known : (n : String) → all_parameters (codes n) ≡ true → Formed (cursor_shape n)
+shape_known n e = ((parameters_at (codes n) e, ((omega arith, omega arith), tt), (omega arith, omega arith)), tt)
 
-low_bell : Low (codes "\u{7}")
-unfolding Low
-low_bell = (omega arith, tt)
+shape_formed : (s : SetCursorStyle) → Formed (cursor_style s)
+shape_formed shape.DefaultUserShape = shape_known "0" refl
+shape_formed shape.BlinkingBlock = shape_known "1" refl
+shape_formed shape.SteadyBlock = shape_known "2" refl
+shape_formed shape.BlinkingUnderScore = shape_known "3" refl
+shape_formed shape.SteadyUnderScore = shape_known "4" refl
+shape_formed shape.BlinkingBar = shape_known "5" refl
+shape_formed shape.SteadyBar = shape_known "6" refl
 
-not_special : (c : ℕ) → 32 ≤ c → c ≤ 126 → IsOscText c
-not_special c l h = ((λ e. omega (arith, l, h, e)), (λ e. omega (arith, l, h, e)))
+clear_formed : (c : ClearType) → Formed (clear c)
+clear_formed cleared.All = known_formed (clear cleared.All) refl
+clear_formed c = known_formed (clear c) refl
 
-title_reads : (title : List ℕ) → IsUtf8 title → AllByRecursion IsOscText (chars title) → Reads (codes "\u{1b}]0;" ++ (title ++ codes "\u{7}")) (Osc (codes "0;" ++ chars title) ∷ [])
-title_reads title u plain =
-    osc_reads (codes "0;" ++ chars title) (codes "0;" ++ title) (codes "\u{7}") (encodes_joined (codes "0;") (chars title) (codes "0;") title (encodes_low (codes "0;") low_zero) (encodes_text title u))
-    (not_special 48 (omega arith) (omega arith), (not_special 59 (omega arith) (omega arith), plain)) (inr refl) low_bell
+front_utf8 : IsUtf8 (codes "0;")
+unfolding encode_utf8
+front_utf8 = (codes "0;", (refl, refl))
 
--- the five modes of the mouse
-mouse_set : Reads enable_mouse_text (set "1000" ++ (set "1002" ++ (set "1003" ++ (set "1015" ++ set "1006"))))
-mouse_set =
-    let two = both_read _ _ (set "1015") (set "1006") (set_reads "1015" refl) (set_reads "1006" refl) in
-    let three = both_read _ _ (set "1003") (set "1015" ++ set "1006") (set_reads "1003" refl) two in
-    let four = both_read _ _ (set "1002") (set "1003" ++ (set "1015" ++ set "1006")) (set_reads "1002" refl) three in
-    both_read _ _ (set "1000") (set "1002" ++ (set "1003" ++ (set "1015" ++ set "1006"))) (set_reads "1000" refl) four
-
-mouse_reset : Reads disable_mouse_text (reset "1006" ++ (reset "1015" ++ (reset "1003" ++ (reset "1002" ++ reset "1000"))))
-mouse_reset =
-    let two = both_read _ _ (reset "1002") (reset "1000") (reset_reads "1002" refl) (reset_reads "1000" refl) in
-    let three = both_read _ _ (reset "1003") (reset "1002" ++ reset "1000") (reset_reads "1003" refl) two in
-    let four = both_read _ _ (reset "1015") (reset "1003" ++ (reset "1002" ++ reset "1000")) (reset_reads "1015" refl) three in
-    both_read _ _ (reset "1006") (reset "1015" ++ (reset "1003" ++ (reset "1002" ++ reset "1000"))) (reset_reads "1006" refl) four
+title_formed : (title : List ℕ) → IsUtf8 title → AllByRecursion IsOscText title → Formed (set_title title)
+title_formed title u a = ((IsUtf8-append (codes "0;") title front_utf8 u, (quiet_at 48 refl, (quiet_at 59 refl, a))), tt)
 
 -- ---- all commands
 
-pub command_reads : {A : Type 0} (colors : ColorOutput) (c : AnyCommand A) → IsReadable c → Reads (text_of colors c) (functions colors c)
-command_reads colors (any.MoveTo c) r = numbers_read [] (c.1 + 1) (c.0 + 1) "H" refl (omega arith, omega arith)
-command_reads colors (any.MoveToColumn c) r = number_reads (c.0 + 1) "G" (omega arith, omega arith)
-command_reads colors (any.MoveToRow c) r = number_reads (c.0 + 1) "d" (omega arith, omega arith)
-command_reads colors (any.MoveToNextLine c) r = number_reads c.0 "E" (omega arith, omega arith)
-command_reads colors (any.MoveToPreviousLine c) r = number_reads c.0 "F" (omega arith, omega arith)
-command_reads colors (any.MoveUp c) r = number_reads c.0 "A" (omega arith, omega arith)
-command_reads colors (any.MoveDown c) r = number_reads c.0 "B" (omega arith, omega arith)
-command_reads colors (any.MoveRight c) r = number_reads c.0 "C" (omega arith, omega arith)
-command_reads colors (any.MoveLeft c) r = number_reads c.0 "D" (omega arith, omega arith)
-command_reads colors (any.SavePosition c) r = private_reads (letter "7") (omega arith, omega arith)
-command_reads colors (any.RestorePosition c) r = private_reads (letter "8") (omega arith, omega arith)
-command_reads colors (any.Hide c) r = reset_reads "25" refl
-command_reads colors (any.Show c) r = set_reads "25" refl
-command_reads colors (any.EnableBlinking c) r = set_reads "12" refl
-command_reads colors (any.DisableBlinking c) r = reset_reads "12" refl
-command_reads colors (any.SetCursorStyle c) r = shape_reads c
-command_reads colors (any.DisableLineWrap c) r = reset_reads "7" refl
-command_reads colors (any.EnableLineWrap c) r = set_reads "7" refl
-command_reads colors (any.EnterAlternateScreen c) r = set_reads "1049" refl
-command_reads colors (any.LeaveAlternateScreen c) r = reset_reads "1049" refl
-command_reads colors (any.Clear c) r = clear_reads c.0
-command_reads colors (any.ScrollUp c) r = unless_none c.0 "S" (omega arith, omega arith)
-command_reads colors (any.ScrollDown c) r = unless_none c.0 "T" (omega arith, omega arith)
-command_reads colors (any.SetSize c) r = numbers_read (codes "8;") c.1 c.0 "t" refl (omega arith, omega arith)
-command_reads colors (any.SetTitle c) r = title_reads (string_bytes c.0) (IsUtf8-string_bytes c.0) r
-command_reads colors (any.BeginSynchronizedUpdate c) r = set_reads "2026" refl
-command_reads colors (any.EndSynchronizedUpdate c) r = reset_reads "2026" refl
-command_reads colors (any.EnableMouseCapture c) r = mouse_set
-command_reads colors (any.DisableMouseCapture c) r = mouse_reset
-command_reads colors (any.EnableFocusChange c) r = set_reads "1004" refl
-command_reads colors (any.DisableFocusChange c) r = reset_reads "1004" refl
-command_reads colors (any.EnableBracketedPaste c) r = set_reads "2004" refl
-command_reads colors (any.DisableBracketedPaste c) r = reset_reads "2004" refl
-command_reads colors (any.PushKeyboardEnhancementFlags c) r = control_reads (codes ">" ++ decimal c.0.0) "u" ((omega arith, omega arith), decimal_is_parameters c.0.0) (omega arith, omega arith)
-command_reads colors (any.PopKeyboardEnhancementFlags c) r = known_reads (codes "<1") "u" refl (omega arith, omega arith)
-command_reads colors (any.SetForegroundColor c) r = color_reads colors (ForegroundColor c.0)
-command_reads colors (any.SetBackgroundColor c) r = color_reads colors (BackgroundColor c.0)
-command_reads colors (any.SetUnderlineColor c) r = color_reads colors (UnderlineColor c.0)
-command_reads colors (any.SetColors c) r = colors_read colors c.0.foreground c.0.background
-command_reads colors (any.SetAttribute c) r = attribute_reads c.0
-command_reads colors (any.SetAttributes c) r = attributes_read c.0.0
-command_reads colors (any.SetStyle c) r = style_reads colors c.0
-command_reads colors (any.PrintStyledContent c) r = styled_reads colors c.0.style (string_bytes c.0.content) _ (text_reads (string_bytes c.0.content) (IsUtf8-string_bytes c.0.content) r)
-command_reads colors (any.ResetColor c) r = known_reads (codes "0") "m" refl (omega arith, omega arith)
-command_reads colors (any.CopyToClipboard c) r = copy_reads c.content.items c.destination.0.items r
-command_reads colors (any.Print c) r = text_reads (string_bytes c.0) (IsUtf8-string_bytes c.0) r
+pub command_formed : {A : Type 0} (colors : ColorOutput) (c : AnyCommand A) → IsReadable c → Formed (functions colors c)
+command_formed colors (any.MoveTo c) r = control_formed _ "H" (two_formed [] (c.1 + 1) (c.0 + 1) refl) refl
+command_formed colors (any.MoveToColumn c) r = by_formed (c.0 + 1) "G" refl
+command_formed colors (any.MoveToRow c) r = by_formed (c.0 + 1) "d" refl
+command_formed colors (any.MoveToNextLine c) r = by_formed c.0 "E" refl
+command_formed colors (any.MoveToPreviousLine c) r = by_formed c.0 "F" refl
+command_formed colors (any.MoveUp c) r = by_formed c.0 "A" refl
+command_formed colors (any.MoveDown c) r = by_formed c.0 "B" refl
+command_formed colors (any.MoveRight c) r = by_formed c.0 "C" refl
+command_formed colors (any.MoveLeft c) r = by_formed c.0 "D" refl
+command_formed colors (any.SetCursorStyle c) r = shape_formed c
+command_formed colors (any.Clear c) r = clear_formed c.0
+command_formed colors (any.ScrollUp c) r = scroll_formed c.0 "S" refl
+command_formed colors (any.ScrollDown c) r = scroll_formed c.0 "T" refl
+command_formed colors (any.SetSize c) r = control_formed (codes "8;" ++ (decimal c.1 ++ (codes ";" ++ decimal c.0))) "t" (two_formed (codes "8;") c.1 c.0 refl) refl
+command_formed colors (any.SetTitle c) r = title_formed (string_bytes c.0) (IsUtf8-string_bytes c.0) r
+command_formed colors (any.PushKeyboardEnhancementFlags c) r = control_formed (codes ">" ++ decimal c.0.0) "u" (all_joined IsParameter (codes ">") (decimal c.0.0) (parameters_at (codes ">") refl) (decimal_is_parameters c.0.0)) refl
+command_formed colors (any.SetForegroundColor c) r = color_formed colors (ForegroundColor c.0)
+command_formed colors (any.SetBackgroundColor c) r = color_formed colors (BackgroundColor c.0)
+command_formed colors (any.SetUnderlineColor c) r = color_formed colors (UnderlineColor c.0)
+command_formed colors (any.SetColors c) r = colors_formed colors c.0.foreground c.0.background
+command_formed colors (any.SetAttribute c) r = attribute_formed c.0
+command_formed colors (any.SetAttributes c) r = told_formed colors _ (attributes_plain (members c.0.0))
+command_formed colors (any.SetStyle c) r = told_formed colors _ (style_plain c.0)
+command_formed colors (any.PrintStyledContent c) r = told_formed colors _ (styled_plain c.0.style _ (printed_formed (string_bytes c.0.content) (IsUtf8-string_bytes c.0.content) r))
+command_formed colors (any.CopyToClipboard c) r = copy_formed c.content.items c.destination.0.items r
+command_formed colors (any.Print c) r = printed_formed (string_bytes c.0) (IsUtf8-string_bytes c.0) r
+command_formed colors c r = known_formed (functions colors c) refl
 
-pub commands_read : {A : Type 0} (colors : ColorOutput) (cs : List (AnyCommand A)) → AllByRecursion IsReadable cs → Reads (flat_map (text_of colors) cs) (flat_map (functions colors) cs)
-commands_read colors [] a = nothing_reads
-commands_read colors (c ∷ cs) a =
-    both_read (text_of colors c) (flat_map (text_of colors) cs) (functions colors c) (flat_map (functions colors) cs) (command_reads colors c a.0) (commands_read colors cs a.1)
+commands_formed : {A : Type 0} (colors : ColorOutput) (cs : List (AnyCommand A)) → AllByRecursion IsReadable cs → Formed (flat_map (functions colors) cs)
+commands_formed colors [] a = tt
+commands_formed colors (c ∷ cs) a = all_joined IsWellFormed (functions colors c) (flat_map (functions colors) cs) (command_formed colors c a.0) (commands_formed colors cs a.1)
+
+-- The text of commands reads as their functions.
+pub commands_read : {A : Type 0} (colors : ColorOutput) (cs : List (AnyCommand A)) → AllByRecursion IsReadable cs → Reads (text_of (flat_map (functions colors) cs)) (flat_map (functions colors) cs)
+commands_read colors cs a = (commands_formed colors cs a, refl)

@@ -1,5 +1,6 @@
 pub mod Clipboards
+pub mod CommandLooks
 pub mod Commands
-pub mod Controls
+pub mod Printed
 mod SizeLaws
 pub mod StyleReadings

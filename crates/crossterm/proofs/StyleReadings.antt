@@ -1,76 +1,86 @@
--- The texts of the commands of style read as their functions.
-use Rattle.std.proofs.Common.{ℕ, ◌==◌, true, false, cond, List, ◌++◌, Option, Some, None, refl, arith, codes}
-use Rattle.crossterm_command.specs.Tokens.{Token, IsParameter, Reads}
-use Rattle.crossterm_command.proofs.Readings.{all_joined, all_read, both_read, nothing_reads, parameters_at}
+-- The functions of the commands of style are well formed.
+use Rattle.std.proofs.Common.{ℕ, ◌==◌, true, false, cond, List, [], ◌∷◌, ◌++◌, Option, Some, None, refl, codes, map}
+use Rattle.std.specs.Bool.{⊤}
+use Rattle.std.specs.List.{AllByRecursion}
+use Rattle.crossterm_command.specs.Tokens.{Token, IsParameter, IsWellFormed}
+use Rattle.crossterm_command.specs.Tokens.Token.{Char}
+use Rattle.crossterm_command.proofs.Readings.{all_joined, control_formed, parameters_at}
 use Rattle.crossterm_command.specs.declared.color_output.ColorOutput.{ColorOutput}
 use Rattle.crossterm_style.specs.declared.types.attribute.Attribute.{Attribute}
+use Rattle.crossterm_style.specs.declared.types.attribute.Attribute.TheVariants.{Reset}
 use Rattle.crossterm_style.specs.declared.types.color.Color.{Color}
 use Rattle.crossterm_style.specs.declared.types.colored.Colored.{Colored}
 use Rattle.crossterm_style.specs.declared.types.colored.Colored.TheVariants.{ForegroundColor, BackgroundColor, UnderlineColor}
 use Rattle.crossterm_style.specs.declared.content_style.ContentStyle.{ContentStyle}
 use Rattle.crossterm_style.specs.Attributes.{code_of, members}
 use Rattle.crossterm_style.specs.Colors.{colored_text}
-use Rattle.crossterm_style.specs.Styles.{either_there, end_style_text, reset_where, set_attribute_text, set_attributes_text, set_background_text, set_color_text, set_colors_text, set_foreground_text, set_style_text, set_underline_text}
-use Rattle.crossterm.specs.StyleFunctions.{attribute_functions, attributes_functions, background_functions, color_functions, colors_functions, end_functions, foreground_functions, style_functions, styled_functions, underline_functions}
-use Rattle.crossterm.specs.Controls.{control}
+use Rattle.crossterm_style.specs.Acts.{Act, either_there, end_acts, reset_where, style_acts, styled_acts, where_there}
+use Rattle.crossterm_style.specs.Acts.Act.{Prints, Colors, Takes}
+use Rattle.crossterm_style.specs.Styles.{act_functions, attribute_functions, color_functions, colors_functions, told}
 use Rattle.crossterm_style.proofs.Parameters.{code_known, colored_parameters}
-use Rattle.crossterm.proofs.Controls.{control_reads, known_reads}
+
+abbrev pub Formed : List Token → Type 0
+Formed ts = AllByRecursion IsWellFormed ts
 
 -- ---- one by one
 
-pub color_reads : (colors : ColorOutput) (c : Colored) → Reads (set_color_text colors c) (color_functions colors c)
-color_reads colors c = control_reads (colored_text colors c) "m" (colored_parameters colors c) (omega arith, omega arith)
+pub color_formed : (colors : ColorOutput) (c : Colored) → Formed (color_functions colors c)
+color_formed colors c = control_formed (colored_text colors c) "m" (colored_parameters colors c) refl
 
-pub colors_read : (colors : ColorOutput) (f b : Option Color) → Reads (set_colors_text colors f b) (colors_functions colors f b)
-colors_read colors (Some f) (Some b) =
+pub colors_formed : (colors : ColorOutput) (f b : Option Color) → Formed (colors_functions colors f b)
+colors_formed colors (Some f) (Some b) =
     let front = colored_text colors (ForegroundColor f) in
     let back = colored_text colors (BackgroundColor b) in
-    control_reads (front ++ (codes ";" ++ back)) "m" (all_joined IsParameter front _ (colored_parameters colors (ForegroundColor f))
-    (all_joined IsParameter (codes ";") back (parameters_at (codes ";") refl) (colored_parameters colors (BackgroundColor b)))) (omega arith, omega arith)
-colors_read colors (Some f) None = color_reads colors (ForegroundColor f)
-colors_read colors None (Some b) = color_reads colors (BackgroundColor b)
-colors_read colors None None = nothing_reads
+    control_formed (front ++ (codes ";" ++ back)) "m" (all_joined IsParameter front _ (colored_parameters colors (ForegroundColor f))
+    (all_joined IsParameter (codes ";") back (parameters_at (codes ";") refl) (colored_parameters colors (BackgroundColor b)))) refl
+colors_formed colors (Some f) None = color_formed colors (ForegroundColor f)
+colors_formed colors None (Some b) = color_formed colors (BackgroundColor b)
+colors_formed colors None None = tt
 
-pub attribute_reads : (a : Attribute) → Reads (set_attribute_text a) (attribute_functions a)
-attribute_reads a = known_reads (code_of a) "m" (code_known a) (omega arith, omega arith)
+pub attribute_formed : (a : Attribute) → Formed (attribute_functions a)
+attribute_formed a = control_formed (code_of a) "m" (parameters_at (code_of a) (code_known a)) refl
 
-pub attributes_read : (bits : ℕ) → Reads (set_attributes_text bits) (attributes_functions bits)
-attributes_read bits = all_read set_attribute_text attribute_functions attribute_reads (members bits)
+-- ---- acts
 
-background_reads : (colors : ColorOutput) (o : Option Color) → Reads (set_background_text colors o) (background_functions colors o)
-background_reads colors None = nothing_reads
-background_reads colors (Some c) = color_reads colors (BackgroundColor c)
+-- What is printed is well formed.
+abbrev pub PrintsPlain : Act → Type 0
+PrintsPlain (Prints cs) = Formed (map Char cs)
+PrintsPlain a = ⊤
 
-foreground_reads : (colors : ColorOutput) (o : Option Color) → Reads (set_foreground_text colors o) (foreground_functions colors o)
-foreground_reads colors None = nothing_reads
-foreground_reads colors (Some c) = color_reads colors (ForegroundColor c)
+act_formed : (colors : ColorOutput) (a : Act) → PrintsPlain a → Formed (act_functions colors a)
+act_formed colors (Prints cs) h = h
+act_formed colors (Colors c) h = color_formed colors c
+act_formed colors (Takes a) h = attribute_formed a
 
-underline_reads : (colors : ColorOutput) (o : Option Color) → Reads (set_underline_text colors o) (underline_functions colors o)
-underline_reads colors None = nothing_reads
-underline_reads colors (Some c) = color_reads colors (UnderlineColor c)
+pub told_formed : (colors : ColorOutput) (acts : List Act) → AllByRecursion PrintsPlain acts → Formed (told colors acts)
+told_formed colors [] h = tt
+told_formed colors (a ∷ acts) h = all_joined IsWellFormed (act_functions colors a) (told colors acts) (act_formed colors a h.0) (told_formed colors acts h.1)
 
--- ---- in a row
+there_plain : (place : Color → Colored) (o : Option Color) → AllByRecursion PrintsPlain (where_there place o)
+there_plain place None = tt
+there_plain place (Some c) = (tt, tt)
 
-pub style_reads : (colors : ColorOutput) (s : ContentStyle) → Reads (set_style_text colors s) (style_functions colors s)
-style_reads colors s =
-    let attributes = attributes_functions s.attributes.0 in
-    let underline = underline_functions colors s.underline_color in
-    let foreground = foreground_functions colors s.foreground_color in
-    both_read _ _ (background_functions colors s.background_color) (foreground ++ (underline ++ attributes)) (background_reads colors s.background_color)
-    (both_read _ _ foreground (underline ++ attributes) (foreground_reads colors s.foreground_color)
-    (both_read _ _ underline attributes (underline_reads colors s.underline_color) (attributes_read s.attributes.0)))
+pub attributes_plain : (all : List Attribute) → AllByRecursion PrintsPlain (map Takes all)
+attributes_plain [] = tt
+attributes_plain (a ∷ all) = (tt, attributes_plain all)
 
-end_reads : (colors : ColorOutput) (s : ContentStyle) → Reads (end_style_text colors s) (end_functions colors s)
-end_reads colors s =
-    let back = reset_where (either_there s.background_color None) in
-    let front = reset_where (either_there s.foreground_color s.underline_color) in
-    elim (s.attributes.0 == 0) as (λ b. Reads (cond b (set_background_text colors back ++ set_foreground_text colors front) (codes "\u{1b}[0m")) (cond b (background_functions colors back ++ foreground_functions colors front) (control (codes "0") "m"))) [
-      | true ↦ both_read _ _ (background_functions colors back) (foreground_functions colors front) (background_reads colors back) (foreground_reads colors front)
-      | false ↦ known_reads (codes "0") "m" refl (omega arith, omega arith)
+both_plain : (xs ys : List Act) → AllByRecursion PrintsPlain xs → AllByRecursion PrintsPlain ys → AllByRecursion PrintsPlain (xs ++ ys)
+both_plain = all_joined PrintsPlain
+
+pub style_plain : (s : ContentStyle) → AllByRecursion PrintsPlain (style_acts s)
+style_plain s =
+    both_plain (where_there BackgroundColor s.background_color) _ (there_plain BackgroundColor s.background_color)
+    (both_plain (where_there ForegroundColor s.foreground_color) _ (there_plain ForegroundColor s.foreground_color)
+    (both_plain (where_there UnderlineColor s.underline_color) _ (there_plain UnderlineColor s.underline_color) (attributes_plain (members s.attributes.0))))
+
+end_plain : (s : ContentStyle) → AllByRecursion PrintsPlain (end_acts s)
+end_plain s =
+    let back = where_there BackgroundColor (reset_where (either_there s.background_color None)) in
+    let front = where_there ForegroundColor (reset_where (either_there s.foreground_color s.underline_color)) in
+    elim (s.attributes.0 == 0) as (λ b. AllByRecursion PrintsPlain (cond b (back ++ front) (Takes Reset ∷ []))) [
+      | true ↦ both_plain back front (there_plain BackgroundColor _) (there_plain ForegroundColor _)
+      | false ↦ (tt, tt)
     ]
 
-pub styled_reads : (colors : ColorOutput) (s : ContentStyle) (content : List ℕ) (tokens : List Token) → Reads content tokens
-    → Reads (set_style_text colors s ++ (content ++ end_style_text colors s)) (styled_functions colors s tokens)
-styled_reads colors s content tokens r =
-    both_read _ _ (style_functions colors s) (tokens ++ end_functions colors s) (style_reads colors s)
-    (both_read _ _ tokens (end_functions colors s) r (end_reads colors s))
+pub styled_plain : (s : ContentStyle) (content : List ℕ) → Formed (map Char content) → AllByRecursion PrintsPlain (styled_acts s content)
+styled_plain s content h = both_plain (style_acts s) (Prints content ∷ end_acts s) (style_plain s) (h, end_plain s)

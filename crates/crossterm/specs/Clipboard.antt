@@ -1,10 +1,11 @@
--- The places that a copy goes to, by their letters, the text of a copy, and what a terminal is told by it.
+-- The places that a copy goes to, by their letters, and what a terminal is told by a copy.
 use Rattle.std.specs.Prelude.{◌≡◌, ◌≢◌, ℕ, ◌==◌, true, ⊤, List, [], ◌∷◌, ◌++◌, if◌then◌else◌, map, codes, encode_utf8_all}
 use Rattle.std.specs.Str.{all_scalars, chars, IsUtf8}
 use Rattle.std.specs.List.{AllByRecursion}
 use Rattle.base64.specs.GeneralPurpose.{encode_of}
 use Rattle.base64.specs.Engines.{standard}
-use Rattle.crossterm_command.specs.Tokens.{Token, IsOscText, Reads}
+use Rattle.crossterm_command.specs.Tokens.{Token, IsOscText, Reads, text_of}
+use Rattle.crossterm_command.specs.Tokens.OscEnd.{St}
 use Rattle.crossterm_command.specs.Tokens.Token.{Osc}
 use Rattle.crossterm.specs.declared.clipboard.ClipboardType.{ClipboardType}
 use Rattle.crossterm.specs.declared.clipboard.ClipboardType.TheVariants.{Clipboard, Primary, Other}
@@ -27,21 +28,17 @@ selection_text types = encode_utf8_all (map char_of types)
 abbrev pub selection_of : List ℕ → List ClipboardType
 selection_of text = map type_of (chars text)
 
--- the text of a copy of these bytes to these places
-abbrev pub copy_text : List ℕ → List ClipboardType → List ℕ
-copy_text content types = codes "\u{1b}]52;" ++ (selection_text types ++ (codes ";" ++ (encode_of standard content ++ codes "\u{1b}\\")))
-
--- what a terminal is told by it: one operating system command
+-- a copy of these bytes to these places: one operating system command
 abbrev pub copy_functions : List ℕ → List ClipboardType → List Token
-copy_functions content types = Osc (codes "52;" ++ (map char_of types ++ (codes ";" ++ encode_of standard content))) ∷ []
+copy_functions content types = Osc (codes "52;" ++ (selection_text types ++ (codes ";" ++ encode_of standard content))) St ∷ []
 
 -- The letters are characters, as every `char` is, and none of them is ESC or bell, which would end the text.
 abbrev pub AreReadable : List ClipboardType → Type 0
-AreReadable types = (all_scalars (map char_of types) ≡ true) × AllByRecursion IsOscText (map char_of types)
+AreReadable types = (all_scalars (map char_of types) ≡ true) × AllByRecursion IsOscText (selection_text types)
 
--- A copy's text reads as what a terminal is told by it.
+-- A terminal reads a copy's text as that command.
 abbrev pub CopiesRead : Type 0
-CopiesRead = (content : List ℕ) (types : List ClipboardType) → AreReadable types → Reads (copy_text content types) (copy_functions content types)
+CopiesRead = (content : List ℕ) (types : List ClipboardType) → AreReadable types → Reads (text_of (copy_functions content types)) (copy_functions content types)
 
 -- ---- there and back
 

@@ -1,10 +1,9 @@
 pub mod Asking
 pub mod Clipboard
-pub mod Controls
 pub mod Functions
 pub mod Modes
+pub mod Painted
 pub mod Ranks
+pub mod Sequences
 pub mod Sizes
-pub mod StyleFunctions
-pub mod Texts
 pub mod Updates

@@ -2,15 +2,16 @@
 use Rattle.std.specs.Prelude.{ℕ, List, Option, ◌⊎◌}
 use Rattle.std.specs.Io.KnownBytes.{Appends}
 use Rattle.crossterm_command.specs.Writing.{AppendsFront}
-use Rattle.crossterm.specs.Texts.{begin_update_text, end_update_text}
+use Rattle.crossterm_command.specs.Controls.{reset, set}
+use Rattle.crossterm_command.specs.Tokens.{text_of}
 
 -- The writer grew by the beginning, went a step, and grew by the end.
 abbrev pub Synchronized : {W : Type 0} → (W → Option (List ℕ)) → (W → W → Type 0) → W → W → Type 0
-Synchronized {W} held step old new = (begun : W) × (left : W) × Appends (held old) (held begun) begin_update_text × step begun left
-    × Appends (held left) (held new) end_update_text
+Synchronized {W} held step old new = (begun : W) × (left : W) × Appends (held old) (held begun) (text_of (set "2026")) × step begun left
+    × Appends (held left) (held new) (text_of (reset "2026"))
 
 -- It stopped in the beginning, without a step, or after the beginning and a step in the end.
 abbrev pub StopsSynchronized : {W R : Type 0} → (W → Option (List ℕ)) → (W → R → W → Type 0) → W → W → Type 0
-StopsSynchronized {W} {R} held step old new = AppendsFront (held old) (held new) begin_update_text
-    ⊎ ((begun : W) × (outcome : R) × (left : W) × Appends (held old) (held begun) begin_update_text × step begun outcome left
-    × AppendsFront (held left) (held new) end_update_text)
+StopsSynchronized {W} {R} held step old new = AppendsFront (held old) (held new) (text_of (set "2026"))
+    ⊎ ((begun : W) × (outcome : R) × (left : W) × Appends (held old) (held begun) (text_of (set "2026")) × step begun outcome left
+    × AppendsFront (held left) (held new) (text_of (reset "2026")))

@@ -1,7 +1,8 @@
 //! Copying to the clipboard.
 ghost use Rattle.std.specs.Prelude.{◌≡◌, IfOk, IfErr, Some, [], ◌∷◌};
 ghost use Rattle.std.specs.IoError.{error_kind};
-ghost use Rattle.crossterm.specs.Clipboard.{char_of, copy_text, selection_of, selection_text, type_of};
+ghost use Rattle.crossterm_command.specs.Tokens.{text_of};
+ghost use Rattle.crossterm.specs.Clipboard.{char_of, copy_functions, selection_of, selection_text, type_of};
 
 use crate::command::Command;
 use crate::style::ColorOutput;
@@ -94,7 +95,7 @@ pub struct CopyToClipboard<T, A: Allocator = Global> {
 }
 
 impl<T: AsSlice<u8>, A: Allocator> Command for CopyToClipboard<T, A> {
-    ghost text = { λ c _. Some (copy_text (T.items c.content) c.destination.0.items) };
+    ghost text = { λ c _. Some (text_of (copy_functions (T.items c.content) c.destination.0.items)) };
 
     fn write_ansi<W: fmt::Write>(&self, f: &mut W, _colors: ColorOutput) -> fmt::Result {
         let destination = &self.destination;

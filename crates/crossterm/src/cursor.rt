@@ -1,8 +1,11 @@
 //! Commands of the cursor, and its place.
 //!
 //! Each command shows (`Display`) as the text that it writes.
-ghost use Rattle.std.specs.Prelude.{Some};
-ghost use Rattle.crossterm.specs.Texts.{cursor_style_text, disable_blinking_text, enable_blinking_text, hide_text, move_down_text, move_left_text, move_right_text, move_to_column_text, move_to_next_line_text, move_to_previous_line_text, move_to_row_text, move_to_text, move_up_text, restore_position_text, save_position_text, show_text};
+ghost use Rattle.std.specs.Prelude.{Some, ◌+◌};
+ghost use Rattle.crossterm_command.specs.Controls.{private, reset, set};
+ghost use Rattle.crossterm_command.specs.declared.color_output.ColorOutput.TheVariants.{Enabled};
+ghost use Rattle.crossterm_command.specs.Tokens.{text_of};
+ghost use Rattle.crossterm.specs.Sequences.{by, cursor_style, move_to};
 
 pub mod sys;
 
@@ -19,7 +22,7 @@ pub use sys::unix::{position, position_within};
 pub struct MoveTo(pub u16, pub u16);
 
 impl Command for MoveTo {
-    ghost text = { λ c _. Some (move_to_text c.0 c.1) };
+    ghost text = { λ c _. Some (text_of (move_to c.0 c.1)) };
 
     fn write_ansi<W: fmt::Write>(&self, f: &mut W, _colors: ColorOutput) -> fmt::Result {
         write_numbers(
@@ -32,7 +35,7 @@ impl Command for MoveTo {
 }
 
 impl fmt::Display for MoveTo {
-    ghost output = { λ c. Some (move_to_text c.0 c.1) };
+    ghost output = { λ c. ⟦<MoveTo as Command>⟧.text c Enabled };
 
     fn fmt<W: fmt::Write>(&self, f: &mut fmt::Formatter<W>) -> fmt::Result {
         execute_fmt(f, self)
@@ -44,7 +47,7 @@ impl fmt::Display for MoveTo {
 pub struct MoveToColumn(pub u16);
 
 impl Command for MoveToColumn {
-    ghost text = { λ c _. Some (move_to_column_text c.0) };
+    ghost text = { λ c _. Some (text_of (by (c.0 + 1) "G")) };
 
     fn write_ansi<W: fmt::Write>(&self, f: &mut W, _colors: ColorOutput) -> fmt::Result {
         let column = self.0;
@@ -53,7 +56,7 @@ impl Command for MoveToColumn {
 }
 
 impl fmt::Display for MoveToColumn {
-    ghost output = { λ c. Some (move_to_column_text c.0) };
+    ghost output = { λ c. ⟦<MoveToColumn as Command>⟧.text c Enabled };
 
     fn fmt<W: fmt::Write>(&self, f: &mut fmt::Formatter<W>) -> fmt::Result {
         execute_fmt(f, self)
@@ -65,7 +68,7 @@ impl fmt::Display for MoveToColumn {
 pub struct MoveToRow(pub u16);
 
 impl Command for MoveToRow {
-    ghost text = { λ c _. Some (move_to_row_text c.0) };
+    ghost text = { λ c _. Some (text_of (by (c.0 + 1) "d")) };
 
     fn write_ansi<W: fmt::Write>(&self, f: &mut W, _colors: ColorOutput) -> fmt::Result {
         let row = self.0;
@@ -74,7 +77,7 @@ impl Command for MoveToRow {
 }
 
 impl fmt::Display for MoveToRow {
-    ghost output = { λ c. Some (move_to_row_text c.0) };
+    ghost output = { λ c. ⟦<MoveToRow as Command>⟧.text c Enabled };
 
     fn fmt<W: fmt::Write>(&self, f: &mut fmt::Formatter<W>) -> fmt::Result {
         execute_fmt(f, self)
@@ -86,7 +89,7 @@ impl fmt::Display for MoveToRow {
 pub struct MoveToNextLine(pub u16);
 
 impl Command for MoveToNextLine {
-    ghost text = { λ c _. Some (move_to_next_line_text c.0) };
+    ghost text = { λ c _. Some (text_of (by c.0 "E")) };
 
     fn write_ansi<W: fmt::Write>(&self, f: &mut W, _colors: ColorOutput) -> fmt::Result {
         write_number(f, csi!(), u32::from(self.0), "E")
@@ -94,7 +97,7 @@ impl Command for MoveToNextLine {
 }
 
 impl fmt::Display for MoveToNextLine {
-    ghost output = { λ c. Some (move_to_next_line_text c.0) };
+    ghost output = { λ c. ⟦<MoveToNextLine as Command>⟧.text c Enabled };
 
     fn fmt<W: fmt::Write>(&self, f: &mut fmt::Formatter<W>) -> fmt::Result {
         execute_fmt(f, self)
@@ -106,7 +109,7 @@ impl fmt::Display for MoveToNextLine {
 pub struct MoveToPreviousLine(pub u16);
 
 impl Command for MoveToPreviousLine {
-    ghost text = { λ c _. Some (move_to_previous_line_text c.0) };
+    ghost text = { λ c _. Some (text_of (by c.0 "F")) };
 
     fn write_ansi<W: fmt::Write>(&self, f: &mut W, _colors: ColorOutput) -> fmt::Result {
         write_number(f, csi!(), u32::from(self.0), "F")
@@ -114,7 +117,7 @@ impl Command for MoveToPreviousLine {
 }
 
 impl fmt::Display for MoveToPreviousLine {
-    ghost output = { λ c. Some (move_to_previous_line_text c.0) };
+    ghost output = { λ c. ⟦<MoveToPreviousLine as Command>⟧.text c Enabled };
 
     fn fmt<W: fmt::Write>(&self, f: &mut fmt::Formatter<W>) -> fmt::Result {
         execute_fmt(f, self)
@@ -126,7 +129,7 @@ impl fmt::Display for MoveToPreviousLine {
 pub struct MoveUp(pub u16);
 
 impl Command for MoveUp {
-    ghost text = { λ c _. Some (move_up_text c.0) };
+    ghost text = { λ c _. Some (text_of (by c.0 "A")) };
 
     fn write_ansi<W: fmt::Write>(&self, f: &mut W, _colors: ColorOutput) -> fmt::Result {
         write_number(f, csi!(), u32::from(self.0), "A")
@@ -134,7 +137,7 @@ impl Command for MoveUp {
 }
 
 impl fmt::Display for MoveUp {
-    ghost output = { λ c. Some (move_up_text c.0) };
+    ghost output = { λ c. ⟦<MoveUp as Command>⟧.text c Enabled };
 
     fn fmt<W: fmt::Write>(&self, f: &mut fmt::Formatter<W>) -> fmt::Result {
         execute_fmt(f, self)
@@ -146,7 +149,7 @@ impl fmt::Display for MoveUp {
 pub struct MoveRight(pub u16);
 
 impl Command for MoveRight {
-    ghost text = { λ c _. Some (move_right_text c.0) };
+    ghost text = { λ c _. Some (text_of (by c.0 "C")) };
 
     fn write_ansi<W: fmt::Write>(&self, f: &mut W, _colors: ColorOutput) -> fmt::Result {
         write_number(f, csi!(), u32::from(self.0), "C")
@@ -154,7 +157,7 @@ impl Command for MoveRight {
 }
 
 impl fmt::Display for MoveRight {
-    ghost output = { λ c. Some (move_right_text c.0) };
+    ghost output = { λ c. ⟦<MoveRight as Command>⟧.text c Enabled };
 
     fn fmt<W: fmt::Write>(&self, f: &mut fmt::Formatter<W>) -> fmt::Result {
         execute_fmt(f, self)
@@ -166,7 +169,7 @@ impl fmt::Display for MoveRight {
 pub struct MoveDown(pub u16);
 
 impl Command for MoveDown {
-    ghost text = { λ c _. Some (move_down_text c.0) };
+    ghost text = { λ c _. Some (text_of (by c.0 "B")) };
 
     fn write_ansi<W: fmt::Write>(&self, f: &mut W, _colors: ColorOutput) -> fmt::Result {
         write_number(f, csi!(), u32::from(self.0), "B")
@@ -174,7 +177,7 @@ impl Command for MoveDown {
 }
 
 impl fmt::Display for MoveDown {
-    ghost output = { λ c. Some (move_down_text c.0) };
+    ghost output = { λ c. ⟦<MoveDown as Command>⟧.text c Enabled };
 
     fn fmt<W: fmt::Write>(&self, f: &mut fmt::Formatter<W>) -> fmt::Result {
         execute_fmt(f, self)
@@ -186,7 +189,7 @@ impl fmt::Display for MoveDown {
 pub struct MoveLeft(pub u16);
 
 impl Command for MoveLeft {
-    ghost text = { λ c _. Some (move_left_text c.0) };
+    ghost text = { λ c _. Some (text_of (by c.0 "D")) };
 
     fn write_ansi<W: fmt::Write>(&self, f: &mut W, _colors: ColorOutput) -> fmt::Result {
         write_number(f, csi!(), u32::from(self.0), "D")
@@ -194,7 +197,7 @@ impl Command for MoveLeft {
 }
 
 impl fmt::Display for MoveLeft {
-    ghost output = { λ c. Some (move_left_text c.0) };
+    ghost output = { λ c. ⟦<MoveLeft as Command>⟧.text c Enabled };
 
     fn fmt<W: fmt::Write>(&self, f: &mut fmt::Formatter<W>) -> fmt::Result {
         execute_fmt(f, self)
@@ -206,7 +209,7 @@ impl fmt::Display for MoveLeft {
 pub struct SavePosition;
 
 impl Command for SavePosition {
-    ghost text = { λ _ _. Some save_position_text };
+    ghost text = { λ _ _. Some (text_of (private "7")) };
 
     fn write_ansi<W: fmt::Write>(&self, f: &mut W, _colors: ColorOutput) -> fmt::Result {
         write_once(f, "\x1b7")
@@ -214,7 +217,7 @@ impl Command for SavePosition {
 }
 
 impl fmt::Display for SavePosition {
-    ghost output = { λ _. Some save_position_text };
+    ghost output = { λ c. ⟦<SavePosition as Command>⟧.text c Enabled };
 
     fn fmt<W: fmt::Write>(&self, f: &mut fmt::Formatter<W>) -> fmt::Result {
         execute_fmt(f, self)
@@ -226,7 +229,7 @@ impl fmt::Display for SavePosition {
 pub struct RestorePosition;
 
 impl Command for RestorePosition {
-    ghost text = { λ _ _. Some restore_position_text };
+    ghost text = { λ _ _. Some (text_of (private "8")) };
 
     fn write_ansi<W: fmt::Write>(&self, f: &mut W, _colors: ColorOutput) -> fmt::Result {
         write_once(f, "\x1b8")
@@ -234,7 +237,7 @@ impl Command for RestorePosition {
 }
 
 impl fmt::Display for RestorePosition {
-    ghost output = { λ _. Some restore_position_text };
+    ghost output = { λ c. ⟦<RestorePosition as Command>⟧.text c Enabled };
 
     fn fmt<W: fmt::Write>(&self, f: &mut fmt::Formatter<W>) -> fmt::Result {
         execute_fmt(f, self)
@@ -246,7 +249,7 @@ impl fmt::Display for RestorePosition {
 pub struct Hide;
 
 impl Command for Hide {
-    ghost text = { λ _ _. Some hide_text };
+    ghost text = { λ _ _. Some (text_of (reset "25")) };
 
     fn write_ansi<W: fmt::Write>(&self, f: &mut W, _colors: ColorOutput) -> fmt::Result {
         write_once(f, csi!("?25l"))
@@ -254,7 +257,7 @@ impl Command for Hide {
 }
 
 impl fmt::Display for Hide {
-    ghost output = { λ _. Some hide_text };
+    ghost output = { λ c. ⟦<Hide as Command>⟧.text c Enabled };
 
     fn fmt<W: fmt::Write>(&self, f: &mut fmt::Formatter<W>) -> fmt::Result {
         execute_fmt(f, self)
@@ -266,7 +269,7 @@ impl fmt::Display for Hide {
 pub struct Show;
 
 impl Command for Show {
-    ghost text = { λ _ _. Some show_text };
+    ghost text = { λ _ _. Some (text_of (set "25")) };
 
     fn write_ansi<W: fmt::Write>(&self, f: &mut W, _colors: ColorOutput) -> fmt::Result {
         write_once(f, csi!("?25h"))
@@ -274,7 +277,7 @@ impl Command for Show {
 }
 
 impl fmt::Display for Show {
-    ghost output = { λ _. Some show_text };
+    ghost output = { λ c. ⟦<Show as Command>⟧.text c Enabled };
 
     fn fmt<W: fmt::Write>(&self, f: &mut fmt::Formatter<W>) -> fmt::Result {
         execute_fmt(f, self)
@@ -286,7 +289,7 @@ impl fmt::Display for Show {
 pub struct EnableBlinking;
 
 impl Command for EnableBlinking {
-    ghost text = { λ _ _. Some enable_blinking_text };
+    ghost text = { λ _ _. Some (text_of (set "12")) };
 
     fn write_ansi<W: fmt::Write>(&self, f: &mut W, _colors: ColorOutput) -> fmt::Result {
         write_once(f, csi!("?12h"))
@@ -294,7 +297,7 @@ impl Command for EnableBlinking {
 }
 
 impl fmt::Display for EnableBlinking {
-    ghost output = { λ _. Some enable_blinking_text };
+    ghost output = { λ c. ⟦<EnableBlinking as Command>⟧.text c Enabled };
 
     fn fmt<W: fmt::Write>(&self, f: &mut fmt::Formatter<W>) -> fmt::Result {
         execute_fmt(f, self)
@@ -306,7 +309,7 @@ impl fmt::Display for EnableBlinking {
 pub struct DisableBlinking;
 
 impl Command for DisableBlinking {
-    ghost text = { λ _ _. Some disable_blinking_text };
+    ghost text = { λ _ _. Some (text_of (reset "12")) };
 
     fn write_ansi<W: fmt::Write>(&self, f: &mut W, _colors: ColorOutput) -> fmt::Result {
         write_once(f, csi!("?12l"))
@@ -314,7 +317,7 @@ impl Command for DisableBlinking {
 }
 
 impl fmt::Display for DisableBlinking {
-    ghost output = { λ _. Some disable_blinking_text };
+    ghost output = { λ c. ⟦<DisableBlinking as Command>⟧.text c Enabled };
 
     fn fmt<W: fmt::Write>(&self, f: &mut fmt::Formatter<W>) -> fmt::Result {
         execute_fmt(f, self)
@@ -335,7 +338,7 @@ pub enum SetCursorStyle {
 }
 
 impl Command for SetCursorStyle {
-    ghost text = { λ c _. Some (cursor_style_text c) };
+    ghost text = { λ c _. Some (text_of (cursor_style c)) };
 
     fn write_ansi<W: fmt::Write>(&self, f: &mut W, _colors: ColorOutput) -> fmt::Result {
         let text = match self {
@@ -352,7 +355,7 @@ impl Command for SetCursorStyle {
 }
 
 impl fmt::Display for SetCursorStyle {
-    ghost output = { λ c. Some (cursor_style_text c) };
+    ghost output = { λ c. ⟦<SetCursorStyle as Command>⟧.text c Enabled };
 
     fn fmt<W: fmt::Write>(&self, f: &mut fmt::Formatter<W>) -> fmt::Result {
         execute_fmt(f, self)

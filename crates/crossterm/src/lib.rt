@@ -2,8 +2,8 @@
 //!
 //! Here are all modules under crossterm's names. Events stand in `crossterm_types`, bytes to events in `crossterm_parse`, devices, sources
 //! and readers in `crossterm_read`; how a command gets to a writer, and how a terminal reads it, in `crossterm_command`; `Print` in
-//! `crossterm_style`. What each promises stands in that crate. The commands themselves are here: their texts are `specs/Texts.antt`, and
-//! what a terminal is told by them `specs/Functions.antt`.
+//! `crossterm_style`. What each promises stands in that crate. The commands themselves are here: what a terminal is told by them is
+//! `specs/Functions.antt`, and a command's text is the bytes of that.
 #![tactic(auto)]
 
 pub mod clipboard;

@@ -2,7 +2,11 @@
 //!
 //! `Clear`, `ScrollUp`, `ScrollDown` and `SetSize` show (`Display`) as the text that they write.
 ghost use Rattle.std.specs.Prelude.{Some};
-ghost use Rattle.crossterm.specs.Texts.{begin_update_text, clear_text, disable_line_wrap_text, enable_line_wrap_text, end_update_text, enter_alternate_screen_text, leave_alternate_screen_text, scroll_down_text, scroll_up_text, set_size_text, set_title_text};
+ghost use Rattle.std.specs.Option.{option_map};
+ghost use Rattle.crossterm_command.specs.Controls.{reset, set};
+ghost use Rattle.crossterm_command.specs.declared.color_output.ColorOutput.TheVariants.{Enabled};
+ghost use Rattle.crossterm_command.specs.Tokens.{text_of};
+ghost use Rattle.crossterm.specs.Sequences.{clear, scroll, set_size, set_title};
 
 mod size;
 pub mod sys;
@@ -22,7 +26,7 @@ pub use sys::unix::{
 pub struct DisableLineWrap;
 
 impl Command for DisableLineWrap {
-    ghost text = { λ _ _. Some disable_line_wrap_text };
+    ghost text = { λ _ _. Some (text_of (reset "7")) };
 
     fn write_ansi<W: fmt::Write>(&self, f: &mut W, _colors: ColorOutput) -> fmt::Result {
         write_once(f, csi!("?7l"))
@@ -34,7 +38,7 @@ impl Command for DisableLineWrap {
 pub struct EnableLineWrap;
 
 impl Command for EnableLineWrap {
-    ghost text = { λ _ _. Some enable_line_wrap_text };
+    ghost text = { λ _ _. Some (text_of (set "7")) };
 
     fn write_ansi<W: fmt::Write>(&self, f: &mut W, _colors: ColorOutput) -> fmt::Result {
         write_once(f, csi!("?7h"))
@@ -46,7 +50,7 @@ impl Command for EnableLineWrap {
 pub struct EnterAlternateScreen;
 
 impl Command for EnterAlternateScreen {
-    ghost text = { λ _ _. Some enter_alternate_screen_text };
+    ghost text = { λ _ _. Some (text_of (set "1049")) };
 
     fn write_ansi<W: fmt::Write>(&self, f: &mut W, _colors: ColorOutput) -> fmt::Result {
         write_once(f, csi!("?1049h"))
@@ -58,7 +62,7 @@ impl Command for EnterAlternateScreen {
 pub struct LeaveAlternateScreen;
 
 impl Command for LeaveAlternateScreen {
-    ghost text = { λ _ _. Some leave_alternate_screen_text };
+    ghost text = { λ _ _. Some (text_of (reset "1049")) };
 
     fn write_ansi<W: fmt::Write>(&self, f: &mut W, _colors: ColorOutput) -> fmt::Result {
         write_once(f, csi!("?1049l"))
@@ -87,7 +91,7 @@ pub enum ClearType {
 pub struct Clear(pub ClearType);
 
 impl Command for Clear {
-    ghost text = { λ c _. Some (clear_text c.0) };
+    ghost text = { λ c _. Some (text_of (clear c.0)) };
 
     fn write_ansi<W: fmt::Write>(&self, f: &mut W, _colors: ColorOutput) -> fmt::Result {
         let text = match self.0 {
@@ -103,7 +107,7 @@ impl Command for Clear {
 }
 
 impl fmt::Display for Clear {
-    ghost output = { λ c. Some (clear_text c.0) };
+    ghost output = { λ c. ⟦<Clear as Command>⟧.text c Enabled };
 
     fn fmt<W: fmt::Write>(&self, f: &mut fmt::Formatter<W>) -> fmt::Result {
         execute_fmt(f, self)
@@ -115,7 +119,7 @@ impl fmt::Display for Clear {
 pub struct ScrollUp(pub u16);
 
 impl Command for ScrollUp {
-    ghost text = { λ c _. Some (scroll_up_text c.0) };
+    ghost text = { λ c _. Some (text_of (scroll c.0 "S")) };
 
     fn write_ansi<W: fmt::Write>(&self, f: &mut W, _colors: ColorOutput) -> fmt::Result {
         if self.0 == 0 {
@@ -126,7 +130,7 @@ impl Command for ScrollUp {
 }
 
 impl fmt::Display for ScrollUp {
-    ghost output = { λ c. Some (scroll_up_text c.0) };
+    ghost output = { λ c. ⟦<ScrollUp as Command>⟧.text c Enabled };
 
     fn fmt<W: fmt::Write>(&self, f: &mut fmt::Formatter<W>) -> fmt::Result {
         execute_fmt(f, self)
@@ -138,7 +142,7 @@ impl fmt::Display for ScrollUp {
 pub struct ScrollDown(pub u16);
 
 impl Command for ScrollDown {
-    ghost text = { λ c _. Some (scroll_down_text c.0) };
+    ghost text = { λ c _. Some (text_of (scroll c.0 "T")) };
 
     fn write_ansi<W: fmt::Write>(&self, f: &mut W, _colors: ColorOutput) -> fmt::Result {
         if self.0 == 0 {
@@ -149,7 +153,7 @@ impl Command for ScrollDown {
 }
 
 impl fmt::Display for ScrollDown {
-    ghost output = { λ c. Some (scroll_down_text c.0) };
+    ghost output = { λ c. ⟦<ScrollDown as Command>⟧.text c Enabled };
 
     fn fmt<W: fmt::Write>(&self, f: &mut fmt::Formatter<W>) -> fmt::Result {
         execute_fmt(f, self)
@@ -161,7 +165,7 @@ impl fmt::Display for ScrollDown {
 pub struct SetSize(pub u16, pub u16);
 
 impl Command for SetSize {
-    ghost text = { λ c _. Some (set_size_text c.0 c.1) };
+    ghost text = { λ c _. Some (text_of (set_size c.0 c.1)) };
 
     fn write_ansi<W: fmt::Write>(&self, f: &mut W, _colors: ColorOutput) -> fmt::Result {
         write_numbers(f, csi!("8;"), (u32::from(self.1), u32::from(self.0)), "t")
@@ -169,7 +173,7 @@ impl Command for SetSize {
 }
 
 impl fmt::Display for SetSize {
-    ghost output = { λ c. Some (set_size_text c.0 c.1) };
+    ghost output = { λ c. ⟦<SetSize as Command>⟧.text c Enabled };
 
     fn fmt<W: fmt::Write>(&self, f: &mut fmt::Formatter<W>) -> fmt::Result {
         execute_fmt(f, self)
@@ -183,7 +187,7 @@ impl fmt::Display for SetSize {
 pub struct SetTitle<T>(pub T);
 
 impl<T: Display> Command for SetTitle<T> {
-    ghost text = { λ c _. set_title_text (T.output c.0) };
+    ghost text = { λ c _. option_map (λ title. text_of (set_title title)) (T.output c.0) };
 
     fn write_ansi<W: fmt::Write>(&self, f: &mut W, _colors: ColorOutput) -> fmt::Result {
         let title = &self.0;
@@ -202,7 +206,7 @@ pub(crate) const END_UPDATE: &str = csi!("?2026l");
 pub struct BeginSynchronizedUpdate;
 
 impl Command for BeginSynchronizedUpdate {
-    ghost text = { λ _ _. Some begin_update_text };
+    ghost text = { λ _ _. Some (text_of (set "2026")) };
 
     fn write_ansi<W: fmt::Write>(&self, f: &mut W, _colors: ColorOutput) -> fmt::Result {
         write_once(f, BEGIN_UPDATE)
@@ -214,7 +218,7 @@ impl Command for BeginSynchronizedUpdate {
 pub struct EndSynchronizedUpdate;
 
 impl Command for EndSynchronizedUpdate {
-    ghost text = { λ _ _. Some end_update_text };
+    ghost text = { λ _ _. Some (text_of (reset "2026")) };
 
     fn write_ansi<W: fmt::Write>(&self, f: &mut W, _colors: ColorOutput) -> fmt::Result {
         write_once(f, END_UPDATE)

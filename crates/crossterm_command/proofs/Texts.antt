@@ -4,6 +4,8 @@ use Rattle.std.specs.declared.fmt.Formatter.{Formatter}
 use Rattle.std.specs.declared.fmt.Error.{Error}
 use Rattle.std.specs.Fmt.{WritesInCalls, WritesText, HasWritten, IsPlainFormatter, DisplaysOnOk, option_append}
 use Rattle.std.specs.List.{FoldsTo, concat}
+use Rattle.crossterm_command.specs.Tokens.{Token, text_of}
+use Rattle.crossterm_command.proofs.Readings.{text_joined}
 
 concat_joined : (xs ys : List (List ℕ)) → concat (xs ++ ys) ≡ concat xs ++ concat ys
 concat_joined [] ys = refl
@@ -29,6 +31,10 @@ module _ {W : Type 0} (took : W → List ℕ → W → Type 0) where
     calls = folds_joined w p.parts v q.parts u p.calls q.calls;
     whole = concat_joined p.parts q.parts ∙ ap (λ l. l ++ concat q.parts) p.whole ∙ ap (λ l. a ++ l) q.whole;
   }
+
+  -- the texts of tokens in a row
+  pub tells_both : (w : W) (ts : List Token) (v : W) (us : List Token) (u : W) → WritesInCalls took w (text_of ts) v → WritesInCalls took v (text_of us) u → WritesInCalls took w (text_of (ts ++ us)) u
+  tells_both w ts v us u p q = subst (λ l. WritesInCalls took w l u) (sym (text_joined ts us)) (writes_both w (text_of ts) v (text_of us) u p q)
 
   -- the same where either may say nothing
   pub text_of_both : (w : W) (o : Option (List ℕ)) (v : W) (p : Option (List ℕ)) (u : W) → WritesText took w o v → WritesText took v p u → WritesText took w (option_append o p) u

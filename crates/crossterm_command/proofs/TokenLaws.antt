@@ -1,8 +1,10 @@
--- No spelling of a token begins another one's, so bytes have one reading at most.
-use Rattle.std.proofs.Common.{◌≡◌, ℕ, List, [], ◌∷◌, ◌++◌, inl, inr, refl, sym, ap, ◌∙◌, append_assoc, append-nil, subst, arith}
+-- Two tokens that begin one text are the same, so bytes have one reading at most.
+use Rattle.std.proofs.Common.{◌≡◌, ℕ, List, [], ◌∷◌, ◌++◌, refl, sym, ap, ◌∙◌, append_assoc, subst, arith}
+use Rattle.std.specs.Char.{encode_utf8}
 use Rattle.std.specs.List.{AllByRecursion}
-use Rattle.std.proofs.lemmas.Str.{encodes_same}
-use Rattle.crossterm_command.specs.Tokens.{Token, IsParameter, IsIntermediate, IsFinal, IsOscText, EndsOsc, Spells, SpellsAll, NoneBeginsAnother, OneReading}
+use Rattle.std.proofs.lemmas.Str.{encode_same}
+use Rattle.crossterm_command.specs.Tokens.{OscEnd, Token, IsParameter, IsIntermediate, IsFinal, IsOscText, IsPlain, IsWellFormed, NoneBeginsAnother, OneReading, ending, spelled, text_of}
+use Rattle.crossterm_command.specs.Tokens.OscEnd.{St, Bell}
 use Rattle.crossterm_command.specs.Tokens.Token.{Char, Csi, Osc, Private}
 
 -- ---- lists
@@ -12,10 +14,6 @@ heads e = cc
 
 tails : {x y : ℕ} {xs ys : List ℕ} → x ∷ xs ≡ y ∷ ys → xs ≡ ys
 tails e = cc
-
--- the same equation of two joined lists, where their fronts are known by other names
-along : {a b s t : List ℕ} (x y : List ℕ) → a ≡ s → b ≡ t → a ++ x ≡ b ++ y → s ++ x ≡ t ++ y
-along {a} {b} {s} {t} x y p q e = sym (ap (λ l. l ++ x) p) ∙ e ∙ ap (λ l. l ++ y) q
 
 -- the list begins with what P doesn't admit
 abbrev BeginsPast : (ℕ → Type 0) → List ℕ → Type 0
@@ -34,84 +32,74 @@ spans P (x ∷ xs) (y ∷ ys) rs ss a b r s e =
     let (same, rest) = spans P xs ys rs ss a.1 b.1 r s (tails e) in
     (cc, rest)
 
--- ---- control sequences
-
-regrouped : (ps is : List ℕ) (f : ℕ) (x : List ℕ) → (ps ++ (is ++ (f ∷ []))) ++ x ≡ ps ++ (is ++ (f ∷ x))
-regrouped ps is f x = append_assoc ps (is ++ (f ∷ [])) x ∙ ap (λ l. ps ++ l) (append_assoc is (f ∷ []) x)
+-- ---- one token
 
 parameters_end : (is : List ℕ) (f : ℕ) (x : List ℕ) → AllByRecursion IsIntermediate is → IsFinal f → BeginsPast IsParameter (is ++ (f ∷ x))
 parameters_end [] f x a b = λ p. omega (arith, b, p)
 parameters_end (i ∷ is) f x a b = λ p. omega (arith, a.0, p)
 
-csi_same : (ps qs is js : List ℕ) (f g : ℕ) (x y : List ℕ) → AllByRecursion IsParameter ps → AllByRecursion IsParameter qs → AllByRecursion IsIntermediate is → AllByRecursion IsIntermediate js → IsFinal f → IsFinal g
-    → (ps ++ (is ++ (f ∷ []))) ++ x ≡ (qs ++ (js ++ (g ∷ []))) ++ y → (Csi ps is f ≡ Csi qs js g) × (x ≡ y)
-csi_same ps qs is js f g x y a b c d m n e =
-    let whole = sym (regrouped ps is f x) ∙ e ∙ regrouped qs js g y in
-    let (parameters, rest) = spans IsParameter ps qs (is ++ (f ∷ x)) (js ++ (g ∷ y)) a b (parameters_end is f x c m) (parameters_end js g y d n) whole in
-    let (intermediates, last) = spans IsIntermediate is js (f ∷ x) (g ∷ y) c d (λ p. omega (arith, m, p)) (λ p. omega (arith, n, p)) rest in
-    let final = heads last in
-    (cc, tails last)
+text_ends : (end : OscEnd) (x : List ℕ) → BeginsPast IsOscText (ending end ++ x)
+text_ends St x = λ p. p.0 refl
+text_ends Bell x = λ p. p.1 refl
 
--- ---- operating system commands
+ends_same : (a b : OscEnd) (x y : List ℕ) → ending a ++ x ≡ ending b ++ y → (a ≡ b) × (x ≡ y)
+ends_same St St x y e = (refl, tails (tails e))
+ends_same St Bell x y e = absurd (omega (arith, heads e))
+ends_same Bell St x y e = absurd (omega (arith, heads e))
+ends_same Bell Bell x y e = (refl, tails e)
 
-text_ends : (end x : List ℕ) → EndsOsc end → BeginsPast IsOscText (end ++ x)
-text_ends end x (inl e) = let S : List ℕ → Type 0 = λ l. BeginsPast IsOscText (l ++ x) in subst S (sym e) (λ p. p.0 refl)
-text_ends end x (inr e) = let S : List ℕ → Type 0 = λ l. BeginsPast IsOscText (l ++ x) in subst S (sym e) (λ p. p.1 refl)
-
-ends_same : (a b x y : List ℕ) → EndsOsc a → EndsOsc b → a ++ x ≡ b ++ y → x ≡ y
-ends_same a b x y (inl p) (inl q) e = tails (tails (along x y p q e))
-ends_same a b x y (inl p) (inr q) e = absurd (omega (arith, heads (along x y p q e)))
-ends_same a b x y (inr p) (inl q) e = absurd (omega (arith, heads (along x y p q e)))
-ends_same a b x y (inr p) (inr q) e = tails (along x y p q e)
-
-osc_same : (t u a b x y : List ℕ) → AllByRecursion IsOscText t → AllByRecursion IsOscText u → EndsOsc a → EndsOsc b → (t ++ a) ++ x ≡ (u ++ b) ++ y → (Osc t ≡ Osc u) × (x ≡ y)
-osc_same t u a b x y p q m n e =
-    let whole = sym (append_assoc t a x) ∙ e ∙ append_assoc u b y in
-    let (text, rest) = spans IsOscText t u (a ++ x) (b ++ y) p q (text_ends a x m) (text_ends b y n) whole in
-    (ap Osc text, ends_same a b x y m n rest)
-
--- ---- tokens
-
--- Two spellings that begin one list are of one token, and end at one place.
-pub one_spelling : (t u : Token) (a b x y : List ℕ) → Spells t a → Spells u b → a ++ x ≡ b ++ y → (t ≡ u) × (x ≡ y)
-one_spelling (Char c) (Char d) a b x y (_, p) (_, q) e = let h = along x y p q e in (ap Char (heads h), tails h)
-one_spelling (Char c) (Csi qs js g) a b x y (n, p) (_, _, _, q) e = absurd (n (heads (along x y p q e)))
-one_spelling (Char c) (Osc u) a b x y (n, p) (_, _, _, q) e = absurd (n (heads (along x y p q e)))
-one_spelling (Char c) (Private d) a b x y (n, p) (_, q) e = absurd (n (heads (along x y p q e)))
-one_spelling (Csi ps is f) (Char d) a b x y (_, _, _, p) (n, q) e = absurd (n (sym (heads (along x y p q e))))
-one_spelling (Csi ps is f) (Csi qs js g) a b x y (k, l, m, p) (k', l', m', q) e = csi_same ps qs is js f g x y k k' l l' m m' (tails (tails (along x y p q e)))
-one_spelling (Csi ps is f) (Osc u) a b x y (_, _, _, p) (_, _, _, q) e = absurd (omega (arith, heads (tails (along x y p q e))))
-one_spelling (Csi ps is f) (Private d) a b x y (_, _, _, p) (m, q) e = absurd (omega (arith, m, heads (tails (along x y p q e))))
-one_spelling (Osc t) (Char d) a b x y (_, _, _, p) (n, q) e = absurd (n (sym (heads (along x y p q e))))
-one_spelling (Osc t) (Csi qs js g) a b x y (_, _, _, p) (_, _, _, q) e = absurd (omega (arith, heads (tails (along x y p q e))))
-one_spelling (Osc t) (Osc u) a b x y (end, k, l, p) (end', k', l', q) e = osc_same t u end end' x y k k' l l' (tails (tails (along x y p q e)))
-one_spelling (Osc t) (Private d) a b x y (_, _, _, p) (m, q) e = absurd (omega (arith, m, heads (tails (along x y p q e))))
-one_spelling (Private c) (Char d) a b x y (_, p) (n, q) e = absurd (n (sym (heads (along x y p q e))))
-one_spelling (Private c) (Csi qs js g) a b x y (m, p) (_, _, _, q) e = absurd (omega (arith, m, heads (tails (along x y p q e))))
-one_spelling (Private c) (Osc u) a b x y (m, p) (_, _, _, q) e = absurd (omega (arith, m, heads (tails (along x y p q e))))
-one_spelling (Private c) (Private d) a b x y (_, p) (_, q) e = let h = tails (along x y p q e) in (ap Private (heads h), tails h)
+-- no other character begins with ESC
+not_escape : (c : ℕ) (x y : List ℕ) → IsPlain c → encode_utf8 c ++ x ≡ 0x1B ∷ y → ⊥
+unfolding encode_utf8
+not_escape c x y n e = n (encode_same c 0x1B x y e).0
 
 pub none_begins_another : NoneBeginsAnother
-none_begins_another t u front more p q =
-    let (same, rest) = one_spelling t u front (front ++ more) more [] p q (sym (append-nil (front ++ more))) in
-    (same, rest)
+none_begins_another (Char c) (Char d) x y p q e = let (same, rest) = encode_same c d x y e in (ap Char same, rest)
+none_begins_another (Char c) (Csi qs js g) x y p q e = absurd (not_escape c x _ p.1 e)
+none_begins_another (Char c) (Osc u b) x y p q e = absurd (not_escape c x _ p.1 e)
+none_begins_another (Char c) (Private d) x y p q e = absurd (not_escape c x _ p.1 e)
+none_begins_another (Csi ps is f) (Char d) x y p q e = absurd (not_escape d y _ q.1 (sym e))
+none_begins_another (Csi ps is f) (Csi qs js g) x y (k, l, m) (k', l', m') e =
+    let (parameters, rest) = spans IsParameter ps qs (is ++ (f ∷ x)) (js ++ (g ∷ y)) k k' (parameters_end is f x l m) (parameters_end js g y l' m') (tails (tails e)) in
+    let (intermediates, last) = spans IsIntermediate is js (f ∷ x) (g ∷ y) l l' (λ p. omega (arith, m, p)) (λ p. omega (arith, m', p)) rest in
+    let final = heads last in
+    (cc, tails last)
+none_begins_another (Csi ps is f) (Osc u b) x y p q e = absurd (omega (arith, heads (tails e)))
+none_begins_another (Csi ps is f) (Private d) x y p q e = absurd (omega (arith, q, heads (tails e)))
+none_begins_another (Osc t a) (Char d) x y p q e = absurd (not_escape d y _ q.1 (sym e))
+none_begins_another (Osc t a) (Csi qs js g) x y p q e = absurd (omega (arith, heads (tails e)))
+none_begins_another (Osc t a) (Osc u b) x y p q e =
+    let (text, rest) = spans IsOscText t u (ending a ++ x) (ending b ++ y) p.1 q.1 (text_ends a x) (text_ends b y) (tails (tails e)) in
+    let (end, more) = ends_same a b x y rest in
+    (cc, more)
+none_begins_another (Osc t a) (Private d) x y p q e = absurd (omega (arith, q, heads (tails e)))
+none_begins_another (Private c) (Char d) x y p q e = absurd (not_escape d y _ q.1 (sym e))
+none_begins_another (Private c) (Csi qs js g) x y p q e = absurd (omega (arith, p, heads (tails e)))
+none_begins_another (Private c) (Osc u b) x y p q e = absurd (omega (arith, p, heads (tails e)))
+none_begins_another (Private c) (Private d) x y p q e = let h = tails e in (ap Private (heads h), tails h)
 
--- a spelling isn't empty
-spelled : (t : Token) (a x : List ℕ) → Spells t a → a ++ x ≡ [] → ⊥
-spelled (Char c) a x (_, p) e = let h = sym (ap (λ l. l ++ x) p) ∙ e in cc
-spelled (Csi ps is f) a x (_, _, _, p) e = let h = sym (ap (λ l. l ++ x) p) ∙ e in cc
-spelled (Osc t) a x (_, _, _, p) e = let h = sym (ap (λ l. l ++ x) p) ∙ e in cc
-spelled (Private b) a x (_, p) e = let h = sym (ap (λ l. l ++ x) p) ∙ e in cc
+-- ---- all tokens
 
-pub one_reading_of_chars : (ts us : List Token) (cs : List ℕ) → SpellsAll ts cs → SpellsAll us cs → ts ≡ us
-one_reading_of_chars [] [] cs p q = refl
-one_reading_of_chars [] (u ∷ us) cs p (front, rest, s, e, more) = absurd (spelled u front rest s (sym e ∙ p))
-one_reading_of_chars (t ∷ ts) [] cs (front, rest, s, e, more) q = absurd (spelled t front rest s (sym e ∙ q))
-one_reading_of_chars (t ∷ ts) (u ∷ us) cs (a, x, s, e, more) (b, y, s', e', more') =
-    let (first, rest) = one_spelling t u a b x y s s' (sym e ∙ e') in
-    let others = one_reading_of_chars ts us x more (subst (SpellsAll us) (sym rest) more') in
+-- a token isn't spelled by nothing
+spelled_by_some : (t : Token) (x : List ℕ) → spelled t x ≡ [] → ⊥
+unfolding encode_utf8
+spelled_by_some (Char c) x e =
+    let longer : encode_utf8 c ++ (x ++ (0 ∷ [])) ≡ encode_utf8 0 ++ [] = sym (append_assoc (encode_utf8 c) x (0 ∷ [])) ∙ ap (λ l. l ++ (0 ∷ [])) e in
+    let (same, rest) = encode_same c 0 (x ++ (0 ∷ [])) [] longer in
+    let shorter = sym (ap (λ d. encode_utf8 d ++ x) same) ∙ e in
+    cc
+spelled_by_some (Csi ps is f) x e = cc
+spelled_by_some (Osc t a) x e = cc
+spelled_by_some (Private b) x e = cc
+
+same_text : (ts us : List Token) → AllByRecursion IsWellFormed ts → AllByRecursion IsWellFormed us → text_of ts ≡ text_of us → ts ≡ us
+same_text [] [] p q e = refl
+same_text [] (u ∷ us) p q e = absurd (spelled_by_some u (text_of us) (sym e))
+same_text (t ∷ ts) [] p q e = absurd (spelled_by_some t (text_of ts) e)
+same_text (t ∷ ts) (u ∷ us) p q e =
+    let (first, rest) = none_begins_another t u (text_of ts) (text_of us) p.0 q.0 e in
+    let others = same_text ts us p.1 q.1 rest in
     cc
 
 pub one_reading : OneReading
-one_reading bytes ts us (cs, _, e, read) (ds, _, e', read') =
-    one_reading_of_chars ts us cs read (subst (SpellsAll us) (sym (encodes_same cs ds (e ∙ sym e'))) read')
+one_reading bytes ts us p q = same_text ts us p.0 q.0 (p.1 ∙ sym q.1)

@@ -1,3 +1,4 @@
+pub mod Controls
 pub mod Environment
 pub mod Faults
 pub mod Tokens

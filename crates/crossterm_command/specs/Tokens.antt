@@ -1,7 +1,13 @@
 -- How a terminal reads bytes: characters in UTF-8, and among them the control functions of ECMA-48 in 7 bits, with this project's profile.
-use Rattle.std.specs.Prelude.{◌≡◌, ◌≢◌, ℕ, ◌≤◌, true, List, [], ◌∷◌, ◌++◌, ◌⊎◌, encode_utf8_all}
-use Rattle.std.specs.Str.{all_scalars}
+use Rattle.std.specs.Prelude.{◌≡◌, ◌≢◌, ℕ, ◌≤◌, List, [], ◌∷◌, ◌++◌, codes}
+use Rattle.std.specs.Char.{IsScalar, encode_utf8}
+use Rattle.std.specs.Str.{IsUtf8}
 use Rattle.std.specs.List.{AllByRecursion}
+
+-- What ends an operating system command: ST, which is ESC and a backslash, or a bell.
+pub data OscEnd : Type 0 where
+  St : OscEnd
+  Bell : OscEnd
 
 -- What a terminal reads at a time.
 pub data Token : Type 0 where
@@ -9,10 +15,30 @@ pub data Token : Type 0 where
   Char : ℕ → Token
   -- a control sequence: its parameter bytes, its intermediate bytes and its final byte
   Csi : List ℕ → List ℕ → ℕ → Token
-  -- an operating system command, by its text
-  Osc : List ℕ → Token
+  -- an operating system command: its text in UTF-8, and what ends it
+  Osc : List ℕ → OscEnd → Token
   -- a private function, by its byte
   Private : ℕ → Token
+
+-- ---- how tokens are spelled
+
+abbrev pub ending : OscEnd → List ℕ
+ending St = codes "\u{1b}\\"
+ending Bell = codes "\u{7}"
+
+-- a token's bytes, and then what follows
+abbrev pub spelled : Token → List ℕ → List ℕ
+spelled (Char c) rest = encode_utf8 c ++ rest
+spelled (Csi parameters intermediates final) rest = codes "\u{1b}[" ++ (parameters ++ (intermediates ++ (final ∷ rest)))
+spelled (Osc text end) rest = codes "\u{1b}]" ++ (text ++ (ending end ++ rest))
+spelled (Private b) rest = codes "\u{1b}" ++ (b ∷ rest)
+
+-- the text of tokens: the bytes of one after another
+abbrev pub text_of : List Token → List ℕ
+text_of [] = []
+text_of (t ∷ ts) = spelled t (text_of ts)
+
+-- ---- which tokens there are
 
 -- a parameter byte, 30 to 3F; after ESC the byte of a private function
 abbrev pub IsParameter : ℕ → Type 0
@@ -30,34 +56,26 @@ IsFinal b = (0x40 ≤ b) × (b ≤ 0x7E)
 abbrev pub IsPlain : ℕ → Type 0
 IsPlain c = c ≢ 0x1B
 
--- a character that may stand in the text of an operating system command: neither ESC nor bell
+-- a byte that may stand in the text of an operating system command: neither ESC nor bell
 abbrev pub IsOscText : ℕ → Type 0
-IsOscText c = (c ≢ 0x1B) × (c ≢ 0x07)
+IsOscText b = (b ≢ 0x1B) × (b ≢ 0x07)
 
--- what ends an operating system command: ST, which is ESC and a backslash, or a bell
-abbrev pub EndsOsc : List ℕ → Type 0
-EndsOsc cs = (cs ≡ 0x1B ∷ 0x5C ∷ []) ⊎ (cs ≡ 0x07 ∷ [])
+-- The parts of a token are what they may be.
+abbrev pub IsWellFormed : Token → Type 0
+IsWellFormed (Char c) = IsScalar c × IsPlain c
+IsWellFormed (Csi parameters intermediates final) = AllByRecursion IsParameter parameters × AllByRecursion IsIntermediate intermediates × IsFinal final
+IsWellFormed (Osc text end) = IsUtf8 text × AllByRecursion IsOscText text
+IsWellFormed (Private b) = IsParameter b
 
--- The characters spell the token.
-abbrev pub Spells : Token → List ℕ → Type 0
-Spells (Char c) cs = IsPlain c × (cs ≡ c ∷ [])
-Spells (Csi parameters intermediates final) cs = AllByRecursion IsParameter parameters × AllByRecursion IsIntermediate intermediates × IsFinal final
-    × (cs ≡ 0x1B ∷ 0x5B ∷ (parameters ++ (intermediates ++ (final ∷ []))))
-Spells (Osc text) cs = (end : List ℕ) × AllByRecursion IsOscText text × EndsOsc end × (cs ≡ 0x1B ∷ 0x5D ∷ (text ++ end))
-Spells (Private b) cs = IsParameter b × (cs ≡ 0x1B ∷ b ∷ [])
+-- ---- how bytes are read
 
--- The characters spell the tokens, one after another.
-abbrev pub SpellsAll : List Token → List ℕ → Type 0
-SpellsAll [] cs = cs ≡ []
-SpellsAll (t ∷ ts) cs = (front : List ℕ) × (rest : List ℕ) × Spells t front × (cs ≡ front ++ rest) × SpellsAll ts rest
-
--- The bytes read as the tokens: they are UTF-8, and their characters spell them, one after another.
+-- The bytes read as the tokens: they are the text of these.
 abbrev pub Reads : List ℕ → List Token → Type 0
-Reads bytes ts = (cs : List ℕ) × (all_scalars cs ≡ true) × (encode_utf8_all cs ≡ bytes) × SpellsAll ts cs
+Reads bytes ts = AllByRecursion IsWellFormed ts × (text_of ts ≡ bytes)
 
--- No spelling of a token begins another one's.
+-- Two tokens that begin one text are the same, and end at one place: no spelling of a token begins another one's.
 abbrev pub NoneBeginsAnother : Type 0
-NoneBeginsAnother = (t u : Token) (front more : List ℕ) → Spells t front → Spells u (front ++ more) → (t ≡ u) × (more ≡ [])
+NoneBeginsAnother = (t u : Token) (rest more : List ℕ) → IsWellFormed t → IsWellFormed u → spelled t rest ≡ spelled u more → (t ≡ u) × (rest ≡ more)
 
 -- Bytes read as tokens in one way at most.
 abbrev pub OneReading : Type 0

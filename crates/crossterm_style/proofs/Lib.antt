@@ -1,5 +1,8 @@
+pub mod ActLooks
 pub mod CountLaws
 pub mod FieldLaws
+pub mod Fitting
+pub mod InkLooks
 pub mod Members
 pub mod NameLaws
 pub mod Orders
@@ -7,4 +10,6 @@ pub mod Parameters
 pub mod ReadingLaws
 pub mod SetLaws
 pub mod SetMembers
+pub mod StyledLooks
+pub mod Telling
 pub mod TextLaws

@@ -3,11 +3,17 @@ use Rattle.std.proofs.Common.{◌≡◌, ℕ, ◌+◌, ◌<◌, ◌≤◌, Bool,
 use Rattle.std.proofs.lemmas.List.{take_more}
 use Rattle.std.proofs.lemmas.List.Elements.{filter-append}
 use Rattle.std.proofs.lemmas.List.Concat.{flat_map-append}
+use Rattle.std.proofs.lemmas.List.Folds.{flat_map-map}
 use Rattle.std.specs.List.{filter}
 use Rattle.std.specs.Int.RustNames.{bit_or}
 use Rattle.crossterm_style.specs.declared.types.attribute.Attribute.{Attribute}
 use Rattle.crossterm_style.specs.Attributes.{all_attributes, bit_of, has, members, of_list, with_all}
-use Rattle.crossterm_style.specs.Styles.{set_attribute_text, set_attributes_text}
+use Rattle.crossterm_style.specs.Acts.{attribute_acts}
+use Rattle.crossterm_style.specs.Acts.Act.{Takes}
+use Rattle.crossterm_style.specs.Styles.{act_functions, attribute_functions, told}
+use Rattle.crossterm_command.specs.declared.color_output.ColorOutput.{ColorOutput}
+use Rattle.crossterm_command.specs.Tokens.{text_of}
+use Rattle.crossterm_command.proofs.Readings.{text_of_each}
 
 module _ {X : Type 0} (text : X → List ℕ) (test : X → Bool) (xs : List X) (i : ℕ) (other : X) (lt : i < length xs) where
   abbrev so_far : ℕ → List ℕ
@@ -27,10 +33,17 @@ module _ {X : Type 0} (text : X → List ℕ) (test : X → Bool) (xs : List X) 
   pub text_same : test (get_or xs i other) ≡ false → so_far i ≡ so_far (i + 1)
   text_same is = sym (rw is at more ∙ append-nil (so_far i))
 
+-- the text of an attribute
+abbrev pub attribute_text : Attribute → List ℕ
+attribute_text a = text_of (attribute_functions a)
+
 -- All attributes that are in a set are its members.
-pub all_written : (bits n : ℕ) → length all_attributes ≤ n → flat_map set_attribute_text (filter (has bits) (take n all_attributes)) ≡ set_attributes_text bits
+pub all_written : (colors : ColorOutput) (bits n : ℕ) → length all_attributes ≤ n → flat_map attribute_text (filter (has bits) (take n all_attributes)) ≡ text_of (told colors (attribute_acts bits))
 unfolding members
-all_written bits n l = ap (λ all. flat_map set_attribute_text (filter (has bits) all)) (take_all n all_attributes l)
+all_written colors bits n l =
+    ap (λ all. flat_map attribute_text (filter (has bits) all)) (take_all n all_attributes l)
+    ∙ sym (text_of_each attribute_functions (filter (has bits) all_attributes))
+    ∙ ap text_of (sym (flat_map-map (act_functions colors) Takes (filter (has bits) all_attributes)))
 
 -- One more attribute in a list is one more bit.
 one_more : (bits : ℕ) (all : List Attribute) (a : Attribute) → with_all bits (all ++ (a ∷ [])) ≡ bit_or (with_all bits all) (bit_of a)

@@ -19,7 +19,7 @@ use Rattle.crossterm_style.proofs.ReadingLaws.{one_colored}
 
 -- ---- the digits of a number
 
-abbrev IsDigit : ℕ → Type 0
+abbrev pub IsDigit : ℕ → Type 0
 IsDigit b = (48 ≤ b) × (b ≤ 57)
 
 digits_append : (P : ℕ → Type 0) (xs ys : List ℕ) → AllByRecursion P xs → AllByRecursion P ys → AllByRecursion P (xs ++ ys)
@@ -46,15 +46,15 @@ byte_reads n h =
 no_semicolon : (d : ℕ) → IsDigit d → (d == 59) ≡ false
 no_semicolon d h = grind (arith, nat_tests)
 
-one_field : (ds : List ℕ) → AllByRecursion IsDigit ds → fields ds ≡ ds ∷ []
+pub one_field : (ds : List ℕ) → AllByRecursion IsDigit ds → fields ds ≡ ds ∷ []
 one_field [] a = refl
 one_field (d ∷ ds) a = rw (no_semicolon d a.0, one_field ds a.1) refl
 
-next_field : (ds rest : List ℕ) → AllByRecursion IsDigit ds → fields (ds ++ (59 ∷ rest)) ≡ ds ∷ fields rest
+pub next_field : (ds rest : List ℕ) → AllByRecursion IsDigit ds → fields (ds ++ (59 ∷ rest)) ≡ ds ∷ fields rest
 next_field [] rest a = refl
 next_field (d ∷ ds) rest a = rw (no_semicolon d a.0, next_field ds rest a.1) refl
 
-byte_digits : (n : ℕ) → n < 256 → AllByRecursion IsDigit (decimal n)
+pub byte_digits : (n : ℕ) → n < 256 → AllByRecursion IsDigit (decimal n)
 byte_digits n h = decimal_digits n (omega (arith, h))
 
 parts_fields : (r g b : ℕ) → r < 256 → g < 256 → b < 256

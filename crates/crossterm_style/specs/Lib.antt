@@ -1,9 +1,12 @@
+pub mod Acts
+pub mod Appearance
 pub mod AttributeSet
 pub mod Attributes
 pub mod ColorNames
 pub mod Colors
 pub mod Counts
 pub mod Fields
+pub mod Looks
 pub mod Ranks
 pub mod Reading
 pub mod Styles

@@ -2,15 +2,17 @@
 ghost use Rattle.std.specs.Prelude.{◌≡◌, ◌<◌, ◌^◌, ◌||◌, ◌&&◌, ◌↔◌, ℕ, Bool, IsTrue, List, not, true, false};
 ghost use Rattle.std.specs.Int.{bit_not, w32};
 ghost use Rattle.std.specs.Int.RustNames.{bit_and, bit_or, bit_xor};
-ghost use Rattle.std.specs.List.{Contains};
+ghost use Rattle.std.specs.List.{AllByRecursion, Contains};
 ghost use Rattle.crossterm_flags.specs.Orders.{ComparesBy};
+ghost use Rattle.crossterm_style.specs.Acts.{style_acts};
+ghost use Rattle.crossterm_style.specs.Appearance.{ActsShow, ColorsShow, DisabledMakesPlain, FitsAct, FitsThere, OneUnderline, PaletteHasNames, ResetComesFirst, StyledEndsPlain, UnderlineColorStays, colors_acts};
 ghost use Rattle.crossterm_style.specs.Attributes.{Makes, bit_of, differ, has, of_list};
 ghost use Rattle.crossterm_style.specs.declared.types.attribute.Attribute.{Attribute};
-ghost use Rattle.crossterm_style.specs.Colors.{LaterIsAssociative, LaterWins, NoColorsAreNeutral};
+ghost use Rattle.crossterm_style.specs.Colors.{FitsColored, LaterIsAssociative, LaterWins, NoColorsAreNeutral};
 ghost use Rattle.crossterm_style.specs.Fields.{OneColor, OneColored, TextIsReadBack};
 ghost use Rattle.crossterm_style.specs.Ranks.{attribute_order, color_order, colored_order};
 
-use crate::{Attribute, Attributes, Color, Colored};
+use crate::{Attribute, Attributes, Color, Colored, Colors, ContentStyle};
 use std::cmp::{Ord, PartialOrd};
 
 /// `Attributes` is a set: `with`, `set`, `extend` and `|` make the union, `without` and `unset` the difference, `&` the intersection,
@@ -56,3 +58,51 @@ pub fn declared_orders()
     ensures colors { ComparesBy color_order ⟦<Color as Ord>⟧.cmp ⟦<Color as PartialOrd>⟧.partial_cmp }
     ensures colored { ComparesBy colored_order ⟦<Colored as Ord>⟧.cmp ⟦<Colored as PartialOrd>⟧.partial_cmp }
 {}
+
+/// What a terminal is told shows as commands paint, from any style: of acts one after another, and of two colours by one sequence.
+pub fn looks()
+    ensures acts { ActsShow }
+    ensures colors { ColorsShow }
+{}
+
+/// With colours, a content in its style leaves the plain style plain exactly where it has an attribute, or no colour of its underline but
+/// the terminal's own.
+pub fn styled_ends_plain()
+    ensures { StyledEndsPlain }
+{}
+
+/// Some looks: the palette's 9 is red; a colour that isn't written makes all plain; `Reset` of a set comes first; of two underlines the later
+/// stands alone; an underline's colour outlives its content.
+pub fn some_looks()
+    ensures palette { PaletteHasNames }
+    ensures disabled { DisabledMakesPlain }
+    ensures reset { ResetComesFirst }
+    ensures underline { OneUnderline }
+    ensures underline_color { UnderlineColorStays }
+{}
+
+/// The numbers of a colour are bytes. Like the two below it does nothing when it runs.
+pub fn color_fits(color: Colored)
+    ensures { FitsColored color }
+{}
+
+fn there_fits(color: Option<Color>)
+    ensures { FitsThere color }
+{}
+
+/// The numbers of two colours are bytes.
+pub fn colors_fit(colors: Colors)
+    ensures { AllByRecursion FitsAct (colors_acts colors.foreground colors.background) }
+{
+    there_fits(colors.foreground);
+    there_fits(colors.background);
+}
+
+/// The numbers of a style's colours are bytes.
+pub fn style_fits(style: ContentStyle)
+    ensures { AllByRecursion FitsAct (style_acts style) }
+{
+    there_fits(style.background_color);
+    there_fits(style.foreground_color);
+    there_fits(style.underline_color);
+}

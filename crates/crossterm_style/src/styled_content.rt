@@ -1,7 +1,7 @@
 //! Contents with a style.
 ghost use Rattle.std.specs.Prelude.{◌≡◌};
 ghost use Rattle.crossterm_command.specs.declared.color_output.ColorOutput.TheVariants.{Enabled};
-ghost use Rattle.crossterm_style.specs.Styles.{print_styled_text};
+ghost use Rattle.crossterm_style.specs.Styles.{styled_text};
 ghost use Rattle.std.specs.Borrow.{Lends, sem};
 ghost use Rattle.crossterm_style.specs.contracts.content_style.ContentStyle.{the_row as style_row};
 ghost use Rattle.crossterm_style.specs.contracts.styled_content.StyledContent.{the_row};
@@ -75,7 +75,7 @@ impl<D> AsStyle for StyledContent<D> {
 }
 
 impl<D: Display> Display for StyledContent<D> {
-    ghost output = { λ c. print_styled_text Enabled c.style (D.output c.content) };
+    ghost output = { λ c. styled_text Enabled c.style (D.output c.content) };
 
     fn fmt<W: fmt::Write>(&self, f: &mut fmt::Formatter<W>) -> fmt::Result {
         let content = &self.content;

@@ -4,8 +4,11 @@ ghost use Rattle.std.specs.IoError.{error_kind};
 ghost use Rattle.std.specs.List.{AllByRecursion};
 ghost use Rattle.std.specs.Io.KnownBytes.{Appends};
 ghost use Rattle.crossterm_command.specs.Faults.{Stopped};
+ghost use Rattle.crossterm_command.specs.Tokens.{text_of};
 ghost use Rattle.crossterm_command.specs.Writing.{AppendsFront};
-ghost use Rattle.crossterm.specs.Functions.{text_of, functions, IsReadable, AppendsReading};
+ghost use Rattle.crossterm_style.specs.Appearance.{FitsAct};
+ghost use Rattle.crossterm.specs.Functions.{functions, IsReadable, AppendsReading};
+ghost use Rattle.crossterm.specs.Painted.{AppendsShown, acts};
 
 use crate::clipboard::CopyToClipboard;
 use crate::cursor::{
@@ -27,6 +30,8 @@ use crate::terminal::{
     EnterAlternateScreen, LeaveAlternateScreen, ScrollDown, ScrollUp, SetSize, SetTitle,
 };
 use crossterm_command::{Command, CommandFault, write_command};
+use crossterm_style::Colored;
+use crossterm_style::laws::{color_fits, colors_fit, style_fits};
 use std::alloc::{Allocator, Global};
 use std::io::ErrorKind;
 use std::{fmt, io};
@@ -94,7 +99,7 @@ macro_rules! each_kind {
 }
 
 impl<A: Allocator> Command for AnyCommand<A> {
-    ghost text = { λ c colors. Some (text_of colors c) };
+    ghost text = { λ c colors. Some (text_of (functions colors c)) };
 
     fn write_ansi<W: fmt::Write>(&self, f: &mut W, colors: ColorOutput) -> fmt::Result {
         each_kind!(self, f, colors;
@@ -111,6 +116,21 @@ impl<A: Allocator> Command for AnyCommand<A> {
     }
 }
 
+/// What is known of each command: the numbers of its colours are bytes. It does nothing when it runs.
+fn known<A: Allocator>(command: &AnyCommand<A>)
+    ensures { AllByRecursion FitsAct (acts command.now) }
+{
+    match command {
+        AnyCommand::SetForegroundColor(command) => color_fits(Colored::ForegroundColor(command.0)),
+        AnyCommand::SetBackgroundColor(command) => color_fits(Colored::BackgroundColor(command.0)),
+        AnyCommand::SetUnderlineColor(command) => color_fits(Colored::UnderlineColor(command.0)),
+        AnyCommand::SetColors(command) => colors_fit(command.0),
+        AnyCommand::SetStyle(command) => style_fits(command.0),
+        AnyCommand::PrintStyledContent(command) => style_fits(*command.0.style()),
+        _ => {}
+    }
+}
+
 /// Writes the commands, one after another, up to the first that fails: `queue_all` with an error that tells who failed.
 ///
 /// Where the writer alone failed, whatever its error's kind, a beginning of the text was written and nothing after it.
@@ -120,13 +140,16 @@ pub fn write_commands<A: Allocator, W: io::Write>(
     commands: &[AnyCommand<A>],
 ) -> Result<(), CommandFault>
     ensures texts { OnOk result (Appends (W.contents writer.old) (W.contents writer.new)
-        (flat_map (text_of colors) commands.now)) }
+        (text_of (flat_map (functions colors) commands.now))) }
     ensures reads { OnOk result (AllByRecursion IsReadable commands.now → AppendsReading (W.contents writer.old)
         (W.contents writer.new) (flat_map (functions colors) commands.now)) }
-    ensures err { IfErr result (λ fault. Stopped fault (Some (flat_map (text_of colors) commands.now))
+    ensures shown { OnOk result (AllByRecursion IsReadable commands.now → AppendsShown (W.contents writer.old)
+        (W.contents writer.new) colors (flat_map acts commands.now)) }
+    ensures err { IfErr result (λ fault. Stopped fault (Some (text_of (flat_map (functions colors) commands.now)))
         (commands.now ≢ []) (W.contents writer.old) (W.contents writer.new)) }
 {
     for command in commands {
+        known(command);
         if let Err(fault) = write_command(writer, colors, command) {
             return Err(fault);
         }
@@ -137,7 +160,8 @@ pub fn write_commands<A: Allocator, W: io::Write>(
 /// Queues the commands, one after another, up to the first that fails.
 ///
 /// What was written reads back as the functions of the commands, in order, and as nothing else, where no printed text holds an escape,
-/// and no title and no letter of a clipboard's places an escape or a bell. The error is the writer's own; where its kind isn't `Other`,
+/// and no title and no letter of a clipboard's places an escape or a bell. Each character in it stands in the colours and attributes that the
+/// commands before it set, whatever style stood before. The error is the writer's own; where its kind isn't `Other`,
 /// a beginning of the text was written.
 pub fn queue_all<A: Allocator, W: io::Write>(
     writer: &mut W,
@@ -145,11 +169,13 @@ pub fn queue_all<A: Allocator, W: io::Write>(
     commands: &[AnyCommand<A>],
 ) -> io::Result<()>
     ensures texts { OnOk result (Appends (W.contents writer.old) (W.contents writer.new)
-        (flat_map (text_of colors) commands.now)) }
+        (text_of (flat_map (functions colors) commands.now))) }
     ensures reads { OnOk result (AllByRecursion IsReadable commands.now → AppendsReading (W.contents writer.old)
         (W.contents writer.new) (flat_map (functions colors) commands.now)) }
+    ensures shown { OnOk result (AllByRecursion IsReadable commands.now → AppendsShown (W.contents writer.old)
+        (W.contents writer.new) colors (flat_map acts commands.now)) }
     ensures err { IfErr result (λ e. error_kind e ≢ ErrorKind.Other → AppendsFront (W.contents writer.old)
-        (W.contents writer.new) (flat_map (text_of colors) commands.now)) }
+        (W.contents writer.new) (text_of (flat_map (functions colors) commands.now))) }
 {
     match write_commands(writer, colors, commands) {
         Ok(()) => Ok(()),

@@ -36,7 +36,7 @@ pub(crate) fn write_numbers<W: fmt::Write>(
     requires beginning { length beginning.now ≤ 4 }
     requires end { length end.now ≤ 4 }
     ensures { OnOk result (WritesInCalls W.write_str_gives f.old
-        (beginning.now ++ decimal numbers.0 ++ codes ";" ++ decimal numbers.1 ++ end.now) f.new) }
+        (beginning.now ++ (decimal numbers.0 ++ (codes ";" ++ decimal numbers.1)) ++ end.now) f.new) }
 {
     let mut digits = Buffer::new();
     let mut text = ArrayString::<32>::new();

@@ -3,7 +3,8 @@ ghost use Rattle.std.specs.Prelude.{OnOk, OnErr, IfOk};
 ghost use Rattle.std.specs.Fn.{FnOnceReturnsAtMut};
 ghost use Rattle.std.specs.Io.KnownBytes.{Appends};
 ghost use Rattle.crossterm_command.specs.Writing.{AppendsFront};
-ghost use Rattle.crossterm.specs.Texts.{end_update_text};
+ghost use Rattle.crossterm_command.specs.Controls.{reset};
+ghost use Rattle.crossterm_command.specs.Tokens.{text_of};
 ghost use Rattle.crossterm.specs.Updates.{Synchronized, StopsSynchronized};
 
 use crate::terminal::{BEGIN_UPDATE, END_UPDATE};
@@ -12,8 +13,8 @@ use std::io;
 
 /// Writes the end of an update, and flushes.
 fn end_update<W: io::Write>(writer: &mut W) -> io::Result<()>
-    ensures ok { OnOk result (Appends (W.contents writer.old) (W.contents writer.new) end_update_text) }
-    ensures err { OnErr result (AppendsFront (W.contents writer.old) (W.contents writer.new) end_update_text) }
+    ensures ok { OnOk result (Appends (W.contents writer.old) (W.contents writer.new) (text_of (reset "2026"))) }
+    ensures err { OnErr result (AppendsFront (W.contents writer.old) (W.contents writer.new) (text_of (reset "2026"))) }
 {
     match write_text(writer, END_UPDATE) {
         Ok(()) => writer.flush(),

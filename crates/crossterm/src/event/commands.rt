@@ -1,6 +1,8 @@
 //! Commands that tell a terminal which events to report.
-ghost use Rattle.std.specs.Prelude.{Some};
-ghost use Rattle.crossterm.specs.Texts.{disable_focus_text, disable_mouse_text, disable_paste_text, enable_focus_text, enable_mouse_text, enable_paste_text, pop_flags_text, push_flags_text};
+ghost use Rattle.std.specs.Prelude.{Some, codes};
+ghost use Rattle.crossterm_command.specs.Controls.{control, reset, set};
+ghost use Rattle.crossterm_command.specs.Tokens.{text_of};
+ghost use Rattle.crossterm.specs.Sequences.{disable_mouse, enable_mouse, push_flags};
 
 use crate::command::{Command, write_number, write_once};
 use crate::csi;
@@ -14,7 +16,7 @@ use std::fmt;
 pub struct EnableMouseCapture;
 
 impl Command for EnableMouseCapture {
-    ghost text = { λ _ _. Some enable_mouse_text };
+    ghost text = { λ _ _. Some (text_of enable_mouse) };
 
     fn write_ansi<W: fmt::Write>(&self, f: &mut W, _colors: ColorOutput) -> fmt::Result {
         write_once(
@@ -35,7 +37,7 @@ impl Command for EnableMouseCapture {
 pub struct DisableMouseCapture;
 
 impl Command for DisableMouseCapture {
-    ghost text = { λ _ _. Some disable_mouse_text };
+    ghost text = { λ _ _. Some (text_of disable_mouse) };
 
     fn write_ansi<W: fmt::Write>(&self, f: &mut W, _colors: ColorOutput) -> fmt::Result {
         write_once(
@@ -56,7 +58,7 @@ impl Command for DisableMouseCapture {
 pub struct EnableFocusChange;
 
 impl Command for EnableFocusChange {
-    ghost text = { λ _ _. Some enable_focus_text };
+    ghost text = { λ _ _. Some (text_of (set "1004")) };
 
     fn write_ansi<W: fmt::Write>(&self, f: &mut W, _colors: ColorOutput) -> fmt::Result {
         write_once(f, csi!("?1004h"))
@@ -68,7 +70,7 @@ impl Command for EnableFocusChange {
 pub struct DisableFocusChange;
 
 impl Command for DisableFocusChange {
-    ghost text = { λ _ _. Some disable_focus_text };
+    ghost text = { λ _ _. Some (text_of (reset "1004")) };
 
     fn write_ansi<W: fmt::Write>(&self, f: &mut W, _colors: ColorOutput) -> fmt::Result {
         write_once(f, csi!("?1004l"))
@@ -80,7 +82,7 @@ impl Command for DisableFocusChange {
 pub struct EnableBracketedPaste;
 
 impl Command for EnableBracketedPaste {
-    ghost text = { λ _ _. Some enable_paste_text };
+    ghost text = { λ _ _. Some (text_of (set "2004")) };
 
     fn write_ansi<W: fmt::Write>(&self, f: &mut W, _colors: ColorOutput) -> fmt::Result {
         write_once(f, csi!("?2004h"))
@@ -92,7 +94,7 @@ impl Command for EnableBracketedPaste {
 pub struct DisableBracketedPaste;
 
 impl Command for DisableBracketedPaste {
-    ghost text = { λ _ _. Some disable_paste_text };
+    ghost text = { λ _ _. Some (text_of (reset "2004")) };
 
     fn write_ansi<W: fmt::Write>(&self, f: &mut W, _colors: ColorOutput) -> fmt::Result {
         write_once(f, csi!("?2004l"))
@@ -104,7 +106,7 @@ impl Command for DisableBracketedPaste {
 pub struct PushKeyboardEnhancementFlags(pub KeyboardEnhancementFlags);
 
 impl Command for PushKeyboardEnhancementFlags {
-    ghost text = { λ c _. Some (push_flags_text c.0.0) };
+    ghost text = { λ c _. Some (text_of (push_flags c.0.0)) };
 
     fn write_ansi<W: fmt::Write>(&self, f: &mut W, _colors: ColorOutput) -> fmt::Result {
         write_number(f, csi!(">"), u32::from(self.0.bits()), "u")
@@ -116,7 +118,7 @@ impl Command for PushKeyboardEnhancementFlags {
 pub struct PopKeyboardEnhancementFlags;
 
 impl Command for PopKeyboardEnhancementFlags {
-    ghost text = { λ _ _. Some pop_flags_text };
+    ghost text = { λ _ _. Some (text_of (control (codes "<1") "u")) };
 
     fn write_ansi<W: fmt::Write>(&self, f: &mut W, _colors: ColorOutput) -> fmt::Result {
         write_once(f, csi!("<1u"))

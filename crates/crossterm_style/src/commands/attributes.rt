@@ -1,6 +1,9 @@
 //! Commands that set attributes.
 ghost use Rattle.std.specs.Prelude.{Some};
-ghost use Rattle.crossterm_style.specs.Styles.{set_attribute_text, set_attributes_text};
+ghost use Rattle.crossterm_command.specs.declared.color_output.ColorOutput.TheVariants.{Enabled};
+ghost use Rattle.crossterm_command.specs.Tokens.{text_of};
+ghost use Rattle.crossterm_style.specs.Acts.{attribute_acts};
+ghost use Rattle.crossterm_style.specs.Styles.{attribute_functions, told};
 
 use crate::{Attribute, Attributes};
 use arrayvec::ArrayString;
@@ -12,7 +15,7 @@ use std::fmt;
 pub struct SetAttribute(pub Attribute);
 
 impl Command for SetAttribute {
-    ghost text = { λ c _. Some (set_attribute_text c.0) };
+    ghost text = { λ c _. Some (text_of (attribute_functions c.0)) };
 
     fn write_ansi<W: fmt::Write>(&self, f: &mut W, _colors: ColorOutput) -> fmt::Result {
         let mut text = ArrayString::<8>::new();
@@ -24,7 +27,7 @@ impl Command for SetAttribute {
 }
 
 impl fmt::Display for SetAttribute {
-    ghost output = { λ c. Some (set_attribute_text c.0) };
+    ghost output = { λ c. ⟦<SetAttribute as Command>⟧.text c Enabled };
 
     fn fmt<W: fmt::Write>(&self, f: &mut fmt::Formatter<W>) -> fmt::Result {
         execute_fmt(f, self)
@@ -36,7 +39,7 @@ impl fmt::Display for SetAttribute {
 pub struct SetAttributes(pub Attributes);
 
 impl Command for SetAttributes {
-    ghost text = { λ c _. Some (set_attributes_text c.0.0) };
+    ghost text = { λ c colors. Some (text_of (told colors (attribute_acts c.0.0))) };
 
     fn write_ansi<W: fmt::Write>(&self, f: &mut W, colors: ColorOutput) -> fmt::Result {
         for attribute in Attribute::all() {

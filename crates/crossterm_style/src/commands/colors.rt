@@ -3,7 +3,9 @@
 //! Each selects a graphic rendition (SGR: ECMA-48, 8.3.117) and is written by one call.
 ghost use Rattle.std.specs.Prelude.{OnOk, Some};
 ghost use Rattle.std.specs.Fmt.{WritesInCalls};
-ghost use Rattle.crossterm_style.specs.Styles.{reset_color_text, set_color_text, set_colors_text};
+ghost use Rattle.crossterm_command.specs.declared.color_output.ColorOutput.TheVariants.{Enabled};
+ghost use Rattle.crossterm_command.specs.Tokens.{text_of};
+ghost use Rattle.crossterm_style.specs.Styles.{reset_functions, color_functions, colors_functions};
 
 use crate::{Color, ColorOutput, Colored, Colors};
 use arrayvec::ArrayString;
@@ -12,7 +14,7 @@ use std::fmt;
 
 /// Writes the sequence that sets a colour.
 fn write_color<W: fmt::Write>(f: &mut W, colored: Colored, colors: ColorOutput) -> fmt::Result
-    ensures { OnOk result (WritesInCalls W.write_str_gives f.old (set_color_text colors colored) f.new) }
+    ensures { OnOk result (WritesInCalls W.write_str_gives f.old (text_of (color_functions colors colored)) f.new) }
 {
     let mut text = ArrayString::<24>::new();
     text.push_str("\x1b[");
@@ -28,7 +30,7 @@ fn write_both<W: fmt::Write>(
     background: Color,
     colors: ColorOutput,
 ) -> fmt::Result
-    ensures { OnOk result (WritesInCalls W.write_str_gives f.old (set_colors_text colors (Some foreground) (Some background)) f.new) }
+    ensures { OnOk result (WritesInCalls W.write_str_gives f.old (text_of (colors_functions colors (Some foreground) (Some background))) f.new) }
 {
     let mut text = ArrayString::<40>::new();
     text.push_str("\x1b[");
@@ -46,7 +48,7 @@ pub struct SetForegroundColor(pub Color);
 impl Command for SetForegroundColor {
     ghost use Rattle.crossterm_style.specs.declared.types.colored.Colored.TheVariants.{ForegroundColor};
 
-    ghost text = { λ c colors. Some (set_color_text colors (ForegroundColor c.0)) };
+    ghost text = { λ c colors. Some (text_of (color_functions colors (ForegroundColor c.0))) };
 
     fn write_ansi<W: fmt::Write>(&self, f: &mut W, colors: ColorOutput) -> fmt::Result {
         write_color(f, Colored::ForegroundColor(self.0), colors)
@@ -54,10 +56,7 @@ impl Command for SetForegroundColor {
 }
 
 impl fmt::Display for SetForegroundColor {
-    ghost use Rattle.crossterm_command.specs.declared.color_output.ColorOutput.TheVariants.{Enabled};
-    ghost use Rattle.crossterm_style.specs.declared.types.colored.Colored.TheVariants.{ForegroundColor};
-
-    ghost output = { λ c. Some (set_color_text Enabled (ForegroundColor c.0)) };
+    ghost output = { λ c. ⟦<SetForegroundColor as Command>⟧.text c Enabled };
 
     fn fmt<W: fmt::Write>(&self, f: &mut fmt::Formatter<W>) -> fmt::Result {
         execute_fmt(f, self)
@@ -71,7 +70,7 @@ pub struct SetBackgroundColor(pub Color);
 impl Command for SetBackgroundColor {
     ghost use Rattle.crossterm_style.specs.declared.types.colored.Colored.TheVariants.{BackgroundColor};
 
-    ghost text = { λ c colors. Some (set_color_text colors (BackgroundColor c.0)) };
+    ghost text = { λ c colors. Some (text_of (color_functions colors (BackgroundColor c.0))) };
 
     fn write_ansi<W: fmt::Write>(&self, f: &mut W, colors: ColorOutput) -> fmt::Result {
         write_color(f, Colored::BackgroundColor(self.0), colors)
@@ -79,10 +78,7 @@ impl Command for SetBackgroundColor {
 }
 
 impl fmt::Display for SetBackgroundColor {
-    ghost use Rattle.crossterm_command.specs.declared.color_output.ColorOutput.TheVariants.{Enabled};
-    ghost use Rattle.crossterm_style.specs.declared.types.colored.Colored.TheVariants.{BackgroundColor};
-
-    ghost output = { λ c. Some (set_color_text Enabled (BackgroundColor c.0)) };
+    ghost output = { λ c. ⟦<SetBackgroundColor as Command>⟧.text c Enabled };
 
     fn fmt<W: fmt::Write>(&self, f: &mut fmt::Formatter<W>) -> fmt::Result {
         execute_fmt(f, self)
@@ -96,7 +92,7 @@ pub struct SetUnderlineColor(pub Color);
 impl Command for SetUnderlineColor {
     ghost use Rattle.crossterm_style.specs.declared.types.colored.Colored.TheVariants.{UnderlineColor};
 
-    ghost text = { λ c colors. Some (set_color_text colors (UnderlineColor c.0)) };
+    ghost text = { λ c colors. Some (text_of (color_functions colors (UnderlineColor c.0))) };
 
     fn write_ansi<W: fmt::Write>(&self, f: &mut W, colors: ColorOutput) -> fmt::Result {
         write_color(f, Colored::UnderlineColor(self.0), colors)
@@ -110,7 +106,7 @@ impl Command for SetUnderlineColor {
 pub struct SetColors(pub Colors);
 
 impl Command for SetColors {
-    ghost text = { λ c colors. Some (set_colors_text colors c.0.foreground c.0.background) };
+    ghost text = { λ c colors. Some (text_of (colors_functions colors c.0.foreground c.0.background)) };
 
     fn write_ansi<W: fmt::Write>(&self, f: &mut W, colors: ColorOutput) -> fmt::Result {
         let Colors {
@@ -127,9 +123,7 @@ impl Command for SetColors {
 }
 
 impl fmt::Display for SetColors {
-    ghost use Rattle.crossterm_command.specs.declared.color_output.ColorOutput.TheVariants.{Enabled};
-
-    ghost output = { λ c. Some (set_colors_text Enabled c.0.foreground c.0.background) };
+    ghost output = { λ c. ⟦<SetColors as Command>⟧.text c Enabled };
 
     fn fmt<W: fmt::Write>(&self, f: &mut fmt::Formatter<W>) -> fmt::Result {
         execute_fmt(f, self)
@@ -141,7 +135,7 @@ impl fmt::Display for SetColors {
 pub struct ResetColor;
 
 impl Command for ResetColor {
-    ghost text = { λ _ _. Some reset_color_text };
+    ghost text = { λ _ _. Some (text_of reset_functions) };
 
     fn write_ansi<W: fmt::Write>(&self, f: &mut W, _colors: ColorOutput) -> fmt::Result {
         write_once(f, "\x1b[0m")
@@ -149,7 +143,7 @@ impl Command for ResetColor {
 }
 
 impl fmt::Display for ResetColor {
-    ghost output = { λ _. Some reset_color_text };
+    ghost output = { λ c. ⟦<ResetColor as Command>⟧.text c Enabled };
 
     fn fmt<W: fmt::Write>(&self, f: &mut fmt::Formatter<W>) -> fmt::Result {
         execute_fmt(f, self)

@@ -2,7 +2,10 @@
 ghost use Rattle.std.specs.Prelude.{◌≡◌, OnOk, Some};
 ghost use Rattle.std.specs.Fmt.{WritesInCalls};
 ghost use Rattle.crossterm_command.specs.declared.color_output.ColorOutput.TheVariants.{Enabled};
-ghost use Rattle.crossterm_style.specs.Styles.{either_there, end_style_text, print_styled_text, reset_colors_text, reset_where, set_background_text, set_foreground_text, set_style_text, set_underline_text};
+ghost use Rattle.crossterm_command.specs.Tokens.{text_of};
+ghost use Rattle.crossterm_style.specs.Acts.{either_there, end_acts, reset_acts, reset_where, style_acts, where_there};
+ghost use Rattle.crossterm_style.specs.Styles.{styled_text, told};
+ghost use Rattle.crossterm_style.specs.declared.types.colored.Colored.TheVariants.{BackgroundColor, ForegroundColor, UnderlineColor};
 
 use crate::{
     Color, ContentStyle, ResetColor, SetAttributes, SetBackgroundColor, SetForegroundColor,
@@ -18,7 +21,7 @@ fn set_background<W: fmt::Write>(
     colors: ColorOutput,
     color: Option<Color>,
 ) -> fmt::Result
-    ensures { OnOk result (WritesInCalls W.write_str_gives f.old (set_background_text colors color) f.new) }
+    ensures { OnOk result (WritesInCalls W.write_str_gives f.old (text_of (told colors (where_there BackgroundColor color))) f.new) }
 {
     match color {
         Some(color) => SetBackgroundColor(color).write_ansi(f, colors),
@@ -32,7 +35,7 @@ fn set_foreground<W: fmt::Write>(
     colors: ColorOutput,
     color: Option<Color>,
 ) -> fmt::Result
-    ensures { OnOk result (WritesInCalls W.write_str_gives f.old (set_foreground_text colors color) f.new) }
+    ensures { OnOk result (WritesInCalls W.write_str_gives f.old (text_of (told colors (where_there ForegroundColor color))) f.new) }
 {
     match color {
         Some(color) => SetForegroundColor(color).write_ansi(f, colors),
@@ -42,7 +45,7 @@ fn set_foreground<W: fmt::Write>(
 
 /// Sets an underline's colour that is there.
 fn set_underline<W: fmt::Write>(f: &mut W, colors: ColorOutput, color: Option<Color>) -> fmt::Result
-    ensures { OnOk result (WritesInCalls W.write_str_gives f.old (set_underline_text colors color) f.new) }
+    ensures { OnOk result (WritesInCalls W.write_str_gives f.old (text_of (told colors (where_there UnderlineColor color))) f.new) }
 {
     match color {
         Some(color) => SetUnderlineColor(color).write_ansi(f, colors),
@@ -55,7 +58,7 @@ fn set_underline<W: fmt::Write>(f: &mut W, colors: ColorOutput, color: Option<Co
 pub struct SetStyle(pub ContentStyle);
 
 impl Command for SetStyle {
-    ghost text = { λ c colors. Some (set_style_text colors c.0) };
+    ghost text = { λ c colors. Some (text_of (told colors (style_acts c.0))) };
 
     fn write_ansi<W: fmt::Write>(&self, f: &mut W, colors: ColorOutput) -> fmt::Result {
         set_background(f, colors, self.0.background_color)?;
@@ -89,7 +92,7 @@ fn reset_colors<W: fmt::Write>(
     background: bool,
     foreground: bool,
 ) -> fmt::Result
-    ensures { OnOk result (WritesInCalls W.write_str_gives f.old (reset_colors_text colors background foreground) f.new) }
+    ensures { OnOk result (WritesInCalls W.write_str_gives f.old (text_of (told colors (reset_acts background foreground))) f.new) }
 {
     set_background(f, colors, reset_where(background))?;
     set_foreground(f, colors, reset_where(foreground))
@@ -97,7 +100,7 @@ fn reset_colors<W: fmt::Write>(
 
 /// Ends a style: all is reset where it has attributes, else a background, and then the foreground where it or the underline has a colour.
 fn end_style<W: fmt::Write>(f: &mut W, colors: ColorOutput, style: ContentStyle) -> fmt::Result
-    ensures { OnOk result (WritesInCalls W.write_str_gives f.old (end_style_text colors style) f.new) }
+    ensures { OnOk result (WritesInCalls W.write_str_gives f.old (text_of (told colors (end_acts style))) f.new) }
 {
     if !style.attributes.is_empty() {
         return ResetColor.write_ansi(f, colors);
@@ -114,7 +117,7 @@ fn end_style<W: fmt::Write>(f: &mut W, colors: ColorOutput, style: ContentStyle)
 pub struct PrintStyledContent<D>(pub StyledContent<D>);
 
 impl<D: Display> Command for PrintStyledContent<D> {
-    ghost text = { λ c colors. print_styled_text colors c.0.style (D.output c.0.content) };
+    ghost text = { λ c colors. styled_text colors c.0.style (D.output c.0.content) };
 
     fn write_ansi<W: fmt::Write>(&self, f: &mut W, colors: ColorOutput) -> fmt::Result {
         let content = &self.0.content;
@@ -125,7 +128,7 @@ impl<D: Display> Command for PrintStyledContent<D> {
 }
 
 impl<D: Display> Display for PrintStyledContent<D> {
-    ghost output = { λ c. print_styled_text Enabled c.0.style (D.output c.0.content) };
+    ghost output = { λ c. ⟦<PrintStyledContent<D> as Command>⟧.text c Enabled };
 
     fn fmt<W: fmt::Write>(&self, f: &mut fmt::Formatter<W>) -> fmt::Result {
         execute_fmt(f, self)

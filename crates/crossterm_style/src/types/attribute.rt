@@ -2,7 +2,8 @@
 ghost use Rattle.std.specs.Prelude.{◌≡◌, ◌<◌, ◌≤◌, length, IfOk, IfErr, Some, string_bytes};
 ghost use Rattle.std.specs.IoError.{error_kind};
 ghost use Rattle.crossterm_style.specs.Attributes.{all_attributes, bit_of, code_of, place_of};
-ghost use Rattle.crossterm_style.specs.Styles.{set_attribute_text};
+ghost use Rattle.crossterm_command.specs.Tokens.{text_of};
+ghost use Rattle.crossterm_style.specs.Styles.{attribute_functions};
 
 use crate::{AttributeIter, SetAttribute};
 use crossterm_command::execute_fmt;
@@ -192,7 +193,7 @@ impl Attribute {
 }
 
 impl fmt::Display for Attribute {
-    ghost output = { λ a. Some (set_attribute_text a) };
+    ghost output = { λ a. Some (text_of (attribute_functions a)) };
 
     fn fmt<W: fmt::Write>(&self, f: &mut fmt::Formatter<W>) -> fmt::Result {
         execute_fmt(f, &SetAttribute(*self))

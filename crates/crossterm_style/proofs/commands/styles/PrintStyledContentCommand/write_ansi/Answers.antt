@@ -1,8 +1,10 @@
 use Rattle.std.proofs.Common.{Some}
 use Rattle.std.proofs.lemmas.Result.{on_ok_weaker}
 use Rattle.std.specs.Fmt.{option_append}
+use Rattle.crossterm_command.specs.Tokens.{text_of}
 use Rattle.crossterm_command.proofs.Texts.{text_of_both}
-use Rattle.crossterm_style.specs.Styles.{end_style_text, set_style_text}
+use Rattle.crossterm_style.specs.Acts.{end_acts, style_acts}
+use Rattle.crossterm_style.specs.Styles.{told}
 use Rattle.crossterm_style.proofs.commands.styles.PrintStyledContentCommand.write_ansi.Goals as goal
 
 pub returns-clause-ok : goal.returns-clause-ok
@@ -10,6 +12,6 @@ returns-clause-ok g c =
     let took = g.W.Write.write_str_gives in
     let styled = c.args.self.now.0 in
     let content = g.D.Display.output styled.content in
-    let end = Some (end_style_text c.args.colors styled.style) in
-    on_ok_weaker _ (λ last. text_of_both took _ (Some (set_style_text c.args.colors styled.style)) _ (option_append content end) _ c.in_ok-write_ansi.ensures.ok
+    let end = Some (text_of (told c.args.colors (end_acts styled.style))) in
+    on_ok_weaker _ (λ last. text_of_both took _ (Some (text_of (told c.args.colors (style_acts styled.style)))) _ (option_append content end) _ c.in_ok-write_ansi.ensures.ok
     (text_of_both took _ content _ end _ c.in_ok-write.ensures.writes last)) c.end_style.ensures

@@ -1,9 +1,18 @@
+use Rattle.std.proofs.Common.{◌++◌}
 use Rattle.std.proofs.lemmas.Result.{on_ok_weaker}
-use Rattle.crossterm_command.proofs.Texts.{writes_both}
+use Rattle.crossterm_style.specs.Acts.{attribute_acts, where_there}
+use Rattle.crossterm_style.specs.declared.types.colored.Colored.TheVariants.{BackgroundColor, ForegroundColor, UnderlineColor}
+use Rattle.crossterm_style.proofs.Telling.{tells_acts}
 use Rattle.crossterm_style.proofs.commands.styles.SetStyleCommand.write_ansi.Goals as goal
 
 pub returns-clause-ok : goal.returns-clause-ok
 returns-clause-ok g c =
     let took = g.W.Write.write_str_gives in
-    on_ok_weaker _ (λ last. writes_both took _ _ _ _ _ c.in_ok-set_background.ensures
-    (writes_both took _ _ _ _ _ c.in_ok-set_foreground.ensures (writes_both took _ _ _ _ _ c.in_ok-set_underline.ensures last))) c.write_ansi.ensures.ok
+    let colors = c.args.colors in
+    let s = c.args.self.now.0 in
+    let attributes = attribute_acts s.attributes.0 in
+    let underline = where_there UnderlineColor s.underline_color in
+    let foreground = where_there ForegroundColor s.foreground_color in
+    let background = where_there BackgroundColor s.background_color in
+    on_ok_weaker _ (λ last. tells_acts took colors _ background _ (foreground ++ (underline ++ attributes)) _ c.in_ok-set_background.ensures
+    (tells_acts took colors _ foreground _ (underline ++ attributes) _ c.in_ok-set_foreground.ensures (tells_acts took colors _ underline _ attributes _ c.in_ok-set_underline.ensures last))) c.write_ansi.ensures.ok

@@ -2,7 +2,7 @@
 use Rattle.std.specs.Prelude.{ℕ, List, [], ◌∷◌, ◌++◌, codes}
 use Prim.Native.String.{String}
 use Rattle.crossterm_command.specs.Tokens.{Token}
-use Rattle.crossterm_command.specs.Tokens.Token.{Csi}
+use Rattle.crossterm_command.specs.Tokens.Token.{Csi, Private}
 
 abbrev first_of : List ℕ → ℕ
 first_of [] = 0
@@ -22,3 +22,7 @@ set mode = control (codes "?" ++ codes mode) "h"
 
 abbrev pub reset : String → List Token
 reset mode = control (codes "?" ++ codes mode) "l"
+
+-- a private function, by its byte
+abbrev pub private : String → List Token
+private text = Private (letter text) ∷ []

@@ -1,0 +1,32 @@
+-- What commands do to the look, by their fields.
+use Rattle.std.specs.Prelude.{ℕ, List, [], ◌∷◌, Option, string_bytes}
+use Rattle.std.specs.Io.KnownBytes.{Appends}
+use Rattle.std.specs.Str.{chars}
+use Rattle.crossterm_command.specs.Tokens.{Token, Reads}
+use Rattle.crossterm_command.specs.declared.color_output.ColorOutput.{ColorOutput}
+use Rattle.crossterm_style.specs.declared.types.attribute.Attribute.TheVariants.{Reset}
+use Rattle.crossterm_style.specs.declared.types.colored.Colored.TheVariants.{ForegroundColor, BackgroundColor, UnderlineColor}
+use Rattle.crossterm_style.specs.Acts.{Act, attribute_acts, style_acts, styled_acts}
+use Rattle.crossterm_style.specs.Acts.Act.{Prints, Colors, Takes}
+use Rattle.crossterm_style.specs.Appearance.{ShowsAs, colors_acts}
+use Rattle.crossterm_style.specs.Looks.{Style}
+use Rattle.crossterm.specs.declared.command.any.AnyCommand.{AnyCommand}
+use Rattle.crossterm.specs.declared.command.any.AnyCommand.TheVariants as any
+
+-- what a command prints and sets; the others do nothing to the look
+abbrev pub acts : {A : Type 0} → AnyCommand A → List Act
+acts (any.SetForegroundColor c) = Colors (ForegroundColor c.0) ∷ []
+acts (any.SetBackgroundColor c) = Colors (BackgroundColor c.0) ∷ []
+acts (any.SetUnderlineColor c) = Colors (UnderlineColor c.0) ∷ []
+acts (any.SetColors c) = colors_acts c.0.foreground c.0.background
+acts (any.SetAttribute c) = Takes c.0 ∷ []
+acts (any.SetAttributes c) = attribute_acts c.0.0
+acts (any.SetStyle c) = style_acts c.0
+acts (any.PrintStyledContent c) = styled_acts c.0.style (chars (string_bytes c.0.content))
+acts (any.ResetColor c) = Takes Reset ∷ []
+acts (any.Print c) = Prints (chars (string_bytes c.0)) ∷ []
+acts c = []
+
+-- Known bytes grow by some that read as tokens which, from any style, show as the acts paint.
+abbrev pub AppendsShown : Option (List ℕ) → Option (List ℕ) → ColorOutput → List Act → Type 0
+AppendsShown old new colors all = (bytes : List ℕ) × Appends old new bytes × (ts : List Token) × Reads bytes ts × ((s : Style) → ShowsAs colors ts all s)

@@ -1,0 +1,182 @@
+-- The SGR parameters of an ink at a place put it there.
+use Rattle.std.proofs.Common.{◌≡◌, ℕ, ◌<◌, ◌==◌, nat_lt, true, false, List, [], ◌∷◌, ◌++◌, Option, Some, None, append_assoc, append-nil, arith, ap, refl, sym, ◌∙◌, codes, map}
+use Rattle.std.specs.Fmt.{decimal}
+use Rattle.std.specs.List.{AllByRecursion, list_all, slice_split}
+use Rattle.std.specs.Str.Parse.{digits_value}
+use Rattle.std.proofs.lemmas.Bool.Decides.{nat_tests}
+use Rattle.std.proofs.lemmas.Fmt.{decimal_is_IsNumeral}
+use Rattle.crossterm_style.specs.declared.types.color.Color.{Color}
+use Rattle.crossterm_style.specs.declared.types.color.Color.TheVariants as color
+use Rattle.crossterm_style.specs.declared.types.ink.Ink.{Ink}
+use Rattle.crossterm_style.specs.declared.types.ink.Ink.TheVariants.{Own, Palette, Rgb}
+use Rattle.crossterm_style.specs.Acts.{shade}
+use Rattle.crossterm_style.specs.Colors.{FitsInk, ink_of, ink_text, palette_color}
+use Rattle.crossterm_style.specs.Looks.{Parameter, Place, Style, are_private, by_parameters, is_digit, number, number_or_other, parameter, parameter_of, parameters, put, sgr}
+use Rattle.crossterm_style.specs.Looks.Parameter.{Number}
+use Rattle.crossterm_style.specs.Looks.Place.{Foreground, Background, Underlining}
+use Rattle.crossterm_style.proofs.TextLaws.{IsDigit, byte_digits, next_field, one_field}
+
+-- ---- numbers among parameters
+
+digit_passes : (d : ℕ) → IsDigit d → is_digit d ≡ true
+digit_passes d h = grind (arith, nat_tests)
+
+digits_pass : (ds : List ℕ) → AllByRecursion IsDigit ds → list_all is_digit ds ≡ true
+digits_pass [] a = refl
+digits_pass (d ∷ ds) a = rw (digit_passes d a.0, digits_pass ds a.1) refl
+
+no_colon : (d : ℕ) → IsDigit d → (d == 58) ≡ false
+no_colon d h = grind (arith, nat_tests)
+
+one_part : (ds : List ℕ) → AllByRecursion IsDigit ds → slice_split (λ b. b == 58) ds ≡ ds ∷ []
+one_part [] a = refl
+one_part (d ∷ ds) a = rw (no_colon d a.0, one_part ds a.1) refl
+
+below : (n : ℕ) → n < 256 → nat_lt n 256 ≡ true
+below n h = grind (arith, nat_tests)
+
+number_read : (n : ℕ) → n < 256 → number (decimal n) ≡ Some n
+number_read n h =
+    let value : digits_value 10 (decimal n) ≡ n = (decimal_is_IsNumeral n (omega (arith, h))).1 in
+    rw (digits_pass (decimal n) (byte_digits n h), value, below n h) refl
+
+parameter_read : (n : ℕ) → n < 256 → parameter (decimal n) ≡ Number n
+parameter_read n h = ap parameter_of (one_part (decimal n) (byte_digits n h)) ∙ ap number_or_other (number_read n h)
+
+last_number : (n : ℕ) → n < 256 → parameters (decimal n) ≡ Number n ∷ []
+last_number n h = ap (map parameter) (one_field (decimal n) (byte_digits n h)) ∙ ap (λ p. p ∷ []) (parameter_read n h)
+
+next_number : (n : ℕ) (rest : List ℕ) → n < 256 → parameters (decimal n ++ (59 ∷ rest)) ≡ Number n ∷ parameters rest
+next_number n rest h = ap (map parameter) (next_field (decimal n) rest (byte_digits n h)) ∙ ap (λ p. p ∷ parameters rest) (parameter_read n h)
+
+-- ---- inks among parameters
+
+abbrev pub sets : Place → List ℕ
+sets Foreground = codes "38"
+sets Background = codes "48"
+sets Underlining = codes "58"
+
+abbrev pub resets : Place → List ℕ
+resets Foreground = codes "39"
+resets Background = codes "49"
+resets Underlining = codes "59"
+
+abbrev setting : Place → ℕ
+setting Foreground = 38
+setting Background = 48
+setting Underlining = 58
+
+abbrev resetting : Place → ℕ
+resetting Foreground = 39
+resetting Background = 49
+resetting Underlining = 59
+
+abbrev ink_parameters : Place → Ink → List Parameter
+ink_parameters p Own = Number (resetting p) ∷ []
+ink_parameters p (Palette n) = Number (setting p) ∷ Number 5 ∷ Number n ∷ []
+ink_parameters p (Rgb r g b) = Number (setting p) ∷ Number 2 ∷ Number r ∷ Number g ∷ Number b ∷ []
+
+own_read : (p : Place) → parameters (resets p) ≡ Number (resetting p) ∷ []
+own_read Foreground = refl
+own_read p = refl
+
+own_first : (p : Place) (rest : List ℕ) → parameters (resets p ++ (59 ∷ rest)) ≡ Number (resetting p) ∷ parameters rest
+own_first Foreground rest = refl
+own_first p rest = refl
+
+palette_front : (p : Place) (rest : List ℕ) → parameters (sets p ++ (codes ";5;" ++ rest)) ≡ Number (setting p) ∷ Number 5 ∷ parameters rest
+palette_front Foreground rest = refl
+palette_front p rest = refl
+
+rgb_front : (p : Place) (rest : List ℕ) → parameters (sets p ++ (codes ";2;" ++ rest)) ≡ Number (setting p) ∷ Number 2 ∷ parameters rest
+rgb_front Foreground rest = refl
+rgb_front p rest = refl
+
+ink_read : (p : Place) (i : Ink) → FitsInk i → parameters (ink_text (sets p) (resets p) i) ≡ ink_parameters p i
+ink_read p Own h = own_read p
+ink_read p (Palette n) h = palette_front p (decimal n) ∙ ap (λ l. Number (setting p) ∷ Number 5 ∷ l) (last_number n h)
+ink_read p (Rgb r g b) h =
+    rgb_front p _ ∙ ap (λ l. Number (setting p) ∷ Number 2 ∷ l) (next_number r _ h.0 ∙ ap (λ l. Number r ∷ l) (next_number g _ h.1 ∙ ap (λ l. Number g ∷ l) (last_number b h.2)))
+
+parts_first : (r g b : ℕ) (rest : List ℕ) → r < 256 → g < 256 → b < 256
+    → parameters ((decimal r ++ (codes ";" ++ (decimal g ++ (codes ";" ++ decimal b)))) ++ (59 ∷ rest)) ≡ Number r ∷ Number g ∷ Number b ∷ parameters rest
+parts_first r g b rest hr hg hb =
+    let tail = 59 ∷ rest in
+    ap parameters (append_assoc (decimal r) (59 ∷ (decimal g ++ (59 ∷ decimal b))) tail ∙ ap (λ l. decimal r ++ (59 ∷ l)) (append_assoc (decimal g) (59 ∷ decimal b) tail))
+    ∙ next_number r _ hr ∙ ap (λ l. Number r ∷ l) (next_number g _ hg ∙ ap (λ l. Number g ∷ l) (next_number b rest hb))
+
+-- an ink before others
+ink_first : (p : Place) (i : Ink) (rest : List ℕ) → FitsInk i → parameters (ink_text (sets p) (resets p) i ++ (59 ∷ rest)) ≡ ink_parameters p i ++ parameters rest
+ink_first p Own rest h = own_first p rest
+ink_first p (Palette n) rest h =
+    ap parameters (append_assoc (sets p) (codes ";5;" ++ decimal n) (59 ∷ rest)) ∙ palette_front p (decimal n ++ (59 ∷ rest))
+    ∙ ap (λ l. Number (setting p) ∷ Number 5 ∷ l) (next_number n rest h)
+ink_first p (Rgb r g b) rest h =
+    let parts = decimal r ++ (codes ";" ++ (decimal g ++ (codes ";" ++ decimal b))) in
+    ap parameters (append_assoc (sets p) (codes ";2;" ++ parts) (59 ∷ rest)) ∙ rgb_front p (parts ++ (59 ∷ rest))
+    ∙ ap (λ l. Number (setting p) ∷ Number 2 ∷ l) (parts_first r g b rest h.0 h.1 h.2)
+
+-- ---- what they do
+
+-- the colour of an ink
+abbrev pub ink_shade : Ink → Option Color
+ink_shade Own = None
+ink_shade (Palette n) = Some (palette_color n)
+ink_shade (Rgb r g b) = Some (color.Rgb r g b)
+
+pub shade_of : (c : Color) → ink_shade (ink_of c) ≡ shade c
+shade_of color.Reset = refl
+shade_of c = refl
+
+own_puts : (p : Place) (ps : List Parameter) (s : Style) → by_parameters (Number (resetting p) ∷ ps) 0 s ≡ by_parameters ps 0 (put p None s)
+own_puts Foreground ps s = refl
+own_puts p ps s = refl
+
+palette_puts : (p : Place) (n : ℕ) (ps : List Parameter) (s : Style) → by_parameters (Number (setting p) ∷ Number 5 ∷ Number n ∷ ps) 0 s ≡ by_parameters ps 0 (put p (Some (palette_color n)) s)
+palette_puts Foreground n ps s = refl
+palette_puts p n ps s = refl
+
+rgb_puts : (p : Place) (r g b : ℕ) (ps : List Parameter) (s : Style)
+    → by_parameters (Number (setting p) ∷ Number 2 ∷ Number r ∷ Number g ∷ Number b ∷ ps) 0 s ≡ by_parameters ps 0 (put p (Some (color.Rgb r g b)) s)
+rgb_puts Foreground r g b ps s = refl
+rgb_puts p r g b ps s = refl
+
+ink_puts : (p : Place) (i : Ink) (ps : List Parameter) (s : Style) → by_parameters (ink_parameters p i ++ ps) 0 s ≡ by_parameters ps 0 (put p (ink_shade i) s)
+ink_puts p Own ps s = own_puts p ps s
+ink_puts p (Palette n) ps s = palette_puts p n ps s
+ink_puts p (Rgb r g b) ps s = rgb_puts p r g b ps s
+
+-- the same where nothing follows
+ink_sets : (p : Place) (i : Ink) (s : Style) → FitsInk i → by_parameters (parameters (ink_text (sets p) (resets p) i)) 0 s ≡ put p (ink_shade i) s
+ink_sets p Own s h = ap (λ ps. by_parameters ps 0 s) (ink_read p Own h) ∙ ink_puts p Own [] s
+ink_sets p (Palette n) s h = ap (λ ps. by_parameters ps 0 s) (ink_read p (Palette n) h) ∙ ink_puts p (Palette n) [] s
+ink_sets p (Rgb r g b) s h = ap (λ ps. by_parameters ps 0 s) (ink_read p (Rgb r g b) h) ∙ ink_puts p (Rgb r g b) [] s
+
+-- SGR's parameters aren't private
+public_resets : (p : Place) (rest : List ℕ) → are_private (resets p ++ rest) ≡ false
+public_resets Foreground rest = refl
+public_resets p rest = refl
+
+public_sets : (p : Place) (rest : List ℕ) → are_private (sets p ++ rest) ≡ false
+public_sets Foreground rest = refl
+public_sets p rest = refl
+
+public_ink : (p : Place) (i : Ink) (rest : List ℕ) → are_private (ink_text (sets p) (resets p) i ++ rest) ≡ false
+public_ink p Own rest = public_resets p rest
+public_ink p (Palette n) rest = ap are_private (append_assoc (sets p) (codes ";5;" ++ decimal n) rest) ∙ public_sets p ((codes ";5;" ++ decimal n) ++ rest)
+public_ink p (Rgb r g b) rest =
+    let parts = codes ";2;" ++ (decimal r ++ (codes ";" ++ (decimal g ++ (codes ";" ++ decimal b)))) in
+    ap are_private (append_assoc (sets p) parts rest) ∙ public_sets p (parts ++ rest)
+
+pub ink_looks : (p : Place) (i : Ink) (s : Style) → FitsInk i → sgr (ink_text (sets p) (resets p) i) s ≡ put p (ink_shade i) s
+ink_looks p i s h =
+    let text = ink_text (sets p) (resets p) i in
+    let public : are_private text ≡ false = ap are_private (sym (append-nil text)) ∙ public_ink p i [] in
+    rw public (ink_sets p i s h)
+
+-- an ink, and after a semicolon another
+pub inks_look : (p : Place) (i : Ink) (q : Place) (j : Ink) (s : Style) → FitsInk i → FitsInk j
+    → sgr (ink_text (sets p) (resets p) i ++ (codes ";" ++ ink_text (sets q) (resets q) j)) s ≡ put q (ink_shade j) (put p (ink_shade i) s)
+inks_look p i q j s h k =
+    let rest = ink_text (sets q) (resets q) j in
+    rw (public_ink p i (59 ∷ rest)) (ap (λ ps. by_parameters ps 0 s) (ink_first p i rest h) ∙ ink_puts p i (parameters rest) s ∙ ink_sets q j (put p (ink_shade i) s) k)
