@@ -7,8 +7,10 @@ use Rattle.crossterm_parse.specs.Division.{Divides, IsUndecided}
 use Rattle.crossterm_parse.specs.Grammar.{Whole, paste_start}
 use Rattle.crossterm_parse.specs.Machine.{StandsFor, events_left, is_paste, state_after, state_left, text_left}
 use Rattle.crossterm_parse.specs.Marked.{Marked, bytes_of}
-use Rattle.crossterm_parse.specs.Meaning.{meaning_of}
+use Rattle.crossterm_parse.specs.Meaning.{meaning_of, seen_meaning}
+use Rattle.crossterm_parse.specs.declared.meaning.Meaning.{Meaning}
 use Rattle.crossterm_parse.specs.declared.state.State.{State}
+use Rattle.crossterm_parse.specs.declared.state.State.TheVariants.{Ground}
 
 -- A parser as its callers see it: the events not yet given, the state of the sequence that is open, the text of an open paste, and how many
 -- events it takes without memory.
@@ -108,3 +110,12 @@ CountsThrough s (n ∷ ns) t = (m : ℕ) × (s + n ≤ m) × CountsThrough m ns 
 -- Over any list of calls the steps are at least the bytes taken.
 abbrev pub AStepAByte : Type 0
 AStepAByte = (s t : ℕ) (taken : List ℕ) → CountsThrough s taken t → s + sum taken ≤ t
+
+-- The bytes were put in one after another, each with the step that follows from the state, whatever the mode and the pauses.
+abbrev pub PutsAll : Standing → Standing → List ℕ → Type 0
+PutsAll old new [] = (new.state ≡ old.state) × (new.text ≡ old.text) × (new.waiting ≡ old.waiting)
+PutsAll old new (b ∷ bs) = (mid : Standing) × ((raw pause : Bool) → PutsByte old mid b raw pause) × PutsAll mid new bs
+
+-- An event was given, and the parser is in the ground state.
+abbrev pub Gives : Standing → Standing → Meaning → Type 0
+Gives old new m = (new.state ≡ Ground) × (new.text ≡ old.text) × (new.waiting ≡ old.waiting ++ seen_meaning m ∷ [])
