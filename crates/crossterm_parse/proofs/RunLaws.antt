@@ -2,7 +2,7 @@
 use Rattle.std.proofs.Common.{◌≡◌, ◌==◌, ◌≤◌, ◌<◌, ℕ, zero, suc, ◌+◌, ◌-◌, Bool, true, false, not, ◌&&◌, if◌then◌else◌, List, [], ◌∷◌, ◌++◌, length, take, drop, get_or, slice_index, Option, Some, None, nat_lt, refl, ap, sym, ◌∙◌, subst, arith, append_assoc}
 use Rattle.std.proofs.lemmas.List.{append-nil, drop_more, take_all, length-drop}
 use Rattle.std.specs.Prelude.{nat_le}
-use Rattle.std.proofs.lemmas.Bool.{and_parts}
+use Rattle.std.proofs.lemmas.Bool.{and_parts, false≢true}
 use Rattle.std.proofs.lemmas.Bool.Decides.{nat_tests}
 use Rattle.std.specs.List.{AllByRecursion}
 use Rattle.bstr.specs.Utf8.{Decoded, decoded, second, continues, code_of_2, code_of_3, code_of_4}
@@ -15,7 +15,7 @@ use Rattle.crossterm_parse.specs.Marked.{Marked, bytes_of, marked}
 use Rattle.crossterm_parse.specs.Standing.{Standing, Stands, kept_text, AdvancesOver, Gives, PutsAll, PutsByte}
 use Rattle.crossterm_parse.specs.declared.paste.Met.TheVariants as met
 use Rattle.crossterm_parse.specs.declared.state.State.{State}
-use Rattle.crossterm_parse.specs.declared.state.State.TheVariants.{Ground, Paste, Utf8}
+use Rattle.crossterm_parse.specs.declared.state.State.TheVariants.{Ground, Escape, Ss3, Csi, Bracket, Coded, Sgr, Private, Reply, Numbered, Paste, Utf8}
 use Rattle.crossterm_parse.specs.declared.state.Step.{Step}
 use Rattle.crossterm_parse.specs.declared.state.Step.TheVariants.{Open, Whole}
 use Rattle.crossterm_parse.specs.declared.character.Begun.{Begun}
@@ -41,6 +41,31 @@ pub puts_still : (old mid new : Standing) (bs : List ℕ) → PutsAll old mid bs
 puts_still old mid new [] all same = (same.0 ∙ all.0, same.1 ∙ all.1, same.2 ∙ all.2)
 puts_still old mid new (b ∷ bs) all same = (all.0, all.1, puts_still all.0 mid new bs all.2 same)
 
+-- more bytes
+puts_join : (old mid new : Standing) (bs cs : List ℕ) → PutsAll old mid bs → PutsAll mid new cs → PutsAll old new (bs ++ cs)
+puts_join old mid new bs [] all same = subst (PutsAll old new) (sym (append-nil bs)) (puts_still old mid new bs all same)
+puts_join old mid new bs (c ∷ cs) all more = subst (PutsAll old new) (append_assoc bs (c ∷ []) cs)
+    (puts_join old more.0 new (bs ++ c ∷ []) cs (puts_more old mid more.0 bs c all more.1) more.2)
+
+take_none : (n : ℕ) → take {A = ℕ} n [] ≡ []
+take_none zero = refl
+take_none (suc n) = refl
+
+take_join : (i n : ℕ) (bs : List ℕ) → take i bs ++ take n (drop i bs) ≡ take (i + n) bs
+take_join zero n bs = let none : 0 + n ≡ n = omega arith in ap (λ (m : ℕ). take m bs) (sym none)
+take_join (suc i) n [] = take_none n ∙ sym (take_none (suc i + n))
+take_join (suc i) n (b ∷ bs) =
+    let more : suc (i + n) ≡ suc i + n = omega arith in
+    ap (λ (t : List ℕ). b ∷ t) (take_join i n bs) ∙ ap (λ (m : ℕ). take m (b ∷ bs)) more
+
+-- more bytes of what is left
+pub puts_on : (old mid new : Standing) (bs : List ℕ) (i n : ℕ) → PutsAll old mid (take i bs) → PutsAll mid new (take n (take (length bs - i) (drop i bs)))
+    → PutsAll old new (take (i + n) bs)
+puts_on old mid new bs i n all more =
+    let left : length (drop i bs) ≤ length bs - i = omega (arith, length-drop i bs) in
+    subst (PutsAll old new) (take_join i n bs)
+    (puts_join old mid new (take i bs) (take n (drop i bs)) all (subst (λ (cs : List ℕ). PutsAll mid new (take n cs)) (take_all (length bs - i) (drop i bs) left) more))
+
 plain_byte : (old : Standing) (b : ℕ) (raw pause : Bool) → b == 27 ≡ false → old.state ≡ Paste met.Nothing
     → PutsByte old (record { waiting = old.waiting; state = old.state; text = old.text ++ b ∷ []; room = old.room }) b raw pause
 plain_byte old b raw pause e is = (
@@ -56,6 +81,29 @@ paste_run [] old new none is state text waiting = (state, text ∙ append-nil ol
 paste_run (b ∷ bs) old new none is state text waiting =
     let mid : Standing = record { waiting = old.waiting; state = old.state; text = old.text ++ b ∷ []; room = old.room } in
     (mid, (λ raw pause. plain_byte old b raw pause none.0 is), paste_run bs mid new none.1 is state (text ∙ sym (append_assoc old.text (b ∷ []) bs)) waiting)
+
+-- in a paste neither the mode nor a pause matters
+pub paste_after : (s : State) (b : ℕ) (raw other pause still : Bool) → is_paste s ≡ true → state_after s b raw pause ≡ state_after s b other still
+paste_after (Paste m) b raw other pause still h = refl
+paste_after Ground b raw other pause still h = absurd (false≢true h)
+paste_after Escape b raw other pause still h = absurd (false≢true h)
+paste_after Ss3 b raw other pause still h = absurd (false≢true h)
+paste_after Csi b raw other pause still h = absurd (false≢true h)
+paste_after Bracket b raw other pause still h = absurd (false≢true h)
+paste_after (Coded c) b raw other pause still h = absurd (false≢true h)
+paste_after (Sgr d) b raw other pause still h = absurd (false≢true h)
+paste_after Private b raw other pause still h = absurd (false≢true h)
+paste_after (Reply f) b raw other pause still h = absurd (false≢true h)
+paste_after (Numbered d o) b raw other pause still h = absurd (false≢true h)
+paste_after (Utf8 c) b raw other pause still h = absurd (false≢true h)
+
+pub puts_paste : (old new : Standing) (b : ℕ) (raw other pause still : Bool) → is_paste old.state ≡ true → PutsByte old new b raw pause → PutsByte old new b other still
+puts_paste old new b raw other pause still h puts =
+    let e = paste_after old.state b raw other pause still h in (
+      puts.0 ∙ ap (λ (s : Step). state_left s) e,
+      puts.1 ∙ ap (λ (s : Step). text_left s old.state old.text b) e,
+      puts.2 ∙ ap (λ (s : Step). old.waiting ++ events_left s old.text) e,
+    )
 
 not_true : (t : Bool) → (t ≡ true → ⊥) → t ≡ false
 not_true true f = absurd (f refl)

@@ -217,18 +217,17 @@ impl<A: Allocator + Clone> Parser<A> {
     fn put_in_paste<L: Ledger>(
         &mut self,
         byte: u8,
-        pause: bool,
         steps: &mut Steps<L>,
     ) -> Result<(), AllocError>
         requires { is_paste self.old.state ≡ true }
-        ensures put { OnOk result ((raw : Bool) → PutsByte self.old self.new byte raw pause) }
+        ensures put { OnOk result ((raw : Bool) → PutsByte self.old self.new byte raw false) }
         ensures err { OnErr result (StaysAsItWas self.old self.new) }
         ensures room { self.old.room ≤ self.new.room + 1 }
         ensures steps { OnOk result (steps.new + length self.new.text ≤ steps.old + length self.old.text + 2) }
         ensures counted { steps.old < steps.new }
     {
         let mut state = self.state;
-        match state.put(byte, pause, steps) {
+        match state.put(byte, false, steps) {
             Progress::Open => {
                 self.keep(byte)?;
                 self.state = state;
@@ -279,7 +278,7 @@ impl<A: Allocator + Clone> Parser<A> {
         ensures counted { steps.old < steps.new }
     {
         if self.state.is_paste() {
-            return self.put_in_paste(byte, pause, steps);
+            return self.put_in_paste(byte, steps);
         }
         match self.state.put(byte, pause, steps) {
             Progress::Open => {

@@ -1,5 +1,5 @@
 //! The state of an open sequence, of a fixed size.
-ghost use Rattle.std.specs.Prelude.{◌≡◌, ◌≢◌, ◌+◌, ◌≤◌, Bool, true, false, not, length, take, IfNone, IfSome, IsTrue, IsFalse};
+ghost use Rattle.std.specs.Prelude.{◌≡◌, ◌≢◌, ◌+◌, ◌≤◌, Bool, true, false, length, take, IfNone, IfSome, IsTrue, IsFalse};
 ghost use Rattle.std.specs.List.{AllByRecursion};
 ghost use Rattle.crossterm_parse.specs.Machine.{IsCharacterOf, IsLetter, Opens, is_paste, meaning_with, state_after};
 ghost use Rattle.crossterm_parse.specs.Deciding.{is_final, is_mouse_end};
@@ -91,6 +91,63 @@ fn letters_in(bytes: &[u8]) -> usize
     bytes.len()
 }
 
+/// Reads a byte with which a numbered sequence goes on, and tells whether it does.
+#[inline(always)]
+fn read_number(digits: &mut Digits, opening: &mut Opening, byte: u8) -> bool
+    ensures yes { IsTrue result → (raw pause : Bool) → state_after (State.Numbered digits.old opening.old) byte raw pause ≡ Step.Open (State.Numbered digits.new opening.new) }
+    ensures no { IsFalse result → is_final byte ≡ true }
+    ensures same { IsFalse result → (digits.new ≡ digits.old) × (opening.new ≡ opening.old) }
+{
+    if is_final_byte(byte) {
+        return false;
+    }
+    digits.read(byte);
+    if !matches!(opening, Opening::Not) {
+        *opening = opening.put(byte);
+    }
+    true
+}
+
+/// Reads a byte with which a report of the mouse goes on, and tells whether it does.
+#[inline(always)]
+fn read_report(digits: &mut Digits, byte: u8) -> bool
+    ensures yes { IsTrue result → (raw pause : Bool) → state_after (State.Sgr digits.old) byte raw pause ≡ Step.Open (State.Sgr digits.new) }
+    ensures no { IsFalse result → is_mouse_end byte ≡ true }
+    ensures same { IsFalse result → digits.new ≡ digits.old }
+{
+    if is_mouse_final(byte) {
+        return false;
+    }
+    digits.read(byte);
+    true
+}
+
+/// Reads the bytes in front with which a numbered sequence goes on, and tells how many.
+fn read_numbers(digits: &mut Digits, opening: &mut Opening, bytes: &[u8]) -> usize
+    ensures within { result ≤ length bytes.now }
+    ensures opens { Opens (State.Numbered digits.old opening.old) (State.Numbered digits.new opening.new) (take result bytes.now) }
+{
+    for (i, byte) in bytes.iter().enumerate() {
+        if !read_number(digits, opening, *byte) {
+            return i;
+        }
+    }
+    bytes.len()
+}
+
+/// Reads the bytes in front with which a report of the mouse goes on, and tells how many.
+fn read_reports(digits: &mut Digits, bytes: &[u8]) -> usize
+    ensures within { result ≤ length bytes.now }
+    ensures opens { Opens (State.Sgr digits.old) (State.Sgr digits.new) (take result bytes.now) }
+{
+    for (i, byte) in bytes.iter().enumerate() {
+        if !read_report(digits, *byte) {
+            return i;
+        }
+    }
+    bytes.len()
+}
+
 impl State {
     /// Whether a paste is open.
     pub(crate) fn is_paste(&self) -> bool
@@ -139,47 +196,13 @@ impl State {
             State::Csi => self.introduce(byte),
             State::Ss3 | State::Bracket | State::Paste(_) => false,
             State::Coded(codes) => codes.put(byte),
-            State::Sgr(_) => self.reads(byte),
+            State::Sgr(digits) => read_report(digits, byte),
             State::Private => self.reply(byte),
             State::Reply(_) => byte != b'c' && byte != b'u',
-            State::Numbered(_, _) => {
-                if is_final_byte(byte) {
-                    return self.open_paste(byte);
-                }
-                self.reads(byte)
+            State::Numbered(digits, opening) => {
+                read_number(digits, opening, byte) || self.open_paste(byte)
             }
             State::Utf8(character) => character.put(byte),
-        }
-    }
-
-    /// Takes one more byte with which the numbers of a sequence go on, and tells whether they do.
-    #[inline(always)]
-    fn reads(&mut self, byte: u8) -> bool
-        ensures yes { IsTrue result → (raw pause : Bool) → state_after self.old byte raw pause ≡ Step.Open self.new }
-        ensures outside { IsTrue result → is_paste self.new ≡ false }
-        ensures mouse { (digits : Digits) → self.old ≡ State.Sgr digits → result ≡ not (is_mouse_end byte) }
-        ensures number { (digits : Digits) → (opening : Opening) → self.old ≡ State.Numbered digits opening → result ≡ not (is_final byte) }
-        ensures no { IsFalse result → self.new ≡ self.old }
-    {
-        match self {
-            State::Sgr(digits) => {
-                if is_mouse_final(byte) {
-                    return false;
-                }
-                digits.read(byte);
-                true
-            }
-            State::Numbered(digits, opening) => {
-                if is_final_byte(byte) {
-                    return false;
-                }
-                digits.read(byte);
-                if !matches!(opening, Opening::Not) {
-                    *opening = opening.put(byte);
-                }
-                true
-            }
-            _ => false,
         }
     }
 
@@ -268,7 +291,7 @@ impl State {
     }
 
     /// A final byte of a numbered sequence, which opens a paste or ends the sequence.
-    #[inline(never)]
+    #[inline(always)]
     fn open_paste(&mut self, byte: u8) -> bool
         requires { (digits : Digits) × (opening : Opening) × (self.old ≡ State.Numbered digits opening) × (is_final byte ≡ true) }
         ensures yes { IsTrue result → (raw pause : Bool) → state_after self.old byte raw pause ≡ Step.Open self.new }
@@ -354,21 +377,12 @@ impl State {
         ensures opens { Opens self.old self.new (take result bytes.now) }
         ensures steps { steps.new ≡ steps.old + result }
     {
-        let count = self.read_all(bytes);
+        let count = match self {
+            State::Numbered(digits, opening) => read_numbers(digits, opening, bytes),
+            State::Sgr(digits) => read_reports(digits, bytes),
+            _ => 0,
+        };
         steps.count(count as u64);
         count
-    }
-
-    /// Reads the bytes in front with which the numbers of a sequence go on, and tells how many.
-    fn read_all(&mut self, bytes: &[u8]) -> usize
-        ensures within { result ≤ length bytes.now }
-        ensures opens { Opens self.old self.new (take result bytes.now) }
-    {
-        for (i, byte) in bytes.iter().enumerate() {
-            if !self.reads(*byte) {
-                return i;
-            }
-        }
-        bytes.len()
     }
 }

@@ -36,6 +36,7 @@ impl<A: Allocator + Clone> Parser<A> {
         requires { self.old.state ≡ State.Ground }
         ensures within { result ≤ length bytes.now }
         ensures puts { PutsAll self.old self.new (take result bytes.now) }
+        ensures state { self.new.state ≡ State.Ground }
         ensures text { length self.new.text ≡ length self.old.text }
         ensures room { self.old.room ≤ self.new.room + result }
         ensures steps { steps.new ≡ steps.old + result }
@@ -54,6 +55,7 @@ impl<A: Allocator + Clone> Parser<A> {
         requires { self.old.state ≡ State.Ground }
         ensures within { result ≤ length bytes.now }
         ensures puts { PutsAll self.old self.new (take result bytes.now) }
+        ensures state { self.new.state ≡ State.Ground }
         ensures text { length self.new.text ≡ length self.old.text }
         ensures room { self.old.room ≤ self.new.room + result }
         ensures steps { steps.new ≡ steps.old + result }
@@ -97,10 +99,48 @@ impl<A: Allocator + Clone> Parser<A> {
         self.state.put_numbers(bytes, steps)
     }
 
+    /// Gives the events of the letters in front, or that of the character in UTF-8, and tells how many bytes they have.
+    #[inline(always)]
+    fn give_front<L: Ledger>(&mut self, bytes: &[u8], steps: &mut Steps<L>) -> usize
+        requires ground { self.old.state ≡ State.Ground }
+        requires some { 0 < length bytes.now }
+        ensures within { result ≤ length bytes.now }
+        ensures puts { PutsAll self.old self.new (take result bytes.now) }
+        ensures state { self.new.state ≡ State.Ground }
+        ensures text { length self.new.text ≡ length self.old.text }
+        ensures room { self.old.room ≤ self.new.room + result }
+        ensures steps { steps.new ≡ steps.old + result }
+    {
+        match bytes[0] {
+            32..=126 => self.give_letters(bytes, steps),
+            0xC2..=0xF4 => self.give_utf8(bytes, steps),
+            _ => 0,
+        }
+    }
+
+    /// Gives the events of the letters and of the characters in UTF-8 in front that there is room for, and tells how many bytes they have.
+    fn give_text<L: Ledger>(&mut self, bytes: &[u8], steps: &mut Steps<L>) -> usize
+        requires { self.old.state ≡ State.Ground }
+        ensures within { result ≤ length bytes.now }
+        ensures puts { PutsAll self.old self.new (take result bytes.now) }
+        ensures text { length self.new.text ≡ length self.old.text }
+        ensures room { self.old.room ≤ self.new.room + result }
+        ensures steps { steps.new ≡ steps.old + result }
+    {
+        let mut place = 0;
+        while place < bytes.len() {
+            let count = self.give_front(&bytes[place..], steps);
+            if count == 0 {
+                break;
+            }
+            place += count;
+        }
+        place
+    }
+
     /// Puts in the bytes in front that a run takes, and tells how many.
     #[inline(always)]
     pub(super) fn run<L: Ledger>(&mut self, bytes: &[u8], steps: &mut Steps<L>) -> usize
-        requires { 0 < length bytes.now }
         ensures within { result ≤ length bytes.now }
         ensures puts { PutsAll self.old self.new (take result bytes.now) }
         ensures room { self.old.room ≤ self.new.room + result }
@@ -108,11 +148,7 @@ impl<A: Allocator + Clone> Parser<A> {
         ensures counted { steps.old + result ≤ steps.new }
     {
         match self.state {
-            State::Ground => match bytes[0] {
-                32..=126 => self.give_letters(bytes, steps),
-                0xC2..=0xF4 => self.give_utf8(bytes, steps),
-                _ => 0,
-            },
+            State::Ground => self.give_text(bytes, steps),
             State::Numbered(_, _) | State::Sgr(_) => self.put_numbers(bytes, steps),
             State::Paste(Met::Nothing) => self.keep_all(bytes, steps),
             _ => 0,
