@@ -47,6 +47,9 @@ puts_join old mid new bs [] all same = subst (PutsAll old new) (sym (append-nil 
 puts_join old mid new bs (c ∷ cs) all more = subst (PutsAll old new) (append_assoc bs (c ∷ []) cs)
     (puts_join old more.0 new (bs ++ c ∷ []) cs (puts_more old mid more.0 bs c all more.1) more.2)
 
+pub puts_after : (old mid new : Standing) (bs : List ℕ) → PutsAll old mid [] → PutsAll mid new bs → PutsAll old new bs
+puts_after old mid new bs same all = puts_join old mid new [] bs same all
+
 take_none : (n : ℕ) → take {A = ℕ} n [] ≡ []
 take_none zero = refl
 take_none (suc n) = refl

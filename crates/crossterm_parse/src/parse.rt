@@ -318,7 +318,7 @@ impl<A: Allocator + Clone> Parser<A> {
     {
         let mut place = 0;
         while place < piece.len() {
-            place += self.run(&piece[place..], steps);
+            place += self.run_text(&piece[place..], steps);
             if place == piece.len() {
                 break;
             }
@@ -328,6 +328,7 @@ impl<A: Allocator + Clone> Parser<A> {
                 Err(_) => return place,
             }
             place += 1;
+            place += self.run_open(&piece[place..], steps);
         }
         place
     }

@@ -1,5 +1,5 @@
-//! Runs: bytes that are put in at once, with what comes of putting in each by itself. A run takes no memory for events.
-ghost use Rattle.std.specs.Prelude.{◌≡◌, ◌+◌, ◌*◌, ◌-◌, ◌≤◌, ◌<◌, length, take};
+//! Runs: bytes that are put in at once, with what comes of putting in each by itself. Where memory is refused a run takes fewer.
+ghost use Rattle.std.specs.Prelude.{◌≡◌, ◌+◌, ◌*◌, ◌≤◌, ◌<◌, [], length, take, IsTrue};
 ghost use Rattle.crossterm_parse.specs.Standing.{Gives, PutsAll};
 
 use super::Parser;
@@ -12,6 +12,16 @@ use std::alloc::Allocator;
 use std::sync::ledger::Ledger;
 
 impl<A: Allocator + Clone> Parser<A> {
+    /// Whether there is room for an event, which is made where there is none.
+    #[inline(always)]
+    fn has_room(&mut self) -> bool
+        ensures still { PutsAll self.old self.new [] }
+        ensures grows { self.old.room ≤ self.new.room }
+        ensures some { IsTrue result → 0 < self.new.room }
+    {
+        self.waiting.reserve(1).is_ok()
+    }
+
     /// For how many events there is room.
     fn room(&self) -> usize
         ensures { result ≡ self.now.room }
@@ -31,7 +41,7 @@ impl<A: Allocator + Clone> Parser<A> {
             .push_back_reserved(InternalEvent::Event(Event::Key(key)));
     }
 
-    /// Gives the events of the letters in front that there is room for, and tells how many.
+    /// Gives the events of the letters in front, and tells how many: as many as there is room for, which is made for one at least.
     fn give_letters<L: Ledger>(&mut self, bytes: &[u8], steps: &mut Steps<L>) -> usize
         requires { self.old.state ≡ State.Ground }
         ensures within { result ≤ length bytes.now }
@@ -41,6 +51,9 @@ impl<A: Allocator + Clone> Parser<A> {
         ensures room { self.old.room ≤ self.new.room + result }
         ensures steps { steps.new ≡ steps.old + result }
     {
+        if !self.has_room() {
+            return 0;
+        }
         let most = bytes.len().min(self.room());
         let count = self.state.put_letters(&bytes[..most], steps);
         for letter in &bytes[..count] {
@@ -49,7 +62,7 @@ impl<A: Allocator + Clone> Parser<A> {
         count
     }
 
-    /// Gives the event of the character in UTF-8 in front, where there is room for it, and tells how many bytes it has.
+    /// Gives the event of the character in UTF-8 in front, and tells how many bytes it has: none where memory is refused.
     #[inline(never)]
     fn give_utf8<L: Ledger>(&mut self, bytes: &[u8], steps: &mut Steps<L>) -> usize
         requires { self.old.state ≡ State.Ground }
@@ -60,7 +73,7 @@ impl<A: Allocator + Clone> Parser<A> {
         ensures room { self.old.room ≤ self.new.room + result }
         ensures steps { steps.new ≡ steps.old + result }
     {
-        if self.room() == 0 {
+        if !self.has_room() {
             return 0;
         }
         let Some((c, size)) = self.state.put_character(bytes, steps) else {
@@ -118,7 +131,7 @@ impl<A: Allocator + Clone> Parser<A> {
         }
     }
 
-    /// Gives the events of the letters and of the characters in UTF-8 in front that there is room for, and tells how many bytes they have.
+    /// Gives the events of the letters and of the characters in UTF-8 in front, and tells how many bytes they have.
     fn give_text<L: Ledger>(&mut self, bytes: &[u8], steps: &mut Steps<L>) -> usize
         requires { self.old.state ≡ State.Ground }
         ensures within { result ≤ length bytes.now }
@@ -138,9 +151,24 @@ impl<A: Allocator + Clone> Parser<A> {
         place
     }
 
-    /// Puts in the bytes in front that a run takes, and tells how many.
+    /// Puts in the text in front, where no sequence is open, and tells how many bytes it has.
     #[inline(always)]
-    pub(super) fn run<L: Ledger>(&mut self, bytes: &[u8], steps: &mut Steps<L>) -> usize
+    pub(super) fn run_text<L: Ledger>(&mut self, bytes: &[u8], steps: &mut Steps<L>) -> usize
+        ensures within { result ≤ length bytes.now }
+        ensures puts { PutsAll self.old self.new (take result bytes.now) }
+        ensures room { self.old.room ≤ self.new.room + result }
+        ensures steps { steps.new + length self.new.text ≤ steps.old + length self.old.text + 2 * result }
+        ensures counted { steps.old + result ≤ steps.new }
+    {
+        if !matches!(self.state, State::Ground) {
+            return 0;
+        }
+        self.give_text(bytes, steps)
+    }
+
+    /// Puts in the bytes in front with which the numbers of a sequence or a paste go on, and tells how many.
+    #[inline(always)]
+    pub(super) fn run_open<L: Ledger>(&mut self, bytes: &[u8], steps: &mut Steps<L>) -> usize
         ensures within { result ≤ length bytes.now }
         ensures puts { PutsAll self.old self.new (take result bytes.now) }
         ensures room { self.old.room ≤ self.new.room + result }
@@ -148,7 +176,6 @@ impl<A: Allocator + Clone> Parser<A> {
         ensures counted { steps.old + result ≤ steps.new }
     {
         match self.state {
-            State::Ground => self.give_text(bytes, steps),
             State::Numbered(_, _) | State::Sgr(_) => self.put_numbers(bytes, steps),
             State::Paste(Met::Nothing) => self.keep_all(bytes, steps),
             _ => 0,

@@ -9,5 +9,6 @@ invariant-loop-letter g l = record {
   puts : PutsAll l.initial.self l.self (take l.letter-index l.letter-items);
   state : l.self.state ≡ Ground;
   text : length l.self.text ≡ length l.initial.self.text;
-  room : l.initial.self.room ≡ l.self.room + l.letter-index;
+  left : l.most ≤ l.self.room + l.letter-index;
+  room : l.initial.self.room ≤ l.self.room + l.letter-index;
 }
