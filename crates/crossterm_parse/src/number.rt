@@ -55,6 +55,8 @@ impl Number {
             && *value < 429_496_729
         {
             *value = *value * 10 + u32::from(byte - b'0');
+        } else if matches!(self, Number::Empty) && matches!(byte, b'0'..=b'9') {
+            *self = Number::digit(byte);
         } else {
             self.change(byte);
         }

@@ -257,7 +257,7 @@ impl<A: Allocator + Clone> Parser<A> {
             let meaning = self.state.meaning(byte, raw);
             self.give(meaning)?;
         }
-        self.state = State::Ground;
+        self.state.end();
         Ok(())
     }
 
@@ -318,7 +318,7 @@ impl<A: Allocator + Clone> Parser<A> {
     {
         let mut place = 0;
         while place < piece.len() {
-            place += self.run_text(&piece[place..], steps);
+            place += self.run(&piece[place..], steps);
             if place == piece.len() {
                 break;
             }
@@ -328,7 +328,6 @@ impl<A: Allocator + Clone> Parser<A> {
                 Err(_) => return place,
             }
             place += 1;
-            place += self.run_open(&piece[place..], steps);
         }
         place
     }

@@ -156,6 +156,14 @@ impl State {
         matches!(self, State::Paste(_))
     }
 
+    /// Goes to the ground state, where the sequence is whole and its event is kept.
+    #[inline(always)]
+    pub(crate) fn end(&mut self)
+        ensures { self.new ≡ State.Ground }
+    {
+        *self = State::Ground;
+    }
+
     /// Takes one more byte. Where the sequence goes on the state has changed; where it ends, it hasn't yet.
     #[inline(always)]
     pub fn put<L: Ledger>(&mut self, byte: u8, pause: bool, steps: &mut Steps<L>) -> Progress

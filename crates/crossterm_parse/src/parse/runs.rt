@@ -151,24 +151,10 @@ impl<A: Allocator + Clone> Parser<A> {
         place
     }
 
-    /// Puts in the text in front, where no sequence is open, and tells how many bytes it has.
+    /// Puts in the bytes in front that a run takes, and tells how many: text where no sequence is open, or what a sequence's numbers or
+    /// a paste go on with.
     #[inline(always)]
-    pub(super) fn run_text<L: Ledger>(&mut self, bytes: &[u8], steps: &mut Steps<L>) -> usize
-        ensures within { result ≤ length bytes.now }
-        ensures puts { PutsAll self.old self.new (take result bytes.now) }
-        ensures room { self.old.room ≤ self.new.room + result }
-        ensures steps { steps.new + length self.new.text ≤ steps.old + length self.old.text + 2 * result }
-        ensures counted { steps.old + result ≤ steps.new }
-    {
-        if !matches!(self.state, State::Ground) {
-            return 0;
-        }
-        self.give_text(bytes, steps)
-    }
-
-    /// Puts in the bytes in front with which the numbers of a sequence or a paste go on, and tells how many.
-    #[inline(always)]
-    pub(super) fn run_open<L: Ledger>(&mut self, bytes: &[u8], steps: &mut Steps<L>) -> usize
+    pub(super) fn run<L: Ledger>(&mut self, bytes: &[u8], steps: &mut Steps<L>) -> usize
         ensures within { result ≤ length bytes.now }
         ensures puts { PutsAll self.old self.new (take result bytes.now) }
         ensures room { self.old.room ≤ self.new.room + result }
@@ -176,6 +162,7 @@ impl<A: Allocator + Clone> Parser<A> {
         ensures counted { steps.old + result ≤ steps.new }
     {
         match self.state {
+            State::Ground => self.give_text(bytes, steps),
             State::Numbered(_, _) | State::Sgr(_) => self.put_numbers(bytes, steps),
             State::Paste(Met::Nothing) => self.keep_all(bytes, steps),
             _ => 0,

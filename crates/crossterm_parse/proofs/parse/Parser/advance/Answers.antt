@@ -8,31 +8,30 @@ pub loop-place-init : goal.loop-place-init
 loop-place-init g c = record { within = omega arith; divided = advance_none c.args.self.now; room = omega arith; steps = omega arith; counted = omega arith }
 
 pub returns-in-Err-clause-divided : goal.returns-in-Err-clause-divided
-returns-in-Err-clause-divided g c = advance_still c.args.self.now c.run_text-place.new.self c.put.new.self _ (c.in-Err.ensures.err.1, c.in-Err.ensures.err.2, c.in-Err.ensures.err.0)
-    (advance_rest c.run_text-place.result c.args.self.now c.loop-place.self c.run_text-place.new.self c.args.piece.now c.args.more c.args.raw c.loop-place.place (omega (arith, c.run_text-place.ensures.within)) c.run_text-place.ensures.puts c.loop-place.invariant.divided)
+returns-in-Err-clause-divided g c = advance_still c.args.self.now c.run-place.new.self c.put.new.self _ (c.in-Err.ensures.err.1, c.in-Err.ensures.err.2, c.in-Err.ensures.err.0)
+    (advance_rest c.run-place.result c.args.self.now c.loop-place.self c.run-place.new.self c.args.piece.now c.args.more c.args.raw c.loop-place.place (omega (arith, c.run-place.ensures.within)) c.run-place.ensures.puts c.loop-place.invariant.divided)
 
 pub returns-in-Err-clause-quiet : goal.returns-in-Err-clause-quiet
 returns-in-Err-clause-quiet g c quiet =
-    let ran = advance_rest c.run_text-place.result c.args.self.now c.loop-place.self c.run_text-place.new.self c.args.piece.now c.args.more c.args.raw c.loop-place.place (omega (arith, c.run_text-place.ensures.within)) c.run_text-place.ensures.puts c.loop-place.invariant.divided in
-    let none = byte_quiet c.args.self.now c.run_text-place.new.self c.args.piece.now c.args.more c.args.raw _ _ c.pauses-pause.result (omega arith) refl c.pauses-pause.ensures ran quiet in
+    let ran = advance_rest c.run-place.result c.args.self.now c.loop-place.self c.run-place.new.self c.args.piece.now c.args.more c.args.raw c.loop-place.place (omega (arith, c.run-place.ensures.within)) c.run-place.ensures.puts c.loop-place.invariant.divided in
+    let none = byte_quiet c.args.self.now c.run-place.new.self c.args.piece.now c.args.more c.args.raw _ _ c.pauses-pause.result (omega arith) refl c.pauses-pause.ensures ran quiet in
     absurd (false≢true (c.in-Err.ensures.free none.0 none.1))
 
 pub returns-in-Err-clause-reserved : goal.returns-in-Err-clause-reserved
 returns-in-Err-clause-reserved g c room free =
-    let ran = advance_rest c.run_text-place.result c.args.self.now c.loop-place.self c.run_text-place.new.self c.args.piece.now c.args.more c.args.raw c.loop-place.place (omega (arith, c.run_text-place.ensures.within)) c.run_text-place.ensures.puts c.loop-place.invariant.divided in
-    absurd (false≢true (c.in-Err.ensures.reserved (byte_free c.args.self.now c.run_text-place.new.self _ _ ran free) (omega arith)))
+    let ran = advance_rest c.run-place.result c.args.self.now c.loop-place.self c.run-place.new.self c.args.piece.now c.args.more c.args.raw c.loop-place.place (omega (arith, c.run-place.ensures.within)) c.run-place.ensures.puts c.loop-place.invariant.divided in
+    absurd (false≢true (c.in-Err.ensures.reserved (byte_free c.args.self.now c.run-place.new.self _ _ ran free) (omega arith)))
 
 pub loop-place-preserved : goal.loop-place-preserved
 loop-place-preserved g c =
-    let ran = advance_rest c.run_text-place.result c.args.self.now c.loop-place.self c.run_text-place.new.self c.args.piece.now c.args.more c.args.raw c.loop-place.place (omega (arith, c.run_text-place.ensures.within)) c.run_text-place.ensures.puts c.loop-place.invariant.divided in
-    let put = advance_more c.args.self.now c.run_text-place.new.self c.put.new.self c.args.piece.now c.args.more c.args.raw _ _ _ (omega arith) refl c.pauses-pause.ensures
-        c.in-Ok.ensures.put.0 c.in-Ok.ensures.put.1 c.in-Ok.ensures.put.2 ran in
+    let ran = advance_rest c.run-place.result c.args.self.now c.loop-place.self c.run-place.new.self c.args.piece.now c.args.more c.args.raw c.loop-place.place (omega (arith, c.run-place.ensures.within)) c.run-place.ensures.puts c.loop-place.invariant.divided in
     record {
-      within = omega (arith, c.run_open-place.ensures.within);
-      divided = advance_rest c.run_open-place.result c.args.self.now c.put.new.self c.run_open-place.new.self c.args.piece.now c.args.more c.args.raw _ (omega (arith, c.run_open-place.ensures.within)) c.run_open-place.ensures.puts put;
-      room = omega (arith, c.run_text-place.ensures.room, c.put.ensures.room, c.run_open-place.ensures.room);
-      steps = omega (arith, c.in-Ok.ensures.steps, c.run_text-place.ensures.steps, c.run_open-place.ensures.steps);
-      counted = omega (arith, c.put.ensures.counted, c.run_text-place.ensures.counted, c.run_open-place.ensures.counted);
+      within = omega arith;
+      divided = advance_more c.args.self.now c.run-place.new.self c.put.new.self c.args.piece.now c.args.more c.args.raw _ _ _ (omega arith) refl c.pauses-pause.ensures
+          c.in-Ok.ensures.put.0 c.in-Ok.ensures.put.1 c.in-Ok.ensures.put.2 ran;
+      room = omega (arith, c.run-place.ensures.room, c.put.ensures.room);
+      steps = omega (arith, c.in-Ok.ensures.steps, c.run-place.ensures.steps);
+      counted = omega (arith, c.put.ensures.counted, c.run-place.ensures.counted);
     }
 
 pub returns-after-loop-place-clause-steps : goal.returns-after-loop-place-clause-steps
@@ -40,16 +39,16 @@ returns-after-loop-place-clause-steps g c all = takes_steps c.args.self.now c.lo
 
 pub returns-then-place-piece-clause-divided : goal.returns-then-place-piece-clause-divided
 returns-then-place-piece-clause-divided g c =
-    advance_rest c.run_text-place.result c.args.self.now c.loop-place.self c.run_text-place.new.self c.args.piece.now c.args.more c.args.raw c.loop-place.place (omega (arith, c.run_text-place.ensures.within)) c.run_text-place.ensures.puts c.loop-place.invariant.divided
+    advance_rest c.run-place.result c.args.self.now c.loop-place.self c.run-place.new.self c.args.piece.now c.args.more c.args.raw c.loop-place.place (omega (arith, c.run-place.ensures.within)) c.run-place.ensures.puts c.loop-place.invariant.divided
 
 pub returns-then-place-piece-clause-steps : goal.returns-then-place-piece-clause-steps
-returns-then-place-piece-clause-steps g c all = takes_steps c.args.self.now c.run_text-place.new.self c.args.steps.now c.run_text-place.new.steps _ (omega (arith, c.loop-place.invariant.steps, c.run_text-place.ensures.steps))
+returns-then-place-piece-clause-steps g c all = takes_steps c.args.self.now c.run-place.new.self c.args.steps.now c.run-place.new.steps _ (omega (arith, c.loop-place.invariant.steps, c.run-place.ensures.steps))
 
 pub returns-in-Err-clause-counted : goal.returns-in-Err-clause-counted
-returns-in-Err-clause-counted g c = omega (arith, c.loop-place.invariant.counted, c.run_text-place.ensures.counted, c.put.ensures.counted)
+returns-in-Err-clause-counted g c = omega (arith, c.loop-place.invariant.counted, c.run-place.ensures.counted, c.put.ensures.counted)
 
 pub returns-after-loop-place-clause-counted : goal.returns-after-loop-place-clause-counted
 returns-after-loop-place-clause-counted g c = c.loop-place.invariant.counted
 
 pub returns-then-place-piece-clause-counted : goal.returns-then-place-piece-clause-counted
-returns-then-place-piece-clause-counted g c = omega (arith, c.loop-place.invariant.counted, c.run_text-place.ensures.counted)
+returns-then-place-piece-clause-counted g c = omega (arith, c.loop-place.invariant.counted, c.run-place.ensures.counted)
