@@ -55,8 +55,6 @@ impl Number {
             && *value < 429_496_729
         {
             *value = *value * 10 + u32::from(byte - b'0');
-        } else if matches!(self, Number::Empty) && matches!(byte, b'0'..=b'9') {
-            *self = Number::digit(byte);
         } else {
             self.change(byte);
         }
@@ -66,7 +64,11 @@ impl Number {
     fn change(&mut self, byte: u8)
         ensures { self.new ≡ number_after self.old byte }
     {
-        *self = self.put(byte);
+        if matches!(self, Number::Empty) && matches!(byte, b'0'..=b'9') {
+            *self = Number::digit(byte);
+        } else {
+            *self = self.put(byte);
+        }
     }
 
     /// The number, where it is one.

@@ -63,7 +63,7 @@ impl<A: Allocator + Clone> Parser<A> {
     }
 
     /// Gives the event of the character in UTF-8 in front, and tells how many bytes it has: none where memory is refused.
-    #[inline(never)]
+    #[inline(always)]
     fn give_utf8<L: Ledger>(&mut self, bytes: &[u8], steps: &mut Steps<L>) -> usize
         requires { self.old.state ≡ State.Ground }
         ensures within { result ≤ length bytes.now }
