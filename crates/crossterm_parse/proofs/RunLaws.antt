@@ -1,5 +1,5 @@
 -- Bytes that are put in at once are put in one after another.
-use Rattle.std.proofs.Common.{◌≡◌, ◌==◌, ◌≤◌, ◌<◌, ℕ, zero, suc, ◌+◌, ◌-◌, Bool, true, false, not, ◌&&◌, if◌then◌else◌, List, [], ◌∷◌, ◌++◌, length, take, drop, get_or, slice_index, Option, Some, None, nat_lt, refl, ap, sym, ◌∙◌, subst, arith, append_assoc}
+use Rattle.std.proofs.Common.{◌≡◌, ◌==◌, ◌≤◌, ◌<◌, ℕ, zero, suc, ◌+◌, ◌-◌, Bool, true, false, not, ◌&&◌, if◌then◌else◌, List, [], ◌∷◌, ◌++◌, length, take, drop, get_or, slice_index, Option, Some, nat_lt, refl, ap, sym, ◌∙◌, subst, arith, append_assoc}
 use Rattle.std.proofs.lemmas.List.{append-nil, drop_more, take_all, length-drop}
 use Rattle.std.specs.Prelude.{nat_le}
 use Rattle.std.proofs.lemmas.Bool.{and_parts, false≢true}
@@ -8,7 +8,7 @@ use Rattle.std.specs.List.{AllByRecursion}
 use Rattle.bstr.specs.Utf8.{Decoded, decoded, second, continues, code_of_2, code_of_3, code_of_4}
 use Rattle.bstr.proofs.lemmas.PieceLemmas.{by-shape}
 use Rattle.crossterm_parse.specs.Deciding.{is_lead, is_continuing, further_after}
-use Rattle.crossterm_parse.specs.Meaning.{typed, decoded_character, seen_meaning}
+use Rattle.crossterm_parse.specs.Meaning.{typed, decoded_character}
 use Rattle.memchr.specs.Find.{Nowhere, Passes, is_byte}
 use Rattle.crossterm_parse.specs.Machine.{IsCharacterOf, IsLetter, state_after, state_left, text_left, events_left, is_paste, Opens, StandsFor}
 use Rattle.crossterm_parse.specs.Marked.{Marked, bytes_of, marked}
@@ -22,7 +22,7 @@ use Rattle.crossterm_parse.specs.declared.character.Begun.{Begun}
 use Rattle.crossterm_parse.specs.declared.character.Begun.TheVariants.{One, Two, Three}
 use Rattle.crossterm_parse.specs.declared.meaning.Meaning.{Meaning}
 use Rattle.crossterm_parse.proofs.StandingLaws.{advance_more}
-use Rattle.crossterm_parse.proofs.Utf8Laws.{Leads, leads, two_whole, three_whole, four_whole}
+use Rattle.crossterm_parse.proofs.Utf8Laws.{leads, two_whole, three_whole, four_whole}
 
 same_start : (old mid new : Standing) (b : ℕ) (raw pause : Bool) → PutsAll old mid [] → PutsByte mid new b raw pause → PutsByte old new b raw pause
 same_start old mid new b raw pause same puts = (
@@ -261,10 +261,12 @@ two_puts : (old new : Standing) (a b c : ℕ) → 0xC2 ≤ a → a < 0xE0 → se
 two_puts old new a b c low high ok is ground gives =
     let one : Standing = record { waiting = old.waiting; state = begun (One a); text = old.text; room = old.room } in
     let last : (raw pause : Bool) → state_after (begun (One a)) b raw pause ≡ Whole (Some (typed c)) = λ raw pause.
-        rw (further_none a high, continuing b (second-continues a b ok)) refl
-        ∙ ap (λ (x : Option ℕ). Whole (decoded_character x)) ((two_whole a b (leads a low (omega arith)) ok (grind (arith, nat_tests))).0 ∙ is) in
-    (one, open_byte old Ground (begun (One a)) a ground (lead_after a low (omega arith)) refl,
-      (new, whole_byte one new (begun (One a)) b (typed c) refl last gives, (refl, refl, refl)))
+    rw (further_none a high, continuing b (second-continues a b ok)) refl
+    ∙ ap (λ (x : Option ℕ). Whole (decoded_character x)) ((two_whole a b (leads a low (omega arith)) ok (grind (arith, nat_tests))).0 ∙ is) in (
+      one,
+      open_byte old Ground (begun (One a)) a ground (lead_after a low (omega arith)) refl,
+      (new, whole_byte one new (begun (One a)) b (typed c) refl last gives, (refl, refl, refl)),
+    )
 
 three_puts : (old new : Standing) (a b d c : ℕ) → 0xE0 ≤ a → a < 0xF0 → second a b ≡ true → continues d ≡ true → Some (code_of_3 a b d) ≡ Some c → old.state ≡ Ground → Gives old new (typed c)
     → PutsAll old new (a ∷ b ∷ d ∷ [])
@@ -272,13 +274,18 @@ three_puts old new a b d c low high ok more is ground gives =
     let one : Standing = record { waiting = old.waiting; state = begun (One a); text = old.text; room = old.room } in
     let two : Standing = record { waiting = old.waiting; state = begun (Two a b); text = old.text; room = old.room } in
     let next : (raw pause : Bool) → state_after (begun (One a)) b raw pause ≡ Open (begun (Two a b)) = λ raw pause.
-        rw (further_one a low high, continuing b (second-continues a b ok)) refl in
+    rw (further_one a low high, continuing b (second-continues a b ok)) refl in
     let last : (raw pause : Bool) → state_after (begun (Two a b)) d raw pause ≡ Whole (Some (typed c)) = λ raw pause.
-        rw (further_one a low high, continuing d more) refl
-        ∙ ap (λ (x : Option ℕ). Whole (decoded_character x)) ((three_whole a b d (leads a (omega arith) (omega arith)) ok (grind (arith, nat_tests)) more (grind (arith, nat_tests))).0 ∙ is) in
-    (one, open_byte old Ground (begun (One a)) a ground (lead_after a (omega arith) (omega arith)) refl,
-      (two, open_byte one (begun (One a)) (begun (Two a b)) b refl next refl,
-        (new, whole_byte two new (begun (Two a b)) d (typed c) refl last gives, (refl, refl, refl))))
+    rw (further_one a low high, continuing d more) refl
+    ∙ ap (λ (x : Option ℕ). Whole (decoded_character x)) ((three_whole a b d (leads a (omega arith) (omega arith)) ok (grind (arith, nat_tests)) more (grind (arith, nat_tests))).0 ∙ is) in (
+      one,
+      open_byte old Ground (begun (One a)) a ground (lead_after a (omega arith) (omega arith)) refl,
+      (
+        two,
+        open_byte one (begun (One a)) (begun (Two a b)) b refl next refl,
+        (new, whole_byte two new (begun (Two a b)) d (typed c) refl last gives, (refl, refl, refl)),
+      ),
+    )
 
 four_puts : (old new : Standing) (a b d e c : ℕ) → 0xF0 ≤ a → a ≤ 0xF4 → second a b ≡ true → continues d ≡ true → continues e ≡ true → Some (code_of_4 a b d e) ≡ Some c
     → old.state ≡ Ground → Gives old new (typed c) → PutsAll old new (a ∷ b ∷ d ∷ e ∷ [])
@@ -287,15 +294,23 @@ four_puts old new a b d e c low high ok more most is ground gives =
     let two : Standing = record { waiting = old.waiting; state = begun (Two a b); text = old.text; room = old.room } in
     let three : Standing = record { waiting = old.waiting; state = begun (Three a b d); text = old.text; room = old.room } in
     let next : (raw pause : Bool) → state_after (begun (One a)) b raw pause ≡ Open (begun (Two a b)) = λ raw pause.
-        rw (further_two a low, continuing b (second-continues a b ok)) refl in
+    rw (further_two a low, continuing b (second-continues a b ok)) refl in
     let longer : (raw pause : Bool) → state_after (begun (Two a b)) d raw pause ≡ Open (begun (Three a b d)) = λ raw pause.
-        rw (further_two a low, continuing d more) refl in
+    rw (further_two a low, continuing d more) refl in
     let last : (raw pause : Bool) → state_after (begun (Three a b d)) e raw pause ≡ Whole (Some (typed c)) = λ raw pause.
-        ap (λ (x : Option ℕ). Whole (decoded_character x)) ((four_whole a b d e (leads a (omega arith) high) ok (grind (arith, nat_tests)) more (grind (arith, nat_tests)) most).0 ∙ is) in
-    (one, open_byte old Ground (begun (One a)) a ground (lead_after a (omega arith) high) refl,
-      (two, open_byte one (begun (One a)) (begun (Two a b)) b refl next refl,
-        (three, open_byte two (begun (Two a b)) (begun (Three a b d)) d refl longer refl,
-          (new, whole_byte three new (begun (Three a b d)) e (typed c) refl last gives, (refl, refl, refl)))))
+    ap (λ (x : Option ℕ). Whole (decoded_character x)) ((four_whole a b d e (leads a (omega arith) high) ok (grind (arith, nat_tests)) more (grind (arith, nat_tests)) most).0 ∙ is) in (
+      one,
+      open_byte old Ground (begun (One a)) a ground (lead_after a (omega arith) high) refl,
+      (
+        two,
+        open_byte one (begun (One a)) (begun (Two a b)) b refl next refl,
+        (
+          three,
+          open_byte two (begun (Two a b)) (begun (Three a b d)) d refl longer refl,
+          (new, whole_byte three new (begun (Three a b d)) e (typed c) refl last gives, (refl, refl, refl)),
+        ),
+      ),
+    )
 
 pub character_puts : (old new : Standing) (bs : List ℕ) (c size : ℕ) → IsCharacterOf bs c size → old.state ≡ Ground → Gives old new (typed c) → PutsAll old new (take size bs)
 character_puts old new bs x size is ground gives =

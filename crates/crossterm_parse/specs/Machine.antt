@@ -44,11 +44,6 @@ grown escaped (One a) b = if is_continuing b && nat_lt 0 (further_after a) then 
 grown escaped (Two a b) c = if is_continuing c && nat_lt 1 (further_after a) then More (Three a b c) else over escaped (decoded (a ∷ b ∷ c ∷ [])).char
 grown escaped (Three a b c) d = over escaped (decoded (a ∷ b ∷ c ∷ d ∷ [])).char
 
--- whether the character is over with that byte
-abbrev pub is_over : Grown → Bool
-is_over (More begun) = false
-is_over (Over meaning) = true
-
 abbrev pub step_of : Bool → Grown → Step
 step_of escaped (More begun) = Open (Utf8 (record { escaped = escaped; begun = begun }))
 step_of escaped (Over meaning) = Whole meaning

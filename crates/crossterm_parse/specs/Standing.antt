@@ -1,5 +1,5 @@
 -- What a parser stands for.
-use Rattle.std.specs.Prelude.{◌≡◌, ◌≤◌, Bool, ℕ, ◌+◌, ◌-◌, ◌*◌, length, sum, if◌then◌else◌, drop, List, ◌++◌, ◌∷◌, [], false}
+use Rattle.std.specs.Prelude.{◌≡◌, ◌≤◌, ◌<◌, Bool, true, ℕ, ◌+◌, ◌-◌, ◌*◌, length, sum, if◌then◌else◌, drop, List, ◌++◌, ◌∷◌, [], false}
 use Rattle.std.specs.List.{filter_map, flat_map, AllByRecursion}
 use Rattle.crossterm_types.specs.Seen.{Seen}
 use Rattle.crossterm_parse.specs.Deciding.{begins}
@@ -41,6 +41,17 @@ PutsByte old new byte raw pause = (new.state ≡ state_left (state_after old.sta
 -- Nothing was taken and nothing lost; there may be more room.
 abbrev pub StaysAsItWas : Standing → Standing → Type 0
 StaysAsItWas old new = (new.waiting ≡ old.waiting) × (new.state ≡ old.state) × (new.text ≡ old.text) × (old.room ≤ new.room)
+
+-- What comes of one more byte, with the mode that it came in and whether a pause follows: the parser and the steps before and after, and
+-- whether the byte was taken, which it isn't where memory was refused.
+pub record Puts (old new : Standing) (byte : ℕ) (raw pause : Bool) (before after : ℕ) (taken : Bool) : Type 0 where
+  pub put : taken ≡ true → PutsByte old new byte raw pause
+  pub stays : taken ≡ false → StaysAsItWas old new
+  pub free : is_paste old.state ≡ false → events_left (state_after old.state byte raw pause) old.text ≡ [] → taken ≡ true
+  pub reserved : is_paste old.state ≡ false → 0 < old.room → taken ≡ true
+  pub room : old.room ≤ new.room + 1
+  pub steps : taken ≡ true → after + length new.text ≤ before + length old.text + 2
+  pub counted : before < after
 
 -- From the bytes before on, the parser took more bytes: the events not yet given grew by the meanings of the parts of the division, and it stands for the rest.
 pub record Advances (old new : Standing) (before taken : List Marked) : Type 0 where

@@ -1,5 +1,5 @@
 //! The parser: bytes are handed in as they come, and events are given as their sequences end.
-ghost use Rattle.std.specs.Prelude.{◌≡◌, ◌≢◌, ◌↔◌, ◌==◌, ◌&&◌, not, ◌+◌, ◌-◌, ◌*◌, ◌≤◌, ◌<◌, false, true, [], ◌∷◌, ◌++◌, Bool, List, length, map, take, option_to_list, None, IsOk, IsTrue, IfNone, IfSome, IfOk, IfErr, OnOk, OnErr};
+ghost use Rattle.std.specs.Prelude.{◌≡◌, ◌≢◌, ◌↔◌, ◌==◌, ◌&&◌, not, ◌+◌, ◌-◌, ◌*◌, ◌≤◌, ◌<◌, false, true, [], ◌∷◌, ◌++◌, Bool, List, length, map, take, option_to_list, None, IsOk, is_ok, IsTrue, IfNone, IfSome, IfOk, IfErr, OnOk, OnErr};
 ghost use Rattle.std.specs.List.{AllByRecursion};
 ghost use Rattle.std.specs.IoError.{error_kind};
 ghost use Rattle.std.specs.Option.{option_map};
@@ -12,7 +12,7 @@ ghost use Rattle.crossterm_types.specs.Seen.{seen};
 ghost use Rattle.crossterm_parse.specs.Machine.{text_of, meaning_with, state_after, text_left, events_left, is_paste};
 ghost use Rattle.crossterm_parse.specs.Meaning.{decoded_character, seen_meaning, pasted, typed};
 ghost use Rattle.crossterm_parse.specs.Marked.{Marked, marked};
-ghost use Rattle.crossterm_parse.specs.Standing.{Standing, Stands, StandsStill, AdvancesOver, PutsAll, PutsByte, StaysAsItWas, EndsNoEvent, OpensNoPaste, TakesSteps};
+ghost use Rattle.crossterm_parse.specs.Standing.{Standing, Stands, StandsStill, AdvancesOver, Puts, PutsByte, StaysAsItWas, EndsNoEvent, OpensNoPaste, TakesSteps};
 
 use crate::meaning::{Meaning, letter_key, typed_key};
 use crate::paste::{Met, PasteText};
@@ -214,13 +214,9 @@ impl<A: Allocator + Clone> Parser<A> {
 
     /// Puts a byte into an open paste.
     #[inline(never)]
-    fn put_in_paste<L: Ledger>(
-        &mut self,
-        byte: u8,
-        steps: &mut Steps<L>,
-    ) -> Result<(), AllocError>
+    fn put_in_paste<L: Ledger>(&mut self, byte: u8, steps: &mut Steps<L>) -> Result<(), AllocError>
         requires { is_paste self.old.state ≡ true }
-        ensures put { OnOk result ((raw : Bool) → PutsByte self.old self.new byte raw false) }
+        ensures put { IsOk result → (raw : Bool) → PutsByte self.old self.new byte raw false }
         ensures err { OnErr result (StaysAsItWas self.old self.new) }
         ensures room { self.old.room ≤ self.new.room + 1 }
         ensures steps { OnOk result (steps.new + length self.new.text ≤ steps.old + length self.old.text + 2) }
@@ -261,6 +257,7 @@ impl<A: Allocator + Clone> Parser<A> {
         Ok(())
     }
 
+    /// Puts in one more byte.
     #[inline(always)]
     fn put<L: Ledger>(
         &mut self,
@@ -269,13 +266,7 @@ impl<A: Allocator + Clone> Parser<A> {
         pause: bool,
         steps: &mut Steps<L>,
     ) -> Result<(), AllocError>
-        ensures put { OnOk result (PutsByte self.old self.new byte raw pause) }
-        ensures err { OnErr result (StaysAsItWas self.old self.new) }
-        ensures free { is_paste self.old.state ≡ false → events_left (state_after self.old.state byte raw pause) self.old.text ≡ [] → IsOk result }
-        ensures reserved { is_paste self.old.state ≡ false → 0 < self.old.room → IsOk result }
-        ensures room { self.old.room ≤ self.new.room + 1 }
-        ensures steps { OnOk result (steps.new + length self.new.text ≤ steps.old + length self.old.text + 2) }
-        ensures counted { steps.old < steps.new }
+        ensures { Puts self.old self.new byte raw pause steps.old steps.new (is_ok result) }
     {
         if self.state.is_paste() {
             return self.put_in_paste(byte, steps);

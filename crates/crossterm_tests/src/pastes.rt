@@ -5,7 +5,7 @@ ghost use Rattle.std.specs.Prelude.{◌≡◌, ◌<◌};
 use crate::refused::endless;
 use crossterm_parse::parse::Parser;
 use crossterm_parse::paste::PasteText;
-use crossterm_parse::state::{State, Step};
+use crossterm_parse::state::{Progress, State};
 use crossterm_parse::steps::Steps;
 use crossterm_read::read::{Call, Reply, Trace, play};
 use crossterm_read::source::Act;
@@ -119,11 +119,9 @@ fn copied<T: Copy>(value: &T) -> T {
 
 /// Whether ESC opens a sequence, from a copy of the ground state.
 fn opens<L: Ledger>(steps: &mut Steps<L>) -> bool {
-    let state = copied(&State::Ground);
-    matches!(
-        state.put(27, false, false, steps),
-        Step::Open(State::Escape)
-    )
+    let mut state = copied(&State::Ground);
+    let goes_on = matches!(state.put(27, false, steps), Progress::Open);
+    goes_on && matches!(state, State::Escape)
 }
 
 /// Whether a text is what was put in, without the five bytes of its end.

@@ -1,4 +1,5 @@
-//! Runs: bytes that are put in at once, with what comes of putting in each by itself. Where memory is refused a run takes fewer.
+//! Runs: bytes that are put in at once, with what comes of putting in each by itself. Where there is no room, and none can be made, a
+//! run takes fewer.
 ghost use Rattle.std.specs.Prelude.{◌≡◌, ◌+◌, ◌*◌, ◌≤◌, ◌<◌, [], length, take, IsTrue};
 ghost use Rattle.crossterm_parse.specs.Standing.{Gives, PutsAll};
 
@@ -62,7 +63,7 @@ impl<A: Allocator + Clone> Parser<A> {
         count
     }
 
-    /// Gives the event of the character in UTF-8 in front, and tells how many bytes it has: none where memory is refused.
+    /// Gives the event of the character in UTF-8 in front, where there is room for it, and tells how many bytes it has.
     #[inline(always)]
     fn give_utf8<L: Ledger>(&mut self, bytes: &[u8], steps: &mut Steps<L>) -> usize
         requires { self.old.state ≡ State.Ground }
@@ -73,7 +74,7 @@ impl<A: Allocator + Clone> Parser<A> {
         ensures room { self.old.room ≤ self.new.room + result }
         ensures steps { steps.new ≡ steps.old + result }
     {
-        if !self.has_room() {
+        if self.room() == 0 {
             return 0;
         }
         let Some((c, size)) = self.state.put_character(bytes, steps) else {

@@ -1,5 +1,5 @@
 use Rattle.std.proofs.lemmas.Bool.{false≢true}
-use Rattle.std.proofs.Common.{arith, refl}
+use Rattle.std.proofs.Common.{arith, ap, refl, sym, ◌∙◌, is_ok}
 use Rattle.crossterm_parse.proofs.StandingLaws.{advance_more, advance_none, byte_quiet, byte_free, takes_steps}
 use Rattle.crossterm_parse.proofs.RunLaws.{advance_rest, advance_still}
 use Rattle.crossterm_parse.proofs.parse.Parser.advance.Goals as goal
@@ -8,29 +8,33 @@ pub loop-place-init : goal.loop-place-init
 loop-place-init g c = record { within = omega arith; divided = advance_none c.args.self.now; room = omega arith; steps = omega arith; counted = omega arith }
 
 pub returns-in-Err-clause-divided : goal.returns-in-Err-clause-divided
-returns-in-Err-clause-divided g c = advance_still c.args.self.now c.run-place.new.self c.put.new.self _ (c.in-Err.ensures.err.1, c.in-Err.ensures.err.2, c.in-Err.ensures.err.0)
+returns-in-Err-clause-divided g c =
+    let stays = c.put.ensures.stays (ap is_ok c.in-Err.is) in
+    advance_still c.args.self.now c.run-place.new.self c.put.new.self _ (stays.1, stays.2, stays.0)
     (advance_rest c.run-place.result c.args.self.now c.loop-place.self c.run-place.new.self c.args.piece.now c.args.more c.args.raw c.loop-place.place (omega (arith, c.run-place.ensures.within)) c.run-place.ensures.puts c.loop-place.invariant.divided)
 
 pub returns-in-Err-clause-quiet : goal.returns-in-Err-clause-quiet
 returns-in-Err-clause-quiet g c quiet =
     let ran = advance_rest c.run-place.result c.args.self.now c.loop-place.self c.run-place.new.self c.args.piece.now c.args.more c.args.raw c.loop-place.place (omega (arith, c.run-place.ensures.within)) c.run-place.ensures.puts c.loop-place.invariant.divided in
     let none = byte_quiet c.args.self.now c.run-place.new.self c.args.piece.now c.args.more c.args.raw _ _ c.pauses-pause.result (omega arith) refl c.pauses-pause.ensures ran quiet in
-    absurd (false≢true (c.in-Err.ensures.free none.0 none.1))
+    absurd (false≢true (sym (ap is_ok c.in-Err.is) ∙ c.put.ensures.free none.0 none.1))
 
 pub returns-in-Err-clause-reserved : goal.returns-in-Err-clause-reserved
 returns-in-Err-clause-reserved g c room free =
     let ran = advance_rest c.run-place.result c.args.self.now c.loop-place.self c.run-place.new.self c.args.piece.now c.args.more c.args.raw c.loop-place.place (omega (arith, c.run-place.ensures.within)) c.run-place.ensures.puts c.loop-place.invariant.divided in
-    absurd (false≢true (c.in-Err.ensures.reserved (byte_free c.args.self.now c.run-place.new.self _ _ ran free) (omega arith)))
+    absurd (false≢true (sym (ap is_ok c.in-Err.is) ∙ c.put.ensures.reserved (byte_free c.args.self.now c.run-place.new.self _ _ ran free) (omega arith)))
 
 pub loop-place-preserved : goal.loop-place-preserved
 loop-place-preserved g c =
+    let taken = ap is_ok c.in-Ok.is in
+    let put = c.put.ensures.put taken in
     let ran = advance_rest c.run-place.result c.args.self.now c.loop-place.self c.run-place.new.self c.args.piece.now c.args.more c.args.raw c.loop-place.place (omega (arith, c.run-place.ensures.within)) c.run-place.ensures.puts c.loop-place.invariant.divided in
     record {
       within = omega arith;
       divided = advance_more c.args.self.now c.run-place.new.self c.put.new.self c.args.piece.now c.args.more c.args.raw _ _ _ (omega arith) refl c.pauses-pause.ensures
-          c.in-Ok.ensures.put.0 c.in-Ok.ensures.put.1 c.in-Ok.ensures.put.2 ran;
+          put.0 put.1 put.2 ran;
       room = omega (arith, c.run-place.ensures.room, c.put.ensures.room);
-      steps = omega (arith, c.in-Ok.ensures.steps, c.run-place.ensures.steps);
+      steps = omega (arith, c.put.ensures.steps taken, c.run-place.ensures.steps);
       counted = omega (arith, c.put.ensures.counted, c.run-place.ensures.counted);
     }
 

@@ -1,4 +1,4 @@
-use Rattle.std.proofs.Common.{ℕ, ◌∙◌, ◌+◌, ◌-◌, arith, subst, drop, take, length}
+use Rattle.std.proofs.Common.{ℕ, ◌∙◌, ◌-◌, arith, subst, drop, take, length}
 use Rattle.crossterm_parse.specs.Standing.{PutsAll}
 use Rattle.crossterm_parse.proofs.RunLaws.{puts_on, puts_still}
 use Rattle.crossterm_parse.proofs.parse.Parser.give_text.Goals as goal
