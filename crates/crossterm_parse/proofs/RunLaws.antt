@@ -16,8 +16,7 @@ use Rattle.crossterm_parse.specs.Standing.{Standing, Stands, kept_text, Advances
 use Rattle.crossterm_parse.specs.declared.paste.Met.TheVariants as met
 use Rattle.crossterm_parse.specs.declared.state.State.{State}
 use Rattle.crossterm_parse.specs.declared.state.State.TheVariants.{Ground, Escape, Ss3, Csi, Bracket, Coded, Sgr, Private, Reply, Numbered, Paste, Utf8}
-use Rattle.crossterm_parse.specs.declared.state.Step.{Step}
-use Rattle.crossterm_parse.specs.declared.state.Step.TheVariants.{Open, Whole}
+use Rattle.crossterm_parse.specs.Step.{Step, Open, Whole}
 use Rattle.crossterm_parse.specs.declared.character.Begun.{Begun}
 use Rattle.crossterm_parse.specs.declared.character.Begun.TheVariants.{One, Two, Three}
 use Rattle.crossterm_parse.specs.declared.meaning.Meaning.{Meaning}

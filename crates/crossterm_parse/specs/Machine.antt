@@ -16,8 +16,6 @@ use Rattle.crossterm_parse.specs.Utf8.{utf8_after, TracksUtf8}
 use Rattle.crossterm_parse.specs.declared.character.Begun.{Begun}
 use Rattle.crossterm_parse.specs.declared.character.Begun.TheVariants.{One, Two, Three}
 use Rattle.crossterm_parse.specs.declared.character.Character.{Character}
-use Rattle.crossterm_parse.specs.declared.character.Grown.{Grown}
-use Rattle.crossterm_parse.specs.declared.character.Grown.TheVariants.{More, Over}
 use Rattle.crossterm_parse.specs.declared.meaning.Meaning.{Meaning}
 use Rattle.crossterm_parse.specs.declared.meaning.Meaning.TheVariants.{PrimaryDeviceAttributes}
 use Rattle.crossterm_parse.specs.declared.mouse.Codes.{Codes}
@@ -29,10 +27,9 @@ use Rattle.crossterm_parse.specs.declared.paste.Opening.{Opening}
 use Rattle.crossterm_parse.specs.declared.paste.Opening.TheVariants as opening
 use Rattle.crossterm_parse.specs.declared.state.State.{State}
 use Rattle.crossterm_parse.specs.declared.state.State.TheVariants.{Ground, Escape, Ss3, Csi, Bracket, Coded, Sgr, Private, Reply, Numbered, Paste, Utf8}
-use Rattle.crossterm_parse.specs.declared.state.Step.{Step}
 use Rattle.crossterm_parse.specs.declared.utf8.Validity.{Validity}
 use Rattle.crossterm_parse.specs.declared.utf8.Validity.TheVariants.{Sound, Partial, Broken}
-use Rattle.crossterm_parse.specs.declared.state.Step.TheVariants.{Open, Whole, Closed}
+use Rattle.crossterm_parse.specs.Step.{Step, Open, Whole, Closed, Grown, More, Over}
 
 -- what a character means that is over, or broken off
 abbrev pub over : Bool → Option ℕ → Grown

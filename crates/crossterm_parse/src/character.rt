@@ -3,6 +3,7 @@ ghost use Rattle.std.specs.Prelude.{◌≡◌, ◌∷◌, [], ◌++◌, false, I
 ghost use Rattle.bstr.specs.Utf8.{decoded};
 ghost use Rattle.crossterm_parse.specs.Characters.{begun_bytes};
 ghost use Rattle.crossterm_parse.specs.Deciding.{is_lead, is_continuing, further_after};
+ghost use Rattle.crossterm_parse.specs.Step.{More};
 ghost use Rattle.crossterm_parse.specs.Machine.{character_meaning, grown, over};
 
 use crate::meaning::{Meaning, plus_alt, typed_character};
@@ -22,13 +23,6 @@ pub enum Begun {
     One(u8),
     Two(u8, u8),
     Three(u8, u8, u8),
-}
-
-/// What one more byte does to a character.
-#[derive(Clone, Copy)]
-pub enum Grown {
-    More(Begun),
-    Over(Option<Meaning>),
 }
 
 /// Whether the byte leads a character.
@@ -87,7 +81,7 @@ impl Character {
 
     /// Takes one more byte, where the character goes on with it, and tells whether it does.
     pub fn put(&mut self, byte: u8) -> bool
-        ensures yes { IsTrue result → grown self.old.escaped self.old.begun byte ≡ Grown.More self.new.begun }
+        ensures yes { IsTrue result → grown self.old.escaped self.old.begun byte ≡ More self.new.begun }
         ensures escaped { self.new.escaped ≡ self.old.escaped }
         ensures no { IsFalse result → grown self.old.escaped self.old.begun byte ≡ over self.old.escaped (decoded (begun_bytes self.old.begun ++ byte ∷ [])).char }
         ensures same { IsFalse result → self.new ≡ self.old }

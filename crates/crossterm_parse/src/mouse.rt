@@ -4,7 +4,7 @@ ghost use Rattle.crossterm_types.specs.Keys.{modifiers_of};
 ghost use Rattle.crossterm_parse.specs.Mouse.{button_of, pressed_button, dragged_button, mouse_kind, mouse_modifiers, mouse_event, mouse_report, less, let_go, released};
 ghost use Rattle.crossterm_parse.specs.Machine.{coded_after, codes_meaning};
 ghost use Rattle.crossterm_parse.specs.declared.state.State.TheVariants.{Coded};
-ghost use Rattle.crossterm_parse.specs.declared.state.Step.TheVariants.{Open, Whole};
+ghost use Rattle.crossterm_parse.specs.Step.{Open, Whole};
 
 use crate::meaning::{Meaning, meaning_of_codes};
 use crate::modifier_field::value_of_bit;

@@ -6,7 +6,7 @@ ghost use Rattle.std.specs.String.{string_bytes};
 ghost use Rattle.bstr.specs.Utf8.{lossy_chars};
 ghost use Rattle.crossterm_parse.specs.Machine.{JoinsBeforeEscape, opens_with, opens_after, met_after};
 ghost use Rattle.crossterm_parse.specs.declared.state.State.TheVariants.{Paste};
-ghost use Rattle.crossterm_parse.specs.declared.state.Step.TheVariants.{Open, Closed};
+ghost use Rattle.crossterm_parse.specs.Step.{Open, Closed};
 
 use crate::steps::Steps;
 use memchr::memchr;

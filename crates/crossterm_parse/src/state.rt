@@ -2,6 +2,7 @@
 ghost use Rattle.std.specs.Prelude.{◌≡◌, ◌≢◌, ◌+◌, ◌≤◌, Bool, true, false, length, take, IfNone, IfSome, IsTrue, IsFalse};
 ghost use Rattle.std.specs.List.{AllByRecursion};
 ghost use Rattle.crossterm_parse.specs.Machine.{IsCharacterOf, IsLetter, Opens, is_paste, meaning_with, state_after};
+ghost use Rattle.crossterm_parse.specs.Step.{Open, Whole, Closed};
 ghost use Rattle.crossterm_parse.specs.Deciding.{is_final, is_mouse_end};
 ghost use Rattle.crossterm_parse.specs.declared.paste.Opening.{Opening};
 ghost use Rattle.crossterm_parse.specs.declared.numbered.Digits.{Digits};
@@ -48,17 +49,6 @@ pub enum State {
     Utf8(Character),
 }
 
-/// What one byte does.
-#[derive(Clone, Copy)]
-pub enum Step {
-    /// The sequence goes on.
-    Open(State),
-    /// The sequence is whole, and means this.
-    Whole(Option<Meaning>),
-    /// The paste is over.
-    Closed,
-}
-
 /// What came of one more byte.
 #[derive(Clone, Copy)]
 pub enum Progress {
@@ -94,7 +84,7 @@ fn letters_in(bytes: &[u8]) -> usize
 /// Reads a byte with which a numbered sequence goes on, and tells whether it does.
 #[inline(always)]
 fn read_number(digits: &mut Digits, opening: &mut Opening, byte: u8) -> bool
-    ensures yes { IsTrue result → (raw pause : Bool) → state_after (State.Numbered digits.old opening.old) byte raw pause ≡ Step.Open (State.Numbered digits.new opening.new) }
+    ensures yes { IsTrue result → (raw pause : Bool) → state_after (State.Numbered digits.old opening.old) byte raw pause ≡ Open (State.Numbered digits.new opening.new) }
     ensures no { IsFalse result → is_final byte ≡ true }
     ensures same { IsFalse result → (digits.new ≡ digits.old) × (opening.new ≡ opening.old) }
 {
@@ -111,7 +101,7 @@ fn read_number(digits: &mut Digits, opening: &mut Opening, byte: u8) -> bool
 /// Reads a byte with which a report of the mouse goes on, and tells whether it does.
 #[inline(always)]
 fn read_report(digits: &mut Digits, byte: u8) -> bool
-    ensures yes { IsTrue result → (raw pause : Bool) → state_after (State.Sgr digits.old) byte raw pause ≡ Step.Open (State.Sgr digits.new) }
+    ensures yes { IsTrue result → (raw pause : Bool) → state_after (State.Sgr digits.old) byte raw pause ≡ Open (State.Sgr digits.new) }
     ensures no { IsFalse result → is_mouse_end byte ≡ true }
     ensures same { IsFalse result → digits.new ≡ digits.old }
 {
@@ -167,10 +157,10 @@ impl State {
     /// Takes one more byte. Where the sequence goes on the state has changed; where it ends, it hasn't yet.
     #[inline(always)]
     pub fn put<L: Ledger>(&mut self, byte: u8, pause: bool, steps: &mut Steps<L>) -> Progress
-        ensures open { result ≡ Progress.Open → (raw : Bool) → state_after self.old byte raw pause ≡ Step.Open self.new }
-        ensures whole { result ≡ Progress.Whole → (raw : Bool) → state_after self.old byte raw pause ≡ Step.Whole (meaning_with self.old byte raw) }
+        ensures open { result ≡ Progress.Open → (raw : Bool) → state_after self.old byte raw pause ≡ Open self.new }
+        ensures whole { result ≡ Progress.Whole → (raw : Bool) → state_after self.old byte raw pause ≡ Whole (meaning_with self.old byte raw) }
         ensures outside { result ≡ Progress.Whole → is_paste self.old ≡ false }
-        ensures closed { result ≡ Progress.Closed → (raw : Bool) → state_after self.old byte raw pause ≡ Step.Closed }
+        ensures closed { result ≡ Progress.Closed → (raw : Bool) → state_after self.old byte raw pause ≡ Closed }
         ensures same { result ≢ Progress.Open → self.new ≡ self.old }
         ensures paste { result ≡ Progress.Closed → is_paste self.old ≡ true }
         ensures steps { steps.new ≡ steps.old + 1 }
@@ -194,8 +184,8 @@ impl State {
     #[inline(always)]
     fn goes_on(&mut self, byte: u8, pause: bool) -> bool
         requires { is_paste self.old ≡ false }
-        ensures yes { IsTrue result → (raw : Bool) → state_after self.old byte raw pause ≡ Step.Open self.new }
-        ensures no { IsFalse result → (raw : Bool) → state_after self.old byte raw pause ≡ Step.Whole (meaning_with self.old byte raw) }
+        ensures yes { IsTrue result → (raw : Bool) → state_after self.old byte raw pause ≡ Open self.new }
+        ensures no { IsFalse result → (raw : Bool) → state_after self.old byte raw pause ≡ Whole (meaning_with self.old byte raw) }
         ensures same { IsFalse result → self.new ≡ self.old }
     {
         match self {
@@ -217,8 +207,8 @@ impl State {
     /// The first byte of a sequence.
     fn begin(&mut self, byte: u8, pause: bool) -> bool
         requires { self.old ≡ State.Ground }
-        ensures yes { IsTrue result → (raw : Bool) → state_after self.old byte raw pause ≡ Step.Open self.new }
-        ensures no { IsFalse result → (raw : Bool) → state_after self.old byte raw pause ≡ Step.Whole (meaning_with self.old byte raw) }
+        ensures yes { IsTrue result → (raw : Bool) → state_after self.old byte raw pause ≡ Open self.new }
+        ensures no { IsFalse result → (raw : Bool) → state_after self.old byte raw pause ≡ Whole (meaning_with self.old byte raw) }
         ensures same { IsFalse result → self.new ≡ self.old }
     {
         if byte == 27 {
@@ -241,8 +231,8 @@ impl State {
     /// A byte after ESC: a pause after it changes nothing.
     fn escape(&mut self, byte: u8) -> bool
         requires { self.old ≡ State.Escape }
-        ensures yes { IsTrue result → (raw pause : Bool) → state_after self.old byte raw pause ≡ Step.Open self.new }
-        ensures no { IsFalse result → (raw pause : Bool) → state_after self.old byte raw pause ≡ Step.Whole (meaning_with self.old byte raw) }
+        ensures yes { IsTrue result → (raw pause : Bool) → state_after self.old byte raw pause ≡ Open self.new }
+        ensures no { IsFalse result → (raw pause : Bool) → state_after self.old byte raw pause ≡ Whole (meaning_with self.old byte raw) }
         ensures same { IsFalse result → self.new ≡ self.old }
     {
         if byte == b'O' {
@@ -267,8 +257,8 @@ impl State {
     /// A byte after `ESC [`: the mode and a pause change nothing.
     fn introduce(&mut self, byte: u8) -> bool
         requires { self.old ≡ State.Csi }
-        ensures yes { IsTrue result → (raw pause : Bool) → state_after self.old byte raw pause ≡ Step.Open self.new }
-        ensures no { IsFalse result → (raw pause : Bool) → state_after self.old byte raw pause ≡ Step.Whole (meaning_with self.old byte raw) }
+        ensures yes { IsTrue result → (raw pause : Bool) → state_after self.old byte raw pause ≡ Open self.new }
+        ensures no { IsFalse result → (raw pause : Bool) → state_after self.old byte raw pause ≡ Whole (meaning_with self.old byte raw) }
         ensures same { IsFalse result → self.new ≡ self.old }
     {
         match byte {
@@ -287,8 +277,8 @@ impl State {
     /// A byte after `ESC [ ?`.
     fn reply(&mut self, byte: u8) -> bool
         requires { self.old ≡ State.Private }
-        ensures yes { IsTrue result → (raw pause : Bool) → state_after self.old byte raw pause ≡ Step.Open self.new }
-        ensures no { IsFalse result → (raw pause : Bool) → state_after self.old byte raw pause ≡ Step.Whole (meaning_with self.old byte raw) }
+        ensures yes { IsTrue result → (raw pause : Bool) → state_after self.old byte raw pause ≡ Open self.new }
+        ensures no { IsFalse result → (raw pause : Bool) → state_after self.old byte raw pause ≡ Whole (meaning_with self.old byte raw) }
         ensures same { IsFalse result → self.new ≡ self.old }
     {
         if byte == b'c' {
@@ -302,8 +292,8 @@ impl State {
     #[inline(always)]
     fn open_paste(&mut self, byte: u8) -> bool
         requires { (digits : Digits) × (opening : Opening) × (self.old ≡ State.Numbered digits opening) × (is_final byte ≡ true) }
-        ensures yes { IsTrue result → (raw pause : Bool) → state_after self.old byte raw pause ≡ Step.Open self.new }
-        ensures no { IsFalse result → (raw pause : Bool) → state_after self.old byte raw pause ≡ Step.Whole (meaning_with self.old byte raw) }
+        ensures yes { IsTrue result → (raw pause : Bool) → state_after self.old byte raw pause ≡ Open self.new }
+        ensures no { IsFalse result → (raw pause : Bool) → state_after self.old byte raw pause ≡ Whole (meaning_with self.old byte raw) }
         ensures same { IsFalse result → self.new ≡ self.old }
     {
         if byte == b'~' && matches!(self, State::Numbered(_, Opening::Zeros)) {
