@@ -7,5 +7,6 @@ pub mod Letters
 pub mod MachineLaws
 pub mod NumberLaws
 pub mod PasteLaws
+pub mod RunLaws
 pub mod StandingLaws
 pub mod Utf8Laws

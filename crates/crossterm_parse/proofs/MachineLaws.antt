@@ -7,7 +7,6 @@ use Rattle.std.proofs.lemmas.Bool.Decides.{nat_tests}
 use Rattle.bstr.specs.Utf8.{decoded}
 use Rattle.crossterm_parse.specs.declared.character.Begun.{Begun}
 use Rattle.crossterm_parse.specs.declared.character.Begun.TheVariants.{One, Two, Three}
-use Rattle.crossterm_parse.specs.declared.character.Grown.{Grown}
 use Rattle.crossterm_parse.specs.declared.meaning.Meaning.TheVariants.{PrimaryDeviceAttributes}
 use Rattle.crossterm_parse.specs.declared.mouse.Codes.{Codes}
 use Rattle.crossterm_parse.specs.declared.mouse.Codes.TheVariants as codes
@@ -18,8 +17,7 @@ use Rattle.crossterm_parse.specs.declared.paste.Opening.{Opening}
 use Rattle.crossterm_parse.specs.declared.paste.Opening.TheVariants as opening
 use Rattle.crossterm_parse.specs.declared.state.State.{State}
 use Rattle.crossterm_parse.specs.declared.state.State.TheVariants.{Ground, Escape, Ss3, Csi, Bracket, Coded, Sgr, Private, Reply, Numbered, Paste, Utf8}
-use Rattle.crossterm_parse.specs.declared.state.Step.{Step}
-use Rattle.crossterm_parse.specs.declared.state.Step.TheVariants.{Open, Whole, Closed}
+use Rattle.crossterm_parse.specs.Step.{Step, Open, Whole, Closed, Grown}
 use Rattle.crossterm_parse.specs.Characters.{begun_bytes}
 use Rattle.crossterm_parse.specs.Deciding.{begins, ends_paste, ends_digit, is_digit, is_final, is_reply_end, is_mouse_end, ends_reply, is_lead, is_continuing, further_after, ends_character, is_decided}
 use Rattle.crossterm_parse.specs.Fields.{cut}

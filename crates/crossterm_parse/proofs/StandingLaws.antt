@@ -24,8 +24,7 @@ use Rattle.crossterm_parse.specs.declared.paste.Opening.{Opening}
 use Rattle.crossterm_parse.specs.declared.paste.Opening.TheVariants as opening
 use Rattle.crossterm_parse.specs.declared.state.State.{State}
 use Rattle.crossterm_parse.specs.declared.state.State.TheVariants.{Ground, Escape, Ss3, Csi, Bracket, Coded, Sgr, Private, Reply, Numbered, Paste, Utf8}
-use Rattle.crossterm_parse.specs.declared.state.Step.{Step}
-use Rattle.crossterm_parse.specs.declared.state.Step.TheVariants.{Open, Whole, Closed}
+use Rattle.crossterm_parse.specs.Step.{Step, Open, Whole, Closed}
 use Rattle.crossterm_parse.proofs.DivisionLaws.{divide_join, divide_whole, divide_open, some_division, one_division, two_fronts, not_front}
 use Rattle.crossterm_parse.proofs.PasteLaws.{third_apart, begins_start, begins_is, begins_from}
 use Rattle.crossterm_parse.proofs.GrammarLaws.{bytes_of-append, bytes_of_nil, whole_true, true_whole, nil_not_whole, whole_closes, whole_or_not}

@@ -71,12 +71,12 @@ not_lead b more a h = go (nat_lt b 0xC2) refl (nat_lt 0xF4 b) refl where
   go false s false l = absurd (false≢true (sym h ∙ (let x : nat_le 0xC2 b ≡ true = grind (arith, nat_tests) in let y : nat_le b 0xF4 ≡ true = grind (arith, nat_tests) in rw (x, y) refl)))
 
 -- a byte that leads one
-record Leads (a : ℕ) : Type 0 where
-  ascii : nat_lt a 0x80 ≡ false
-  low : nat_lt a 0xC2 ≡ false
-  high : nat_lt 0xF4 a ≡ false
+pub record Leads (a : ℕ) : Type 0 where
+  pub ascii : nat_lt a 0x80 ≡ false
+  pub low : nat_lt a 0xC2 ≡ false
+  pub high : nat_lt 0xF4 a ≡ false
 
-leads : (a : ℕ) → 0xC2 ≤ a → a ≤ 0xF4 → Leads a
+pub leads : (a : ℕ) → 0xC2 ≤ a → a ≤ 0xF4 → Leads a
 leads a l h = record { ascii = grind (arith, nat_tests); low = grind (arith, nat_tests); high = grind (arith, nat_tests) }
 
 one_alone : (a : ℕ) → Leads a → (decoded (a ∷ [])).char ≡ None
@@ -99,13 +99,13 @@ not_fourth : (a b c d : ℕ) (more : List ℕ) → Leads a → second a b ≡ tr
 not_fourth a b c d more l s t k u m =
     rw (some_bytes (suc (suc (suc (length more)))), l.ascii, l.low, l.high, two_bytes (suc (suc (length more))), s, t, three_bytes (suc (length more)), k, u, four_bytes (length more), m) refl
 
-two_whole : (a b : ℕ) → Leads a → second a b ≡ true → nat_lt a 0xE0 ≡ true → Reads (a ∷ b ∷ []) (code_of_2 a b) 2
+pub two_whole : (a b : ℕ) → Leads a → second a b ≡ true → nat_lt a 0xE0 ≡ true → Reads (a ∷ b ∷ []) (code_of_2 a b) 2
 two_whole a b l s t = rw (l.ascii, l.low, l.high, s, t) (refl, refl)
 
-three_whole : (a b c : ℕ) → Leads a → second a b ≡ true → nat_lt a 0xE0 ≡ false → continues c ≡ true → nat_lt a 0xF0 ≡ true → Reads (a ∷ b ∷ c ∷ []) (code_of_3 a b c) 3
+pub three_whole : (a b c : ℕ) → Leads a → second a b ≡ true → nat_lt a 0xE0 ≡ false → continues c ≡ true → nat_lt a 0xF0 ≡ true → Reads (a ∷ b ∷ c ∷ []) (code_of_3 a b c) 3
 three_whole a b c l s t k u = rw (l.ascii, l.low, l.high, s, t, k, u) (refl, refl)
 
-four_whole : (a b c d : ℕ) → Leads a → second a b ≡ true → nat_lt a 0xE0 ≡ false → continues c ≡ true → nat_lt a 0xF0 ≡ false → continues d ≡ true
+pub four_whole : (a b c d : ℕ) → Leads a → second a b ≡ true → nat_lt a 0xE0 ≡ false → continues c ≡ true → nat_lt a 0xF0 ≡ false → continues d ≡ true
     → Reads (a ∷ b ∷ c ∷ d ∷ []) (code_of_4 a b c d) 4
 four_whole a b c d l s t k u m = rw (l.ascii, l.low, l.high, s, t, k, u, m) (refl, refl)
 

@@ -35,8 +35,12 @@ part_number k j text = option_and_then (λ field. option_and_then number (nth j 
 abbrev pub empty_field : Field
 empty_field = record { first = Empty; second = Empty; part = part.First }
 
+-- three fields, of which the first part of the first one is read
+abbrev pub fields_of : Number → Fields
+fields_of first = record { first = record { first = first; second = Empty; part = part.First }; second = empty_field; third = Empty; place = place.First }
+
 abbrev pub empty_fields : Fields
-empty_fields = record { first = empty_field; second = empty_field; third = Empty; place = place.First }
+empty_fields = fields_of Empty
 
 -- one more byte in a field
 abbrev pub parts_at : Part → Field → ℕ → Field

@@ -11,4 +11,5 @@ pub mod Mouse
 pub mod Number
 pub mod Numbered
 pub mod Standing
+pub mod Step
 pub mod Utf8

@@ -1,5 +1,5 @@
 -- The state of an open sequence.
-use Rattle.std.specs.Prelude.{◌≡◌, ℕ, ◌-◌, length, take, ◌++◌, ◌==◌, if◌then◌else◌, Bool, true, false, List, [], ◌∷◌, Some, option_to_list, nat_lt, ◌<◌, ◌&&◌, Option, None}
+use Rattle.std.specs.Prelude.{◌≡◌, ℕ, ◌-◌, length, take, ◌++◌, ◌==◌, if◌then◌else◌, Bool, true, false, List, [], ◌∷◌, Some, option_to_list, nat_lt, ◌<◌, ◌≤◌, ◌&&◌, Option, None}
 use Rattle.std.specs.List.{AllByRecursion}
 use Rattle.std.specs.Option.{option_map}
 use Rattle.bstr.specs.Utf8.{decoded}
@@ -15,8 +15,8 @@ use Rattle.crossterm_parse.specs.Numbered.{Readings, numbered_by, sgr_by, coded_
 use Rattle.crossterm_parse.specs.Utf8.{utf8_after, TracksUtf8}
 use Rattle.crossterm_parse.specs.declared.character.Begun.{Begun}
 use Rattle.crossterm_parse.specs.declared.character.Begun.TheVariants.{One, Two, Three}
-use Rattle.crossterm_parse.specs.declared.character.Grown.{Grown}
-use Rattle.crossterm_parse.specs.declared.character.Grown.TheVariants.{More, Over}
+use Rattle.crossterm_parse.specs.declared.character.Character.{Character}
+use Rattle.crossterm_parse.specs.declared.meaning.Meaning.{Meaning}
 use Rattle.crossterm_parse.specs.declared.meaning.Meaning.TheVariants.{PrimaryDeviceAttributes}
 use Rattle.crossterm_parse.specs.declared.mouse.Codes.{Codes}
 use Rattle.crossterm_parse.specs.declared.mouse.Codes.TheVariants as codes
@@ -27,10 +27,9 @@ use Rattle.crossterm_parse.specs.declared.paste.Opening.{Opening}
 use Rattle.crossterm_parse.specs.declared.paste.Opening.TheVariants as opening
 use Rattle.crossterm_parse.specs.declared.state.State.{State}
 use Rattle.crossterm_parse.specs.declared.state.State.TheVariants.{Ground, Escape, Ss3, Csi, Bracket, Coded, Sgr, Private, Reply, Numbered, Paste, Utf8}
-use Rattle.crossterm_parse.specs.declared.state.Step.{Step}
 use Rattle.crossterm_parse.specs.declared.utf8.Validity.{Validity}
 use Rattle.crossterm_parse.specs.declared.utf8.Validity.TheVariants.{Sound, Partial, Broken}
-use Rattle.crossterm_parse.specs.declared.state.Step.TheVariants.{Open, Whole, Closed}
+use Rattle.crossterm_parse.specs.Step.{Step, Open, Whole, Closed, Grown, More, Over}
 
 -- what a character means that is over, or broken off
 abbrev pub over : Bool → Option ℕ → Grown
@@ -41,11 +40,6 @@ abbrev pub grown : Bool → Begun → ℕ → Grown
 grown escaped (One a) b = if is_continuing b && nat_lt 0 (further_after a) then More (Two a b) else over escaped (decoded (a ∷ b ∷ [])).char
 grown escaped (Two a b) c = if is_continuing c && nat_lt 1 (further_after a) then More (Three a b c) else over escaped (decoded (a ∷ b ∷ c ∷ [])).char
 grown escaped (Three a b c) d = over escaped (decoded (a ∷ b ∷ c ∷ d ∷ [])).char
-
--- whether the character is over with that byte
-abbrev pub is_over : Grown → Bool
-is_over (More begun) = false
-is_over (Over meaning) = true
 
 abbrev pub step_of : Bool → Grown → Step
 step_of escaped (More begun) = Open (Utf8 (record { escaped = escaped; begun = begun }))
@@ -155,6 +149,31 @@ state_after (Numbered d o) b raw pause = if is_final b then number_ends o d raw 
 state_after (Paste m) b raw pause = met_after m b
 state_after (Utf8 c) b raw pause = step_of c.escaped (grown c.escaped c.begun b)
 
+-- what the three bytes after `ESC [ M` mean, with the last one
+abbrev pub codes_meaning : Codes → ℕ → Option Meaning
+codes_meaning codes.Empty b = None
+codes_meaning (codes.Code a) b = None
+codes_meaning (codes.Column a b) c = coded_by a b c
+
+-- what a character means that is over with that byte
+abbrev pub character_meaning : Character → ℕ → Option Meaning
+character_meaning c b = if c.escaped then with_alt (decoded_character (decoded (begun_bytes c.begun ++ b ∷ [])).char) else decoded_character (decoded (begun_bytes c.begun ++ b ∷ [])).char
+
+-- what a sequence means that is whole with that byte
+abbrev pub meaning_with : State → ℕ → Bool → Option Meaning
+meaning_with Ground b raw = if b == 27 then Some (pressed_with Esc 0) else single raw b
+meaning_with Escape b raw = if b == 27 then Some (pressed_with Esc 0) else with_alt (single raw b)
+meaning_with Ss3 b raw = after_ss3 b
+meaning_with Csi b raw = after_csi b
+meaning_with Bracket b raw = after_bracket b
+meaning_with (Coded c) b raw = codes_meaning c b
+meaning_with (Sgr d) b raw = sgr_by b (readings_at d)
+meaning_with Private b raw = Some PrimaryDeviceAttributes
+meaning_with (Reply first) b raw = if b == 117 then Some (flags_reply first) else Some PrimaryDeviceAttributes
+meaning_with (Numbered d o) b raw = numbered_by raw b (readings_at d)
+meaning_with (Paste m) b raw = None
+meaning_with (Utf8 c) b raw = character_meaning c b
+
 -- the state that a byte leaves, the text of a paste, and the events that it gives
 abbrev pub state_left : Step → State
 state_left (Open state) = state
@@ -255,3 +274,25 @@ abbrev pub IsRight : Step → List ℕ → Bool → Bool → Type 0
 IsRight (Open state) bytes raw pause = (is_decided bytes pause ≡ false) × StandsFor state bytes
 IsRight (Whole event) bytes raw pause = (is_decided bytes pause ≡ true) × (event ≡ meaning raw bytes) × (begins paste_start bytes ≡ false)
 IsRight Closed bytes raw pause = (is_decided bytes pause ≡ true) × (begins paste_start bytes ≡ true)
+
+-- Outside of a paste the sequence goes on with each of these bytes, whatever the mode and the pauses.
+abbrev pub Opens : State → State → List ℕ → Type 0
+Opens old new [] = new ≡ old
+Opens old new (b ∷ bs) = (mid : State) × ((raw pause : Bool) → state_after old b raw pause ≡ Open mid) × (is_paste mid ≡ false) × Opens mid new bs
+
+-- a letter, a digit, a sign or a blank of ASCII
+abbrev pub IsLetter : ℕ → Type 0
+IsLetter b = (32 ≤ b) × (b < 127)
+
+-- The bytes begin with this character, which has so many of them, two or more.
+pub record IsCharacterOf (bytes : List ℕ) (c size : ℕ) : Type 0 where
+  pub char : (decoded bytes).char ≡ Some c
+  pub sized : (decoded bytes).size ≡ size
+  pub long : 1 < size
+  pub within : size ≤ length bytes
+
+-- A text with the bytes in front, before the next ESC, at its end.
+pub record JoinsBeforeEscape (old new bytes : List ℕ) (count : ℕ) : Type 0 where
+  pub within : count ≤ length bytes
+  pub none : AllByRecursion (λ b. b == 27 ≡ false) (take count bytes)
+  pub joined : new ≡ old ++ take count bytes

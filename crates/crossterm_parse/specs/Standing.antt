@@ -1,5 +1,5 @@
 -- What a parser stands for.
-use Rattle.std.specs.Prelude.{◌≡◌, ◌≤◌, Bool, ℕ, ◌+◌, ◌-◌, ◌*◌, length, sum, if◌then◌else◌, drop, List, ◌++◌, ◌∷◌, [], false}
+use Rattle.std.specs.Prelude.{◌≡◌, ◌≤◌, ◌<◌, Bool, true, ℕ, ◌+◌, ◌-◌, ◌*◌, length, sum, if◌then◌else◌, drop, List, ◌++◌, ◌∷◌, [], false}
 use Rattle.std.specs.List.{filter_map, flat_map, AllByRecursion}
 use Rattle.crossterm_types.specs.Seen.{Seen}
 use Rattle.crossterm_parse.specs.Deciding.{begins}
@@ -7,8 +7,10 @@ use Rattle.crossterm_parse.specs.Division.{Divides, IsUndecided}
 use Rattle.crossterm_parse.specs.Grammar.{Whole, paste_start}
 use Rattle.crossterm_parse.specs.Machine.{StandsFor, events_left, is_paste, state_after, state_left, text_left}
 use Rattle.crossterm_parse.specs.Marked.{Marked, bytes_of}
-use Rattle.crossterm_parse.specs.Meaning.{meaning_of}
+use Rattle.crossterm_parse.specs.Meaning.{meaning_of, seen_meaning}
+use Rattle.crossterm_parse.specs.declared.meaning.Meaning.{Meaning}
 use Rattle.crossterm_parse.specs.declared.state.State.{State}
+use Rattle.crossterm_parse.specs.declared.state.State.TheVariants.{Ground}
 
 -- A parser as its callers see it: the events not yet given, the state of the sequence that is open, the text of an open paste, and how many
 -- events it takes without memory.
@@ -39,6 +41,17 @@ PutsByte old new byte raw pause = (new.state ≡ state_left (state_after old.sta
 -- Nothing was taken and nothing lost; there may be more room.
 abbrev pub StaysAsItWas : Standing → Standing → Type 0
 StaysAsItWas old new = (new.waiting ≡ old.waiting) × (new.state ≡ old.state) × (new.text ≡ old.text) × (old.room ≤ new.room)
+
+-- What comes of one more byte, with the mode that it came in and whether a pause follows: the parser and the steps before and after, and
+-- whether the byte was taken, which it isn't where memory was refused.
+pub record Puts (old new : Standing) (byte : ℕ) (raw pause : Bool) (before after : ℕ) (taken : Bool) : Type 0 where
+  pub put : taken ≡ true → PutsByte old new byte raw pause
+  pub stays : taken ≡ false → StaysAsItWas old new
+  pub free : is_paste old.state ≡ false → events_left (state_after old.state byte raw pause) old.text ≡ [] → taken ≡ true
+  pub reserved : is_paste old.state ≡ false → 0 < old.room → taken ≡ true
+  pub room : old.room ≤ new.room + 1
+  pub steps : taken ≡ true → after + length new.text ≤ before + length old.text + 2
+  pub counted : before < after
 
 -- From the bytes before on, the parser took more bytes: the events not yet given grew by the meanings of the parts of the division, and it stands for the rest.
 pub record Advances (old new : Standing) (before taken : List Marked) : Type 0 where
@@ -108,3 +121,12 @@ CountsThrough s (n ∷ ns) t = (m : ℕ) × (s + n ≤ m) × CountsThrough m ns 
 -- Over any list of calls the steps are at least the bytes taken.
 abbrev pub AStepAByte : Type 0
 AStepAByte = (s t : ℕ) (taken : List ℕ) → CountsThrough s taken t → s + sum taken ≤ t
+
+-- The bytes were put in one after another, each with the step that follows from the state, whatever the mode and the pauses.
+abbrev pub PutsAll : Standing → Standing → List ℕ → Type 0
+PutsAll old new [] = (new.state ≡ old.state) × (new.text ≡ old.text) × (new.waiting ≡ old.waiting)
+PutsAll old new (b ∷ bs) = (mid : Standing) × ((raw pause : Bool) → PutsByte old mid b raw pause) × PutsAll mid new bs
+
+-- An event was given, and the parser is in the ground state.
+abbrev pub Gives : Standing → Standing → Meaning → Type 0
+Gives old new m = (new.state ≡ Ground) × (new.text ≡ old.text) × (new.waiting ≡ old.waiting ++ seen_meaning m ∷ [])

@@ -1,11 +1,12 @@
 //! A character in UTF-8 that is open.
-ghost use Rattle.std.specs.Prelude.{◌≡◌, ◌∷◌, [], ◌++◌, not, IsTrue, IsFalse};
+ghost use Rattle.std.specs.Prelude.{◌≡◌, ◌∷◌, [], ◌++◌, false, IsTrue, IsFalse};
 ghost use Rattle.bstr.specs.Utf8.{decoded};
 ghost use Rattle.crossterm_parse.specs.Characters.{begun_bytes};
 ghost use Rattle.crossterm_parse.specs.Deciding.{is_lead, is_continuing, further_after};
-ghost use Rattle.crossterm_parse.specs.Machine.{grown, is_over, over};
+ghost use Rattle.crossterm_parse.specs.Step.{More};
+ghost use Rattle.crossterm_parse.specs.Machine.{character_meaning, grown, over};
 
-use crate::meaning::{Meaning, meaning_of_character, plus_alt};
+use crate::meaning::{Meaning, plus_alt, typed_character};
 use bstr::decode_utf8;
 
 /// The bytes of a character so far.
@@ -22,13 +23,6 @@ pub enum Begun {
     One(u8),
     Two(u8, u8),
     Three(u8, u8, u8),
-}
-
-/// What one more byte does to a character.
-#[derive(Clone, Copy)]
-pub enum Grown {
-    More(Begun),
-    Over(Option<Meaning>),
 }
 
 /// Whether the byte leads a character.
@@ -70,61 +64,27 @@ impl Begun {
 }
 
 impl Character {
-    fn over(self, bytes: &[u8]) -> Grown
-        ensures { result ≡ over self.escaped (decoded bytes.now).char }
+    /// What the character means that is over with the byte.
+    pub fn meaning(&self, byte: u8) -> Option<Meaning>
+        ensures { result ≡ character_meaning self.now byte }
     {
-        let meaning = meaning_of_character(bytes);
-        Grown::Over(if self.escaped {
+        let meaning = match self.begun.character_with(byte) {
+            Some(c) => Some(typed_character(c)),
+            None => None,
+        };
+        if self.escaped {
             plus_alt(meaning)
         } else {
             meaning
-        })
-    }
-
-    /// The bytes with one more, or what they mean where the character is over.
-    pub fn next(self, byte: u8) -> Grown
-        ensures { result ≡ grown self.escaped self.begun byte }
-    {
-        match self.begun {
-            Begun::One(lead) => {
-                if is_continuing_byte(byte) && further_bytes(lead) > 0 {
-                    Grown::More(Begun::Two(lead, byte))
-                } else {
-                    self.over(&[lead, byte])
-                }
-            }
-            Begun::Two(lead, second) => {
-                if is_continuing_byte(byte) && further_bytes(lead) > 1 {
-                    Grown::More(Begun::Three(lead, second, byte))
-                } else {
-                    self.over(&[lead, second, byte])
-                }
-            }
-            Begun::Three(lead, second, third) => self.over(&[lead, second, third, byte]),
         }
     }
 
-    /// Whether the character is over with one more byte.
-    pub fn ends(&self, byte: u8) -> bool
-        ensures tells { result ≡ is_over (grown self.now.escaped self.now.begun byte) }
-        ensures character { IsTrue result → grown self.now.escaped self.now.begun byte ≡ over self.now.escaped (decoded (begun_bytes self.now.begun ++ byte ∷ [])).char }
-    {
-        if !is_continuing_byte(byte) {
-            return true;
-        }
-        match self.begun {
-            Begun::One(lead) => further_bytes(lead) == 0,
-            Begun::Two(lead, _) => further_bytes(lead) <= 1,
-            Begun::Three(_, _, _) => true,
-        }
-    }
-
-    /// Reads a byte in place, where the character goes on with it, and tells whether it did.
-    pub fn goes_on(&mut self, byte: u8) -> bool
-        ensures tells { result ≡ not (is_over (grown self.old.escaped self.old.begun byte)) }
-        ensures yes { IsTrue result → grown self.old.escaped self.old.begun byte ≡ Grown.More self.new.begun }
+    /// Takes one more byte, where the character goes on with it, and tells whether it does.
+    pub fn put(&mut self, byte: u8) -> bool
+        ensures yes { IsTrue result → grown self.old.escaped self.old.begun byte ≡ More self.new.begun }
         ensures escaped { self.new.escaped ≡ self.old.escaped }
-        ensures no { IsFalse result → self.new ≡ self.old }
+        ensures no { IsFalse result → grown self.old.escaped self.old.begun byte ≡ over self.old.escaped (decoded (begun_bytes self.old.begun ++ byte ∷ [])).char }
+        ensures same { IsFalse result → self.new ≡ self.old }
     {
         if !is_continuing_byte(byte) {
             return false;

@@ -1,6 +1,6 @@
 //! The first three fields of a sequence that is open, as numbers.
 ghost use Rattle.std.specs.Prelude.{◌≡◌};
-ghost use Rattle.crossterm_parse.specs.Fields.{empty_field, empty_fields, field_after, fields_after, whole_of};
+ghost use Rattle.crossterm_parse.specs.Fields.{fields_of, field_after, fields_after, whole_of};
 ghost use Rattle.crossterm_parse.specs.Number.{number_after};
 
 use crate::number::Number;
@@ -42,11 +42,11 @@ pub enum Place {
 }
 
 impl Field {
-    fn new() -> Field
-        ensures { result ≡ empty_field }
+    fn new(first: Number) -> Field
+        ensures { result ≡ record { first = first; second = Number.Empty; part = Part.First } }
     {
         Field {
-            first: Number::Empty,
+            first,
             second: Number::Empty,
             part: Part::First,
         }
@@ -81,13 +81,13 @@ impl Field {
 }
 
 impl Fields {
-    /// No byte is read yet.
-    pub fn new() -> Fields
-        ensures { result ≡ empty_fields }
+    /// What is read so far belongs to the first part of the first field.
+    pub fn new(first: Number) -> Fields
+        ensures { result ≡ fields_of first }
     {
         Fields {
-            first: Field::new(),
-            second: Field::new(),
+            first: Field::new(first),
+            second: Field::new(Number::Empty),
             third: Number::Empty,
             place: Place::First,
         }

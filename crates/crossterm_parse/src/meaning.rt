@@ -74,7 +74,7 @@ pub fn typed_key(c: char) -> KeyEvent
 }
 
 /// A character that was typed.
-fn typed_character(c: char) -> Meaning
+pub fn typed_character(c: char) -> Meaning
     ensures { result ≡ typed c }
 {
     Meaning::Key(typed_key(c))

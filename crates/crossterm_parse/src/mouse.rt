@@ -1,8 +1,12 @@
 //! Reports of the mouse.
-ghost use Rattle.std.specs.Prelude.{◌≡◌, ◌<◌};
+ghost use Rattle.std.specs.Prelude.{◌≡◌, ◌<◌, IsTrue, IsFalse};
 ghost use Rattle.crossterm_types.specs.Keys.{modifiers_of};
 ghost use Rattle.crossterm_parse.specs.Mouse.{button_of, pressed_button, dragged_button, mouse_kind, mouse_modifiers, mouse_event, mouse_report, less, let_go, released};
+ghost use Rattle.crossterm_parse.specs.Machine.{coded_after, codes_meaning};
+ghost use Rattle.crossterm_parse.specs.declared.state.State.TheVariants.{Coded};
+ghost use Rattle.crossterm_parse.specs.Step.{Open, Whole};
 
+use crate::meaning::{Meaning, meaning_of_codes};
 use crate::modifier_field::value_of_bit;
 use crossterm_types::event::{KeyModifiers, MouseButton, MouseEvent, MouseEventKind};
 
@@ -124,5 +128,37 @@ pub fn ended_by(last: u8, event: MouseEvent) -> MouseEvent
         }
     } else {
         event
+    }
+}
+
+impl Codes {
+    /// Takes one more byte, where the report goes on with it, and tells whether it does.
+    #[inline(never)]
+    pub fn put(&mut self, byte: u8) -> bool
+        ensures yes { IsTrue result → coded_after self.old byte ≡ Open (Coded self.new) }
+        ensures no { IsFalse result → coded_after self.old byte ≡ Whole (codes_meaning self.old byte) }
+        ensures same { IsFalse result → self.new ≡ self.old }
+    {
+        match *self {
+            Codes::Empty => {
+                *self = Codes::Code(byte);
+                true
+            }
+            Codes::Code(code) => {
+                *self = Codes::Column(code, byte);
+                true
+            }
+            Codes::Column(_, _) => false,
+        }
+    }
+
+    /// What the report means that is whole with the byte.
+    pub fn meaning(&self, byte: u8) -> Option<Meaning>
+        ensures { result ≡ codes_meaning self.now byte }
+    {
+        match *self {
+            Codes::Column(code, column) => meaning_of_codes(code, column, byte),
+            _ => None,
+        }
     }
 }

@@ -1,5 +1,6 @@
 //! Numbers that are read byte by byte.
-ghost use Rattle.std.specs.Prelude.{◌≡◌};
+ghost use Rattle.std.specs.Prelude.{◌≡◌, true};
+ghost use Rattle.crossterm_parse.specs.Deciding.{is_digit};
 ghost use Rattle.crossterm_parse.specs.Number.{number_after, at_most, reading};
 
 /// A number that is being read: one digit or more, after a `+` or not.
@@ -17,6 +18,14 @@ pub enum Number {
 }
 
 impl Number {
+    /// The number of a first digit.
+    pub fn digit(byte: u8) -> Number
+        requires { is_digit byte ≡ true }
+        ensures { result ≡ number_after Number.Empty byte }
+    {
+        Number::Value(u32::from(byte - b'0'))
+    }
+
     /// The number after one more byte.
     pub fn put(self, byte: u8) -> Number
         ensures { result ≡ number_after self byte }
@@ -55,7 +64,11 @@ impl Number {
     fn change(&mut self, byte: u8)
         ensures { self.new ≡ number_after self.old byte }
     {
-        *self = self.put(byte);
+        if matches!(self, Number::Empty) && matches!(byte, b'0'..=b'9') {
+            *self = Number::digit(byte);
+        } else {
+            *self = self.put(byte);
+        }
     }
 
     /// The number, where it is one.

@@ -1,6 +1,6 @@
 //! A numbered sequence `ESC [ d w f`, with d a digit.
-ghost use Rattle.std.specs.Prelude.{◌≡◌};
-ghost use Rattle.crossterm_parse.specs.Deciding.{is_final, is_mouse_end};
+ghost use Rattle.std.specs.Prelude.{◌≡◌, true};
+ghost use Rattle.crossterm_parse.specs.Deciding.{is_digit, is_final, is_mouse_end};
 ghost use Rattle.crossterm_parse.specs.Machine.{digits_after, empty_digits, readings_at};
 ghost use Rattle.crossterm_parse.specs.Mouse.{less, mouse_report};
 ghost use Rattle.crossterm_parse.specs.Number.{at_most, coordinate, reading};
@@ -130,7 +130,7 @@ impl Digits {
         ensures { result ≡ empty_digits }
     {
         Digits {
-            fields: Fields::new(),
+            fields: Fields::new(Number::Empty),
             last: 0,
             validity: Validity::Sound,
         }
@@ -138,11 +138,14 @@ impl Digits {
 
     /// The first digit is read.
     pub fn new(digit: u8) -> Digits
+        requires { is_digit digit ≡ true }
         ensures { result ≡ digits_after empty_digits digit }
     {
-        let mut digits = Digits::empty();
-        digits.read(digit);
-        digits
+        Digits {
+            fields: Fields::new(Number::digit(digit)),
+            last: digit,
+            validity: Validity::Sound,
+        }
     }
 
     /// Reads a byte that doesn't end the sequence.
@@ -153,14 +156,6 @@ impl Digits {
         self.fields.read(byte);
         self.last = byte;
         self.validity.read(byte);
-    }
-
-    /// Reads the first digit in place.
-    #[inline(never)]
-    pub fn begin(&mut self, digit: u8)
-        ensures { self.new ≡ digits_after self.old digit }
-    {
-        self.read(digit);
     }
 
     fn held(&self) -> Option<Held>

@@ -1,5 +1,6 @@
 //! The parser: bytes are handed in as they come, and events are given as their sequences end.
-ghost use Rattle.std.specs.Prelude.{◌≡◌, ◌≢◌, ◌↔◌, ◌==◌, ◌&&◌, not, ◌+◌, ◌-◌, ◌≤◌, ◌<◌, false, [], ◌∷◌, ◌++◌, List, length, map, take, option_to_list, None, IsOk, IsTrue, IfNone, IfSome, IfOk, IfErr, OnOk, OnErr};
+ghost use Rattle.std.specs.Prelude.{◌≡◌, ◌≢◌, ◌↔◌, ◌==◌, ◌&&◌, not, ◌+◌, ◌-◌, ◌*◌, ◌≤◌, ◌<◌, false, true, [], ◌∷◌, ◌++◌, Bool, List, length, map, take, option_to_list, None, IsOk, is_ok, IsTrue, IfNone, IfSome, IfOk, IfErr, OnOk, OnErr};
+ghost use Rattle.std.specs.List.{AllByRecursion};
 ghost use Rattle.std.specs.IoError.{error_kind};
 ghost use Rattle.std.specs.Option.{option_map};
 ghost use Rattle.std.specs.Str.{encode_utf8_all};
@@ -8,14 +9,14 @@ ghost use Rattle.bstr.specs.Utf8.{lossy_chars};
 ghost use Rattle.std.specs.VecDeque.{deque_len, deque_capacity};
 ghost use Rattle.std.specs.declared.io.ErrorKind.TheVariants.{OutOfMemory};
 ghost use Rattle.crossterm_types.specs.Seen.{seen};
-ghost use Rattle.crossterm_parse.specs.Machine.{text_of, state_after, text_left, events_left, is_paste};
+ghost use Rattle.crossterm_parse.specs.Machine.{text_of, meaning_with, state_after, text_left, events_left, is_paste};
 ghost use Rattle.crossterm_parse.specs.Meaning.{decoded_character, seen_meaning, pasted, typed};
 ghost use Rattle.crossterm_parse.specs.Marked.{Marked, marked};
-ghost use Rattle.crossterm_parse.specs.Standing.{Standing, Stands, StandsStill, AdvancesOver, PutsByte, StaysAsItWas, EndsNoEvent, OpensNoPaste, TakesSteps};
+ghost use Rattle.crossterm_parse.specs.Standing.{Standing, Stands, StandsStill, AdvancesOver, Puts, PutsByte, StaysAsItWas, EndsNoEvent, OpensNoPaste, TakesSteps};
 
 use crate::meaning::{Meaning, letter_key, typed_key};
 use crate::paste::{Met, PasteText};
-use crate::state::{State, Step};
+use crate::state::{Progress, State};
 use crate::steps::Steps;
 use crossterm_types::event::{Event, InternalEvent};
 use std::alloc::{AllocError, Allocator, Global};
@@ -24,6 +25,8 @@ use std::io;
 use std::marker::{Brand, Model};
 use std::string::String;
 use std::sync::ledger::{Blank, Ledger};
+
+mod runs;
 
 /// Divides the bytes of a terminal into whole sequences, and gives their events.
 ///
@@ -129,27 +132,6 @@ impl<A: Allocator + Clone> Parser<A> {
         Ok(())
     }
 
-    /// Gives the event of a whole sequence.
-    fn finish<L: Ledger>(
-        &mut self,
-        meaning: Option<Meaning>,
-        steps: &mut Steps<L>,
-    ) -> Result<(), AllocError>
-        ensures state { OnOk result (self.new.state ≡ State.Ground) }
-        ensures text { self.new.text ≡ self.old.text }
-        ensures waiting { OnOk result (self.new.waiting ≡ self.old.waiting ++ option_to_list (option_map seen_meaning meaning)) }
-        ensures err { OnErr result ((self.new.waiting ≡ self.old.waiting) × (self.new.state ≡ self.old.state) × (self.old.room ≤ self.new.room)) }
-        ensures free { option_map seen_meaning meaning ≡ None → IsOk result }
-        ensures reserved { 0 < self.old.room → IsOk result }
-        ensures room { self.old.room ≤ self.new.room + 1 }
-        ensures steps { steps.new ≡ steps.old + 1 }
-    {
-        steps.count(1);
-        self.give(meaning)?;
-        self.state = State::Ground;
-        Ok(())
-    }
-
     /// Gives the event of a character that was typed, where the bytes are one.
     fn give_character(&mut self, c: Option<char>) -> Result<(), AllocError>
         ensures state { self.new.state ≡ self.old.state }
@@ -165,22 +147,6 @@ impl<A: Allocator + Clone> Parser<A> {
             self.waiting
                 .push_back_reserved(InternalEvent::Event(Event::Key(typed_key(c))));
         }
-        Ok(())
-    }
-
-    /// Gives the event of a byte from space to tilde.
-    fn give_letter(&mut self, byte: u8) -> Result<(), AllocError>
-        requires { (32 ≤ byte) × (byte < 127) }
-        ensures state { self.new.state ≡ self.old.state }
-        ensures text { self.new.text ≡ self.old.text }
-        ensures waiting { OnOk result (self.new.waiting ≡ self.old.waiting ++ seen_meaning (typed byte) ∷ []) }
-        ensures err { OnErr result ((self.new.waiting ≡ self.old.waiting) × (self.old.room ≤ self.new.room)) }
-        ensures reserved { 0 < self.old.room → IsOk result }
-        ensures room { self.old.room ≤ self.new.room + 1 }
-    {
-        self.waiting.reserve(1)?;
-        self.waiting
-            .push_back_reserved(InternalEvent::Event(Event::Key(letter_key(byte))));
         Ok(())
     }
 
@@ -211,24 +177,6 @@ impl<A: Allocator + Clone> Parser<A> {
             Some(text) => text.push(byte),
             None => self.keep_first(byte),
         }
-    }
-
-    /// The paste goes on with a byte, or is opened by it.
-    fn go_on(&mut self, met: Met, byte: u8) -> Result<(), AllocError>
-        ensures waiting { self.new.waiting ≡ self.old.waiting }
-        ensures room { self.new.room ≡ self.old.room }
-        ensures state { OnOk result (self.new.state ≡ State.Paste met) }
-        ensures text { OnOk result (self.new.text ≡ text_left (Step.Open (State.Paste met)) self.old.state self.old.text byte) }
-        ensures err { OnErr result ((self.new.state ≡ self.old.state) × (self.new.text ≡ self.old.text)) }
-        ensures free { is_paste self.old.state ≡ false → IsOk result }
-    {
-        if self.state.is_paste() {
-            self.keep(byte)?;
-        } else {
-            self.paste = None;
-        }
-        self.state = State::Paste(met);
-        Ok(())
     }
 
     /// The text of the paste, which is over.
@@ -264,68 +212,53 @@ impl<A: Allocator + Clone> Parser<A> {
         Ok(())
     }
 
-    /// Puts a byte into the state, and gives the event that it ends.
+    /// Puts a byte into an open paste.
     #[inline(never)]
-    fn step<L: Ledger>(
-        &mut self,
-        byte: u8,
-        raw: bool,
-        pause: bool,
-        steps: &mut Steps<L>,
-    ) -> Result<(), AllocError>
-        ensures put { OnOk result (PutsByte self.old self.new byte raw pause) }
+    fn put_in_paste<L: Ledger>(&mut self, byte: u8, steps: &mut Steps<L>) -> Result<(), AllocError>
+        requires { is_paste self.old.state ≡ true }
+        ensures put { IsOk result → (raw : Bool) → PutsByte self.old self.new byte raw false }
         ensures err { OnErr result (StaysAsItWas self.old self.new) }
-        ensures free { is_paste self.old.state ≡ false → events_left (state_after self.old.state byte raw pause) self.old.text ≡ [] → IsOk result }
-        ensures reserved { is_paste self.old.state ≡ false → 0 < self.old.room → IsOk result }
         ensures room { self.old.room ≤ self.new.room + 1 }
         ensures steps { OnOk result (steps.new + length self.new.text ≤ steps.old + length self.old.text + 2) }
         ensures counted { steps.old < steps.new }
     {
-        match self.state.put(byte, raw, pause, steps) {
-            Step::Open(State::Paste(met)) => self.go_on(met, byte)?,
-            Step::Open(state) => self.state = state,
-            Step::Whole(meaning) => {
-                self.give(meaning)?;
-                self.state = State::Ground;
+        let mut state = self.state;
+        match state.put(byte, false, steps) {
+            Progress::Open => {
+                self.keep(byte)?;
+                self.state = state;
+                Ok(())
             }
-            Step::Closed => self.close(steps)?,
+            Progress::Whole | Progress::Closed => self.close(steps),
         }
-        Ok(())
     }
 
-    /// Puts a byte into the state that mostly ends a sequence, and gives its event.
+    /// Gives the event of the sequence that is whole with a byte.
     #[inline(never)]
-    fn end<L: Ledger>(
-        &mut self,
-        byte: u8,
-        raw: bool,
-        pause: bool,
-        steps: &mut Steps<L>,
-    ) -> Result<(), AllocError>
-        ensures put { OnOk result (PutsByte self.old self.new byte raw pause) }
+    fn end(&mut self, byte: u8, raw: bool) -> Result<(), AllocError>
+        ensures state { OnOk result (self.new.state ≡ State.Ground) }
+        ensures text { self.new.text ≡ self.old.text }
+        ensures waiting { OnOk result (self.new.waiting ≡ self.old.waiting ++ option_to_list (option_map seen_meaning (meaning_with self.old.state byte raw))) }
         ensures err { OnErr result (StaysAsItWas self.old self.new) }
-        ensures free { is_paste self.old.state ≡ false → events_left (state_after self.old.state byte raw pause) self.old.text ≡ [] → IsOk result }
-        ensures reserved { is_paste self.old.state ≡ false → 0 < self.old.room → IsOk result }
+        ensures free { option_map seen_meaning (meaning_with self.old.state byte raw) ≡ None → IsOk result }
+        ensures reserved { 0 < self.old.room → IsOk result }
         ensures room { self.old.room ≤ self.new.room + 1 }
-        ensures steps { OnOk result (steps.new + length self.new.text ≤ steps.old + length self.old.text + 2) }
-        ensures counted { steps.old < steps.new }
     {
         if let State::Utf8(character) = &self.state
             && !character.escaped
-            && character.ends(byte)
         {
             let c = character.begun.character_with(byte);
-            steps.count(1);
             self.give_character(c)?;
-            self.state = State::Ground;
-            return Ok(());
+        } else {
+            let meaning = self.state.meaning(byte, raw);
+            self.give(meaning)?;
         }
-        match self.state.ended(byte, raw) {
-            Some(meaning) => self.finish(meaning, steps),
-            None => self.step(byte, raw, pause, steps),
-        }
+        self.state.end();
+        Ok(())
     }
 
+    /// Puts in one more byte.
+    #[inline(always)]
     fn put<L: Ledger>(
         &mut self,
         byte: u8,
@@ -333,28 +266,21 @@ impl<A: Allocator + Clone> Parser<A> {
         pause: bool,
         steps: &mut Steps<L>,
     ) -> Result<(), AllocError>
-        ensures put { OnOk result (PutsByte self.old self.new byte raw pause) }
-        ensures err { OnErr result (StaysAsItWas self.old self.new) }
-        ensures free { is_paste self.old.state ≡ false → events_left (state_after self.old.state byte raw pause) self.old.text ≡ [] → IsOk result }
-        ensures reserved { is_paste self.old.state ≡ false → 0 < self.old.room → IsOk result }
-        ensures room { self.old.room ≤ self.new.room + 1 }
-        ensures steps { OnOk result (steps.new + length self.new.text ≤ steps.old + length self.old.text + 2) }
-        ensures counted { steps.old < steps.new }
+        ensures { Puts self.old self.new byte raw pause steps.old steps.new (is_ok result) }
     {
-        // Most bytes of a terminal are letters.
-        if matches!(self.state, State::Ground) && matches!(byte, 32..=126) {
-            steps.count(1);
-            return self.give_letter(byte);
+        if self.state.is_paste() {
+            return self.put_in_paste(byte, steps);
         }
-        if self.state.goes_on(byte, pause, steps) {
-            return Ok(());
+        match self.state.put(byte, pause, steps) {
+            Progress::Open => {
+                if self.state.is_paste() {
+                    self.paste = None;
+                }
+                Ok(())
+            }
+            Progress::Whole => self.end(byte, raw),
+            Progress::Closed => self.close(steps),
         }
-        // So are those of a paste, and most of them begin no end of it.
-        if matches!(self.state, State::Paste(Met::Nothing)) && byte != 27 {
-            steps.count(1);
-            return self.keep(byte);
-        }
-        self.end(byte, raw, pause, steps)
     }
 
     /// Takes the bytes of a piece, and tells how many: fewer than the piece has only where memory was refused, and then the others are handed in again later.
@@ -381,14 +307,20 @@ impl<A: Allocator + Clone> Parser<A> {
         // Each byte taken is a step at least.
         ensures counted { steps.old + result ≤ steps.new }
     {
-        for (i, byte) in piece.iter().enumerate() {
-            let pause = pauses(more, i, piece.len());
-            match self.put(*byte, raw, pause, steps) {
-                Ok(()) => {}
-                Err(_) => return i,
+        let mut place = 0;
+        while place < piece.len() {
+            place += self.run(&piece[place..], steps);
+            if place == piece.len() {
+                break;
             }
+            let pause = pauses(more, place, piece.len());
+            match self.put(piece[place], raw, pause, steps) {
+                Ok(()) => {}
+                Err(_) => return place,
+            }
+            place += 1;
         }
-        piece.len()
+        place
     }
 
     /// Takes the bytes of a piece as `advance` does, for a caller that counts no steps.

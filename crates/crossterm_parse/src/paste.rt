@@ -1,12 +1,15 @@
 //! A paste that is open: how far its start and its end are met, and its text.
-ghost use Rattle.std.specs.Prelude.{◌≡◌, ◌+◌, ◌-◌, ◌++◌, ◌∷◌, [], ℕ, List, length, take, slice_get, IfOk, OnOk, OnErr};
+ghost use Rattle.std.specs.Prelude.{◌≡◌, ◌==◌, ◌≤◌, false, ◌+◌, ◌-◌, ◌++◌, ◌∷◌, [], ℕ, List, length, take, slice_get, IsTrue, IsFalse, IfOk, OnOk, OnErr};
+ghost use Rattle.std.specs.List.{AllByRecursion};
 ghost use Rattle.std.specs.Str.{encode_utf8_all};
 ghost use Rattle.std.specs.String.{string_bytes};
 ghost use Rattle.bstr.specs.Utf8.{lossy_chars};
-ghost use Rattle.crossterm_parse.specs.Machine.{opens_with, opens_after, met_anew, met_after};
+ghost use Rattle.crossterm_parse.specs.Machine.{JoinsBeforeEscape, opens_with, opens_after, met_after};
+ghost use Rattle.crossterm_parse.specs.declared.state.State.TheVariants.{Paste};
+ghost use Rattle.crossterm_parse.specs.Step.{Open, Closed};
 
-use crate::state::{State, Step};
 use crate::steps::Steps;
+use memchr::memchr;
 use std::alloc::{AllocError, Allocator, Global};
 use std::marker::Model;
 use std::string::String;
@@ -67,30 +70,34 @@ pub enum Met {
     One,
 }
 
-/// The end begins anew with this byte, or isn't begun.
-fn anew(byte: u8) -> Step
-    ensures { result ≡ met_anew byte }
-{
-    Step::Open(State::Paste(if byte == 27 {
-        Met::Escape
-    } else {
-        Met::Nothing
-    }))
+impl Met {
+    /// Takes one more byte, where the paste goes on with it, and tells whether it does.
+    pub(crate) fn put(&mut self, byte: u8) -> bool
+        ensures yes { IsTrue result → met_after self.old byte ≡ Open (Paste self.new) }
+        ensures no { IsFalse result → met_after self.old byte ≡ Closed }
+        ensures same { IsFalse result → self.new ≡ self.old }
+    {
+        *self = match (*self, byte) {
+            (Met::Escape, b'[') => Met::Bracket,
+            (Met::Bracket, b'2') => Met::Two,
+            (Met::Two, b'0') => Met::Zero,
+            (Met::Zero, b'1') => Met::One,
+            (Met::One, b'~') => return false,
+            (_, 27) => Met::Escape,
+            _ => Met::Nothing,
+        };
+        true
+    }
 }
 
-impl Met {
-    /// With one more byte.
-    pub(crate) fn put(self, byte: u8) -> Step
-        ensures { result ≡ met_after self byte }
-    {
-        match (self, byte) {
-            (Met::Escape, b'[') => Step::Open(State::Paste(Met::Bracket)),
-            (Met::Bracket, b'2') => Step::Open(State::Paste(Met::Two)),
-            (Met::Two, b'0') => Step::Open(State::Paste(Met::Zero)),
-            (Met::Zero, b'1') => Step::Open(State::Paste(Met::One)),
-            (Met::One, b'~') => Step::Closed,
-            _ => anew(byte),
-        }
+/// How many bytes stand before the first ESC.
+fn before_escape(bytes: &[u8]) -> usize
+    ensures most { result ≤ length bytes.now }
+    ensures none { AllByRecursion (λ b. b == 27 ≡ false) (take result bytes.now) }
+{
+    match memchr(27, bytes) {
+        Some(place) => place,
+        None => bytes.len(),
     }
 }
 
@@ -124,6 +131,24 @@ impl<A: Allocator + Clone> PasteText<A> {
         self.bytes.reserve(1)?;
         self.bytes.push_reserved(byte);
         Ok(())
+    }
+
+    /// Joins the bytes before the next ESC at the end, and tells how many. Where memory is refused, nothing has changed.
+    #[inline(never)]
+    pub fn extend<L: Ledger>(
+        &mut self,
+        bytes: &[u8],
+        steps: &mut Steps<L>,
+    ) -> Result<usize, AllocError>
+        ensures ok { IfOk result (λ count. JoinsBeforeEscape self.old self.new bytes.now count) }
+        ensures err { OnErr result (self.new ≡ self.old) }
+        ensures counted { IfOk result (λ count. steps.new ≡ steps.old + count) }
+        ensures uncounted { OnErr result (steps.new ≡ steps.old) }
+    {
+        let count = before_escape(bytes);
+        self.bytes.extend_from_slice(&bytes[..count])?;
+        steps.count(count as u64);
+        Ok(count)
     }
 
     /// The byte at a place, where there is one.

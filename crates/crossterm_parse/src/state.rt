@@ -1,19 +1,22 @@
 //! The state of an open sequence, of a fixed size.
-ghost use Rattle.std.specs.Prelude.{◌≡◌, ◌+◌, Bool, false, IfSome, IsTrue, IsFalse};
-ghost use Rattle.crossterm_parse.specs.Machine.{coded_after, is_paste, number_ends, readings_at, state_after, step_of};
-ghost use Rattle.crossterm_parse.specs.Meaning.{after_csi};
-ghost use Rattle.crossterm_parse.specs.Numbered.{numbered_by};
+ghost use Rattle.std.specs.Prelude.{◌≡◌, ◌≢◌, ◌+◌, ◌≤◌, Bool, true, false, length, take, IfNone, IfSome, IsTrue, IsFalse};
+ghost use Rattle.std.specs.List.{AllByRecursion};
+ghost use Rattle.crossterm_parse.specs.Machine.{IsCharacterOf, IsLetter, Opens, is_paste, meaning_with, state_after};
+ghost use Rattle.crossterm_parse.specs.Step.{Open, Whole, Closed};
+ghost use Rattle.crossterm_parse.specs.Deciding.{is_final, is_mouse_end};
+ghost use Rattle.crossterm_parse.specs.declared.paste.Opening.{Opening};
 ghost use Rattle.crossterm_parse.specs.declared.numbered.Digits.{Digits};
 
-use crate::character::{Begun, Character, Grown, is_lead_byte};
+use crate::character::{Begun, Character, is_lead_byte};
 use crate::meaning::{
     Meaning, meaning_after_bracket, meaning_after_csi, meaning_after_ss3, meaning_of_byte,
-    meaning_of_codes, meaning_of_flags, plus_alt, pressed_alone,
+    meaning_of_flags, plus_alt, pressed_alone,
 };
 use crate::mouse::Codes;
 use crate::numbered::{Digits, is_final_byte, is_mouse_final};
 use crate::paste::{Met, Opening};
 use crate::steps::Steps;
+use bstr::decode_utf8;
 use crossterm_types::event::KeyCode;
 use std::sync::ledger::Ledger;
 
@@ -46,98 +49,93 @@ pub enum State {
     Utf8(Character),
 }
 
-/// What one byte does.
+/// What came of one more byte.
 #[derive(Clone, Copy)]
-pub enum Step {
+pub enum Progress {
     /// The sequence goes on.
-    Open(State),
-    /// The sequence is whole, and means this.
-    Whole(Option<Meaning>),
-    /// The paste is over.
+    Open,
+    /// The sequence is whole with the byte.
+    Whole,
+    /// The paste is over with the byte.
     Closed,
 }
 
-fn opened(escaped: bool, byte: u8) -> Step
-    ensures { result ≡ Step.Open (State.Utf8 (record { escaped = escaped; begun = Begun.One byte })) }
+/// Whether the byte is a letter, a digit, a sign or a blank of ASCII.
+pub(crate) fn is_letter(byte: u8) -> bool
+    ensures { IsTrue result → IsLetter byte }
 {
-    Step::Open(State::Utf8(Character {
-        escaped,
-        begun: Begun::One(byte),
-    }))
+    matches!(byte, 32..=126)
 }
 
-/// The first byte of a sequence.
-fn begun(byte: u8, raw: bool, pause: bool) -> Step
-    ensures { result ≡ state_after State.Ground byte raw pause }
+/// How many letters stand in front.
+#[inline(always)]
+fn letters_in(bytes: &[u8]) -> usize
+    ensures within { result ≤ length bytes.now }
+    ensures letters { AllByRecursion IsLetter (take result bytes.now) }
 {
-    match byte {
-        27 if pause => Step::Whole(Some(pressed_alone(KeyCode::Esc))),
-        27 => Step::Open(State::Escape),
-        _ if is_lead_byte(byte) => opened(false, byte),
-        _ => Step::Whole(meaning_of_byte(byte, raw)),
+    for (i, byte) in bytes.iter().enumerate() {
+        if !is_letter(*byte) {
+            return i;
+        }
     }
+    bytes.len()
 }
 
-/// A byte after ESC: a pause after it changes nothing.
-fn escaped(byte: u8, raw: bool) -> Step
-    ensures { result ≡ state_after State.Escape byte raw false }
+/// Reads a byte with which a numbered sequence goes on, and tells whether it does.
+#[inline(always)]
+fn read_number(digits: &mut Digits, opening: &mut Opening, byte: u8) -> bool
+    ensures yes { IsTrue result → (raw pause : Bool) → state_after (State.Numbered digits.old opening.old) byte raw pause ≡ Open (State.Numbered digits.new opening.new) }
+    ensures no { IsFalse result → is_final byte ≡ true }
+    ensures same { IsFalse result → (digits.new ≡ digits.old) × (opening.new ≡ opening.old) }
 {
-    match byte {
-        b'O' => Step::Open(State::Ss3),
-        b'[' => Step::Open(State::Csi),
-        27 => Step::Whole(Some(pressed_alone(KeyCode::Esc))),
-        _ if is_lead_byte(byte) => opened(true, byte),
-        _ => Step::Whole(plus_alt(meaning_of_byte(byte, raw))),
+    if is_final_byte(byte) {
+        return false;
     }
-}
-
-/// A byte after `ESC [`: the mode and a pause change nothing.
-fn introduced(byte: u8) -> Step
-    ensures { result ≡ state_after State.Csi byte false false }
-{
-    match byte {
-        b'[' => Step::Open(State::Bracket),
-        b'M' => Step::Open(State::Coded(Codes::Empty)),
-        b'<' => Step::Open(State::Sgr(Digits::empty())),
-        b'?' => Step::Open(State::Private),
-        b'0'..=b'9' => Step::Open(State::Numbered(Digits::new(byte), Opening::new(byte))),
-        _ => Step::Whole(meaning_after_csi(byte)),
+    digits.read(byte);
+    if !matches!(opening, Opening::Not) {
+        *opening = opening.put(byte);
     }
+    true
 }
 
-/// One more byte after `ESC [ M`.
-fn coded(codes: Codes, byte: u8) -> Step
-    ensures { result ≡ coded_after codes byte }
+/// Reads a byte with which a report of the mouse goes on, and tells whether it does.
+#[inline(always)]
+fn read_report(digits: &mut Digits, byte: u8) -> bool
+    ensures yes { IsTrue result → (raw pause : Bool) → state_after (State.Sgr digits.old) byte raw pause ≡ Open (State.Sgr digits.new) }
+    ensures no { IsFalse result → is_mouse_end byte ≡ true }
+    ensures same { IsFalse result → digits.new ≡ digits.old }
 {
-    match codes {
-        Codes::Empty => Step::Open(State::Coded(Codes::Code(byte))),
-        Codes::Code(code) => Step::Open(State::Coded(Codes::Column(code, byte))),
-        Codes::Column(code, column) => Step::Whole(meaning_of_codes(code, column, byte)),
+    if is_mouse_final(byte) {
+        return false;
     }
+    digits.read(byte);
+    true
 }
 
-/// A final byte, which ends a numbered sequence or opens a paste.
-fn number_end(opening: Opening, digits: Digits, raw: bool, byte: u8) -> Step
-    ensures { result ≡ number_ends opening digits raw byte }
+/// Reads the bytes in front with which a numbered sequence goes on, and tells how many.
+fn read_numbers(digits: &mut Digits, opening: &mut Opening, bytes: &[u8]) -> usize
+    ensures within { result ≤ length bytes.now }
+    ensures opens { Opens (State.Numbered digits.old opening.old) (State.Numbered digits.new opening.new) (take result bytes.now) }
 {
-    match (opening, byte) {
-        (Opening::Zeros, b'~') => Step::Open(State::Paste(Met::Nothing)),
-        _ => Step::Whole(digits.meaning(byte, raw)),
+    for (i, byte) in bytes.iter().enumerate() {
+        if !read_number(digits, opening, *byte) {
+            return i;
+        }
     }
+    bytes.len()
 }
 
-/// Whether a final byte ends a numbered sequence.
-fn ends_number(opening: Opening, byte: u8) -> bool
-    ensures { IsTrue result → (digits : Digits) → (raw pause : Bool) → state_after (State.Numbered digits opening) byte raw pause ≡ Step.Whole (numbered_by raw byte (readings_at digits)) }
+/// Reads the bytes in front with which a report of the mouse goes on, and tells how many.
+fn read_reports(digits: &mut Digits, bytes: &[u8]) -> usize
+    ensures within { result ≤ length bytes.now }
+    ensures opens { Opens (State.Sgr digits.old) (State.Sgr digits.new) (take result bytes.now) }
 {
-    is_final_byte(byte) && (byte != b'~' || !matches!(opening, Opening::Zeros))
-}
-
-/// Whether a byte ends a sequence after `ESC [`.
-fn is_plain_final(byte: u8) -> bool
-    ensures { IsTrue result → (raw pause : Bool) → state_after State.Csi byte raw pause ≡ Step.Whole (after_csi byte) }
-{
-    !matches!(byte, b'[' | b'M' | b'<' | b'?' | b'0'..=b'9')
+    for (i, byte) in bytes.iter().enumerate() {
+        if !read_report(digits, *byte) {
+            return i;
+        }
+    }
+    bytes.len()
 }
 
 impl State {
@@ -148,61 +146,75 @@ impl State {
         matches!(self, State::Paste(_))
     }
 
-    /// Reads a byte in place, where the sequence goes on with it outside of a paste, and tells whether it did.
-    pub(crate) fn goes_on<L: Ledger>(&mut self, byte: u8, pause: bool, steps: &mut Steps<L>) -> bool
-        ensures yes { IsTrue result → (raw : Bool) → state_after self.old byte raw pause ≡ Step.Open self.new }
-        ensures outside { IsTrue result → is_paste self.new ≡ false }
-        ensures no { IsFalse result → self.new ≡ self.old }
-        ensures counted { IsTrue result → steps.new ≡ steps.old + 1 }
-        ensures uncounted { IsFalse result → steps.new ≡ steps.old }
+    /// Goes to the ground state, where the sequence is whole and its event is kept.
+    #[inline(always)]
+    pub(crate) fn end(&mut self)
+        ensures { self.new ≡ State.Ground }
     {
-        let goes = self.read(byte, pause);
-        if goes {
-            steps.count(1);
-        }
-        goes
+        *self = State::Ground;
     }
 
-    fn read(&mut self, byte: u8, pause: bool) -> bool
-        ensures yes { IsTrue result → (raw : Bool) → state_after self.old byte raw pause ≡ Step.Open self.new }
-        ensures outside { IsTrue result → is_paste self.new ≡ false }
-        ensures no { IsFalse result → self.new ≡ self.old }
+    /// Takes one more byte. Where the sequence goes on the state has changed; where it ends, it hasn't yet.
+    #[inline(always)]
+    pub fn put<L: Ledger>(&mut self, byte: u8, pause: bool, steps: &mut Steps<L>) -> Progress
+        ensures open { result ≡ Progress.Open → (raw : Bool) → state_after self.old byte raw pause ≡ Open self.new }
+        ensures whole { result ≡ Progress.Whole → (raw : Bool) → state_after self.old byte raw pause ≡ Whole (meaning_with self.old byte raw) }
+        ensures outside { result ≡ Progress.Whole → is_paste self.old ≡ false }
+        ensures closed { result ≡ Progress.Closed → (raw : Bool) → state_after self.old byte raw pause ≡ Closed }
+        ensures same { result ≢ Progress.Open → self.new ≡ self.old }
+        ensures paste { result ≡ Progress.Closed → is_paste self.old ≡ true }
+        ensures steps { steps.new ≡ steps.old + 1 }
+    {
+        steps.count(1);
+        if let State::Paste(met) = self {
+            return if met.put(byte) {
+                Progress::Open
+            } else {
+                Progress::Closed
+            };
+        }
+        if self.goes_on(byte, pause) {
+            Progress::Open
+        } else {
+            Progress::Whole
+        }
+    }
+
+    /// Takes one more byte outside of a paste, where the sequence goes on with it, and tells whether it does.
+    #[inline(always)]
+    fn goes_on(&mut self, byte: u8, pause: bool) -> bool
+        requires { is_paste self.old ≡ false }
+        ensures yes { IsTrue result → (raw : Bool) → state_after self.old byte raw pause ≡ Open self.new }
+        ensures no { IsFalse result → (raw : Bool) → state_after self.old byte raw pause ≡ Whole (meaning_with self.old byte raw) }
+        ensures same { IsFalse result → self.new ≡ self.old }
     {
         match self {
-            State::Numbered(digits, opening) if !is_final_byte(byte) => {
-                digits.read(byte);
-                if !matches!(opening, Opening::Not) {
-                    *opening = opening.put(byte);
-                }
-                true
+            State::Ground => self.begin(byte, pause),
+            State::Escape => self.escape(byte),
+            State::Csi => self.introduce(byte),
+            State::Ss3 | State::Bracket | State::Paste(_) => false,
+            State::Coded(codes) => codes.put(byte),
+            State::Sgr(digits) => read_report(digits, byte),
+            State::Private => self.reply(byte),
+            State::Reply(_) => byte != b'c' && byte != b'u',
+            State::Numbered(digits, opening) => {
+                read_number(digits, opening, byte) || self.open_paste(byte)
             }
-            State::Sgr(digits) if !is_mouse_final(byte) => {
-                digits.read(byte);
-                true
-            }
-            State::Utf8(character) => character.goes_on(byte),
-            State::Ground => self.open(byte, pause),
-            State::Escape if byte == b'[' => {
-                *self = State::Csi;
-                true
-            }
-            State::Escape if byte == b'O' => {
-                *self = State::Ss3;
-                true
-            }
-            State::Csi => self.open_fields(byte),
-            _ => false,
+            State::Utf8(character) => character.put(byte),
         }
     }
 
-    /// Opens a sequence with its first byte, where that alone isn't one.
-    fn open(&mut self, byte: u8, pause: bool) -> bool
+    /// The first byte of a sequence.
+    fn begin(&mut self, byte: u8, pause: bool) -> bool
         requires { self.old ≡ State.Ground }
-        ensures yes { IsTrue result → (raw : Bool) → state_after self.old byte raw pause ≡ Step.Open self.new }
-        ensures outside { IsTrue result → is_paste self.new ≡ false }
-        ensures no { IsFalse result → self.new ≡ self.old }
+        ensures yes { IsTrue result → (raw : Bool) → state_after self.old byte raw pause ≡ Open self.new }
+        ensures no { IsFalse result → (raw : Bool) → state_after self.old byte raw pause ≡ Whole (meaning_with self.old byte raw) }
+        ensures same { IsFalse result → self.new ≡ self.old }
     {
-        if byte == 27 && !pause {
+        if byte == 27 {
+            if pause {
+                return false;
+            }
             *self = State::Escape;
             true
         } else if is_lead_byte(byte) {
@@ -216,93 +228,159 @@ impl State {
         }
     }
 
-    /// Opens a sequence with numbers after `ESC [`.
-    fn open_fields(&mut self, byte: u8) -> bool
-        requires { self.old ≡ State.Csi }
-        ensures yes { IsTrue result → (raw pause : Bool) → state_after self.old byte raw pause ≡ Step.Open self.new }
-        ensures outside { IsTrue result → is_paste self.new ≡ false }
-        ensures no { IsFalse result → self.new ≡ self.old }
+    /// A byte after ESC: a pause after it changes nothing.
+    fn escape(&mut self, byte: u8) -> bool
+        requires { self.old ≡ State.Escape }
+        ensures yes { IsTrue result → (raw pause : Bool) → state_after self.old byte raw pause ≡ Open self.new }
+        ensures no { IsFalse result → (raw pause : Bool) → state_after self.old byte raw pause ≡ Whole (meaning_with self.old byte raw) }
+        ensures same { IsFalse result → self.new ≡ self.old }
     {
-        match byte {
-            b'<' => {
-                *self = State::Sgr(Digits::empty());
-                true
-            }
-            b'0'..=b'9' => {
-                *self = State::Numbered(Digits::empty(), Opening::new(byte));
-                if let State::Numbered(digits, _) = self {
-                    digits.begin(byte);
-                }
-                true
-            }
-            _ => false,
+        if byte == b'O' {
+            *self = State::Ss3;
+            true
+        } else if byte == b'[' {
+            *self = State::Csi;
+            true
+        } else if byte == 27 {
+            false
+        } else if is_lead_byte(byte) {
+            *self = State::Utf8(Character {
+                escaped: true,
+                begun: Begun::One(byte),
+            });
+            true
+        } else {
+            false
         }
     }
 
-    /// What the sequence means that a byte ends, where it is one of those that come most.
-    pub(crate) fn ended(&self, byte: u8, raw: bool) -> Option<Option<Meaning>>
-        ensures { IfSome result (λ meaning. (pause : Bool) → state_after self.now byte raw pause ≡ Step.Whole meaning) }
+    /// A byte after `ESC [`: the mode and a pause change nothing.
+    fn introduce(&mut self, byte: u8) -> bool
+        requires { self.old ≡ State.Csi }
+        ensures yes { IsTrue result → (raw pause : Bool) → state_after self.old byte raw pause ≡ Open self.new }
+        ensures no { IsFalse result → (raw pause : Bool) → state_after self.old byte raw pause ≡ Whole (meaning_with self.old byte raw) }
+        ensures same { IsFalse result → self.new ≡ self.old }
+    {
+        match byte {
+            b'[' => *self = State::Bracket,
+            b'M' => *self = State::Coded(Codes::Empty),
+            b'<' => *self = State::Sgr(Digits::empty()),
+            b'?' => *self = State::Private,
+            b'0'..=b'9' => {
+                *self = State::Numbered(Digits::new(byte), Opening::new(byte));
+            }
+            _ => return false,
+        }
+        true
+    }
+
+    /// A byte after `ESC [ ?`.
+    fn reply(&mut self, byte: u8) -> bool
+        requires { self.old ≡ State.Private }
+        ensures yes { IsTrue result → (raw pause : Bool) → state_after self.old byte raw pause ≡ Open self.new }
+        ensures no { IsFalse result → (raw pause : Bool) → state_after self.old byte raw pause ≡ Whole (meaning_with self.old byte raw) }
+        ensures same { IsFalse result → self.new ≡ self.old }
+    {
+        if byte == b'c' {
+            return false;
+        }
+        *self = State::Reply(byte);
+        true
+    }
+
+    /// A final byte of a numbered sequence, which opens a paste or ends the sequence.
+    #[inline(always)]
+    fn open_paste(&mut self, byte: u8) -> bool
+        requires { (digits : Digits) × (opening : Opening) × (self.old ≡ State.Numbered digits opening) × (is_final byte ≡ true) }
+        ensures yes { IsTrue result → (raw pause : Bool) → state_after self.old byte raw pause ≡ Open self.new }
+        ensures no { IsFalse result → (raw pause : Bool) → state_after self.old byte raw pause ≡ Whole (meaning_with self.old byte raw) }
+        ensures same { IsFalse result → self.new ≡ self.old }
+    {
+        if byte == b'~' && matches!(self, State::Numbered(_, Opening::Zeros)) {
+            *self = State::Paste(Met::Nothing);
+            return true;
+        }
+        false
+    }
+
+    /// What the sequence means that is whole with the byte.
+    pub fn meaning(&self, byte: u8, raw: bool) -> Option<Meaning>
+        ensures { result ≡ meaning_with self.now byte raw }
     {
         match self {
-            State::Numbered(digits, opening) if ends_number(*opening, byte) => {
-                Some(digits.meaning(byte, raw))
+            State::Ground => match byte {
+                27 => Some(pressed_alone(KeyCode::Esc)),
+                _ => meaning_of_byte(byte, raw),
+            },
+            State::Escape => match byte {
+                27 => Some(pressed_alone(KeyCode::Esc)),
+                _ => plus_alt(meaning_of_byte(byte, raw)),
+            },
+            State::Ss3 => meaning_after_ss3(byte),
+            State::Csi => meaning_after_csi(byte),
+            State::Bracket => meaning_after_bracket(byte),
+            State::Coded(codes) => codes.meaning(byte),
+            State::Sgr(digits) => digits.sgr(byte),
+            State::Private => Some(Meaning::PrimaryDeviceAttributes),
+            State::Reply(first) => match byte {
+                b'u' => Some(meaning_of_flags(*first)),
+                _ => Some(Meaning::PrimaryDeviceAttributes),
+            },
+            State::Numbered(digits, _) => digits.meaning(byte, raw),
+            State::Paste(_) => None,
+            State::Utf8(character) => character.meaning(byte),
+        }
+    }
+
+    /// Puts the printable letters in front into the ground state, and tells how many. Each is whole by itself.
+    #[inline(always)]
+    pub fn put_letters<L: Ledger>(&self, bytes: &[u8], steps: &mut Steps<L>) -> usize
+        requires { self.now ≡ State.Ground }
+        ensures within { result ≤ length bytes.now }
+        ensures letters { AllByRecursion IsLetter (take result bytes.now) }
+        ensures steps { steps.new ≡ steps.old + result }
+    {
+        let count = letters_in(bytes);
+        steps.count(count as u64);
+        count
+    }
+
+    /// Puts the character in UTF-8 in front into the ground state, which it is a sequence of: gives it, and how many bytes it has.
+    ///
+    /// Where there is none of two bytes or more, nothing is put.
+    #[inline(always)]
+    pub fn put_character<L: Ledger>(
+        &self,
+        bytes: &[u8],
+        steps: &mut Steps<L>,
+    ) -> Option<(char, usize)>
+        requires { self.now ≡ State.Ground }
+        ensures character { IfSome result (λ it. IsCharacterOf bytes.now it.0 it.1) }
+        ensures some { IfSome result (λ it. steps.new ≡ steps.old + it.1) }
+        ensures none { IfNone result (steps.new ≡ steps.old) }
+    {
+        match decode_utf8(bytes) {
+            (Some(c), size) if size > 1 => {
+                steps.count(size as u64);
+                Some((c, size))
             }
-            State::Sgr(digits) if is_mouse_final(byte) => Some(digits.sgr(byte)),
-            State::Csi if is_plain_final(byte) => Some(meaning_after_csi(byte)),
-            State::Ss3 => Some(meaning_after_ss3(byte)),
             _ => None,
         }
     }
 
-    /// The state after one more byte, or what the sequence means that it ends.
-    pub fn put<L: Ledger>(self, byte: u8, raw: bool, pause: bool, steps: &mut Steps<L>) -> Step
-        ensures next { result ≡ state_after self byte raw pause }
-        ensures steps { steps.new ≡ steps.old + 1 }
+    /// Puts the bytes in front with which the numbers of a sequence go on, and tells how many.
+    #[inline(never)]
+    pub fn put_numbers<L: Ledger>(&mut self, bytes: &[u8], steps: &mut Steps<L>) -> usize
+        ensures within { result ≤ length bytes.now }
+        ensures opens { Opens self.old self.new (take result bytes.now) }
+        ensures steps { steps.new ≡ steps.old + result }
     {
-        steps.count(1);
-        self.after(byte, raw, pause)
-    }
-
-    fn after(self, byte: u8, raw: bool, pause: bool) -> Step
-        ensures { result ≡ state_after self byte raw pause }
-    {
-        match self {
-            State::Ground => begun(byte, raw, pause),
-            State::Escape => escaped(byte, raw),
-            State::Ss3 => Step::Whole(meaning_after_ss3(byte)),
-            State::Csi => introduced(byte),
-            State::Bracket => Step::Whole(meaning_after_bracket(byte)),
-            State::Coded(codes) => coded(codes, byte),
-            State::Sgr(digits) => {
-                if is_mouse_final(byte) {
-                    return Step::Whole(digits.sgr(byte));
-                }
-                let mut longer = digits;
-                longer.read(byte);
-                Step::Open(State::Sgr(longer))
-            }
-            State::Private => match byte {
-                b'c' => Step::Whole(Some(Meaning::PrimaryDeviceAttributes)),
-                _ => Step::Open(State::Reply(byte)),
-            },
-            State::Reply(first) => match byte {
-                b'c' => Step::Whole(Some(Meaning::PrimaryDeviceAttributes)),
-                b'u' => Step::Whole(Some(meaning_of_flags(first))),
-                _ => Step::Open(self),
-            },
-            State::Numbered(digits, opening) => {
-                if is_final_byte(byte) {
-                    return number_end(opening, digits, raw, byte);
-                }
-                let mut longer = digits;
-                longer.read(byte);
-                Step::Open(State::Numbered(longer, opening.put(byte)))
-            }
-            State::Paste(met) => met.put(byte),
-            State::Utf8(character) => match character.next(byte) {
-                Grown::More(begun) => Step::Open(State::Utf8(Character { begun, ..character })),
-                Grown::Over(meaning) => Step::Whole(meaning),
-            },
-        }
+        let count = match self {
+            State::Numbered(digits, opening) => read_numbers(digits, opening, bytes),
+            State::Sgr(digits) => read_reports(digits, bytes),
+            _ => 0,
+        };
+        steps.count(count as u64);
+        count
     }
 }

@@ -3,9 +3,10 @@
 ghost use Rattle.std.specs.Prelude.{◌≡◌, ◌<◌};
 
 use crate::refused::endless;
+use crossterm_parse::meaning::Meaning;
 use crossterm_parse::parse::Parser;
 use crossterm_parse::paste::PasteText;
-use crossterm_parse::state::{State, Step};
+use crossterm_parse::state::{Progress, State};
 use crossterm_parse::steps::Steps;
 use crossterm_read::read::{Call, Reply, Trace, play};
 use crossterm_read::source::Act;
@@ -119,22 +120,41 @@ fn copied<T: Copy>(value: &T) -> T {
 
 /// Whether ESC opens a sequence, from a copy of the ground state.
 fn opens<L: Ledger>(steps: &mut Steps<L>) -> bool {
-    let state = copied(&State::Ground);
-    matches!(
-        state.put(27, false, false, steps),
-        Step::Open(State::Escape)
-    )
+    let mut state = copied(&State::Ground);
+    let goes_on = matches!(state.put(27, false, steps), Progress::Open);
+    goes_on && matches!(state, State::Escape)
+}
+
+/// Whether the numbers of a key are read at once, and what the key means is asked of its state.
+fn reads_numbers<L: Ledger>(steps: &mut Steps<L>) -> bool {
+    let mut state = copied(&State::Ground);
+    for byte in b"\x1b[1" {
+        if !matches!(state.put(*byte, false, steps), Progress::Open) {
+            return false;
+        }
+    }
+    let read = state.put_numbers(b";5A", steps) == 2;
+    let whole = matches!(state.put(b'A', false, steps), Progress::Whole);
+    read && whole && matches!(state.meaning(b'A', false), Some(Meaning::Key(_)))
+}
+
+/// Whether text is put in at once.
+fn reads_text<L: Ledger>(steps: &mut Steps<L>) -> bool {
+    let ground = State::Ground;
+    let letters = ground.put_letters(b"ab\x1b", steps) == 2;
+    letters && matches!(ground.put_character(b"\xc3\xa9a", steps), Some(('é', 2)))
 }
 
 /// Whether a text is what was put in, without the five bytes of its end.
 fn keeps<L: Ledger>(alloc: Global, steps: &mut Steps<L>) -> Result<bool, AllocError> {
     let mut text: PasteText<Global> = PasteText::new(alloc);
-    for byte in b"a\x1b[201" {
+    let joined = text.extend(b"a\x1b", steps)? == 1;
+    for byte in b"\x1b[201" {
         text.push(*byte)?;
     }
     let seen = text.look(0, steps) == Some(b'a') && text.look(6, steps).is_none();
     let closed: String = text.close(steps)?;
-    Ok(seen && closed.as_str() == "a")
+    Ok(joined && seen && closed.as_str() == "a")
 }
 
 /// Whether a letter is taken where the steps are counted.
@@ -150,7 +170,8 @@ fn counts<L: Ledger>(alloc: Global, blank: Blank) -> bool
 {
     let mut steps: Steps<L> = Steps::new(blank);
     let kept = matches!(keeps(alloc, &mut steps), Ok(true));
-    kept && opens(&mut steps) && advances(alloc, &mut steps)
+    let runs = reads_numbers(&mut steps) && reads_text(&mut steps);
+    kept && runs && opens(&mut steps) && advances(alloc, &mut steps)
 }
 
 fn counts_anew(alloc: Global) -> bool {

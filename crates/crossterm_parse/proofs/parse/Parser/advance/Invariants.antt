@@ -1,13 +1,17 @@
-use Rattle.std.proofs.Common.{◌≤◌, ◌+◌, ◌*◌, take, length}
+use Rattle.std.proofs.Common.{◌≤◌, ◌+◌, ◌-◌, ◌*◌, take, length}
 use Rattle.crossterm_parse.specs.Marked.{marked}
 use Rattle.crossterm_parse.specs.Standing.{AdvancesOver}
 use Rattle.crossterm_parse.proofs.parse.Parser.advance.Given as goal
 
 -- the bytes before this one were taken
-abbrev pub invariant-loop-i : goal.invariant-loop-i
-invariant-loop-i g l = record {
-  divided : AdvancesOver l.initial.self l.self (take l.i (marked l.piece l.more l.raw));
-  room : l.initial.self.room ≤ l.self.room + l.i;
-  steps : l.steps + length l.self.text ≤ l.initial.steps + length l.initial.self.text + 2 * l.i;
-  counted : l.initial.steps + l.i ≤ l.steps;
+abbrev pub invariant-loop-place : goal.invariant-loop-place
+invariant-loop-place g l = record {
+  within : l.place ≤ length l.piece;
+  divided : AdvancesOver l.initial.self l.self (take l.place (marked l.piece l.more l.raw));
+  room : l.initial.self.room ≤ l.self.room + l.place;
+  steps : l.steps + length l.self.text ≤ l.initial.steps + length l.initial.self.text + 2 * l.place;
+  counted : l.initial.steps + l.place ≤ l.steps;
 }
+
+abbrev pub decreases-loop-place : goal.decreases-loop-place
+decreases-loop-place g l = length l.piece - l.place

@@ -1,0 +1,172 @@
+//! Runs: bytes that are put in at once, with what comes of putting in each by itself. Where there is no room, and none can be made, a
+//! run takes fewer.
+ghost use Rattle.std.specs.Prelude.{◌≡◌, ◌+◌, ◌*◌, ◌≤◌, ◌<◌, [], length, take, IsTrue};
+ghost use Rattle.crossterm_parse.specs.Standing.{Gives, PutsAll};
+
+use super::Parser;
+use crate::meaning::{Meaning, letter_key, typed_key};
+use crate::paste::Met;
+use crate::state::State;
+use crate::steps::Steps;
+use crossterm_types::event::{Event, InternalEvent, KeyEvent};
+use std::alloc::Allocator;
+use std::sync::ledger::Ledger;
+
+impl<A: Allocator + Clone> Parser<A> {
+    /// Whether there is room for an event, which is made where there is none.
+    #[inline(always)]
+    fn has_room(&mut self) -> bool
+        ensures still { PutsAll self.old self.new [] }
+        ensures grows { self.old.room ≤ self.new.room }
+        ensures some { IsTrue result → 0 < self.new.room }
+    {
+        self.waiting.reserve(1).is_ok()
+    }
+
+    /// For how many events there is room.
+    fn room(&self) -> usize
+        ensures { result ≡ self.now.room }
+    {
+        self.waiting.capacity().saturating_sub(self.waiting.len())
+    }
+
+    /// Gives the event of a key, for which there is room.
+    #[inline(always)]
+    fn give_key(&mut self, key: KeyEvent)
+        requires ground { self.old.state ≡ State.Ground }
+        requires room { 0 < self.old.room }
+        ensures gives { Gives self.old self.new (Meaning.Key key) }
+        ensures room { self.new.room + 1 ≡ self.old.room }
+    {
+        self.waiting
+            .push_back_reserved(InternalEvent::Event(Event::Key(key)));
+    }
+
+    /// Gives the events of the letters in front, and tells how many: as many as there is room for, which is made for one at least.
+    fn give_letters<L: Ledger>(&mut self, bytes: &[u8], steps: &mut Steps<L>) -> usize
+        requires { self.old.state ≡ State.Ground }
+        ensures within { result ≤ length bytes.now }
+        ensures puts { PutsAll self.old self.new (take result bytes.now) }
+        ensures state { self.new.state ≡ State.Ground }
+        ensures text { length self.new.text ≡ length self.old.text }
+        ensures room { self.old.room ≤ self.new.room + result }
+        ensures steps { steps.new ≡ steps.old + result }
+    {
+        if !self.has_room() {
+            return 0;
+        }
+        let most = bytes.len().min(self.room());
+        let count = self.state.put_letters(&bytes[..most], steps);
+        for letter in &bytes[..count] {
+            self.give_key(letter_key(*letter));
+        }
+        count
+    }
+
+    /// Gives the event of the character in UTF-8 in front, where there is room for it, and tells how many bytes it has.
+    #[inline(always)]
+    fn give_utf8<L: Ledger>(&mut self, bytes: &[u8], steps: &mut Steps<L>) -> usize
+        requires { self.old.state ≡ State.Ground }
+        ensures within { result ≤ length bytes.now }
+        ensures puts { PutsAll self.old self.new (take result bytes.now) }
+        ensures state { self.new.state ≡ State.Ground }
+        ensures text { length self.new.text ≡ length self.old.text }
+        ensures room { self.old.room ≤ self.new.room + result }
+        ensures steps { steps.new ≡ steps.old + result }
+    {
+        if self.room() == 0 {
+            return 0;
+        }
+        let Some((c, size)) = self.state.put_character(bytes, steps) else {
+            return 0;
+        };
+        self.give_key(typed_key(c));
+        size
+    }
+
+    /// Joins the bytes of the open paste before the next ESC, and tells how many: none where memory is refused.
+    fn keep_all<L: Ledger>(&mut self, bytes: &[u8], steps: &mut Steps<L>) -> usize
+        requires { self.old.state ≡ State.Paste Met.Nothing }
+        ensures within { result ≤ length bytes.now }
+        ensures puts { PutsAll self.old self.new (take result bytes.now) }
+        ensures text { length self.new.text ≡ length self.old.text + result }
+        ensures room { self.old.room ≡ self.new.room }
+        ensures steps { steps.new ≡ steps.old + result }
+    {
+        let Some(text) = &mut self.paste else {
+            return 0;
+        };
+        let Ok(count) = text.extend(bytes, steps) else {
+            return 0;
+        };
+        count
+    }
+
+    /// Puts in the bytes in front with which the numbers of a sequence go on, and tells how many.
+    fn put_numbers<L: Ledger>(&mut self, bytes: &[u8], steps: &mut Steps<L>) -> usize
+        ensures within { result ≤ length bytes.now }
+        ensures puts { PutsAll self.old self.new (take result bytes.now) }
+        ensures text { length self.new.text ≡ length self.old.text }
+        ensures room { self.old.room ≡ self.new.room }
+        ensures steps { steps.new ≡ steps.old + result }
+    {
+        self.state.put_numbers(bytes, steps)
+    }
+
+    /// Gives the events of the letters in front, or that of the character in UTF-8, and tells how many bytes they have.
+    #[inline(always)]
+    fn give_front<L: Ledger>(&mut self, bytes: &[u8], steps: &mut Steps<L>) -> usize
+        requires ground { self.old.state ≡ State.Ground }
+        requires some { 0 < length bytes.now }
+        ensures within { result ≤ length bytes.now }
+        ensures puts { PutsAll self.old self.new (take result bytes.now) }
+        ensures state { self.new.state ≡ State.Ground }
+        ensures text { length self.new.text ≡ length self.old.text }
+        ensures room { self.old.room ≤ self.new.room + result }
+        ensures steps { steps.new ≡ steps.old + result }
+    {
+        match bytes[0] {
+            32..=126 => self.give_letters(bytes, steps),
+            0xC2..=0xF4 => self.give_utf8(bytes, steps),
+            _ => 0,
+        }
+    }
+
+    /// Gives the events of the letters and of the characters in UTF-8 in front, and tells how many bytes they have.
+    fn give_text<L: Ledger>(&mut self, bytes: &[u8], steps: &mut Steps<L>) -> usize
+        requires { self.old.state ≡ State.Ground }
+        ensures within { result ≤ length bytes.now }
+        ensures puts { PutsAll self.old self.new (take result bytes.now) }
+        ensures text { length self.new.text ≡ length self.old.text }
+        ensures room { self.old.room ≤ self.new.room + result }
+        ensures steps { steps.new ≡ steps.old + result }
+    {
+        let mut place = 0;
+        while place < bytes.len() {
+            let count = self.give_front(&bytes[place..], steps);
+            if count == 0 {
+                break;
+            }
+            place += count;
+        }
+        place
+    }
+
+    /// Puts in the bytes in front that a run takes, and tells how many: text where no sequence is open, or what a sequence's numbers or
+    /// a paste go on with.
+    #[inline(always)]
+    pub(super) fn run<L: Ledger>(&mut self, bytes: &[u8], steps: &mut Steps<L>) -> usize
+        ensures within { result ≤ length bytes.now }
+        ensures puts { PutsAll self.old self.new (take result bytes.now) }
+        ensures room { self.old.room ≤ self.new.room + result }
+        ensures steps { steps.new + length self.new.text ≤ steps.old + length self.old.text + 2 * result }
+        ensures counted { steps.old + result ≤ steps.new }
+    {
+        match self.state {
+            State::Ground => self.give_text(bytes, steps),
+            State::Numbered(_, _) | State::Sgr(_) => self.put_numbers(bytes, steps),
+            State::Paste(Met::Nothing) => self.keep_all(bytes, steps),
+            _ => 0,
+        }
+    }
+}
