@@ -39,6 +39,8 @@ mod faults;
 #[cfg(test)]
 mod modes;
 #[cfg(test)]
+mod queries;
+#[cfg(test)]
 mod queueing;
 #[cfg(test)]
 mod refused;

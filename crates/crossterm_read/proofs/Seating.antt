@@ -49,7 +49,7 @@ same_or_not zero (suc b) = inr (λ q. absurd (omega arith))
 same_or_not (suc a) zero = inr (λ q. absurd (omega arith))
 same_or_not (suc a) (suc b) = ⊎_elim (λ (q : a ≡ b). inl (ap suc q)) (λ (q : a ≢ b). inr (λ r. q (omega arith))) (same_or_not a b)
 
-and_both : (a b : Bool) → (a && b) ≡ true → (a ≡ true) × (b ≡ true)
+pub and_both : (a b : Bool) → (a && b) ≡ true → (a ≡ true) × (b ≡ true)
 and_both true b e = (refl, e)
 and_both false b e = absurd (off e)
 

@@ -9,13 +9,8 @@ use Rattle.crossterm_read.specs.Calls.{taken}
 use Rattle.crossterm_read.specs.History.{Entry, Known, Differ, Extends, Meets, Sits, StartsWith, all_events, are_of, calls_by, taken_by}
 use Rattle.crossterm_read.specs.Replies.{Replied, Said, ToPoll, ToTake, ToQuery, Fault, shown}
 use Rattle.crossterm_read.specs.Shelf.{ReaderState}
+use Rattle.crossterm_read.proofs.Seating.{some_of, none_not, same_or_not, and_both}
 use Rattle.meeting.specs.Apart.{ReadApart}
-
-some_of : {X : Type 0} (a b : X) → Some a ≡ Some b → a ≡ b
-some_of a b e = cc
-
-none_not : {X : Type 0} (a : X) → None ≡ Some a → ⊥
-none_not a e = absurd (cc)
 
 there : (xs ys : List Entry) (e : Entry) → slice_get (xs ++ e ∷ ys) (length xs) ≡ Some e
 there [] ys e = refl
@@ -63,16 +58,6 @@ either zero zero n = absurd (n refl)
 either zero (suc j) n = inl (omega arith)
 either (suc i) zero n = inr (omega arith)
 either (suc i) (suc j) n = ⊎_elim (λ (h : i < j). inl (omega arith)) (λ (h : j < i). inr (omega arith)) (either i j (λ e. n (ap suc e)))
-
-same_or_not : (a b : ℕ) → (a ≡ b) ⊎ (a ≢ b)
-same_or_not zero zero = inl refl
-same_or_not zero (suc b) = inr (λ q. absurd (omega arith))
-same_or_not (suc a) zero = inr (λ q. absurd (omega arith))
-same_or_not (suc a) (suc b) = ⊎_elim (λ (q : a ≡ b). inl (ap suc q)) (λ (q : a ≢ b). inr (λ r. q (omega arith))) (same_or_not a b)
-
-and_both : (a b : Bool) → (a && b) ≡ true → (a ≡ true) × (b ≡ true)
-and_both true b e = (refl, e)
-and_both false b e = absurd (true≢false (sym e))
 
 mine_first : (p : ℕ) (e : Entry) (es : List Entry) → e.by ≡ p → calls_by p (e ∷ es) ≡ e ∷ calls_by p es
 mine_first p e es is = ap (λ b. cond b (e ∷ calls_by p es) (calls_by p es)) (eq-eqb e.by p is)

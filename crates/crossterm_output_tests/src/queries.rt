@@ -1,0 +1,283 @@
+//! Queries of a terminal: what they write, in which mode they ask, and what they answer.
+
+ghost use Rattle.std.specs.Prelude.{◌≡◌, ◌≤◌, OnErr, IfOk, ⊤};
+ghost use Rattle.crossterm.specs.Modes.{Refuses};
+ghost use Rattle.crossterm_read.specs.Shared.{IsPassOf};
+
+use crate::witness::Witness;
+use crossterm::cursor::position;
+use crossterm::event::read::InternalEventReader;
+use crossterm::event::source::{Act, DeviceSource, RawFlag, Script};
+use crossterm::event::timeout::Clock;
+use crossterm::event::{EventReader, Pass};
+use crossterm::terminal::{
+    ModeDevice, Terminal, WindowSize, query_keyboard_enhancement_flags,
+    supports_keyboard_enhancement,
+};
+use std::alloc::Global;
+use std::io::{self, ErrorKind};
+use std::sync::Wait;
+use std::sync::atomic::{AtomicU32, Ordering};
+use std::time::Duration;
+
+type Source = DeviceSource<Script>;
+
+/// A call of the device of modes.
+#[derive(Clone, Copy, PartialEq, Eq)]
+enum Call {
+    Mode,
+    SetRaw,
+    SetMode,
+}
+
+/// The digit that stands for a call.
+fn digit(call: Call) -> u32 {
+    match call {
+        Call::Mode => 1,
+        Call::SetRaw => 2,
+        Call::SetMode => 3,
+    }
+}
+
+/// A device of modes that notes its calls, as the digits of a number, and refuses one of them.
+#[derive(Drop)]
+struct Noted<'a> {
+    calls: &'a AtomicU32,
+    refused: Option<Call>,
+    mode: u8,
+    failures: u64,
+}
+
+impl Noted<'_> {
+    /// Notes a call, and fails where it is refused.
+    fn note(&mut self, call: Call) -> io::Result<()>
+        ensures mode { self.new.mode ≡ self.old.mode }
+        ensures rise { self.old.failures ≤ self.new.failures }
+        ensures err { OnErr result (Refuses self.old.failures self.new.failures) }
+    {
+        let before = self.calls.load(Ordering::SeqCst);
+        let calls = before.saturating_mul(10).saturating_add(digit(call));
+        self.calls.store(calls, Ordering::SeqCst);
+        if self.refused == Some(call) {
+            self.failures = self.failures.saturating_add(1);
+            return Err(io::Error::from(ErrorKind::PermissionDenied));
+        }
+        Ok(())
+    }
+}
+
+impl ModeDevice for Noted<'_> {
+    type Mode = u8;
+
+    ghost stands = { λ s. s.mode };
+
+    ghost sized = { λ _ _ _. ⊤ };
+
+    ghost failed = { λ s. s.failures };
+
+    fn mode(&mut self) -> io::Result<u8> {
+        self.note(Call::Mode)?;
+        Ok(self.mode)
+    }
+
+    fn set_raw(&mut self, mode: &u8) -> io::Result<()> {
+        self.note(Call::SetRaw)?;
+        self.mode = mode.saturating_add(100);
+        Ok(())
+    }
+
+    fn set_mode(&mut self, mode: &u8) -> io::Result<()> {
+        self.note(Call::SetMode)?;
+        self.mode = *mode;
+        Ok(())
+    }
+
+    fn window_size(&mut self) -> io::Result<WindowSize> {
+        Ok(WindowSize {
+            rows: 24,
+            columns: 80,
+            width: 0,
+            height: 0,
+        })
+    }
+
+    fn failures(&self) -> u64 {
+        self.failures
+    }
+}
+
+/// A clock that stands still.
+#[derive(Drop)]
+struct Still;
+
+impl Clock for Still {
+    ghost told = { λ _. 0 };
+
+    fn now(&mut self) -> Duration {
+        Duration::ZERO
+    }
+
+    fn last(&self) -> Duration {
+        Duration::ZERO
+    }
+}
+
+/// A shared reader over a script of this act and this text, and its only pass.
+fn alone<R: Wait>(
+    rt: &R,
+    alloc: Global,
+    act: Act,
+    text: &[u8],
+) -> io::Result<(EventReader<Source>, Pass<Source>)>
+    ensures { IfOk result (λ r. IsPassOf r.0 r.1) }
+{
+    let mut acts = Vec::new(alloc);
+    acts.push(act)?;
+    acts.push(Act::Piece {
+        bytes: Vec::from_slice(alloc, text)?,
+        raw: true,
+    })?;
+    let source = DeviceSource::new(alloc, Script::new(acts));
+    let reader = InternalEventReader::new(alloc, source);
+    let (shared, mut passes) = EventReader::new(rt, alloc, reader, 1)?;
+    match passes.pop() {
+        Some(pass) => Ok((shared, pass)),
+        None => Err(io::Error::from(ErrorKind::NotFound)),
+    }
+}
+
+/// What came of a query for the place: the answer, the calls of the device of modes, whether the terminal is raw, and the number of what was taken.
+#[derive(Drop)]
+struct Met {
+    place: io::Result<(u16, u16)>,
+    calls: u32,
+    is_raw: bool,
+    last: Option<u64>,
+}
+
+/// Asks for the place in a terminal that isn't raw.
+fn met<R: Wait>(
+    rt: &R,
+    alloc: Global,
+    act: Act,
+    refused: Option<Call>,
+    out: &mut Witness,
+) -> io::Result<Met> {
+    let calls = AtomicU32::new(0);
+    let mut term = terminal(alloc, &calls, refused)?;
+    let (shared, mut pass) = alone(rt, alloc, act, b"\x1b[20;10R")?;
+    let place = position(rt, &mut term, &shared, &mut pass, out, &mut Still);
+    Ok(Met {
+        place,
+        calls: calls.load(Ordering::SeqCst),
+        is_raw: matches!(term.is_raw_mode_enabled(), Ok(true)),
+        last: pass.last(),
+    })
+}
+
+/// A terminal that isn't raw.
+fn terminal(
+    alloc: Global,
+    calls: &AtomicU32,
+    refused: Option<Call>,
+) -> io::Result<Terminal<Noted<'_>>> {
+    let device = Noted {
+        calls,
+        refused,
+        mode: 7,
+        failures: 0,
+    };
+    Ok(Terminal::new(device, RawFlag::new(alloc)?))
+}
+
+/// Whether the answer is a fault of this kind.
+fn fails<T: Drop>(answer: io::Result<T>, kind: ErrorKind) -> bool {
+    matches!(answer, Err(error) if error.kind() == kind)
+}
+
+/// A writer that takes all.
+fn willing(alloc: Global) -> Witness {
+    Witness::new(alloc, usize::MAX, ErrorKind::Other)
+}
+
+/// Whether the place is told, with raw mode on before and off after, and the query was written and flushed once.
+fn is_told<R: Wait>(rt: &R, alloc: Global) -> io::Result<bool> {
+    let mut out = willing(alloc);
+    let met = met(rt, alloc, Act::Idle, None, &mut out)?;
+    let told = matches!(met.place, Ok((9, 19))) && met.last == Some(0);
+    Ok(told && met.calls == 123 && !met.is_raw && out.saw(b"\x1b[6n", 1, 0))
+}
+
+/// Whether a refused switch is the answer: before the query nothing is written, and after it the reply was taken and the terminal is raw.
+fn answers_refusals<R: Wait>(rt: &R, alloc: Global) -> io::Result<bool> {
+    let mut out = willing(alloc);
+    let before = met(rt, alloc, Act::Idle, Some(Call::SetRaw), &mut out)?;
+    let unwritten = out.saw(b"", 0, 0) && before.calls == 12 && before.last.is_none();
+    let denied = fails(before.place, ErrorKind::PermissionDenied) && !before.is_raw;
+    let after = met(rt, alloc, Act::Idle, Some(Call::SetMode), &mut out)?;
+    let taken = after.last == Some(0) && after.calls == 123 && after.is_raw;
+    let answered = fails(after.place, ErrorKind::PermissionDenied);
+    Ok(unwritten && denied && taken && answered && out.saw(b"\x1b[6n", 1, 0))
+}
+
+/// Whether a wake-up and a fault end the query, each as what it is.
+fn ends<R: Wait>(rt: &R, alloc: Global, act: Act, kind: ErrorKind) -> io::Result<bool> {
+    let mut out = willing(alloc);
+    let met = met(rt, alloc, act, None, &mut out)?;
+    Ok(fails(met.place, kind) && met.calls == 123 && met.last.is_none())
+}
+
+/// Whether a writer that fails after so many bytes is answered, with nothing asked: at the end it is the flush that fails.
+fn is_unwritten<R: Wait>(rt: &R, alloc: Global, room: usize) -> io::Result<bool> {
+    let mut out = Witness::new(alloc, room, ErrorKind::BrokenPipe);
+    let met = met(rt, alloc, Act::Idle, None, &mut out)?;
+    let front = &b"\x1b[6n"[..room.min(4)];
+    let flushes = if room == 4 { 1 } else { 0 };
+    let unasked = met.last.is_none() && met.calls == 123 && !met.is_raw;
+    Ok(fails(met.place, ErrorKind::BrokenPipe) && unasked && out.saw(front, flushes, 0))
+}
+
+#[test]
+fn the_place_is_asked_for_in_raw_mode(rt: HostRuntime) -> io::Result<()> {
+    let alloc = rt.alloc();
+    expect!(rt; is_told(&rt, alloc)?);
+    expect!(rt; answers_refusals(&rt, alloc)?);
+    expect!(rt; ends(&rt, alloc, Act::Woken, ErrorKind::Other)?);
+    expect!(rt; ends(&rt, alloc, Act::Fault(ErrorKind::TimedOut), ErrorKind::TimedOut)?);
+    for room in 0..5usize {
+        expect!(rt; is_unwritten(&rt, alloc, room)?);
+    }
+    Ok(())
+}
+
+/// Whether the flags are told, and what was written for them.
+fn tells_flags<R: Wait>(rt: &R, alloc: Global) -> io::Result<bool> {
+    let calls = AtomicU32::new(0);
+    let mut term = terminal(alloc, &calls, None)?;
+    let mut out = willing(alloc);
+    let (shared, mut pass) = alone(rt, alloc, Act::Idle, b"\x1b[?1u\x1b[?62c")?;
+    let flags =
+        query_keyboard_enhancement_flags(rt, &mut term, &shared, &mut pass, &mut out, &mut Still);
+    let told = matches!(flags, Ok(Some(flags)) if flags.bits() == 1);
+    Ok(told && calls.load(Ordering::SeqCst) == 123 && out.saw(b"\x1b[?u\x1b[c", 1, 0))
+}
+
+/// Whether attributes alone tell that there are no flags.
+fn tells_no_support<R: Wait>(rt: &R, alloc: Global) -> io::Result<bool> {
+    let calls = AtomicU32::new(0);
+    let mut term = terminal(alloc, &calls, None)?;
+    let mut out = willing(alloc);
+    let (shared, mut pass) = alone(rt, alloc, Act::Idle, b"\x1b[?62c")?;
+    let raw = term.enable_raw_mode().is_ok();
+    let known =
+        supports_keyboard_enhancement(rt, &mut term, &shared, &mut pass, &mut out, &mut Still);
+    let unswitched = calls.load(Ordering::SeqCst) == 12;
+    Ok(raw && matches!(known, Ok(false)) && unswitched && out.saw(b"\x1b[?u\x1b[c", 1, 0))
+}
+
+#[test]
+fn the_keyboard_is_asked_for_its_flags(rt: HostRuntime) -> io::Result<()> {
+    expect!(rt; tells_flags(&rt, rt.alloc())?);
+    expect!(rt; tells_no_support(&rt, rt.alloc())?);
+    Ok(())
+}
