@@ -156,7 +156,7 @@ struct Met {
 }
 
 /// Asks for the place in a terminal that isn't raw.
-fn met<R: Wait>(
+fn asked_place<R: Wait>(
     rt: &R,
     alloc: Global,
     act: Act,
@@ -203,7 +203,7 @@ fn willing(alloc: Global) -> Witness {
 /// Whether the place is told, with raw mode on before and off after, and the query was written and flushed once.
 fn is_told<R: Wait>(rt: &R, alloc: Global) -> io::Result<bool> {
     let mut out = willing(alloc);
-    let met = met(rt, alloc, Act::Idle, None, &mut out)?;
+    let met = asked_place(rt, alloc, Act::Idle, None, &mut out)?;
     let told = matches!(met.place, Ok((9, 19))) && met.last == Some(0);
     Ok(told && met.calls == 123 && !met.is_raw && out.saw(b"\x1b[6n", 1, 0))
 }
@@ -211,10 +211,10 @@ fn is_told<R: Wait>(rt: &R, alloc: Global) -> io::Result<bool> {
 /// Whether a refused switch is the answer: before the query nothing is written, and after it the reply was taken and the terminal is raw.
 fn answers_refusals<R: Wait>(rt: &R, alloc: Global) -> io::Result<bool> {
     let mut out = willing(alloc);
-    let before = met(rt, alloc, Act::Idle, Some(Call::SetRaw), &mut out)?;
+    let before = asked_place(rt, alloc, Act::Idle, Some(Call::SetRaw), &mut out)?;
     let unwritten = out.saw(b"", 0, 0) && before.calls == 12 && before.last.is_none();
     let denied = fails(before.place, ErrorKind::PermissionDenied) && !before.is_raw;
-    let after = met(rt, alloc, Act::Idle, Some(Call::SetMode), &mut out)?;
+    let after = asked_place(rt, alloc, Act::Idle, Some(Call::SetMode), &mut out)?;
     let taken = after.last == Some(0) && after.calls == 123 && after.is_raw;
     let answered = fails(after.place, ErrorKind::PermissionDenied);
     Ok(unwritten && denied && taken && answered && out.saw(b"\x1b[6n", 1, 0))
@@ -223,14 +223,14 @@ fn answers_refusals<R: Wait>(rt: &R, alloc: Global) -> io::Result<bool> {
 /// Whether a wake-up and a fault end the query, each as what it is.
 fn ends<R: Wait>(rt: &R, alloc: Global, act: Act, kind: ErrorKind) -> io::Result<bool> {
     let mut out = willing(alloc);
-    let met = met(rt, alloc, act, None, &mut out)?;
+    let met = asked_place(rt, alloc, act, None, &mut out)?;
     Ok(fails(met.place, kind) && met.calls == 123 && met.last.is_none())
 }
 
 /// Whether a writer that fails after so many bytes is answered, with nothing asked: at the end it is the flush that fails.
 fn is_unwritten<R: Wait>(rt: &R, alloc: Global, room: usize) -> io::Result<bool> {
     let mut out = Witness::new(alloc, room, ErrorKind::BrokenPipe);
-    let met = met(rt, alloc, Act::Idle, None, &mut out)?;
+    let met = asked_place(rt, alloc, Act::Idle, None, &mut out)?;
     let front = &b"\x1b[6n"[..room.min(4)];
     let flushes = if room == 4 { 1 } else { 0 };
     let unasked = met.last.is_none() && met.calls == 123 && !met.is_raw;
