@@ -1,0 +1,74 @@
+//! Polls with a limit, where nobody else has the reader.
+ghost use Rattle.crossterm_read.specs.Shared.{IsPassOf};
+
+use crate::devices::{Reader, Still, Ticking, alone, letter, script_of, text};
+use crossterm_read::read::{EventReader, Pass};
+use crossterm_read::source::{Act, DeviceSource, Script};
+use crossterm_types::event::filter::AnyFilter;
+use crossterm_types::event::timeout::Clock;
+use std::alloc::{AllocError, Global};
+use std::io;
+use std::sync::Wait;
+use std::time::Duration;
+
+/// A reader over a script that is idle so many times, and then tells the letter `a`.
+fn idle_and_letter(alloc: Global, times: u32) -> Result<Reader<Script>, AllocError> {
+    let mut acts = Vec::new(alloc);
+    for _ in 0..times {
+        acts.push(Act::Idle)?;
+    }
+    acts.push(text(alloc, b"a")?)?;
+    Ok(script_of(alloc, acts))
+}
+
+type Source = DeviceSource<Script>;
+
+/// Whether a poll with limit zero answers so.
+fn polls_at_once<R: Wait>(
+    rt: &R,
+    shared: &EventReader<Source>,
+    pass: &mut Pass<Source>,
+    want: bool,
+) -> bool
+    requires { IsPassOf shared.now pass.old }
+    ensures { IsPassOf shared.now pass.new }
+{
+    let zero = Some(Duration::ZERO);
+    matches!(shared.poll_by(rt, pass, zero, &mut Still, AnyFilter::Event), Ok(ready) if ready == want)
+}
+
+/// Whether a poll with limit zero asks once, and sees what is held.
+fn asks_once<R: Wait>(rt: &R, alloc: Global) -> io::Result<bool> {
+    let (shared, mut pass) = alone(rt, alloc, idle_and_letter(alloc, 1)?)?;
+    let idle = polls_at_once(rt, &shared, &mut pass, false);
+    let came = polls_at_once(rt, &shared, &mut pass, true);
+    let held = polls_at_once(rt, &shared, &mut pass, true);
+    Ok(idle && came && held)
+}
+
+#[test]
+fn no_time_asks_once(rt: HostRuntime) -> io::Result<()> {
+    expect!(rt; asks_once(&rt, rt.alloc())?);
+    Ok(())
+}
+
+/// Whether 100 ms have gone, and not many more.
+fn has_gone_on(clock: &Ticking) -> bool {
+    let told = clock.last();
+    told >= Duration::from_millis(100) && told < Duration::from_millis(110)
+}
+
+/// Whether a poll ends when the clock has passed its limit, and leaves what comes later.
+fn ends_in_time<R: Wait>(rt: &R, alloc: Global) -> io::Result<bool> {
+    let (shared, mut pass) = alone(rt, alloc, idle_and_letter(alloc, 200)?)?;
+    let mut clock = Ticking::new();
+    let ready = shared.poll(rt, &mut pass, Duration::from_millis(100), &mut clock);
+    let ended = matches!(ready, Ok(false)) && has_gone_on(&clock);
+    Ok(ended && letter(shared.read(rt, &mut pass)) == Some('a'))
+}
+
+#[test]
+fn a_limit_passes(rt: HostRuntime) -> io::Result<()> {
+    expect!(rt; ends_in_time(&rt, rt.alloc())?);
+    Ok(())
+}
