@@ -256,8 +256,9 @@ fn tells_flags<R: Wait>(rt: &R, alloc: Global) -> io::Result<bool> {
     let mut term = terminal(alloc, &calls, None)?;
     let mut out = willing(alloc);
     let (shared, mut pass) = alone(rt, alloc, Act::Idle, b"\x1b[?1u\x1b[?62c")?;
-    let flags =
-        query_keyboard_enhancement_flags(rt, &mut term, &shared, &mut pass, &mut out, &mut Still);
+    let flags = query_keyboard_enhancement_flags(
+        rt, &mut term, &shared, &mut pass, &mut out, &mut Still,
+    );
     let told = matches!(flags, Ok(Some(flags)) if flags.bits() == 1);
     Ok(told && calls.load(Ordering::SeqCst) == 123 && out.saw(b"\x1b[?u\x1b[c", 1, 0))
 }
@@ -269,8 +270,9 @@ fn tells_no_support<R: Wait>(rt: &R, alloc: Global) -> io::Result<bool> {
     let mut out = willing(alloc);
     let (shared, mut pass) = alone(rt, alloc, Act::Idle, b"\x1b[?62c")?;
     let raw = term.enable_raw_mode().is_ok();
-    let known =
-        supports_keyboard_enhancement(rt, &mut term, &shared, &mut pass, &mut out, &mut Still);
+    let known = supports_keyboard_enhancement(
+        rt, &mut term, &shared, &mut pass, &mut out, &mut Still,
+    );
     let unswitched = calls.load(Ordering::SeqCst) == 12;
     Ok(raw && matches!(known, Ok(false)) && unswitched && out.saw(b"\x1b[?u\x1b[c", 1, 0))
 }

@@ -76,19 +76,19 @@ by_two p q (e ∷ es) low_p low_q differ of_two =
     let P = taken_by (calls_by p es) in
     let Q = taken_by (calls_by q es) in
     let all : IsPermutation (taken_by (e ∷ es)) (T ++ (P ++ Q)) =
-        subst (λ l. IsPermutation l (T ++ (P ++ Q))) (sym (taken_first e.reply (map (λ b. b.reply) es))) (IsPermutation-append_right T (taken_by es) (P ++ Q) rest) in
+    subst (λ l. IsPermutation l (T ++ (P ++ Q))) (sym (taken_first e.reply (map (λ b. b.reply) es))) (IsPermutation-append_right T (taken_by es) (P ++ Q) rest) in
     ⊎_elim
     (λ (is : e.by ≡ p).
-        let own : taken_by (calls_by p (e ∷ es)) ≡ T ++ P = ap taken_by (mine_first p e es is) ∙ taken_first e.reply (map (λ b. b.reply) (calls_by p es)) in
-        let none : taken_by (calls_by q (e ∷ es)) ≡ Q = ap taken_by (others_first q e es (λ r. differ (sym is ∙ r))) in
-        subst (λ l. IsPermutation (taken_by (e ∷ es)) l) (sym (append_assoc T P Q) ∙ ap (λ l. l ++ Q) (sym own) ∙ ap (λ l. taken_by (calls_by p (e ∷ es)) ++ l) (sym none)) all)
+    let own : taken_by (calls_by p (e ∷ es)) ≡ T ++ P = ap taken_by (mine_first p e es is) ∙ taken_first e.reply (map (λ b. b.reply) (calls_by p es)) in
+    let none : taken_by (calls_by q (e ∷ es)) ≡ Q = ap taken_by (others_first q e es (λ r. differ (sym is ∙ r))) in
+    subst (λ l. IsPermutation (taken_by (e ∷ es)) l) (sym (append_assoc T P Q) ∙ ap (λ l. l ++ Q) (sym own) ∙ ap (λ l. taken_by (calls_by p (e ∷ es)) ++ l) (sym none)) all)
     (λ (n : e.by ≢ p).
-        let is : e.by ≡ q = the_other e.by p q low low_p low_q n differ in
-        let own : taken_by (calls_by q (e ∷ es)) ≡ T ++ Q = ap taken_by (mine_first q e es is) ∙ taken_first e.reply (map (λ b. b.reply) (calls_by q es)) in
-        let none : taken_by (calls_by p (e ∷ es)) ≡ P = ap taken_by (others_first p e es n) in
-        let turned : IsPermutation (T ++ (P ++ Q)) (P ++ (T ++ Q)) =
-            subst (λ (l : List (Seen × ℕ) × List (Seen × ℕ)). IsPermutation l.0 l.1) (λ i. (append_assoc T P Q i, append_assoc P T Q i)) (IsPermutation-append_left Q (T ++ P) (P ++ T) (IsPermutation-append_comm T P)) in
-        subst (λ l. IsPermutation (taken_by (e ∷ es)) l) (ap (λ l. P ++ l) (sym own) ∙ ap (λ l. l ++ taken_by (calls_by q (e ∷ es))) (sym none)) (IsPermutation-trans (taken_by (e ∷ es)) (T ++ (P ++ Q)) (P ++ (T ++ Q)) all turned))
+    let is : e.by ≡ q = the_other e.by p q low low_p low_q n differ in
+    let own : taken_by (calls_by q (e ∷ es)) ≡ T ++ Q = ap taken_by (mine_first q e es is) ∙ taken_first e.reply (map (λ b. b.reply) (calls_by q es)) in
+    let none : taken_by (calls_by p (e ∷ es)) ≡ P = ap taken_by (others_first p e es n) in
+    let turned : IsPermutation (T ++ (P ++ Q)) (P ++ (T ++ Q)) =
+    subst (λ (l : List (Seen × ℕ) × List (Seen × ℕ)). IsPermutation l.0 l.1) (λ i. (append_assoc T P Q i, append_assoc P T Q i)) (IsPermutation-append_left Q (T ++ P) (P ++ T) (IsPermutation-append_comm T P)) in
+    subst (λ l. IsPermutation (taken_by (e ∷ es)) l) (ap (λ l. P ++ l) (sym own) ∙ ap (λ l. l ++ taken_by (calls_by q (e ∷ es))) (sym none)) (IsPermutation-trans (taken_by (e ∷ es)) (T ++ (P ++ Q)) (P ++ (T ++ Q)) all turned))
     (same_or_not e.by p)
   where
     the_other : (a p q : ℕ) → a < 2 → p < 2 → q < 2 → a ≢ p → p ≢ q → a ≡ q

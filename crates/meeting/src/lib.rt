@@ -4,6 +4,7 @@
 //! one legal history, at two places; no event went to both, and of a reader with no further pass none was lost between them. That two
 //! passes are of a reader with as many passes is what `EventReader::new` says of those that it gives.
 #![tactic(auto)]
+
 ghost use Rattle.std.specs.Prelude.{◌≡◌, ◌⊎◌, Bool, Result};
 ghost use Rattle.std.specs.declared.io.Error.{Error};
 ghost use Rattle.crossterm_types.specs.declared.event.filter.AnyFilter.TheVariants as filters;
@@ -20,11 +21,10 @@ use crossterm_types::event::InternalEvent;
 use crossterm_types::event::filter::AnyFilter;
 use crossterm_types::event::timeout::Clock;
 use std::alloc::Allocator;
-use std::io;
 use std::sync::Wait;
-use std::thread;
 use std::thread::Threads;
 use std::time::Duration;
+use std::{io, thread};
 
 /// Each of two passes reads: no event goes to both.
 pub fn two_reads<S: EventSource<A>, A: Allocator, R: Wait>(
