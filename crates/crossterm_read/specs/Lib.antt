@@ -6,6 +6,7 @@ pub mod Entries
 pub mod History
 pub mod Numbers
 pub mod Queries
+pub mod Reading
 pub mod Replies
 pub mod Scripted
 pub mod Seats

@@ -1,10 +1,11 @@
 //! From a device to the events that one thread reads, or many: crossterm's `event::source` and `event::read`.
 //!
-//! A device tells bytes, resizes and wake-ups (`source::Device`). A source hands the bytes to the parser and gives events
+//! A device tells bytes, resizes and wake-ups (`source::Device`): those of a script, of a reader (`source::ReadDevice`), or of what the
+//! system can watch (`source::PolledDevice`). A source hands the bytes to the parser and gives events
 //! (`source::DeviceSource`). A reader holds the events in the order of their arrival until they are taken
 //! (`read::InternalEventReader`). Threads share a reader (`read::EventReader`), each with a `read::Pass`.
 //!
-//! It stands on `crossbeam_queue`, for the slot of a shared reader, on `crossterm_parse`, for the division of bytes into sequences, and on `crossterm_types`, for events and filters.
+//! It stands on `crossbeam_queue`, for the slot of a shared reader, on `mio`, for devices that wait within a limit, on `crossterm_parse`, for the division of bytes into sequences, and on `crossterm_types`, for events and filters.
 //!
 //! The layers above use the steps of `InternalEventReader::{poll_within, read_within, take, position_within, keyboard_within}` over
 //! any `source::EventSource`, those of `poll` and `read`, which wait for a limit of time or without one, and
@@ -14,6 +15,7 @@
 //! | Definitions | Of |
 //! |---|---|
 //! | `specs/Device.antt`, `specs/Scripted.antt` | what a device tells, and what a script does |
+//! | `specs/Reading.antt`, `specs/Waking.antt` | what a device over a reader tells, and which wakers are alike |
 //! | `specs/Answers.antt`, `specs/Turns.antt` | what a source answers, one turn after another |
 //! | `specs/Blocks.antt` | what a device's words bring about, and what a source tells of it |
 //! | `specs/Shelf.antt`, `specs/Numbers.antt` | what a reader holds, and how arrivals are numbered |

@@ -11,14 +11,21 @@ ghost use Rattle.crossterm_read.specs.Turns.{Source, SourceDrawn, source_none, s
 ghost use Rattle.crossterm_read.specs.declared.source.waker.Waker.{Waker};
 
 mod device;
+mod failures;
+mod polled;
 mod raw_flag;
+mod reader;
 mod script;
+mod sizes;
 mod waker;
+mod watch;
 
 use crossterm_parse::parse::Parser;
 use crossterm_types::event::{Event, InternalEvent};
 pub use device::{Answer, Device};
+pub use polled::PolledDevice;
 pub use raw_flag::RawFlag;
+pub use reader::ReadDevice;
 pub use script::{Act, Script};
 use std::alloc::{Allocator, Global};
 use std::io;
@@ -40,7 +47,7 @@ pub trait EventSource<A: Allocator>: Drop {
     /// The wakers of the device.
     ghost wakes: { Self → Waker → Type 0 } = { λ _ _. ⊤ };
 
-    /// The next event, or `None` where none came within the limit.
+    /// The next event, or `None`: nothing came within the limit, or bytes came that ended no event, perhaps long before it.
     ///
     /// The error is `OutOfMemory` where memory was refused, `UnexpectedEof` at the end of input, `Interrupted` where the source
     /// was woken, and else the device's. After each of them the source goes on where it stood.

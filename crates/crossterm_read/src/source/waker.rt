@@ -3,7 +3,7 @@ ghost use Rattle.std.specs.Prelude.{◌≡◌, IsOk, IfOk, IfErr};
 ghost use Rattle.std.specs.IoError.{error_kind};
 ghost use Rattle.std.specs.declared.io.ErrorKind.TheVariants.{OutOfMemory};
 ghost use Rattle.crossterm_read.specs.Waking.{IsSure, WakesAs};
-ghost use Rattle.crossterm_read.specs.declared.source.waker.Kind.TheVariants.{Flag, Nobody};
+ghost use Rattle.crossterm_read.specs.declared.source.waker.Kind.TheVariants.{Flag, Nobody, Mio};
 
 use std::io;
 use std::sync::Arc;
@@ -20,6 +20,7 @@ pub struct Waker {
 enum Kind {
     Nobody,
     Flag(Arc<AtomicBool>),
+    Mio(Arc<mio::Waker>),
 }
 
 impl Waker {
@@ -41,6 +42,15 @@ impl Waker {
         }
     }
 
+    /// A waker of a `mio::Poll`, for a device that waits there.
+    pub fn from_mio(waker: Arc<mio::Waker>) -> Waker
+        ensures mio { result.kind ≡ Mio waker }
+    {
+        Waker {
+            kind: Kind::Mio(waker),
+        }
+    }
+
     /// The same waker, for another who wakes. The error is `OutOfMemory`.
     pub fn share(&self) -> io::Result<Waker>
         ensures same { IfOk result (WakesAs self.now) }
@@ -49,16 +59,19 @@ impl Waker {
         match &self.kind {
             Kind::Nobody => Ok(Waker::none()),
             Kind::Flag(flag) => Ok(Waker::from_flag(Arc::try_clone(flag)?)),
+            Kind::Mio(waker) => Ok(Waker::from_mio(Arc::try_clone(waker)?)),
         }
     }
 
-    /// Wakes who waits. It waits for nobody. A waker that is sure never fails.
+    /// Wakes who waits, or who waits next. It waits for nobody. A waker that is sure never fails, and one of `mio` by an error of the
+    /// system alone.
     pub fn wake(&self) -> io::Result<()>
         ensures { IsSure self.now → IsOk result }
     {
         match &self.kind {
             Kind::Nobody => {}
             Kind::Flag(flag) => flag.store(true, Ordering::SeqCst),
+            Kind::Mio(waker) => return waker.wake(),
         }
         Ok(())
     }

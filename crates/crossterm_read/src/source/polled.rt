@@ -1,0 +1,171 @@
+//! A device over a descriptor that the system can watch.
+ghost use Rattle.std.specs.Prelude.{◌≡◌, List, [], ◌∷◌, length, IfOk};
+ghost use Rattle.crossterm_read.specs.Device.{CountWithin, word_of};
+ghost use Rattle.crossterm_read.specs.Reading.{ReadingTells, reading_none, reading_on};
+ghost use Rattle.crossterm_read.specs.Waking.{WakesAs};
+ghost use Rattle.crossterm_read.specs.declared.source.waker.Kind.TheVariants.{Mio};
+
+use crate::source::failures::answer_at;
+use crate::source::sizes::Sizes;
+use crate::source::watch::{INPUT, Ready, SIZES, Watch};
+use crate::source::{Answer, Device, RawFlag, Waker};
+use std::alloc::{Allocator, Global};
+use std::fs::File;
+use std::io::{self, ErrorKind, Read};
+use std::net::Net;
+use std::os::fd::AsRawFd;
+use std::sync::Arc;
+use std::time::Duration;
+
+/// A device that tells what comes from a terminal, a pipe, a socket or a file, and waits for it as long as the limit says, and no longer.
+///
+/// The descriptor may be one that blocks: it is read only where the system says that something is there, and what is there comes at
+/// once. A regular file can't be watched, and is read without waiting. A wake-up goes before a size, and that before bytes, however many
+/// come; what was passed over comes with a later answer. It answers `Idle` before the limit where a signal came, or sizes ended or had
+/// no whole line.
+///
+/// A program reads its terminal so: `PolledDevice::new(&rt, rt.alloc(), rt.stdin(), raw, None)?`.
+#[derive(Drop)]
+pub struct PolledDevice<R, A: Allocator = Global> {
+    input: R,
+    sizes: Option<Sizes>,
+    watch: Watch,
+    raw: RawFlag<A>,
+    failures: u64,
+}
+
+impl<R: Read + AsRawFd + Drop, A: Allocator> PolledDevice<R, A> {
+    /// A device that tells what this reader gives from here on, with the mode that the flag says then.
+    ///
+    /// `sizes` tells the sizes of the terminal, in lines `ROWS COLUMNS` as `stty size` writes them. A line that is no size is passed over.
+    /// Where they end, or can't be read, no more come, and the input goes on. `alloc` gives memory for what waits. The error is
+    /// `OutOfMemory`, or the system's where it can't watch them. Then all that was handed in is gone.
+    pub fn new<N: Net>(
+        rt: &N,
+        alloc: Global,
+        input: R,
+        raw: RawFlag<A>,
+        sizes: Option<File>,
+    ) -> io::Result<Self>
+        ensures input { IfOk result (λ device. device.input ≡ input) }
+        ensures failures { IfOk result (λ device. device.failures ≡ 0) }
+    {
+        let mut watch = Watch::new(rt, alloc)?;
+        watch.add(input.as_raw_fd(), INPUT)?;
+        if let Some(file) = &sizes {
+            watch.add(file.as_raw_fd(), SIZES)?;
+        }
+        Ok(PolledDevice {
+            input,
+            sizes: sizes.map(Sizes::new),
+            watch,
+            raw,
+            failures: 0,
+        })
+    }
+}
+
+impl<R: Read + AsRawFd + Drop, A: Allocator + Clone> PolledDevice<R, A> {
+    // Sizes come no more.
+    fn end_sizes(&mut self)
+        ensures input { self.new.input ≡ self.old.input }
+        ensures failures { self.new.failures ≡ self.old.failures }
+    {
+        if let Some(sizes) = self.sizes.take() {
+            self.watch.remove(sizes.fd(), SIZES);
+        }
+    }
+
+    // Asks the system anew what is ready, and waits for it within the limit. What is told twice at once isn't passed over.
+    fn wait(&mut self, limit: Option<Duration>) -> io::Result<Ready>
+        ensures input { self.new.input ≡ self.old.input }
+        ensures failures { self.new.failures ≡ self.old.failures }
+    {
+        self.watch.ask(self.input.as_raw_fd(), INPUT)?;
+        if let Some(sizes) = &self.sizes {
+            if let Err(error) = self.watch.ask(sizes.fd(), SIZES) {
+                self.end_sizes();
+                return Err(error);
+            }
+        }
+        self.watch.wait(limit)
+    }
+
+    // Columns and rows that were told last.
+    fn read_size(&mut self) -> io::Result<Option<(u16, u16)>>
+        ensures input { self.new.input ≡ self.old.input }
+        ensures failures { self.new.failures ≡ self.old.failures }
+    {
+        let Some(sizes) = &mut self.sizes else {
+            return Ok(None);
+        };
+        match sizes.read() {
+            Ok(size) => Ok(size),
+            Err(error) => match error.kind() {
+                ErrorKind::WouldBlock | ErrorKind::Interrupted => Ok(None),
+                ErrorKind::UnexpectedEof => {
+                    self.end_sizes();
+                    Ok(None)
+                }
+                _ => {
+                    self.end_sizes();
+                    Err(error)
+                }
+            },
+        }
+    }
+
+    // Answers once, and counts no failure.
+    fn try_answer(&mut self, buf: &mut [u8], limit: Option<Duration>) -> io::Result<Answer>
+        ensures told { ReadingTells (R.remaining self.old.input) (word_of result buf.new ∷ []) (R.remaining self.new.input) }
+        ensures count { IfOk result (λ a. CountWithin a (length buf.new)) }
+        ensures failures { self.new.failures ≡ self.old.failures }
+    {
+        let ready = self.wait(limit)?;
+        if ready.woken {
+            return Ok(Answer::Woken);
+        }
+        if ready.sizes {
+            if let Some((columns, rows)) = self.read_size()? {
+                return Ok(Answer::Resize(columns, rows));
+            }
+        }
+        if !ready.input {
+            return Ok(Answer::Idle);
+        }
+        let count = self.input.read(buf)?;
+        Ok(Answer::Bytes {
+            count,
+            raw: self.raw.get(),
+        })
+    }
+}
+
+impl<R: Read + AsRawFd + Drop, A: Allocator + Clone> Device for PolledDevice<R, A> {
+    // What it tells are its reader's next bytes, wherever the reader says what it gives.
+    ghost told = { λ s xs t. ReadingTells (R.remaining s.input) xs (R.remaining t.input) };
+
+    ghost failed = { λ s. s.failures };
+
+    ghost wakes = { λ s. WakesAs (record { kind = Mio s.watch.waker }) };
+
+    ghost none_told = { λ s. reading_none (R.remaining s.input) };
+
+    ghost told_on = { λ s t u xs ys d e. reading_on (R.remaining s.input) (R.remaining t.input) (R.remaining u.input) xs ys d e };
+
+    fn answer(&mut self, buf: &mut [u8], limit: Option<Duration>) -> io::Result<Answer> {
+        match self.try_answer(buf, limit) {
+            Ok(answer) => Ok(answer),
+            Err(error) => answer_at(&mut self.failures, error),
+        }
+    }
+
+    fn failures(&self) -> u64 {
+        self.failures
+    }
+
+    /// What wakes who waits for this device. The error is `OutOfMemory`.
+    fn waker(&self) -> io::Result<Waker> {
+        Ok(Waker::from_mio(Arc::try_clone(&self.watch.waker)?))
+    }
+}

@@ -1,0 +1,69 @@
+//! A device over a reader.
+ghost use Rattle.std.specs.Prelude.{◌≡◌, IsOkAnd};
+ghost use Rattle.crossterm_read.specs.Reading.{ReadingTells, reading_none, reading_on};
+ghost use Rattle.crossterm_read.specs.Waking.{IsSure};
+
+use crate::source::failures::answer_at;
+use crate::source::{Answer, Device, RawFlag, Waker};
+use std::alloc::{Allocator, Global};
+use std::io::{self, Read};
+use std::time::Duration;
+
+/// A device that tells the bytes of a reader, as they come.
+///
+/// Each answer is one read, which waits as the reader does, whatever the limit. Over a reader that never waits it doesn't either: where that
+/// answers `WouldBlock` or `Interrupted`, nothing came yet. So a program that serves many has one for each, and asks those that are ready.
+#[derive(Drop)]
+pub struct ReadDevice<R, A: Allocator = Global> {
+    input: R,
+    raw: RawFlag<A>,
+    failures: u64,
+}
+
+impl<R: Read + Drop, A: Allocator> ReadDevice<R, A> {
+    /// A device that tells what this reader gives from here on, with the mode that the flag says then.
+    pub fn new(input: R, raw: RawFlag<A>) -> Self
+        ensures input { result.input ≡ input }
+        ensures failures { result.failures ≡ 0 }
+    {
+        ReadDevice {
+            input,
+            raw,
+            failures: 0,
+        }
+    }
+}
+
+impl<R: Read + Drop, A: Allocator + Clone> Device for ReadDevice<R, A> {
+    // What it tells are its reader's next bytes, wherever the reader says what it gives.
+    ghost told = { λ s xs t. ReadingTells (R.remaining s.input) xs (R.remaining t.input) };
+
+    ghost failed = { λ s. s.failures };
+
+    ghost wakes = { λ _. IsSure };
+
+    ghost none_told = { λ s. reading_none (R.remaining s.input) };
+
+    ghost told_on = { λ s t u xs ys d e. reading_on (R.remaining s.input) (R.remaining t.input) (R.remaining u.input) xs ys d e };
+
+    fn answer(&mut self, buf: &mut [u8], _limit: Option<Duration>) -> io::Result<Answer> {
+        match self.input.read(buf) {
+            Ok(count) => Ok(Answer::Bytes {
+                count,
+                raw: self.raw.get(),
+            }),
+            Err(error) => answer_at(&mut self.failures, error),
+        }
+    }
+
+    fn failures(&self) -> u64 {
+        self.failures
+    }
+
+    /// Its waker is there always, and wakes nobody.
+    fn waker(&self) -> io::Result<Waker>
+        ensures { IsOkAnd result IsSure }
+    {
+        Ok(Waker::none())
+    }
+}

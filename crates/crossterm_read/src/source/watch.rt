@@ -1,0 +1,124 @@
+//! Waits until a descriptor is ready, or a waker was used.
+use mio::unix::SourceFd;
+use mio::{Events, Interest, Poll, Token};
+use std::alloc::Global;
+use std::io::{self, ErrorKind};
+use std::net::Net;
+use std::os::fd::RawFd;
+use std::sync::Arc;
+use std::time::Duration;
+
+/// The descriptor that tells bytes.
+pub(crate) const INPUT: Token = Token(0);
+
+/// The descriptor that tells sizes.
+pub(crate) const SIZES: Token = Token(1);
+
+const WAKER: Token = Token(2);
+
+/// What is ready.
+#[derive(Clone, Copy)]
+pub(crate) struct Ready {
+    pub(crate) woken: bool,
+    pub(crate) sizes: bool,
+    pub(crate) input: bool,
+}
+
+impl Ready {
+    // Whether what has this token is ready.
+    fn has(self, token: Token) -> bool {
+        match token {
+            INPUT => self.input,
+            SIZES => self.sizes,
+            _ => self.woken,
+        }
+    }
+
+    // Says whether what has this token is ready.
+    fn set(&mut self, token: Token, is_ready: bool) {
+        match token {
+            INPUT => self.input = is_ready,
+            SIZES => self.sizes = is_ready,
+            _ => self.woken = is_ready,
+        }
+    }
+}
+
+/// Watches descriptors, and has a waker.
+#[derive(Drop)]
+pub(crate) struct Watch {
+    poll: Poll,
+    events: Events,
+    pub(crate) waker: Arc<mio::Waker>,
+    // What the system can't watch, as a regular file, is ready always.
+    always: Ready,
+}
+
+impl Watch {
+    /// Watches nothing yet. The error is `OutOfMemory`, or the system's.
+    pub(crate) fn new<N: Net>(rt: &N, alloc: Global) -> io::Result<Watch> {
+        let poll = Poll::new(rt)?;
+        let waker = Arc::new(alloc, mio::Waker::new(poll.registry(), WAKER)?)?;
+        let events = Events::with_capacity(alloc, 4)?;
+        let always = Ready {
+            woken: false,
+            sizes: false,
+            input: false,
+        };
+        Ok(Watch {
+            poll,
+            events,
+            waker,
+            always,
+        })
+    }
+
+    /// Watches a descriptor too.
+    pub(crate) fn add(&mut self, fd: RawFd, token: Token) -> io::Result<()> {
+        let added = self
+            .poll
+            .registry()
+            .register(&mut SourceFd(&fd), token, Interest::READABLE);
+        match added {
+            Err(error) if error.kind() == ErrorKind::PermissionDenied => {
+                self.always.set(token, true);
+                Ok(())
+            }
+            _ => added,
+        }
+    }
+
+    /// Asks anew whether a descriptor is ready, also where the system has said so.
+    pub(crate) fn ask(&self, fd: RawFd, token: Token) -> io::Result<()> {
+        if self.always.has(token) {
+            return Ok(());
+        }
+        self.poll
+            .registry()
+            .reregister(&mut SourceFd(&fd), token, Interest::READABLE)
+    }
+
+    /// Watches a descriptor no longer.
+    pub(crate) fn remove(&mut self, fd: RawFd, token: Token) {
+        // One that was never watched isn't now.
+        let _ = self.poll.registry().deregister(&mut SourceFd(&fd));
+        self.always.set(token, false);
+    }
+
+    /// Waits until something is ready, and no longer than the limit.
+    pub(crate) fn wait(&mut self, limit: Option<Duration>) -> io::Result<Ready> {
+        let mut ready = self.always;
+        let is_at_once = ready.sizes || ready.input;
+        let limit = if is_at_once {
+            Some(Duration::ZERO)
+        } else {
+            limit
+        };
+        let Watch { poll, events, .. } = self;
+        poll.poll(events, limit)?;
+        for event in events.iter() {
+            ready.set(event.token(), true);
+        }
+        Ok(ready)
+    }
+}
