@@ -8,6 +8,7 @@ pub mod Mapped
 pub mod Moves
 pub mod Numbers
 pub mod Querying
+pub mod Reading
 pub mod Ready
 pub mod Rising
 pub mod Runs

@@ -1,10 +1,18 @@
 -- What a device over a reader tells.
-use Rattle.std.specs.Prelude.{◌≡◌, ◌⊎◌, ◌-◌, ◌^◌, ℕ, Option, None, Some, List, [], ◌∷◌, ◌++◌, refl}
-use Rattle.std.specs.Io.KnownBytes.{Consumes}
+use Rattle.std.specs.Prelude.{◌≡◌, ◌⊎◌, ◌-◌, ◌^◌, ℕ, Option, None, Some, List, [], ◌∷◌, ◌++◌, refl, ⊤}
+use Rattle.std.specs.Io.KnownBytes.{Consumes, IsAtEnd}
 use Rattle.std.specs.declared.io.ErrorKind.{ErrorKind}
 use Rattle.std.specs.declared.io.ErrorKind.TheVariants.{WouldBlock, Interrupted}
-use Rattle.std.proofs.Common.{subst, sym, ap, ◌∙◌, append_assoc}
+use Rattle.std.proofs.Common.{subst, sym, ap, inl, inr, ◌∙◌, append_assoc}
 use Rattle.crossterm_read.specs.Device.{Word, Bytes, Resized, Woken, Idle, Fault}
+
+-- The error says that nothing came yet, and no more.
+abbrev pub IsNothingYet : ErrorKind → Type 0
+IsNothingYet kind = (kind ≡ WouldBlock) ⊎ (kind ≡ Interrupted)
+
+-- The most failures that are counted.
+abbrev pub greatest : ℕ
+greatest = 2 ^ 64 - 1
 
 -- The bytes of words, joined.
 abbrev pub bytes_told : List Word → List ℕ
@@ -15,22 +23,29 @@ bytes_told (Woken ∷ ws) = bytes_told ws
 bytes_told (Idle ∷ ws) = bytes_told ws
 bytes_told (Fault kind ∷ ws) = bytes_told ws
 
--- What was told are the first bytes that the reader had left, and it has the others left.
+-- Some word is that of no bytes, the end of input.
+abbrev pub TellsEnd : List Word → Type 0
+TellsEnd [] = ⊥
+TellsEnd (Bytes [] raw ∷ ws) = Unit {0}
+TellsEnd (Bytes (x ∷ xs) raw ∷ ws) = TellsEnd ws
+TellsEnd (Resized columns rows ∷ ws) = TellsEnd ws
+TellsEnd (Woken ∷ ws) = TellsEnd ws
+TellsEnd (Idle ∷ ws) = TellsEnd ws
+TellsEnd (Fault kind ∷ ws) = TellsEnd ws
+
+-- Where it was known which bytes were left, none is left now.
+abbrev pub AreSpent : Option (List ℕ) → Option (List ℕ) → Type 0
+AreSpent None after = ⊤
+AreSpent (Some xs) after = IsAtEnd after
+
+-- What was told are the first bytes that the reader had left, and it has the others left. The end is told only where none is.
 abbrev pub ReadingTells : Option (List ℕ) → List Word → Option (List ℕ) → Type 0
-ReadingTells before words after = Consumes before after (bytes_told words)
-
--- The error says that nothing came yet, and no more.
-abbrev pub IsNothingYet : ErrorKind → Type 0
-IsNothingYet kind = (kind ≡ WouldBlock) ⊎ (kind ≡ Interrupted)
-
--- The most failures that are counted.
-abbrev pub greatest : ℕ
-greatest = 2 ^ 64 - 1
+ReadingTells before words after = Consumes before after (bytes_told words) × (TellsEnd words → AreSpent before after)
 
 -- The two laws of a device.
 pub reading_none : (o : Option (List ℕ)) → ReadingTells o [] o
-reading_none None = tt
-reading_none (Some xs) = refl
+reading_none None = (tt, λ e. absurd e)
+reading_none (Some xs) = (refl, λ e. absurd e)
 
 told_join : (xs ys : List Word) → bytes_told (xs ++ ys) ≡ bytes_told xs ++ bytes_told ys
 told_join [] ys = refl
@@ -40,11 +55,43 @@ told_join (Woken ∷ xs) ys = told_join xs ys
 told_join (Idle ∷ xs) ys = told_join xs ys
 told_join (Fault kind ∷ xs) ys = told_join xs ys
 
+end_in_one : (xs ys : List Word) → TellsEnd (xs ++ ys) → TellsEnd xs ⊎ TellsEnd ys
+end_in_one [] ys e = inr e
+end_in_one (Bytes [] raw ∷ xs) ys e = inl tt
+end_in_one (Bytes (x ∷ more) raw ∷ xs) ys e = end_in_one xs ys e
+end_in_one (Resized columns rows ∷ xs) ys e = end_in_one xs ys e
+end_in_one (Woken ∷ xs) ys e = end_in_one xs ys e
+end_in_one (Idle ∷ xs) ys e = end_in_one xs ys e
+end_in_one (Fault kind ∷ xs) ys e = end_in_one xs ys e
+
 on : (a b c : Option (List ℕ)) (p q : List ℕ) → Consumes a b p → Consumes b c q → Consumes a c (p ++ q)
 on None b c p q d e = tt
 on (Some xs) None c p q d e = absurd d
 on (Some xs) (Some ys) None p q d e = e
 on (Some xs) (Some ys) (Some zs) p q d e = d ∙ (ap (λ l. p ++ l) e ∙ sym (append_assoc p q zs))
 
+-- Where nothing was left nothing is left after more was told.
+none_after : (q zs : List ℕ) → [] ≡ q ++ zs → zs ≡ []
+none_after [] zs e = sym e
+none_after (x ∷ q) zs e = absurd (cc)
+
+spent_first : (a b c : Option (List ℕ)) (p q : List ℕ) → Consumes a b p → Consumes b c q → AreSpent a b → AreSpent a c
+spent_first None b c p q d e s = tt
+spent_first (Some xs) None c p q d e s = absurd d
+spent_first (Some xs) (Some ys) None p q d e s = absurd e
+spent_first (Some xs) (Some ys) (Some zs) p q d e s = none_after q zs (sym s ∙ e)
+
+spent_last : (a b c : Option (List ℕ)) (p : List ℕ) → Consumes a b p → AreSpent b c → AreSpent a c
+spent_last None b c p d s = tt
+spent_last (Some xs) None c p d s = absurd d
+spent_last (Some xs) (Some ys) c p d s = s
+
+spent_on : (a b c : Option (List ℕ)) (xs ys : List Word) → ReadingTells a xs b → ReadingTells b ys c → TellsEnd xs ⊎ TellsEnd ys → AreSpent a c
+spent_on a b c xs ys d e (inl first) = spent_first a b c (bytes_told xs) (bytes_told ys) d.0 e.0 (d.1 first)
+spent_on a b c xs ys d e (inr last) = spent_last a b c (bytes_told xs) d.0 (e.1 last)
+
 pub reading_on : (a b c : Option (List ℕ)) (xs ys : List Word) → ReadingTells a xs b → ReadingTells b ys c → ReadingTells a (xs ++ ys) c
-reading_on a b c xs ys d e = subst (λ (l : List ℕ). Consumes a c l) (sym (told_join xs ys)) (on a b c (bytes_told xs) (bytes_told ys) d e)
+reading_on a b c xs ys d e = (
+  subst (λ (l : List ℕ). Consumes a c l) (sym (told_join xs ys)) (on a b c (bytes_told xs) (bytes_told ys) d.0 e.0),
+  λ ends. spent_on a b c xs ys d e (end_in_one xs ys ends),
+)

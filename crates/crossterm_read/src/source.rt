@@ -17,6 +17,7 @@ mod raw_flag;
 mod reader;
 mod script;
 mod sizes;
+mod socket;
 mod waker;
 mod watch;
 
@@ -27,6 +28,7 @@ pub use polled::PolledDevice;
 pub use raw_flag::RawFlag;
 pub use reader::ReadDevice;
 pub use script::{Act, Script};
+pub use socket::SocketDevice;
 use std::alloc::{Allocator, Global};
 use std::io;
 use std::marker::Model;

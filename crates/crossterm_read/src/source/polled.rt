@@ -6,6 +6,7 @@ ghost use Rattle.crossterm_read.specs.Waking.{WakesAs};
 ghost use Rattle.crossterm_read.specs.declared.source.waker.Kind.TheVariants.{Mio};
 
 use crate::source::failures::answer_at;
+use crate::source::reader::read_once;
 use crate::source::sizes::Sizes;
 use crate::source::watch::{INPUT, Ready, SIZES, Watch};
 use crate::source::{Answer, Device, RawFlag, Waker};
@@ -117,6 +118,7 @@ impl<R: Read + AsRawFd + Drop, A: Allocator + Clone> PolledDevice<R, A> {
 
     // Answers once, and counts no failure.
     fn try_answer(&mut self, buf: &mut [u8], limit: Option<Duration>) -> io::Result<Answer>
+        requires { length buf.now ≡ 1024 }
         ensures told { ReadingTells (R.remaining self.old.input) (word_of result buf.new ∷ []) (R.remaining self.new.input) }
         ensures count { IfOk result (λ a. CountWithin a (length buf.new)) }
         ensures failures { self.new.failures ≡ self.old.failures }
@@ -133,11 +135,7 @@ impl<R: Read + AsRawFd + Drop, A: Allocator + Clone> PolledDevice<R, A> {
         if !ready.input {
             return Ok(Answer::Idle);
         }
-        let count = self.input.read(buf)?;
-        Ok(Answer::Bytes {
-            count,
-            raw: self.raw.get(),
-        })
+        read_once(&mut self.input, buf, &self.raw)
     }
 }
 

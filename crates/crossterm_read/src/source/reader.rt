@@ -1,5 +1,6 @@
 //! A device over a reader.
-ghost use Rattle.std.specs.Prelude.{◌≡◌, IsOkAnd};
+ghost use Rattle.std.specs.Prelude.{◌≡◌, List, [], ◌∷◌, length, IfOk, IsOkAnd};
+ghost use Rattle.crossterm_read.specs.Device.{CountWithin, word_of};
 ghost use Rattle.crossterm_read.specs.Reading.{ReadingTells, reading_none, reading_on};
 ghost use Rattle.crossterm_read.specs.Waking.{IsSure};
 
@@ -34,6 +35,22 @@ impl<R: Read + Drop, A: Allocator> ReadDevice<R, A> {
     }
 }
 
+/// Reads once, and answers with what came, and the mode that the flag says then.
+#[tactic(auto, using(crate::proofs::Reading::read_tells))]
+pub(crate) fn read_once<R: Read + Drop, A: Allocator + Clone>(
+    input: &mut R,
+    buf: &mut [u8],
+    raw: &RawFlag<A>,
+) -> io::Result<Answer>
+    requires { length buf.now ≡ 1024 }
+    ensures told { ReadingTells (R.remaining input.old) (word_of result buf.new ∷ []) (R.remaining input.new) }
+    ensures count { IfOk result (λ a. CountWithin a (length buf.new)) }
+{
+    let count = input.read(buf)?;
+    let raw = raw.get();
+    Ok(Answer::Bytes { count, raw })
+}
+
 impl<R: Read + Drop, A: Allocator + Clone> Device for ReadDevice<R, A> {
     // What it tells are its reader's next bytes, wherever the reader says what it gives.
     ghost told = { λ s xs t. ReadingTells (R.remaining s.input) xs (R.remaining t.input) };
@@ -47,11 +64,8 @@ impl<R: Read + Drop, A: Allocator + Clone> Device for ReadDevice<R, A> {
     ghost told_on = { λ s t u xs ys d e. reading_on (R.remaining s.input) (R.remaining t.input) (R.remaining u.input) xs ys d e };
 
     fn answer(&mut self, buf: &mut [u8], _limit: Option<Duration>) -> io::Result<Answer> {
-        match self.input.read(buf) {
-            Ok(count) => Ok(Answer::Bytes {
-                count,
-                raw: self.raw.get(),
-            }),
+        match read_once(&mut self.input, buf, &self.raw) {
+            Ok(answer) => Ok(answer),
             Err(error) => answer_at(&mut self.failures, error),
         }
     }

@@ -1,0 +1,62 @@
+//! A device over a socket.
+ghost use Rattle.std.specs.Prelude.{◌≡◌, IfOk, None};
+ghost use Rattle.crossterm_read.specs.Reading.{reading_none, reading_on};
+
+use crate::source::{Answer, Device, PolledDevice, RawFlag, Waker};
+use mio::net::TcpStream;
+use std::alloc::{Allocator, Global};
+use std::io;
+use std::net::Net;
+use std::time::Duration;
+
+/// A device that tells what comes from a TCP stream of `mio`, and waits for it as long as the limit says, and no longer: a `PolledDevice`
+/// over the stream, and no sizes.
+#[derive(Drop)]
+pub struct SocketDevice<A: Allocator = Global> {
+    polled: PolledDevice<TcpStream, A>,
+}
+
+impl<A: Allocator> SocketDevice<A> {
+    /// A device that tells what this stream gives from here on, with the mode that the flag says then.
+    ///
+    /// `alloc` gives memory for what waits. The error is `OutOfMemory`, or the system's. Then the stream and the flag are dropped.
+    pub fn new<N: Net>(
+        rt: &N,
+        alloc: Global,
+        stream: TcpStream,
+        raw: RawFlag<A>,
+    ) -> io::Result<Self>
+        ensures input { IfOk result (λ device. device.polled.input ≡ stream) }
+        ensures failures { IfOk result (λ device. device.polled.failures ≡ 0) }
+    {
+        Ok(SocketDevice {
+            polled: PolledDevice::new(rt, alloc, stream, raw, None)?,
+        })
+    }
+}
+
+impl<A: Allocator + Clone> Device for SocketDevice<A> {
+    ghost told = { λ s xs t. ⟦<PolledDevice<TcpStream, A> as Device>⟧.told s.polled xs t.polled };
+
+    ghost failed = { λ s. ⟦<PolledDevice<TcpStream, A> as Device>⟧.failed s.polled };
+
+    ghost wakes = { λ s. ⟦<PolledDevice<TcpStream, A> as Device>⟧.wakes s.polled };
+
+    // Nothing is known of what a stream gives.
+    ghost none_told = { λ s. reading_none None };
+
+    ghost told_on = { λ s t u. reading_on None None None };
+
+    fn answer(&mut self, buf: &mut [u8], limit: Option<Duration>) -> io::Result<Answer> {
+        self.polled.answer(buf, limit)
+    }
+
+    fn failures(&self) -> u64 {
+        self.polled.failures()
+    }
+
+    /// What wakes who waits for this device. The error is `OutOfMemory`.
+    fn waker(&self) -> io::Result<Waker> {
+        self.polled.waker()
+    }
+}
