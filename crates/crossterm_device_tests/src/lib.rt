@@ -1,0 +1,39 @@
+//! Tests of the devices over what a program can open, by their public calls: what no contract says, as that bytes come at once, that a
+//! limit is waited out, and that a waker wakes.
+//!
+//! They stand here, in a crate of their own, since a crate with tests is proved twice. Each ends by itself within seconds: what has to
+//! come is waited for within a limit.
+#![tactic(auto)]
+
+/// Fails the test where something doesn't hold, and says what.
+#[cfg(test)]
+fn expected(rt: &impl std::process::Abort, holds: bool, what: &str) {
+    assert!(rt; holds, "{what}");
+}
+
+// One call, and no text formatted in the test itself: a test's proof grows with its branches.
+#[cfg(test)]
+macro_rules! expect {
+    ($rt:expr; $holds:expr) => {
+        crate::expected(&$rt, $holds, stringify!($holds))
+    };
+}
+
+#[cfg(test)]
+mod answers;
+#[cfg(test)]
+mod ends;
+#[cfg(test)]
+mod files;
+#[cfg(test)]
+mod flow;
+#[cfg(test)]
+mod polled;
+#[cfg(test)]
+mod readers;
+#[cfg(test)]
+mod refused;
+#[cfg(test)]
+mod sizes;
+#[cfg(test)]
+mod woken;
