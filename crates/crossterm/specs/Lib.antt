@@ -6,4 +6,5 @@ pub mod Painted
 pub mod Ranks
 pub mod Sequences
 pub mod Sizes
+pub mod Stty
 pub mod Updates

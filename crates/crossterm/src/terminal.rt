@@ -17,6 +17,7 @@ use crate::style::ColorOutput;
 pub use size::{WindowSize, tput_value};
 use std::fmt;
 use std::fmt::Display;
+pub use sys::stty::{SttyDevice, SttyMode};
 pub use sys::unix::{
     ModeDevice, Terminal, query_keyboard_enhancement_flags, supports_keyboard_enhancement,
 };

@@ -49,6 +49,8 @@ mod shown;
 #[cfg(test)]
 mod sizes;
 #[cfg(test)]
+mod stty;
+#[cfg(test)]
 mod tape;
 #[cfg(test)]
 mod witness;

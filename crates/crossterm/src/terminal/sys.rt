@@ -1,3 +1,4 @@
 //! What is particular to a system.
 
+pub mod stty;
 pub mod unix;

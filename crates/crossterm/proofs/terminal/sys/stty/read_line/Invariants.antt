@@ -1,0 +1,7 @@
+-- What was read are the bytes of the text.
+use Rattle.std.proofs.Common.{ℕ, List}
+use Rattle.std.specs.Io.KnownBytes.{Consumes}
+use Rattle.crossterm.proofs.terminal.sys.stty.read_line.Given as goal
+
+abbrev pub invariant-loop : goal.invariant-loop
+invariant-loop g l = Consumes (g.R.Read.remaining l.fn.answers) (g.R.Read.remaining l.answers) l.text.bytes

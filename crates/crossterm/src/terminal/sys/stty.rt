@@ -1,0 +1,189 @@
+//! The modes of a terminal by a helper beside the program, which runs `stty`.
+//!
+//! A program can't switch a terminal's modes by itself here. The script `with_terminal` starts it beside a helper that can: it is asked by
+//! lines and answers by lines, of ASCII and at most 255 bytes each.
+//!
+//! | Request | Answer |
+//! |---|---|
+//! | `mode` | the mode that stands, as `stty -g` writes it |
+//! | `raw` | the same, after raw mode was set |
+//! | `set MODE` | the same, after this mode was set |
+//! | `size` | two lines: the rows, the columns |
+//!
+//! `failed` in the place of a mode is a refusal, and so is 0 as the number of rows or columns.
+ghost use Rattle.std.specs.Prelude.{◌≡◌, ◌++◌, ℕ, List, Some, codes, IfOk, OnOk};
+ghost use Rattle.std.specs.Io.KnownBytes.{Appends, Consumes};
+ghost use Rattle.crossterm.specs.Stty.{Asks, AsksSize, Stty, line};
+
+use crate::terminal::size::{WindowSize, tput_size};
+use crate::terminal::sys::unix::{ModeDevice, send_query};
+use arrayvec::ArrayString;
+use std::io::{self, ErrorKind, Read, Write};
+use std::marker::Model;
+
+/// How many bytes a line has at most, without its end.
+const LONGEST: usize = 255;
+
+/// A mode of a terminal, as `stty -g` writes it.
+#[derive(Clone, Copy, PartialEq, Eq, Debug)]
+pub struct SttyMode {
+    /// What `stty -g` wrote, without the end of the line.
+    pub text: ArrayString<LONGEST>,
+}
+
+/// Switches a terminal's modes and tells its size by a helper that runs `stty`: requests are written, and answers are read.
+///
+/// The mode that stands is the one that the helper told last. What someone else sets in between isn't seen.
+#[derive(Drop)]
+pub struct SttyDevice<R, W> {
+    answers: R,
+    requests: W,
+    mode: SttyMode,
+    failures: u64,
+}
+
+impl<R, W> Model for SttyDevice<R, W> {
+    ghost Value = { Stty R W };
+
+    ghost view = { λ s. record { answers = s.answers; requests = s.requests; mode = s.mode; failures = s.failures } };
+}
+
+// Reads one line, and gives it without its end.
+fn read_line<R: Read>(answers: &mut R) -> io::Result<ArrayString<LONGEST>>
+    ensures { IfOk result (λ text. Consumes (R.remaining answers.old) (R.remaining answers.new) (line text.bytes)) }
+{
+    let mut text = ArrayString::<LONGEST>::new();
+    let mut byte = [0u8; 1];
+    for _ in 0..=LONGEST {
+        answers.read_exact(&mut byte)?;
+        match byte[0] {
+            b'\n' => return Ok(text),
+            byte @ 0..=127 if text.len() < LONGEST => text.push(char::from(byte)),
+            _ => break,
+        }
+    }
+    Err(io::Error::from(ErrorKind::InvalidData))
+}
+
+// Reads a mode.
+fn read_mode<R: Read>(answers: &mut R) -> io::Result<SttyMode>
+    ensures { IfOk result (λ mode. Consumes (R.remaining answers.old) (R.remaining answers.new) (line mode.text.bytes)) }
+{
+    let text = read_line(answers)?;
+    match text.as_str() {
+        "" | "failed" => Err(io::Error::from(ErrorKind::Other)),
+        _ => Ok(SttyMode { text }),
+    }
+}
+
+impl<R: Read + Drop, W: Write + Drop> SttyDevice<R, W> {
+    /// A device over a helper, which is asked for the mode that stands.
+    ///
+    /// # Errors
+    /// Those of the reader and the writer, `UnexpectedEof` where the helper is gone among them; `InvalidData` where what it answers is no
+    /// line; `Other` where it refuses.
+    pub fn new(mut answers: R, mut requests: W) -> io::Result<Self>
+        ensures { IfOk result (λ s. Appends (W.contents requests) (W.contents s.requests) (line (codes "mode"))
+            × Consumes (R.remaining answers) (R.remaining s.answers) (line s.mode.text.bytes) × (s.failures ≡ 0)) }
+    {
+        send_query(&mut requests, "mode\n")?;
+        let mode = read_mode(&mut answers)?;
+        Ok(SttyDevice {
+            answers,
+            requests,
+            mode,
+            failures: 0,
+        })
+    }
+
+    // Asks by a line, and keeps the mode that is told for it.
+    fn ask_mode(&mut self, request: &str) -> io::Result<()>
+        ensures ok { OnOk result (Appends (W.contents self.old.requests) (W.contents self.new.requests) request.now × Consumes (R.remaining self.old.answers) (R.remaining self.new.answers) (line self.new.mode.text.bytes)) }
+        ensures failures { self.new.failures ≡ self.old.failures }
+    {
+        send_query(&mut self.requests, request)?;
+        self.mode = read_mode(&mut self.answers)?;
+        Ok(())
+    }
+
+    // Sets a mode, and asks whether it stands.
+    fn try_set_mode(&mut self, mode: &SttyMode) -> io::Result<()>
+        ensures ok { OnOk result (Asks R.remaining W.contents (codes "set " ++ mode.now.text.bytes) (line mode.now.text.bytes) self.old self.new × (self.new.mode ≡ mode.now)) }
+        ensures failures { self.new.failures ≡ self.old.failures }
+    {
+        let mut request = ArrayString::<260>::new();
+        request.push_str("set ");
+        request.push_str(mode.text.as_str());
+        request.push_str("\n");
+        self.ask_mode(request.as_str())?;
+        if self.mode != *mode {
+            return Err(io::Error::from(ErrorKind::Other));
+        }
+        self.mode = *mode;
+        Ok(())
+    }
+
+    // Asks for the window's size.
+    fn try_window_size(&mut self) -> io::Result<WindowSize>
+        ensures ok { IfOk result (λ size. AsksSize R.remaining W.contents self.old (Some size) self.new) }
+        ensures mode { self.new.mode ≡ self.old.mode }
+        ensures failures { self.new.failures ≡ self.old.failures }
+    {
+        send_query(&mut self.requests, "size\n")?;
+        let lines = read_line(&mut self.answers)?;
+        let columns = read_line(&mut self.answers)?;
+        match tput_size(columns.as_str().as_bytes(), lines.as_str().as_bytes()) {
+            Some((columns, rows)) => Ok(WindowSize {
+                rows,
+                columns,
+                width: 0,
+                height: 0,
+            }),
+            None => Err(io::Error::from(ErrorKind::Other)),
+        }
+    }
+}
+
+impl<R: Read + Drop, W: Write + Drop> ModeDevice for SttyDevice<R, W> {
+    type Mode = SttyMode;
+
+    ghost stands = { λ s. s.mode };
+
+    ghost sized = { AsksSize R.remaining W.contents };
+
+    ghost failed = { λ s. s.failures };
+
+    fn mode(&mut self) -> io::Result<SttyMode> {
+        Ok(self.mode)
+    }
+
+    /// Asks the helper to set raw mode, and reads the mode that stands then.
+    fn set_raw(&mut self, _mode: &SttyMode) -> io::Result<()> {
+        let done = self.ask_mode("raw\n");
+        if done.is_err() {
+            self.failures = self.failures.saturating_add(1);
+        }
+        done
+    }
+
+    /// Asks the helper to set a mode. It's `Other` where another stands then.
+    fn set_mode(&mut self, mode: &SttyMode) -> io::Result<()> {
+        let done = self.try_set_mode(mode);
+        if done.is_err() {
+            self.failures = self.failures.saturating_add(1);
+        }
+        done
+    }
+
+    fn window_size(&mut self) -> io::Result<WindowSize> {
+        let size = self.try_window_size();
+        if size.is_err() {
+            self.failures = self.failures.saturating_add(1);
+        }
+        size
+    }
+
+    fn failures(&self) -> u64 {
+        self.failures
+    }
+}
