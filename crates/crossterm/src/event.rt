@@ -1,4 +1,4 @@
-//! Events of a terminal: types, the parser, sources and readers, and the commands that turn reports on and off.
+//! Events of a terminal: types, the parser, sources, readers and streams, and the commands that turn reports on and off.
 
 mod commands;
 pub mod sys;
@@ -9,7 +9,8 @@ pub use commands::{
     PushKeyboardEnhancementFlags,
 };
 pub use crossterm_read::read::{EventReader, Pass};
-pub use crossterm_read::{read, source};
+pub use crossterm_read::stream::EventStream;
+pub use crossterm_read::{read, source, stream};
 pub use crossterm_types::event::{
     Event, InternalEvent, KeyCode, KeyEvent, KeyEventKind, KeyEventState, KeyModifiers,
     KeyboardEnhancementFlags, MediaKeyCode, ModifierKeyCode, MouseButton, MouseEvent,

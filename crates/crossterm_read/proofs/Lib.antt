@@ -15,6 +15,7 @@ pub mod Runs
 pub mod Seating
 pub mod Sharing
 pub mod Spelling
+pub mod Streaming
 pub mod Takes
 pub mod Turning
 pub mod Waiting

@@ -1,12 +1,14 @@
 -- What a query takes.
 use Rattle.std.proofs.Common.{◌≡◌, ◌≢◌, ◌⊎◌, ◌-◌, ℕ, Bool, true, false, List, [], ◌∷◌, ◌++◌, Option, None, Some, Result, Ok, Err, inl, inr, ⊎_elim, refl, sym, ap, subst, ◌∙◌, append-nil}
-use Rattle.std.specs.Prelude.{IfErr}
+use Rattle.std.specs.Prelude.{IfErr, IfSome}
+use Rattle.std.specs.Option.{option_map}
 use Rattle.std.specs.IoError.{error_kind}
 use Rattle.std.specs.declared.io.Error.{Error}
 use Rattle.std.specs.declared.io.ErrorKind.{ErrorKind}
 use Rattle.std.specs.declared.io.ErrorKind.TheVariants.{OutOfMemory, Other}
 use Rattle.std.proofs.lemmas.List.Quantifiers.{position-Some}
-use Rattle.crossterm_types.specs.Seen.{Seen, KeyboardFlags}
+use Rattle.crossterm_types.specs.Seen.{Seen, KeyboardFlags, seen}
+use Rattle.crossterm_types.specs.declared.event.InternalEvent.{InternalEvent}
 use Rattle.std.specs.declared.time.Duration.{Duration}
 use Rattle.crossterm_flags.specs.declared.enhancement.KeyboardEnhancementFlags.{KeyboardEnhancementFlags}
 use Rattle.crossterm_types.specs.Admitting.{is_attributes, is_flags_reply}
@@ -16,7 +18,7 @@ use Rattle.crossterm_read.specs.declared.read.reader.AtWake.TheVariants.{Stops}
 use Rattle.crossterm_read.specs.History.{last_of}
 use Rattle.crossterm_read.specs.Queries.{QuerySays, AfterReply, FlagsSay, LeftSays}
 use Rattle.crossterm_read.specs.Replies.{Replied, ToPoll, ToTake, ToQuery, Fault, poll_reply}
-use Rattle.crossterm_read.specs.Shelf.{Shelf, ReaderState}
+use Rattle.crossterm_read.specs.Shelf.{Shelf, ReaderState, kept}
 use Rattle.crossterm_read.specs.Steps.{first_admitted, Asks, held_already, came, broke, tried, refused, RefusedOnlyWithoutRoom, End, Ready, Tried, Broke, PollStep, PollSays, TakeSays}
 use Rattle.crossterm_read.specs.Waiting.{EndsWith, EndsWoken, TimedPoll, TimedQuery, TimedKeyboard}
 use Rattle.crossterm_read.proofs.Ready.{ready_there}
@@ -41,6 +43,10 @@ polled_there f tries s m zs r p said none = by_end p.0 p.1 p.3
 -- What was taken is admitted.
 pub taken_admitted : (f : Seen → Bool) (s t : Shelf) (x : Seen × ℕ) → TakeSays f s t (Some x) → f x.0 ≡ true
 taken_admitted f s t x h = let p = position-Some (λ e. f e.0) s.held h.0 x h.1 in subst (λ (e : Seen × ℕ). f e.0 ≡ true) h.2 p.1
+
+pub try_admitted : {A : Type 0} (f : Seen → Bool) (s t : Shelf) (r : Option (InternalEvent A × ℕ)) → TakeSays f s t (option_map kept r) → IfSome r (λ x. f (seen x.0) ≡ true)
+try_admitted f s t (Some x) h = taken_admitted f s t (kept x) h
+try_admitted f s t None h = tt
 
 -- What a query took is admitted.
 pub query_admitted : (f : Seen → Bool) (p : Replied) (s t : Shelf) (x : Seen × ℕ) → QuerySays f p s t (ToTake (Some x)) → f x.0 ≡ true

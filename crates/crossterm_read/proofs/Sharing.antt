@@ -9,7 +9,7 @@ use Rattle.crossterm_read.specs.History.{Entry, Known, Sits, Runs, Extends, Each
 use Rattle.crossterm_read.specs.Numbers.{IsOrderly}
 use Rattle.crossterm_read.specs.Calls.{Request, Step}
 use Rattle.crossterm_read.specs.Entries.{IsPoll, IsPosition, IsKeyboard}
-use Rattle.crossterm_read.specs.Replies.{Replied, Fault, ToTake, Came, Faulted, poll_reply, read_reply, read_said, last_said, shown}
+use Rattle.crossterm_read.specs.Replies.{Replied, Fault, ToTake, Came, Faulted, poll_reply, read_reply, read_said, try_reply, last_said, last_tried, shown}
 use Rattle.crossterm_types.specs.Admitting.{admitted, is_cursor_position}
 use Rattle.crossterm_types.specs.Seen.{Seen, seen}
 use Rattle.crossterm_types.specs.declared.event.filter.AnyFilter.{AnyFilter}
@@ -239,6 +239,18 @@ read_memory (Ok x) P h kind e = absurd (take_not e)
     take_not : {x : Option (Seen × ℕ)} → ToTake x ≡ Fault kind → ⊥
     take_not e = absurd (cc)
 read_memory (Err x) P h kind e = subst P (fault_of (error_kind x) kind e) h
+
+pub last_try : {A : Type 0} (n : Option ℕ) (r : Result (Option (InternalEvent A × ℕ)) Error) → last_of n (try_reply r) ≡ last_tried n r
+last_try n (Ok (Some x)) = refl
+last_try n (Ok None) = refl
+last_try n (Err e) = refl
+
+pub try_memory : {A : Type 0} (r : Result (Option (InternalEvent A × ℕ)) Error) (P : ErrorKind → Type 0) → IfErr r (λ e. P (error_kind e)) → (kind : ErrorKind) → try_reply r ≡ Fault kind → P kind
+try_memory (Ok x) P h kind e = absurd (take_not e)
+  where
+    take_not : {x : Option (Seen × ℕ)} → ToTake x ≡ Fault kind → ⊥
+    take_not e = absurd (cc)
+try_memory (Err x) P h kind e = subst P (fault_of (error_kind x) kind e) h
 
 -- What holds of a read's event with its number holds of it without.
 pub read_kept : {A : Type 0} (P : Seen → Type 0) (taken : Result (InternalEvent A × ℕ) Error) (r : Result (InternalEvent A) Error) → read_said r ≡ shown (read_reply taken) → IfOk taken (λ x. P (seen x.0)) → IfOk r (λ e. P (seen e))

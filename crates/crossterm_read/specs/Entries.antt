@@ -1,5 +1,5 @@
 -- Which call of a shared reader an entry of its history is.
-use Rattle.std.specs.Prelude.{◌≡◌, ◌⊎◌, ◌-◌, ℕ, Bool, false, List, Option, Some, Result, Ok, IsErrAnd}
+use Rattle.std.specs.Prelude.{◌≡◌, ◌⊎◌, ◌-◌, ℕ, Bool, false, List, Option, Some, None, Result, Ok, IsErrAnd}
 use Rattle.std.specs.IoError.{error_kind}
 use Rattle.std.specs.declared.io.Error.{Error}
 use Rattle.std.specs.declared.io.ErrorKind.TheVariants.{Other}
@@ -11,8 +11,9 @@ use Rattle.crossterm_types.specs.Admitting.{admitted, is_cursor_position}
 use Rattle.crossterm_types.specs.declared.event.filter.AnyFilter.{AnyFilter}
 use Rattle.crossterm_read.specs.Answers.{SourceAnswer}
 use Rattle.crossterm_read.specs.Calls.{Poll, Read, Position, Keyboard}
+use Rattle.crossterm_read.specs.Device.{AsksAtOnce}
 use Rattle.crossterm_read.specs.History.{Entry, Known, Extends}
-use Rattle.crossterm_read.specs.Replies.{Replied, Fault, Said, keyboard_said, poll_reply, position_said, shown}
+use Rattle.crossterm_read.specs.Replies.{Replied, Fault, Said, Came, keyboard_said, poll_reply, position_said, shown}
 use Rattle.crossterm_read.specs.Shelf.{ReaderState}
 use Rattle.crossterm_read.specs.Steps.{RefusedOnlyWithoutRoom}
 use Rattle.crossterm_read.specs.Waiting.{AsksForever, AsksWithin, TimedPoll, TimedQuery, TimedKeyboard}
@@ -24,6 +25,13 @@ module _ {S : Type 0} (drawn : S → List SourceAnswer → S → Type 0) (asked 
     pub call : e.call ≡ Read tries f
     pub reply : e.reply ≡ r
     pub limits : AsksForever (asked found.source) (asked left.source)
+    pub memory : (kind : ErrorKind) → r ≡ Fault kind → RefusedOnlyWithoutRoom found.room e.answers kind
+
+  -- A read by this filter with one try, for which the device is asked with limit zero.
+  pub record IsTry (f : AnyFilter) (r : Replied) (found : ReaderState S) (e : Entry) (left : ReaderState S) : Type 0 where
+    pub call : e.call ≡ Read 1 f
+    pub reply : e.reply ≡ r
+    pub limits : AsksAtOnce (asked found.source) (asked left.source)
     pub memory : (kind : ErrorKind) → r ≡ Fault kind → RefusedOnlyWithoutRoom found.room e.answers kind
 
   -- A poll by this filter with a limit of time, from one moment to another. The device is asked with what is left of the limit.
@@ -53,6 +61,10 @@ module _ {S : Type 0} (drawn : S → List SourceAnswer → S → Type 0) (asked 
   -- A read made by a pass: such a call stands once in the history that the pass has seen, as its last.
   abbrev pub Reads : AnyFilter → Known S → Known S → Said → Type 0
   Reads f v w said = (r : Replied) × (said ≡ shown r) × Extends drawn (IsRead drawn asked f r) v w
+
+  -- A read with one try made by a pass, likewise; or another has the reader, nothing is taken, and the pass is as it was.
+  abbrev pub Tries : AnyFilter → Known S → Known S → Said → Type 0
+  Tries f v w said = ((r : Replied) × (said ≡ shown r) × Extends drawn (IsTry drawn asked f r) v w) ⊎ ((said ≡ Came None) × (w ≡ v))
 
   -- A poll made by a pass: so stands such a call; or the limit passed before the reader was there, the answer is false, and the pass is as it was.
   abbrev pub Polls : AnyFilter → Option Duration → ℕ → ℕ → Known S → Known S → Result Bool Error → Type 0

@@ -14,6 +14,7 @@ pub mod Shared
 pub mod Shelf
 pub mod Slot
 pub mod Steps
+pub mod Streams
 pub mod Turns
 pub mod Waiting
 pub mod Waking

@@ -74,10 +74,19 @@ abbrev pub event_said : {A : Type 0} → Result (Event A) Error → Said
 event_said (Ok event) = Came (Some (event_seen event))
 event_said (Err e) = Faulted (error_kind e)
 
+abbrev pub event_tried : {A : Type 0} → Result (Option (Event A)) Error → Said
+event_tried (Ok x) = Came (option_map event_seen x)
+event_tried (Err e) = Faulted (error_kind e)
+
 -- The number of what was taken last, after a call that gives one where it takes.
 abbrev pub last_said : {X : Type 0} → Option ℕ → Result (X × ℕ) Error → Option ℕ
 last_said n (Ok x) = Some x.1
 last_said n (Err e) = n
+
+abbrev pub last_tried : {X : Type 0} → Option ℕ → Result (Option (X × ℕ)) Error → Option ℕ
+last_tried n (Ok (Some x)) = Some x.1
+last_tried n (Ok None) = n
+last_tried n (Err e) = n
 
 -- What a query for the keyboard's flags gives, with the number of what it took last.
 abbrev pub flags_said : Result (Option KeyboardEnhancementFlags × ℕ) Error → Said

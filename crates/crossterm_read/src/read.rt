@@ -11,3 +11,4 @@ pub use held::Held;
 pub use reader::InternalEventReader;
 pub use shared::{EventReader, Pass};
 pub use trace::{Call, Reply, Trace, play};
+pub(crate) use waiting::Still;

@@ -1,5 +1,5 @@
 //! Holds events in the order of their arrival.
-ghost use Rattle.std.specs.Prelude.{◌≡◌, ◌≢◌, ◌⊎◌, ◌≤◌, ◌<◌, IfOk, IfErr, OnOk, IsTrue, ℕ, List, [], Option, map};
+ghost use Rattle.std.specs.Prelude.{◌≡◌, ◌≢◌, ◌⊎◌, ◌≤◌, ◌<◌, IfOk, IfErr, IfSome, OnOk, IsTrue, ℕ, List, [], Option, map, true};
 ghost use Rattle.std.specs.Bool.{OnTrue, OnFalse};
 ghost use Rattle.std.specs.IoError.{error_kind};
 ghost use Rattle.std.specs.Option.{option_map};
@@ -238,6 +238,7 @@ impl<S: EventSource<A>, A: Allocator> InternalEventReader<S, A> {
             × ReadStep tries (F.admits filter.now) zs self.old.shelf self.new.shelf (try_reply result)
             × IfErr result (λ e. RefusedOnlyWithoutRoom self.old.room zs (error_kind e)) }
         ensures at_once { AsksAtOnce (S.asked self.old.source) (S.asked self.new.source) }
+        ensures admitted { IfOk result (λ taken. IfSome taken (λ x. F.admits filter.now (seen x.0) ≡ true)) }
         ensures room { capacity self.old ≤ capacity self.new }
         ensures rise { S.failed self.old.source ≤ S.failed self.new.source }
         ensures err { IfErr result (λ e. IsOwn (error_kind e) ⊎ (S.failed self.old.source < S.failed self.new.source)) }

@@ -7,6 +7,7 @@ mod position;
 mod reader;
 mod room;
 mod rule;
+mod trying;
 mod view;
 
 pub use pass::Pass;

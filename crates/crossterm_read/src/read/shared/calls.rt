@@ -43,7 +43,7 @@ fn unnumbered<A: Allocator>(
 }
 
 // A user's event.
-fn users<A: Allocator>(event: InternalEvent<A>) -> Event<A>
+pub(crate) fn users<A: Allocator>(event: InternalEvent<A>) -> Event<A>
     requires { is_event (seen event) ≡ true }
     ensures { seen event ≡ event_seen result }
 {

@@ -167,6 +167,21 @@ impl<S: EventSource<A>, A: Allocator> Room<S, A> {
         }
     }
 
+    // Takes the reader out, where it is there. It waits for nobody.
+    pub(crate) fn try_take<R: Wait>(
+        &self,
+        rt: &R,
+        seat: &mut Seat<S, A>,
+    ) -> Option<InternalEventReader<S, A>>
+        requires seat { queue.IsPassOf self.now.slot seat.old }
+        requires opened { (o : ReaderState S) × ((view seat.old).opening ≡ Some o) }
+        ensures seat { IsSamePass seat.old seat.new }
+        ensures taken { IfSome result (λ x. Taken S.drawn (view seat.old) x (view seat.new)) }
+        ensures same { IfNone result (view seat.new ≡ view seat.old) }
+    {
+        self.slot.pop_as::<Takes, R>(rt, seat)
+    }
+
     // Takes the reader out for good.
     pub(crate) fn emptied<R: Wait>(
         self,
@@ -179,7 +194,7 @@ impl<S: EventSource<A>, A: Allocator> Room<S, A> {
         ensures taken { IfSome result (λ x. Taken S.drawn (view seat.old) x (view seat.new)) }
         ensures same { IfNone result (view seat.new ≡ view seat.old) }
     {
-        self.slot.pop_as::<Takes, R>(rt, seat)
+        self.try_take(rt, seat)
     }
 
     // Puts the reader back after one call. The last says what the call was about, for the picks of `M`.

@@ -1,0 +1,31 @@
+use Rattle.std.proofs.Common.{refl, sym, inl, ◌∙◌}
+use Rattle.crossbeam_queue.specs.Passes.{view}
+use Rattle.crossterm_types.specs.declared.event.filter.AnyFilter.TheVariants as filters
+use Rattle.crossterm_read.specs.Calls.{Read}
+use Rattle.crossterm_read.specs.Replies.{try_reply}
+use Rattle.crossterm_read.proofs.Sharing.{some_there, brings, extends, sits_taken, sits_put, last_after, last_try, try_memory}
+use Rattle.crossterm_read.proofs.read.shared.reader.EventReader.try_read.Goals as goal
+
+pub try_take-requires-clause-opened : goal.try_take-requires-clause-opened
+try_take-requires-clause-opened g c = some_there _ c.args.pass.now.sits.opened
+
+pub put-requires-clause-brings : goal.put-requires-clause-brings
+put-requires-clause-brings g c =
+    let p = c.read_within_numbered-tried.ensures.step in
+    brings g.S.EventSource.drawn _ _ _ c.in-Some.reader c.read_within_numbered-tried.new.self c.in-Some.ensures.taken (Read 1 filters.Event) p.0 (try_reply c.read_within_numbered-tried.result)
+    (record { call = refl; reply = refl; limits = c.read_within_numbered-tried.ensures.at_once; memory = try_memory c.read_within_numbered-tried.result _ p.3 }) p.1 p.2
+
+pub invariant_of-pass-2 : goal.invariant_of-pass-2
+invariant_of-pass-2 g c = record {
+  clear = c.put.ensures.seat.2 ∙ c.try_take.ensures.seat.2 ∙ c.args.pass.now.clear;
+  sits = sits_put g.S.EventSource.drawn _ _ _ _ (sits_taken g.S.EventSource.drawn _ _ _ c.args.pass.now.sits c.in-Some.ensures.taken) c.put.ensures.put;
+  taken = c.last_after_try-pass.ensures ∙ sym (last_try c.args.pass.now.last c.read_within_numbered-tried.result)
+      ∙ last_after g.S.EventSource.drawn _ _ (view c.args.pass.now.seat) (view c.try_take.new.seat) (view c.put.new.seat) _ _ c.args.pass.now.last c.in-Some.ensures.taken c.put.ensures.put c.put.ensures.put.0.such.reply c.args.pass.now.taken;
+}
+
+pub returns-clause-call : goal.returns-clause-call
+returns-clause-call g c = inl (
+  try_reply c.read_within_numbered-tried.result,
+  c.users_tried.ensures,
+  extends g.S.EventSource.drawn _ (view c.args.pass.now.seat) (view c.try_take.new.seat) (view c.put.new.seat) c.in-Some.reader c.read_within_numbered-tried.new.self c.requires.1 c.in-Some.ensures.taken c.put.ensures.put,
+)

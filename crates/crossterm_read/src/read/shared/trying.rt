@@ -1,0 +1,68 @@
+//! A read of a shared reader that waits for nobody.
+ghost use Rattle.std.specs.Prelude.{◌≡◌, true, IfOk, IfSome};
+ghost use Rattle.crossterm_types.specs.Admitting.{is_event};
+ghost use Rattle.crossterm_types.specs.Seen.{seen};
+ghost use Rattle.crossterm_types.specs.declared.event.filter.AnyFilter.TheVariants as filters;
+ghost use Rattle.crossterm_read.specs.Entries.{Tries};
+ghost use Rattle.crossterm_read.specs.Replies.{event_tried, last_tried, shown, try_reply};
+ghost use Rattle.crossterm_read.specs.Seats.{knows};
+ghost use Rattle.crossterm_read.specs.Shared.{IsPassOf};
+
+use crate::read::shared::calls::users;
+use crate::read::shared::pass::Pass;
+use crate::read::shared::reader::EventReader;
+use crate::source::EventSource;
+use crossterm_types::event::filter::AnyFilter;
+use crossterm_types::event::{Event, InternalEvent};
+use std::alloc::Allocator;
+use std::io;
+use std::marker::Brand;
+use std::sync::Wait;
+
+// The number of what was taken last, after one more call.
+fn last_after_try<T>(last: Option<u64>, tried: &io::Result<Option<(T, u64)>>) -> Option<u64>
+    ensures { result ≡ last_tried last tried.now }
+{
+    match tried {
+        Ok(Some((_, number))) => Some(*number),
+        Ok(None) | Err(_) => last,
+    }
+}
+
+// The user's event without its number.
+fn users_tried<A: Allocator>(
+    tried: io::Result<Option<(InternalEvent<A>, u64)>>,
+) -> io::Result<Option<Event<A>>>
+    requires { IfOk tried (λ taken. IfSome taken (λ x. is_event (seen x.0) ≡ true)) }
+    ensures { event_tried result ≡ shown (try_reply tried) }
+{
+    match tried {
+        Ok(Some((event, _number))) => Ok(Some(users(event))),
+        Ok(None) => Ok(None),
+        Err(error) => Err(error),
+    }
+}
+
+impl<S: EventSource<A>, A: Allocator> EventReader<S, A> {
+    // Takes the first event of the user, where one is held or comes at once: the device is asked once at most, with limit zero.
+    //
+    // It waits for nobody: where another has the reader, the answer is `None`.
+    pub(crate) fn try_read<R: Wait>(
+        &self,
+        rt: &R,
+        pass: &mut Pass<S, A>,
+    ) -> io::Result<Option<Event<A>>>
+        requires { IsPassOf self.now pass.old }
+        ensures pass { IsPassOf self.now pass.new }
+        ensures call { Tries S.drawn S.asked filters.Event (knows pass.old) (knows pass.new) (event_tried result) }
+    {
+        let Some(mut reader) = self.room.try_take(rt, &mut pass.seat) else {
+            return Ok(None);
+        };
+        let tried = reader.read_within_numbered(1, &AnyFilter::Event);
+        self.room
+            .put::<Brand, _, R>(rt, &mut pass.seat, reader, &tried);
+        pass.last = last_after_try(pass.last, &tried);
+        users_tried(tried)
+    }
+}
