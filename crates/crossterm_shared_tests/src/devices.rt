@@ -1,5 +1,5 @@
 //! Devices, clocks, and shared readers over them.
-ghost use Rattle.std.specs.Prelude.{IfOk};
+ghost use Rattle.std.specs.Prelude.{All, IfOk};
 ghost use Rattle.crossterm_read.specs.Shared.{IsPassOf};
 
 use crossterm_read::read::{EventReader, InternalEventReader, Pass};
@@ -105,7 +105,12 @@ impl Signs {
 
 /// Whether a flag is raised before the turns are over.
 fn is_raised<R: Wait>(rt: &R, flag: &AtomicBool) -> bool {
-    for _ in 0..TURNS {
+    is_raised_within(rt, flag, TURNS)
+}
+
+/// Whether a flag is raised within so many turns.
+pub fn is_raised_within<R: Wait>(rt: &R, flag: &AtomicBool, turns: u32) -> bool {
+    for _ in 0..turns {
         if flag.load(Ordering::SeqCst) {
             return true;
         }
@@ -203,6 +208,22 @@ pub fn script_of(alloc: Global, acts: Vec<Act>) -> Reader<Script> {
 
 /// A share of a reader, and a pass of it.
 pub type Seat<S> = (EventReader<S>, Pass<S>);
+
+/// One more share of a reader, with the last of the passes that are left.
+pub fn seat<S: EventSource<Global>>(
+    shared: &EventReader<S>,
+    passes: &mut Vec<Pass<S>>,
+) -> io::Result<Seat<S>>
+    requires { All (IsPassOf shared.now) passes.old.items }
+    ensures left { All (IsPassOf shared.now) passes.new.items }
+    ensures seat { IfOk result (λ r. IsPassOf r.0 r.1) }
+{
+    let share = shared.share()?;
+    match passes.pop() {
+        Some(pass) => Ok((share, pass)),
+        None => Err(io::Error::from(io::ErrorKind::NotFound)),
+    }
+}
 
 /// A shared reader, and its only pass.
 pub fn alone<S: EventSource<Global>, R: Wait>(

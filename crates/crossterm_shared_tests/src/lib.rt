@@ -1,4 +1,4 @@
-//! Tests of the reader that threads share, by its public calls: what no contract says, as that a poll is woken, that a call ends, and
+//! Tests of the reader that threads share, and of streams over it, by their public calls: what no contract says, as that a poll is woken, that a call ends, and
 //! that each event comes to one pass alone.
 //!
 //! They stand here, in a crate of their own, since a crate with tests is proved twice. Each ends by itself within seconds: devices have
@@ -24,6 +24,8 @@ mod closing;
 #[cfg(test)]
 mod devices;
 #[cfg(test)]
+mod gates;
+#[cfg(test)]
 mod limits;
 #[cfg(test)]
 mod order;
@@ -31,5 +33,9 @@ mod order;
 mod queries;
 #[cfg(test)]
 mod refused;
+#[cfg(test)]
+mod stream;
+#[cfg(test)]
+mod stream_shares;
 #[cfg(test)]
 mod waking;

@@ -1,8 +1,8 @@
 //! Each event comes to one pass, in the order of arrival.
-ghost use Rattle.std.specs.Prelude.{All, IfOk};
+ghost use Rattle.std.specs.Prelude.{IfOk};
 ghost use Rattle.crossterm_read.specs.Shared.{IsPassOf};
 
-use crate::devices::{Reader, Seat, letter, script_of, text};
+use crate::devices::{Reader, Seat, letter, script_of, seat, text};
 use crossterm_read::read::{EventReader, Pass};
 use crossterm_read::source::{DeviceSource, Script};
 use std::alloc::{AllocError, Global};
@@ -81,19 +81,6 @@ fn is_all(alloc: Global, parts: [Vec<Arrived>; 4]) -> Result<bool, AllocError> {
     }
     all.sort()?;
     Ok(is_script(&all))
-}
-
-/// One more share of a reader, with the last of the passes that are left.
-fn seat(shared: &EventReader<Source>, passes: &mut Vec<Pass<Source>>) -> io::Result<Seat<Source>>
-    requires { All (IsPassOf shared.now) passes.old.items }
-    ensures left { All (IsPassOf shared.now) passes.new.items }
-    ensures seat { IfOk result (λ r. IsPassOf r.0 r.1) }
-{
-    let share = shared.share()?;
-    match passes.pop() {
-        Some(pass) => Ok((share, pass)),
-        None => Err(io::Error::from(io::ErrorKind::NotFound)),
-    }
 }
 
 /// Four shares of a reader, each with a pass.
