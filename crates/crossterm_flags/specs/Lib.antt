@@ -2,3 +2,4 @@ pub mod Bits
 pub mod Names
 pub mod Orders
 pub mod Tables
+pub mod Values

@@ -8,8 +8,10 @@ mod enhancement;
 mod iter;
 mod modifiers;
 mod state;
+pub mod value;
 
 pub use enhancement::KeyboardEnhancementFlags;
 pub use iter::{FlagIter, FlagSet};
 pub use modifiers::KeyModifiers;
 pub use state::KeyEventState;
+pub use value::ValueFault;

@@ -1,0 +1,75 @@
+-- How values are told as JSON, and what parts of JSON read as. An object's members stand in the order of their names.
+use Rattle.std.specs.Prelude.{◌≡◌, ℕ, ◌&&◌, nat_eq, nat_lt, Bool, List, [], ◌∷◌, Option, Some, None, MatchResult, if◌then◌else◌}
+use Rattle.std.specs.Cmp.Lexicographic.{pointwise}
+use Rattle.std.specs.Option.{option_and_then}
+use Rattle.std.specs.declared.result.Result.{Result}
+use Rattle.serde_json.specs.Data.{Data, Items, Members, string, number, unsigned, object, member, no_members, item, no_items}
+use Rattle.serde_json.specs.Find.{as_number, as_object, as_str, as_u64, as_array}
+use Rattle.serde_json.specs.View.{view}
+use Rattle.serde_json.specs.declared.value.Value.{Value}
+use Rattle.crossterm_flags.specs.declared.value.ValueFault.{ValueFault}
+use Rattle.crossterm_flags.specs.declared.value.ValueFault.TheVariants.{Memory, Shape}
+
+-- ---- what is told
+
+-- A number.
+abbrev pub number_value : ℕ → Data
+number_value n = number (unsigned n)
+
+-- An object with one member.
+abbrev pub one_member : List ℕ → Data → Data
+one_member name d = object (member name d no_members)
+
+-- What is told comes out, or memory for it was refused.
+abbrev pub Tells : Data → Result Value ValueFault → Type 0
+Tells d result = MatchResult result (λ v. view v ≡ d) (λ fault. fault ≡ Memory)
+
+-- ---- what is read
+
+-- Whether two texts are the same.
+abbrev pub same : List ℕ → List ℕ → Bool
+same = pointwise nat_eq
+
+-- A number below a limit.
+abbrev pub below : ℕ → ℕ → Option ℕ
+below limit n = if nat_lt n limit then Some n else None
+
+abbrev pub reads_below : ℕ → Data → Option ℕ
+reads_below limit d = option_and_then (below limit) (option_and_then as_u64 (as_number d))
+
+-- The first of some values whose name is a text.
+abbrev pub first_named : {X : Type 0} → (X → List ℕ) → List X → List ℕ → Option X
+first_named name [] text = None
+first_named name (x ∷ xs) text = if same (name x) text then Some x else first_named name xs text
+
+-- A text that is a name of one of some values.
+abbrev pub reads_named : {X : Type 0} → (X → List ℕ) → List X → Data → Option X
+reads_named name all d = option_and_then (first_named name all) (as_str d)
+
+-- The member of an object that has one: its name and what stands there.
+abbrev pub alone : Members → Option (List ℕ × Data)
+alone (member name d no_members) = Some (name, d)
+alone _ = None
+
+abbrev pub reads_member : Data → Option (List ℕ × Data)
+reads_member d = option_and_then alone (as_object d)
+
+-- What stands at four names, of members that have these alone.
+abbrev pub four : List ℕ → List ℕ → List ℕ → List ℕ → Members → Option (Data × Data × Data × Data)
+four a b c d (member k w (member l x (member m y (member n z no_members)))) = if same k a && (same l b && (same m c && same n d)) then Some (w, x, y, z) else None
+four a b c d _ = None
+
+abbrev pub reads_four : List ℕ → List ℕ → List ℕ → List ℕ → Data → Option (Data × Data × Data × Data)
+reads_four a b c d value = option_and_then (four a b c d) (as_object value)
+
+-- The items of an array of two.
+abbrev pub two : Items → Option (Data × Data)
+two (item a (item b no_items)) = Some (a, b)
+two _ = None
+
+abbrev pub reads_two : Data → Option (Data × Data)
+reads_two d = option_and_then two (as_array d)
+
+-- What is read comes out, seen as the reading tells it, and `Shape` exactly where nothing is read.
+abbrev pub Reads : {X Y : Type 0} → (X → Y) → Option Y → Result X ValueFault → Type 0
+Reads seen reading result = MatchResult result (λ x. reading ≡ Some (seen x)) (λ fault. (fault ≡ Shape) × (reading ≡ None))
