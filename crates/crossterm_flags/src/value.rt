@@ -36,14 +36,14 @@ pub trait Named: Copy {
     // The name of a value.
     ghost name: { Self → List ℕ };
 
-    // Its values.
+    // The values that a name alone tells.
     ghost all: { List Self };
 
     /// The name.
     fn name(self) -> &'static str
         ensures { result.now ≡ name self };
 
-    /// The values, in declared order.
+    /// The values that a name alone tells, in declared order.
     fn all<'a>() -> &'a [Self]
         ensures { result.now ≡ all };
 }

@@ -2,3 +2,4 @@ mod NormalForm
 mod Orders
 mod SameKeys
 mod Variants
+pub mod ValueLaws

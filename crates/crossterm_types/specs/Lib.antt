@@ -6,3 +6,5 @@ pub mod Normal
 pub mod Ranks
 pub mod Seen
 pub mod Timing
+pub mod Values
+pub mod Variants

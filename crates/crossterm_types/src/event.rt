@@ -6,8 +6,9 @@ mod key;
 pub mod laws;
 mod mouse;
 pub mod timeout;
+mod value;
 
-pub use crossterm_flags::{KeyEventState, KeyModifiers, KeyboardEnhancementFlags};
+pub use crossterm_flags::{KeyEventState, KeyModifiers, KeyboardEnhancementFlags, ValueFault};
 pub use key::{KeyCode, KeyEvent, KeyEventKind, MediaKeyCode, ModifierKeyCode};
 pub use mouse::{MouseButton, MouseEvent, MouseEventKind};
 use std::alloc::{Allocator, Global};

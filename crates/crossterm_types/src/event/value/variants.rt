@@ -128,11 +128,7 @@ impl Named for MouseButton {
     }
 
     fn all<'a>() -> &'a [MouseButton] {
-        &[
-            MouseButton::Left,
-            MouseButton::Right,
-            MouseButton::Middle,
-        ]
+        &[MouseButton::Left, MouseButton::Right, MouseButton::Middle]
     }
 }
 

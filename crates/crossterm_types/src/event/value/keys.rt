@@ -1,0 +1,225 @@
+//! JSON values of keys.
+ghost use Rattle.std.specs.Prelude.{◌≡◌, IfOk, Some};
+ghost use Rattle.serde_json.specs.Data.{string};
+ghost use Rattle.serde_json.specs.View.{view};
+ghost use Rattle.crossterm_flags.specs.Values.{Reads, Tells, reads_named};
+ghost use Rattle.crossterm_types.specs.Values.{FitsCode, FitsKey, code_value, holding_code, key_value, only_char, reads_code, reads_key};
+ghost use Rattle.crossterm_types.specs.Variants.{all_kinds, all_media, all_modifiers, kind_variant, media_variant, modifier_variant};
+
+use crate::event::{
+    KeyCode, KeyEvent, KeyEventKind, KeyEventState, KeyModifiers, MediaKeyCode, ModifierKeyCode,
+};
+use crossterm_flags::ValueFault;
+use crossterm_flags::value::{
+    Named, read_byte, read_four, read_member, read_named, shaped, tell_member, tell_text,
+};
+use serde_json::{Value, json};
+use std::alloc::Global;
+
+impl KeyEventKind {
+    /// Its variant as a JSON text.
+    ///
+    /// # Errors
+    /// `Memory` where memory for it was refused.
+    #[tactic(auto, using(crate::proofs::ValueLaws::kind_back, crate::proofs::ValueLaws::told_back))]
+    pub fn to_value(&self, alloc: Global) -> Result<Value, ValueFault>
+        ensures tells { Tells (string (kind_variant self.now)) result }
+        ensures back { IfOk result (λ v. reads_named kind_variant all_kinds (view v) ≡ Some self.now) }
+    {
+        tell_text(alloc, self.name())
+    }
+
+    /// The kind whose variant a JSON text is. It takes no memory.
+    ///
+    /// # Errors
+    /// `Shape` where the JSON is no such text.
+    pub fn from_value(value: &Value) -> Result<KeyEventKind, ValueFault>
+        ensures { Reads (λ x. x) (reads_named kind_variant all_kinds (view value.now)) result }
+    {
+        shaped(read_named(value))
+    }
+}
+
+impl MediaKeyCode {
+    /// Its variant as a JSON text.
+    ///
+    /// # Errors
+    /// `Memory` where memory for it was refused.
+    #[tactic(auto, using(crate::proofs::ValueLaws::media_back, crate::proofs::ValueLaws::told_back))]
+    pub fn to_value(&self, alloc: Global) -> Result<Value, ValueFault>
+        ensures tells { Tells (string (media_variant self.now)) result }
+        ensures back { IfOk result (λ v. reads_named media_variant all_media (view v) ≡ Some self.now) }
+    {
+        tell_text(alloc, self.name())
+    }
+
+    /// The key whose variant a JSON text is. It takes no memory.
+    ///
+    /// # Errors
+    /// `Shape` where the JSON is no such text.
+    pub fn from_value(value: &Value) -> Result<MediaKeyCode, ValueFault>
+        ensures { Reads (λ x. x) (reads_named media_variant all_media (view value.now)) result }
+    {
+        shaped(read_named(value))
+    }
+}
+
+impl ModifierKeyCode {
+    /// Its variant as a JSON text.
+    ///
+    /// # Errors
+    /// `Memory` where memory for it was refused.
+    #[tactic(auto, using(crate::proofs::ValueLaws::modifier_back, crate::proofs::ValueLaws::told_back))]
+    pub fn to_value(&self, alloc: Global) -> Result<Value, ValueFault>
+        ensures tells { Tells (string (modifier_variant self.now)) result }
+        ensures back { IfOk result (λ v. reads_named modifier_variant all_modifiers (view v) ≡ Some self.now) }
+    {
+        tell_text(alloc, self.name())
+    }
+
+    /// The key whose variant a JSON text is. It takes no memory.
+    ///
+    /// # Errors
+    /// `Shape` where the JSON is no such text.
+    pub fn from_value(value: &Value) -> Result<ModifierKeyCode, ValueFault>
+        ensures { Reads (λ x. x) (reads_named modifier_variant all_modifiers (view value.now)) result }
+    {
+        shaped(read_named(value))
+    }
+}
+
+/// The character of a text that has one.
+#[tactic(auto, using(crate::proofs::ValueLaws::char_back))]
+fn only_char(text: &str) -> Option<char>
+    ensures { result ≡ only_char text.now }
+{
+    match text.parse::<char>() {
+        Ok(c) => Some(c),
+        Err(_) => None,
+    }
+}
+
+impl KeyCode {
+    /// The ranges of its numbers.
+    pub(crate) fn known(self)
+        ensures { FitsCode self }
+    {}
+
+    /// The key as JSON: its variant, and where it holds something an object of the variant and that, as `{"F":5}` and `{"Char":"a"}`.
+    ///
+    /// # Errors
+    /// `Memory` where memory for it was refused.
+    #[tactic(auto, using(crate::proofs::ValueLaws::code_back, crate::proofs::ValueLaws::told_back))]
+    pub fn to_value(&self, alloc: Global) -> Result<Value, ValueFault>
+        ensures tells { Tells (code_value self.now) result }
+        ensures back { IfOk result (λ v. reads_code (view v) ≡ Some self.now) }
+    {
+        self.known();
+        self.tell(alloc)
+    }
+
+    /// The key as JSON.
+    fn tell(self, alloc: Global) -> Result<Value, ValueFault>
+        ensures { Tells (code_value self) result }
+    {
+        let held = match self {
+            KeyCode::F(number) => Value::from(number),
+            KeyCode::Char(c) => tell_text(alloc, c.encode_utf8(&mut [0; 4]))?,
+            KeyCode::Media(key) => key.to_value(alloc)?,
+            KeyCode::Modifier(key) => key.to_value(alloc)?,
+            _ => return tell_text(alloc, self.name()),
+        };
+        tell_member(alloc, self.name(), held)
+    }
+
+    /// A key that holds something, by its variant.
+    fn holding(variant: &str, held: &Value) -> Option<KeyCode>
+        ensures { result ≡ holding_code (variant.now, view held.now) }
+    {
+        match variant {
+            "F" => read_byte(held).map(KeyCode::F),
+            "Char" => held.as_str().and_then(only_char).map(KeyCode::Char),
+            "Media" => read_named(held).map(KeyCode::Media),
+            "Modifier" => read_named(held).map(KeyCode::Modifier),
+            _ => None,
+        }
+    }
+
+    /// The key that JSON tells.
+    fn read(value: &Value) -> Option<KeyCode>
+        ensures { result ≡ reads_code (view value.now) }
+    {
+        if let Some(code) = read_named(value) {
+            return Some(code);
+        }
+        match read_member(value) {
+            Some((variant, held)) => KeyCode::holding(variant, held),
+            None => None,
+        }
+    }
+
+    /// The key that JSON tells. It takes no memory.
+    ///
+    /// # Errors
+    /// `Shape` where the JSON tells no key.
+    pub fn from_value(value: &Value) -> Result<KeyCode, ValueFault>
+        ensures { Reads (λ x. x) (reads_code (view value.now)) result }
+    {
+        shaped(KeyCode::read(value))
+    }
+}
+
+impl KeyEvent {
+    /// The ranges of its numbers.
+    pub(crate) fn known(self)
+        ensures { FitsKey self }
+    {
+        self.code.known();
+    }
+
+    /// The key as a JSON object of its fields, as they are, and not in the normal form.
+    ///
+    /// # Errors
+    /// `Memory` where memory for it was refused.
+    #[tactic(auto, using(crate::proofs::ValueLaws::key_back, crate::proofs::ValueLaws::told_back))]
+    pub fn to_value(&self, alloc: Global) -> Result<Value, ValueFault>
+        ensures tells { Tells (key_value self.now) result }
+        ensures back { IfOk result (λ v. reads_key (view v) ≡ Some self.now) }
+    {
+        self.known();
+        let code = self.code.to_value(alloc)?;
+        let kind = self.kind.to_value(alloc)?;
+        let modifiers = self.modifiers.bits();
+        let state = self.state.bits();
+        Ok(json!(in alloc; {"code": code, "kind": kind, "modifiers": modifiers, "state": state})?)
+    }
+
+    /// The key that a JSON object of the fields `code`, `modifiers`, `kind` and `state` and no other tells. It takes no memory.
+    ///
+    /// # Errors
+    /// `Shape` where the JSON is no such object.
+    pub fn from_value(value: &Value) -> Result<KeyEvent, ValueFault>
+        ensures { Reads (λ x. x) (reads_key (view value.now)) result }
+    {
+        shaped(KeyEvent::read(value))
+    }
+
+    /// The key that JSON tells.
+    pub(crate) fn read(value: &Value) -> Option<KeyEvent>
+        ensures { result ≡ reads_key (view value.now) }
+    {
+        let (code, kind, modifiers, state) = read_four(
+            value,
+            "code",
+            "kind",
+            "modifiers",
+            "state",
+        )?;
+        Some(KeyEvent {
+            code: KeyCode::read(code)?,
+            kind: read_named(kind)?,
+            modifiers: KeyModifiers::from_bits_retain(read_byte(modifiers)?),
+            state: KeyEventState::from_bits_retain(read_byte(state)?),
+        })
+    }
+}

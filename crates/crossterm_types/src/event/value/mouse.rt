@@ -1,0 +1,149 @@
+//! JSON values of the mouse.
+ghost use Rattle.std.specs.Prelude.{◌≡◌, IfOk, Some};
+ghost use Rattle.serde_json.specs.Data.{string};
+ghost use Rattle.serde_json.specs.View.{view};
+ghost use Rattle.crossterm_flags.specs.Values.{Reads, Tells, reads_named};
+ghost use Rattle.crossterm_types.specs.Values.{FitsMouse, holding_mouse, mouse_kind_value, mouse_value, reads_mouse, reads_mouse_kind};
+ghost use Rattle.crossterm_types.specs.Variants.{all_buttons, button_variant};
+
+use crate::event::{KeyModifiers, MouseButton, MouseEvent, MouseEventKind};
+use crossterm_flags::ValueFault;
+use crossterm_flags::value::{
+    Named, read_byte, read_four, read_member, read_named, read_word, shaped, tell_member, tell_text,
+};
+use serde_json::{Value, json};
+use std::alloc::Global;
+
+impl MouseButton {
+    /// Its variant as a JSON text.
+    ///
+    /// # Errors
+    /// `Memory` where memory for it was refused.
+    #[tactic(auto, using(crate::proofs::ValueLaws::button_back, crate::proofs::ValueLaws::told_back))]
+    pub fn to_value(&self, alloc: Global) -> Result<Value, ValueFault>
+        ensures tells { Tells (string (button_variant self.now)) result }
+        ensures back { IfOk result (λ v. reads_named button_variant all_buttons (view v) ≡ Some self.now) }
+    {
+        tell_text(alloc, self.name())
+    }
+
+    /// The button whose variant a JSON text is. It takes no memory.
+    ///
+    /// # Errors
+    /// `Shape` where the JSON is no such text.
+    pub fn from_value(value: &Value) -> Result<MouseButton, ValueFault>
+        ensures { Reads (λ x. x) (reads_named button_variant all_buttons (view value.now)) result }
+    {
+        shaped(read_named(value))
+    }
+}
+
+impl MouseEventKind {
+    /// What the mouse did as JSON: its variant, and with a button an object of the variant and the button, as `{"Down":"Left"}`.
+    ///
+    /// # Errors
+    /// `Memory` where memory for it was refused.
+    #[tactic(auto, using(crate::proofs::ValueLaws::mouse_kind_back, crate::proofs::ValueLaws::told_back))]
+    pub fn to_value(&self, alloc: Global) -> Result<Value, ValueFault>
+        ensures tells { Tells (mouse_kind_value self.now) result }
+        ensures back { IfOk result (λ v. reads_mouse_kind (view v) ≡ Some self.now) }
+    {
+        match self {
+            MouseEventKind::Down(button)
+            | MouseEventKind::Up(button)
+            | MouseEventKind::Drag(button) => {
+                let button = button.to_value(alloc)?;
+                tell_member(alloc, self.name(), button)
+            }
+            _ => tell_text(alloc, self.name()),
+        }
+    }
+
+    /// What the mouse did with a button, by its variant.
+    fn holding(variant: &str, held: &Value) -> Option<MouseEventKind>
+        ensures { result ≡ holding_mouse (variant.now, view held.now) }
+    {
+        match variant {
+            "Down" => read_named(held).map(MouseEventKind::Down),
+            "Up" => read_named(held).map(MouseEventKind::Up),
+            "Drag" => read_named(held).map(MouseEventKind::Drag),
+            _ => None,
+        }
+    }
+
+    /// What the mouse did, as JSON tells it.
+    fn read(value: &Value) -> Option<MouseEventKind>
+        ensures { result ≡ reads_mouse_kind (view value.now) }
+    {
+        if let Some(kind) = read_named(value) {
+            return Some(kind);
+        }
+        match read_member(value) {
+            Some((variant, held)) => MouseEventKind::holding(variant, held),
+            None => None,
+        }
+    }
+
+    /// What the mouse did, as JSON tells it. It takes no memory.
+    ///
+    /// # Errors
+    /// `Shape` where the JSON tells nothing that the mouse does.
+    pub fn from_value(value: &Value) -> Result<MouseEventKind, ValueFault>
+        ensures { Reads (λ x. x) (reads_mouse_kind (view value.now)) result }
+    {
+        shaped(MouseEventKind::read(value))
+    }
+}
+
+impl MouseEvent {
+    /// The ranges of its numbers.
+    pub(crate) fn known(self)
+        ensures { FitsMouse self }
+    {}
+
+    /// The mouse event as a JSON object of its fields.
+    ///
+    /// # Errors
+    /// `Memory` where memory for it was refused.
+    #[tactic(auto, using(crate::proofs::ValueLaws::mouse_back, crate::proofs::ValueLaws::told_back))]
+    pub fn to_value(&self, alloc: Global) -> Result<Value, ValueFault>
+        ensures tells { Tells (mouse_value self.now) result }
+        ensures back { IfOk result (λ v. reads_mouse (view v) ≡ Some self.now) }
+    {
+        self.known();
+        let kind = self.kind.to_value(alloc)?;
+        let column = self.column;
+        let row = self.row;
+        let modifiers = self.modifiers.bits();
+        Ok(json!(in alloc; {"column": column, "kind": kind, "modifiers": modifiers, "row": row})?)
+    }
+
+    /// The mouse event that a JSON object of the fields `kind`, `column`, `row` and `modifiers` and no other tells. It takes no memory.
+    ///
+    /// # Errors
+    /// `Shape` where the JSON is no such object.
+    pub fn from_value(value: &Value) -> Result<MouseEvent, ValueFault>
+        ensures { Reads (λ x. x) (reads_mouse (view value.now)) result }
+    {
+        shaped(MouseEvent::read(value))
+    }
+
+    /// The mouse event that JSON tells.
+    pub(crate) fn read(value: &Value) -> Option<MouseEvent>
+        ensures { result ≡ reads_mouse (view value.now) }
+    {
+        let (column, kind, modifiers, row) = read_four(
+            value,
+            "column",
+            "kind",
+            "modifiers",
+            "row",
+        )?;
+        Some(MouseEvent {
+            column: read_word(column)?,
+            kind: MouseEventKind::read(kind)?,
+            modifiers: KeyModifiers::from_bits_retain(read_byte(modifiers)?),
+            row: read_word(row)?,
+        })
+    }
+}
