@@ -1,3 +1,4 @@
 pub mod NameFacts
 pub mod Ranks
 pub mod TableFacts
+pub mod ValueLaws

@@ -13,3 +13,6 @@ pub mod SetMembers
 pub mod StyledLooks
 pub mod Telling
 pub mod TextLaws
+pub mod ColorBack
+pub mod MarkLaws
+pub mod ValueLaws

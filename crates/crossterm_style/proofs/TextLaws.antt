@@ -34,7 +34,7 @@ no_plus : (ds : List ℕ) → AllByRecursion IsDigit ds → get_or ds 0 0 ≢ 43
 no_plus [] a e = omega (arith, e)
 no_plus (d ∷ ds) a e = omega (arith, a.0.0, e)
 
-byte_reads : (n : ℕ) → n < 256 → ReadsByte (decimal n) n
+pub byte_reads : (n : ℕ) → n < 256 → ReadsByte (decimal n) n
 byte_reads n h =
     let below : n < 2 ^ 64 = omega arith in
     let numeral = decimal_is_IsNumeral n below in

@@ -10,3 +10,4 @@ pub mod Looks
 pub mod Ranks
 pub mod Reading
 pub mod Styles
+pub mod Values

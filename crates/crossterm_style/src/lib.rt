@@ -10,6 +10,7 @@ pub mod laws;
 mod print;
 mod styled_content;
 mod types;
+mod value;
 
 pub use attributes::Attributes;
 pub use commands::{
@@ -19,6 +20,7 @@ pub use commands::{
 pub use content_style::{AsStyle, ContentStyle, style};
 pub use count::available_color_count;
 pub use crossterm_command::ColorOutput;
+pub use crossterm_flags::ValueFault;
 pub use print::Print;
 pub use styled_content::StyledContent;
 pub(crate) use types::Ink;

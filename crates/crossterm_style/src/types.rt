@@ -10,6 +10,7 @@ mod ink;
 pub use attribute::{Attribute, SGR};
 pub use attribute_iter::AttributeIter;
 pub use color::Color;
+pub(crate) use color::{color_named, name_of};
 pub use colored::Colored;
 pub use colors::Colors;
 pub(crate) use ink::Ink;

@@ -38,11 +38,6 @@ use Rattle.crossterm_types.specs.declared.event.key.MediaKeyCode.TheVariants as 
 use Rattle.crossterm_types.specs.declared.event.key.ModifierKeyCode.{ModifierKeyCode}
 use Rattle.crossterm_types.specs.declared.event.key.ModifierKeyCode.TheVariants as modifier
 
--- What is told and reads back comes out as something that reads back.
-pub told_back : {X : Type 0} (reads : Data → Option X) (d : Data) (x : X) (result : Result Value ValueFault) → Tells d result → reads d ≡ Some x → IfOk result (λ v. reads (view v) ≡ Some x)
-told_back reads d x (Ok v) told h = ap reads told ∙ h
-told_back reads d x (Err fault) told h = tt
-
 pub kind_back : (x : KeyEventKind) → first_named kind_variant all_kinds (kind_variant x) ≡ Some x
 kind_back kind.Press = refl
 kind_back kind.Repeat = refl

@@ -39,3 +39,5 @@ mod names;
 mod predicates;
 #[cfg(test)]
 mod timeouts;
+#[cfg(test)]
+mod values;

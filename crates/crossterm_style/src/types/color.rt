@@ -1,6 +1,7 @@
 //! Colours.
 ghost use Rattle.std.specs.Prelude.{◌≡◌, ◌⊎◌, MatchOption, MatchResult};
-ghost use Rattle.crossterm_style.specs.ColorNames.{entries, Names, NamesIn, NamesNone, NamesNoneIn};
+ghost use Rattle.crossterm_style.specs.Values.{color_in, name_in, table_of};
+ghost use Rattle.crossterm_style.specs.ColorNames.{entries, names, Names, NamesIn, NamesNone, NamesNoneIn};
 ghost use Rattle.crossterm_style.specs.Fields.{IsColorRead};
 
 use crate::fields::Fields;
@@ -73,7 +74,8 @@ static NAMES: [(&str, Color); 17] = [
 
 /// The colour of a name of a table, with ASCII letters of either case.
 fn color_in(table: &[(&str, Color)], text: &str) -> Option<Color>
-    ensures { MatchOption result (NamesNoneIn (entries table.now) text.now) (λ c. NamesIn (entries table.now) text.now c) }
+    ensures named { MatchOption result (NamesNoneIn (entries table.now) text.now) (λ c. NamesIn (entries table.now) text.now c) }
+    ensures first { result ≡ color_in (entries table.now) text.now }
 {
     for (name, color) in table {
         if text.eq_ignore_ascii_case(name) {
@@ -84,10 +86,30 @@ fn color_in(table: &[(&str, Color)], text: &str) -> Option<Color>
 }
 
 /// The colour of a name, with ASCII letters of either case.
-fn color_named(text: &str) -> Option<Color>
-    ensures { MatchOption result (NamesNone text.now) (λ c. Names text.now c) }
+pub(crate) fn color_named(text: &str) -> Option<Color>
+    ensures named { MatchOption result (NamesNone text.now) (λ c. Names text.now c) }
+    ensures first { result ≡ color_in names text.now }
 {
     color_in(&NAMES, text)
+}
+
+/// The name of a colour in a table, and nothing where it has none.
+fn name_in<'a>(table: &[(&'a str, Color)], color: Color) -> &'a str
+    ensures { result.now ≡ name_in (table_of table.now) color }
+{
+    for (name, named) in table {
+        if *named == color {
+            return name;
+        }
+    }
+    ""
+}
+
+/// The name of a colour that has one.
+pub(crate) fn name_of(color: Color) -> &'static str
+    ensures { result.now ≡ name_in names color }
+{
+    name_in(&NAMES, color)
 }
 
 /// Reads a colour's name, as `dark_grey`, with ASCII letters of either case.

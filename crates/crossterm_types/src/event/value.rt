@@ -38,7 +38,7 @@ impl<A: Allocator> Event<A> {
     ///
     /// # Errors
     /// `Memory` where memory for it was refused.
-    #[tactic(auto, using(crate::proofs::ValueLaws::event_back, crate::proofs::ValueLaws::told_back))]
+    #[tactic(auto, using(crate::proofs::ValueLaws::event_back, crossterm_flags::proofs::ValueLaws::told_back))]
     pub fn to_value(&self, alloc: Global) -> Result<Value, ValueFault>
         ensures tells { Tells (event_value self.now) result }
         ensures back { IfOk result (λ v. reads_event (view v) ≡ Some (seen_event self.now)) }

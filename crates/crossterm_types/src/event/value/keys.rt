@@ -21,7 +21,7 @@ impl KeyEventKind {
     ///
     /// # Errors
     /// `Memory` where memory for it was refused.
-    #[tactic(auto, using(crate::proofs::ValueLaws::kind_back, crate::proofs::ValueLaws::told_back))]
+    #[tactic(auto, using(crate::proofs::ValueLaws::kind_back, crossterm_flags::proofs::ValueLaws::told_back))]
     pub fn to_value(&self, alloc: Global) -> Result<Value, ValueFault>
         ensures tells { Tells (string (kind_variant self.now)) result }
         ensures back { IfOk result (λ v. reads_named kind_variant all_kinds (view v) ≡ Some self.now) }
@@ -45,7 +45,7 @@ impl MediaKeyCode {
     ///
     /// # Errors
     /// `Memory` where memory for it was refused.
-    #[tactic(auto, using(crate::proofs::ValueLaws::media_back, crate::proofs::ValueLaws::told_back))]
+    #[tactic(auto, using(crate::proofs::ValueLaws::media_back, crossterm_flags::proofs::ValueLaws::told_back))]
     pub fn to_value(&self, alloc: Global) -> Result<Value, ValueFault>
         ensures tells { Tells (string (media_variant self.now)) result }
         ensures back { IfOk result (λ v. reads_named media_variant all_media (view v) ≡ Some self.now) }
@@ -69,7 +69,7 @@ impl ModifierKeyCode {
     ///
     /// # Errors
     /// `Memory` where memory for it was refused.
-    #[tactic(auto, using(crate::proofs::ValueLaws::modifier_back, crate::proofs::ValueLaws::told_back))]
+    #[tactic(auto, using(crate::proofs::ValueLaws::modifier_back, crossterm_flags::proofs::ValueLaws::told_back))]
     pub fn to_value(&self, alloc: Global) -> Result<Value, ValueFault>
         ensures tells { Tells (string (modifier_variant self.now)) result }
         ensures back { IfOk result (λ v. reads_named modifier_variant all_modifiers (view v) ≡ Some self.now) }
@@ -109,7 +109,7 @@ impl KeyCode {
     ///
     /// # Errors
     /// `Memory` where memory for it was refused.
-    #[tactic(auto, using(crate::proofs::ValueLaws::code_back, crate::proofs::ValueLaws::told_back))]
+    #[tactic(auto, using(crate::proofs::ValueLaws::code_back, crossterm_flags::proofs::ValueLaws::told_back))]
     pub fn to_value(&self, alloc: Global) -> Result<Value, ValueFault>
         ensures tells { Tells (code_value self.now) result }
         ensures back { IfOk result (λ v. reads_code (view v) ≡ Some self.now) }
@@ -181,7 +181,7 @@ impl KeyEvent {
     ///
     /// # Errors
     /// `Memory` where memory for it was refused.
-    #[tactic(auto, using(crate::proofs::ValueLaws::key_back, crate::proofs::ValueLaws::told_back))]
+    #[tactic(auto, using(crate::proofs::ValueLaws::key_back, crossterm_flags::proofs::ValueLaws::told_back))]
     pub fn to_value(&self, alloc: Global) -> Result<Value, ValueFault>
         ensures tells { Tells (key_value self.now) result }
         ensures back { IfOk result (λ v. reads_key (view v) ≡ Some self.now) }

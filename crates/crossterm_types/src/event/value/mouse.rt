@@ -19,7 +19,7 @@ impl MouseButton {
     ///
     /// # Errors
     /// `Memory` where memory for it was refused.
-    #[tactic(auto, using(crate::proofs::ValueLaws::button_back, crate::proofs::ValueLaws::told_back))]
+    #[tactic(auto, using(crate::proofs::ValueLaws::button_back, crossterm_flags::proofs::ValueLaws::told_back))]
     pub fn to_value(&self, alloc: Global) -> Result<Value, ValueFault>
         ensures tells { Tells (string (button_variant self.now)) result }
         ensures back { IfOk result (λ v. reads_named button_variant all_buttons (view v) ≡ Some self.now) }
@@ -43,7 +43,7 @@ impl MouseEventKind {
     ///
     /// # Errors
     /// `Memory` where memory for it was refused.
-    #[tactic(auto, using(crate::proofs::ValueLaws::mouse_kind_back, crate::proofs::ValueLaws::told_back))]
+    #[tactic(auto, using(crate::proofs::ValueLaws::mouse_kind_back, crossterm_flags::proofs::ValueLaws::told_back))]
     pub fn to_value(&self, alloc: Global) -> Result<Value, ValueFault>
         ensures tells { Tells (mouse_kind_value self.now) result }
         ensures back { IfOk result (λ v. reads_mouse_kind (view v) ≡ Some self.now) }
@@ -105,7 +105,7 @@ impl MouseEvent {
     ///
     /// # Errors
     /// `Memory` where memory for it was refused.
-    #[tactic(auto, using(crate::proofs::ValueLaws::mouse_back, crate::proofs::ValueLaws::told_back))]
+    #[tactic(auto, using(crate::proofs::ValueLaws::mouse_back, crossterm_flags::proofs::ValueLaws::told_back))]
     pub fn to_value(&self, alloc: Global) -> Result<Value, ValueFault>
         ensures tells { Tells (mouse_value self.now) result }
         ensures back { IfOk result (λ v. reads_mouse (view v) ≡ Some self.now) }

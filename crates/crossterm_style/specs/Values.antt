@@ -1,0 +1,190 @@
+-- How colours and attributes are told as JSON, and what JSON reads as them.
+use Rattle.std.specs.Prelude.{◌≡◌, ℕ, zero, suc, ◌+◌, ◌-◌, ◌*◌, ◌<◌, ◌==◌, ◌&&◌, ◌||◌, ◌⊎◌, ⊤, nat_lt, Bool, true, false, List, [], ◌∷◌, ◌++◌, length, map, slice_index, Option, Some, None, MatchResult, codes, if◌then◌else◌}
+use Rattle.std.specs.Borrow.{Bor}
+use Rattle.std.specs.Char.{digit_value}
+use Rattle.std.specs.Fmt.{decimal}
+use Rattle.std.specs.List.{slice_split}
+use Rattle.std.specs.Option.{option_and_then, option_map, option_or}
+use Rattle.std.specs.Str.{str_to_ascii_lowercase}
+use Rattle.std.specs.Str.Parse.{digits_value, without_leading_plus}
+use Rattle.std.specs.declared.result.Result.{Result}
+use Rattle.serde_json.specs.Data.{Data, string}
+use Rattle.serde_json.specs.Find.{as_str}
+use Rattle.crossterm_flags.specs.Values.{one_member, reads_member, same}
+use Rattle.crossterm_flags.specs.declared.value.ValueFault.{ValueFault}
+use Rattle.crossterm_flags.specs.declared.value.ValueFault.TheVariants.{Memory, Shape}
+use Rattle.crossterm_style.specs.ColorNames.{names}
+use Rattle.crossterm_style.specs.contracts.types.color.ColorPartialEq.TheImpl as color_eq
+use Rattle.crossterm_style.specs.declared.types.attribute.Attribute.{Attribute}
+use Rattle.crossterm_style.specs.declared.types.attribute.Attribute.TheVariants as attribute
+use Rattle.crossterm_style.specs.declared.types.color.Color.{Color}
+use Rattle.crossterm_style.specs.declared.types.color.Color.TheVariants as color
+use Rattle.crossterm_style.specs.declared.types.colored.Colored.{Colored}
+use Rattle.crossterm_style.specs.declared.types.colored.Colored.TheVariants as colored
+
+-- ---- attributes
+
+-- The variant of an attribute.
+abbrev pub attribute_variant : Attribute → List ℕ
+attribute_variant attribute.Reset = codes "Reset"
+attribute_variant attribute.Bold = codes "Bold"
+attribute_variant attribute.Dim = codes "Dim"
+attribute_variant attribute.Italic = codes "Italic"
+attribute_variant attribute.Underlined = codes "Underlined"
+attribute_variant attribute.DoubleUnderlined = codes "DoubleUnderlined"
+attribute_variant attribute.Undercurled = codes "Undercurled"
+attribute_variant attribute.Underdotted = codes "Underdotted"
+attribute_variant attribute.Underdashed = codes "Underdashed"
+attribute_variant attribute.SlowBlink = codes "SlowBlink"
+attribute_variant attribute.RapidBlink = codes "RapidBlink"
+attribute_variant attribute.Reverse = codes "Reverse"
+attribute_variant attribute.Hidden = codes "Hidden"
+attribute_variant attribute.CrossedOut = codes "CrossedOut"
+attribute_variant attribute.Fraktur = codes "Fraktur"
+attribute_variant attribute.NoBold = codes "NoBold"
+attribute_variant attribute.NormalIntensity = codes "NormalIntensity"
+attribute_variant attribute.NoItalic = codes "NoItalic"
+attribute_variant attribute.NoUnderline = codes "NoUnderline"
+attribute_variant attribute.NoBlink = codes "NoBlink"
+attribute_variant attribute.NoReverse = codes "NoReverse"
+attribute_variant attribute.NoHidden = codes "NoHidden"
+attribute_variant attribute.NotCrossedOut = codes "NotCrossedOut"
+attribute_variant attribute.Framed = codes "Framed"
+attribute_variant attribute.Encircled = codes "Encircled"
+attribute_variant attribute.OverLined = codes "OverLined"
+attribute_variant attribute.NotFramedOrEncircled = codes "NotFramedOrEncircled"
+attribute_variant attribute.NotOverLined = codes "NotOverLined"
+
+-- ---- what is told of a colour
+
+-- The name of a colour in a table, and nothing where it has none.
+abbrev pub name_in : List (List ℕ × Color) → Color → List ℕ
+name_in [] c = []
+name_in (e ∷ es) c = if color_eq.ghosts.eq e.1 c then e.0 else name_in es c
+
+-- a program's table of names, as it stands
+abbrev pub table_of : List (Bor (List ℕ) × Color) → List (List ℕ × Color)
+table_of table = map (λ entry. (entry.0.now, entry.1)) table
+
+-- The text of a colour: its place in the palette, its parts, or its name.
+abbrev pub color_text : Color → List ℕ
+color_text (color.AnsiValue n) = codes "ansi_(" ++ (decimal n ++ codes ")")
+color_text (color.Rgb r g b) = codes "rgb_(" ++ (decimal r ++ (codes "," ++ (decimal g ++ (codes "," ++ (decimal b ++ codes ")")))))
+color_text c = name_in names c
+
+-- ---- what a text reads as
+
+-- The colour of a name in a table, with ASCII letters of either case.
+abbrev pub color_in : List (List ℕ × Color) → List ℕ → Option Color
+color_in [] text = None
+color_in (e ∷ es) text = if same (str_to_ascii_lowercase text) e.0 then Some e.1 else color_in es text
+
+-- Whether a text begins with a part.
+abbrev pub begins : List ℕ → List ℕ → Bool
+begins [] text = true
+begins (p ∷ ps) [] = false
+begins (p ∷ ps) (x ∷ xs) = p == x && begins ps xs
+
+-- Whether a text has a part.
+abbrev pub holds : List ℕ → List ℕ → Bool
+holds part [] = begins part []
+holds part (x ∷ xs) = begins part (x ∷ xs) || holds part xs
+
+-- A text without a part, wherever it stands, from left to right; some bytes at the beginning are passed over.
+abbrev pub without_after : List ℕ → ℕ → List ℕ → List ℕ
+without_after part skip [] = []
+without_after part (suc skip) (x ∷ xs) = without_after part skip xs
+without_after part zero (x ∷ xs) = if begins part (x ∷ xs) then without_after part (length part - 1) xs else x ∷ without_after part 0 xs
+
+abbrev pub without : List ℕ → List ℕ → List ℕ
+without part text = without_after part 0 text
+
+-- Whether all are decimal digits.
+abbrev pub all_digits : List ℕ → Bool
+all_digits [] = true
+all_digits (d ∷ ds) = nat_lt (digit_value d) 10 && all_digits ds
+
+-- A number below 256 in decimal digits, before which a plus may stand.
+abbrev pub digits_byte : List ℕ → Option ℕ
+digits_byte ds = if nat_lt 0 (length ds) && (all_digits ds && nat_lt (digits_value 10 ds) 256) then Some (digits_value 10 ds) else None
+
+abbrev pub byte_of : List ℕ → Option ℕ
+byte_of text = digits_byte (without_leading_plus text)
+
+-- A colour of its three parts, where all are there.
+abbrev pub rgb_of : Option ℕ → Option ℕ → Option ℕ → Option Color
+rgb_of (Some r) (Some g) (Some b) = Some (color.Rgb r g b)
+rgb_of _ _ _ = None
+
+-- Three fields.
+abbrev pub three_of : List (List ℕ) → Option (List ℕ × List ℕ × List ℕ)
+three_of (a ∷ b ∷ c ∷ []) = Some (a, b, c)
+three_of _ = None
+
+-- A colour of three fields.
+abbrev pub fields_rgb : List (List ℕ) → Option Color
+fields_rgb fields = option_and_then (λ parts. rgb_of (byte_of parts.0) (byte_of parts.1) (byte_of parts.2)) (three_of fields)
+
+-- A hexadecimal digit.
+abbrev pub hex_digit : ℕ → Option ℕ
+hex_digit c = if nat_lt (digit_value c) 16 then Some (digit_value c) else None
+
+-- Two of them, or a plus and one.
+abbrev pub hex_byte : ℕ → ℕ → Option ℕ
+hex_byte a b = if a == 43 then hex_digit b else option_and_then (λ high. option_map (λ low. high * 16 + low) (hex_digit b)) (hex_digit a)
+
+-- `#` and six bytes, each two of them a part of the colour.
+abbrev pub hex_rgb : List ℕ → Option Color
+hex_rgb text =
+    if length text == 7 && (slice_index text 0 == 35)
+    then rgb_of (hex_byte (slice_index text 1) (slice_index text 2)) (hex_byte (slice_index text 3) (slice_index text 4)) (hex_byte (slice_index text 5) (slice_index text 6))
+    else None
+
+-- A text without the marks of a kind of colour: the kind with its parenthesis, and every closing one.
+abbrev pub unmarked : List ℕ → List ℕ → List ℕ
+unmarked mark text = without (codes ")") (without mark text)
+
+-- A text that is no colour's name.
+abbrev pub unnamed : List ℕ → Option Color
+unnamed text =
+    if holds (codes "ansi") text then option_map color.AnsiValue (byte_of (unmarked (codes "ansi_(") text)) else (
+    if holds (codes "rgb") text then fields_rgb (slice_split (λ b. b == 44) (unmarked (codes "rgb_(") text)) else
+    hex_rgb text)
+
+abbrev pub read_color : List ℕ → Option Color
+read_color text = option_or (color_in names text) (unnamed text)
+
+abbrev pub reads_color : Data → Option Color
+reads_color d = option_and_then read_color (as_str d)
+
+-- ---- a colour at its place
+
+abbrev pub colored_value : Colored → Data
+colored_value (colored.ForegroundColor c) = one_member (codes "ForegroundColor") (string (color_text c))
+colored_value (colored.BackgroundColor c) = one_member (codes "BackgroundColor") (string (color_text c))
+colored_value (colored.UnderlineColor c) = one_member (codes "UnderlineColor") (string (color_text c))
+
+abbrev pub place_of_color : List ℕ × Data → Option Colored
+place_of_color held =
+    if same held.0 (codes "ForegroundColor") then option_map colored.ForegroundColor (reads_color held.1) else (
+    if same held.0 (codes "BackgroundColor") then option_map colored.BackgroundColor (reads_color held.1) else (
+    if same held.0 (codes "UnderlineColor") then option_map colored.UnderlineColor (reads_color held.1) else
+    None))
+
+abbrev pub reads_colored : Data → Option Colored
+reads_colored d = option_and_then place_of_color (reads_member d)
+
+-- What a reading gives comes out, `Shape` exactly where it gives nothing, or memory was refused.
+abbrev pub ReadsOrRefused : {X : Type 0} → Option X → Result X ValueFault → Type 0
+ReadsOrRefused reading result = MatchResult result (λ x. reading ≡ Some x) (λ fault. (fault ≡ Memory) ⊎ ((fault ≡ Shape) × (reading ≡ None)))
+
+-- The numbers of a colour are bytes.
+abbrev pub FitsColor : Color → Type 0
+FitsColor (color.AnsiValue n) = n < 256
+FitsColor (color.Rgb r g b) = (r < 256) × (g < 256) × (b < 256)
+FitsColor _ = ⊤
+
+abbrev pub FitsPlace : Colored → Type 0
+FitsPlace (colored.ForegroundColor c) = FitsColor c
+FitsPlace (colored.BackgroundColor c) = FitsColor c
+FitsPlace (colored.UnderlineColor c) = FitsColor c
