@@ -128,12 +128,13 @@ impl<R: Wait + Drop> Device for Gated<R> {
     }
 }
 
-/// A device that fails once when it is asked without a limit, and else is idle. Its waker wakes it.
+/// A device that fails once when it is asked without a limit, and else is idle. Its waker wakes it. After its turns the input ends.
 #[derive(Drop)]
 pub struct FailsOnce<R> {
     rt: R,
     rings: Arc<AtomicBool>,
     failures: u64,
+    turns: u32,
 }
 
 impl<R: Wait + Drop> FailsOnce<R> {
@@ -143,6 +144,7 @@ impl<R: Wait + Drop> FailsOnce<R> {
             rt,
             rings: Arc::new(alloc, AtomicBool::new(false))?,
             failures: 0,
+            turns: TURNS,
         })
     }
 }
@@ -170,6 +172,13 @@ impl<R: Wait + Drop> Device for FailsOnce<R> {
             self.failures = 1;
             return Err(io::Error::from(ErrorKind::Other));
         }
+        if self.turns == 0 {
+            return Ok(Answer::Bytes {
+                count: 0,
+                raw: false,
+            });
+        }
+        self.turns -= 1;
         Ok(Answer::Idle)
     }
 

@@ -8,16 +8,15 @@ use crossterm_read::read::{EventReader, Pass};
 use crossterm_read::source::{Device, DeviceSource, EventSource};
 use crossterm_read::stream::EventStream;
 use crossterm_types::event::Event;
-use futures::executor::block_on;
 use futures::task::Poll;
 use futures::test::MockTask;
 use futures::{Stream, StreamExt};
 use std::alloc::{AllocGlobal, Global};
+use std::io;
 use std::io::ErrorKind;
 use std::random::RandomSource;
 use std::sync::{Arc, Wait};
 use std::thread::Threads;
-use std::{io, thread};
 
 /// A stream over a device.
 type Over<D, R> = EventStream<DeviceSource<D>, R>;
@@ -188,28 +187,31 @@ fn a_stream_that_is_never_polled_ends_its_worker(rt: HostRuntime) -> io::Result<
     Ok(())
 }
 
-/// Whether an executor sleeps until the gate is opened by another thread, and then has the letter.
-fn wakes_an_executor<R>(rt: R, alloc: Global) -> io::Result<bool>
+/// What a stream gives next, before the turns are over.
+fn next<D: Device, R: Wait + Drop>(rt: &R, task: &MockTask, stream: &mut Over<D, R>) -> Answer {
+    for _ in 0..TURNS {
+        match outcome(task.poll(&mut stream.next())) {
+            Answer::Pending => nap(rt),
+            other => return other,
+        }
+    }
+    Answer::Pending
+}
+
+/// Whether the next event of a stream is one that comes to its worker.
+fn gives_the_next<R>(rt: R, alloc: Global) -> io::Result<bool>
 where
-    R: Threads + Wait + RandomSource + AllocGlobal + Copy + Send + Sync + Drop + 'static,
+    R: Threads + Wait + RandomSource + AllocGlobal + Copy + Send + Drop + 'static,
 {
     let gate = Arc::new(alloc, Gate::new())?;
+    gate.open();
     let mut stream = stream_of(rt, alloc, Gated::new(rt, alloc, &gate)?)?;
-    let opener = &gate;
-    let (asked, next) = thread::join(
-        &rt,
-        move || {
-            let asked = opener.await_endless_question(&rt);
-            opener.open();
-            asked
-        },
-        || block_on(&rt, stream.next()),
-    );
-    Ok(asked && outcome(Poll::Ready(next?)) == Answer::Letter('a'))
+    let task = MockTask::new(&rt)?;
+    Ok(next(&rt, &task, &mut stream) == Answer::Letter('a'))
 }
 
 #[test]
-fn an_executor_is_woken(rt: HostRuntime) -> io::Result<()> {
-    expect!(rt; wakes_an_executor(rt, rt.alloc())?);
+fn the_next_event_is_a_future(rt: HostRuntime) -> io::Result<()> {
+    expect!(rt; gives_the_next(rt, rt.alloc())?);
     Ok(())
 }
