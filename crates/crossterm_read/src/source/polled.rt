@@ -39,8 +39,9 @@ impl<R: Read + AsRawFd + Drop, A: Allocator> PolledDevice<R, A> {
     /// A device that tells what this reader gives from here on, with the mode that the flag says then.
     ///
     /// `sizes` tells the sizes of the terminal, in lines `ROWS COLUMNS` as `stty size` writes them. A line that is no size is passed over.
-    /// Where they end, or can't be read, no more come, and the input goes on. `alloc` gives memory for what waits. The error is
-    /// `OutOfMemory`, or the system's where it can't watch them. Then all that was handed in is gone.
+    /// Where they end, as a FIFO does once nobody has it open for writing, or can't be read, no more come, and the input goes on. `alloc`
+    /// gives memory for what waits. The error is `OutOfMemory`, or the system's where it can't watch them. Then all that was handed in is
+    /// gone.
     pub fn new<N: Net>(
         rt: &N,
         alloc: Global,
@@ -77,7 +78,7 @@ impl<R: Read + AsRawFd + Drop, A: Allocator + Clone> PolledDevice<R, A> {
         }
     }
 
-    // Asks the system anew what is ready, and waits for it within the limit. What is told twice at once isn't passed over.
+    // Asks the system anew what is ready, and waits for it within the limit.
     fn wait(&mut self, limit: Option<Duration>) -> io::Result<Ready>
         ensures input { self.new.input ≡ self.old.input }
         ensures failures { self.new.failures ≡ self.old.failures }
