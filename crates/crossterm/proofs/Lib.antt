@@ -4,3 +4,4 @@ pub mod Commands
 pub mod Printed
 mod SizeLaws
 pub mod StyleReadings
+pub mod ValueLaws

@@ -8,3 +8,4 @@ pub mod Sequences
 pub mod Sizes
 pub mod Stty
 pub mod Updates
+pub mod Values

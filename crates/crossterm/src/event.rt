@@ -14,5 +14,5 @@ pub use crossterm_read::{read, source, stream};
 pub use crossterm_types::event::{
     Event, InternalEvent, KeyCode, KeyEvent, KeyEventKind, KeyEventState, KeyModifiers,
     KeyboardEnhancementFlags, MediaKeyCode, ModifierKeyCode, MouseButton, MouseEvent,
-    MouseEventKind, filter, timeout,
+    MouseEventKind, ValueFault, filter, timeout,
 };

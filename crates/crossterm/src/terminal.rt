@@ -10,6 +10,7 @@ ghost use Rattle.crossterm.specs.Sequences.{clear, scroll, set_size, set_title};
 
 mod size;
 pub mod sys;
+mod value;
 
 use crate::command::{Command, execute_fmt, write_number, write_numbers, write_once};
 use crate::csi;

@@ -53,4 +53,6 @@ mod stty;
 #[cfg(test)]
 mod tape;
 #[cfg(test)]
+mod values;
+#[cfg(test)]
 mod witness;

@@ -35,3 +35,5 @@ mod attributes;
 mod colors;
 #[cfg(test)]
 mod styles;
+#[cfg(test)]
+mod values;

@@ -8,47 +8,48 @@ use linked_list_allocator::LocalHeap;
 use serde_json::Value;
 use std::alloc::{AllocError, Global};
 
-/// JSON texts and the events that they tell.
-static EVENTS: [(&str, Event); 7] = [
-    ("\"FocusGained\"", Event::FocusGained),
-    ("\"FocusLost\"", Event::FocusLost),
+/// JSON texts and the keys that they tell.
+static KEY_EVENTS: [(&str, KeyEvent); 2] = [
     (
         "{\"Key\":{\"code\":{\"Char\":\"a\"},\"modifiers\":0,\"kind\":\"Press\",\"state\":0}}",
-        Event::Key(KeyEvent {
+        KeyEvent {
             code: KeyCode::Char('a'),
             modifiers: KeyModifiers::NONE,
             kind: KeyEventKind::Press,
             state: KeyEventState::NONE,
-        }),
+        },
     ),
     (
         "{\"Key\":{\"code\":\"BackTab\",\"modifiers\":1,\"kind\":\"Release\",\"state\":2}}",
-        Event::Key(KeyEvent {
+        KeyEvent {
             code: KeyCode::BackTab,
             modifiers: KeyModifiers::SHIFT,
             kind: KeyEventKind::Release,
             state: KeyEventState::CAPS_LOCK,
-        }),
+        },
     ),
+];
+
+/// JSON texts and what the mouse does by them.
+static MOUSE_EVENTS: [(&str, MouseEvent); 2] = [
     (
         "{\"Mouse\":{\"kind\":{\"Down\":\"Left\"},\"column\":19,\"row\":9,\"modifiers\":0}}",
-        Event::Mouse(MouseEvent {
+        MouseEvent {
             kind: MouseEventKind::Down(MouseButton::Left),
             column: 19,
             row: 9,
             modifiers: KeyModifiers::NONE,
-        }),
+        },
     ),
     (
         "{\"Mouse\":{\"kind\":\"ScrollUp\",\"column\":0,\"row\":65535,\"modifiers\":4}}",
-        Event::Mouse(MouseEvent {
+        MouseEvent {
             kind: MouseEventKind::ScrollUp,
             column: 0,
             row: 65535,
             modifiers: KeyModifiers::ALT,
-        }),
+        },
     ),
-    ("{\"Resize\":[80,24]}", Event::Resize(80, 24)),
 ];
 
 /// JSON texts that tell no event.
@@ -93,9 +94,15 @@ fn tells_none(alloc: Global, text: &str) -> bool {
 
 #[test]
 fn events_are_carried(rt: HostRuntime) {
-    for (text, event) in &EVENTS {
-        expect!(rt; carries(rt.alloc(), text, event), text);
+    for (text, key) in &KEY_EVENTS {
+        expect!(rt; carries(rt.alloc(), text, &Event::Key(*key)), text);
     }
+    for (text, mouse) in &MOUSE_EVENTS {
+        expect!(rt; carries(rt.alloc(), text, &Event::Mouse(*mouse)), text);
+    }
+    expect!(rt; carries(rt.alloc(), "\"FocusGained\"", &Event::FocusGained));
+    expect!(rt; carries(rt.alloc(), "\"FocusLost\"", &Event::FocusLost));
+    expect!(rt; carries(rt.alloc(), "{\"Resize\":[80,24]}", &Event::Resize(80, 24)));
 }
 
 #[test]
@@ -189,6 +196,10 @@ fn parts_are_carried(rt: HostRuntime) {
     expect!(rt; matches!(KeyModifiers::from_value(&Value::from(256u16)), Err(ValueFault::Shape)));
 }
 
+/// A text for which a small heap has no room.
+const LONG: &str =
+    "0123456789012345678901234567890123456789012345678901234567890123456789012345678901234567890123456789";
+
 /// Whether the text of a paste is refused memory by a heap without room for it.
 fn is_refused(heap: &LocalHeap, paste: &Value) -> bool {
     matches!(Event::from_value(heap, paste), Err(ValueFault::Memory))
@@ -196,10 +207,10 @@ fn is_refused(heap: &LocalHeap, paste: &Value) -> bool {
 
 #[test]
 fn a_paste_is_refused_memory(rt: HostRuntime) -> Result<(), AllocError> {
-    let paste = Event::Paste(String::from_str(rt.alloc(), "some text")?);
+    let paste = Event::Paste(String::from_str(rt.alloc(), LONG)?);
     match paste.to_value(rt.alloc()) {
         Ok(told) => {
-            let heap = LocalHeap::new(rt.alloc(), 4)?;
+            let heap = LocalHeap::new(rt.alloc(), 16)?;
             expect!(rt; is_refused(&heap, &told));
             Ok(())
         }
