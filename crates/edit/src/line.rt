@@ -1,0 +1,135 @@
+//! A line that is being written, and what keys do to it.
+
+use crossterm::event::{KeyCode, KeyEvent, KeyModifiers};
+use std::alloc::{AllocError, Global};
+use unicode_width::UnicodeWidthChar;
+
+/// The characters of a line, and the place in it before which the next one comes.
+#[derive(Drop)]
+pub struct Line {
+    chars: Vec<char>,
+    at: usize,
+}
+
+/// What comes after a key.
+#[derive(Clone, Copy, PartialEq, Eq, Debug)]
+pub enum Then {
+    /// The line goes on.
+    GoOn,
+    /// The line is done.
+    Done,
+    /// No line comes any more.
+    Quit,
+}
+
+/// How many columns a character takes.
+fn width_of(c: char) -> usize {
+    c.width().unwrap_or(0)
+}
+
+/// How many columns some characters take.
+fn width_of_all(chars: &[char]) -> usize {
+    chars
+        .iter()
+        .fold(0, |sum: usize, c| sum.saturating_add(width_of(*c)))
+}
+
+impl Line {
+    /// An empty line.
+    pub fn new(alloc: Global) -> Line {
+        Line {
+            chars: Vec::new(alloc),
+            at: 0,
+        }
+    }
+
+    /// Its characters.
+    pub fn chars(&self) -> &[char] {
+        self.chars.as_slice()
+    }
+
+    fn insert(&mut self, c: char) -> Result<(), AllocError> {
+        if self.at <= self.chars.len() {
+            self.chars.insert(self.at, c)?;
+            self.at = self.at.saturating_add(1);
+        }
+        Ok(())
+    }
+
+    /// Inserts a text, as a paste brings it, without what isn't shown.
+    pub fn insert_all(&mut self, text: &str) -> Result<(), AllocError> {
+        for c in text.chars() {
+            if !c.is_control() {
+                self.insert(c)?;
+            }
+        }
+        Ok(())
+    }
+
+    fn delete(&mut self) {
+        if self.at < self.chars.len() {
+            self.chars.remove(self.at);
+        }
+    }
+
+    fn go_back(&mut self) -> bool {
+        let is_there = self.at > 0;
+        self.at = self.at.saturating_sub(1);
+        is_there
+    }
+
+    /// Does what a key says, and tells what comes then.
+    pub fn press(&mut self, key: &KeyEvent) -> Result<Then, AllocError> {
+        match key.code {
+            KeyCode::Enter => return Ok(Then::Done),
+            KeyCode::Esc => return Ok(Then::Quit),
+            KeyCode::Char('c' | 'd') if key.modifiers == KeyModifiers::CONTROL => {
+                return Ok(Then::Quit);
+            }
+            KeyCode::Char(c) if key.modifiers.difference(KeyModifiers::SHIFT).is_empty() => {
+                self.insert(c)?;
+            }
+            KeyCode::Left => {
+                self.go_back();
+            }
+            KeyCode::Right => self.at = self.at.saturating_add(1).min(self.chars.len()),
+            KeyCode::Home => self.at = 0,
+            KeyCode::End => self.at = self.chars.len(),
+            KeyCode::Delete => self.delete(),
+            KeyCode::Backspace => {
+                if self.go_back() {
+                    self.delete();
+                }
+            }
+            _ => {}
+        }
+        Ok(Then::GoOn)
+    }
+
+    /// The characters that are shown where there is room for so many columns, and the column among them at which the line goes on.
+    ///
+    /// They begin where the place in the line is within the room, and one column is left for it.
+    pub fn shown(&self, room: usize) -> (&[char], usize) {
+        let before = &self.chars.as_slice()[..self.at.min(self.chars.len())];
+        let mut from = 0usize;
+        let mut column = width_of_all(before);
+        for c in before {
+            if column < room {
+                break;
+            }
+            column = column.saturating_sub(width_of(*c));
+            from = from.saturating_add(1);
+        }
+        let rest = &self.chars.as_slice()[from.min(self.chars.len())..];
+        let mut width = 0usize;
+        let mut count = 0usize;
+        for c in rest {
+            width = width.saturating_add(width_of(*c));
+            if width > room {
+                break;
+            }
+            count = count.saturating_add(1);
+        }
+        (&rest[..count.min(rest.len())], column)
+    }
+}

@@ -1,0 +1,190 @@
+//! A line editor: it reads lines in raw mode and tells each of them in the mode that stood before.
+//!
+//! `terminal/with_terminal crates/edit/out/edit` starts it in a terminal; Esc, Ctrl-C or Ctrl-D ends it. What is typed while the terminal
+//! is asked for the cursor's place isn't lost, and stays in order. Its one argument is the folder of the pipes that `with_terminal` makes.
+#![tactic(auto)]
+
+ghost use Rattle.crossterm_read.specs.Shared.{IsPassOf};
+
+mod line;
+
+use crossterm::cursor::{self, MoveTo};
+use crossterm::event::read::InternalEventReader;
+use crossterm::event::source::{DeviceSource, EventSource, PolledDevice, RawFlag};
+use crossterm::event::timeout::{Clock, SystemClock};
+use crossterm::event::{DisableBracketedPaste, EnableBracketedPaste, Event, EventReader, Pass};
+use crossterm::style::{Color, ColorOutput, Print, ResetColor, SetForegroundColor};
+use crossterm::terminal::{Clear, ClearType, ModeDevice, SttyDevice, Terminal};
+use crossterm::{QueueableCommand, execute, queue};
+use line::{Line, Then};
+use std::alloc::Global;
+use std::fs::File;
+use std::io::{self, BufWriter, ErrorKind, Stdin, Write};
+use std::sync::Wait;
+use std::{env, format};
+
+const COLORS: ColorOutput = ColorOutput::Enabled;
+
+/// The terminal's modes, by `with_terminal`.
+type Modes = Terminal<SttyDevice<File, File>>;
+
+/// The terminal's events, held until they are read.
+type Input = InternalEventReader<DeviceSource<PolledDevice<Stdin>>>;
+
+/// A terminal whose lines are edited.
+#[derive(Drop)]
+struct Editor<S: EventSource<Global>, D: ModeDevice, W, C> {
+    alloc: Global,
+    term: Terminal<D>,
+    reader: EventReader<S>,
+    pass: Pass<S>,
+    out: W,
+    clock: C,
+    ghost own: { IsPassOf reader pass },
+}
+
+/// Where a line begins on the screen, and how many columns that has.
+#[derive(Clone, Copy)]
+struct Place {
+    column: u16,
+    row: u16,
+    columns: u16,
+}
+
+/// Shows a line.
+fn draw<W: Write>(out: &mut W, line: &Line, place: Place) -> io::Result<()> {
+    let room = usize::from(place.columns.saturating_sub(place.column).saturating_sub(1));
+    let (chars, column) = line.shown(room);
+    queue!(out, COLORS, MoveTo(place.column, place.row))?;
+    queue!(out, COLORS, Clear(ClearType::UntilNewLine))?;
+    queue!(out, COLORS, SetForegroundColor(Color::Green))?;
+    for c in chars {
+        queue!(out, COLORS, Print(*c))?;
+    }
+    let column = u16::try_from(column).unwrap_or(u16::MAX);
+    let column = place.column.saturating_add(column);
+    execute!(out, COLORS, ResetColor, MoveTo(column, place.row))
+}
+
+impl<S: EventSource<Global>, D: ModeDevice, W: Write, C: Clock> Editor<S, D, W, C> {
+    /// Where the cursor is, and how wide the screen is.
+    fn place<R: Wait>(&mut self, rt: &R) -> io::Result<Place> {
+        let (column, row) = cursor::position(
+            rt,
+            &mut self.term,
+            &self.reader,
+            &mut self.pass,
+            &mut self.out,
+            &mut self.clock,
+        )?;
+        let (columns, _) = self.term.size(b"80", b"24")?;
+        Ok(Place {
+            column,
+            row,
+            columns,
+        })
+    }
+
+    /// Takes one event, and does to the line what it says.
+    fn turn<R: Wait>(&mut self, rt: &R, line: &mut Line, place: &mut Place) -> io::Result<Then> {
+        match self.reader.read(rt, &mut self.pass)? {
+            Event::Key(key) => return Ok(line.press(&key)?),
+            Event::Paste(text) => line.insert_all(text.as_str())?,
+            Event::Resize(columns, rows) => {
+                place.columns = columns;
+                place.row = place.row.min(rows.saturating_sub(1));
+            }
+            _ => {}
+        }
+        Ok(Then::GoOn)
+    }
+
+    /// Edits a line until it is done.
+    fn edit<R: Wait>(&mut self, rt: &R, line: &mut Line) -> io::Result<Then> {
+        execute!(self.out, COLORS, EnableBracketedPaste, Print("> "))?;
+        let mut place = self.place(rt)?;
+        for _ in 0..u64::MAX {
+            draw(&mut self.out, line, place)?;
+            match self.turn(rt, line, &mut place)? {
+                Then::GoOn => {}
+                then => return Ok(then),
+            }
+        }
+        Ok(Then::Quit)
+    }
+
+    /// Tells a line.
+    fn tell(&mut self, line: &Line) -> io::Result<()> {
+        let count = line.chars().len();
+        let mut text = format!(in self.alloc; "{count}: ")?;
+        for c in line.chars() {
+            text.push(*c)?;
+        }
+        execute!(self.out, COLORS, Print(text), Print("\n"))
+    }
+
+    /// Reads a line in raw mode, and tells it. Whatever comes, the mode stands then that stood before.
+    fn talk<R: Wait>(&mut self, rt: &R) -> io::Result<Then> {
+        let mut line = Line::new(self.alloc);
+        self.term.enable_raw_mode()?;
+        let then = self.edit(rt, &mut line);
+        let left = execute!(self.out, COLORS, DisableBracketedPaste, Print("\r\n"));
+        self.term.disable_raw_mode()?;
+        left?;
+        match then {
+            Ok(Then::Done) => self.tell(&line)?,
+            Err(error) if error.kind() == ErrorKind::UnexpectedEof => return Ok(Then::Quit),
+            _ => {}
+        }
+        then
+    }
+}
+
+/// Opens one of the pipes of `with_terminal`.
+fn pipe(rt: &HostRuntime, folder: &str, name: &str) -> io::Result<File> {
+    let path = format!(in rt.alloc(); "{folder}/{name}")?;
+    File::options().read(true).write(true).open(rt, path)
+}
+
+/// The terminal that the program was started in.
+fn open(rt: &HostRuntime) -> io::Result<(Modes, Input)> {
+    let alloc = rt.alloc();
+    let mut words = env::args(rt)?;
+    let Some(folder) = words.nth(1) else {
+        eprintln!(rt; "usage: terminal/with_terminal crates/edit/out/edit")?;
+        return Err(io::Error::from(ErrorKind::InvalidInput));
+    };
+    let folder = folder.as_str();
+    let flag = RawFlag::new(alloc)?;
+    let sizes = pipe(rt, folder, "sizes")?;
+    let device = PolledDevice::new(rt, alloc, rt.stdin(), flag.share()?, Some(sizes))?;
+    let modes = SttyDevice::new(pipe(rt, folder, "answer")?, pipe(rt, folder, "ask")?)?;
+    let source = DeviceSource::new(alloc, device);
+    Ok((
+        Terminal::new(modes, flag),
+        InternalEventReader::new(alloc, source),
+    ))
+}
+
+fn main(rt: HostRuntime) -> io::Result<()> {
+    let alloc = rt.alloc();
+    let (term, reader) = open(&rt)?;
+    let (reader, mut passes) = EventReader::new(&rt, alloc, reader, 1)?;
+    let Some(pass) = passes.pop() else {
+        return Ok(());
+    };
+    let mut editor = Editor {
+        alloc,
+        term,
+        reader,
+        pass,
+        out: BufWriter::new(alloc, io::writer(&rt))?,
+        clock: SystemClock::new(&rt),
+    };
+    for _ in 0..u64::MAX {
+        if editor.talk(&rt)? == Then::Quit {
+            break;
+        }
+    }
+    Ok(())
+}

@@ -1,0 +1,194 @@
+//! Shows each event of the terminal as it comes, a dot for each second of rest, and the cursor's place on the key `c`.
+//!
+//! `terminal/with_terminal crates/events/out/events` starts it in a terminal; Esc or Ctrl-C ends it. Its one argument is the folder of the
+//! pipes that `with_terminal` makes.
+#![tactic(auto)]
+
+ghost use Rattle.crossterm_read.specs.Shared.{IsPassOf};
+
+use crossterm::event::read::InternalEventReader;
+use crossterm::event::source::{DeviceSource, EventSource, PolledDevice, RawFlag};
+use crossterm::event::timeout::{Clock, SystemClock};
+use crossterm::event::{
+    DisableBracketedPaste, DisableFocusChange, DisableMouseCapture, EnableBracketedPaste,
+    EnableFocusChange, EnableMouseCapture, Event, EventReader, KeyCode, KeyEvent, KeyModifiers,
+    KeyboardEnhancementFlags, Pass, PopKeyboardEnhancementFlags, PushKeyboardEnhancementFlags,
+};
+use crossterm::style::ColorOutput;
+use crossterm::terminal::{ModeDevice, SttyDevice, Terminal, supports_keyboard_enhancement};
+use crossterm::{QueueableCommand, cursor, execute, queue};
+use std::alloc::Global;
+use std::fs::File;
+use std::io::{self, BufWriter, ErrorKind, Stdin, Write};
+use std::sync::Wait;
+use std::time::Duration;
+use std::{env, format};
+
+const COLORS: ColorOutput = ColorOutput::Enabled;
+
+const HELP: &str =
+    "Keys, mouse, focus and pastes show here; c tells the cursor's place, Esc ends.\r\n";
+
+fn enter<W: Write>(out: &mut W, has_flags: bool) -> io::Result<()> {
+    if has_flags {
+        let flags = KeyboardEnhancementFlags::DISAMBIGUATE_ESCAPE_CODES
+            | KeyboardEnhancementFlags::REPORT_EVENT_TYPES;
+        queue!(out, COLORS, PushKeyboardEnhancementFlags(flags))?;
+    }
+    queue!(out, COLORS, EnableBracketedPaste, EnableFocusChange)?;
+    execute!(out, COLORS, EnableMouseCapture)
+}
+
+fn leave<W: Write>(out: &mut W, has_flags: bool) -> io::Result<()> {
+    if has_flags {
+        queue!(out, COLORS, PopKeyboardEnhancementFlags)?;
+    }
+    queue!(out, COLORS, DisableBracketedPaste, DisableFocusChange)?;
+    execute!(out, COLORS, DisableMouseCapture)
+}
+
+fn is_quit(key: &KeyEvent) -> bool {
+    key.code == KeyCode::Esc || *key == KeyEvent::new(KeyCode::Char('c'), KeyModifiers::CONTROL)
+}
+
+/// The terminal's modes, by `with_terminal`.
+type Modes = Terminal<SttyDevice<File, File>>;
+
+/// The terminal's events, held until they are read.
+type Input = InternalEventReader<DeviceSource<PolledDevice<Stdin>>>;
+
+/// A terminal, its events, and where they are shown.
+#[derive(Drop)]
+struct Session<S: EventSource<Global>, D: ModeDevice, W, C> {
+    alloc: Global,
+    term: Terminal<D>,
+    reader: EventReader<S>,
+    pass: Pass<S>,
+    out: W,
+    clock: C,
+    ghost own: { IsPassOf reader pass },
+}
+
+impl<S: EventSource<Global>, D: ModeDevice, W: Write, C: Clock> Session<S, D, W, C> {
+    /// Shows one event, and tells whether it is the last one.
+    fn show<R: Wait>(&mut self, rt: &R, event: &Event) -> io::Result<bool> {
+        let text = format!(in self.alloc; "{event:?}\r\n")?;
+        self.out.write_all(text.as_bytes())?;
+        let Event::Key(key) = event else {
+            return Ok(false);
+        };
+        if *key == KeyEvent::from(KeyCode::Char('c')) {
+            let (column, row) = cursor::position(
+                rt,
+                &mut self.term,
+                &self.reader,
+                &mut self.pass,
+                &mut self.out,
+                &mut self.clock,
+            )?;
+            let text = format!(in self.alloc;
+                "the cursor stands in column {column}, row {row}\r\n"
+            )?;
+            self.out.write_all(text.as_bytes())?;
+        }
+        Ok(is_quit(key))
+    }
+
+    /// Shows what comes within a second, and tells whether it was the last event.
+    fn turn<R: Wait>(&mut self, rt: &R) -> io::Result<bool> {
+        let limit = Duration::from_secs(1);
+        let is_over = if self
+            .reader
+            .poll(rt, &mut self.pass, limit, &mut self.clock)?
+        {
+            let event = self.reader.read(rt, &mut self.pass)?;
+            self.show(rt, &event)?
+        } else {
+            self.out.write_all(b".\r\n")?;
+            false
+        };
+        self.out.flush()?;
+        Ok(is_over)
+    }
+
+    /// Shows events until the last one, or the end of input.
+    fn run<R: Wait>(&mut self, rt: &R) -> io::Result<()> {
+        self.out.write_all(HELP.as_bytes())?;
+        self.out.flush()?;
+        for _ in 0..u64::MAX {
+            match self.turn(rt) {
+                Ok(true) => break,
+                Ok(false) => {}
+                Err(error) if error.kind() == ErrorKind::UnexpectedEof => break,
+                Err(error) => return Err(error),
+            }
+        }
+        Ok(())
+    }
+
+    /// Raw mode, and all reports on; then the events; then all as it was.
+    fn all<R: Wait>(&mut self, rt: &R) -> io::Result<()> {
+        self.term.enable_raw_mode()?;
+        let has_flags = supports_keyboard_enhancement(
+            rt,
+            &mut self.term,
+            &self.reader,
+            &mut self.pass,
+            &mut self.out,
+            &mut self.clock,
+        )
+        .unwrap_or(false);
+        let shown = match enter(&mut self.out, has_flags) {
+            Ok(()) => self.run(rt),
+            Err(error) => Err(error),
+        };
+        let left = leave(&mut self.out, has_flags);
+        self.term.disable_raw_mode()?;
+        shown?;
+        left
+    }
+}
+
+/// Opens one of the pipes of `with_terminal`.
+fn pipe(rt: &HostRuntime, folder: &str, name: &str) -> io::Result<File> {
+    let path = format!(in rt.alloc(); "{folder}/{name}")?;
+    File::options().read(true).write(true).open(rt, path)
+}
+
+/// The terminal that the program was started in.
+fn open(rt: &HostRuntime) -> io::Result<(Modes, Input)> {
+    let alloc = rt.alloc();
+    let mut words = env::args(rt)?;
+    let Some(folder) = words.nth(1) else {
+        eprintln!(rt; "usage: terminal/with_terminal crates/events/out/events")?;
+        return Err(io::Error::from(ErrorKind::InvalidInput));
+    };
+    let folder = folder.as_str();
+    let flag = RawFlag::new(alloc)?;
+    let sizes = pipe(rt, folder, "sizes")?;
+    let device = PolledDevice::new(rt, alloc, rt.stdin(), flag.share()?, Some(sizes))?;
+    let modes = SttyDevice::new(pipe(rt, folder, "answer")?, pipe(rt, folder, "ask")?)?;
+    let source = DeviceSource::new(alloc, device);
+    Ok((
+        Terminal::new(modes, flag),
+        InternalEventReader::new(alloc, source),
+    ))
+}
+
+fn main(rt: HostRuntime) -> io::Result<()> {
+    let alloc = rt.alloc();
+    let (term, reader) = open(&rt)?;
+    let (reader, mut passes) = EventReader::new(&rt, alloc, reader, 1)?;
+    let Some(pass) = passes.pop() else {
+        return Ok(());
+    };
+    let mut session = Session {
+        alloc,
+        term,
+        reader,
+        pass,
+        out: BufWriter::new(alloc, io::writer(&rt))?,
+        clock: SystemClock::new(&rt),
+    };
+    session.all(&rt)
+}

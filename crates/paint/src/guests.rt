@@ -1,0 +1,221 @@
+//! Many terminals that paint one picture, over TCP.
+
+use crate::canvas::{Canvas, enter, leave};
+use crate::painter::{Painter, Wish};
+use crate::telnet::{GREETING, Telnet};
+use crossterm::event::source::{DeviceSource, EventSource, RawFlag, ReadDevice};
+use mio::net::TcpListener;
+use mio::unix::SourceFd;
+use mio::{Events, Interest, Poll, Registry, Token};
+use slab::Slab;
+use std::alloc::{AllocError, Global};
+use std::io::{self, Write};
+use std::net::{Ipv4Addr, Net, SocketAddr, TcpStream};
+use std::os::fd::AsRawFd;
+use std::time::Duration;
+
+const DOOR: Token = Token(usize::MAX);
+
+/// How many guests there is room for.
+const GUESTS: usize = 64;
+
+/// How many events of one guest are taken before the others have their turn.
+const TURN: u32 = 1000;
+
+/// One terminal: where its events come from, and where its picture goes.
+#[derive(Drop)]
+struct Guest {
+    source: DeviceSource<Telnet<ReadDevice<TcpStream>>>,
+    out: TcpStream,
+    painter: Painter,
+    // Whether events may wait that the last turn didn't come to.
+    is_busy: bool,
+}
+
+impl Guest {
+    fn new(alloc: Global, stream: TcpStream) -> io::Result<Guest> {
+        let out = stream.try_clone()?;
+        let flag = RawFlag::new(alloc)?;
+        flag.set(true);
+        let device = Telnet::new(ReadDevice::new(stream, flag));
+        Ok(Guest {
+            source: DeviceSource::new(alloc, device),
+            out,
+            painter: Painter::new(),
+            is_busy: false,
+        })
+    }
+
+    /// What the next event means, where one came. A guest who is cut off leaves.
+    fn wish(&mut self) -> Option<Wish> {
+        match self.source.try_read(Some(Duration::ZERO)) {
+            Ok(Some(event)) => Some(self.painter.wish(&event)),
+            Ok(None) => None,
+            Err(_) => Some(Wish::Leave),
+        }
+    }
+
+    /// Has the system tell whether bytes are there, also where it told before.
+    fn watch(&mut self, registry: &Registry, token: Token) -> io::Result<()> {
+        self.is_busy = false;
+        let fd = self.out.as_raw_fd();
+        registry.reregister(&mut SourceFd(&fd), token, Interest::READABLE)
+    }
+}
+
+/// The picture, and who paints it.
+#[derive(Drop)]
+struct Studio {
+    alloc: Global,
+    canvas: Canvas,
+    guests: Slab<Guest>,
+    had_guests: bool,
+}
+
+impl Studio {
+    /// Sends bytes to all. Who doesn't take them has to leave.
+    fn send(&mut self, bytes: &[u8]) {
+        for key in 0..GUESTS {
+            if let Some(guest) = self.guests.get_mut(key) {
+                if guest.out.write_all(bytes).is_err() {
+                    self.guests.try_remove(key);
+                }
+            }
+        }
+    }
+
+    /// What a new guest is sent.
+    fn welcome(&self) -> io::Result<Vec<u8>> {
+        let mut bytes = Vec::from_slice(self.alloc, &GREETING)?;
+        enter(&mut bytes)?;
+        self.canvas.draw(&mut bytes)?;
+        Ok(bytes)
+    }
+
+    /// Lets a guest in, where there is room.
+    fn admit(&mut self, registry: &Registry, stream: TcpStream) -> io::Result<()> {
+        let key = self.guests.vacant_key();
+        if key >= GUESTS {
+            return Ok(());
+        }
+        let mut guest = Guest::new(self.alloc, stream)?;
+        guest.out.write_all(self.welcome()?.as_slice())?;
+        let fd = guest.out.as_raw_fd();
+        registry.register(&mut SourceFd(&fd), Token(key), Interest::READABLE)?;
+        if self.guests.insert(guest).is_err() {
+            return Err(io::Error::from(io::ErrorKind::OutOfMemory));
+        }
+        self.had_guests = true;
+        Ok(())
+    }
+
+    /// Lets a guest go, with the screen put back.
+    fn dismiss(&mut self, key: usize) -> io::Result<()> {
+        let mut bytes = Vec::new(self.alloc);
+        leave(&mut bytes)?;
+        if let Some(mut guest) = self.guests.try_remove(key) {
+            // One who is gone already takes no farewell.
+            let _ = guest.out.write_all(bytes.as_slice());
+        }
+        Ok(())
+    }
+
+    fn fulfil(&mut self, key: usize, wish: Wish) -> io::Result<()> {
+        let mut bytes = Vec::new(self.alloc);
+        match wish {
+            Wish::Nothing => return Ok(()),
+            Wish::Leave => return self.dismiss(key),
+            Wish::Paint(dot) => {
+                self.canvas.put(dot);
+                dot.draw(&mut bytes)?;
+            }
+            Wish::Blank => {
+                self.canvas.blank();
+                self.canvas.draw(&mut bytes)?;
+            }
+            Wish::Redraw => self.canvas.draw(&mut bytes)?,
+        }
+        self.send(bytes.as_slice());
+        Ok(())
+    }
+
+    /// Does what a guest wants, for one turn at most.
+    fn serve(&mut self, registry: &Registry, key: usize) -> io::Result<()> {
+        for _ in 0..TURN {
+            match self.guests.get_mut(key).and_then(|guest| guest.wish()) {
+                Some(wish) => self.fulfil(key, wish)?,
+                None => return self.rest(registry, key),
+            }
+        }
+        if let Some(guest) = self.guests.get_mut(key) {
+            guest.is_busy = true;
+        }
+        Ok(())
+    }
+
+    /// Waits for more of a guest. One who can't be watched leaves.
+    fn rest(&mut self, registry: &Registry, key: usize) -> io::Result<()> {
+        let Some(guest) = self.guests.get_mut(key) else {
+            return Ok(());
+        };
+        match guest.watch(registry, Token(key)) {
+            Ok(()) => Ok(()),
+            Err(_) => self.dismiss(key),
+        }
+    }
+
+    /// Gives those another turn whose last one ended too early, and tells whether there still are such guests.
+    fn serve_busy(&mut self, registry: &Registry) -> io::Result<bool> {
+        for key in 0..GUESTS {
+            if self.guests.get(key).is_some_and(|guest| guest.is_busy) {
+                self.serve(registry, key)?;
+            }
+        }
+        Ok(self.guests.iter().any(|(_, guest)| guest.is_busy))
+    }
+
+    /// Lets in all who knock. One who is gone again isn't let in.
+    fn open_door(&mut self, registry: &Registry, listener: &TcpListener) {
+        for _ in 0..GUESTS {
+            match listener.accept() {
+                Ok((stream, _)) => {
+                    let _ = self.admit(registry, TcpStream::from(stream));
+                }
+                Err(_) => break,
+            }
+        }
+    }
+}
+
+/// Serves guests at a port of this machine, until the last of them has left.
+pub fn serve<N: Net>(rt: &N, alloc: Global, port: u16) -> io::Result<()> {
+    let address = SocketAddr::from((Ipv4Addr::LOCALHOST, port));
+    let mut listener = TcpListener::bind(rt, address)?;
+    let mut poll = Poll::new(rt)?;
+    poll.registry()
+        .register(&mut listener, DOOR, Interest::READABLE)?;
+    let mut events = Events::with_capacity(alloc, GUESTS)?;
+    let mut studio = Studio {
+        alloc,
+        canvas: Canvas::new(alloc)?,
+        guests: Slab::new(alloc),
+        had_guests: false,
+    };
+    let mut limit = None;
+    for _ in 0..u64::MAX {
+        poll.poll(&mut events, limit)?;
+        for event in events.iter() {
+            match event.token() {
+                DOOR => studio.open_door(poll.registry(), &listener),
+                Token(key) => studio.serve(poll.registry(), key)?,
+            }
+        }
+        limit = studio
+            .serve_busy(poll.registry())?
+            .then_some(Duration::ZERO);
+        if studio.had_guests && studio.guests.is_empty() {
+            break;
+        }
+    }
+    Ok(())
+}
