@@ -3,7 +3,8 @@
 //! `bench` reads standard input to its end, hands it to the parser in pieces of 1024 bytes, and prints the bytes and the events by kind.
 //! `bench frame` writes the commands of one frame into memory, and prints how many bytes and commands they are. With `--time` each does
 //! so again and again for about a second, and prints the least time. `bench make NAME BYTES` writes an input of a kind:
-//! `letters`, `utf8`, `keys`, `mouse`, `paste` or `hostile`. Its code stands on `crossterm` alone, by its public calls.
+//! `letters`, `utf8`, `keys`, `mouse`, `paste` or `hostile`. `bench held REPLIES` prints the least time in which a key comes and is taken while so
+//! many replies are held. Its code stands on `crossterm` alone, by its public calls.
 #![tactic(auto)]
 
 use bench_modes::fault::Fault;

@@ -2,7 +2,7 @@
 
 use crate::fault::Fault;
 use crate::workload::Workload;
-use crate::{frame, input};
+use crate::{frame, held, input};
 use std::alloc::Allocator;
 use std::io::{Read, Write};
 use std::rt::Clock;
@@ -18,6 +18,8 @@ pub enum Mode {
     Frame,
     /// Times a frame.
     TimeFrame,
+    /// Times a key behind so many held replies.
+    TimeHeld(u32),
     /// Writes so many bytes of a workload.
     Make(Workload, usize),
 }
@@ -49,6 +51,7 @@ impl Mode {
     fn of_words(first: &str, second: &str) -> Option<Mode> {
         match (first, second) {
             ("frame", "--time") => Some(Mode::TimeFrame),
+            ("held", count) => Some(Mode::TimeHeld(count.parse().ok()?)),
             _ => None,
         }
     }
@@ -70,6 +73,7 @@ impl Mode {
             Mode::TimeInput => input::time(clock, alloc, reader, writer),
             Mode::Frame => frame::count(alloc, writer),
             Mode::TimeFrame => frame::time(clock, alloc, writer),
+            Mode::TimeHeld(replies) => held::time(clock, alloc, replies, writer),
             Mode::Make(workload, count) => workload.write(alloc, count, writer),
         }
     }

@@ -1,5 +1,6 @@
 //! Copying to the clipboard.
-ghost use Rattle.std.specs.Prelude.{◌≡◌, IfOk, IfErr, Some, [], ◌∷◌};
+ghost use Rattle.std.specs.Prelude.{◌≡◌, OnOk, IfOk, IfErr, Some, [], ◌∷◌};
+ghost use Rattle.std.specs.Fmt.{WritesInCalls};
 ghost use Rattle.std.specs.IoError.{error_kind};
 ghost use Rattle.crossterm_command.specs.Tokens.{text_of};
 ghost use Rattle.crossterm.specs.Clipboard.{char_of, copy_functions, selection_of, selection_text, type_of};
@@ -80,6 +81,18 @@ impl<A: Allocator> fmt::Display for ClipboardSelection<A> {
     }
 }
 
+/// Writes the sequence that copies bytes.
+fn write_copy<W: fmt::Write, A: Allocator>(
+    f: &mut W,
+    destination: &ClipboardSelection<A>,
+    content: &[u8],
+) -> fmt::Result
+    ensures { OnOk result (WritesInCalls W.write_str_gives f.old (text_of (copy_functions content.now destination.now.0.items)) f.new) }
+{
+    let content = Base64Display::new(content, &STANDARD);
+    write!(f, "\x1b]52;{destination};{content}\x1b\\")
+}
+
 /// Copies bytes to a terminal's clipboard and its like (xterm ctlseqs, `OSC 52`).
 ///
 /// The bytes are lent or owned: a slice, a text, a `Vec`, a `String`. They are written in Base64, piece by piece and without a copy. The
@@ -98,9 +111,7 @@ impl<T: AsSlice<u8>, A: Allocator> Command for CopyToClipboard<T, A> {
     ghost text = { λ c _. Some (text_of (copy_functions (T.items c.content) c.destination.0.items)) };
 
     fn write_ansi<W: fmt::Write>(&self, f: &mut W, _colors: ColorOutput) -> fmt::Result {
-        let destination = &self.destination;
-        let content = Base64Display::new(self.content.as_slice(), &STANDARD);
-        write!(f, "\x1b]52;{destination};{content}\x1b\\")
+        write_copy(f, &self.destination, self.content.as_slice())
     }
 }
 

@@ -9,7 +9,7 @@ ghost use Rattle.crossterm.specs.Sequences.{by, cursor_style, move_to};
 
 pub mod sys;
 
-use crate::command::{Command, execute_fmt, write_number, write_numbers, write_once};
+use crate::command::{Command, execute_fmt, write_number, write_numbers};
 use crate::csi;
 use crate::style::ColorOutput;
 use std::fmt;
@@ -212,7 +212,7 @@ impl Command for SavePosition {
     ghost text = { λ _ _. Some (text_of (private "7")) };
 
     fn write_ansi<W: fmt::Write>(&self, f: &mut W, _colors: ColorOutput) -> fmt::Result {
-        write_once(f, "\x1b7")
+        f.write_str("\x1b7")
     }
 }
 
@@ -232,7 +232,7 @@ impl Command for RestorePosition {
     ghost text = { λ _ _. Some (text_of (private "8")) };
 
     fn write_ansi<W: fmt::Write>(&self, f: &mut W, _colors: ColorOutput) -> fmt::Result {
-        write_once(f, "\x1b8")
+        f.write_str("\x1b8")
     }
 }
 
@@ -252,7 +252,7 @@ impl Command for Hide {
     ghost text = { λ _ _. Some (text_of (reset "25")) };
 
     fn write_ansi<W: fmt::Write>(&self, f: &mut W, _colors: ColorOutput) -> fmt::Result {
-        write_once(f, csi!("?25l"))
+        f.write_str(csi!("?25l"))
     }
 }
 
@@ -272,7 +272,7 @@ impl Command for Show {
     ghost text = { λ _ _. Some (text_of (set "25")) };
 
     fn write_ansi<W: fmt::Write>(&self, f: &mut W, _colors: ColorOutput) -> fmt::Result {
-        write_once(f, csi!("?25h"))
+        f.write_str(csi!("?25h"))
     }
 }
 
@@ -292,7 +292,7 @@ impl Command for EnableBlinking {
     ghost text = { λ _ _. Some (text_of (set "12")) };
 
     fn write_ansi<W: fmt::Write>(&self, f: &mut W, _colors: ColorOutput) -> fmt::Result {
-        write_once(f, csi!("?12h"))
+        f.write_str(csi!("?12h"))
     }
 }
 
@@ -312,7 +312,7 @@ impl Command for DisableBlinking {
     ghost text = { λ _ _. Some (text_of (reset "12")) };
 
     fn write_ansi<W: fmt::Write>(&self, f: &mut W, _colors: ColorOutput) -> fmt::Result {
-        write_once(f, csi!("?12l"))
+        f.write_str(csi!("?12l"))
     }
 }
 
@@ -350,7 +350,7 @@ impl Command for SetCursorStyle {
             SetCursorStyle::BlinkingBar => csi!("5 q"),
             SetCursorStyle::SteadyBar => csi!("6 q"),
         };
-        write_once(f, text)
+        f.write_str(text)
     }
 }
 

@@ -18,48 +18,59 @@ macro_rules! osc {
 
 /// Queues commands on a writer, in order: `queue!(writer, colors, MoveTo(0, 0), Print("x"))`.
 ///
-/// It gives an `io::Result<()>`. The first command that fails stops the rest. Without a command nothing is written. The writer is a `W`
-/// or a `&mut W`, and `QueueableCommand` has to be in scope. The second argument is a `ColorOutput`: a command in its place, as in
-/// `queue!(writer, MoveTo(0, 0))`, doesn't compile.
+/// It gives an `io::Result<()>`. The commands are written as one, so that its contract is that of `queue_command` at their texts in a row:
+/// the first that fails by itself stops the rest, and after a fault of the writer nothing more is written. Without a command nothing is
+/// written. The writer is a `W` or a `&mut W`, and `QueueableCommand` has to be in scope. The second argument is a `ColorOutput`: a command
+/// in its place, as in `queue!(writer, MoveTo(0, 0))`, doesn't compile.
+///
+/// ```
+/// queue!(w, colors, Clear(ClearType::All), Print("ab"))
+/// ```
 #[macro_export]
 macro_rules! queue {
-    ($writer:expr, $colors:expr $(, $command:expr)* $(,)?) => {
+    ($writer:expr, $colors:expr $(,)?) => {
         match ($writer.as_writer(), $colors) {
-            (writer, colors) => $crate::queue_on!(writer, colors $(, $command)*),
+            (writer, colors) => {
+                let _ = writer;
+                let _: $crate::style::ColorOutput = colors;
+                Ok::<(), std::io::Error>(())
+            }
         }
+    };
+    ($writer:expr, $colors:expr $(, $command:expr)+ $(,)?) => {
+        $writer.queue_row($colors, &$crate::in_a_row!($($command),+))
     };
 }
 
 /// Queues commands on a writer as `queue!` does, and then flushes it.
 ///
-/// The first command that fails stops the rest and the flush. Without a command the writer is flushed.
+/// A command that fails stops the flush too. Without a command the writer is flushed.
+///
+/// ```
+/// execute!(w, colors, SetForegroundColor(color), Print(text), ResetColor)
+/// ```
 #[macro_export]
 macro_rules! execute {
-    ($writer:expr, $colors:expr $(, $command:expr)* $(,)?) => {
+    ($writer:expr, $colors:expr $(,)?) => {
         match ($writer.as_writer(), $colors) {
-            (writer, colors) => match $crate::queue_on!(writer, colors $(, $command)*) {
-                Ok(()) => std::io::Write::flush(writer),
-                Err(e) => Err(e),
-            },
+            (writer, colors) => {
+                let _: $crate::style::ColorOutput = colors;
+                std::io::Write::flush(writer)
+            }
         }
+    };
+    ($writer:expr, $colors:expr $(, $command:expr)+ $(,)?) => {
+        $writer.execute_row($colors, &$crate::in_a_row!($($command),+))
     };
 }
 
-/// What `queue!` and `execute!` expand to, over a writer and colours by name.
+/// Some commands as one: what `queue!` and `execute!` write.
 #[macro_export]
-macro_rules! queue_on {
-    ($writer:ident, $colors:ident) => {{
-        let _ = $writer;
-        let _: $crate::style::ColorOutput = $colors;
-        Ok::<(), std::io::Error>(())
-    }};
-    ($writer:ident, $colors:ident, $command:expr) => {
-        $crate::queue_command($writer, $colors, $command)
+macro_rules! in_a_row {
+    ($command:expr) => {
+        $command
     };
-    ($writer:ident, $colors:ident, $command:expr $(, $more:expr)+) => {
-        match $crate::queue_command($writer, $colors, $command) {
-            Ok(()) => $crate::queue_on!($writer, $colors $(, $more)+),
-            Err(e) => Err(e),
-        }
+    ($command:expr $(, $more:expr)+) => {
+        ($command, $crate::in_a_row!($($more),+))
     };
 }

@@ -12,7 +12,7 @@ mod size;
 pub mod sys;
 mod value;
 
-use crate::command::{Command, execute_fmt, write_number, write_numbers, write_once};
+use crate::command::{Command, execute_fmt, write_number, write_numbers};
 use crate::csi;
 use crate::style::ColorOutput;
 pub use size::{WindowSize, tput_value};
@@ -31,7 +31,7 @@ impl Command for DisableLineWrap {
     ghost text = { λ _ _. Some (text_of (reset "7")) };
 
     fn write_ansi<W: fmt::Write>(&self, f: &mut W, _colors: ColorOutput) -> fmt::Result {
-        write_once(f, csi!("?7l"))
+        f.write_str(csi!("?7l"))
     }
 }
 
@@ -43,7 +43,7 @@ impl Command for EnableLineWrap {
     ghost text = { λ _ _. Some (text_of (set "7")) };
 
     fn write_ansi<W: fmt::Write>(&self, f: &mut W, _colors: ColorOutput) -> fmt::Result {
-        write_once(f, csi!("?7h"))
+        f.write_str(csi!("?7h"))
     }
 }
 
@@ -55,7 +55,7 @@ impl Command for EnterAlternateScreen {
     ghost text = { λ _ _. Some (text_of (set "1049")) };
 
     fn write_ansi<W: fmt::Write>(&self, f: &mut W, _colors: ColorOutput) -> fmt::Result {
-        write_once(f, csi!("?1049h"))
+        f.write_str(csi!("?1049h"))
     }
 }
 
@@ -67,7 +67,7 @@ impl Command for LeaveAlternateScreen {
     ghost text = { λ _ _. Some (text_of (reset "1049")) };
 
     fn write_ansi<W: fmt::Write>(&self, f: &mut W, _colors: ColorOutput) -> fmt::Result {
-        write_once(f, csi!("?1049l"))
+        f.write_str(csi!("?1049l"))
     }
 }
 
@@ -104,7 +104,7 @@ impl Command for Clear {
             ClearType::CurrentLine => csi!("2K"),
             ClearType::UntilNewLine => csi!("K"),
         };
-        write_once(f, text)
+        f.write_str(text)
     }
 }
 
@@ -211,7 +211,7 @@ impl Command for BeginSynchronizedUpdate {
     ghost text = { λ _ _. Some (text_of (set "2026")) };
 
     fn write_ansi<W: fmt::Write>(&self, f: &mut W, _colors: ColorOutput) -> fmt::Result {
-        write_once(f, BEGIN_UPDATE)
+        f.write_str(BEGIN_UPDATE)
     }
 }
 
@@ -223,6 +223,6 @@ impl Command for EndSynchronizedUpdate {
     ghost text = { λ _ _. Some (text_of (reset "2026")) };
 
     fn write_ansi<W: fmt::Write>(&self, f: &mut W, _colors: ColorOutput) -> fmt::Result {
-        write_once(f, END_UPDATE)
+        f.write_str(END_UPDATE)
     }
 }

@@ -30,24 +30,29 @@ whole_at {X} f xs i x l e =
 
 -- A beginning of a first text is a beginning of both.
 pub front_of_first : (a b : Option (List ℕ)) (x y : List ℕ) → AppendsFront a b x → AppendsFront a b (x ++ y)
-front_of_first a b x y (front, rest, split, grown) = (front, rest ++ y, ap (λ l. l ++ y) split ∙ append_assoc front rest y, grown)
+front_of_first a b x y p = record { front = p.front; rest = p.rest ++ y; split = ap (λ l. l ++ y) p.split ∙ append_assoc p.front p.rest y; grown = p.grown }
 
 -- A whole first text and then a beginning of the second are a beginning of both.
 pub front_of_second : (a b c : Option (List ℕ)) (x y : List ℕ) → Appends a b x → AppendsFront b c y → AppendsFront a c (x ++ y)
-front_of_second a b c x y p (front, rest, split, grown) =
-    (x ++ front, rest, ap (λ l. x ++ l) split ∙ sym (append_assoc x front rest), Appends-trans a b c x front p grown)
+front_of_second a b c x y p q = record {
+  front = x ++ q.front;
+  rest = q.rest;
+  split = ap (λ l. x ++ l) q.split ∙ sym (append_assoc x q.front q.rest);
+  grown = Appends-trans a b c x q.front p q.grown;
+}
 
 -- After all texts before a place, a beginning of the text at it is a beginning of all.
 pub front_at : {X : Type 0} (f : X → List ℕ) (xs : List X) (i : ℕ) (x : X) (a b c : Option (List ℕ)) → i < length xs → get_or xs i x ≡ x
     → Appends a b (flat_map f (take i xs)) → AppendsFront b c (f x) → AppendsFront a c (flat_map f xs)
-front_at f xs i x a b c l e p (front, rest, split, grown) =
+front_at f xs i x a b c l e p q =
     let before = flat_map f (take i xs) in
-    let after = flat_map f (drop (i + 1) xs) in (
-      before ++ front,
-      rest ++ after,
-      whole_at f xs i x l e ∙ ap (λ h. before ++ (h ++ after)) split ∙ ap (λ h. before ++ h) (append_assoc front rest after) ∙ sym (append_assoc before front (rest ++ after)),
-      Appends-trans a b c before front p grown,
-    )
+    let after = flat_map f (drop (i + 1) xs) in
+    record {
+      front = before ++ q.front;
+      rest = q.rest ++ after;
+      split = whole_at f xs i x l e ∙ ap (λ h. before ++ (h ++ after)) q.split ∙ ap (λ h. before ++ h) (append_assoc q.front q.rest after) ∙ sym (append_assoc before q.front (q.rest ++ after));
+      grown = Appends-trans a b c before q.front p q.grown;
+    }
 
 -- A list that has something at a place isn't empty.
 not_empty : {X : Type 0} (xs : List X) (i : ℕ) → i < length xs → xs ≢ []

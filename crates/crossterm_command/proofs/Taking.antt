@@ -1,5 +1,5 @@
 -- Texts that are offered to a writer one after another are taken as their whole is.
-use Rattle.std.proofs.Common.{◌≡◌, ℕ, List, [], ◌∷◌, ◌++◌, inl, inr, Option, None, Some, IfSome, Result, OnOk, Ok, refl, sym, ap, ◌∙◌, append_assoc, subst}
+use Rattle.std.proofs.Common.{◌≡◌, ℕ, List, [], ◌∷◌, ◌++◌, inl, inr, Option, None, Some, IfSome, Result, OnOk, Ok, refl, ◌∙◌, subst}
 use Rattle.std.specs.Io.KnownBytes.{Appends, Keeps}
 use Rattle.std.proofs.KnownBytes.{Appends-nil, Appends-trans, Keeps-refl, Keeps-trans}
 use Rattle.std.specs.Fmt.{WritesInCalls}
@@ -10,6 +10,7 @@ use Rattle.std.specs.declared.io.Error.{Error}
 use Rattle.std.specs.IoError.{error_kind}
 use Rattle.crossterm_command.specs.Faults.{Answers, Stopped}
 use Rattle.crossterm_command.specs.Writing.{Stops, Takes}
+use Rattle.crossterm_command.proofs.Rows.{front_of_first, front_of_second}
 
 appends_keeps : (a b c : Option (List ℕ)) (bs : List ℕ) → Appends a b bs → Keeps b c → Appends a c bs
 appends_keeps None b c bs p q = tt
@@ -23,11 +24,11 @@ takes_nothing a (Some e) = Keeps-refl a
 
 takes_both : {E : Type 0} (a b c : Option (List ℕ)) (f g h : Option E) (bs cs : List ℕ) → Takes a f bs b g → Takes b g cs c h → Takes a f (bs ++ cs) c h
 takes_both a b c None None None bs cs p q = Appends-trans a b c bs cs p q
-takes_both a b c None None (Some e) bs cs p (front, rest, split, grown) =
-    (bs ++ front, rest, ap (λ l. bs ++ l) split ∙ sym (append_assoc bs front rest), Appends-trans a b c bs front p grown)
+takes_both a b c None None (Some e) bs cs p q = front_of_second a b c bs cs p q
 takes_both a b c None (Some d) None bs cs p q = absurd q
-takes_both a b c None (Some d) (Some e) bs cs (front, rest, split, grown) q =
-    (front, rest ++ cs, ap (λ l. l ++ cs) split ∙ append_assoc front rest cs, appends_keeps a b c front grown q)
+takes_both a b c None (Some d) (Some e) bs cs p q =
+    let both = front_of_first a b bs cs p in
+    record { front = both.front; rest = both.rest; split = both.split; grown = appends_keeps a b c both.front both.grown q }
 takes_both a b c (Some d) None h bs cs p q = absurd p
 takes_both a b c (Some d) (Some e) None bs cs p q = absurd q
 takes_both a b c (Some d) (Some e) (Some f) bs cs p q = Keeps-trans a b c p q

@@ -1,10 +1,11 @@
 -- Texts that are written one after another are written as one.
-use Rattle.std.proofs.Common.{◌≡◌, ℕ, List, [], ◌∷◌, ◌++◌, Option, Some, None, Result, Ok, Err, OnOk, refl, sym, subst, ap, ◌∙◌, append_assoc, append-nil}
+use Rattle.std.proofs.Common.{◌≡◌, ◌⊎◌, inl, inr, ℕ, List, [], ◌∷◌, ◌++◌, Option, Some, None, Result, Ok, Err, OnOk, refl, sym, subst, ap, ◌∙◌, append_assoc, append-nil}
 use Rattle.std.specs.declared.fmt.Formatter.{Formatter}
 use Rattle.std.specs.declared.fmt.Error.{Error}
 use Rattle.std.specs.Fmt.{WritesInCalls, WritesText, HasWritten, IsPlainFormatter, DisplaysOnOk, option_append}
 use Rattle.std.specs.List.{FoldsTo, concat}
 use Rattle.crossterm_command.specs.Tokens.{Token, text_of}
+use Rattle.crossterm_command.specs.Writing.{Writes}
 use Rattle.crossterm_command.proofs.Readings.{text_joined}
 
 concat_joined : (xs ys : List (List ℕ)) → concat (xs ++ ys) ≡ concat xs ++ concat ys
@@ -24,6 +25,25 @@ module _ {W : Type 0} (took : W → List ℕ → W → Type 0) where
   pub writes_at_once : (w : W) (bs : List ℕ) (v : W) → took w bs v → WritesInCalls took w bs v
   writes_at_once w bs v gives = record { parts = bs ∷ []; calls = (v, gives, refl); whole = append-nil bs }
 
+  -- a text of several calls, or of one, was written in calls
+  pub in_calls : (w : W) (bs : List ℕ) (v : W) → WritesInCalls took w bs v ⊎ took w bs v → WritesInCalls took w bs v
+  in_calls w bs v (inl p) = p
+  in_calls w bs v (inr gives) = writes_at_once w bs v gives
+
+  pub text_in_calls : (w : W) (o : Option (List ℕ)) (v : W) → Writes took w o v → WritesText took w o v
+  text_in_calls w None v p = tt
+  text_in_calls w (Some bs) v p = in_calls w bs v p
+
+  -- the same where a call was Ok
+  pub ok_in_calls : (r : Result (Unit {0}) Error) (w : W) (o : Option (List ℕ)) (v : W) → OnOk r (Writes took w o v) → OnOk r (WritesText took w o v)
+  ok_in_calls (Ok x) w o v p = text_in_calls w o v p
+  ok_in_calls (Err e) w o v p = tt
+
+  -- what was written in calls was written
+  pub text_writes : (w : W) (o : Option (List ℕ)) (v : W) → WritesText took w o v → Writes took w o v
+  text_writes w None v p = tt
+  text_writes w (Some bs) v p = inl p
+
   -- two texts in a row
   pub writes_both : (w : W) (a : List ℕ) (v : W) (b : List ℕ) (u : W) → WritesInCalls took w a v → WritesInCalls took v b u → WritesInCalls took w (a ++ b) u
   writes_both w a v b u p q = record {
@@ -41,6 +61,12 @@ module _ {W : Type 0} (took : W → List ℕ → W → Type 0) where
   text_of_both w None v p u x y = tt
   text_of_both w (Some a) v None u x y = tt
   text_of_both w (Some a) v (Some b) u x y = writes_both w a v b u x y
+
+  -- a text was written, and after it another where a call was Ok
+  pub ok_both : (r : Result (Unit {0}) Error) (w : W) (o : Option (List ℕ)) (v : W) (p : Option (List ℕ)) (u : W) → Writes took w o v → OnOk r (Writes took v p u)
+      → OnOk r (Writes took w (option_append o p) u)
+  ok_both (Ok x) w o v p u first last = text_writes w (option_append o p) u (text_of_both w o v p u (text_in_calls w o v first) (text_in_calls v p u last))
+  ok_both (Err e) w o v p u first last = tt
 
   -- ---- a command on a formatter
 

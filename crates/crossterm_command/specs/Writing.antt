@@ -2,15 +2,23 @@
 use Rattle.std.specs.Prelude.{◌≡◌, ◌≢◌, ℕ, List, ◌++◌, Option, Some, None, IfSome, ◌⊎◌}
 use Rattle.std.specs.declared.io.ErrorKind.{ErrorKind}
 use Rattle.std.specs.declared.io.ErrorKind.TheVariants.{Other}
+use Rattle.std.specs.Fmt.{WritesInCalls}
 use Rattle.std.specs.Io.KnownBytes.{Appends, Keeps}
+
+-- A text was written, where there is one: by several calls of `write_str`, or by one.
+abbrev pub Writes : {W : Type 0} → (W → List ℕ → W → Type 0) → W → Option (List ℕ) → W → Type 0
+Writes took old text new = IfSome text (λ bs. WritesInCalls took old bs new ⊎ took old bs new)
 
 -- Known bytes grow by the text, where there is one.
 abbrev pub AppendsText : Option (List ℕ) → Option (List ℕ) → Option (List ℕ) → Type 0
 AppendsText old new text = IfSome text (Appends old new)
 
 -- Known bytes grow by a beginning of the text.
-abbrev pub AppendsFront : Option (List ℕ) → Option (List ℕ) → List ℕ → Type 0
-AppendsFront old new text = (front : List ℕ) × (rest : List ℕ) × (text ≡ front ++ rest) × Appends old new front
+pub record AppendsFront (old new : Option (List ℕ)) (text : List ℕ) : Type 0 where
+  pub front : List ℕ
+  pub rest : List ℕ
+  pub split : text ≡ front ++ rest
+  pub grown : Appends old new front
 
 -- Known bytes grow by a beginning of the text, where there is one.
 abbrev pub AppendsFrontOfText : Option (List ℕ) → Option (List ℕ) → Option (List ℕ) → Type 0

@@ -7,12 +7,13 @@ ghost use Rattle.crossterm_command.specs.Environment.{is_set};
 pub enum ColorOutput {
     /// Colours are written.
     Enabled,
-    /// A colour's text is empty, as where `NO_COLOR` is set.
+    /// Colours have no text, as where `NO_COLOR` is set: a command that sets some writes no parameters for them. `ESC [ m`, which is what is
+    /// left of one colour's sequence, takes attributes off too, as in the Rust crate.
     Disabled,
 }
 
 impl ColorOutput {
-    /// Disabled where the value of `NO_COLOR` is there and not empty.
+    /// Gives `Disabled` where the value of `NO_COLOR` is there and not empty.
     pub fn from_no_color(no_color: Option<&str>) -> ColorOutput
         ensures { result ≡ (if is_set no_color.entry then ColorOutput.Disabled else ColorOutput.Enabled) }
     {

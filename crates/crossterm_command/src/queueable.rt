@@ -1,16 +1,14 @@
 //! Commands on every writer.
-ghost use Rattle.std.specs.Prelude.{◌≡◌, IfOk, OnOk, IfErr};
+ghost use Rattle.std.specs.Prelude.{◌≡◌, ◌≢◌, ◌⊎◌, IfOk, OnOk, OnErr, IfErr};
 ghost use Rattle.std.specs.IoError.{error_kind};
 ghost use Rattle.std.specs.Borrow.{sem, RestsIfErr};
-ghost use Rattle.crossterm_command.specs.Writing.{AppendsText, Stops};
+ghost use Rattle.crossterm_command.specs.Writing.{AppendsFrontOfText, AppendsText, Stops};
 
 use crate::{ColorOutput, Command, send_command, write_command};
-use std::io;
+use std::io::{self, ErrorKind};
 
-/// Writes a command's text: `queue` where the writer isn't to be handed back.
-///
-/// The error is the writer's own where it alone failed, else of kind `Other`.
-pub fn queue_command<W: io::Write, C: Command + Drop>(
+// Writes a command's text: what `queue` and `queue_command` do.
+fn queue_on<W: io::Write, C: Command + Drop>(
     writer: &mut W,
     colors: ColorOutput,
     command: C,
@@ -25,10 +23,8 @@ pub fn queue_command<W: io::Write, C: Command + Drop>(
     }
 }
 
-/// Writes a command's text and flushes: `execute` where the writer isn't to be handed back.
-///
-/// The error is the writer's own where it alone failed, else of kind `Other`. Where only the flush failed the whole text was written.
-pub fn execute_command<W: io::Write, C: Command + Drop>(
+// Writes a command's text and flushes: what `execute` and `execute_command` do.
+fn execute_on<W: io::Write, C: Command + Drop>(
     writer: &mut W,
     colors: ColorOutput,
     command: C,
@@ -41,6 +37,43 @@ pub fn execute_command<W: io::Write, C: Command + Drop>(
         Ok(()) => Ok(()),
         Err(fault) => Err(io::Error::from(fault)),
     }
+}
+
+/// Writes a command's text: `queue` where the writer isn't to be handed back.
+///
+/// # Errors
+/// The writer's own where it alone failed, else one of kind `Other`. Where the kind isn't `Other` a beginning of the text was written.
+pub fn queue_command<W: io::Write, C: Command + Drop>(
+    writer: &mut W,
+    colors: ColorOutput,
+    command: C,
+) -> io::Result<()>
+    ensures ok { OnOk result (AppendsText (W.contents writer.old) (W.contents writer.new) (C.text command colors)) }
+    ensures front { IfErr result (λ e. error_kind e ≢ ErrorKind.Other → AppendsFrontOfText (W.contents writer.old) (W.contents writer.new)
+        (C.text command colors)) }
+    ensures cause { OnErr result (AppendsFrontOfText (W.contents writer.old) (W.contents writer.new) (C.text command colors)
+        ⊎ C.fails command colors) }
+{
+    queue_on(writer, colors, command)
+}
+
+/// Writes a command's text and flushes: `execute` where the writer isn't to be handed back.
+///
+/// # Errors
+/// The writer's own where it alone failed, else one of kind `Other`. Where the kind isn't `Other` a beginning of the text was written, and
+/// the whole where only the flush failed.
+pub fn execute_command<W: io::Write, C: Command + Drop>(
+    writer: &mut W,
+    colors: ColorOutput,
+    command: C,
+) -> io::Result<()>
+    ensures ok { OnOk result (AppendsText (W.contents writer.old) (W.contents writer.new) (C.text command colors)) }
+    ensures front { IfErr result (λ e. error_kind e ≢ ErrorKind.Other → AppendsFrontOfText (W.contents writer.old) (W.contents writer.new)
+        (C.text command colors)) }
+    ensures cause { OnErr result (AppendsFrontOfText (W.contents writer.old) (W.contents writer.new) (C.text command colors)
+        ⊎ C.fails command colors) }
+{
+    execute_on(writer, colors, command)
 }
 
 /// Writes commands on a writer.
@@ -57,7 +90,33 @@ pub trait QueueableCommand: io::Write {
         ensures same { IfOk result (λ w. w.ghost_name ≡ self.entry.ghost_name) }
         ensures ok { IfOk result (λ w. AppendsText (Self.contents self.old) (Self.contents w.now) (C.text command colors)) };
 
-    /// The writer itself: what `queue!` and `execute!` begin with, so that they take a `W` and a `&mut W`.
+    /// Writes a command's text: what `queue!` does with all of its commands as one, on a `W` and on a `&mut W`.
+    ///
+    /// # Errors
+    /// Those of `queue_command`.
+    fn queue_row<C: Command + Drop>(&mut self, colors: ColorOutput, command: C) -> io::Result<()>
+    where
+        Self: Sized,
+        ensures ok { OnOk result (AppendsText (Self.contents self.old) (Self.contents self.new) (C.text command colors)) }
+        ensures front { IfErr result (λ e. error_kind e ≢ ErrorKind.Other → AppendsFrontOfText (Self.contents self.old) (Self.contents self.new)
+            (C.text command colors)) }
+        ensures cause { OnErr result (AppendsFrontOfText (Self.contents self.old) (Self.contents self.new) (C.text command colors)
+            ⊎ C.fails command colors) };
+
+    /// Writes a command's text and flushes: what `execute!` does with all of its commands as one.
+    ///
+    /// # Errors
+    /// Those of `execute_command`.
+    fn execute_row<C: Command + Drop>(&mut self, colors: ColorOutput, command: C) -> io::Result<()>
+    where
+        Self: Sized,
+        ensures ok { OnOk result (AppendsText (Self.contents self.old) (Self.contents self.new) (C.text command colors)) }
+        ensures front { IfErr result (λ e. error_kind e ≢ ErrorKind.Other → AppendsFrontOfText (Self.contents self.old) (Self.contents self.new)
+            (C.text command colors)) }
+        ensures cause { OnErr result (AppendsFrontOfText (Self.contents self.old) (Self.contents self.new) (C.text command colors)
+            ⊎ C.fails command colors) };
+
+    /// The writer itself: what `queue!` and `execute!` look at where they have no command, so that they take a `W` and a `&mut W`.
     fn as_writer(&mut self) -> &mut Self
     where
         Self: Sized,
@@ -66,6 +125,18 @@ pub trait QueueableCommand: io::Write {
 }
 
 impl<W: io::Write> QueueableCommand for W {
+    fn queue_row<C: Command + Drop>(&mut self, colors: ColorOutput, command: C) -> io::Result<()> {
+        queue_command(self, colors, command)
+    }
+
+    fn execute_row<C: Command + Drop>(
+        &mut self,
+        colors: ColorOutput,
+        command: C,
+    ) -> io::Result<()> {
+        execute_command(self, colors, command)
+    }
+
     fn as_writer(&mut self) -> &mut W {
         self
     }
@@ -75,7 +146,7 @@ impl<W: io::Write> QueueableCommand for W {
         colors: ColorOutput,
         command: C,
     ) -> io::Result<&mut Self> {
-        match queue_command(self, colors, command) {
+        match queue_on(self, colors, command) {
             Ok(()) => Ok(self),
             Err(e) => Err(e),
         }
@@ -106,7 +177,7 @@ impl<W: io::Write> ExecutableCommand for W {
         colors: ColorOutput,
         command: C,
     ) -> io::Result<&mut Self> {
-        match execute_command(self, colors, command) {
+        match execute_on(self, colors, command) {
             Ok(()) => Ok(self),
             Err(e) => Err(e),
         }

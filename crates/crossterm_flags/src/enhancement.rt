@@ -6,13 +6,15 @@ ghost use Rattle.crossterm_flags.specs.Bits.{items};
 ghost use Rattle.crossterm_flags.specs.Tables.{all_enhancements, enhancements};
 
 use crate::iter::{FlagIter, FlagSet};
+use crate::shown;
 use bitflags::{Flag, Flags};
+use std::fmt;
 use std::ops::{
     BitAnd, BitAndAssign, BitOr, BitOrAssign, BitXor, BitXorAssign, Not, Sub, SubAssign,
 };
 
 /// The progressive enhancements of kitty's keyboard protocol.
-#[derive(Clone, Copy, PartialEq, Eq, PartialOrd, Ord, Hash, Debug)]
+#[derive(Clone, Copy, PartialEq, Eq, PartialOrd, Ord, Hash)]
 pub struct KeyboardEnhancementFlags(u8);
 
 impl KeyboardEnhancementFlags {
@@ -219,6 +221,13 @@ impl Flags for KeyboardEnhancementFlags {
 
 impl FlagSet for KeyboardEnhancementFlags {
     ghost exact_law = { tt };
+}
+
+/// The names of the flags, and the bits without a name as one number: `KeyboardEnhancementFlags(REPORT_EVENT_TYPES)`, and `KeyboardEnhancementFlags(0x0)` where there are none.
+impl fmt::Debug for KeyboardEnhancementFlags {
+    fn fmt<W: fmt::Write>(&self, f: &mut fmt::Formatter<W>) -> fmt::Result {
+        shown::show(f, "KeyboardEnhancementFlags", self)
+    }
 }
 
 impl BitOr for KeyboardEnhancementFlags {

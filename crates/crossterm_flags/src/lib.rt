@@ -7,6 +7,7 @@
 mod enhancement;
 mod iter;
 mod modifiers;
+mod shown;
 mod state;
 pub mod value;
 

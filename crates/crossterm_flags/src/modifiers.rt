@@ -7,6 +7,7 @@ ghost use Rattle.crossterm_flags.specs.Names.{modifiers_text, shown_names};
 ghost use Rattle.crossterm_flags.specs.Tables.{all_modifiers, modifiers};
 
 use crate::iter::{FlagIter, FlagSet};
+use crate::shown;
 use bitflags::{Flag, Flags};
 use std::fmt;
 use std::ops::{
@@ -14,7 +15,7 @@ use std::ops::{
 };
 
 /// The modifiers that were held with a key or a mouse event.
-#[derive(Clone, Copy, PartialEq, Eq, PartialOrd, Ord, Hash, Debug)]
+#[derive(Clone, Copy, PartialEq, Eq, PartialOrd, Ord, Hash)]
 pub struct KeyModifiers(u8);
 
 impl KeyModifiers {
@@ -275,6 +276,13 @@ impl Flags for KeyModifiers {
 
 impl FlagSet for KeyModifiers {
     ghost exact_law = { tt };
+}
+
+/// The names of the flags, and the bits without a name as one number: `KeyModifiers(SHIFT | CONTROL)`, and `KeyModifiers(0x0)` where there are none.
+impl fmt::Debug for KeyModifiers {
+    fn fmt<W: fmt::Write>(&self, f: &mut fmt::Formatter<W>) -> fmt::Result {
+        shown::show(f, "KeyModifiers", self)
+    }
 }
 
 impl BitOr for KeyModifiers {

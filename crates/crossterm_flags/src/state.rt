@@ -6,13 +6,15 @@ ghost use Rattle.crossterm_flags.specs.Bits.{items};
 ghost use Rattle.crossterm_flags.specs.Tables.{all_states, states};
 
 use crate::iter::{FlagIter, FlagSet};
+use crate::shown;
 use bitflags::{Flag, Flags};
+use std::fmt;
 use std::ops::{
     BitAnd, BitAndAssign, BitOr, BitOrAssign, BitXor, BitXorAssign, Not, Sub, SubAssign,
 };
 
 /// What else a keyboard tells of a key: whether it stands on the keypad, and which locks are on.
-#[derive(Clone, Copy, PartialEq, Eq, PartialOrd, Ord, Hash, Debug)]
+#[derive(Clone, Copy, PartialEq, Eq, PartialOrd, Ord, Hash)]
 pub struct KeyEventState(u8);
 
 impl KeyEventState {
@@ -217,6 +219,13 @@ impl Flags for KeyEventState {
 
 impl FlagSet for KeyEventState {
     ghost exact_law = { tt };
+}
+
+/// The names of the flags, and the bits without a name as one number: `KeyEventState(CAPS_LOCK)`, and `KeyEventState(0x0)` where there are none.
+impl fmt::Debug for KeyEventState {
+    fn fmt<W: fmt::Write>(&self, f: &mut fmt::Formatter<W>) -> fmt::Result {
+        shown::show(f, "KeyEventState", self)
+    }
 }
 
 impl BitOr for KeyEventState {

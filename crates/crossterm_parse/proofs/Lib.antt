@@ -2,6 +2,7 @@ pub mod CuttingLaws
 pub mod DivisionLaws
 pub mod EndLaws
 pub mod FieldsLaws
+pub mod GivingLaws
 pub mod GrammarLaws
 pub mod Letters
 pub mod MachineLaws

@@ -3,6 +3,7 @@ pub mod Characters
 pub mod Deciding
 pub mod Division
 pub mod Fields
+pub mod Giving
 pub mod Grammar
 pub mod Machine
 pub mod Marked

@@ -12,7 +12,8 @@ pub struct Field {
     pub first: Number,
     /// Its second part.
     pub second: Number,
-    part: Part,
+    /// The part that is being read.
+    pub part: Part,
 }
 
 /// The part that is being read.
@@ -29,7 +30,8 @@ pub struct Fields {
     pub first: Field,
     pub second: Field,
     pub third: Number,
-    place: Place,
+    /// The field that is being read.
+    pub place: Place,
 }
 
 /// The field that is being read.

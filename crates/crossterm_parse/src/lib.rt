@@ -23,18 +23,18 @@
 //! ESC alone is the Esc key where nothing came with it after it.
 #![tactic(auto)]
 
-mod character;
-mod fields;
+pub mod character;
+pub mod fields;
 mod functional;
 pub mod laws;
 pub mod marked;
 pub mod meaning;
 mod modifier_field;
-mod mouse;
-mod number;
+pub mod mouse;
+pub mod number;
 pub mod numbered;
 pub mod parse;
 pub mod paste;
 pub mod state;
 pub mod steps;
-mod utf8;
+pub mod utf8;

@@ -26,12 +26,27 @@ use std::marker::{Brand, Model};
 use std::string::String;
 use std::sync::ledger::{Blank, Ledger};
 
+mod events;
 mod runs;
+
+pub use events::Events;
 
 /// Divides the bytes of a terminal into whole sequences, and gives their events.
 ///
 /// The open sequence is a `Copy` state of a fixed size, however long the sequence is. What the parser keeps beside it are the events not yet
 /// given, and the text of an open paste.
+///
+/// ```
+/// let mut parser = Parser::new(rt.alloc());
+/// // Where the piece is full, more bytes may follow at once, so that ESC at its end is no key yet.
+/// if parser.feed(&piece[..count], count == piece.len(), true) < count {
+///     return Err(io::Error::from(ErrorKind::OutOfMemory));
+/// }
+/// for event in parser.events() {
+///     let line = Line(&event);
+///     writeln!(out, "{line}")?;
+/// }
+/// ```
 #[derive(Drop)]
 pub struct Parser<A: Allocator = Global> {
     state: State,
@@ -46,7 +61,7 @@ impl<A: Allocator> Model for Parser<A> {
 }
 
 /// Whether there is a pause after the byte at this place of a piece.
-fn pauses(more: bool, place: usize, count: usize) -> bool
+pub fn pauses(more: bool, place: usize, count: usize) -> bool
     requires { place < count }
     ensures { result ≡ not more && (place + 1 == count) }
 {

@@ -91,7 +91,7 @@ impl Met {
 }
 
 /// How many bytes stand before the first ESC.
-fn before_escape(bytes: &[u8]) -> usize
+pub fn before_escape(bytes: &[u8]) -> usize
     ensures most { result ≤ length bytes.now }
     ensures none { AllByRecursion (λ b. b == 27 ≡ false) (take result bytes.now) }
 {

@@ -140,7 +140,7 @@ fn read_reports(digits: &mut Digits, bytes: &[u8]) -> usize
 
 impl State {
     /// Whether a paste is open.
-    pub(crate) fn is_paste(&self) -> bool
+    pub fn is_paste(&self) -> bool
         ensures { result ≡ is_paste self.now }
     {
         matches!(self, State::Paste(_))
@@ -148,7 +148,7 @@ impl State {
 
     /// Goes to the ground state, where the sequence is whole and its event is kept.
     #[inline(always)]
-    pub(crate) fn end(&mut self)
+    pub fn end(&mut self)
         ensures { self.new ≡ State.Ground }
     {
         *self = State::Ground;

@@ -4,6 +4,7 @@ pub mod Cutting
 pub mod EachOnce
 pub mod Happening
 pub mod Histories
+pub mod Joining
 pub mod Mapped
 pub mod Moves
 pub mod Numbers
@@ -14,6 +15,7 @@ pub mod Rising
 pub mod Runs
 pub mod Seating
 pub mod Sharing
+pub mod Shelving
 pub mod Spelling
 pub mod Streaming
 pub mod Takes

@@ -1,5 +1,5 @@
 -- What a stream makes of a read that waits for nobody, and of its worker's polls.
-use Rattle.std.proofs.Common.{◌≡◌, ◌⊎◌, List, [], ◌∷◌, ◌++◌, Bool, Option, Result, Some, None, Ok, Err, refl, sym, subst, inl, inr}
+use Rattle.std.proofs.Common.{◌≡◌, List, [], ◌∷◌, ◌++◌, Bool, Option, Result, Some, None, Ok, Err, refl, subst, inl, inr}
 use Rattle.std.specs.declared.io.Error.{Error}
 use Rattle.std.specs.declared.time.Duration.{Duration}
 use Rattle.std.specs.IoError.{error_kind}
@@ -9,7 +9,7 @@ use Rattle.crossterm_types.specs.declared.event.filter.AnyFilter.TheVariants as 
 use Rattle.crossterm_read.specs.Answers.{SourceAnswer}
 use Rattle.crossterm_read.specs.Entries.{IsPoll, Polls, Tries}
 use Rattle.crossterm_read.specs.History.{Known, Extends}
-use Rattle.crossterm_read.specs.Replies.{Replied, ToPoll, ToTake, ToQuery, Fault, Said, Came, Polled, Faulted, event_seen, event_tried, poll_reply, shown}
+use Rattle.crossterm_read.specs.Replies.{Replied, ToPoll, ToTake, ToQuery, Fault, Came, Polled, Faulted, event_seen, event_tried, poll_reply, shown}
 use Rattle.crossterm_read.specs.Streams.{ReadsAtOnce, GivesItem, GivesNothing, PollsOn, OnlyPolls}
 
 -- A reply that shows no event, and no fault, took nothing.

@@ -1,5 +1,5 @@
 -- What a device tells.
-use Rattle.std.specs.Prelude.{◌≡◌, ◌⊎◌, ◌≤◌, ◌==◌, ℕ, Bool, List, [], ◌∷◌, ◌++◌, length, take, Option, Result, Ok, Err, IsSomeAnd}
+use Rattle.std.specs.Prelude.{◌≡◌, ◌⊎◌, ◌≤◌, ◌==◌, ℕ, Bool, List, [], ◌∷◌, ◌++◌, length, take, Option, Result, Ok, Err, IsSomeAnd, ⊤}
 use Rattle.std.specs.List.{AllByRecursion}
 use Rattle.std.specs.Duration.{as_nanos}
 use Rattle.std.specs.IoError.{error_kind}
@@ -26,6 +26,25 @@ word_of (Ok (answer.Resize columns rows)) buffer = Resized columns rows
 word_of (Ok answer.Woken) buffer = Woken
 word_of (Ok answer.Idle) buffer = Idle
 word_of (Err e) buffer = Fault (error_kind e)
+
+-- What a device tells: from which states to which some words lead. Where nothing is told nothing changes, and what is told in two runs is
+-- told in one.
+pub record Telling (D : Type 0) : Type 1 where
+  pub told : D → List Word → D → Type 0
+  pub none : (s : D) → told s [] s
+  pub on : (s t u : D) (xs ys : List Word) → told s xs t → told t ys u → told s (xs ++ ys) u
+
+-- Nothing is said of what it tells.
+abbrev pub anything : {D : Type 0} → Telling D
+anything = record { told = λ _ _ _. ⊤; none = λ _. tt; on = λ _ _ _ _ _ _ _. tt }
+
+-- What a device tells that hands on what another one within it tells.
+abbrev pub tells_within : {D E : Type 0} → (D → E) → Telling E → Telling D
+tells_within inner telling = record {
+  told = λ s words t. telling.told (inner s) words (inner t);
+  none = λ s. telling.none (inner s);
+  on = λ s t u. telling.on (inner s) (inner t) (inner u);
+}
 
 -- The limit is zero, so that a device answers without waiting.
 abbrev pub IsAtOnce : Option Duration → Type 0

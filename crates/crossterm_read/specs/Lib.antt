@@ -4,8 +4,10 @@ pub mod Calls
 pub mod Device
 pub mod Entries
 pub mod History
+pub mod Kinds
 pub mod Numbers
 pub mod Queries
+pub mod Queues
 pub mod Reading
 pub mod Replies
 pub mod Scripted

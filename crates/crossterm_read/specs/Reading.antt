@@ -4,7 +4,7 @@ use Rattle.std.specs.Io.KnownBytes.{Consumes, IsAtEnd}
 use Rattle.std.specs.declared.io.ErrorKind.{ErrorKind}
 use Rattle.std.specs.declared.io.ErrorKind.TheVariants.{WouldBlock, Interrupted}
 use Rattle.std.proofs.Common.{subst, sym, ap, inl, inr, ◌∙◌, append_assoc}
-use Rattle.crossterm_read.specs.Device.{Word, Bytes, Resized, Woken, Idle, Fault}
+use Rattle.crossterm_read.specs.Device.{Telling, Word, Bytes, Resized, Woken, Idle, Fault}
 
 -- The error says that nothing came yet, and no more.
 abbrev pub IsNothingYet : ErrorKind → Type 0
@@ -42,7 +42,7 @@ AreSpent (Some xs) after = IsAtEnd after
 abbrev pub ReadingTells : Option (List ℕ) → List Word → Option (List ℕ) → Type 0
 ReadingTells before words after = Consumes before after (bytes_told words) × (TellsEnd words → AreSpent before after)
 
--- The two laws of a device.
+-- Its two laws.
 pub reading_none : (o : Option (List ℕ)) → ReadingTells o [] o
 reading_none None = (tt, λ e. absurd e)
 reading_none (Some xs) = (refl, λ e. absurd e)
@@ -95,3 +95,11 @@ reading_on a b c xs ys d e = (
   subst (λ (l : List ℕ). Consumes a c l) (sym (told_join xs ys)) (on a b c (bytes_told xs) (bytes_told ys) d.0 e.0),
   λ ends. spent_on a b c xs ys d e (end_in_one xs ys ends),
 )
+
+-- What a device over a reader tells, by what it is known that the reader has left.
+abbrev pub reading_telling : {D : Type 0} → (D → Option (List ℕ)) → Telling D
+reading_telling left = record {
+  told = λ s words t. ReadingTells (left s) words (left t);
+  none = λ s. reading_none (left s);
+  on = λ s t u. reading_on (left s) (left t) (left u);
+}

@@ -3,7 +3,7 @@ use Rattle.std.specs.Prelude.{◌≡◌, ℕ, ◌+◌, zero, suc, Bool, true, fa
 use Rattle.std.specs.List.{count_by}
 use Rattle.std.proofs.Common.{subst, sym, ap, ◌∙◌, add-zero, add_assoc}
 use Rattle.std.proofs.lemmas.List.Sums.{sum_by-append}
-use Rattle.crossterm_read.specs.Device.{Word, Bytes, Resized, Woken, Idle, Fault}
+use Rattle.crossterm_read.specs.Device.{Telling, Word, Bytes, Resized, Woken, Idle, Fault}
 use Rattle.crossterm_read.specs.declared.source.script.Act.{Act}
 use Rattle.crossterm_read.specs.declared.source.script.Act.TheVariants as act
 
@@ -64,7 +64,7 @@ pub record ScriptLeft : Type 0 where
 abbrev pub ScriptTells : ScriptLeft → List Word → ScriptLeft → Type 0
 ScriptTells s xs t = Tells s.left xs t.left × (t.failed ≡ s.failed + faults xs)
 
--- Its two laws as a device.
+-- The two laws.
 pub script_none : (s : ScriptLeft) → ScriptTells s [] s
 script_none s = (refl, sym (add-zero s.failed))
 
@@ -78,3 +78,7 @@ script_on s t u xs ys d e = (
   tells_on s.left t.left u.left xs ys d.0 e.0,
   e.1 ∙ ap (λ (n : ℕ). n + faults ys) d.1 ∙ add_assoc s.failed (faults xs) (faults ys) ∙ ap (λ (n : ℕ). s.failed + n) (sym (sum_by-append _ xs ys)),
 )
+
+-- What a script tells as a device.
+abbrev pub script_telling : Telling ScriptLeft
+script_telling = record { told = ScriptTells; none = script_none; on = script_on }

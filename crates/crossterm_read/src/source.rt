@@ -141,7 +141,7 @@ impl<D: Device, A: Allocator + Clone> DeviceSource<D, A> {
 }
 
 impl<D: Device, A: Allocator + Clone> EventSource<A> for DeviceSource<D, A> {
-    ghost drawn = { SourceDrawn D.told };
+    ghost drawn = { SourceDrawn D.tells.told };
 
     ghost failed = { λ s. D.failed s.device };
 
@@ -149,9 +149,9 @@ impl<D: Device, A: Allocator + Clone> EventSource<A> for DeviceSource<D, A> {
 
     ghost wakes = { λ s. D.wakes s.device };
 
-    ghost none_drawn = { source_none D.told D.none_told };
+    ghost none_drawn = { source_none D.tells.told D.tells.none };
 
-    ghost drawn_on = { source_on D.told D.told_on };
+    ghost drawn_on = { source_on D.tells.told D.tells.on };
 
     fn try_read(&mut self, limit: Option<Duration>) -> io::Result<Option<InternalEvent<A>>> {
         if let Some(event) = self.parser.next() {

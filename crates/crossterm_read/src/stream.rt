@@ -97,7 +97,7 @@ where
     }
 }
 
-impl<S: EventSource<A>, R: Wait + Drop, A: Allocator> EventStream<S, R, A> {
+impl<S: EventSource<A>, R: Wait + Drop, A: Allocator + Clone> EventStream<S, R, A> {
     /// The next event of the user, or a fault.
     ///
     /// A fault that the worker met is given first, once. Else the task's waker is registered, in the place of an older one, and the
@@ -124,7 +124,7 @@ impl<S: EventSource<A>, R: Wait + Drop, A: Allocator> EventStream<S, R, A> {
     }
 }
 
-impl<S: EventSource<A>, R: Wait + Drop, A: Allocator> Stream for EventStream<S, R, A> {
+impl<S: EventSource<A>, R: Wait + Drop, A: Allocator + Clone> Stream for EventStream<S, R, A> {
     type Item = io::Result<Event<A>>;
 
     ghost needs = { λ stream s. s ≡ (arc_value stream.hub).source.id };

@@ -1,9 +1,10 @@
 //! The last share gives the reader back.
 ghost use Rattle.crossterm_read.specs.Shared.{IsPassOf};
 
-use crate::devices::{Reader, Seat, Still, alone, letter, letter_of, script_of, text, two};
+use crate::devices::{Still, alone, letter, two};
 use crossterm_read::read::{EventReader, Pass};
 use crossterm_read::source::{DeviceSource, Script};
+use crossterm_test_devices::{Reader, Seat, letter_of, script_of, text};
 use crossterm_types::event::InternalEvent;
 use crossterm_types::event::filter::{AnyFilter, EventFilter};
 use std::alloc::{AllocError, Global};

@@ -1,28 +1,17 @@
-//! Devices, clocks, and shared readers over them.
-ghost use Rattle.std.specs.Prelude.{All, IfOk};
+//! Clocks, a device with a bell, and shared readers with their passes.
+ghost use Rattle.std.specs.Prelude.{IfOk};
 ghost use Rattle.crossterm_read.specs.Shared.{IsPassOf};
 
-use crossterm_read::read::{EventReader, InternalEventReader, Pass};
-use crossterm_read::source::{Act, Answer, Device, DeviceSource, EventSource, Script, Waker};
+use crossterm_read::read::{EventReader, InternalEventReader};
+use crossterm_read::source::{Answer, Device, EventSource, Waker};
+use crossterm_test_devices::{Seat, TURNS, is_raised_within, letter_of, nap};
 use crossterm_types::event::Event;
 use crossterm_types::event::timeout::Clock;
 use std::alloc::{AllocError, Global};
 use std::io;
 use std::sync::atomic::{AtomicBool, Ordering};
-use std::sync::{Arc, Condvar, Wait};
+use std::sync::{Arc, Wait};
 use std::time::Duration;
-
-/// How many turns a device or a test waits: each takes a millisecond.
-pub const TURNS: u32 = 10_000;
-
-/// The reader of one thread over a device.
-pub type Reader<D> = InternalEventReader<DeviceSource<D>>;
-
-/// A pause of a millisecond.
-pub fn nap<R: Wait>(rt: &R) {
-    let quiet = Condvar::new();
-    quiet.sleep(rt, quiet.notifications(), Duration::from_millis(1));
-}
 
 /// A clock that stands still.
 #[derive(Drop)]
@@ -108,17 +97,6 @@ fn is_raised<R: Wait>(rt: &R, flag: &AtomicBool) -> bool {
     is_raised_within(rt, flag, TURNS)
 }
 
-/// Whether a flag is raised within so many turns.
-pub fn is_raised_within<R: Wait>(rt: &R, flag: &AtomicBool, turns: u32) -> bool {
-    for _ in 0..turns {
-        if flag.load(Ordering::SeqCst) {
-            return true;
-        }
-        nap(rt);
-    }
-    false
-}
-
 /// A device that is idle until its bell rings. Then it is woken, and tells `ab` once. After its turns the input ends.
 #[derive(Drop)]
 pub struct Bell<'a, R> {
@@ -143,16 +121,6 @@ impl<'a, R: Wait> Bell<'a, R> {
 }
 
 impl<R: Wait> Device for Bell<'_, R> {
-    ghost use Rattle.std.specs.Prelude.{⊤};
-
-    ghost told = { λ _ _ _. ⊤ };
-
-    ghost failed = { λ _. 0 };
-
-    ghost none_told = { λ _. tt };
-
-    ghost told_on = { λ _ _ _ _ _ _ _. tt };
-
     fn answer(&mut self, buf: &mut [u8], limit: Option<Duration>) -> io::Result<Answer> {
         self.signs.note(limit);
         nap(self.rt);
@@ -188,43 +156,6 @@ impl<R: Wait> Device for Bell<'_, R> {
     }
 }
 
-/// A reader over a device that holds nothing yet.
-pub fn reader_of<D: Device>(alloc: Global, device: D) -> Reader<D> {
-    InternalEventReader::new(alloc, DeviceSource::new(alloc, device))
-}
-
-/// An act of a script that tells this text.
-pub fn text(alloc: Global, bytes: &[u8]) -> Result<Act, AllocError> {
-    Ok(Act::Piece {
-        bytes: Vec::from_slice(alloc, bytes)?,
-        raw: false,
-    })
-}
-
-/// A reader over a script.
-pub fn script_of(alloc: Global, acts: Vec<Act>) -> Reader<Script> {
-    reader_of(alloc, Script::new(acts))
-}
-
-/// A share of a reader, and a pass of it.
-pub type Seat<S> = (EventReader<S>, Pass<S>);
-
-/// One more share of a reader, with the last of the passes that are left.
-pub fn seat<S: EventSource<Global>>(
-    shared: &EventReader<S>,
-    passes: &mut Vec<Pass<S>>,
-) -> io::Result<Seat<S>>
-    requires { All (IsPassOf shared.now) passes.old.items }
-    ensures left { All (IsPassOf shared.now) passes.new.items }
-    ensures seat { IfOk result (λ r. IsPassOf r.0 r.1) }
-{
-    let share = shared.share()?;
-    match passes.pop() {
-        Some(pass) => Ok((share, pass)),
-        None => Err(io::Error::from(io::ErrorKind::NotFound)),
-    }
-}
-
 /// A shared reader, and its only pass.
 pub fn alone<S: EventSource<Global>, R: Wait>(
     rt: &R,
@@ -253,14 +184,6 @@ pub fn two<S: EventSource<Global>, R: Wait>(
     match (passes.pop(), passes.pop()) {
         (Some(other), Some(one)) => Ok(((shared, one), (share, other))),
         _ => Err(io::Error::from(io::ErrorKind::NotFound)),
-    }
-}
-
-/// A key's letter, and `?` for all else.
-pub fn letter_of(event: &Event) -> char {
-    match event {
-        Event::Key(key) => key.code.as_char().unwrap_or('?'),
-        _ => '?',
     }
 }
 

@@ -1,5 +1,5 @@
-//! Tests of the reader that threads share, and of streams over it, by their public calls: what no contract says, as that a poll is woken, that a call ends, and
-//! that each event comes to one pass alone.
+//! Tests of the reader that threads share, by its public calls: what no contract says, as that a poll is woken, that a call ends, and that each
+//! event comes to one pass alone.
 //!
 //! They stand here, in a crate of their own, since a crate with tests is proved twice. Each ends by itself within seconds: devices have
 //! an end of input behind a number of turns, and each turn is a nap of a millisecond.
@@ -24,8 +24,6 @@ mod closing;
 #[cfg(test)]
 mod devices;
 #[cfg(test)]
-mod gates;
-#[cfg(test)]
 mod limits;
 #[cfg(test)]
 mod order;
@@ -33,9 +31,5 @@ mod order;
 mod queries;
 #[cfg(test)]
 mod refused;
-#[cfg(test)]
-mod stream;
-#[cfg(test)]
-mod stream_shares;
 #[cfg(test)]
 mod waking;

@@ -1,9 +1,10 @@
 //! Polls with a limit, where nobody else has the reader.
 ghost use Rattle.crossterm_read.specs.Shared.{IsPassOf};
 
-use crate::devices::{Reader, Still, Ticking, alone, letter, script_of, text};
+use crate::devices::{Still, Ticking, alone, letter};
 use crossterm_read::read::{EventReader, Pass};
 use crossterm_read::source::{Act, DeviceSource, Script};
+use crossterm_test_devices::{Reader, script_of, text};
 use crossterm_types::event::filter::AnyFilter;
 use crossterm_types::event::timeout::Clock;
 use std::alloc::{AllocError, Global};

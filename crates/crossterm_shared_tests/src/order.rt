@@ -2,9 +2,10 @@
 ghost use Rattle.std.specs.Prelude.{IfOk};
 ghost use Rattle.crossterm_read.specs.Shared.{IsPassOf};
 
-use crate::devices::{Reader, Seat, letter, script_of, seat, text};
+use crate::devices::letter;
 use crossterm_read::read::{EventReader, Pass};
 use crossterm_read::source::{DeviceSource, Script};
+use crossterm_test_devices::{Reader, Seat, script_of, seat, text};
 use std::alloc::{AllocError, Global};
 use std::sync::Wait;
 use std::thread::Threads;

@@ -1,10 +1,11 @@
 //! Queries through a shared reader.
 ghost use Rattle.crossterm_read.specs.Shared.{IsPassOf};
 
-use crate::devices::{Reader, Still, Ticking, alone, letter, script_of, text};
+use crate::devices::{Still, Ticking, alone, letter};
 use crossterm_flags::KeyboardEnhancementFlags;
 use crossterm_read::read::{EventReader, Pass};
 use crossterm_read::source::{Act, DeviceSource, Script};
+use crossterm_test_devices::{Reader, script_of, text};
 use std::alloc::{AllocError, Global};
 use std::io;
 use std::io::ErrorKind;

@@ -1,8 +1,8 @@
 //! A shared reader whose memory is refused.
 
-use crate::devices::{script_of, text};
 use crossterm_read::read::{EventReader, InternalEventReader, Pass};
 use crossterm_read::source::{DeviceSource, Script};
+use crossterm_test_devices::{script_of, text};
 use crossterm_types::event::filter::EventFilter;
 use linked_list_allocator::LocalHeap;
 use std::alloc::{AllocError, Global};

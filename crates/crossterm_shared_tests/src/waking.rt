@@ -1,9 +1,10 @@
 //! A waker ends a poll, whoever polls.
 ghost use Rattle.crossterm_read.specs.Shared.{IsPassOf};
 
-use crate::devices::{Bell, Seat, Signs, Still, TURNS, letter, nap, reader_of, two};
+use crate::devices::{Bell, Signs, Still, letter, two};
 use crossterm_read::read::{EventReader, Pass};
 use crossterm_read::source::{DeviceSource, EventSource};
+use crossterm_test_devices::{Seat, TURNS, nap, reader_of};
 use crossterm_types::event::filter::AnyFilter;
 use std::alloc::Global;
 use std::sync::Wait;

@@ -5,6 +5,11 @@ ghost use Rattle.crossterm_style.specs.Styles.{no_style};
 use crate::{Attributes, Color, StyledContent};
 
 /// How a text looks: colours that are there, and attributes.
+///
+/// ```
+/// let style = ContentStyle::new().white().on(back_of(line));
+/// queue!(w, colors, SetStyle(style))?;
+/// ```
 #[derive(Clone, Copy, PartialEq, Eq, Default, Debug)]
 pub struct ContentStyle {
     /// The colour of the text.

@@ -3,6 +3,11 @@
 use crossterm_style::{AsStyle, Attribute, Color};
 
 /// What can be styled. Each call gives what is styled with one field of its style changed.
+///
+/// ```
+/// let heading = "name       price change".bold().underlined().on_dark_blue();
+/// queue!(w, colors, PrintStyledContent(heading))?;
+/// ```
 pub trait Stylize: Sized {
     ghost use Rattle.std.specs.Prelude.{◌≡◌};
     ghost use Rattle.crossterm_style.specs.declared.types.attribute.Attribute.TheVariants as attribute;

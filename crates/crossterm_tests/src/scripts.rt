@@ -1,7 +1,8 @@
 //! Scripts from tables.
 
+use crossterm_read::read::Held;
 use crossterm_read::source::{Act, DeviceSource, Script};
-use std::alloc::{AllocError, Global};
+use std::alloc::{AllocError, Allocator, Global};
 use std::io;
 
 /// An act of a script.
@@ -41,8 +42,21 @@ pub fn acts_of(alloc: Global, parts: &[Part]) -> Result<Vec<Act>, AllocError> {
     Ok(acts)
 }
 
+/// A script of these parts.
+pub fn script_of(alloc: Global, parts: &[Part]) -> Result<Script, AllocError> {
+    Ok(Script::new(acts_of(alloc, parts)?))
+}
+
 /// A source over a script of these parts.
 pub fn source_of(alloc: Global, parts: &[Part]) -> Result<DeviceSource<Script>, AllocError> {
-    let acts = acts_of(alloc, parts)?;
-    Ok(DeviceSource::new(alloc, Script::new(acts)))
+    Ok(DeviceSource::new(alloc, script_of(alloc, parts)?))
+}
+
+/// How many events are held.
+pub fn count_of<A: Allocator>(held: Held<'_, A>) -> usize {
+    let mut count = 0usize;
+    for _ in held {
+        count = count.saturating_add(1);
+    }
+    count
 }

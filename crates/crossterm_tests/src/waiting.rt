@@ -1,6 +1,6 @@
 //! Polls with a limit of time, reads without one, and queries.
 
-use crate::scripts::{Part, source_of};
+use crate::scripts::{Part, count_of, source_of};
 use crossterm_read::read::InternalEventReader;
 use crossterm_read::source::{Answer, Device, DeviceSource, EventSource, Script, Waker};
 use crossterm_types::event::filter::EventFilter;
@@ -39,15 +39,7 @@ impl Expecting {
 }
 
 impl Device for Expecting {
-    ghost use Rattle.std.specs.Prelude.{⊤};
-
-    ghost told = { λ _ _ _. ⊤ };
-
     ghost failed = { λ s. s.failures };
-
-    ghost none_told = { λ _. tt };
-
-    ghost told_on = { λ _ _ _ _ _ _ _. tt };
 
     fn answer(&mut self, _buf: &mut [u8], limit: Option<Duration>) -> io::Result<Answer> {
         match self.limits.get(self.asked) {
@@ -192,7 +184,7 @@ static LETTER_AND_PLACE: [Part; 1] = [Part::Text(b"a\x1b[20;10R", 1, false)];
 
 /// Whether the letter alone is held.
 fn holds_the_letter(reader: &Reader<Script>) -> bool {
-    reader.held().count() == 1
+    count_of(reader.held()) == 1
 }
 
 /// Whether the cursor's place is told within these tries, and the letter stays.

@@ -3,6 +3,7 @@ use Rattle.std.specs.Prelude.{Bool, true, false}
 use Rattle.crossterm_types.specs.Seen.{Seen}
 use Rattle.crossterm_types.specs.Seen as seen
 use Rattle.crossterm_types.specs.declared.event.filter.AnyFilter.{AnyFilter}
+use Rattle.crossterm_types.specs.declared.event.filter.Classes.{Classes}
 use Rattle.crossterm_types.specs.declared.event.filter.AnyFilter.TheVariants.{Event, Cursor, Flags, Attributes}
 
 -- Events that a user brought about: all but replies to queries.
@@ -34,3 +35,17 @@ admitted Event = is_event
 admitted Cursor = is_cursor_position
 admitted Flags = is_flags_reply
 admitted Attributes = is_attributes
+
+-- Whether an event is of one of these classes.
+abbrev pub is_of : Classes → Seen → Bool
+is_of classes (seen.CursorPosition column row) = classes.cursor
+is_of classes (seen.KeyboardFlags flags) = classes.flags
+is_of classes seen.PrimaryDeviceAttributes = classes.attributes
+is_of classes _ = classes.event
+
+-- The classes that each filter by name admits.
+abbrev pub classes_of : AnyFilter → Classes
+classes_of Event = record { event = true; cursor = false; flags = false; attributes = false }
+classes_of Cursor = record { event = false; cursor = true; flags = false; attributes = false }
+classes_of Flags = record { event = false; cursor = false; flags = true; attributes = true }
+classes_of Attributes = record { event = false; cursor = false; flags = false; attributes = true }

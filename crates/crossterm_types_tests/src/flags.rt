@@ -2,6 +2,9 @@
 
 use crate::prints;
 use crossterm_types::event::{KeyEventState, KeyModifiers, KeyboardEnhancementFlags};
+use std::alloc::Global;
+use std::fmt::Debug;
+use std::format;
 
 /// Whether bits become a set and are its bits, of a flag type whose constants have the bits of `$all`.
 macro_rules! has_bits {
@@ -324,5 +327,61 @@ fn modifiers_print_their_names(rt: HostRuntime) {
     for (bits, name) in &PRINTED {
         let set = KeyModifiers::from_bits_retain(*bits);
         expect!(rt; prints(rt.alloc(), &set, name), name);
+    }
+}
+
+/// A set's bits, and what Debug shows of each type for them.
+type Shown = (u8, &'static str, &'static str, &'static str);
+
+static SHOWN: [Shown; 4] = [
+    (
+        0,
+        "KeyModifiers(0x0)",
+        "KeyEventState(0x0)",
+        "KeyboardEnhancementFlags(0x0)",
+    ),
+    (
+        3,
+        "KeyModifiers(SHIFT | CONTROL)",
+        "KeyEventState(KEYPAD | CAPS_LOCK)",
+        "KeyboardEnhancementFlags(DISAMBIGUATE_ESCAPE_CODES | REPORT_EVENT_TYPES)",
+    ),
+    (
+        65,
+        "KeyModifiers(SHIFT | 0x40)",
+        "KeyEventState(KEYPAD | 0x40)",
+        "KeyboardEnhancementFlags(DISAMBIGUATE_ESCAPE_CODES | 0x40)",
+    ),
+    (
+        192,
+        "KeyModifiers(0xc0)",
+        "KeyEventState(0xc0)",
+        "KeyboardEnhancementFlags(0xc0)",
+    ),
+];
+
+/// Whether Debug of a value shows this text.
+fn debugs<T: Debug>(alloc: Global, value: &T, text: &str) -> bool {
+    match format!(in alloc; "{value:?}") {
+        Ok(shown) => shown.as_str() == text,
+        Err(_) => false,
+    }
+}
+
+fn are_shown(alloc: Global, row: &Shown) -> bool {
+    let (bits, modifiers, state, enhancement) = *row;
+    debugs(alloc, &KeyModifiers::from_bits_retain(bits), modifiers)
+        && debugs(alloc, &KeyEventState::from_bits_retain(bits), state)
+        && debugs(
+            alloc,
+            &KeyboardEnhancementFlags::from_bits_retain(bits),
+            enhancement,
+        )
+}
+
+#[test]
+fn sets_are_shown_by_their_names(rt: HostRuntime) {
+    for row in &SHOWN {
+        expect!(rt; are_shown(rt.alloc(), row), row.1);
     }
 }

@@ -7,7 +7,7 @@
 ghost use Rattle.crossterm_read.specs.Shared.{IsPassOf};
 
 use crossterm::event::read::InternalEventReader;
-use crossterm::event::source::{DeviceSource, EventSource, PolledDevice, RawFlag};
+use crossterm::event::source::{DeviceSource, EventSource};
 use crossterm::event::timeout::{Clock, SystemClock};
 use crossterm::event::{
     DisableBracketedPaste, DisableFocusChange, DisableMouseCapture, EnableBracketedPaste,
@@ -15,11 +15,10 @@ use crossterm::event::{
     KeyboardEnhancementFlags, Pass, PopKeyboardEnhancementFlags, PushKeyboardEnhancementFlags,
 };
 use crossterm::style::ColorOutput;
-use crossterm::terminal::{ModeDevice, SttyDevice, Terminal, supports_keyboard_enhancement};
+use crossterm::terminal::{ModeDevice, Terminal, supports_keyboard_enhancement};
 use crossterm::{QueueableCommand, cursor, execute, queue};
 use std::alloc::Global;
-use std::fs::File;
-use std::io::{self, BufWriter, ErrorKind, Stdin, Write};
+use std::io::{self, BufWriter, ErrorKind, Write};
 use std::sync::Wait;
 use std::time::Duration;
 use std::{env, format};
@@ -50,12 +49,6 @@ fn leave<W: Write>(out: &mut W, has_flags: bool) -> io::Result<()> {
 fn is_quit(key: &KeyEvent) -> bool {
     key.code == KeyCode::Esc || *key == KeyEvent::new(KeyCode::Char('c'), KeyModifiers::CONTROL)
 }
-
-/// The terminal's modes, by `with_terminal`.
-type Modes = Terminal<SttyDevice<File, File>>;
-
-/// The terminal's events, held until they are read.
-type Input = InternalEventReader<DeviceSource<PolledDevice<Stdin>>>;
 
 /// A terminal, its events, and where they are shown.
 #[derive(Drop)]
@@ -149,35 +142,15 @@ impl<S: EventSource<Global>, D: ModeDevice, W: Write, C: Clock> Session<S, D, W,
     }
 }
 
-/// Opens one of the pipes of `with_terminal`.
-fn pipe(rt: &HostRuntime, folder: &str, name: &str) -> io::Result<File> {
-    let path = format!(in rt.alloc(); "{folder}/{name}")?;
-    File::options().read(true).write(true).open(rt, path)
-}
-
-/// The terminal that the program was started in.
-fn open(rt: &HostRuntime) -> io::Result<(Modes, Input)> {
+fn main(rt: HostRuntime) -> io::Result<()> {
     let alloc = rt.alloc();
-    let mut words = env::args(rt)?;
+    let mut words = env::args(&rt)?;
     let Some(folder) = words.nth(1) else {
         eprintln!(rt; "usage: terminal/with_terminal crates/events/out/events")?;
         return Err(io::Error::from(ErrorKind::InvalidInput));
     };
-    let folder = folder.as_str();
-    let flag = RawFlag::new(alloc)?;
-    let sizes = pipe(rt, folder, "sizes")?;
-    let device = PolledDevice::new(rt, alloc, rt.stdin(), flag.share()?, Some(sizes))?;
-    let modes = SttyDevice::new(pipe(rt, folder, "answer")?, pipe(rt, folder, "ask")?)?;
-    let source = DeviceSource::new(alloc, device);
-    Ok((
-        Terminal::new(modes, flag),
-        InternalEventReader::new(alloc, source),
-    ))
-}
-
-fn main(rt: HostRuntime) -> io::Result<()> {
-    let alloc = rt.alloc();
-    let (term, reader) = open(&rt)?;
+    let (device, term) = own_terminal::open(&rt, alloc, rt.stdin(), folder.as_str())?;
+    let reader = InternalEventReader::new(alloc, DeviceSource::new(alloc, device));
     let (reader, mut passes) = EventReader::new(&rt, alloc, reader, 1)?;
     let Some(pass) = passes.pop() else {
         return Ok(());

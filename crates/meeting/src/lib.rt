@@ -27,7 +27,7 @@ use std::time::Duration;
 use std::{io, thread};
 
 /// Each of two passes reads: no event goes to both.
-pub fn two_reads<S: EventSource<A>, A: Allocator, R: Wait>(
+pub fn two_reads<S: EventSource<A>, A: Allocator + Clone, R: Wait>(
     rt: &R,
     shared: &EventReader<S, A>,
     one: &mut Pass<S, A>,
@@ -44,7 +44,7 @@ pub fn two_reads<S: EventSource<A>, A: Allocator, R: Wait>(
 }
 
 // One read, with the pass handed back.
-fn reads<S: EventSource<A>, A: Allocator, R: Wait>(
+fn reads<S: EventSource<A>, A: Allocator + Clone, R: Wait>(
     rt: &R,
     shared: &EventReader<S, A>,
     mut pass: Pass<S, A>,
@@ -58,7 +58,11 @@ fn reads<S: EventSource<A>, A: Allocator, R: Wait>(
 }
 
 /// Two threads read, with a pass each: no event goes to both.
-pub fn two_threads<S: EventSource<A> + Send, A: Allocator + Send + Sync, R: Threads + Wait + Sync>(
+pub fn two_threads<
+    S: EventSource<A> + Send,
+    A: Allocator + Clone + Send + Sync,
+    R: Threads + Wait + Sync,
+>(
     rt: &R,
     shared: &EventReader<S, A>,
     one: Pass<S, A>,
@@ -95,7 +99,7 @@ pub struct Client<S: EventSource<A>, A: Allocator> {
     ghost of: { IsPassOf reader pass },
 }
 
-impl<S: EventSource<A>, A: Allocator> Client<S, A> {
+impl<S: EventSource<A>, A: Allocator + Clone> Client<S, A> {
     /// The next event within the limit, or `None`: a poll, and then a read, which is the next call of this pass.
     pub fn next_within<C: Clock, R: Wait>(
         &mut self,

@@ -10,13 +10,11 @@ mod painter;
 mod telnet;
 
 use canvas::{Canvas, enter, leave};
-use crossterm::event::source::{Device, DeviceSource, EventSource, PolledDevice, RawFlag};
-use crossterm::terminal::{SttyDevice, Terminal};
+use crossterm::event::source::{Device, DeviceSource, EventSource};
 use painter::{Painter, Wish};
 use std::alloc::Global;
-use std::fs::File;
-use std::io::{self, BufWriter, ErrorKind, Stdin, Write};
-use std::{env, format};
+use std::env;
+use std::io::{self, BufWriter, ErrorKind, Write};
 
 /// Does what the painter wants, and tells whether to go on.
 fn fulfil<W: Write>(canvas: &mut Canvas, w: &mut W, wish: Wish) -> io::Result<bool> {
@@ -57,20 +55,10 @@ fn paint<D: Device, W: Write>(alloc: Global, device: D, w: &mut W) -> io::Result
     Ok(())
 }
 
-/// Opens one of the pipes of `with_terminal`.
-fn pipe(rt: &HostRuntime, folder: &str, name: &str) -> io::Result<File> {
-    let path = format!(in rt.alloc(); "{folder}/{name}")?;
-    File::options().read(true).write(true).open(rt, path)
-}
-
 /// Paints in the terminal that the program was started in.
 fn paint_here(rt: &HostRuntime, folder: &str) -> io::Result<()> {
     let alloc = rt.alloc();
-    let flag = RawFlag::new(alloc)?;
-    let modes = SttyDevice::new(pipe(rt, folder, "answer")?, pipe(rt, folder, "ask")?)?;
-    let sizes = pipe(rt, folder, "sizes")?;
-    let device = PolledDevice::new(rt, alloc, rt.stdin(), flag.share()?, Some(sizes))?;
-    let mut term = Terminal::new(modes, flag);
+    let (device, mut term) = own_terminal::open(rt, alloc, rt.stdin(), folder)?;
     let mut w = BufWriter::new(alloc, io::writer(rt))?;
     term.enable_raw_mode()?;
     let done = match enter(&mut w) {

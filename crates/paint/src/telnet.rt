@@ -1,5 +1,5 @@
 //! A telnet client's bytes (RFC 854), whose window sizes (NAWS: RFC 1073) are resizes.
-ghost use Rattle.std.specs.Prelude.{◌≡◌, ◌≤◌, length, ⊤};
+ghost use Rattle.std.specs.Prelude.{◌≡◌, ◌≤◌, length};
 ghost use Rattle.crossterm_read.specs.Device.{CountWithin};
 
 use crossterm::event::source::{Answer, Device, Waker};
@@ -178,16 +178,9 @@ impl Wire {
 }
 
 impl<D: Device> Device for Telnet<D> {
-    // Nothing is said of what it tells.
-    ghost told = { λ _ _ _. ⊤ };
-
     ghost failed = { λ s. D.failed s.device };
 
     ghost wakes = { λ s. D.wakes s.device };
-
-    ghost none_told = { λ _. tt };
-
-    ghost told_on = { λ _ _ _ _ _ _ _. tt };
 
     fn answer(&mut self, buf: &mut [u8], limit: Option<Duration>) -> io::Result<Answer> {
         if self.late_count > 0 {

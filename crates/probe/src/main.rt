@@ -1,13 +1,15 @@
 //! A probe of crossterm: runs a script of device answers and reader calls and prints what comes of them, or writes commands.
 //!
 //! `probe play` reads lines from standard input. Acts of the device: `piece HEX`, `raw HEX`, `resize COLUMNS ROWS`, `wake`, `idle`, `fault`.
-//! Calls of the reader: `poll FILTER TRIES`, `read FILTER TRIES`, `take FILTER`. `probe say` reads commands by their names and arguments,
-//! and `colors on|off`, and writes the commands' bytes. Its code stands on `crossterm` alone, by its public calls.
+//! Calls of the reader: `poll FILTER TRIES`, `read FILTER TRIES`, `take FILTER`, `position TRIES`, `keyboard TRIES`. `probe say` reads commands by their names and arguments,
+//! and `colors on|off`, and writes the commands' bytes. `probe serve` sends its input through a socket of its own, and prints the events
+//! there. Its code stands on `crossterm` alone, by its public calls.
 #![tactic(auto)]
 
 use probe_modes::fault::Fault;
 use probe_modes::play::run_play;
 use probe_modes::say::run_say;
+use probe_modes::serve::run_serve;
 use std::process::ExitCode;
 use std::{env, io};
 
@@ -24,16 +26,18 @@ fn mode(rt: &HostRuntime) -> Result<String, Fault> {
     }
 }
 
-fn run(rt: &HostRuntime) -> Result<(), Fault> {
-    match mode(rt)?.as_str() {
-        "play" => run_play(rt.alloc(), &mut rt.reader(), &mut io::writer(rt)),
-        "say" => run_say(rt.alloc(), &mut rt.reader(), &mut io::writer(rt)),
-        _ => Err(Fault::Usage),
-    }
-}
-
 fn main(rt: HostRuntime) -> ExitCode {
-    match run(&rt) {
+    let (alloc, mut reader, mut writer) = (rt.alloc(), rt.reader(), io::writer(&rt));
+    let done = match mode(&rt) {
+        Ok(word) => match word.as_str() {
+            "play" => run_play(alloc, &mut reader, &mut writer),
+            "say" => run_say(alloc, &mut reader, &mut writer),
+            "serve" => run_serve(&rt, alloc, &mut reader, &mut writer),
+            _ => Err(Fault::Usage),
+        },
+        Err(fault) => Err(fault),
+    };
+    match done {
         Ok(()) => ExitCode::SUCCESS,
         Err(fault) => {
             let _ = eprintln!(rt; "{fault}");

@@ -11,6 +11,7 @@ use std::io;
 use std::io::ErrorKind;
 
 /// Prints at the screen's first cell.
+#[tactic(auto, using(crate::proofs::Cells::first_cell))]
 pub fn print_first<W: io::Write>(w: &mut W, colors: ColorOutput) -> io::Result<()>
     ensures ok { OnOk result (Appends (W.contents w.old) (W.contents w.new) (codes "\u{1b}[1;1Hab")) }
     ensures err { IfErr result (λ e. error_kind e ≢ ErrorKind.Other → AppendsFront (W.contents w.old) (W.contents w.new)

@@ -27,6 +27,8 @@ pub enum Fault {
     ReadFailed,
     #[error("probe: write failed")]
     WriteFailed,
+    #[error("probe: socket failed")]
+    SocketFailed,
 }
 
 impl From<AllocError> for Fault {
@@ -41,6 +43,14 @@ impl Fault {
         match error.kind() {
             io::ErrorKind::OutOfMemory => Fault::OutOfMemory,
             _ => Fault::ReadFailed,
+        }
+    }
+
+    /// Of a socket: want of memory, or that the socket failed.
+    pub fn of_socket(error: &io::Error) -> Fault {
+        match error.kind() {
+            io::ErrorKind::OutOfMemory => Fault::OutOfMemory,
+            _ => Fault::SocketFailed,
         }
     }
 

@@ -1,6 +1,6 @@
-//! The modes of the program `probe`, each a function over a reader and a writer: `play::run_play` and `say::run_say`.
+//! The modes of the program `probe`, each a function over a reader and a writer: `play::run_play`, `say::run_say` and `serve::run_serve`.
 //!
-//! They stand on `crossterm` alone, by its public calls. In `bench` stand two bodies with the macros `queue!` and `execute!`, of which is
+//! They stand on `crossterm` by its public calls, and `serve` on the sockets of `mio`. In `bench` stand two bodies with the macros `queue!` and `execute!`, of which is
 //! proved what they write.
 #![tactic(auto)]
 
@@ -10,3 +10,4 @@ pub mod fault;
 mod input;
 pub mod play;
 pub mod say;
+pub mod serve;

@@ -66,7 +66,7 @@ frame 1 -> USAGE
 count -> USAGE";
 
 const USAGE: &str =
-    "bench: usage: bench [frame] [--time] | bench make letters|utf8|keys|mouse|paste|hostile BYTES";
+    "bench: usage: bench [frame] [--time] | bench held REPLIES | bench make letters|utf8|keys|mouse|paste|hostile BYTES";
 
 /// Whether a case is as it says.
 fn holds(rt: &HostRuntime, case: &str) -> bool {

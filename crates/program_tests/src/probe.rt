@@ -4,12 +4,15 @@ mod bench;
 mod looks;
 mod numbered;
 mod say;
+mod serve;
+mod spelling;
 
 use crate::expect;
 use crate::failing::Failing;
 use probe_modes::fault::Fault;
 use probe_modes::play::run_play;
 use probe_modes::say::run_say;
+use spelling::statements;
 use std::alloc::{AllocError, Global};
 use std::io::{Read, Write};
 use std::test::Fail;
@@ -58,113 +61,118 @@ fn is_played(alloc: Global, input: &[u8], want: &[u8]) -> bool {
     is_answer(Mode::Play, alloc, input, want)
 }
 
-/// A case to a line, which is its name: an input and what comes of it, with `;` in place of each line's end. A second blank before the
-/// arrow is the input's.
-const SCRIPTS: &str = "\
-piece 1b5b41;read event 1; -> key Up 0 Press 0;
-piece 1b;piece 1b;read event 1;read event 1 -> key Esc 0 Press 0;key Esc 0 Press 0;
-piece 1b1b;read event 1;read event 1 -> key Esc 0 Press 0;fault UnexpectedEof;
-piece 1b5b3b41;read event 2;read event 2 -> key Char:41 1 Press 0;fault UnexpectedEof;
-raw 0a;read event 1 -> key Char:6a 2 Press 0;
-piece 0a;read event 1 -> key Enter 0 Press 0;
-read event 1 -> fault UnexpectedEof;
-piece 1b4f;resize 80 24;piece 41;read event 1;read event 1;read event 1 -> none;resize 80 24;key Up 0 Press 0;
-piece 61;fault;resize 80 24;wake;piece 62;read event 9;read event 9;read event 9;read event 9;poll event 1 -> key Char:61 0 Press 0;fault Other;resize 80 24;key Char:62 0 Press 0;fault UnexpectedEof;
-wake;resize 80 24;poll event 9;poll event 1 -> false;true;held resize 80 24;
-wake;resize 80 24;read event 1;read event 1;read event 1 -> none;resize 80 24;fault UnexpectedEof;
-piece 6162;take event;poll event 1;take event;poll event 1 -> none;true;key Char:61 0 Press 0;true;held key Char:62 0 Press 0;
-piece 6162;poll event 1;take event;read event 0 -> true;key Char:61 0 Press 0;none;
-piece 6162;poll event 1;take event;read event 0;read cursor 1 -> true;key Char:61 0 Press 0;none;none;held key Char:62 0 Press 0;
-piece 1b;piece 5b;piece 41;read event 1;read event 1;read event 1 -> key Esc 0 Press 0;key Char:5b 0 Press 0;key Char:41 1 Press 0;
-piece 1b5b;fault;piece 41;read event 1;read event 1;read event 1 -> none;fault Other;key Up 0 Press 0;
-piece 1b4f;wake;piece 41;read event 3 -> key Up 0 Press 0;
-piece 1b4f;wake;piece 41;poll event 3 -> false;
-piece c3;read event 2 -> fault UnexpectedEof;
-piece C389;read event 1 -> key Char:c9 1 Press 0;
-piece 1bc3a9;read event 1 -> key Char:e9 4 Press 0;
-piece c041eda080;read event 1 -> none;
-;;poll event 1;;idle;;poll event 1; -> false;fault UnexpectedEof;
-piece 1b5b3130;raw 75;read event 1;read event 1 -> none;key Char:a 0 Press 0;
-raw 1b5b3130;piece 75;read event 1;read event 1 -> none;key Enter 0 Press 0;
-piece 611b5b32303b313052;position 2 -> cursor 9 19;held key Char:61 0 Press 0;
-piece 611b5b32303b313052;position 1 -> fault Other;held key Char:61 0 Press 0;
-piece 1b5b3f3175;keyboard 1 -> flags 1;
-piece 1b5b3f31751b5b3f363263;keyboard 3 -> flags 1;
-piece 1b5b3f363263;keyboard 3 -> unsupported;
-piece 1b5b32303b313052;piece 1b5b313b3152;position 2;position 1 -> cursor 9 19;cursor 0 0;
-piece 1b5b32303b313052;piece 1b5b313b3152;read event 2;position 0;position 0 -> none;cursor 9 19;cursor 0 0;
-piece 61;wake;piece 1b5b32303b313052;position 9;position 9 -> fault Other;cursor 9 19;held key Char:61 0 Press 0;
-fault;piece 1b5b3f3175;keyboard 9;keyboard 9 -> fault Other;flags 1;
-piece 1b5b3f3175;fault;piece 1b5b3f363263;keyboard 9;take attributes -> flags 1;none;
-wake;piece 1b5b3f3175;keyboard 1;keyboard 1 -> fault Other;flags 1;
-piece 611b5b32303b31305262;read cursor 2;read event 1;read event 1 -> cursor 9 19;key Char:61 0 Press 0;key Char:62 0 Press 0;
-piece 611b5b32303b31305262;read cursor 1;read event 1;read event 1 -> none;key Char:61 0 Press 0;none;held cursor 9 19;
-piece 6162631b5b32303b313052;read flags 4;poll cursor 0;take cursor;take event;take event;take event -> none;true;cursor 9 19;key Char:61 0 Press 0;key Char:62 0 Press 0;key Char:63 0 Press 0;
-piece 61;fault;piece 621b5b32303b313052;read cursor 9;read cursor 9;read event 0;read event 0 -> fault Other;cursor 9 19;key Char:61 0 Press 0;key Char:62 0 Press 0;
-piece 1b5b3f75;piece 63;read attributes 2 -> attributes;
-piece 1b5b3f313575;read flags 1 -> flags 1;
-piece 1b5b3f7575;read flags 1 -> flags 5;
-piece 1b5b303b3552;read cursor 1 -> none;
-piece 1b5b32303b313052;read cursor 1 -> cursor 9 19;
-piece 1b5b2b337e;read event 1;read event 1 -> key Char:33 0 Press 0;key Char:7e 0 Press 0;
-piece 1b5b313b313bc341;read event 1 -> none;
-piece 1b5b3c303b32303b31304d;read event 1 -> mouse Down:Left 19 9 0;
-piece 1b5b3c303b32303b31306d;read event 1 -> mouse Up:Left 19 9 0;
-piece 1b5b3c303b303b31304d;read event 1 -> none;
-piece 1b5b3c303b313b313bff4d;read event 1 -> none;
-piece 1b5b4d202121;read event 1 -> mouse Down:Left 0 0 0;
-piece 1b5b4d202021;read event 1 -> none;
-piece 1b5b33323b33303b34304d;read event 1 -> mouse Down:Left 29 39 0;
-piece 1b5b33323b303b314d;read event 1 -> none;
-piece 1b5b3c33353b353b364d;read event 1 -> mouse Moved 4 5 0;
-piece 1b5b3c37303b313b314d;read event 1 -> mouse ScrollLeft 0 0 1;
-piece 1b5b3c3132383b313b314d;read event 1 -> none;
-piece 1b5b3c303b323b334d;read event 1 -> mouse Down:Left 1 2 0;
-piece 1b5b3c33323b323b334d;read event 1 -> mouse Drag:Left 1 2 0;
-piece 1b5b3c313b323b334d;read event 1 -> mouse Down:Middle 1 2 0;
-piece 1b5b3c33333b323b334d;read event 1 -> mouse Drag:Middle 1 2 0;
-piece 1b5b3c323b323b334d;read event 1 -> mouse Down:Right 1 2 0;
-piece 1b5b3c33343b323b334d;read event 1 -> mouse Drag:Right 1 2 0;
-piece 1b5b3c333b323b334d;read event 1 -> mouse Up:Left 1 2 0;
-piece 1b5b3c33353b323b334d;read event 1 -> mouse Moved 1 2 0;
-piece 1b5b3c36343b323b334d;read event 1 -> mouse ScrollUp 1 2 0;
-piece 1b5b3c39363b323b334d;read event 1 -> mouse Moved 1 2 0;
-piece 1b5b3c36353b323b334d;read event 1 -> mouse ScrollDown 1 2 0;
-piece 1b5b3c39373b323b334d;read event 1 -> mouse Moved 1 2 0;
-piece 1b5b3c36363b323b334d;read event 1 -> mouse ScrollLeft 1 2 0;
-piece 1b5b3c39383b323b334d;read event 1 -> none;
-piece 1b5b3c36373b323b334d;read event 1 -> mouse ScrollRight 1 2 0;
-piece 1b5b3c39393b323b334d;read event 1 -> none;
-piece 1b5b3c3132383b323b334d;read event 1 -> none;
-piece 1b5b3c3136303b323b334d;read event 1 -> none;
-piece 1b5b3c3139353b323b334d;read event 1 -> none;
-piece 1b5b3c3232373b323b334d;read event 1 -> none;
-piece 1b5b3c343b313b314d;read event 1 -> mouse Down:Left 0 0 1;
-piece 1b5b3c383b313b314d;read event 1 -> mouse Down:Left 0 0 4;
-piece 1b5b3c31363b313b314d;read event 1 -> mouse Down:Left 0 0 2;
-piece 1b5b3c32383b313b314d;read event 1 -> mouse Down:Left 0 0 7;
-piece 1b5b3c313b313b316d;read event 1 -> mouse Up:Middle 0 0 0;
-piece 1b5b3c36343b313b316d;read event 1 -> mouse ScrollUp 0 0 0;
-piece 1b5b3c33323b313b316d;read event 1 -> mouse Drag:Left 0 0 0;
-piece 1b5b3c3235363b313b314d;read event 1 -> none;
-piece 1b5b3c303b36353533363b314d;read event 1 -> none;
-piece 1b5b3c303b36353533353b36353533354d;read event 1 -> mouse Down:Left 65534 65534 0;
-piece 1b5b4d1f2121;read event 1 -> none;
-piece 1b5b4d202120;read event 1 -> none;
-piece 1b5b4d60ffff61;read event 1;read event 1 -> mouse ScrollUp 222 222 0;key Char:61 0 Press 0;
-piece 1b5b33313b313b314d;read event 1 -> none;
-piece 1b5b314d;read event 1 -> none;
-piece 1b5b3230307e68691b5b3230317e;read event 1 -> paste 6869;
-piece 1b5b3230307eff1b5b3230317e;read event 1 -> paste efbfbd;
-piece 1b5b3230307e68691b5b323031;read event 1 -> none;
-piece 1b5b3230307e1b5b3230317e;read event 1 -> paste ;
-piece 1b5b3230307ee28261f09f1b5b3230317e;read event 1 -> paste efbfbd61efbfbd;
-piece 1b5b303230307e61;read event 1 -> key Char:61 0 Press 0;
-piece 1b5b3230303b317e61;read event 1 -> key Char:61 0 Press 0;
-piece 1b5b3230307e;piece 1b5b323031;piece 78;piece 1b5b3230317e;read event 9 -> paste 1b5b32303178;
-piece 1b5b3230307e61;piece 1b;resize 80 24;piece 5b3230317e62;read event 9;read event 9;read event 9 -> resize 80 24;paste 61;key Char:62 0 Press 0;
-piece 1b5b313b313bc3a941;read event 1 -> key Up 0 Press 0;
-;frobnicate -> probe: line 2: unknown word
+/// A case to a line, which is its name: acts and calls, and the lines that come of them. Bytes are spelled as in `spelling`.
+pub const SCRIPTS: &str = "\
+piece ^[[A / read event 1 -> key Up 0 Press 0
+piece ^[ / piece ^[ / read event 1 / read event 1 -> key Esc 0 Press 0 / key Esc 0 Press 0
+piece ^[^[ / read event 1 / read event 1 -> key Esc 0 Press 0 / fault UnexpectedEof
+piece ^[[;A / read event 2 / read event 2 -> key Char:41 1 Press 0 / fault UnexpectedEof
+raw {0a} / read event 1 -> key Char:6a 2 Press 0
+piece {0a} / read event 1 -> key Enter 0 Press 0
+read event 1 -> fault UnexpectedEof
+piece ^[O / resize 80 24 / piece A / read event 1 / read event 1 / read event 1 -> none / resize 80 24 / key Up 0 Press 0
+piece a / fault / resize 80 24 / wake / piece b / read event 9 / read event 9 / read event 9 / read event 9 / poll event 1 -> key Char:61 0 Press 0 / fault Other / resize 80 24 / key Char:62 0 Press 0 / fault UnexpectedEof
+wake / resize 80 24 / poll event 9 / poll event 1 -> false / true / held resize 80 24
+wake / resize 80 24 / read event 1 / read event 1 / read event 1 -> none / resize 80 24 / fault UnexpectedEof
+piece ab / take event / poll event 1 / take event / poll event 1 -> none / true / key Char:61 0 Press 0 / true / held key Char:62 0 Press 0
+piece ab / poll event 1 / take event / read event 0 -> true / key Char:61 0 Press 0 / none
+piece ab / poll event 1 / take event / read event 0 / read cursor 1 -> true / key Char:61 0 Press 0 / none / none / held key Char:62 0 Press 0
+piece ^[ / piece [ / piece A / read event 1 / read event 1 / read event 1 -> key Esc 0 Press 0 / key Char:5b 0 Press 0 / key Char:41 1 Press 0
+piece ^[[ / fault / piece A / read event 1 / read event 1 / read event 1 -> none / fault Other / key Up 0 Press 0
+piece ^[O / wake / piece A / read event 3 -> key Up 0 Press 0
+piece ^[O / wake / piece A / poll event 3 -> false
+piece {c3} / read event 2 -> fault UnexpectedEof
+piece {c3 89} / read event 1 -> key Char:c9 1 Press 0
+piece ^[{c3 a9} / read event 1 -> key Char:e9 4 Press 0
+piece {c0}A{ed a0 80} / read event 1 -> none
+ /  / poll event 1 /  / idle /  / poll event 1 -> false / fault UnexpectedEof
+piece ^[[10 / raw u / read event 1 / read event 1 -> none / key Char:a 0 Press 0
+raw ^[[10 / piece u / read event 1 / read event 1 -> none / key Enter 0 Press 0
+piece a^[[20;10R / position 2 -> cursor 9 19 / held key Char:61 0 Press 0
+piece a^[[20;10R / position 1 -> fault Other / held key Char:61 0 Press 0
+piece ^[[?1u / keyboard 1 -> flags 1
+piece ^[[?1u^[[?62c / keyboard 3 -> flags 1
+piece ^[[?62c / keyboard 3 -> unsupported
+piece ^[[20;10R / piece ^[[1;1R / position 2 / position 1 -> cursor 9 19 / cursor 0 0
+piece ^[[20;10R / piece ^[[1;1R / read event 2 / position 0 / position 0 -> none / cursor 9 19 / cursor 0 0
+piece a / wake / piece ^[[20;10R / position 9 / position 9 -> fault Other / cursor 9 19 / held key Char:61 0 Press 0
+fault / piece ^[[?1u / keyboard 9 / keyboard 9 -> fault Other / flags 1
+piece ^[[?1u / fault / piece ^[[?62c / keyboard 9 / take attributes -> flags 1 / none
+wake / piece ^[[?1u / keyboard 1 / keyboard 1 -> fault Other / flags 1
+piece a^[[20;10Rb / read cursor 2 / read event 1 / read event 1 -> cursor 9 19 / key Char:61 0 Press 0 / key Char:62 0 Press 0
+piece a^[[20;10Rb / read cursor 1 / read event 1 / read event 1 -> none / key Char:61 0 Press 0 / none / held cursor 9 19
+piece abc^[[20;10R / read flags 4 / poll cursor 0 / take cursor / take event / take event / take event -> none / true / cursor 9 19 / key Char:61 0 Press 0 / key Char:62 0 Press 0 / key Char:63 0 Press 0
+piece a / fault / piece b^[[20;10R / read cursor 9 / read cursor 9 / read event 0 / read event 0 -> fault Other / cursor 9 19 / key Char:61 0 Press 0 / key Char:62 0 Press 0
+piece ^[[?u / piece c / read attributes 2 -> attributes
+piece ^[[?15u / read flags 1 -> flags 1
+piece ^[[?uu / read flags 1 -> flags 5
+piece ^[[0;5R / read cursor 1 -> none
+piece ^[[20;10R / read cursor 1 -> cursor 9 19
+piece ^[[+3~ / read event 1 / read event 1 -> key Char:33 0 Press 0 / key Char:7e 0 Press 0
+piece ^[[1;1;{c3}A / read event 1 -> none
+piece ^[[<0;20;10M / read event 1 -> mouse Down:Left 19 9 0
+piece ^[[<0;20;10m / read event 1 -> mouse Up:Left 19 9 0
+piece ^[[<0;0;10M / read event 1 -> none
+piece ^[[<0;1;1;{ff}M / read event 1 -> none
+piece ^[[M !! / read event 1 -> mouse Down:Left 0 0 0
+piece ^[[M  ! / read event 1 -> none
+piece ^[[32;30;40M / read event 1 -> mouse Down:Left 29 39 0
+piece ^[[32;0;1M / read event 1 -> none
+piece ^[[<35;5;6M / read event 1 -> mouse Moved 4 5 0
+piece ^[[<70;1;1M / read event 1 -> mouse ScrollLeft 0 0 1
+piece ^[[<128;1;1M / read event 1 -> none
+piece ^[[<0;2;3M / read event 1 -> mouse Down:Left 1 2 0
+piece ^[[<32;2;3M / read event 1 -> mouse Drag:Left 1 2 0
+piece ^[[<1;2;3M / read event 1 -> mouse Down:Middle 1 2 0
+piece ^[[<33;2;3M / read event 1 -> mouse Drag:Middle 1 2 0
+piece ^[[<2;2;3M / read event 1 -> mouse Down:Right 1 2 0
+piece ^[[<34;2;3M / read event 1 -> mouse Drag:Right 1 2 0
+piece ^[[<3;2;3M / read event 1 -> mouse Up:Left 1 2 0
+piece ^[[<35;2;3M / read event 1 -> mouse Moved 1 2 0
+piece ^[[<64;2;3M / read event 1 -> mouse ScrollUp 1 2 0
+piece ^[[<96;2;3M / read event 1 -> mouse Moved 1 2 0
+piece ^[[<65;2;3M / read event 1 -> mouse ScrollDown 1 2 0
+piece ^[[<97;2;3M / read event 1 -> mouse Moved 1 2 0
+piece ^[[<66;2;3M / read event 1 -> mouse ScrollLeft 1 2 0
+piece ^[[<98;2;3M / read event 1 -> none
+piece ^[[<67;2;3M / read event 1 -> mouse ScrollRight 1 2 0
+piece ^[[<99;2;3M / read event 1 -> none
+piece ^[[<128;2;3M / read event 1 -> none
+piece ^[[<160;2;3M / read event 1 -> none
+piece ^[[<195;2;3M / read event 1 -> none
+piece ^[[<227;2;3M / read event 1 -> none
+piece ^[[<4;1;1M / read event 1 -> mouse Down:Left 0 0 1
+piece ^[[<8;1;1M / read event 1 -> mouse Down:Left 0 0 4
+piece ^[[<16;1;1M / read event 1 -> mouse Down:Left 0 0 2
+piece ^[[<28;1;1M / read event 1 -> mouse Down:Left 0 0 7
+piece ^[[<1;1;1m / read event 1 -> mouse Up:Middle 0 0 0
+piece ^[[<64;1;1m / read event 1 -> mouse ScrollUp 0 0 0
+piece ^[[<32;1;1m / read event 1 -> mouse Drag:Left 0 0 0
+piece ^[[<256;1;1M / read event 1 -> none
+piece ^[[<0;65536;1M / read event 1 -> none
+piece ^[[<0;65535;65535M / read event 1 -> mouse Down:Left 65534 65534 0
+piece ^[[M{1f}!! / read event 1 -> none
+piece ^[[M !  / read event 1 -> none
+piece ^[[M`{ff ff}a / read event 1 / read event 1 -> mouse ScrollUp 222 222 0 / key Char:61 0 Press 0
+piece ^[[31;1;1M / read event 1 -> none
+piece ^[[1M / read event 1 -> none
+piece ^[[200~hi^[[201~ / read event 1 -> paste 6869
+piece ^[[200~{ff}^[[201~ / read event 1 -> paste efbfbd
+piece ^[[200~hi^[[201 / read event 1 -> none
+piece ^[[200~^[[201~ / read event 1 -> paste 
+piece ^[[200~{e2 82}a{f0 9f}^[[201~ / read event 1 -> paste efbfbd61efbfbd
+piece ^[[0200~a / read event 1 -> key Char:61 0 Press 0
+piece ^[[200;1~a / read event 1 -> key Char:61 0 Press 0
+piece ^[[200~ / piece ^[[201 / piece x / piece ^[[201~ / read event 9 -> paste 1b5b32303178
+piece ^[[200~a / piece ^[ / resize 80 24 / piece [201~b / read event 9 / read event 9 / read event 9 -> resize 80 24 / paste 61 / key Char:62 0 Press 0
+piece ^[[1;1;{c3 a9}A / read event 1 -> key Up 0 Press 0";
+
+/// How many scripts there are.
+const CASES: usize = 103;
+
+/// Lines that are refused, and what is said of them. A second blank before the arrow is the line's.
+const FAULTY: &str = "\
+wake /  / frobnicate -> probe: line 3: unknown word
  piece 61 -> probe: line 1: unknown word
 position -> probe: line 1: bad argument
 position x -> probe: line 1: bad argument
@@ -196,32 +204,54 @@ read event 1  -> probe: line 1: bad argument
 read event  -> probe: line 1: bad argument
 poll  1 -> probe: line 1: bad argument";
 
-/// How many scripts there are.
-const CASES: usize = 134;
+/// How many there are.
+const FAULTS_OF_LINES: usize = 31;
 
-/// Whether this comes of an input, with `;` in place of each line's end.
-fn is_answer_unfolded(alloc: Global, input: &str, want: &str) -> Result<bool, AllocError> {
-    let input = input.replace(alloc, ';', "\n")?;
-    let want = want.replace(alloc, ';', "\n")?;
+/// Whether these lines come of these acts and calls.
+fn is_script(alloc: Global, script: &str, want: &str) -> Result<bool, AllocError> {
+    let input = statements(alloc, script)?;
+    let want = want.replace(alloc, " / ", "\n")?;
+    let output = answer(Mode::Play, alloc, input.as_bytes())?;
+    Ok(output.as_slice().strip_suffix(b"\n") == Some(want.as_bytes()))
+}
+
+/// Whether a line is refused so.
+fn is_refused(alloc: Global, lines: &str, want: &str) -> Result<bool, AllocError> {
+    let input = lines.replace(alloc, " / ", "\n")?;
     Ok(is_played(alloc, input.as_bytes(), want.as_bytes()))
 }
 
-/// Whether a case is as it says.
-fn holds(alloc: Global, case: &str) -> bool {
-    match case.split_once(" -> ") {
-        Some((input, want)) => is_answer_unfolded(alloc, input, want).unwrap_or(false),
-        None => false,
-    }
+/// Whether a case is as it says: lines of acts and calls, or, where they are faulty, a line that is refused.
+fn holds(alloc: Global, case: &str, is_faulty: bool) -> bool {
+    let Some((input, want)) = case.split_once(" -> ") else {
+        return false;
+    };
+    let holds = if is_faulty {
+        is_refused(alloc, input, want)
+    } else {
+        is_script(alloc, input, want)
+    };
+    holds.unwrap_or(false)
 }
 
 #[test]
 fn scripts_give_their_lines(rt: HostRuntime) {
     let mut count = 0usize;
     for case in SCRIPTS.split('\n') {
-        expect(&rt, holds(rt.alloc(), case), case);
+        expect(&rt, holds(rt.alloc(), case, false), case);
         count = count.saturating_add(1);
     }
     expect(&rt, count == CASES, "a case is lost");
+}
+
+#[test]
+fn lines_that_say_nothing_are_named(rt: HostRuntime) {
+    let mut count = 0usize;
+    for case in FAULTY.split('\n') {
+        expect(&rt, holds(rt.alloc(), case, true), case);
+        count = count.saturating_add(1);
+    }
+    expect(&rt, count == FAULTS_OF_LINES, "a case is lost");
 }
 
 /// Parts of a text, each so many times.
@@ -338,7 +368,7 @@ fn failing_readers_and_writers_are_named(rt: HostRuntime) {
     }
 }
 
-const FAULTS: [(Fault, &str); 8] = [
+const FAULTS: [(Fault, &str); 9] = [
     (Fault::Usage, "probe: usage: probe play|say|serve"),
     (Fault::UnknownWord(3), "probe: line 3: unknown word"),
     (Fault::BadArgument(1), "probe: line 1: bad argument"),
@@ -347,6 +377,7 @@ const FAULTS: [(Fault, &str); 8] = [
     (Fault::OutOfMemory, "probe: out of memory"),
     (Fault::ReadFailed, "probe: read failed"),
     (Fault::WriteFailed, "probe: write failed"),
+    (Fault::SocketFailed, "probe: socket failed"),
 ];
 
 /// Whether a fault is told by this line.

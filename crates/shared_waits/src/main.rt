@@ -50,16 +50,6 @@ struct Sleeper<'a, R> {
 }
 
 impl<R: Wait> Device for Sleeper<'_, R> {
-    ghost use Rattle.std.specs.Prelude.{⊤};
-
-    ghost told = { λ _ _ _. ⊤ };
-
-    ghost failed = { λ _. 0 };
-
-    ghost none_told = { λ _. tt };
-
-    ghost told_on = { λ _ _ _ _ _ _ _. tt };
-
     fn answer(&mut self, buf: &mut [u8], _limit: Option<Duration>) -> io::Result<Answer> {
         if self.questions == 0 {
             self.questions = 1;

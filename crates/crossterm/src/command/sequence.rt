@@ -1,9 +1,8 @@
 //! Control sequences with numbers, gathered and written by one call.
 ghost use Rattle.std.specs.Prelude.{◌++◌, ◌≤◌, OnOk, length, codes};
-ghost use Rattle.std.specs.Fmt.{WritesInCalls, decimal};
+ghost use Rattle.std.specs.Fmt.{decimal};
 
 use arrayvec::ArrayString;
-use crossterm_command::write_once;
 use itoa::Buffer;
 use std::fmt;
 
@@ -16,14 +15,14 @@ pub(crate) fn write_number<W: fmt::Write>(
 ) -> fmt::Result
     requires beginning { length beginning.now ≤ 4 }
     requires end { length end.now ≤ 4 }
-    ensures { OnOk result (WritesInCalls W.write_str_gives f.old (beginning.now ++ decimal number ++ end.now) f.new) }
+    ensures { OnOk result (W.write_str_gives f.old (beginning.now ++ decimal number ++ end.now) f.new) }
 {
     let mut digits = Buffer::new();
     let mut text = ArrayString::<32>::new();
     text.push_str(beginning);
     text.push_str(digits.format(number));
     text.push_str(end);
-    write_once(f, text.as_str())
+    f.write_str(text.as_str())
 }
 
 /// Writes two numbers, with a semicolon between, in the same way.
@@ -35,7 +34,7 @@ pub(crate) fn write_numbers<W: fmt::Write>(
 ) -> fmt::Result
     requires beginning { length beginning.now ≤ 4 }
     requires end { length end.now ≤ 4 }
-    ensures { OnOk result (WritesInCalls W.write_str_gives f.old
+    ensures { OnOk result (W.write_str_gives f.old
         (beginning.now ++ (decimal numbers.0 ++ (codes ";" ++ decimal numbers.1)) ++ end.now) f.new) }
 {
     let mut digits = Buffer::new();
@@ -45,5 +44,5 @@ pub(crate) fn write_numbers<W: fmt::Write>(
     text.push_str(";");
     text.push_str(digits.format(numbers.1));
     text.push_str(end);
-    write_once(f, text.as_str())
+    f.write_str(text.as_str())
 }

@@ -4,7 +4,7 @@ ghost use Rattle.crossterm_command.specs.Controls.{control, reset, set};
 ghost use Rattle.crossterm_command.specs.Tokens.{text_of};
 ghost use Rattle.crossterm.specs.Sequences.{disable_mouse, enable_mouse, push_flags};
 
-use crate::command::{Command, write_number, write_once};
+use crate::command::{Command, write_number};
 use crate::csi;
 use crate::style::ColorOutput;
 use crossterm_types::event::KeyboardEnhancementFlags;
@@ -19,16 +19,13 @@ impl Command for EnableMouseCapture {
     ghost text = { λ _ _. Some (text_of enable_mouse) };
 
     fn write_ansi<W: fmt::Write>(&self, f: &mut W, _colors: ColorOutput) -> fmt::Result {
-        write_once(
-            f,
-            concat!(
-                "\x1b[?1000h",
-                "\x1b[?1002h",
-                "\x1b[?1003h",
-                "\x1b[?1015h",
-                "\x1b[?1006h",
-            ),
-        )
+        f.write_str(concat!(
+            "\x1b[?1000h",
+            "\x1b[?1002h",
+            "\x1b[?1003h",
+            "\x1b[?1015h",
+            "\x1b[?1006h",
+        ))
     }
 }
 
@@ -40,16 +37,13 @@ impl Command for DisableMouseCapture {
     ghost text = { λ _ _. Some (text_of disable_mouse) };
 
     fn write_ansi<W: fmt::Write>(&self, f: &mut W, _colors: ColorOutput) -> fmt::Result {
-        write_once(
-            f,
-            concat!(
-                "\x1b[?1006l",
-                "\x1b[?1015l",
-                "\x1b[?1003l",
-                "\x1b[?1002l",
-                "\x1b[?1000l",
-            ),
-        )
+        f.write_str(concat!(
+            "\x1b[?1006l",
+            "\x1b[?1015l",
+            "\x1b[?1003l",
+            "\x1b[?1002l",
+            "\x1b[?1000l",
+        ))
     }
 }
 
@@ -61,7 +55,7 @@ impl Command for EnableFocusChange {
     ghost text = { λ _ _. Some (text_of (set "1004")) };
 
     fn write_ansi<W: fmt::Write>(&self, f: &mut W, _colors: ColorOutput) -> fmt::Result {
-        write_once(f, csi!("?1004h"))
+        f.write_str(csi!("?1004h"))
     }
 }
 
@@ -73,7 +67,7 @@ impl Command for DisableFocusChange {
     ghost text = { λ _ _. Some (text_of (reset "1004")) };
 
     fn write_ansi<W: fmt::Write>(&self, f: &mut W, _colors: ColorOutput) -> fmt::Result {
-        write_once(f, csi!("?1004l"))
+        f.write_str(csi!("?1004l"))
     }
 }
 
@@ -85,7 +79,7 @@ impl Command for EnableBracketedPaste {
     ghost text = { λ _ _. Some (text_of (set "2004")) };
 
     fn write_ansi<W: fmt::Write>(&self, f: &mut W, _colors: ColorOutput) -> fmt::Result {
-        write_once(f, csi!("?2004h"))
+        f.write_str(csi!("?2004h"))
     }
 }
 
@@ -97,7 +91,7 @@ impl Command for DisableBracketedPaste {
     ghost text = { λ _ _. Some (text_of (reset "2004")) };
 
     fn write_ansi<W: fmt::Write>(&self, f: &mut W, _colors: ColorOutput) -> fmt::Result {
-        write_once(f, csi!("?2004l"))
+        f.write_str(csi!("?2004l"))
     }
 }
 
@@ -121,6 +115,6 @@ impl Command for PopKeyboardEnhancementFlags {
     ghost text = { λ _ _. Some (text_of (control (codes "<1") "u")) };
 
     fn write_ansi<W: fmt::Write>(&self, f: &mut W, _colors: ColorOutput) -> fmt::Result {
-        write_once(f, csi!("<1u"))
+        f.write_str(csi!("<1u"))
     }
 }

@@ -1,12 +1,20 @@
 //! The events that are held until they are taken.
-ghost use Rattle.std.specs.Prelude.{◌≡◌, ◌+◌, ◌-◌, ◌<◌, ◌≤◌, IfOk, IfErr, List, [], ◌∷◌, length, map, position, vec_capacity, vec_len};
+ghost use Rattle.std.specs.Prelude.{◌≡◌, ◌+◌, ◌-◌, ◌<◌, ◌≤◌, IfOk, IfErr, List, [], ◌∷◌, length, map, is_some};
 ghost use Rattle.std.specs.Iterator.{YieldsFirstBy, item_count};
 ghost use Rattle.std.specs.Option.{option_map};
 ghost use Rattle.crossterm_types.specs.Seen.{Seen, seen};
 ghost use Rattle.crossterm_read.specs.Answers.{Gave};
+ghost use Rattle.crossterm_read.specs.Queues.{AreJoined, AreKept, behind, joined, member_kept, queues_of};
 ghost use Rattle.crossterm_read.specs.Shelf.{Arrives, Holding, kept};
 ghost use Rattle.crossterm_read.specs.Steps.{TakeSays, first_admitted};
 
+mod kind;
+mod queues;
+#[cfg(test)]
+mod tests;
+
+use self::kind::Places;
+use self::queues::{ALL, Member, Queues};
 use crossterm_types::event::InternalEvent;
 use crossterm_types::event::filter::Filter;
 use std::alloc::{AllocError, Allocator, Global};
@@ -15,13 +23,16 @@ use std::marker::Model;
 /// The events that a reader holds, in the order of their arrival.
 #[derive(Drop)]
 pub struct Held<'a, A: Allocator = Global> {
-    rest: &'a [(InternalEvent<A>, u64)],
+    queues: &'a Option<Queues<A>>,
+    at: Places,
 }
 
 impl<'a, A: Allocator> Model for Held<'a, A> {
     ghost Value = { List Seen };
 
-    ghost view = { λ h. map (λ e. seen e.0) h.rest.now };
+    ghost view = { λ h. map (λ m. seen m.event) (joined (behind (queues_of h.queues.now) h.at)) };
+
+    ghost invariant = { λ h. AreJoined (behind (queues_of h.queues.now) h.at) };
 }
 
 impl<'a, A: Allocator> Iterator for Held<'a, A> {
@@ -32,30 +43,63 @@ impl<'a, A: Allocator> Iterator for Held<'a, A> {
     ghost remaining = { item_count (λ rest. rest) };
 
     fn next(&mut self) -> Option<&'a InternalEvent<A>> {
-        let (first, rest) = self.rest.split_first()?;
-        self.rest = rest;
-        Some(&first.0)
+        match self.queues {
+            Some(queues) => {
+                let front = queues.earliest(ALL, self.at)?;
+                self.at = self.at.after(front.kind);
+                Some(&front.member.event)
+            }
+            None => None,
+        }
     }
 }
 
-// The place of the first one that is admitted.
-fn first_of<F: Filter, A: Allocator>(held: &[(InternalEvent<A>, u64)], filter: &F) -> Option<usize>
-    ensures { result ≡ position (λ h. F.admits filter.now (seen h.0)) held.now }
-{
-    held.iter().position(|h| filter.eval(&h.0))
-}
-
-// The held events with their arrival numbers, in the order of arrival, and the number of the next one.
+// The held events, each with its arrival number, in queues by kind, and the arrival number of the next one.
 #[derive(Drop)]
 pub(crate) struct HeldEvents<A: Allocator> {
-    events: Vec<(InternalEvent<A>, u64), A>,
+    alloc: A,
+    // They are made with the first room.
+    queues: Option<Queues<A>>,
+    // How many are held, and how many find room in each queue.
+    len: usize,
+    limit: usize,
+    next_order: u64,
     arrivals: u64,
 }
 
 impl<A: Allocator> Model for HeldEvents<A> {
     ghost Value = { Holding };
 
-    ghost view = { λ h. record { shelf = record { held = map kept h.events.items; arrivals = h.arrivals }; room = vec_capacity h.events - vec_len h.events } };
+    ghost view = { λ h. record { shelf = record { held = map member_kept (joined (queues_of h.queues)); arrivals = h.arrivals }; room = h.limit - h.len } };
+
+    ghost invariant = { λ h. AreKept h.queues h.len h.limit h.next_order };
+}
+
+impl<A: Allocator + Clone> HeldEvents<A> {
+    // Makes room for one event, of whichever kind.
+    pub(crate) fn reserve(&mut self) -> Result<(), AllocError>
+        ensures shelf { self.new.shelf ≡ self.old.shelf }
+        ensures room { self.old.room ≤ self.new.room }
+        ensures ok { IfOk result (λ _. 0 < self.new.room) }
+        ensures err { IfErr result (λ _. (self.new ≡ self.old) × (self.old.room ≡ 0)) }
+    {
+        if self.len < self.limit {
+            return Ok(());
+        }
+        let more = self.len.saturating_mul(2).max(3);
+        match &mut self.queues {
+            Some(queues) => match queues.reserve_beyond(more) {
+                Ok(limit) => self.limit = limit,
+                Err(error) => return Err(error),
+            },
+            None => {
+                let mut queues = Queues::new(&self.alloc)?;
+                self.limit = queues.reserve_beyond(more)?;
+                self.queues = Some(queues);
+            }
+        }
+        Ok(())
+    }
 }
 
 impl<A: Allocator> HeldEvents<A> {
@@ -64,19 +108,13 @@ impl<A: Allocator> HeldEvents<A> {
         ensures { result ≡ record { shelf = record { held = []; arrivals = 0 }; room = 0 } }
     {
         HeldEvents {
-            events: Vec::new(alloc),
+            alloc,
+            queues: None,
+            len: 0,
+            limit: 0,
+            next_order: 0,
             arrivals: 0,
         }
-    }
-
-    // Makes room for one event.
-    pub(crate) fn reserve(&mut self) -> Result<(), AllocError>
-        ensures shelf { self.new.shelf ≡ self.old.shelf }
-        ensures room { self.old.room ≤ self.new.room }
-        ensures ok { IfOk result (λ _. 0 < self.new.room) }
-        ensures err { IfErr result (λ _. (self.new ≡ self.old) × (self.old.room ≡ 0)) }
-    {
-        self.events.reserve(1)
     }
 
     // The event joins the others at their end. It takes room that is there.
@@ -85,15 +123,30 @@ impl<A: Allocator> HeldEvents<A> {
         ensures shelf { Arrives self.old.shelf (Gave (seen event) ∷ []) self.new.shelf }
         ensures room { self.new.room + 1 ≡ self.old.room }
     {
-        self.events.push_reserved((event, self.arrivals));
-        self.arrivals = self.arrivals.saturating_add(1);
+        match &mut self.queues {
+            Some(queues) => {
+                let order = queues.order_from(self.next_order);
+                queues.push_reserved(Member {
+                    event,
+                    arrival: self.arrivals,
+                    order,
+                });
+                self.next_order = order + 1;
+                self.len += 1;
+                self.arrivals = self.arrivals.saturating_add(1);
+            }
+            None => unreachable!(),
+        }
     }
 
-    // The place of the first event that is admitted.
-    pub(crate) fn first<F: Filter>(&self, filter: &F) -> Option<usize>
-        ensures { result ≡ first_admitted (F.admits filter.now) self.now.shelf.held }
+    // Whether an event is held that is admitted.
+    pub(crate) fn holds<F: Filter>(&self, filter: &F) -> bool
+        ensures { result ≡ is_some (first_admitted (F.admits filter.now) self.now.shelf.held) }
     {
-        first_of(&self.events, filter)
+        match &self.queues {
+            Some(queues) => queues.place(filter).is_some(),
+            None => false,
+        }
     }
 
     // Takes the first event that is admitted, with its number. Its room stays.
@@ -101,8 +154,14 @@ impl<A: Allocator> HeldEvents<A> {
         ensures step { TakeSays (F.admits filter.now) self.old.shelf self.new.shelf (option_map kept result) }
         ensures room { length self.new.shelf.held + self.new.room ≡ length self.old.shelf.held + self.old.room }
     {
-        match self.first(filter) {
-            Some(at) => Some(self.events.remove(at)),
+        match &mut self.queues {
+            Some(queues) => match queues.take(filter) {
+                Some(member) => {
+                    self.len -= 1;
+                    Some((member.event, member.arrival))
+                }
+                None => None,
+            },
             None => None,
         }
     }
@@ -118,13 +177,9 @@ impl<A: Allocator> HeldEvents<A> {
     pub(crate) fn iter(&self) -> Held<'_, A>
         ensures { result ≡ map (λ h. h.0) self.now.shelf.held }
     {
-        Held { rest: &self.events }
-    }
-
-    // The events with their numbers.
-    pub(crate) fn into_events(self) -> Vec<(InternalEvent<A>, u64), A>
-        ensures { map kept result.items ≡ self.shelf.held }
-    {
-        self.events
+        Held {
+            queues: &self.queues,
+            at: Places::FRONTS,
+        }
     }
 }

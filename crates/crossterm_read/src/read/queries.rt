@@ -60,7 +60,7 @@ fn number_of<A: Allocator>(taken: &Option<(InternalEvent<A>, u64)>, before: u64)
     }
 }
 
-impl<S: EventSource<A>, A: Allocator> InternalEventReader<S, A> {
+impl<S: EventSource<A>, A: Allocator + Clone> InternalEventReader<S, A> {
     // Takes the reply that was polled for.
     fn reply_taken<F: Filter>(
         &mut self,

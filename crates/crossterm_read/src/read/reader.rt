@@ -1,5 +1,5 @@
 //! Holds events in the order of their arrival.
-ghost use Rattle.std.specs.Prelude.{◌≡◌, ◌≢◌, ◌⊎◌, ◌≤◌, ◌<◌, IfOk, IfErr, IfSome, OnOk, IsTrue, ℕ, List, [], Option, map, true};
+ghost use Rattle.std.specs.Prelude.{◌≡◌, ◌≢◌, ◌⊎◌, ◌≤◌, ◌<◌, IfOk, IfErr, IfSome, OnOk, IsTrue, ℕ, List, [], Option, is_some, map, true};
 ghost use Rattle.std.specs.Bool.{OnTrue, OnFalse};
 ghost use Rattle.std.specs.IoError.{error_kind};
 ghost use Rattle.std.specs.Option.{option_map};
@@ -26,6 +26,16 @@ use std::time::Duration;
 /// The reader of one thread: it holds the events of a source, in the order of their arrival, until they are taken.
 ///
 /// Events are numbered by how many arrived before. The numbers rise to the greatest `u64`, and stay there.
+///
+/// ```
+/// let mut reader = InternalEventReader::new(alloc, DeviceSource::new(alloc, device));
+/// match reader.read_within(1, &EventFilter) {
+///     Ok(Some(InternalEvent::Event(Event::Key(key)))) => answer_key(w, key.code)?,
+///     Ok(_) => {}
+///     Err(error) if error.kind() == ErrorKind::UnexpectedEof => break,
+///     Err(error) => return Err(error),
+/// }
+/// ```
 #[derive(Drop)]
 pub struct InternalEventReader<S, A: Allocator = Global> {
     held: HeldEvents<A>,
@@ -101,13 +111,42 @@ impl<S: EventSource<A>, A: Allocator> InternalEventReader<S, A> {
         self.held.arrivals()
     }
 
-    // The place of the first held event that is admitted.
-    pub(crate) fn first<F: Filter>(&self, filter: &F) -> Option<usize>
-        ensures { result ≡ first_admitted (F.admits filter.now) self.now.shelf.held }
+    // Whether an event is held that is admitted.
+    pub(crate) fn holds<F: Filter>(&self, filter: &F) -> bool
+        ensures { result ≡ is_some (first_admitted (F.admits filter.now) self.now.shelf.held) }
     {
-        self.held.first(filter)
+        self.held.holds(filter)
     }
 
+    /// Takes the first held event that the filter admits, and no other. The source isn't asked, and no memory is taken.
+    pub fn take<F: Filter>(&mut self, filter: &F) -> Option<InternalEvent<A>>
+        ensures step { (x : Option (Seen × ℕ)) × TakeSays (F.admits filter.now) self.old.shelf self.new.shelf x
+            × (option_map seen result ≡ option_map (λ e. e.0) x) }
+        // An event that is given leaves room for one more.
+        ensures room { capacity self.new ≡ capacity self.old }
+        ensures source { self.new.source ≡ self.old.source }
+    {
+        unnumbered(self.take_numbered(filter))
+    }
+
+    // Takes the first held event that the filter admits, with its number.
+    pub(crate) fn take_numbered<F: Filter>(&mut self, filter: &F) -> Option<(InternalEvent<A>, u64)>
+        ensures step { TakeSays (F.admits filter.now) self.old.shelf self.new.shelf (option_map kept result) }
+        ensures room { capacity self.new ≡ capacity self.old }
+        ensures source { self.new.source ≡ self.old.source }
+    {
+        self.held.take(filter)
+    }
+
+    /// The events that are held, in the order of their arrival.
+    pub fn held(&self) -> Held<'_, A>
+        ensures { result ≡ map (λ h. h.0) self.now.shelf.held }
+    {
+        self.held.iter()
+    }
+}
+
+impl<S: EventSource<A>, A: Allocator + Clone> InternalEventReader<S, A> {
     // Makes room for an event, asks the source once, with this limit, and holds what it gives.
     pub(crate) fn draw<F: Filter>(
         &mut self,
@@ -157,7 +196,7 @@ impl<S: EventSource<A>, A: Allocator> InternalEventReader<S, A> {
         ensures steady { at_wake ≡ Stops → OnOk result (S.failed self.new.source ≡ S.failed self.old.source) }
         ensures err { IfErr result (λ e. IsOwn (error_kind e) ⊎ (S.failed self.old.source < S.failed self.new.source)) }
     {
-        if self.first(filter).is_some() {
+        if self.holds(filter) {
             return Ok(true);
         }
         for _i in 0..tries {
@@ -252,39 +291,5 @@ impl<S: EventSource<A>, A: Allocator> InternalEventReader<S, A> {
             }
             Err(error) => Err(error),
         }
-    }
-
-    /// Takes the first held event that the filter admits, and no other. The source isn't asked, and no memory is taken.
-    pub fn take<F: Filter>(&mut self, filter: &F) -> Option<InternalEvent<A>>
-        ensures step { (x : Option (Seen × ℕ)) × TakeSays (F.admits filter.now) self.old.shelf self.new.shelf x
-            × (option_map seen result ≡ option_map (λ e. e.0) x) }
-        // An event that is given leaves room for one more.
-        ensures room { capacity self.new ≡ capacity self.old }
-        ensures source { self.new.source ≡ self.old.source }
-    {
-        unnumbered(self.take_numbered(filter))
-    }
-
-    // Takes the first held event that the filter admits, with its number.
-    pub(crate) fn take_numbered<F: Filter>(&mut self, filter: &F) -> Option<(InternalEvent<A>, u64)>
-        ensures step { TakeSays (F.admits filter.now) self.old.shelf self.new.shelf (option_map kept result) }
-        ensures room { capacity self.new ≡ capacity self.old }
-        ensures source { self.new.source ≡ self.old.source }
-    {
-        self.held.take(filter)
-    }
-
-    /// The events that are held, in the order of their arrival.
-    pub fn held(&self) -> Held<'_, A>
-        ensures { result ≡ map (λ h. h.0) self.now.shelf.held }
-    {
-        self.held.iter()
-    }
-
-    // What is held, with the arrival numbers.
-    pub(crate) fn into_held(self) -> Vec<(InternalEvent<A>, u64), A>
-        ensures { map kept result.items ≡ self.shelf.held }
-    {
-        self.held.into_events()
     }
 }

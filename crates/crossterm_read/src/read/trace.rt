@@ -1,5 +1,5 @@
 //! Calls of a reader over a script.
-ghost use Rattle.std.specs.Prelude.{◌≡◌, List, map, IfOk, IfErr};
+ghost use Rattle.std.specs.Prelude.{◌≡◌, List, map, IfOk, IfErr, true};
 ghost use Rattle.std.specs.IoError.{error_kind};
 ghost use Rattle.std.specs.declared.io.ErrorKind.TheVariants.{OutOfMemory};
 ghost use Rattle.crossterm_types.specs.Seen.{seen};
@@ -10,7 +10,7 @@ ghost use Rattle.crossterm_read.specs.Scripted.{words};
 
 use crate::read::InternalEventReader;
 use crate::source::{Act, DeviceSource, EventSource, Script};
-use crossterm_types::event::filter::AnyFilter;
+use crossterm_types::event::filter::{AnyFilter, Classes, Filter};
 use crossterm_types::event::{InternalEvent, KeyboardEnhancementFlags};
 use std::alloc::{AllocError, Allocator, Global};
 use std::io;
@@ -75,7 +75,7 @@ pub struct Trace<A: Allocator = Global> {
     pub held: Vec<InternalEvent<A>, A>,
 }
 
-impl<S: EventSource<A>, A: Allocator> InternalEventReader<S, A> {
+impl<S: EventSource<A>, A: Allocator + Clone> InternalEventReader<S, A> {
     // Makes one call.
     fn call(&mut self, call: Call) -> Reply<A>
         ensures { (zs : List SourceAnswer) × (r : Replied) × S.drawn self.old.source zs self.new.source
@@ -103,15 +103,35 @@ impl<S: EventSource<A>, A: Allocator> InternalEventReader<S, A> {
     }
 }
 
-// The events without their numbers.
-fn unnumbered<A: Allocator>(
+// Admits every event.
+struct Every;
+
+impl Filter for Every {
+    ghost admits = { λ _ _. true };
+
+    fn eval<A: Allocator>(&self, _event: &InternalEvent<A>) -> bool {
+        true
+    }
+
+    fn classes(&self) -> Option<Classes> {
+        Some(Classes {
+            event: true,
+            cursor: true,
+            flags: true,
+            attributes: true,
+        })
+    }
+}
+
+// Takes all events that are held.
+fn take_all<S: EventSource<A>, A: Allocator>(
     alloc: A,
-    held: Vec<(InternalEvent<A>, u64), A>,
+    reader: &mut InternalEventReader<S, A>,
 ) -> Result<Vec<InternalEvent<A>, A>, AllocError>
-    ensures { IfOk result (λ events. map seen events.items ≡ map (λ h. seen h.0) held.items) }
+    ensures { IfOk result (λ events. map seen events.items ≡ map (λ h. h.0) reader.old.shelf.held) }
 {
     let mut events = Vec::new(alloc);
-    for (event, _number) in held {
+    while let Some(event) = reader.take(&Every) {
         events.push(event)?;
     }
     Ok(events)
@@ -138,6 +158,6 @@ pub fn play<A: Allocator + Clone>(
         let reply = reader.call(*call);
         replies.push(reply)?;
     }
-    let held = unnumbered(alloc, reader.into_held())?;
+    let held = take_all(alloc, &mut reader)?;
     Ok(Trace { replies, held })
 }

@@ -38,7 +38,7 @@ impl Clock for Still {
     }
 }
 
-impl<S: EventSource<A>, A: Allocator> InternalEventReader<S, A> {
+impl<S: EventSource<A>, A: Allocator + Clone> InternalEventReader<S, A> {
     // Asks the source once, with what is left of the limit now.
     fn draw_in_time<F: Filter, C: Clock>(
         &mut self,
@@ -78,7 +78,7 @@ impl<S: EventSource<A>, A: Allocator> InternalEventReader<S, A> {
         ensures steady { at_wake ≡ Stops → OnOk result (S.failed self.new.source ≡ S.failed self.old.source) }
         ensures err { IfErr result (λ e. IsOwn (error_kind e) ⊎ (S.failed self.old.source < S.failed self.new.source)) }
     {
-        if self.first(filter).is_some() {
+        if self.holds(filter) {
             return Ok(true);
         }
         for _ in rt.forever() {

@@ -3,7 +3,7 @@ ghost use Rattle.std.specs.Prelude.{◌≡◌, ◌≤◌, ◌<◌, ℕ, List, []
 ghost use Rattle.std.specs.IoError.{error_kind};
 ghost use Rattle.std.specs.declared.io.ErrorKind.TheVariants.{OutOfMemory};
 ghost use Rattle.std.specs.declared.time.Duration.{Duration};
-ghost use Rattle.crossterm_read.specs.Device.{Word, word_of, CountWithin, AsksWith};
+ghost use Rattle.crossterm_read.specs.Device.{Telling, anything, word_of, CountWithin, AsksWith};
 ghost use Rattle.crossterm_read.specs.declared.source.waker.Waker.{Waker};
 
 use crate::source::Waker;
@@ -29,13 +29,38 @@ pub enum Answer {
     Idle,
 }
 
-/// Tells bytes, resizes and wake-ups.
+/// Tells bytes, resizes and wake-ups: from where a program's events come.
+///
+/// One that never fails, and claims nothing of what it tells, writes its three calls alone. One that may fail counts its failures, and says
+/// so by `ghost failed = { λ input. input.failures };`.
+///
+/// ```
+/// impl Device for Pieces {
+///     fn answer(&mut self, buf: &mut [u8], _limit: Option<Duration>) -> io::Result<Answer> {
+///         let Some(piece) = self.pieces.get(self.next) else {
+///             return Ok(Answer::Bytes { count: 0, raw: true });
+///         };
+///         self.next += 1;
+///         let count = piece.len().min(buf.len());
+///         buf[..count].copy_from_slice(&piece[..count]);
+///         Ok(Answer::Bytes { count, raw: true })
+///     }
+///
+///     fn failures(&self) -> u64 {
+///         0
+///     }
+///
+///     fn waker(&self) -> io::Result<Waker> {
+///         Ok(Waker::none())
+///     }
+/// }
+/// ```
 pub trait Device: Drop {
-    /// From one state of the device, these words lead to another.
-    ghost told: { Self → List Word → Self → Type 0 };
+    /// What the device tells, of which there are two laws: nothing, if it doesn't say more.
+    ghost tells: { Telling Self } = { anything };
 
-    /// How often the device failed.
-    ghost failed: { Self → ℕ };
+    /// How often the device failed: never, if it doesn't say more.
+    ghost failed: { Self → ℕ } = { λ _. 0 };
 
     /// The limits that the device was asked with, in order: none, if it doesn't say more.
     ghost asked: { Self → List (Option Duration) } = { λ _. [] };
@@ -44,10 +69,13 @@ pub trait Device: Drop {
     ghost wakes: { Self → Waker → Type 0 } = { λ _ _. ⊤ };
 
     /// Answers once, after the limit at the latest where there is one. Bytes are put into `buf`, which holds 1024.
+    ///
+    /// # Errors
+    /// The device's own, and then `failed` has risen.
     fn answer(&mut self, buf: &mut [u8], limit: Option<Duration>) -> io::Result<Answer>
         requires { length buf.now ≡ 1024 }
         // What it answers is told.
-        ensures told { told self.old (word_of result buf.new ∷ []) self.new }
+        ensures told { tells.told self.old (word_of result buf.new ∷ []) self.new }
         ensures count { IfOk result (λ a. CountWithin a (length buf.new)) }
         // It was asked with this limit, and with no other.
         ensures asked { AsksWith limit (asked self.old) (asked self.new) }
@@ -64,9 +92,4 @@ pub trait Device: Drop {
     fn waker(&self) -> io::Result<Waker>
         ensures waker { IfOk result (wakes self.now) }
         ensures err { IfErr result (λ e. error_kind e ≡ OutOfMemory) };
-
-    // Where nothing is told nothing changes, and what is told in two runs is told in one.
-    ghost none_told: { (s : Self) → told s [] s };
-
-    ghost told_on: { (s t u : Self) (xs ys : List Word) → told s xs t → told t ys u → told s (xs ++ ys) u };
 }

@@ -1,7 +1,7 @@
 //! A device over a descriptor that the system can watch.
 ghost use Rattle.std.specs.Prelude.{◌≡◌, List, [], ◌∷◌, length, IfOk};
 ghost use Rattle.crossterm_read.specs.Device.{CountWithin, word_of};
-ghost use Rattle.crossterm_read.specs.Reading.{ReadingTells, reading_none, reading_on};
+ghost use Rattle.crossterm_read.specs.Reading.{ReadingTells, reading_telling};
 ghost use Rattle.crossterm_read.specs.Waking.{WakesAs};
 ghost use Rattle.crossterm_read.specs.declared.source.waker.Kind.TheVariants.{Mio};
 
@@ -142,15 +142,11 @@ impl<R: Read + AsRawFd + Drop, A: Allocator + Clone> PolledDevice<R, A> {
 
 impl<R: Read + AsRawFd + Drop, A: Allocator + Clone> Device for PolledDevice<R, A> {
     // What it tells are its reader's next bytes, wherever the reader says what it gives.
-    ghost told = { λ s xs t. ReadingTells (R.remaining s.input) xs (R.remaining t.input) };
+    ghost tells = { reading_telling (λ s. R.remaining s.input) };
 
     ghost failed = { λ s. s.failures };
 
     ghost wakes = { λ s. WakesAs (record { kind = Mio s.watch.waker }) };
-
-    ghost none_told = { λ s. reading_none (R.remaining s.input) };
-
-    ghost told_on = { λ s t u xs ys d e. reading_on (R.remaining s.input) (R.remaining t.input) (R.remaining u.input) xs ys d e };
 
     fn answer(&mut self, buf: &mut [u8], limit: Option<Duration>) -> io::Result<Answer> {
         match self.try_answer(buf, limit) {

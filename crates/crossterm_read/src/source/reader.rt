@@ -1,7 +1,7 @@
 //! A device over a reader.
 ghost use Rattle.std.specs.Prelude.{◌≡◌, List, [], ◌∷◌, length, IfOk, IsOkAnd};
 ghost use Rattle.crossterm_read.specs.Device.{CountWithin, word_of};
-ghost use Rattle.crossterm_read.specs.Reading.{ReadingTells, reading_none, reading_on};
+ghost use Rattle.crossterm_read.specs.Reading.{ReadingTells, reading_telling};
 ghost use Rattle.crossterm_read.specs.Waking.{IsSure};
 
 use crate::source::failures::answer_at;
@@ -53,15 +53,11 @@ pub(crate) fn read_once<R: Read + Drop, A: Allocator + Clone>(
 
 impl<R: Read + Drop, A: Allocator + Clone> Device for ReadDevice<R, A> {
     // What it tells are its reader's next bytes, wherever the reader says what it gives.
-    ghost told = { λ s xs t. ReadingTells (R.remaining s.input) xs (R.remaining t.input) };
+    ghost tells = { reading_telling (λ s. R.remaining s.input) };
 
     ghost failed = { λ s. s.failures };
 
     ghost wakes = { λ _. IsSure };
-
-    ghost none_told = { λ s. reading_none (R.remaining s.input) };
-
-    ghost told_on = { λ s t u xs ys d e. reading_on (R.remaining s.input) (R.remaining t.input) (R.remaining u.input) xs ys d e };
 
     fn answer(&mut self, buf: &mut [u8], _limit: Option<Duration>) -> io::Result<Answer> {
         match read_once(&mut self.input, buf, &self.raw) {

@@ -1,6 +1,6 @@
 //! A device in memory.
 ghost use Rattle.std.specs.Prelude.{◌≡◌, ◌≤◌, drop, take, min, length, IsOkAnd};
-ghost use Rattle.crossterm_read.specs.Scripted.{words, words_from, ScriptLeft, ScriptTells, script_none, script_on};
+ghost use Rattle.crossterm_read.specs.Scripted.{words, words_from, ScriptLeft, script_telling};
 ghost use Rattle.crossterm_read.specs.Waking.{IsSure};
 
 use crate::source::{Answer, Device, Waker};
@@ -76,15 +76,11 @@ fn tell(bytes: &[u8], buf: &mut [u8]) -> usize
 }
 
 impl<A: Allocator> Device for Script<A> {
-    ghost told = { ScriptTells };
+    ghost tells = { script_telling };
 
     ghost failed = { λ s. s.failed };
 
     ghost wakes = { λ _. IsSure };
-
-    ghost none_told = { script_none };
-
-    ghost told_on = { script_on };
 
     fn answer(&mut self, buf: &mut [u8], _limit: Option<Duration>) -> io::Result<Answer> {
         while self.next < self.acts.len() {

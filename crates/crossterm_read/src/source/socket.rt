@@ -1,6 +1,6 @@
 //! A device over a socket.
-ghost use Rattle.std.specs.Prelude.{◌≡◌, IfOk, None};
-ghost use Rattle.crossterm_read.specs.Reading.{reading_none, reading_on};
+ghost use Rattle.std.specs.Prelude.{◌≡◌, IfOk};
+ghost use Rattle.crossterm_read.specs.Device.{tells_within};
 
 use crate::source::{Answer, Device, PolledDevice, RawFlag, Waker};
 use mio::net::TcpStream;
@@ -36,16 +36,11 @@ impl<A: Allocator> SocketDevice<A> {
 }
 
 impl<A: Allocator + Clone> Device for SocketDevice<A> {
-    ghost told = { λ s xs t. ⟦<PolledDevice<TcpStream, A> as Device>⟧.told s.polled xs t.polled };
+    ghost tells = { tells_within (λ s. s.polled) ⟦<PolledDevice<TcpStream, A> as Device>⟧.tells };
 
     ghost failed = { λ s. ⟦<PolledDevice<TcpStream, A> as Device>⟧.failed s.polled };
 
     ghost wakes = { λ s. ⟦<PolledDevice<TcpStream, A> as Device>⟧.wakes s.polled };
-
-    // Nothing is known of what a stream gives.
-    ghost none_told = { λ s. reading_none None };
-
-    ghost told_on = { λ s t u. reading_on None None None };
 
     fn answer(&mut self, buf: &mut [u8], limit: Option<Duration>) -> io::Result<Answer> {
         self.polled.answer(buf, limit)

@@ -12,7 +12,7 @@ use std::sync::Wait;
 
 // Polls without a limit for each task that the stream gives, until the stream is over. The reader is back in its place before it wakes,
 // so that the one who is woken finds it there with what came.
-pub(crate) fn work<S: EventSource<A>, R: Wait, A: Allocator>(
+pub(crate) fn work<S: EventSource<A>, R: Wait, A: Allocator + Clone>(
     rt: &R,
     hub: &Hub,
     reader: &EventReader<S, A>,

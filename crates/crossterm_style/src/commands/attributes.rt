@@ -7,7 +7,7 @@ ghost use Rattle.crossterm_style.specs.Styles.{attribute_functions, told};
 
 use crate::{Attribute, Attributes};
 use arrayvec::ArrayString;
-use crossterm_command::{ColorOutput, Command, execute_fmt, write_once};
+use crossterm_command::{ColorOutput, Command, execute_fmt};
 use std::fmt;
 
 /// Sets an attribute (SGR: ECMA-48, 8.3.117).
@@ -22,7 +22,7 @@ impl Command for SetAttribute {
         text.push_str("\x1b[");
         text.push_str(self.0.code());
         text.push_str("m");
-        write_once(f, text.as_str())
+        f.write_str(text.as_str())
     }
 }
 

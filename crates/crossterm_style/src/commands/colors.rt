@@ -2,25 +2,24 @@
 //!
 //! Each selects a graphic rendition (SGR: ECMA-48, 8.3.117) and is written by one call.
 ghost use Rattle.std.specs.Prelude.{OnOk, Some};
-ghost use Rattle.std.specs.Fmt.{WritesInCalls};
 ghost use Rattle.crossterm_command.specs.declared.color_output.ColorOutput.TheVariants.{Enabled};
 ghost use Rattle.crossterm_command.specs.Tokens.{text_of};
 ghost use Rattle.crossterm_style.specs.Styles.{reset_functions, color_functions, colors_functions};
 
 use crate::{Color, ColorOutput, Colored, Colors};
 use arrayvec::ArrayString;
-use crossterm_command::{Command, execute_fmt, write_once};
+use crossterm_command::{Command, execute_fmt};
 use std::fmt;
 
 /// Writes the sequence that sets a colour.
 fn write_color<W: fmt::Write>(f: &mut W, colored: Colored, colors: ColorOutput) -> fmt::Result
-    ensures { OnOk result (WritesInCalls W.write_str_gives f.old (text_of (color_functions colors colored)) f.new) }
+    ensures { OnOk result (W.write_str_gives f.old (text_of (color_functions colors colored)) f.new) }
 {
     let mut text = ArrayString::<24>::new();
     text.push_str("\x1b[");
     colored.push_to(&mut text, colors);
     text.push_str("m");
-    write_once(f, text.as_str())
+    f.write_str(text.as_str())
 }
 
 /// Writes the sequence that sets a foreground and a background.
@@ -30,7 +29,7 @@ fn write_both<W: fmt::Write>(
     background: Color,
     colors: ColorOutput,
 ) -> fmt::Result
-    ensures { OnOk result (WritesInCalls W.write_str_gives f.old (text_of (colors_functions colors (Some foreground) (Some background))) f.new) }
+    ensures { OnOk result (W.write_str_gives f.old (text_of (colors_functions colors (Some foreground) (Some background))) f.new) }
 {
     let mut text = ArrayString::<40>::new();
     text.push_str("\x1b[");
@@ -38,7 +37,7 @@ fn write_both<W: fmt::Write>(
     text.push_str(";");
     Colored::BackgroundColor(background).push_to(&mut text, colors);
     text.push_str("m");
-    write_once(f, text.as_str())
+    f.write_str(text.as_str())
 }
 
 /// Sets the colour of the text. Where colours are not written, this is `ESC [ m`.
@@ -138,7 +137,7 @@ impl Command for ResetColor {
     ghost text = { λ _ _. Some (text_of reset_functions) };
 
     fn write_ansi<W: fmt::Write>(&self, f: &mut W, _colors: ColorOutput) -> fmt::Result {
-        write_once(f, "\x1b[0m")
+        f.write_str("\x1b[0m")
     }
 }
 

@@ -36,6 +36,10 @@ impl<A: Allocator> Event<A> {
 
     /// The event as JSON: its variant, and where it holds something an object of the variant and that, as `{"Resize":[80,24]}`.
     ///
+    /// ```
+    /// let value = event.to_value(alloc)?;
+    /// ```
+    ///
     /// # Errors
     /// `Memory` where memory for it was refused.
     #[tactic(auto, using(crate::proofs::ValueLaws::event_back, crossterm_flags::proofs::ValueLaws::told_back))]

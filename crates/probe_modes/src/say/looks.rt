@@ -2,6 +2,7 @@
 
 use crate::fault::Wrong;
 use crate::input::{number, text};
+use crate::say::names::is_named;
 use crossterm::AnyCommand;
 use crossterm::style::{
     Attribute, Attributes, Color, Colors, ContentStyle, PrintStyledContent, SetAttribute,
@@ -52,45 +53,11 @@ fn optional_color(word: &str) -> Result<Option<Color>, Wrong> {
 /// An attribute by its name.
 fn attribute(name: &str) -> Result<Attribute, Wrong> {
     for attribute in Attribute::iterator() {
-        if named(attribute) == name {
+        if is_named(&attribute, name) {
             return Ok(attribute);
         }
     }
     Err(Wrong::Argument)
-}
-
-/// An attribute's name.
-fn named(attribute: Attribute) -> &'static str {
-    match attribute {
-        Attribute::Reset => "Reset",
-        Attribute::Bold => "Bold",
-        Attribute::Dim => "Dim",
-        Attribute::Italic => "Italic",
-        Attribute::Underlined => "Underlined",
-        Attribute::DoubleUnderlined => "DoubleUnderlined",
-        Attribute::Undercurled => "Undercurled",
-        Attribute::Underdotted => "Underdotted",
-        Attribute::Underdashed => "Underdashed",
-        Attribute::SlowBlink => "SlowBlink",
-        Attribute::RapidBlink => "RapidBlink",
-        Attribute::Reverse => "Reverse",
-        Attribute::Hidden => "Hidden",
-        Attribute::CrossedOut => "CrossedOut",
-        Attribute::Fraktur => "Fraktur",
-        Attribute::NoBold => "NoBold",
-        Attribute::NormalIntensity => "NormalIntensity",
-        Attribute::NoItalic => "NoItalic",
-        Attribute::NoUnderline => "NoUnderline",
-        Attribute::NoBlink => "NoBlink",
-        Attribute::NoReverse => "NoReverse",
-        Attribute::NoHidden => "NoHidden",
-        Attribute::NotCrossedOut => "NotCrossedOut",
-        Attribute::Framed => "Framed",
-        Attribute::Encircled => "Encircled",
-        Attribute::OverLined => "OverLined",
-        Attribute::NotFramedOrEncircled => "NotFramedOrEncircled",
-        Attribute::NotOverLined => "NotOverLined",
-    }
 }
 
 /// Attributes by their names with commas between, or `-` for none.

@@ -3,6 +3,7 @@
 use crate::fault::Wrong;
 use crate::input::{content_bytes, number, text};
 use crate::say::looks::styling;
+use crate::say::names::by_name;
 use crossterm::AnyCommand;
 use crossterm::clipboard::{ClipboardSelection, CopyToClipboard};
 use crossterm::cursor::{
@@ -87,32 +88,26 @@ fn placed<A: Allocator>(word: &str, columns: u16, rows: u16) -> Option<AnyComman
     }
 }
 
-/// A cursor's shape by its name.
-fn shape(name: &str) -> Result<SetCursorStyle, Wrong> {
-    match name {
-        "DefaultUserShape" => Ok(SetCursorStyle::DefaultUserShape),
-        "BlinkingBlock" => Ok(SetCursorStyle::BlinkingBlock),
-        "SteadyBlock" => Ok(SetCursorStyle::SteadyBlock),
-        "BlinkingUnderScore" => Ok(SetCursorStyle::BlinkingUnderScore),
-        "SteadyUnderScore" => Ok(SetCursorStyle::SteadyUnderScore),
-        "BlinkingBar" => Ok(SetCursorStyle::BlinkingBar),
-        "SteadyBar" => Ok(SetCursorStyle::SteadyBar),
-        _ => Err(Wrong::Argument),
-    }
-}
+/// The shapes of a cursor.
+const SHAPES: [SetCursorStyle; 7] = [
+    SetCursorStyle::DefaultUserShape,
+    SetCursorStyle::BlinkingBlock,
+    SetCursorStyle::SteadyBlock,
+    SetCursorStyle::BlinkingUnderScore,
+    SetCursorStyle::SteadyUnderScore,
+    SetCursorStyle::BlinkingBar,
+    SetCursorStyle::SteadyBar,
+];
 
-/// What is cleared, by its name.
-fn cleared(name: &str) -> Result<ClearType, Wrong> {
-    match name {
-        "All" => Ok(ClearType::All),
-        "Purge" => Ok(ClearType::Purge),
-        "FromCursorDown" => Ok(ClearType::FromCursorDown),
-        "FromCursorUp" => Ok(ClearType::FromCursorUp),
-        "CurrentLine" => Ok(ClearType::CurrentLine),
-        "UntilNewLine" => Ok(ClearType::UntilNewLine),
-        _ => Err(Wrong::Argument),
-    }
-}
+/// What can be cleared.
+const CLEARED: [ClearType; 6] = [
+    ClearType::All,
+    ClearType::Purge,
+    ClearType::FromCursorDown,
+    ClearType::FromCursorUp,
+    ClearType::CurrentLine,
+    ClearType::UntilNewLine,
+];
 
 /// Two numbers with a blank between.
 fn pair(rest: &str) -> Option<(u16, u16)> {
@@ -127,8 +122,8 @@ fn named<A: Allocator + Clone>(
     argument: &str,
 ) -> Result<AnyCommand<A>, Wrong> {
     match word {
-        "SetCursorStyle" => Ok(AnyCommand::SetCursorStyle(shape(argument)?)),
-        "Clear" => Ok(AnyCommand::Clear(Clear(cleared(argument)?))),
+        "SetCursorStyle" => Ok(AnyCommand::SetCursorStyle(by_name(&SHAPES, argument)?)),
+        "Clear" => Ok(AnyCommand::Clear(Clear(by_name(&CLEARED, argument)?))),
         "PushKeyboardEnhancementFlags" => pushed(number(argument)),
         _ => styling(alloc, word, argument),
     }

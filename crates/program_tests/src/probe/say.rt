@@ -7,80 +7,79 @@ use std::alloc::{AllocError, Global};
 use std::io::{self, ErrorKind, Write};
 use std::process::Abort;
 
-/// A case to a line, which is its name: an input, with `;` in place of each line's end, and what comes of it, with `^` in place of ESC and
-/// `~` in place of the bell. A second blank before the arrow is the input's. Where nothing is behind the arrow, nothing is written.
+/// A case to a line, which is its name: lines, and what comes of them, where `^[` is ESC and `^G` the bell. A second blank before the arrow is the input's. Where nothing is behind the arrow, nothing is written.
 const LINES: &str = "\
-MoveTo 0 0 -> ^[1;1H
-MoveTo 2 1 -> ^[2;3H
-MoveTo 65535 0 -> ^[1;65536H
-MoveTo 0 65535 -> ^[65536;1H
-MoveToColumn 0 -> ^[1G
-MoveToColumn 65535 -> ^[65536G
-MoveToRow 0 -> ^[1d
-MoveToRow 65535 -> ^[65536d
-MoveToNextLine 3 -> ^[3E
-MoveToPreviousLine 4 -> ^[4F
-MoveUp 0 -> ^[0A
-MoveUp 1 -> ^[1A
-MoveDown 65535 -> ^[65535B
-MoveRight 10 -> ^[10C
-MoveLeft 200 -> ^[200D
-SavePosition -> ^7
-RestorePosition -> ^8
-Hide -> ^[?25l
-Show -> ^[?25h
-EnableBlinking -> ^[?12h
-DisableBlinking -> ^[?12l
-SetCursorStyle DefaultUserShape -> ^[0 q
-SetCursorStyle BlinkingBlock -> ^[1 q
-SetCursorStyle SteadyBlock -> ^[2 q
-SetCursorStyle BlinkingUnderScore -> ^[3 q
-SetCursorStyle SteadyUnderScore -> ^[4 q
-SetCursorStyle BlinkingBar -> ^[5 q
-SetCursorStyle SteadyBar -> ^[6 q
-DisableLineWrap -> ^[?7l
-EnableLineWrap -> ^[?7h
-EnterAlternateScreen -> ^[?1049h
-LeaveAlternateScreen -> ^[?1049l
-Clear All -> ^[2J
-Clear Purge -> ^[3J
-Clear FromCursorDown -> ^[J
-Clear FromCursorUp -> ^[1J
-Clear CurrentLine -> ^[2K
-Clear UntilNewLine -> ^[K
+MoveTo 0 0 -> ^[[1;1H
+MoveTo 2 1 -> ^[[2;3H
+MoveTo 65535 0 -> ^[[1;65536H
+MoveTo 0 65535 -> ^[[65536;1H
+MoveToColumn 0 -> ^[[1G
+MoveToColumn 65535 -> ^[[65536G
+MoveToRow 0 -> ^[[1d
+MoveToRow 65535 -> ^[[65536d
+MoveToNextLine 3 -> ^[[3E
+MoveToPreviousLine 4 -> ^[[4F
+MoveUp 0 -> ^[[0A
+MoveUp 1 -> ^[[1A
+MoveDown 65535 -> ^[[65535B
+MoveRight 10 -> ^[[10C
+MoveLeft 200 -> ^[[200D
+SavePosition -> ^[7
+RestorePosition -> ^[8
+Hide -> ^[[?25l
+Show -> ^[[?25h
+EnableBlinking -> ^[[?12h
+DisableBlinking -> ^[[?12l
+SetCursorStyle DefaultUserShape -> ^[[0 q
+SetCursorStyle BlinkingBlock -> ^[[1 q
+SetCursorStyle SteadyBlock -> ^[[2 q
+SetCursorStyle BlinkingUnderScore -> ^[[3 q
+SetCursorStyle SteadyUnderScore -> ^[[4 q
+SetCursorStyle BlinkingBar -> ^[[5 q
+SetCursorStyle SteadyBar -> ^[[6 q
+DisableLineWrap -> ^[[?7l
+EnableLineWrap -> ^[[?7h
+EnterAlternateScreen -> ^[[?1049h
+LeaveAlternateScreen -> ^[[?1049l
+Clear All -> ^[[2J
+Clear Purge -> ^[[3J
+Clear FromCursorDown -> ^[[J
+Clear FromCursorUp -> ^[[1J
+Clear CurrentLine -> ^[[2K
+Clear UntilNewLine -> ^[[K
 ScrollUp 0 ->
-ScrollUp 5 -> ^[5S
+ScrollUp 5 -> ^[[5S
 ScrollDown 0 ->
-ScrollDown 6 -> ^[6T
-SetSize 80 24 -> ^[8;24;80t
-SetSize 0 65535 -> ^[8;65535;0t
-SetTitle 6869 -> ^]0;hi~
-SetTitle C3A9 -> ^]0;é~
-SetTitle 1b5c07 -> ^]0;^\\~~
-SetTitle - -> ^]0;~
-BeginSynchronizedUpdate -> ^[?2026h
-EndSynchronizedUpdate -> ^[?2026l
-EnableMouseCapture -> ^[?1000h^[?1002h^[?1003h^[?1015h^[?1006h
-DisableMouseCapture -> ^[?1006l^[?1015l^[?1003l^[?1002l^[?1000l
-EnableFocusChange -> ^[?1004h
-DisableFocusChange -> ^[?1004l
-EnableBracketedPaste -> ^[?2004h
-DisableBracketedPaste -> ^[?2004l
-PushKeyboardEnhancementFlags 0 -> ^[>0u
-PushKeyboardEnhancementFlags 5 -> ^[>5u
-PushKeyboardEnhancementFlags 255 -> ^[>255u
-PopKeyboardEnhancementFlags -> ^[<1u
+ScrollDown 6 -> ^[[6T
+SetSize 80 24 -> ^[[8;24;80t
+SetSize 0 65535 -> ^[[8;65535;0t
+SetTitle 6869 -> ^[]0;hi^G
+SetTitle C3A9 -> ^[]0;é^G
+SetTitle 1b5c07 -> ^[]0;^[\\^G^G
+SetTitle - -> ^[]0;^G
+BeginSynchronizedUpdate -> ^[[?2026h
+EndSynchronizedUpdate -> ^[[?2026l
+EnableMouseCapture -> ^[[?1000h^[[?1002h^[[?1003h^[[?1015h^[[?1006h
+DisableMouseCapture -> ^[[?1006l^[[?1015l^[[?1003l^[[?1002l^[[?1000l
+EnableFocusChange -> ^[[?1004h
+DisableFocusChange -> ^[[?1004l
+EnableBracketedPaste -> ^[[?2004h
+DisableBracketedPaste -> ^[[?2004l
+PushKeyboardEnhancementFlags 0 -> ^[[>0u
+PushKeyboardEnhancementFlags 5 -> ^[[>5u
+PushKeyboardEnhancementFlags 255 -> ^[[>255u
+PopKeyboardEnhancementFlags -> ^[[<1u
 Print 6869 -> hi
 Print e282AC -> €
-Print 1b5b33316d -> ^[31m
+Print 1b5b33316d -> ^[[31m
 Print - ->
 colors on ->
 colors off ->
  ->
-;; ->
-MoveTo 0 0;;Print 6162;Show; -> ^[1;1Hab^[?25h
-;Hide;Show;Hide -> ^[?25l^[?25h^[?25l
-colors off;Hide;colors on;colors off;Print 61;MoveUp 2;colors on -> ^[?25la^[2A
+ /  /  ->
+MoveTo 0 0 /  / Print 6162 / Show /  -> ^[[1;1Hab^[[?25h
+ / Hide / Show / Hide -> ^[[?25l^[[?25h^[[?25l
+colors off / Hide / colors on / colors off / Print 61 / MoveUp 2 / colors on -> ^[[?25la^[[2A
 Foo -> probe: line 1: unknown word
 Foo 1 -> probe: line 1: unknown word
  Hide -> probe: line 1: unknown word
@@ -122,18 +121,18 @@ colors -> probe: line 1: bad argument
 colors  -> probe: line 1: bad argument
 colors maybe -> probe: line 1: bad argument
 colors  on -> probe: line 1: bad argument
-Hide;MoveUp x -> probe: line 2: bad argument
-Hide;;Foo;Bar -> probe: line 3: unknown word
-colors off;Print 61;colors -> probe: line 3: bad argument";
+Hide / MoveUp x -> probe: line 2: bad argument
+Hide /  / Foo / Bar -> probe: line 3: unknown word
+colors off / Print 61 / colors -> probe: line 3: bad argument";
 
 /// How many cases there are.
 const CASES: usize = 115;
 
 /// Whether this comes of an input, both as the table writes them.
 fn is_answer_unfolded(alloc: Global, input: &str, want: &str) -> Result<bool, AllocError> {
-    let input = input.replace(alloc, ';', "\n")?;
-    let want = want.replace(alloc, '^', "\x1b")?;
-    let want = want.replace(alloc, '~', "\x07")?;
+    let input = input.replace(alloc, " / ", "\n")?;
+    let want = want.replace(alloc, "^[", "\x1b")?;
+    let want = want.replace(alloc, "^G", "\x07")?;
     Ok(is_answer(Mode::Say, alloc, input.as_bytes(), want.as_bytes()))
 }
 

@@ -26,7 +26,7 @@ use std::time::Duration;
 ///
 /// # Errors
 /// `Other` where no reply came within the tries, or the source was woken; else that of `InternalEventReader::poll_within`.
-pub fn position_within<S: EventSource<A>, A: Allocator>(
+pub fn position_within<S: EventSource<A>, A: Allocator + Clone>(
     reader: &mut InternalEventReader<S, A>,
     tries: u32,
 ) -> io::Result<(u16, u16)>
@@ -43,12 +43,16 @@ pub fn position_within<S: EventSource<A>, A: Allocator>(
 /// It writes the query, flushes, and waits 2000 ms for the reply, which it takes; one that was held already is taken first. All other
 /// events are held. Where the terminal isn't in raw mode that is switched on before and off after.
 ///
+/// ```
+/// let (column, row) = cursor::position(&rt, &mut term, &reader, &mut pass, &mut out, &mut clock)?;
+/// ```
+///
 /// # Errors
 /// The device's where a switch was refused, in place of all else. The writer's where the query couldn't be written. `Other` where no reply
 /// came in time, where other threads had the reader until then, and after a wake-up. Else the source's.
 pub fn position<
     S: EventSource<A>,
-    A: Allocator,
+    A: Allocator + Clone,
     D: ModeDevice,
     B: Allocator + Clone,
     W: io::Write,
@@ -78,7 +82,7 @@ pub fn position<
 }
 
 // The cursor's place, where the terminal is in raw mode.
-fn position_raw<S: EventSource<A>, A: Allocator, W: io::Write, C: Clock, R: Wait>(
+fn position_raw<S: EventSource<A>, A: Allocator + Clone, W: io::Write, C: Clock, R: Wait>(
     rt: &R,
     reader: &EventReader<S, A>,
     pass: &mut Pass<S, A>,

@@ -67,6 +67,13 @@ pub trait ModeDevice: Drop {
 }
 
 /// A terminal whose raw mode is switched on and off.
+///
+/// ```
+/// let mut term = Terminal::new(modes, flag);
+/// term.enable_raw_mode()?;
+/// // ..
+/// term.disable_raw_mode()?;
+/// ```
 #[derive(Drop)]
 pub struct Terminal<D: ModeDevice, A: Allocator = Global> {
     device: D,
@@ -183,7 +190,7 @@ pub(crate) fn send_query<W: io::Write>(out: &mut W, text: &str) -> io::Result<()
 /// Those of `query_keyboard_enhancement_flags`.
 pub fn supports_keyboard_enhancement<
     S: EventSource<A>,
-    A: Allocator,
+    A: Allocator + Clone,
     D: ModeDevice,
     B: Allocator + Clone,
     W: io::Write,
@@ -221,7 +228,7 @@ pub fn supports_keyboard_enhancement<
 /// came in time, where other threads had the reader until then, and after a wake-up. Else the source's.
 pub fn query_keyboard_enhancement_flags<
     S: EventSource<A>,
-    A: Allocator,
+    A: Allocator + Clone,
     D: ModeDevice,
     B: Allocator + Clone,
     W: io::Write,
@@ -251,7 +258,7 @@ pub fn query_keyboard_enhancement_flags<
 }
 
 // The flags of the keyboard protocol, where the terminal is in raw mode.
-fn flags_raw<S: EventSource<A>, A: Allocator, W: io::Write, C: Clock, R: Wait>(
+fn flags_raw<S: EventSource<A>, A: Allocator + Clone, W: io::Write, C: Clock, R: Wait>(
     rt: &R,
     reader: &EventReader<S, A>,
     pass: &mut Pass<S, A>,

@@ -53,7 +53,7 @@ pub(crate) fn users<A: Allocator>(event: InternalEvent<A>) -> Event<A>
     }
 }
 
-impl<S: EventSource<A>, A: Allocator> EventReader<S, A> {
+impl<S: EventSource<A>, A: Allocator + Clone> EventReader<S, A> {
     /// Takes the first event that the filter admits. It waits for the reader, and then for the event, without a limit.
     ///
     /// It goes on after a wake-up. Every other fault of the source is answered, and what came until then is held.
@@ -108,6 +108,9 @@ impl<S: EventSource<A>, A: Allocator> EventReader<S, A> {
     }
 
     /// Takes the first event of the user, as `read_by` does by `AnyFilter::Event`.
+    ///
+    /// # Errors
+    /// The source's, but a wake-up.
     pub fn read<R: Wait>(&self, rt: &R, pass: &mut Pass<S, A>) -> io::Result<Event<A>>
         requires { IsPassOf self.now pass.old }
         ensures pass { IsPassOf self.now pass.new }
@@ -120,6 +123,9 @@ impl<S: EventSource<A>, A: Allocator> EventReader<S, A> {
     }
 
     /// Whether an event of the user is held within the limit, as `poll_by` by `AnyFilter::Event`.
+    ///
+    /// # Errors
+    /// The source's, but a wake-up, which ends the poll with `false`.
     pub fn poll<C: Clock, R: Wait>(
         &self,
         rt: &R,

@@ -29,7 +29,7 @@ fn flagged(
     }
 }
 
-impl<S: EventSource<A>, A: Allocator> EventReader<S, A> {
+impl<S: EventSource<A>, A: Allocator + Clone> EventReader<S, A> {
     /// Takes the first reply that tells the flags of the keyboard protocol, or the terminal's attributes alone, for which the answer
     /// is `None`, within the limit, which counts from the beginning of the call.
     ///

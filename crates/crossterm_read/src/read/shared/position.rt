@@ -32,7 +32,7 @@ fn placed<A: Allocator>(taken: io::Result<(InternalEvent<A>, u64)>) -> io::Resul
     }
 }
 
-impl<S: EventSource<A>, A: Allocator> EventReader<S, A> {
+impl<S: EventSource<A>, A: Allocator + Clone> EventReader<S, A> {
     /// Takes the first reply that tells the cursor's place, within the limit, which counts from the beginning of the call: column
     /// and row.
     ///

@@ -19,6 +19,16 @@ use std::sync::{Arc, Wait};
 /// A reader that threads share: each call takes the reader, makes one call of it, and puts it back.
 ///
 /// Whoever calls hands in a pass. The calls of all passes stand in one history, which one reader of one thread could have made.
+///
+/// ```
+/// let (reader, mut passes) = EventReader::new(&rt, alloc, reader, 1)?;
+/// let Some(mut pass) = passes.pop() else {
+///     return Ok(());
+/// };
+/// if reader.poll(&rt, &mut pass, limit, &mut clock)? {
+///     let event = reader.read(&rt, &mut pass)?;
+/// }
+/// ```
 #[derive(Drop)]
 pub struct EventReader<S: EventSource<A>, A: Allocator = Global> {
     pub(crate) room: Arc<Room<S, A>, A>,

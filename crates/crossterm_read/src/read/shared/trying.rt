@@ -43,7 +43,7 @@ fn users_tried<A: Allocator>(
     }
 }
 
-impl<S: EventSource<A>, A: Allocator> EventReader<S, A> {
+impl<S: EventSource<A>, A: Allocator + Clone> EventReader<S, A> {
     // Takes the first event of the user, where one is held or comes at once: the device is asked once at most, with limit zero.
     //
     // It waits for nobody: where another has the reader, the answer is `None`.

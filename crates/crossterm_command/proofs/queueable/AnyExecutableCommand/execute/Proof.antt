@@ -45,8 +45,8 @@ use Rattle.crossterm_command.proofs.color_output.ColorOutput.TheLaws as color_la
 use Rattle.crossterm_command.proofs.Handing.{slot_at, after, head, arm_body, either, ok_made, err_made, lends_itself, rests_at, and_tt}
 use Rattle.crossterm_command.specs.contracts.queueable.AnyExecutableCommand.execute as f
 use Rattle.crossterm_command.specs.contracts.queueable.AnyExecutableCommand.execute.Key.{name as #self}
-use Rattle.crossterm_command.specs.contracts.queueable.execute_command as g
-use Rattle.crossterm_command.proofs.queueable.execute_command.Met.{met}
+use Rattle.crossterm_command.specs.contracts.queueable.execute_on as g
+use Rattle.crossterm_command.proofs.queueable.execute_on.Met.{met}
 use Rattle.crossterm_command.proofs.queueable.AnyExecutableCommand.execute.Statement.{statement}
 use Rattle.crossterm_command.proofs.queueable.AnyExecutableCommand.execute.Code as code
 
@@ -93,7 +93,7 @@ execute_spec 𝓤 𝓛 𝓜 𝓡 wired W C LW LC gW dW gC dC dD metW metC metD =
     use0 𝓛 (raw (fact 𝓤 (μ ⊑ W.lives))) (fact_i 𝓤 (μ ⊑ W.lives) (emp 𝓤) inW) $ join ! $ move ! (1 ∷ 0 ∷ []) $
     use2 𝓛 (raw (Gt.pre y)) (id⊢ 𝓤 _) $
     -- [what the call asks; what the lender keeps; the way back to α]
-    calls_at ! (framed 𝓤 H 𝓜 𝓣) Gt (met 𝓤 𝓛 𝓜 𝓡 (code.calls-crossterm_command::queueable::execute_command 𝓡.env wired) W C LW LC gW dW gC dC dD metW metC metD) y
+    calls_at ! (framed 𝓤 H 𝓜 𝓣) Gt (met 𝓤 𝓛 𝓜 𝓡 (code.calls-crossterm_command::queueable::execute_on 𝓡.env wired) W C LW LC gW dW gC dC dD metW metC metD) y
     (and_then ! (get ! refl) (and_then ! (get ! refl) (and_then ! (get ! refl) (no_more !)))) (λ v.
     use1 𝓛 (later (some (λ (r : Out.Denot). ((‵ (flft (α ∷ μ) (left s)) ⊛ (‵ (flft μ (right s)) ⊛ (‵ (flft ν t) ⊛ ‵ ftrue))) ⊛ ‵ (Out.own_val r (v ∷ []))) ⊛
     some (λ (ws : Lasts Ge y.0.0 y.0.3). ‵ (lasts Ge y.0.0 y.0.3 ws) ⊛ raw ((gc y.0.0 y.0.3).ensures y.1 r (at_exit Ge y.0.0 y.0.3 ws)))))) (id⊢ 𝓤 _) $

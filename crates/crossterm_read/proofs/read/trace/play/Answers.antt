@@ -1,6 +1,5 @@
 use Rattle.std.proofs.Common.{◌≡◌, ◌+◌, List, [], take, map, sym, ap, subst, ◌∙◌, arith}
 use Rattle.std.proofs.lemmas.List.{take_all}
-use Rattle.std.proofs.lemmas.Simd.{map-map}
 use Rattle.crossterm_read.specs.Blocks.{Told}
 use Rattle.crossterm_read.specs.Device.{Word}
 use Rattle.crossterm_read.specs.Scripted.{ScriptLeft, ScriptTells, script_none, script_on}
@@ -8,7 +7,7 @@ use Rattle.crossterm_read.specs.Turns.{Source, SourceDrawn, source_none, source_
 use Rattle.crossterm_read.proofs.Spelling.{script_told}
 use Rattle.crossterm_read.specs.declared.read.trace.Call.{Call}
 use Rattle.crossterm_read.specs.declared.read.trace.Reply.{Reply}
-use Rattle.crossterm_read.specs.Shelf.{ReaderState, kept}
+use Rattle.crossterm_read.specs.Shelf.{ReaderState}
 use Rattle.crossterm_read.specs.Calls.{said, joined, empty, Run}
 use Rattle.crossterm_read.proofs.Accounting.{accounts}
 use Rattle.crossterm_read.proofs.Runs.{Played, played_none, played_more}
@@ -38,7 +37,7 @@ returns-clause-run g c =
       last = c.loop-call.reader.shelf;
       told = subst (λ (l : List Word). Told l (joined p.answers)) (ap (λ (d : ScriptLeft). d.left) (c.new-source.ensures.device ∙ c.new.ensures)) told;
       run = subst (λ (l : List Call). Run empty l p.answers p.replies c.loop-call.reader.shelf) all p.run;
-      left = c.in_ok-held.ensures ∙ sym (map-map (λ h. h.0) kept c.into_held.result.items) ∙ ap (λ l. map (λ h. h.0) l) c.into_held.ensures;
+      left = c.in_ok-held.ensures;
     }
 
 pub returns-clause-account : goal.returns-clause-account

@@ -1,6 +1,7 @@
-use Rattle.std.proofs.Common.{Option, ◌++◌, subst}
+use Rattle.std.proofs.Common.{inl, Some, Option, ◌++◌, subst}
 use Rattle.std.proofs.lemmas.Result.{on_ok_weaker}
-use Rattle.std.specs.Fmt.{WritesInCalls}
+use Rattle.crossterm_command.proofs.Texts.{in_calls}
+use Rattle.crossterm_command.specs.Writing.{Writes}
 use Rattle.std.specs.Prelude.{OnOk}
 use Rattle.crossterm_command.specs.Tokens.{text_of}
 use Rattle.crossterm_style.specs.declared.types.color.Color.{Color}
@@ -17,6 +18,6 @@ returns g c =
     let back = where_there BackgroundColor in
     let front = where_there ForegroundColor in
     let Written : Option Color → Option Color → Type 0 = λ b f.
-    OnOk c.set_foreground.result (WritesInCalls took c.args.f.now (text_of (told colors (back b ++ front f))) c.set_foreground.new.f) in
-    let both : Written c.reset_where.result c.reset_where-2.result = on_ok_weaker _ (λ last. tells_acts took colors _ (back c.reset_where.result) _ (front c.reset_where-2.result) _ c.in_ok-set_background.ensures last) c.set_foreground.ensures in
+    OnOk c.set_foreground.result (Writes took c.args.f.now (Some (text_of (told colors (back b ++ front f)))) c.set_foreground.new.f) in
+    let both : Written c.reset_where.result c.reset_where-2.result = on_ok_weaker _ (λ last. inl (tells_acts took colors _ (back c.reset_where.result) _ (front c.reset_where-2.result) _ (in_calls took _ _ _ c.in_ok-set_background.ensures) (in_calls took _ _ _ last))) c.set_foreground.ensures in
     subst (λ f. Written (reset_where c.args.background) f) c.reset_where-2.ensures (subst (λ b. Written b c.reset_where-2.result) c.reset_where.ensures both)

@@ -1,4 +1,4 @@
-use Rattle.std.proofs.Common.{ℕ, List, OnOk, subst, sym, string_bytes}
+use Rattle.std.proofs.Common.{◌⊎◌, ℕ, List, OnOk, subst, sym, string_bytes}
 use Rattle.std.specs.Fmt.{WritesInCalls}
 use Rattle.std.proofs.lemmas.Str.{IsUtf8-string_bytes}
 use Rattle.crossterm_command.specs.Tokens.{text_of}
@@ -12,7 +12,7 @@ returns-in-PrintStyledContent-clause-ok g c =
     let took = g.W.Write.write_str_gives in
     let call = c.write_ansi-in-PrintStyledContent in
     let styled = c.in-PrintStyledContent.command.0 in
-    let Written : List ℕ → Type 0 = λ l. OnOk call.result (WritesInCalls took c.args.f.now l call.new.f) in
+    let Written : List ℕ → Type 0 = λ l. OnOk call.result (WritesInCalls took c.args.f.now l call.new.f ⊎ took c.args.f.now l call.new.f) in
     subst (λ a. Written (text_of (functions c.args.colors a))) (sym c.in-PrintStyledContent.is)
     (subst Written (text_styled c.args.colors styled.style (string_bytes styled.content) (IsUtf8-string_bytes styled.content)) call.ensures.ok)
 
@@ -21,6 +21,6 @@ returns-in-Print-clause-ok g c =
     let took = g.W.Write.write_str_gives in
     let call = c.write_ansi-in-Print in
     let text = c.in-Print.command.0 in
-    let Written : List ℕ → Type 0 = λ l. OnOk call.result (WritesInCalls took c.args.f.now l call.new.f) in
+    let Written : List ℕ → Type 0 = λ l. OnOk call.result (WritesInCalls took c.args.f.now l call.new.f ⊎ took c.args.f.now l call.new.f) in
     subst (λ a. Written (text_of (functions c.args.colors a))) (sym c.in-Print.is)
     (subst Written (sym (text_printed (string_bytes text) (IsUtf8-string_bytes text))) call.ensures.ok)

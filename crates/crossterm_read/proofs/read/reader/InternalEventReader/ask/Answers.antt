@@ -1,5 +1,4 @@
 use Rattle.std.proofs.Common.{◌≡◌, ℕ, arith, refl, sym, ap, subst, ◌∙◌}
-use Rattle.std.specs.Prelude.{is_some}
 use Rattle.crossterm_read.proofs.Asking.{Asking, none_of, asking_none, asking_came, asking_nothing, asked_held, asked_came, asked_broke, asked_refused, asked_tried, asks_none, asks_more}
 use Rattle.crossterm_read.specs.Device.{IsAtOnce}
 use Rattle.crossterm_read.specs.Shelf.{ReaderState}
@@ -34,17 +33,17 @@ loop-i-preserved g c = record {
 pub loop-i-init : goal.loop-i-init
 loop-i-init g c = record {
   so_far = asking_none g.S.EventSource.drawn g.met.S.EventSource.drawn_on _ _ g.met.S.EventSource.none_drawn c.args.self.now c.args.self.now refl
-      (sym c.first.ensures ∙ none_of c.first.result (sym c.is_some.ensures ∙ c.if-is_some.false));
+      (none_of _ (sym c.holds.ensures ∙ c.if-holds.false));
   at_once = asks_none IsAtOnce _;
   room = omega arith;
   rise = omega arith;
   steady = λ p. refl;
 }
 
-pub returns-then-is_some-clause-asked : goal.returns-then-is_some-clause-asked
-returns-then-is_some-clause-asked g c =
+pub returns-then-holds-clause-asked : goal.returns-then-holds-clause-asked
+returns-then-holds-clause-asked g c =
     asked_held g.S.EventSource.drawn g.met.S.EventSource.drawn_on _ _ g.met.S.EventSource.none_drawn c.args.self.now c.args.tries
-    (ap is_some (sym c.first.ensures) ∙ sym c.is_some.ensures ∙ c.if-is_some.true)
+    (sym c.holds.ensures ∙ c.if-holds.true)
 
 pub returns-in-Refused-clause-asked : goal.returns-in-Refused-clause-asked
 returns-in-Refused-clause-asked g c =

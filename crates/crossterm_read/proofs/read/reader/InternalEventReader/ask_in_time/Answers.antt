@@ -1,6 +1,5 @@
 use Rattle.std.proofs.Common.{◌+◌, ℕ, arith, refl, sym, ap, subst, ◌∙◌}
 use mathlib.Core.Bool.{true≢false}
-use Rattle.std.specs.Prelude.{is_some}
 use Rattle.crossterm_types.specs.Timing.{HasElapsed}
 use Rattle.crossterm_read.specs.Shelf.{ReaderState}
 use Rattle.crossterm_read.proofs.Asking.{Asking, none_of, asking_none, asking_came, asking_nothing, asked_held, asked_came, asked_broke, asked_refused, asked_tried, asks_none}
@@ -8,20 +7,20 @@ use Rattle.crossterm_read.proofs.Waiting.{in_time, in_time_ready, in_time_broke,
 use Rattle.crossterm_read.proofs.read.reader.InternalEventReader.ask_in_time.Goals.{in-Came+else-admitted, in-Nothing}
 use Rattle.crossterm_read.proofs.read.reader.InternalEventReader.ask_in_time.Goals as goal
 
-pub returns-then-is_some-clause-asked : goal.returns-then-is_some-clause-asked
-returns-then-is_some-clause-asked g c =
+pub returns-then-holds-clause-asked : goal.returns-then-holds-clause-asked
+returns-then-holds-clause-asked g c =
     in_time_ready g.S.EventSource.drawn c.args.at_wake (g.F.Filter.admits c.args.filter.now) _ _ _ c.args.self.now c.args.self.now 1 (omega arith) (λ z. omega arith)
-    (asked_held g.S.EventSource.drawn g.met.S.EventSource.drawn_on _ _ g.met.S.EventSource.none_drawn c.args.self.now 1 (ap is_some (sym c.first.ensures) ∙ sym c.is_some.ensures ∙ c.if-is_some.true))
+    (asked_held g.S.EventSource.drawn g.met.S.EventSource.drawn_on _ _ g.met.S.EventSource.none_drawn c.args.self.now 1 (sym c.holds.ensures ∙ c.if-holds.true))
 
-pub returns-then-is_some-clause-limits : goal.returns-then-is_some-clause-limits
-returns-then-is_some-clause-limits g c = asks_none _ _
+pub returns-then-holds-clause-limits : goal.returns-then-holds-clause-limits
+returns-then-holds-clause-limits g c = asks_none _ _
 
 pub loop-init : goal.loop-init
 loop-init g c = record {
   so_far = (
     0,
     asking_none g.S.EventSource.drawn g.met.S.EventSource.drawn_on _ _ g.met.S.EventSource.none_drawn c.args.self.now c.args.self.now refl
-        (sym c.first.ensures ∙ none_of c.first.result (sym c.is_some.ensures ∙ c.if-is_some.false)),
+        (none_of _ (sym c.holds.ensures ∙ c.if-holds.false)),
     λ z. refl,
   );
   later = omega arith;

@@ -1,7 +1,7 @@
-use Rattle.std.proofs.Common.{ℕ, ◌+◌, List, take, flat_map, length, subst, arith, sym, ◌∙◌, ◌≤◌, ap}
+use Rattle.std.proofs.Common.{inl, ℕ, ◌+◌, List, take, flat_map, length, subst, arith, sym, ◌∙◌, ◌≤◌, ap}
 use Rattle.std.specs.List.{filter}
 use Rattle.std.specs.Fmt.{WritesInCalls}
-use Rattle.crossterm_command.proofs.Texts.{writes_both}
+use Rattle.crossterm_command.proofs.Texts.{in_calls, writes_both}
 use Rattle.crossterm_style.specs.Attributes.{all_attributes, has}
 use Rattle.crossterm_style.proofs.Members.{all_written, attribute_text, text_more, text_same}
 use Rattle.crossterm_style.proofs.commands.attributes.SetAttributesCommand.write_ansi.Goals as goal
@@ -15,7 +15,7 @@ loop-attribute-preserved g c =
     let at = c.loop-attribute.attribute-index in
     elim c.if-has.branch [
       | then-has+in_ok-write_ansi w ↦
-          let both = writes_both took _ _ _ _ _ c.loop-attribute.invariant w.in_ok-write_ansi.ensures.ok in
+          let both = writes_both took _ _ _ _ _ c.loop-attribute.invariant (in_calls took _ _ _ w.in_ok-write_ansi.ensures.ok) in
           let grown = subst (λ l. WritesInCalls took c.args.f.now l w.write_ansi.new.f) (text_more attribute_text test items at _ c.loop-attribute-test.true (sym c.has.ensures ∙ w.if-has.true)) both in
           subst (λ f. WritesInCalls took c.args.f.now (flat_map attribute_text (filter test (take (at + 1) items))) f) (sym w.f-is) grown
       | else-has w ↦
@@ -30,4 +30,4 @@ returns-clause-ok g c =
     let all = c.all-attribute-items.ensures in
     let text : List ℕ → Type 0 = λ l. WritesInCalls g.W.Write.write_str_gives c.args.f.now l c.loop-attribute.f in
     let end : length all_attributes ≤ at = subst (λ xs. length xs ≤ at) all (omega (arith, c.loop-attribute-test.false)) in
-    subst text (ap (λ xs. flat_map attribute_text (filter (has bits) (take at xs))) all ∙ all_written c.args.colors bits at end) c.loop-attribute.invariant
+    inl (subst text (ap (λ xs. flat_map attribute_text (filter (has bits) (take at xs))) all ∙ all_written c.args.colors bits at end) c.loop-attribute.invariant)

@@ -1,0 +1,79 @@
+/* Random states and pieces, each in a heap block of its own size: for valgrind. */
+#include "gelvanh.h"
+#include <stdio.h>
+#include <stdlib.h>
+#include <string.h>
+
+static uint64_t seed = 1;
+
+static uint32_t draw(uint32_t below) {
+    seed ^= seed << 13;
+    seed ^= seed >> 7;
+    seed ^= seed << 17;
+    return (uint32_t)(seed >> 32) % below;
+}
+
+static const uint8_t likely[] = "\x1b\x1b[[[<?;;::0123456789MmuAZ~OcRIO200~201~\xc3\xbc\xf0\x9f\x98\x80 az";
+
+static void fill(uint8_t *bytes, size_t length, bool wild) {
+    for (size_t i = 0; i < length; i++)
+        bytes[i] = wild ? (uint8_t)draw(256) : likely[draw(sizeof likely - 1)];
+}
+
+static void fail(const char *what) {
+    fprintf(stderr, "%s\n", what);
+    exit(1);
+}
+
+static void one(bool wild) {
+    struct gelvanh_state *state = calloc(1, sizeof *state);
+    if (wild)
+        fill((uint8_t *)state, sizeof *state, true);
+    size_t length = draw(40), room = draw(9), out = draw(50);
+    uint8_t *piece = length ? malloc(length) : NULL;
+    struct gelvanh_event *events = room ? malloc(room * sizeof *events) : NULL;
+    uint8_t *slice = out ? malloc(out) : NULL;
+    fill(piece, length, draw(2));
+    size_t count = 99, written = 99;
+    size_t taken = gelvanh_feed(state, piece, length, draw(2), draw(2), events, room, &count);
+    if (taken > length || count > room || (length > 0 && room > 0 && taken == 0))
+        fail("bounds of gelvanh_feed");
+    for (size_t i = 0; i < count; i++)
+        if (events[i].kind < 1 || events[i].kind > 8)
+            fail("kind of an event");
+    gelvanh_is_undecided(state);
+    gelvanh_is_pasting(state);
+    size_t read = gelvanh_paste_text(piece, length, slice, out, &written);
+    if (read > length || written > out || (read < length && written + 4 <= out))
+        fail("bounds of gelvanh_paste_text");
+    struct gelvanh_command command;
+    fill((uint8_t *)&command, sizeof command, true);
+    command.kind = draw(50);
+    command.first = (uint16_t)draw(40);
+    command.foreground.kind = (uint8_t)draw(22);
+    command.background.kind = (uint8_t)draw(22);
+    command.underline.kind = (uint8_t)draw(22);
+    command.attributes &= draw(2) ? 0x1FFFFFFE : 0xFFFFFFFF;
+    size_t needed = 0;
+    uint32_t outcome = gelvanh_command(&command, draw(2), slice, out, &needed);
+    if (outcome > 2 || (outcome == 0 && needed > out) || (outcome == 1 && needed <= out))
+        fail("outcome of gelvanh_command");
+    outcome = gelvanh_print_styled(&command, piece, length, draw(2), slice, out, &needed);
+    if (outcome > 2)
+        fail("outcome of gelvanh_print_styled");
+    gelvanh_copy_to_clipboard(piece, length, piece, length / 2, slice, out, &needed);
+    gelvanh_set_title(piece, length, slice, out, &needed);
+    gelvanh_print(piece, length, slice, out, &needed);
+    free(slice);
+    free(events);
+    free(piece);
+    free(state);
+}
+
+int main(int argc, char **argv) {
+    int n = argc > 1 ? atoi(argv[1]) : 20000;
+    for (int i = 0; i < n; i++)
+        one(i % 2);
+    printf("%d states and pieces\n", n);
+    return 0;
+}

@@ -1,0 +1,203 @@
+/* Gelvanh's parser and commands, proved (crates/crossterm_c). No call needs memory, blocks or fails otherwise than told here.
+ *
+ * What a caller owes: each pointer is valid for its length (with a length of 0 it may be NULL), a bool is 0 or 1, and what two arguments
+ * point to doesn't overlap where one of them is written. Any numbers in a state are a state. */
+#ifndef GELVANH_H
+#define GELVANH_H
+
+#include <assert.h>
+#include <stdbool.h>
+#include <stddef.h>
+#include <stdint.h>
+
+#ifdef __cplusplus
+extern "C" {
+#define GELVANH_CHECK(test) static_assert(test, #test)
+#else
+#define GELVANH_CHECK(test) _Static_assert(test, #test)
+#endif
+
+struct gelvanh_number {
+    uint32_t kind, value;
+};
+
+/* The parser's state, which the caller keeps. All zeros is a parser that has seen no bytes. */
+struct gelvanh_state {
+    uint8_t kind, part_one, part_two, place, last, validity, opening, escaped;
+    uint8_t begun[4];
+    struct gelvanh_number one, one_more, two, two_more, three;
+};
+
+enum gelvanh_event_kind {
+    GELVANH_FOCUS_GAINED = 1,
+    GELVANH_FOCUS_LOST = 2,
+    GELVANH_KEY = 3,       /* code, value, modifiers, press, state */
+    GELVANH_MOUSE = 4,     /* code, value, column, row, modifiers */
+    GELVANH_PASTE = 5,     /* its end: the text is with the caller */
+    GELVANH_CURSOR = 6,    /* column, row */
+    GELVANH_FLAGS = 7,     /* flags */
+    GELVANH_ATTRIBUTES = 8
+};
+
+enum gelvanh_key {
+    GELVANH_BACKSPACE, GELVANH_ENTER, GELVANH_LEFT, GELVANH_RIGHT, GELVANH_UP, GELVANH_DOWN, GELVANH_HOME, GELVANH_END,
+    GELVANH_PAGE_UP, GELVANH_PAGE_DOWN, GELVANH_TAB, GELVANH_BACK_TAB, GELVANH_DELETE, GELVANH_INSERT,
+    GELVANH_F,    /* value is the number: 1 is F1 */
+    GELVANH_CHAR, /* value is the character, by its code point */
+    GELVANH_NULL, GELVANH_ESC, GELVANH_CAPS_LOCK, GELVANH_SCROLL_LOCK, GELVANH_NUM_LOCK, GELVANH_PRINT_SCREEN, GELVANH_PAUSE,
+    GELVANH_MENU, GELVANH_KEYPAD_BEGIN,
+    GELVANH_MEDIA,   /* value is crossterm's MediaKeyCode, in declared order */
+    GELVANH_MODIFIER /* value is crossterm's ModifierKeyCode, in declared order */
+};
+
+/* modifiers */
+enum { GELVANH_SHIFT = 1, GELVANH_CONTROL = 2, GELVANH_ALT = 4, GELVANH_SUPER = 8, GELVANH_HYPER = 16, GELVANH_META = 32 };
+
+/* press */
+enum { GELVANH_PRESS, GELVANH_REPEAT, GELVANH_RELEASE };
+
+/* What the mouse did, with its button in value. */
+enum gelvanh_mouse {
+    GELVANH_BUTTON_DOWN, GELVANH_BUTTON_UP, GELVANH_DRAG, GELVANH_MOVED,
+    GELVANH_WHEEL_DOWN, GELVANH_WHEEL_UP, GELVANH_WHEEL_LEFT, GELVANH_WHEEL_RIGHT
+};
+enum { GELVANH_BUTTON_LEFT, GELVANH_BUTTON_RIGHT, GELVANH_BUTTON_MIDDLE };
+
+/* An event. The fields that its kind doesn't name are 0. */
+struct gelvanh_event {
+    uint16_t kind, code;
+    uint32_t value;
+    uint16_t column, row; /* from 0 */
+    uint8_t modifiers, press, state, flags;
+};
+
+/* Takes bytes of a terminal, and tells how many. `count` is how many events they gave, which stand in front of `events`.
+ *
+ * It stops where all are taken, where the table of `room` events is full, and after the byte with which a paste opens or is over; then
+ * the others are handed in again. So where a paste was open before the call, all bytes taken are of it: the caller keeps them, and where
+ * the paste is over its event is the only one, and its text that of the bytes kept but the last six.
+ *
+ * `more` says that bytes of the same answer of the terminal follow at once, so that ESC at the end is no Esc key yet. `raw` is the mode
+ * that the bytes came in: there a line feed is Ctrl-J, and Enter otherwise. */
+size_t gelvanh_feed(struct gelvanh_state *state, const uint8_t *piece, size_t length, bool more, bool raw,
+                    struct gelvanh_event *events, size_t room, size_t *count);
+
+/* Whether bytes were taken that are no whole sequence yet. */
+bool gelvanh_is_undecided(const struct gelvanh_state *state);
+
+/* Whether a paste is open, whose bytes the caller keeps. */
+bool gelvanh_is_pasting(const struct gelvanh_state *state);
+
+/* Writes the text of a paste's bytes (without the six of its end), with U+FFFD for each maximal part that isn't UTF-8, as far as there is
+ * room for whole characters. It tells how many bytes were read: the text of the others is still missing. `written` is how many bytes
+ * were written. With room for three times the bytes all are read. */
+size_t gelvanh_paste_text(const uint8_t *bytes, size_t length, uint8_t *text, size_t room, size_t *written);
+
+/* A colour: 0 none, 1 the terminal's own, 2 to 17 by name, 18 by its parts, 19 by its place in the palette, which is r. */
+struct gelvanh_color {
+    uint8_t kind, r, g, b;
+};
+enum {
+    GELVANH_NO_COLOR, GELVANH_RESET, GELVANH_BLACK, GELVANH_DARK_GREY, GELVANH_RED, GELVANH_DARK_RED, GELVANH_GREEN, GELVANH_DARK_GREEN,
+    GELVANH_YELLOW, GELVANH_DARK_YELLOW, GELVANH_BLUE, GELVANH_DARK_BLUE, GELVANH_MAGENTA, GELVANH_DARK_MAGENTA, GELVANH_CYAN,
+    GELVANH_DARK_CYAN, GELVANH_WHITE, GELVANH_GREY, GELVANH_RGB, GELVANH_PALETTE
+};
+
+/* Commands by their places in the list of all. A trailing comment names the fields that count. */
+enum gelvanh_command_kind {
+    GELVANH_MOVE_TO,                /* first: column, second: row, from 0 */
+    GELVANH_MOVE_TO_COLUMN,         /* first */
+    GELVANH_MOVE_TO_ROW,            /* first */
+    GELVANH_MOVE_TO_NEXT_LINE,      /* first: how many */
+    GELVANH_MOVE_TO_PREVIOUS_LINE,  /* first */
+    GELVANH_MOVE_UP,                /* first */
+    GELVANH_MOVE_DOWN,              /* first */
+    GELVANH_MOVE_RIGHT,             /* first */
+    GELVANH_MOVE_LEFT,              /* first */
+    GELVANH_SAVE_POSITION,
+    GELVANH_RESTORE_POSITION,
+    GELVANH_HIDE,
+    GELVANH_SHOW,
+    GELVANH_ENABLE_BLINKING,
+    GELVANH_DISABLE_BLINKING,
+    GELVANH_SET_CURSOR_STYLE,       /* first: 0 to 6, as DECSCUSR */
+    GELVANH_DISABLE_LINE_WRAP,
+    GELVANH_ENABLE_LINE_WRAP,
+    GELVANH_ENTER_ALTERNATE_SCREEN,
+    GELVANH_LEAVE_ALTERNATE_SCREEN,
+    GELVANH_CLEAR,                  /* first: 0 all, 1 purge, 2 from the cursor down, 3 up to it, 4 the line, 5 to its end */
+    GELVANH_SCROLL_UP,              /* first */
+    GELVANH_SCROLL_DOWN,            /* first */
+    GELVANH_SET_SIZE,               /* first: columns, second: rows */
+    GELVANH_SET_TITLE,              /* by gelvanh_set_title */
+    GELVANH_BEGIN_SYNCHRONIZED_UPDATE,
+    GELVANH_END_SYNCHRONIZED_UPDATE,
+    GELVANH_ENABLE_MOUSE_CAPTURE,
+    GELVANH_DISABLE_MOUSE_CAPTURE,
+    GELVANH_ENABLE_FOCUS_CHANGE,
+    GELVANH_DISABLE_FOCUS_CHANGE,
+    GELVANH_ENABLE_BRACKETED_PASTE,
+    GELVANH_DISABLE_BRACKETED_PASTE,
+    GELVANH_PUSH_KEYBOARD_FLAGS,    /* first: the bits */
+    GELVANH_POP_KEYBOARD_FLAGS,
+    GELVANH_SET_FOREGROUND_COLOR,   /* foreground */
+    GELVANH_SET_BACKGROUND_COLOR,   /* background */
+    GELVANH_SET_UNDERLINE_COLOR,    /* underline */
+    GELVANH_SET_COLORS,             /* foreground, background */
+    GELVANH_SET_ATTRIBUTE,          /* first: its place in crossterm's enum */
+    GELVANH_SET_ATTRIBUTES,         /* attributes */
+    GELVANH_SET_STYLE,              /* foreground, background, underline, attributes */
+    GELVANH_PRINT_STYLED_CONTENT,   /* by gelvanh_print_styled */
+    GELVANH_RESET_COLOR,
+    GELVANH_COPY_TO_CLIPBOARD,      /* by gelvanh_copy_to_clipboard */
+    GELVANH_PRINT                   /* by gelvanh_print */
+};
+
+struct gelvanh_command {
+    uint32_t kind;
+    uint32_t attributes; /* a bit for each attribute, the first from bit 1 on */
+    uint16_t first, second;
+    struct gelvanh_color foreground, background, underline;
+};
+
+/* What came of a command. */
+enum gelvanh_outcome {
+    GELVANH_WRITTEN,      /* its text was written; `length` is how many bytes it has */
+    GELVANH_TOO_SMALL,    /* it has more bytes than there is room, as `length` tells; nothing was written */
+    GELVANH_NAMES_NOTHING,/* the numbers name no command, or the text isn't UTF-8; nothing was written */
+    GELVANH_FAILED        /* the command failed by itself, which none is known to */
+};
+
+/* Writes a command that has no text of its own. `colors` is false where colours aren't to be written, as with NO_COLOR. */
+uint32_t gelvanh_command(const struct gelvanh_command *command, bool colors, uint8_t *slice, size_t room, size_t *length);
+
+/* The four that have one. Texts, titles and places are UTF-8; the places of a copy are letters, `c` the clipboard, `p` the selection. */
+uint32_t gelvanh_print(const uint8_t *text, size_t text_length, uint8_t *slice, size_t room, size_t *length);
+uint32_t gelvanh_set_title(const uint8_t *title, size_t title_length, uint8_t *slice, size_t room, size_t *length);
+uint32_t gelvanh_print_styled(const struct gelvanh_command *style, const uint8_t *text, size_t text_length, bool colors,
+                              uint8_t *slice, size_t room, size_t *length);
+uint32_t gelvanh_copy_to_clipboard(const uint8_t *content, size_t content_length, const uint8_t *places, size_t places_length,
+                                   uint8_t *slice, size_t room, size_t *length);
+
+/* The numbers that the proved crate's tests fix too. */
+GELVANH_CHECK(sizeof(struct gelvanh_state) == 52);
+GELVANH_CHECK(offsetof(struct gelvanh_state, begun) == 8);
+GELVANH_CHECK(offsetof(struct gelvanh_state, one) == 12);
+GELVANH_CHECK(offsetof(struct gelvanh_state, three) == 44);
+GELVANH_CHECK(sizeof(struct gelvanh_event) == 16);
+GELVANH_CHECK(offsetof(struct gelvanh_event, value) == 4);
+GELVANH_CHECK(offsetof(struct gelvanh_event, column) == 8);
+GELVANH_CHECK(offsetof(struct gelvanh_event, modifiers) == 12);
+GELVANH_CHECK(offsetof(struct gelvanh_event, flags) == 15);
+GELVANH_CHECK(sizeof(struct gelvanh_color) == 4);
+GELVANH_CHECK(sizeof(struct gelvanh_command) == 24);
+GELVANH_CHECK(offsetof(struct gelvanh_command, attributes) == 4);
+GELVANH_CHECK(offsetof(struct gelvanh_command, foreground) == 12);
+GELVANH_CHECK(offsetof(struct gelvanh_command, underline) == 20);
+GELVANH_CHECK(GELVANH_PRINT == 45);
+
+#ifdef __cplusplus
+}
+#endif
+
+#endif

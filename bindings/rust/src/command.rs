@@ -1,0 +1,282 @@
+//! Commands, and how their bytes get to a writer.
+#![allow(missing_docs)]
+
+use crate::event::KeyboardEnhancementFlags;
+use crate::raw;
+use std::io;
+
+#[derive(Clone, Copy, Debug, PartialEq, Eq, Hash)]
+pub enum Color {
+    Reset,
+    Black,
+    DarkGrey,
+    Red,
+    DarkRed,
+    Green,
+    DarkGreen,
+    Yellow,
+    DarkYellow,
+    Blue,
+    DarkBlue,
+    Magenta,
+    DarkMagenta,
+    Cyan,
+    DarkCyan,
+    White,
+    Grey,
+    Rgb { r: u8, g: u8, b: u8 },
+    AnsiValue(u8),
+}
+
+#[derive(Clone, Copy, Debug, PartialEq, Eq, Hash)]
+pub enum Attribute {
+    Reset,
+    Bold,
+    Dim,
+    Italic,
+    Underlined,
+    DoubleUnderlined,
+    Undercurled,
+    Underdotted,
+    Underdashed,
+    SlowBlink,
+    RapidBlink,
+    Reverse,
+    Hidden,
+    CrossedOut,
+    Fraktur,
+    NoBold,
+    NormalIntensity,
+    NoItalic,
+    NoUnderline,
+    NoBlink,
+    NoReverse,
+    NoHidden,
+    NotCrossedOut,
+    Framed,
+    Encircled,
+    OverLined,
+    NotFramedOrEncircled,
+    NotOverLined,
+}
+
+/// A set of attributes.
+#[derive(Clone, Copy, Debug, Default, PartialEq, Eq, Hash)]
+pub struct Attributes(u32);
+
+impl Attributes {
+    /// The set with an attribute.
+    pub const fn with(self, attribute: Attribute) -> Attributes {
+        Attributes(self.0 | 2 << attribute as u32)
+    }
+}
+
+/// How a text looks.
+#[derive(Clone, Copy, Debug, Default, PartialEq, Eq, Hash)]
+pub struct Style {
+    pub foreground: Option<Color>,
+    pub background: Option<Color>,
+    pub underline: Option<Color>,
+    pub attributes: Attributes,
+}
+
+#[derive(Clone, Copy, Debug, PartialEq, Eq, Hash)]
+pub enum ClearType {
+    All,
+    Purge,
+    FromCursorDown,
+    FromCursorUp,
+    CurrentLine,
+    UntilNewLine,
+}
+
+#[derive(Clone, Copy, Debug, PartialEq, Eq, Hash)]
+pub enum CursorStyle {
+    DefaultUserShape,
+    BlinkingBlock,
+    SteadyBlock,
+    BlinkingUnderScore,
+    SteadyUnderScore,
+    BlinkingBar,
+    SteadyBar,
+}
+
+/// A command, under crossterm's names.
+#[derive(Clone, Copy, Debug, PartialEq)]
+pub enum Command<'a> {
+    /// Column and row, from 0.
+    MoveTo(u16, u16),
+    MoveToColumn(u16),
+    MoveToRow(u16),
+    MoveToNextLine(u16),
+    MoveToPreviousLine(u16),
+    MoveUp(u16),
+    MoveDown(u16),
+    MoveRight(u16),
+    MoveLeft(u16),
+    SetCursorStyle(CursorStyle),
+    Clear(ClearType),
+    ScrollUp(u16),
+    ScrollDown(u16),
+    /// Columns and rows.
+    SetSize(u16, u16),
+    SetTitle(&'a str),
+    PushKeyboardEnhancementFlags(KeyboardEnhancementFlags),
+    SetForegroundColor(Color),
+    SetBackgroundColor(Color),
+    SetUnderlineColor(Color),
+    /// The colour of the text and the one behind it, where they are there.
+    SetColors(Option<Color>, Option<Color>),
+    SetAttribute(Attribute),
+    SetAttributes(Attributes),
+    SetStyle(Style),
+    PrintStyledContent(Style, &'a str),
+    /// The content, and the letters of the places: `c` is the clipboard, `p` the primary selection.
+    CopyToClipboard(&'a [u8], &'a str),
+    Print(&'a str),
+    SavePosition,
+    RestorePosition,
+    Hide,
+    Show,
+    EnableBlinking,
+    DisableBlinking,
+    DisableLineWrap,
+    EnableLineWrap,
+    EnterAlternateScreen,
+    LeaveAlternateScreen,
+    BeginSynchronizedUpdate,
+    EndSynchronizedUpdate,
+    EnableMouseCapture,
+    DisableMouseCapture,
+    EnableFocusChange,
+    DisableFocusChange,
+    EnableBracketedPaste,
+    DisableBracketedPaste,
+    PopKeyboardEnhancementFlags,
+    ResetColor,
+}
+
+#[inline]
+fn color(color: Color) -> raw::Color {
+    let named = |kind| raw::Color { kind, ..raw::Color::default() };
+    match color {
+        Color::Reset => named(1),
+        Color::Black => named(2),
+        Color::DarkGrey => named(3),
+        Color::Red => named(4),
+        Color::DarkRed => named(5),
+        Color::Green => named(6),
+        Color::DarkGreen => named(7),
+        Color::Yellow => named(8),
+        Color::DarkYellow => named(9),
+        Color::Blue => named(10),
+        Color::DarkBlue => named(11),
+        Color::Magenta => named(12),
+        Color::DarkMagenta => named(13),
+        Color::Cyan => named(14),
+        Color::DarkCyan => named(15),
+        Color::White => named(16),
+        Color::Grey => named(17),
+        Color::Rgb { r, g, b } => raw::Color { kind: 18, r, g, b },
+        Color::AnsiValue(place) => raw::Color { kind: 19, r: place, g: 0, b: 0 },
+    }
+}
+
+#[inline]
+fn there(there: Option<Color>) -> raw::Color {
+    there.map(color).unwrap_or_default()
+}
+
+fn style(style: &Style) -> raw::Command {
+    raw::Command {
+        kind: 41,
+        attributes: style.attributes.0,
+        foreground: there(style.foreground),
+        background: there(style.background),
+        underline: there(style.underline),
+        ..raw::Command::default()
+    }
+}
+
+/// The numbers of a command that has no text of its own.
+#[inline]
+fn numbers(command: &Command) -> raw::Command {
+    let none = raw::Command::default();
+    let of = |kind, first| raw::Command { kind, first, ..none };
+    match *command {
+        Command::MoveTo(column, row) => raw::Command { second: row, ..of(0, column) },
+        Command::MoveToColumn(n) => of(1, n),
+        Command::MoveToRow(n) => of(2, n),
+        Command::MoveToNextLine(n) => of(3, n),
+        Command::MoveToPreviousLine(n) => of(4, n),
+        Command::MoveUp(n) => of(5, n),
+        Command::MoveDown(n) => of(6, n),
+        Command::MoveRight(n) => of(7, n),
+        Command::MoveLeft(n) => of(8, n),
+        Command::SavePosition => of(9, 0),
+        Command::RestorePosition => of(10, 0),
+        Command::Hide => of(11, 0),
+        Command::Show => of(12, 0),
+        Command::EnableBlinking => of(13, 0),
+        Command::DisableBlinking => of(14, 0),
+        Command::DisableLineWrap => of(16, 0),
+        Command::EnableLineWrap => of(17, 0),
+        Command::EnterAlternateScreen => of(18, 0),
+        Command::LeaveAlternateScreen => of(19, 0),
+        Command::BeginSynchronizedUpdate => of(25, 0),
+        Command::EndSynchronizedUpdate => of(26, 0),
+        Command::EnableMouseCapture => of(27, 0),
+        Command::DisableMouseCapture => of(28, 0),
+        Command::EnableFocusChange => of(29, 0),
+        Command::DisableFocusChange => of(30, 0),
+        Command::EnableBracketedPaste => of(31, 0),
+        Command::DisableBracketedPaste => of(32, 0),
+        Command::PopKeyboardEnhancementFlags => of(34, 0),
+        Command::ResetColor => of(43, 0),
+        Command::SetCursorStyle(shape) => of(15, shape as u16),
+        Command::Clear(cleared) => of(20, cleared as u16),
+        Command::ScrollUp(n) => of(21, n),
+        Command::ScrollDown(n) => of(22, n),
+        Command::SetSize(columns, rows) => raw::Command { second: rows, ..of(23, columns) },
+        Command::PushKeyboardEnhancementFlags(flags) => of(33, u16::from(flags.bits())),
+        Command::SetForegroundColor(c) => raw::Command { foreground: color(c), ..of(35, 0) },
+        Command::SetBackgroundColor(c) => raw::Command { background: color(c), ..of(36, 0) },
+        Command::SetUnderlineColor(c) => raw::Command { underline: color(c), ..of(37, 0) },
+        Command::SetColors(f, b) => raw::Command { foreground: there(f), background: there(b), ..of(38, 0) },
+        Command::SetAttribute(attribute) => of(39, attribute as u16),
+        Command::SetAttributes(attributes) => raw::Command { attributes: attributes.0, ..of(40, 0) },
+        Command::SetStyle(ref s) => style(s),
+        Command::SetTitle(_) => of(24, 0),
+        Command::PrintStyledContent(..) => of(42, 0),
+        Command::CopyToClipboard(..) => of(44, 0),
+        Command::Print(_) => of(45, 0),
+    }
+}
+
+/// Writes a command into a slice, and tells how many bytes it has; where they are more than the slice has, nothing was written.
+/// `colors` is false where colours aren't to be written, as with `NO_COLOR`.
+///
+/// It is `None` where the archive says that there is no such command, which no value of this type is.
+#[inline]
+pub fn put_command(slice: &mut [u8], command: &Command, colors: bool) -> Option<usize> {
+    let (told, length) = match command {
+        Command::Print(text) => raw::print(text, slice),
+        Command::SetTitle(title) => raw::set_title(title, slice),
+        Command::PrintStyledContent(s, text) => raw::print_styled(&style(s), text, colors, slice),
+        Command::CopyToClipboard(content, places) => raw::copy_to_clipboard(content, places, slice),
+        other => raw::command(&numbers(other), colors, slice),
+    };
+    (told < 2).then_some(length)
+}
+
+/// Writes a command on a writer.
+pub fn write_command<W: io::Write + ?Sized>(writer: &mut W, command: &Command, colors: bool) -> io::Result<()> {
+    let mut short = [0; 64];
+    let told = put_command(&mut short, command, colors).ok_or(io::ErrorKind::InvalidInput)?;
+    if let Some(bytes) = short.get(..told) {
+        return writer.write_all(bytes);
+    }
+    let mut long = vec![0; told];
+    put_command(&mut long, command, colors).ok_or(io::ErrorKind::InvalidInput)?;
+    writer.write_all(&long)
+}

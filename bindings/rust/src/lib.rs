@@ -1,0 +1,52 @@
+//! A terminal's events and commands, by Gelvanh's parser and commands, which are proved and linked as an archive.
+//!
+//! Events are shaped as crossterm's:
+//!
+//! ```
+//! use gelvanh::{Event, InternalEvent, KeyCode, Parser};
+//!
+//! let mut parser = Parser::default();
+//! // The bytes of one answer of the terminal; no more follow at once, and it is in raw mode.
+//! let mut events = parser.feed(b"\x1b[A\x1b[200~two\xFF\x1b[201~", false, true);
+//! let Some(InternalEvent::Event(Event::Key(up))) = events.next() else { panic!() };
+//! assert_eq!(up.code, KeyCode::Up);
+//! assert_eq!(events.next(), Some(InternalEvent::Event(Event::Paste("two\u{FFFD}".into()))));
+//! assert_eq!(events.next(), None);
+//! ```
+//!
+//! Commands are written on any writer:
+//!
+//! ```
+//! use gelvanh::{Color, Command, write_command};
+//!
+//! let mut out = Vec::new();
+//! write_command(&mut out, &Command::MoveTo(9, 1), true)?;
+//! write_command(&mut out, &Command::SetForegroundColor(Color::Red), true)?;
+//! write_command(&mut out, &Command::Print("hi"), true)?;
+//! assert_eq!(out, b"\x1b[2;10H\x1b[38;5;9mhi");
+//! # Ok::<(), std::io::Error>(())
+//! ```
+//!
+//! What is proved is the archive's code: that the events are the meanings of the parts of the only division of the bytes, and a command's
+//! bytes its text. This wrapper isn't: its part is the declarations of `raw`, which hold all its `unsafe`, and from numbers to enums.
+#![deny(unsafe_code)]
+#![warn(missing_docs)]
+
+mod command;
+mod event;
+mod parser;
+#[allow(unsafe_code)]
+mod raw;
+
+pub use command::{put_command, write_command, Attribute, Attributes, ClearType, Color, Command, CursorStyle, Style};
+pub use event::{
+    Event, InternalEvent, KeyCode, KeyEvent, KeyEventKind, KeyEventState, KeyModifiers, KeyboardEnhancementFlags, MediaKeyCode,
+    ModifierKeyCode, MouseButton, MouseEvent, MouseEventKind,
+};
+pub use parser::{Events, Parser};
+
+/// The events before they are given a shape, as numbers.
+pub mod flat {
+    pub use crate::parser::FlatParser;
+    pub use crate::raw::Event;
+}

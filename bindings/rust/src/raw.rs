@@ -1,0 +1,159 @@
+//! The archive's calls, as `bindings/c/gelvanh.h` has them.
+
+#[repr(C)]
+#[derive(Clone, Copy, Default)]
+struct Number {
+    kind: u32,
+    value: u32,
+}
+
+/// The parser's state.
+#[repr(C)]
+#[derive(Clone, Copy, Default)]
+pub struct State {
+    bytes: [u8; 12],
+    numbers: [Number; 5],
+}
+
+/// An event as numbers: `bindings/c/gelvanh.h` says which.
+#[repr(C)]
+#[derive(Clone, Copy, Default, Debug, PartialEq, Eq)]
+pub struct Event {
+    /// What it is.
+    pub kind: u16,
+    /// Which key, or what the mouse did.
+    pub code: u16,
+    /// The key's character or number, or the mouse's button.
+    pub value: u32,
+    /// The column, from 0.
+    pub column: u16,
+    /// The row, from 0.
+    pub row: u16,
+    /// The modifiers' bits.
+    pub modifiers: u8,
+    /// Pressed, held or let go.
+    pub press: u8,
+    /// The bits of the key's state.
+    pub state: u8,
+    /// The bits of the keyboard's flags.
+    pub flags: u8,
+}
+
+#[repr(C)]
+#[derive(Clone, Copy, Default)]
+pub struct Color {
+    pub kind: u8,
+    pub r: u8,
+    pub g: u8,
+    pub b: u8,
+}
+
+#[repr(C)]
+#[derive(Clone, Copy, Default)]
+pub struct Command {
+    pub kind: u32,
+    pub attributes: u32,
+    pub first: u16,
+    pub second: u16,
+    pub foreground: Color,
+    pub background: Color,
+    pub underline: Color,
+}
+
+const _: () = {
+    assert!(size_of::<State>() == 52 && align_of::<State>() == 4);
+    assert!(size_of::<Event>() == 16 && align_of::<Event>() == 4);
+    assert!(std::mem::offset_of!(Event, value) == 4 && std::mem::offset_of!(Event, modifiers) == 12);
+    assert!(size_of::<Color>() == 4);
+    assert!(size_of::<Command>() == 24 && std::mem::offset_of!(Command, foreground) == 12);
+};
+
+use std::mem::{align_of, size_of};
+
+extern "C" {
+    fn gelvanh_feed(
+        state: *mut State, piece: *const u8, length: usize, more: bool, raw: bool, events: *mut Event, room: usize, count: *mut usize,
+    ) -> usize;
+    fn gelvanh_is_undecided(state: *const State) -> bool;
+    fn gelvanh_is_pasting(state: *const State) -> bool;
+    fn gelvanh_paste_text(bytes: *const u8, length: usize, text: *mut u8, room: usize, written: *mut usize) -> usize;
+    fn gelvanh_command(command: *const Command, colors: bool, slice: *mut u8, room: usize, length: *mut usize) -> u32;
+    fn gelvanh_print(text: *const u8, length: usize, slice: *mut u8, room: usize, written: *mut usize) -> u32;
+    fn gelvanh_set_title(title: *const u8, length: usize, slice: *mut u8, room: usize, written: *mut usize) -> u32;
+    fn gelvanh_print_styled(
+        style: *const Command, text: *const u8, length: usize, colors: bool, slice: *mut u8, room: usize, written: *mut usize,
+    ) -> u32;
+    fn gelvanh_copy_to_clipboard(
+        content: *const u8, length: usize, places: *const u8, places_length: usize, slice: *mut u8, room: usize, written: *mut usize,
+    ) -> u32;
+}
+
+// SAFETY of each block below: the declarations are the header's, each pointer is a live reference's or a slice's with its own length, and
+// what is written is borrowed mutably, so nothing overlaps. The archive's functions keep no pointer.
+
+#[inline]
+pub fn feed(state: &mut State, piece: &[u8], more: bool, raw: bool, events: &mut [Event]) -> (usize, usize) {
+    let mut count = 0;
+    let taken = unsafe {
+        gelvanh_feed(state, piece.as_ptr(), piece.len(), more, raw, events.as_mut_ptr(), events.len(), &mut count)
+    };
+    (taken, count)
+}
+
+#[inline]
+pub fn is_undecided(state: &State) -> bool {
+    unsafe { gelvanh_is_undecided(state) }
+}
+
+#[inline]
+pub fn is_pasting(state: &State) -> bool {
+    unsafe { gelvanh_is_pasting(state) }
+}
+
+/// How many bytes were read and written.
+pub fn paste_text(bytes: &[u8], text: &mut [u8]) -> (usize, usize) {
+    let mut written = 0;
+    let read = unsafe { gelvanh_paste_text(bytes.as_ptr(), bytes.len(), text.as_mut_ptr(), text.len(), &mut written) };
+    (read, written)
+}
+
+/// What came of a command, and its length.
+pub type Told = (u32, usize);
+
+#[inline]
+pub fn command(command: &Command, colors: bool, slice: &mut [u8]) -> Told {
+    let mut length = 0;
+    let told = unsafe { gelvanh_command(command, colors, slice.as_mut_ptr(), slice.len(), &mut length) };
+    (told, length)
+}
+
+#[inline]
+pub fn print(text: &str, slice: &mut [u8]) -> Told {
+    let mut length = 0;
+    let told = unsafe { gelvanh_print(text.as_ptr(), text.len(), slice.as_mut_ptr(), slice.len(), &mut length) };
+    (told, length)
+}
+
+pub fn set_title(title: &str, slice: &mut [u8]) -> Told {
+    let mut length = 0;
+    let told = unsafe { gelvanh_set_title(title.as_ptr(), title.len(), slice.as_mut_ptr(), slice.len(), &mut length) };
+    (told, length)
+}
+
+pub fn print_styled(style: &Command, text: &str, colors: bool, slice: &mut [u8]) -> Told {
+    let mut length = 0;
+    let told = unsafe {
+        gelvanh_print_styled(style, text.as_ptr(), text.len(), colors, slice.as_mut_ptr(), slice.len(), &mut length)
+    };
+    (told, length)
+}
+
+pub fn copy_to_clipboard(content: &[u8], places: &str, slice: &mut [u8]) -> Told {
+    let mut length = 0;
+    let told = unsafe {
+        gelvanh_copy_to_clipboard(
+            content.as_ptr(), content.len(), places.as_ptr(), places.len(), slice.as_mut_ptr(), slice.len(), &mut length,
+        )
+    };
+    (told, length)
+}

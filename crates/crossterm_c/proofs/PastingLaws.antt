@@ -1,0 +1,126 @@
+-- An open paste, whose bytes the caller keeps.
+use Rattle.std.proofs.Common.{◌≡◌, ◌==◌, ◌≤◌, ◌<◌, ℕ, ◌+◌, ◌-◌, Bool, true, false, not, ◌&&◌, if◌then◌else◌, List, [], ◌∷◌, ◌++◌, length, take, drop, get_or, refl, ap, sym, ◌∙◌, subst, arith, append_assoc}
+use Rattle.std.proofs.lemmas.List.{append-nil, length-append, take-append-le, take_more, take_rest}
+use Rattle.std.proofs.Math.Seq.{take-add}
+use Rattle.crossterm_types.specs.Seen.{Seen}
+use Rattle.crossterm_parse.specs.Machine.{is_paste, met_after, met_anew, state_after, state_left, text_left, events_left}
+use Rattle.crossterm_parse.specs.Marked.{marked}
+use Rattle.crossterm_parse.specs.Meaning.{pasted}
+use Rattle.crossterm_parse.specs.Standing.{AdvancesOver, PutsAll, PutsByte}
+use Rattle.crossterm_parse.specs.Step.{Step, Open, Closed}
+use Rattle.crossterm_parse.specs.declared.paste.Met.{Met}
+use Rattle.crossterm_parse.specs.declared.paste.Met.TheVariants as met
+use Rattle.crossterm_parse.specs.declared.state.State.{State}
+use Rattle.crossterm_parse.specs.declared.state.State.TheVariants.{Ground, Escape, Ss3, Csi, Bracket, Coded, Sgr, Private, Reply, Numbered, Paste, Utf8}
+use Rattle.crossterm_parse.proofs.StandingLaws.{advance_more}
+use Rattle.crossterm_parse.proofs.RunLaws.{advance_rest, puts_paste}
+use Rattle.crossterm_c.specs.Feeding.{after_paste, standing}
+
+-- the bytes of a piece up to a place, and more of what is left
+pub taken_on : (piece : List ℕ) (i n : ℕ) → take i piece ++ take n (take (length piece - i) (drop i piece)) ≡ take (i + n) piece
+taken_on piece i n = ap (λ (bs : List ℕ). take i piece ++ take n bs) (take_rest piece i) ∙ sym (take-add i n piece)
+
+-- bytes were skipped
+pub skipped : (old mid : State) (kept : List ℕ) (waiting : List Seen) (piece : List ℕ) (more raw : Bool) (i n : ℕ) → i + n ≤ length piece
+    → ((before : List ℕ) → PutsAll (standing mid before waiting) (standing mid (before ++ take n (take (length piece - i) (drop i piece))) waiting) (take n (take (length piece - i) (drop i piece))))
+    → AdvancesOver (standing old kept waiting) (standing mid (kept ++ take i piece) waiting) (take i (marked piece more raw))
+    → AdvancesOver (standing old kept waiting) (standing mid (kept ++ take (i + n) piece) waiting) (take (i + n) (marked piece more raw))
+skipped old mid kept waiting piece more raw i n l puts before =
+    let rest = take n (take (length piece - i) (drop i piece)) in
+    let whole : (kept ++ take i piece) ++ rest ≡ kept ++ take (i + n) piece = append_assoc kept (take i piece) rest ∙ ap (λ (bs : List ℕ). kept ++ bs) (taken_on piece i n) in
+    subst (λ (bs : List ℕ). AdvancesOver (standing old kept waiting) (standing mid bs waiting) (take (i + n) (marked piece more raw))) whole
+    (advance_rest n (standing old kept waiting) (standing mid (kept ++ take i piece) waiting) (standing mid ((kept ++ take i piece) ++ rest) waiting) piece more raw i l (puts (kept ++ take i piece)) before)
+
+left_anew : (t : Bool) (m : Met) (b : ℕ) → is_paste (state_left (if t then Open (Paste m) else met_anew b)) ≡ true
+left_anew true m b = refl
+left_anew false m b = refl
+
+left_last : (t : Bool) (b : ℕ) (new : State) → (if t then Closed else met_anew b) ≡ Open new → is_paste new ≡ true
+left_last true b new e = cc
+left_last false b new e = sym (ap (λ (s : Step). is_paste (state_left s)) e)
+
+met_goes_on : (m : Met) (b : ℕ) (new : State) → met_after m b ≡ Open new → is_paste new ≡ true
+met_goes_on met.Nothing b new e = sym (ap (λ (s : Step). is_paste (state_left s)) e)
+met_goes_on met.Escape b new e = sym (ap (λ (s : Step). is_paste (state_left s)) e) ∙ left_anew (b == 91) met.Bracket b
+met_goes_on met.Bracket b new e = sym (ap (λ (s : Step). is_paste (state_left s)) e) ∙ left_anew (b == 50) met.Two b
+met_goes_on met.Two b new e = sym (ap (λ (s : Step). is_paste (state_left s)) e) ∙ left_anew (b == 48) met.Zero b
+met_goes_on met.Zero b new e = sym (ap (λ (s : Step). is_paste (state_left s)) e) ∙ left_anew (b == 49) met.One b
+met_goes_on met.One b new e = left_last (b == 126) b new e
+
+-- an open paste goes on as one
+pub paste_goes_on : (old new : State) (b : ℕ) (raw pause : Bool) → is_paste old ≡ true → state_after old b raw pause ≡ Open new → is_paste new ≡ true
+paste_goes_on (Paste m) new b raw pause h e = met_goes_on m b new e
+paste_goes_on Ground new b raw pause h e = cc
+paste_goes_on Escape new b raw pause h e = cc
+paste_goes_on Ss3 new b raw pause h e = cc
+paste_goes_on Csi new b raw pause h e = cc
+paste_goes_on Bracket new b raw pause h e = cc
+paste_goes_on (Coded c) new b raw pause h e = cc
+paste_goes_on (Sgr d) new b raw pause h e = cc
+paste_goes_on Private new b raw pause h e = cc
+paste_goes_on (Reply f) new b raw pause h e = cc
+paste_goes_on (Numbered d o) new b raw pause h e = cc
+paste_goes_on (Utf8 c) new b raw pause h e = cc
+
+text_goes_on : (s t : Bool) (text : List ℕ) (b : ℕ) → s ≡ true → t ≡ true → text ++ b ∷ [] ≡ (if t then (if s then text ++ b ∷ [] else []) else text)
+text_goes_on true true text b hs ht = refl
+text_goes_on true false text b hs ht = cc
+text_goes_on false t text b hs ht = cc
+
+-- a byte with which a paste goes on
+pub byte_goes_on : (old new : State) (text : List ℕ) (waiting : List Seen) (b : ℕ) (raw pause : Bool) → is_paste old ≡ true → state_after old b raw false ≡ Open new
+    → PutsByte (standing old text waiting) (standing new (text ++ b ∷ []) waiting) b raw pause
+byte_goes_on old new text waiting b raw pause h opens =
+    puts_paste (standing old text waiting) (standing new (text ++ b ∷ []) waiting) b raw raw false pause h (
+      ap (λ (s : Step). state_left s) (sym opens),
+      text_goes_on (is_paste old) (is_paste new) text b h (paste_goes_on old new b raw false h opens) ∙ ap (λ (s : Step). text_left s old text b) (sym opens),
+      sym (append-nil waiting) ∙ ap (λ (s : Step). waiting ++ events_left s text) (sym opens),
+    )
+
+-- the byte with which it is over
+pub byte_closes : (old : State) (text : List ℕ) (waiting : List Seen) (b : ℕ) (raw pause : Bool) → is_paste old ≡ true → state_after old b raw false ≡ Closed
+    → PutsByte (standing old text waiting) (standing Ground [] (waiting ++ pasted (take (length text - 5) text) ∷ [])) b raw pause
+byte_closes old text waiting b raw pause h closes =
+    puts_paste (standing old text waiting) (standing Ground [] (waiting ++ pasted (take (length text - 5) text) ∷ [])) b raw raw false pause h (
+      ap (λ (s : Step). state_left s) (sym closes),
+      ap (λ (s : Step). text_left s old text b) (sym closes),
+      ap (λ (s : Step). waiting ++ events_left s text) (sym closes),
+    )
+
+-- the last byte of the end belongs to what is kept
+pub text_of_kept : (text : List ℕ) (b : ℕ) → take (length text - 5) text ≡ take (length (text ++ b ∷ []) - 6) (text ++ b ∷ [])
+text_of_kept text b =
+    let longer : length (text ++ b ∷ []) ≡ length text + 1 = length-append text (b ∷ []) in
+    let less : length (text ++ b ∷ []) - 6 ≡ length text - 5 = omega (arith, longer) in
+    sym (ap (λ (n : ℕ). take n (text ++ b ∷ [])) less ∙ take-append-le (length text - 5) text (b ∷ []) (omega arith))
+
+-- one more byte of a piece
+pub kept_more : (kept piece : List ℕ) (i b : ℕ) → i < length piece → b ≡ get_or piece i 0 → (kept ++ take i piece) ++ b ∷ [] ≡ kept ++ take (i + 1) piece
+kept_more kept piece i b l is = append_assoc kept (take i piece) (b ∷ [])
+    ∙ ap (λ (bs : List ℕ). kept ++ bs) (ap (λ (x : ℕ). take i piece ++ x ∷ []) is ∙ sym (take_more piece i 0 l))
+
+-- a byte more of an open paste
+pub paste_more : (old mid new : State) (kept : List ℕ) (waiting : List Seen) (piece : List ℕ) (more raw : Bool) (i b : ℕ) → i < length piece → b ≡ get_or piece i 0
+    → is_paste mid ≡ true → state_after mid b raw false ≡ Open new
+    → AdvancesOver (standing old kept waiting) (standing mid (kept ++ take i piece) waiting) (take i (marked piece more raw))
+    → AdvancesOver (standing old kept waiting) (standing new (kept ++ take (i + 1) piece) waiting) (take (i + 1) (marked piece more raw))
+paste_more old mid new kept waiting piece more raw i b l is h opens before =
+    let text = kept ++ take i piece in
+    let pause = not more && (i + 1 == length piece) in
+    let puts = byte_goes_on mid new text waiting b raw pause h opens in
+    subst (λ (bs : List ℕ). AdvancesOver (standing old kept waiting) (standing new bs waiting) (take (i + 1) (marked piece more raw))) (kept_more kept piece i b l is)
+    (advance_more (standing old kept waiting) (standing mid text waiting) (standing new (text ++ b ∷ []) waiting) piece more raw i b pause l is refl puts.0 puts.1 puts.2 before)
+
+-- the last byte of it
+pub paste_closes : (old mid : State) (kept : List ℕ) (waiting : List Seen) (piece : List ℕ) (more raw : Bool) (i b : ℕ) → i < length piece → b ≡ get_or piece i 0
+    → is_paste mid ≡ true → state_after mid b raw false ≡ Closed
+    → AdvancesOver (standing old kept waiting) (standing mid (kept ++ take i piece) waiting) (take i (marked piece more raw))
+    → AdvancesOver (standing old kept waiting) (after_paste Ground (kept ++ take (i + 1) piece) waiting true) (take (i + 1) (marked piece more raw))
+paste_closes old mid kept waiting piece more raw i b l is h closes before =
+    let text = kept ++ take i piece in
+    let pause = not more && (i + 1 == length piece) in
+    let puts = byte_closes mid text waiting b raw pause h closes in
+    let same : take (length text - 5) text ≡ take (length (kept ++ take (i + 1) piece) - 6) (kept ++ take (i + 1) piece) =
+    text_of_kept text b ∙ ap (λ (bs : List ℕ). take (length bs - 6) bs) (kept_more kept piece i b l is) in
+    subst (λ (bs : List ℕ). AdvancesOver (standing old kept waiting) (standing Ground [] (waiting ++ pasted bs ∷ [])) (take (i + 1) (marked piece more raw))) same
+    (advance_more (standing old kept waiting) (standing mid text waiting) (standing Ground [] (waiting ++ pasted (take (length text - 5) text) ∷ [])) piece more raw i b pause l is refl puts.0 puts.1 puts.2 before)

@@ -1,0 +1,61 @@
+-- The text of bytes, piece by piece.
+use Rattle.std.proofs.Common.{◌≡◌, ◌<◌, ◌+◌, ◌==◌, ℕ, zero, suc, List, [], ◌∷◌, ◌++◌, length, take, drop, nat_lt, true, false, Option, Some, None, refl, ap, sym, ◌∙◌, arith, append_assoc}
+use Rattle.std.specs.Prelude.{encode_utf8_all}
+use Rattle.std.specs.Char.{encode_utf8}
+use Rattle.std.specs.List.{AllByRecursion}
+use Rattle.std.proofs.lemmas.Bool.Decides.{nat_tests}
+use Rattle.std.proofs.lemmas.List.{drop-drop, take_at}
+use Rattle.bstr.specs.Utf8.{Decoded, decoded, good, or_replacement}
+use Rattle.bstr.proofs.lemmas.PieceLemmas.{lossy_chars-step}
+use Rattle.bstr.proofs.lemmas.SoundLemmas.{SpellsChar-decoded}
+use Rattle.crossterm_c.specs.Text.{Begins, text_of}
+
+pub ascii_more : (bs : List ℕ) (b : ℕ) → AllByRecursion (λ x. x < 128) bs → b < 128 → AllByRecursion (λ x. x < 128) (bs ++ b ∷ [])
+ascii_more [] b all is = (is, tt)
+ascii_more (x ∷ bs) b all is = (all.0, ascii_more bs b all.1 is)
+
+text_step : (bs : List ℕ) → 0 < length bs → text_of bs ≡ encode_utf8 (or_replacement (decoded bs).char) ++ text_of (drop (decoded bs).size bs)
+text_step bs some = ap encode_utf8_all (lossy_chars-step bs some)
+
+-- a character, whose bytes are its own
+pub begins_char : (bs : List ℕ) (c : ℕ) → 0 < length bs → (decoded bs).char ≡ Some c → Begins bs (take (decoded bs).size bs) (decoded bs).size
+begins_char bs c some is =
+    let spelt = SpellsChar-decoded bs c is in
+    let n = (decoded bs).size in
+    let front : take n bs ≡ encode_utf8 c = ap (λ (xs : List ℕ). take n xs) spelt.bytes ∙ take_at (encode_utf8 c) (drop n bs) n spelt.width in
+    text_step bs some ∙ ap (λ (o : Option ℕ). encode_utf8 (or_replacement o) ++ text_of (drop n bs)) is ∙ ap (λ (xs : List ℕ). xs ++ text_of (drop n bs)) (sym front)
+
+replaced : encode_utf8 0xFFFD ≡ 239 ∷ 191 ∷ 189 ∷ []
+unfolding encode_utf8
+replaced = refl
+
+-- a part that is none
+pub begins_none : (bs : List ℕ) → 0 < length bs → (decoded bs).char ≡ None → Begins bs (239 ∷ 191 ∷ 189 ∷ []) (decoded bs).size
+begins_none bs some is =
+    let rest = text_of (drop (decoded bs).size bs) in
+    text_step bs some ∙ ap (λ (o : Option ℕ). encode_utf8 (or_replacement o) ++ rest) is ∙ ap (λ (xs : List ℕ). xs ++ rest) replaced
+
+one_byte : (b : ℕ) → b < 128 → encode_utf8 b ≡ b ∷ []
+unfolding encode_utf8
+one_byte b low = let t : nat_lt b 128 ≡ true = grind (arith, nat_tests) in rw t refl
+
+decoded_ascii : (b : ℕ) (bs : List ℕ) → b < 128 → decoded (b ∷ bs) ≡ good b 1
+decoded_ascii b bs low =
+    let some : suc (length bs) == 0 ≡ false = grind (arith, nat_tests) in
+    let t : nat_lt b 0x80 ≡ true = grind (arith, nat_tests) in
+    rw (some, t) refl
+
+-- ASCII
+pub begins_ascii : (n : ℕ) (bs : List ℕ) → AllByRecursion (λ b. b < 128) (take n bs) → Begins bs (take n bs) n
+begins_ascii zero bs all = refl
+begins_ascii (suc n) [] all = refl
+begins_ascii (suc n) (b ∷ bs) all =
+    let step : text_of (b ∷ bs) ≡ b ∷ text_of bs = text_step (b ∷ bs) (omega arith)
+    ∙ ap (λ (p : Decoded). encode_utf8 (or_replacement p.char) ++ text_of (drop p.size (b ∷ bs))) (decoded_ascii b bs all.0)
+    ∙ ap (λ (xs : List ℕ). xs ++ text_of bs) (one_byte b all.0) in
+    step ∙ ap (λ (xs : List ℕ). b ∷ xs) (begins_ascii n bs all.1)
+
+-- one front after another
+pub begins_on : (bs front more : List ℕ) (i n : ℕ) → Begins bs front i → Begins (drop i bs) more n → Begins bs (front ++ more) (i + n)
+begins_on bs front more i n first next =
+    first ∙ ap (λ (xs : List ℕ). front ++ xs) (next ∙ ap (λ (xs : List ℕ). more ++ text_of xs) (drop-drop n i bs)) ∙ sym (append_assoc front more (text_of (drop (i + n) bs)))

@@ -1,0 +1,12 @@
+use Rattle.std.proofs.Common.{◌≡◌, take}
+use Rattle.std.specs.List.{filter}
+use Rattle.crossterm_style.specs.Attributes.{of_list}
+use Rattle.crossterm_c.specs.Command.{includes}
+use Rattle.crossterm_c.proofs.color.gather.Given as goal
+
+-- the attributes before this one were gathered
+abbrev pub invariant-loop-attribute : goal.invariant-loop-attribute
+invariant-loop-attribute l = record {
+  set : l.set.0 ≡ l.known;
+  bits : l.known ≡ of_list (filter (includes l.bits) (take l.attribute-index l.all));
+}

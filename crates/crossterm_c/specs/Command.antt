@@ -1,0 +1,227 @@
+-- Commands as numbers, and their texts. The numbers are those of `bindings/c/gelvanh.h`: a command's kind is its place in the list of all,
+-- an enum's variant its place in declared order.
+use Rattle.std.specs.Prelude.{◌≡◌, ◌<◌, ◌==◌, ℕ, ◌+◌, nat_le, nat_lt, if◌then◌else◌, ⊤, Bool, List, [], ◌∷◌, ◌++◌, length, take, drop, codes, slice_get, Option, Some, None}
+use Rattle.std.specs.Str.{IsUtf8}
+use Rattle.std.specs.Int.RustNames.{bit_and}
+use Rattle.std.specs.List.{filter}
+use Rattle.std.specs.Option.{option_map}
+use Rattle.crossterm_command.specs.Controls.{control, private, reset, set}
+use Rattle.base64.specs.Engines.{standard}
+use Rattle.base64.specs.GeneralPurpose.{encode_of}
+use Rattle.crossterm_command.specs.Tokens.{Token, text_of}
+use Rattle.crossterm_command.specs.Tokens.OscEnd.{St}
+use Rattle.crossterm_command.specs.Tokens.Token.{Osc}
+use Rattle.crossterm_command.specs.declared.color_output.ColorOutput.{ColorOutput}
+use Rattle.crossterm_command.specs.declared.color_output.ColorOutput.TheVariants.{Enabled, Disabled}
+use Rattle.crossterm_style.specs.AttributeSet.{AttributeSet}
+use Rattle.crossterm_style.specs.Attributes.{all_attributes, bit_of, of_list}
+use Rattle.crossterm_style.specs.Acts.{attribute_acts, style_acts}
+use Rattle.crossterm_style.specs.Styles.{attribute_functions, color_functions, colors_functions, reset_functions, styled_text, told}
+use Rattle.crossterm_style.specs.declared.content_style.ContentStyle.{ContentStyle}
+use Rattle.crossterm_style.specs.declared.types.attribute.Attribute.{Attribute}
+use Rattle.crossterm_style.specs.declared.types.color.Color.{Color}
+use Rattle.crossterm_style.specs.declared.types.color.Color.TheVariants as color
+use Rattle.crossterm_style.specs.declared.types.colored.Colored.TheVariants.{ForegroundColor, BackgroundColor, UnderlineColor}
+use Rattle.crossterm_style.specs.declared.types.colors.Colors.{Colors}
+use Rattle.crossterm.specs.Sequences.{by, clear, cursor_style, disable_mouse, enable_mouse, move_to, push_flags, scroll, set_size}
+use Rattle.crossterm.specs.declared.cursor.SetCursorStyle.{SetCursorStyle}
+use Rattle.crossterm.specs.declared.cursor.SetCursorStyle.TheVariants as shape
+use Rattle.crossterm.specs.declared.terminal.ClearType.{ClearType}
+use Rattle.crossterm.specs.declared.terminal.ClearType.TheVariants as cleared
+use Rattle.crossterm_c.specs.declared.color.GelvanhColor.{GelvanhColor}
+use Rattle.crossterm_c.specs.declared.command.GelvanhCommand.{GelvanhCommand}
+use Rattle.crossterm_c.specs.declared.outlet.Outcome.{Outcome}
+use Rattle.crossterm_c.specs.declared.outlet.Outcome.TheVariants.{Written, TooSmall, NamesNothing, Failed}
+
+-- The cursor's shape, what is cleared, and an attribute, by their places.
+abbrev pub shape_at : ℕ → Option SetCursorStyle
+shape_at n =
+    if n == 0 then Some shape.DefaultUserShape else
+    if n == 1 then Some shape.BlinkingBlock else
+    if n == 2 then Some shape.SteadyBlock else
+    if n == 3 then Some shape.BlinkingUnderScore else
+    if n == 4 then Some shape.SteadyUnderScore else
+    if n == 5 then Some shape.BlinkingBar else
+    if n == 6 then Some shape.SteadyBar else
+    None
+
+abbrev pub cleared_at : ℕ → Option ClearType
+cleared_at n =
+    if n == 0 then Some cleared.All else
+    if n == 1 then Some cleared.Purge else
+    if n == 2 then Some cleared.FromCursorDown else
+    if n == 3 then Some cleared.FromCursorUp else
+    if n == 4 then Some cleared.CurrentLine else
+    if n == 5 then Some cleared.UntilNewLine else
+    None
+
+abbrev pub attribute_at : ℕ → Option Attribute
+attribute_at n = slice_get all_attributes n
+
+-- A colour by its place, counted from 1, with its parts, or with its place in the palette as the first of them.
+abbrev pub color_at : GelvanhColor → Option Color
+color_at c =
+    if c.kind == 1 then Some color.Reset else
+    if c.kind == 2 then Some color.Black else
+    if c.kind == 3 then Some color.DarkGrey else
+    if c.kind == 4 then Some color.Red else
+    if c.kind == 5 then Some color.DarkRed else
+    if c.kind == 6 then Some color.Green else
+    if c.kind == 7 then Some color.DarkGreen else
+    if c.kind == 8 then Some color.Yellow else
+    if c.kind == 9 then Some color.DarkYellow else
+    if c.kind == 10 then Some color.Blue else
+    if c.kind == 11 then Some color.DarkBlue else
+    if c.kind == 12 then Some color.Magenta else
+    if c.kind == 13 then Some color.DarkMagenta else
+    if c.kind == 14 then Some color.Cyan else
+    if c.kind == 15 then Some color.DarkCyan else
+    if c.kind == 16 then Some color.White else
+    if c.kind == 17 then Some color.Grey else
+    if c.kind == 18 then Some (color.Rgb c.r c.g c.b) else
+    if c.kind == 19 then Some (color.AnsiValue c.r) else
+    None
+
+-- A colour that may be missing: with 0 it is.
+abbrev pub there_at : GelvanhColor → Option (Option Color)
+there_at c = if c.kind == 0 then Some None else option_map Some (color_at c)
+
+-- Whether bits have an attribute's, and the bits of all attributes whose bits they have.
+abbrev pub includes : ℕ → Attribute → Bool
+includes bits a = bit_and bits (bit_of a) == bit_of a
+
+unfoldable pub known_of : ℕ → ℕ
+known_of bits = of_list (filter (includes bits) all_attributes)
+
+-- The set of some bits, where they are those of attributes and no others.
+abbrev pub attributes_at : ℕ → Option AttributeSet
+attributes_at bits = if known_of bits == bits then Some (record { 0 = bits }) else None
+
+abbrev styled_by : Option (Option Color) → Option (Option Color) → Option (Option Color) → Option AttributeSet → Option ContentStyle
+styled_by (Some f) (Some b) (Some u) (Some a) = Some (record { foreground_color = f; background_color = b; underline_color = u; attributes = a })
+styled_by _ _ _ _ = None
+
+-- The style of a command, where each of its parts is one.
+abbrev pub style_at : GelvanhCommand → Option ContentStyle
+style_at c = styled_by (there_at c.foreground) (there_at c.background) (there_at c.underline) (attributes_at c.attributes)
+
+-- Commands of the cursor.
+abbrev pub cursor_text : GelvanhCommand → Option (List ℕ)
+cursor_text c =
+    if c.kind == 0 then Some (text_of (move_to c.first c.second)) else
+    if c.kind == 1 then Some (text_of (by (c.first + 1) "G")) else
+    if c.kind == 2 then Some (text_of (by (c.first + 1) "d")) else
+    if c.kind == 3 then Some (text_of (by c.first "E")) else
+    if c.kind == 4 then Some (text_of (by c.first "F")) else
+    if c.kind == 5 then Some (text_of (by c.first "A")) else
+    if c.kind == 6 then Some (text_of (by c.first "B")) else
+    if c.kind == 7 then Some (text_of (by c.first "C")) else
+    if c.kind == 8 then Some (text_of (by c.first "D")) else
+    if c.kind == 9 then Some (text_of (private "7")) else
+    if c.kind == 10 then Some (text_of (private "8")) else
+    if c.kind == 11 then Some (text_of (reset "25")) else
+    if c.kind == 12 then Some (text_of (set "25")) else
+    if c.kind == 13 then Some (text_of (set "12")) else
+    if c.kind == 14 then Some (text_of (reset "12")) else
+    if c.kind == 15 then option_map (λ s. text_of (cursor_style s)) (shape_at c.first) else
+    None
+
+-- Commands of the terminal that have no text of their own.
+abbrev pub terminal_text : GelvanhCommand → Option (List ℕ)
+terminal_text c =
+    if c.kind == 16 then Some (text_of (reset "7")) else
+    if c.kind == 17 then Some (text_of (set "7")) else
+    if c.kind == 18 then Some (text_of (set "1049")) else
+    if c.kind == 19 then Some (text_of (reset "1049")) else
+    if c.kind == 20 then option_map (λ s. text_of (clear s)) (cleared_at c.first) else
+    if c.kind == 21 then Some (text_of (scroll c.first "S")) else
+    if c.kind == 22 then Some (text_of (scroll c.first "T")) else
+    if c.kind == 23 then Some (text_of (set_size c.first c.second)) else
+    if c.kind == 25 then Some (text_of (set "2026")) else
+    if c.kind == 26 then Some (text_of (reset "2026")) else
+    None
+
+-- Commands that tell a terminal which events to report.
+abbrev pub event_text : GelvanhCommand → Option (List ℕ)
+event_text c =
+    if c.kind == 27 then Some (text_of enable_mouse) else
+    if c.kind == 28 then Some (text_of disable_mouse) else
+    if c.kind == 29 then Some (text_of (set "1004")) else
+    if c.kind == 30 then Some (text_of (reset "1004")) else
+    if c.kind == 31 then Some (text_of (set "2004")) else
+    if c.kind == 32 then Some (text_of (reset "2004")) else
+    if c.kind == 33 then (if nat_le c.first 255 then Some (text_of (push_flags c.first)) else None) else
+    if c.kind == 34 then Some (text_of (control (codes "<1") "u")) else
+    None
+
+abbrev colors_by : Option (Option Color) → Option (Option Color) → Option Colors
+colors_by (Some f) (Some b) = Some (record { foreground = f; background = b })
+colors_by _ _ = None
+
+-- The two colours of a command, where each is one or is missing.
+abbrev pub colors_at : GelvanhCommand → Option Colors
+colors_at c = colors_by (there_at c.foreground) (there_at c.background)
+
+-- Commands of colours.
+abbrev pub color_text : ColorOutput → GelvanhCommand → Option (List ℕ)
+color_text colors c =
+    if c.kind == 35 then option_map (λ s. text_of (color_functions colors (ForegroundColor s))) (color_at c.foreground) else
+    if c.kind == 36 then option_map (λ s. text_of (color_functions colors (BackgroundColor s))) (color_at c.background) else
+    if c.kind == 37 then option_map (λ s. text_of (color_functions colors (UnderlineColor s))) (color_at c.underline) else
+    if c.kind == 38 then option_map (λ s. text_of (colors_functions colors s.foreground s.background)) (colors_at c) else
+    None
+
+-- Commands of attributes and of whole styles that have no text of their own.
+abbrev pub style_text : ColorOutput → GelvanhCommand → Option (List ℕ)
+style_text colors c =
+    if c.kind == 39 then option_map (λ s. text_of (attribute_functions s)) (attribute_at c.first) else
+    if c.kind == 40 then option_map (λ s. text_of (told colors (attribute_acts s.0))) (attributes_at c.attributes) else
+    if c.kind == 41 then option_map (λ s. text_of (told colors (style_acts s))) (style_at c) else
+    if c.kind == 43 then Some (text_of reset_functions) else
+    None
+
+-- A command that has no text of its own, by its kind.
+abbrev pub command_text : ColorOutput → GelvanhCommand → Option (List ℕ)
+command_text colors c =
+    if nat_lt c.kind 16 then cursor_text c else
+    if nat_lt c.kind 27 then terminal_text c else
+    if nat_lt c.kind 35 then event_text c else
+    if nat_lt c.kind 39 then color_text colors c else
+    style_text colors c
+
+abbrev printed_by : ColorOutput → Option ContentStyle → List ℕ → Option (List ℕ)
+printed_by colors (Some style) text = styled_text colors style (Some text)
+printed_by colors None text = None
+
+-- A text in the style of a command.
+abbrev pub printed : ColorOutput → GelvanhCommand → List ℕ → Option (List ℕ)
+printed colors c text = printed_by colors (style_at c) text
+
+-- A copy of some bytes to the places of some letters: one operating system command.
+abbrev pub copied : List ℕ → List ℕ → List Token
+copied content places = Osc (codes "52;" ++ (places ++ (codes ";" ++ encode_of standard content))) St ∷ []
+
+-- What comes of a text that is to be written into a slice: it stands in front of it, and the rest is as it was; or it doesn't fit, and
+-- nothing was written. Its length is told in both. Where a command fails by itself nothing is known.
+abbrev pub Answers : List ℕ → List ℕ → List ℕ → ℕ → Outcome → Type 0
+Answers text old new n Written = (n ≡ length text) × (take n new ≡ text) × (drop n new ≡ drop n old)
+Answers text old new n TooSmall = (n ≡ length text) × (length old < n) × (new ≡ old)
+Answers text old new n NamesNothing = ⊥
+Answers text old new n Failed = ⊤
+
+-- The same of numbers that may name nothing: exactly then nothing was written, and no length is told.
+abbrev pub AnswersTo : Option (List ℕ) → List ℕ → List ℕ → ℕ → Outcome → Type 0
+AnswersTo (Some text) old new n outcome = Answers text old new n outcome
+AnswersTo None old new n outcome = (outcome ≡ NamesNothing) × (n ≡ 0) × (new ≡ old)
+
+-- The same of a text that has to be UTF-8: where it isn't, it names nothing.
+abbrev pub AnswersText : List ℕ → Option (List ℕ) → List ℕ → List ℕ → ℕ → Outcome → Type 0
+AnswersText utf8 text old new n outcome = (IsUtf8 utf8 → AnswersTo text old new n outcome) × (¬ IsUtf8 utf8 → AnswersTo None old new n outcome)
+
+-- Whether colours are written.
+abbrev pub output_of : Bool → ColorOutput
+output_of colors = if colors then Enabled else Disabled
+
+-- The outcome of a number.
+abbrev pub outcome_at : ℕ → Outcome
+outcome_at n = if n == 0 then Written else if n == 1 then TooSmall else if n == 2 then NamesNothing else Failed

@@ -1,0 +1,159 @@
+//! Colours and attributes as numbers.
+ghost use Rattle.std.specs.Prelude.{◌≡◌, slice_get, [], ◌∷◌};
+ghost use Rattle.std.specs.List.{filter};
+ghost use Rattle.crossterm_style.specs.Attributes.{all_attributes, of_list, with_all};
+ghost use Rattle.crossterm_c.specs.Command.{attribute_at, attributes_at, color_at, includes, known_of, there_at};
+
+use crossterm::style::{Attribute, Attributes, Color};
+
+/// A colour, by its place in crossterm's enum counted from 1; 0 is none.
+#[repr(C)]
+#[derive(Clone, Copy, Debug, PartialEq, Eq)]
+pub struct GelvanhColor {
+    /// Which: 1 the terminal's own, 2 to 17 by name, 18 by its parts, 19 by its place in the palette.
+    pub kind: u8,
+    /// The red part, or the place in the palette.
+    pub r: u8,
+    /// The green part.
+    pub g: u8,
+    /// The blue part.
+    pub b: u8,
+}
+
+/// All attributes, in declared order.
+const ATTRIBUTES: [Attribute; 28] = [
+    Attribute::Reset,
+    Attribute::Bold,
+    Attribute::Dim,
+    Attribute::Italic,
+    Attribute::Underlined,
+    Attribute::DoubleUnderlined,
+    Attribute::Undercurled,
+    Attribute::Underdotted,
+    Attribute::Underdashed,
+    Attribute::SlowBlink,
+    Attribute::RapidBlink,
+    Attribute::Reverse,
+    Attribute::Hidden,
+    Attribute::CrossedOut,
+    Attribute::Fraktur,
+    Attribute::NoBold,
+    Attribute::NormalIntensity,
+    Attribute::NoItalic,
+    Attribute::NoUnderline,
+    Attribute::NoBlink,
+    Attribute::NoReverse,
+    Attribute::NoHidden,
+    Attribute::NotCrossedOut,
+    Attribute::Framed,
+    Attribute::Encircled,
+    Attribute::OverLined,
+    Attribute::NotFramedOrEncircled,
+    Attribute::NotOverLined,
+];
+
+fn attributes<'a>() -> &'a [Attribute]
+    ensures { result.now ≡ all_attributes }
+{
+    &ATTRIBUTES
+}
+
+fn at(all: &[Attribute], place: usize) -> Option<Attribute>
+    ensures { result ≡ slice_get all.now place }
+{
+    all.get(place).copied()
+}
+
+/// The attribute at a place.
+pub(crate) fn attribute_of(place: u16) -> Option<Attribute>
+    ensures { result ≡ attribute_at place }
+{
+    at(attributes(), usize::from(place))
+}
+
+/// Adds an attribute to a set and to its bits, where some bits include it.
+fn include(bits: u32, attribute: Attribute, set: &mut Attributes, known: &mut u32)
+    requires { set.old.0 ≡ known.old }
+    ensures set { set.new.0 ≡ known.new }
+    ensures bits { known.new ≡ with_all known.old (filter (includes bits) (attribute ∷ [])) }
+{
+    let bit = attribute.bytes();
+    if bits & bit == bit {
+        set.set(attribute);
+        *known |= bit;
+    }
+}
+
+/// The set of those attributes that some bits include, and its bits.
+fn gather(bits: u32, all: &[Attribute]) -> (Attributes, u32)
+    ensures set { result.0.0 ≡ result.1 }
+    ensures bits { result.1 ≡ of_list (filter (includes bits) all.now) }
+{
+    let mut set = Attributes::none();
+    let mut known = 0;
+    for attribute in all {
+        include(bits, *attribute, &mut set, &mut known);
+    }
+    (set, known)
+}
+
+/// The set of all attributes that some bits include, and its bits.
+fn known_in(bits: u32) -> (Attributes, u32)
+    ensures set { result.0.0 ≡ result.1 }
+    ensures bits { result.1 ≡ known_of bits }
+{
+    gather(bits, attributes())
+}
+
+/// The set of some bits, where they are those of attributes.
+pub(crate) fn attributes_of(bits: u32) -> Option<Attributes>
+    ensures { result ≡ attributes_at bits }
+{
+    let (set, known) = known_in(bits);
+    if known == bits { Some(set) } else { None }
+}
+
+/// The colour of some numbers.
+pub(crate) fn color_of(color: GelvanhColor) -> Option<Color>
+    ensures { result ≡ color_at color }
+{
+    match color.kind {
+        1 => Some(Color::Reset),
+        2 => Some(Color::Black),
+        3 => Some(Color::DarkGrey),
+        4 => Some(Color::Red),
+        5 => Some(Color::DarkRed),
+        6 => Some(Color::Green),
+        7 => Some(Color::DarkGreen),
+        8 => Some(Color::Yellow),
+        9 => Some(Color::DarkYellow),
+        10 => Some(Color::Blue),
+        11 => Some(Color::DarkBlue),
+        12 => Some(Color::Magenta),
+        13 => Some(Color::DarkMagenta),
+        14 => Some(Color::Cyan),
+        15 => Some(Color::DarkCyan),
+        16 => Some(Color::White),
+        17 => Some(Color::Grey),
+        18 => Some(Color::Rgb {
+            r: color.r,
+            g: color.g,
+            b: color.b,
+        }),
+        19 => Some(Color::AnsiValue(color.r)),
+        _ => None,
+    }
+}
+
+/// The colour of some numbers, which may be missing.
+pub(crate) fn there_of(color: GelvanhColor) -> Option<Option<Color>>
+    ensures { result ≡ there_at color }
+{
+    if color.kind == 0 {
+        return Some(None);
+    }
+    match color_of(color) {
+        Some(color) => Some(Some(color)),
+        None => None,
+    }
+}

@@ -1,0 +1,228 @@
+//! Events as numbers.
+ghost use Rattle.std.specs.Prelude.{◌≡◌, ◌-◌, ℕ, List, length, take};
+ghost use Rattle.crossterm_types.specs.Seen.{Key, Mouse};
+ghost use Rattle.crossterm_parse.specs.Meaning.{pasted, seen_meaning};
+ghost use Rattle.crossterm_c.specs.Event.{button_at, code_at, done_at, event_at, media_at, modifier_at, press_at};
+
+use crossterm_parse::meaning::Meaning;
+use crossterm_types::event::{
+    KeyCode, KeyEvent, KeyEventKind, MediaKeyCode, ModifierKeyCode, MouseButton, MouseEvent,
+    MouseEventKind,
+};
+
+/// An event. Which fields count depends on its kind; the others are 0.
+#[repr(C)]
+#[derive(Clone, Copy, Debug, PartialEq, Eq)]
+pub struct GelvanhEvent {
+    /// 1 the focus was gained, 2 it was lost, 3 a key, 4 the mouse, 5 the end of a paste, 6 the cursor's place, 7 the flags of the
+    /// keyboard, 8 the terminal's attributes.
+    pub kind: u16,
+    /// Which key, or what the mouse did, by its place in crossterm's enum.
+    pub code: u16,
+    /// The key's character or number, or the mouse's button.
+    pub value: u32,
+    /// The column of the mouse or of the cursor, from 0.
+    pub column: u16,
+    /// The row, from 0.
+    pub row: u16,
+    /// The bits of the modifiers that were held.
+    pub modifiers: u8,
+    /// Of a key: 0 pressed, 1 held, 2 let go.
+    pub press: u8,
+    /// The bits of what else the keyboard told.
+    pub state: u8,
+    /// The bits of the keyboard's flags.
+    pub flags: u8,
+}
+
+/// An event of this kind, with nothing but it.
+pub(crate) fn plain(kind: u16) -> GelvanhEvent
+    ensures { result ≡ record { kind = kind; code = 0; value = 0; column = 0; row = 0; modifiers = 0; press = 0; state = 0; flags = 0 } }
+{
+    GelvanhEvent {
+        kind,
+        code: 0,
+        value: 0,
+        column: 0,
+        row: 0,
+        modifiers: 0,
+        press: 0,
+        state: 0,
+        flags: 0,
+    }
+}
+
+/// The end of a paste, whose text is with the caller.
+pub(crate) fn paste_end() -> GelvanhEvent
+    ensures { (kept : List ℕ) → event_at kept result ≡ pasted (take (length kept - 6) kept) }
+{
+    plain(5)
+}
+
+/// The place of a media key.
+fn media(code: MediaKeyCode) -> u32
+    ensures { media_at result ≡ code }
+{
+    match code {
+        MediaKeyCode::Play => 0,
+        MediaKeyCode::Pause => 1,
+        MediaKeyCode::PlayPause => 2,
+        MediaKeyCode::Reverse => 3,
+        MediaKeyCode::Stop => 4,
+        MediaKeyCode::FastForward => 5,
+        MediaKeyCode::Rewind => 6,
+        MediaKeyCode::TrackNext => 7,
+        MediaKeyCode::TrackPrevious => 8,
+        MediaKeyCode::Record => 9,
+        MediaKeyCode::LowerVolume => 10,
+        MediaKeyCode::RaiseVolume => 11,
+        MediaKeyCode::MuteVolume => 12,
+    }
+}
+
+/// The place of a modifier key.
+fn modifier(code: ModifierKeyCode) -> u32
+    ensures { modifier_at result ≡ code }
+{
+    match code {
+        ModifierKeyCode::LeftShift => 0,
+        ModifierKeyCode::LeftControl => 1,
+        ModifierKeyCode::LeftAlt => 2,
+        ModifierKeyCode::LeftSuper => 3,
+        ModifierKeyCode::LeftHyper => 4,
+        ModifierKeyCode::LeftMeta => 5,
+        ModifierKeyCode::RightShift => 6,
+        ModifierKeyCode::RightControl => 7,
+        ModifierKeyCode::RightAlt => 8,
+        ModifierKeyCode::RightSuper => 9,
+        ModifierKeyCode::RightHyper => 10,
+        ModifierKeyCode::RightMeta => 11,
+        ModifierKeyCode::IsoLevel3Shift => 12,
+        ModifierKeyCode::IsoLevel5Shift => 13,
+    }
+}
+
+/// The place of a key, and its number or its character.
+fn code_and_value(code: KeyCode) -> (u16, u32)
+    ensures { code_at result.0 result.1 ≡ code }
+{
+    match code {
+        KeyCode::Backspace => (0, 0),
+        KeyCode::Enter => (1, 0),
+        KeyCode::Left => (2, 0),
+        KeyCode::Right => (3, 0),
+        KeyCode::Up => (4, 0),
+        KeyCode::Down => (5, 0),
+        KeyCode::Home => (6, 0),
+        KeyCode::End => (7, 0),
+        KeyCode::PageUp => (8, 0),
+        KeyCode::PageDown => (9, 0),
+        KeyCode::Tab => (10, 0),
+        KeyCode::BackTab => (11, 0),
+        KeyCode::Delete => (12, 0),
+        KeyCode::Insert => (13, 0),
+        KeyCode::F(number) => (14, u32::from(number)),
+        KeyCode::Char(c) => (15, u32::from(c)),
+        KeyCode::Null => (16, 0),
+        KeyCode::Esc => (17, 0),
+        KeyCode::CapsLock => (18, 0),
+        KeyCode::ScrollLock => (19, 0),
+        KeyCode::NumLock => (20, 0),
+        KeyCode::PrintScreen => (21, 0),
+        KeyCode::Pause => (22, 0),
+        KeyCode::Menu => (23, 0),
+        KeyCode::KeypadBegin => (24, 0),
+        KeyCode::Media(code) => (25, media(code)),
+        KeyCode::Modifier(code) => (26, modifier(code)),
+    }
+}
+
+/// The number of pressed, held or let go.
+fn press(kind: KeyEventKind) -> u8
+    ensures { press_at result ≡ kind }
+{
+    match kind {
+        KeyEventKind::Press => 0,
+        KeyEventKind::Repeat => 1,
+        KeyEventKind::Release => 2,
+    }
+}
+
+/// The place of a button.
+fn button(button: MouseButton) -> u32
+    ensures { button_at result ≡ button }
+{
+    match button {
+        MouseButton::Left => 0,
+        MouseButton::Right => 1,
+        MouseButton::Middle => 2,
+    }
+}
+
+/// The place of what the mouse did, and its button.
+fn done_by_mouse(kind: MouseEventKind) -> (u16, u32)
+    ensures { done_at result.0 result.1 ≡ kind }
+{
+    match kind {
+        MouseEventKind::Down(which) => (0, button(which)),
+        MouseEventKind::Up(which) => (1, button(which)),
+        MouseEventKind::Drag(which) => (2, button(which)),
+        MouseEventKind::Moved => (3, 0),
+        MouseEventKind::ScrollDown => (4, 0),
+        MouseEventKind::ScrollUp => (5, 0),
+        MouseEventKind::ScrollLeft => (6, 0),
+        MouseEventKind::ScrollRight => (7, 0),
+    }
+}
+
+/// The numbers of a key.
+pub(crate) fn of_key(key: KeyEvent) -> GelvanhEvent
+    ensures { (kept : List ℕ) → event_at kept result ≡ Key key }
+{
+    let (code, value) = code_and_value(key.code);
+    GelvanhEvent {
+        code,
+        value,
+        modifiers: key.modifiers.bits(),
+        press: press(key.kind),
+        state: key.state.bits(),
+        ..plain(3)
+    }
+}
+
+/// The numbers of what the mouse did.
+fn of_mouse(mouse: MouseEvent) -> GelvanhEvent
+    ensures { (kept : List ℕ) → event_at kept result ≡ Mouse mouse }
+{
+    let (code, value) = done_by_mouse(mouse.kind);
+    GelvanhEvent {
+        code,
+        value,
+        column: mouse.column,
+        row: mouse.row,
+        modifiers: mouse.modifiers.bits(),
+        ..plain(4)
+    }
+}
+
+/// The numbers of what a sequence means.
+pub(crate) fn of_meaning(meaning: Meaning) -> GelvanhEvent
+    ensures { (kept : List ℕ) → event_at kept result ≡ seen_meaning meaning }
+{
+    match meaning {
+        Meaning::Key(key) => of_key(key),
+        Meaning::Mouse(mouse) => of_mouse(mouse),
+        Meaning::FocusGained => plain(1),
+        Meaning::FocusLost => plain(2),
+        Meaning::CursorPosition(column, row) => GelvanhEvent {
+            column,
+            row,
+            ..plain(6)
+        },
+        Meaning::KeyboardEnhancementFlags(flags) => GelvanhEvent {
+            flags: flags.bits(),
+            ..plain(7)
+        },
+        Meaning::PrimaryDeviceAttributes => plain(8),
+    }
+}

@@ -1,0 +1,125 @@
+//! Bytes to events.
+ghost use Rattle.std.specs.Prelude.{◌≡◌, ◌≢◌, ◌⊎◌, ◌≤◌, ◌<◌, not, true, false, Bool, ℕ, List, ◌++◌, length, take};
+ghost use Rattle.crossterm_types.specs.Seen.{Seen};
+ghost use Rattle.crossterm_parse.specs.Machine.{is_paste};
+ghost use Rattle.crossterm_parse.specs.Marked.{marked};
+ghost use Rattle.crossterm_parse.specs.Standing.{PutsAll};
+ghost use Rattle.crossterm_c.specs.Feeding.{Feeds, FillsOver, Pastes, standing};
+
+use crate::event::{GelvanhEvent, paste_end};
+use crate::table::{give, put, run};
+use crossterm_parse::parse::pauses;
+use crossterm_parse::paste::{Met, before_escape};
+use crossterm_parse::state::{Progress, State};
+use crossterm_parse::steps::Steps;
+use std::sync::ledger::Ledger;
+
+/// Takes bytes outside of a paste: all, or as many as the table has room for, or those up to the start of a paste.
+fn feed_sequences<L: Ledger>(
+    state: &mut State,
+    piece: &[u8],
+    more: bool,
+    raw: bool,
+    events: &mut [GelvanhEvent],
+    given: &mut usize,
+    steps: &mut Steps<L>,
+) -> usize
+    requires outside { is_paste state.old ≡ false }
+    requires room { given.old ≤ length events.old }
+    ensures taken { result ≤ length piece.now }
+    ensures fills { FillsOver state.old state.new events.old events.new given.old given.new (take result (marked piece.now more raw)) }
+    ensures given { given.new ≤ length events.new }
+    ensures room { length events.new ≡ length events.old }
+    ensures all { (result ≡ length piece.now) ⊎ (given.new ≡ length events.new) ⊎ (is_paste state.new ≡ true) }
+    ensures some { given.old < length events.old → 0 < length piece.now → 0 < result }
+{
+    let mut place = 0;
+    while place < piece.len() {
+        if state.is_paste() {
+            return place;
+        }
+        place += run(state, &piece[place..], events, given, steps);
+        if place == piece.len() || *given == events.len() {
+            return place;
+        }
+        let pause = pauses(more, place, piece.len());
+        put(state, piece[place], raw, pause, events, given, steps);
+        place += 1;
+    }
+    place
+}
+
+/// Takes the bytes of an open paste before the next ESC, where none of its end is met, and tells how many.
+#[inline(always)]
+fn skip_text<L: Ledger>(state: &State, bytes: &[u8], steps: &mut Steps<L>) -> usize
+    requires { is_paste state.now ≡ true }
+    ensures within { result ≤ length bytes.now }
+    ensures puts { (kept : List ℕ) (waiting : List Seen) → PutsAll (standing state.now kept waiting) (standing state.now (kept ++ take result bytes.now) waiting) (take result bytes.now) }
+{
+    match state {
+        State::Paste(Met::Nothing) => {
+            let count = before_escape(bytes);
+            steps.count(count as u64);
+            count
+        }
+        _ => 0,
+    }
+}
+
+/// Takes the bytes of an open paste: all, or those up to its end. It tells how many, and whether the paste is over.
+fn feed_paste<L: Ledger>(state: &mut State, piece: &[u8], steps: &mut Steps<L>) -> (usize, bool)
+    requires { is_paste state.old ≡ true }
+    ensures taken { result.0 ≤ length piece.now }
+    ensures pastes { (more raw : Bool) → Pastes state.old state.new (take result.0 piece.now) result.1 (take result.0 (marked piece.now more raw)) }
+    ensures all { (result.0 ≡ length piece.now) ⊎ (result.1 ≡ true) }
+    ensures some { 0 < length piece.now → 0 < result.0 }
+    ensures pasting { is_paste state.new ≡ not result.1 }
+{
+    let mut place = 0;
+    while place < piece.len() {
+        place += skip_text(state, &piece[place..], steps);
+        if place == piece.len() {
+            return (place, false);
+        }
+        match state.put(piece[place], false, steps) {
+            Progress::Open => {}
+            Progress::Whole | Progress::Closed => {
+                state.end();
+                return (place + 1, true);
+            }
+        }
+        place += 1;
+    }
+    (place, false)
+}
+
+/// Takes bytes, and gives their events in a table that is empty yet.
+pub(crate) fn feed<L: Ledger>(
+    state: &mut State,
+    piece: &[u8],
+    more: bool,
+    raw: bool,
+    events: &mut [GelvanhEvent],
+    given: &mut usize,
+    steps: &mut Steps<L>,
+) -> usize
+    requires { given.old ≡ 0 }
+    ensures taken { result ≤ length piece.now }
+    ensures given { given.new ≤ length events.new }
+    ensures room { length events.new ≡ length events.old }
+    ensures feeds { Feeds state.old state.new (take given.new events.new) (take result piece.now) (take result (marked piece.now more raw)) }
+    ensures all { (result ≡ length piece.now) ⊎ (given.new ≡ length events.new) ⊎ (is_paste state.new ≢ is_paste state.old) }
+    ensures some { 0 < length events.old → 0 < length piece.now → 0 < result }
+{
+    if events.is_empty() {
+        return 0;
+    }
+    if !state.is_paste() {
+        return feed_sequences(state, piece, more, raw, events, given, steps);
+    }
+    let (taken, over) = feed_paste(state, piece, steps);
+    if over {
+        give(events, given, paste_end());
+    }
+    taken
+}

@@ -1,0 +1,161 @@
+//! Commands into a caller's slice.
+ghost use Rattle.std.specs.Prelude.{◌≡◌, ◌≤◌, ◌+◌, ℕ, List, length, IfSome, IfNone, IfOk, OnOk, Some, None};
+ghost use Rattle.std.specs.Fmt.{WritesText};
+ghost use Rattle.crossterm_c.specs.Command.{Answers, AnswersTo, outcome_at};
+ghost use Rattle.crossterm_c.specs.Outlet.{Puts};
+
+use arrayvec::ArrayString;
+use crossterm::Command;
+use crossterm::style::ColorOutput;
+use std::fmt;
+
+/// What came of a command.
+#[derive(Clone, Copy, PartialEq, Eq)]
+pub(crate) enum Outcome {
+    /// Its text was written.
+    Written,
+    /// Its text doesn't fit.
+    TooSmall,
+    /// Its numbers name nothing.
+    NamesNothing,
+    /// It failed by itself.
+    Failed,
+}
+
+impl Outcome {
+    /// Its number.
+    pub(crate) fn number(self) -> u32
+        ensures { outcome_at result ≡ self }
+    {
+        match self {
+            Outcome::Written => 0,
+            Outcome::TooSmall => 1,
+            Outcome::NamesNothing => 2,
+            Outcome::Failed => 3,
+        }
+    }
+}
+
+/// Copies bytes to a place, where they fit.
+#[inline(always)]
+fn copy_in(slice: &mut [u8], place: usize, end: usize, bytes: &[u8])
+    requires { end ≡ place + length bytes.now }
+    ensures { Puts slice.old place bytes.now slice.new end }
+{
+    if end <= slice.len() {
+        slice[place..end].copy_from_slice(bytes);
+    }
+}
+
+/// A slice that takes what fits of a text, and counts all of it.
+#[derive(Drop)]
+struct Outlet<'a> {
+    slice: &'a mut [u8],
+    length: usize,
+}
+
+impl fmt::Write for Outlet<'_> {
+    ghost write_str_gives = { λ s bs t. (t.slice.ghost_name ≡ s.slice.ghost_name) × Puts s.slice.now s.length bs t.slice.now t.length };
+
+    fn write_str(&mut self, s: &str) -> fmt::Result {
+        let Some(length) = self.length.checked_add(s.len()) else {
+            return Err(fmt::Error);
+        };
+        copy_in(self.slice, self.length, length, s.as_bytes());
+        self.length = length;
+        Ok(())
+    }
+}
+
+/// The length of a command's text.
+fn length_of<C: Command>(command: &C, colors: ColorOutput) -> Result<usize, fmt::Error>
+    ensures { IfOk result (λ n. IfSome (C.text command.now colors) (λ text. n ≡ length text)) }
+{
+    let mut outlet = Outlet {
+        slice: &mut [],
+        length: 0,
+    };
+    let result = command.write_ansi(&mut outlet, colors);
+    let Outlet { slice, length } = outlet;
+    let _ = &*slice;
+    match result {
+        Ok(()) => Ok(length),
+        Err(e) => Err(e),
+    }
+}
+
+/// Writes a command whose text fits.
+fn fill<C: Command>(command: &C, colors: ColorOutput, slice: &mut [u8]) -> Result<usize, fmt::Error>
+    ensures { IfOk result (λ n. IfSome (C.text command.now colors) (λ text. Puts slice.old 0 text slice.new n)) }
+{
+    let mut outlet = Outlet { slice, length: 0 };
+    let result = command.write_ansi(&mut outlet, colors);
+    let Outlet { slice, length } = outlet;
+    let _ = &*slice;
+    match result {
+        Ok(()) => Ok(length),
+        Err(e) => Err(e),
+    }
+}
+
+/// Writes a text.
+pub(crate) fn put(text: &str, slice: &mut [u8], length: &mut usize) -> Outcome
+    ensures { Answers text.now slice.old slice.new length.new result }
+{
+    *length = text.len();
+    if text.len() > slice.len() {
+        return Outcome::TooSmall;
+    }
+    slice[..text.len()].copy_from_slice(text.as_bytes());
+    Outcome::Written
+}
+
+/// Writes a command whose text is long.
+#[inline(never)]
+fn write_long<C: Command>(
+    command: &C,
+    colors: ColorOutput,
+    slice: &mut [u8],
+    length: &mut usize,
+) -> Outcome
+    ensures { IfSome (C.text command.now colors) (λ text. Answers text slice.old slice.new length.new result) }
+{
+    *length = 0;
+    let Ok(needed) = length_of(command, colors) else {
+        return Outcome::Failed;
+    };
+    *length = needed;
+    if needed > slice.len() {
+        return Outcome::TooSmall;
+    }
+    match fill(command, colors, slice) {
+        Ok(_) => Outcome::Written,
+        Err(fmt::Error) => Outcome::Failed,
+    }
+}
+
+/// Writes a command: at once where its text is short.
+#[inline(always)]
+pub(crate) fn write<C: Command>(
+    command: &C,
+    colors: ColorOutput,
+    slice: &mut [u8],
+    length: &mut usize,
+) -> Outcome
+    ensures { IfSome (C.text command.now colors) (λ text. Answers text slice.old slice.new length.new result) }
+{
+    let mut short = ArrayString::<48>::new();
+    match command.write_ansi(&mut short, colors) {
+        Ok(()) => put(short.as_str(), slice, length),
+        Err(fmt::Error) => write_long(command, colors, slice, length),
+    }
+}
+
+/// Numbers that name nothing.
+pub(crate) fn nothing(length: &mut usize) -> Outcome
+    ensures length { length.new ≡ 0 }
+    ensures nothing { result ≡ Outcome.NamesNothing }
+{
+    *length = 0;
+    Outcome::NamesNothing
+}

@@ -1,0 +1,100 @@
+//! The parser's calls.
+ghost use Rattle.std.specs.Prelude.{◌≡◌, ◌≢◌, ◌⊎◌, ◌↔◌, ◌≤◌, ◌<◌, List, length, take, IsTrue, []};
+ghost use Rattle.crossterm_parse.specs.Machine.{StandsFor, is_paste};
+ghost use Rattle.crossterm_parse.specs.Marked.{bytes_of, marked};
+ghost use Rattle.crossterm_parse.specs.declared.marked.Marked.{Marked};
+ghost use Rattle.crossterm_c.specs.Feeding.{Feeds};
+ghost use Rattle.crossterm_c.specs.State.{state_at};
+ghost use Rattle.crossterm_c.specs.Text.{Writes};
+
+use crate::event::GelvanhEvent;
+use crate::feed::feed;
+use crate::state::{GelvanhState, flatten, state_of};
+use crate::text::write_text;
+use crossterm_parse::state::State;
+use crossterm_parse::steps::Steps;
+use std::marker::Brand;
+use std::sync::ledger::{Blank, Ledger};
+
+/// Takes bytes with a counter of a new ledger, which costs nothing.
+fn feed_uncounted<L: Ledger>(
+    state: &mut State,
+    piece: &[u8],
+    more: bool,
+    raw: bool,
+    events: &mut [GelvanhEvent],
+    given: &mut usize,
+    blank: Blank,
+) -> usize
+    requires name { blank.name ≡ L.name }
+    requires parts { (blank.parts ≡ L.parts) × (0 < L.parts) }
+    requires none { given.old ≡ 0 }
+    ensures taken { result ≤ length piece.now }
+    ensures given { given.new ≤ length events.new }
+    ensures room { length events.new ≡ length events.old }
+    ensures feeds { Feeds state.old state.new (take given.new events.new) (take result piece.now) (take result (marked piece.now more raw)) }
+    ensures all { (result ≡ length piece.now) ⊎ (given.new ≡ length events.new) ⊎ (is_paste state.new ≢ is_paste state.old) }
+    ensures some { 0 < length events.old → 0 < length piece.now → 0 < result }
+{
+    let mut steps: Steps<L> = Steps::new(blank);
+    feed(state, piece, more, raw, events, given, &mut steps)
+}
+
+/// Takes bytes of a terminal, and tells how many. `count` is how many events they gave, which stand in front of `events`.
+///
+/// It stops where all are taken, where the table is full, and after the byte with which a paste opens or is over; then the others are handed
+/// in again. So where a paste was open before the call, all bytes taken are of it: the caller keeps them, and where the paste is over,
+/// its event is the only one, and its text that of the bytes kept but the last six (`gelvanh_paste_text`).
+///
+/// `more` says that bytes of the same answer of the terminal follow at once, so that ESC at the end is no Esc key yet. `raw` is the mode
+/// that the bytes came in: there a line feed is Ctrl-J, and Enter otherwise.
+#[unsafe(no_mangle)]
+pub extern "C" fn gelvanh_feed(
+    state: &mut GelvanhState,
+    piece: &[u8],
+    more: bool,
+    raw: bool,
+    events: &mut [GelvanhEvent],
+    count: &mut usize,
+) -> usize
+    ensures taken { result ≤ length piece.now }
+    ensures count { count.new ≤ length events.old }
+    // The events are the meanings of the parts of the only division, and the numbers stand for the rest.
+    ensures feeds { Feeds (state_at state.old) (state_at state.new) (take count.new events.new) (take result piece.now) (take result (marked piece.now more raw)) }
+    ensures all { (result ≡ length piece.now) ⊎ (count.new ≡ length events.old) ⊎ (is_paste (state_at state.new) ≢ is_paste (state_at state.old)) }
+    // With room for an event, some of the bytes are taken.
+    ensures some { 0 < length events.old → 0 < length piece.now → 0 < result }
+{
+    let mut open = state_of(state);
+    *count = 0;
+    let taken = feed_uncounted::<Brand>(&mut open, piece, more, raw, events, count, Blank::new(1));
+    *state = flatten(&open);
+    taken
+}
+
+/// Whether bytes were taken that are no whole sequence yet.
+#[unsafe(no_mangle)]
+pub extern "C" fn gelvanh_is_undecided(state: &GelvanhState) -> bool
+    ensures { (before : List Marked) → StandsFor (state_at state.now) (bytes_of before) → (IsTrue result ↔ (before ≢ [])) }
+{
+    !matches!(state_of(state), State::Ground)
+}
+
+/// Whether a paste is open, whose bytes the caller keeps.
+#[unsafe(no_mangle)]
+pub extern "C" fn gelvanh_is_pasting(state: &GelvanhState) -> bool
+    ensures { result ≡ is_paste (state_at state.now) }
+{
+    state_of(state).is_paste()
+}
+
+/// Writes the text of a paste's bytes, with U+FFFD for each maximal part that isn't UTF-8, as far as there is room for whole characters.
+///
+/// It tells how many bytes were read: where they aren't all, the text of the others is still missing. `written` is how many bytes of the
+/// slice were written.
+#[unsafe(no_mangle)]
+pub extern "C" fn gelvanh_paste_text(bytes: &[u8], text: &mut [u8], written: &mut usize) -> usize
+    ensures { Writes bytes.now text.new written.new result }
+{
+    write_text(bytes, text, written)
+}

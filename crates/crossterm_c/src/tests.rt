@@ -1,0 +1,202 @@
+//! What the proofs can't see: sizes, a few rows from outside, a full table, and slices that are too short.
+
+use crate::color::GelvanhColor;
+use crate::command::text::{
+    gelvanh_copy_to_clipboard, gelvanh_print, gelvanh_print_styled, gelvanh_set_title,
+};
+use crate::command::{GelvanhCommand, gelvanh_command};
+use crate::event::{GelvanhEvent, plain};
+use crate::parser::{gelvanh_feed, gelvanh_is_pasting, gelvanh_is_undecided, gelvanh_paste_text};
+use crate::state::{GelvanhBytes, GelvanhNumber, GelvanhState};
+use std::mem::{align_of, size_of};
+
+const NO_COLOR: GelvanhColor = GelvanhColor {
+    kind: 0,
+    r: 0,
+    g: 0,
+    b: 0,
+};
+
+fn start() -> GelvanhState {
+    let number = GelvanhNumber { kind: 0, value: 0 };
+    GelvanhState {
+        kind: 0,
+        part_one: 0,
+        part_two: 0,
+        place: 0,
+        last: 0,
+        validity: 0,
+        opening: 0,
+        escaped: 0,
+        begun: GelvanhBytes {
+            count: 0,
+            first: 0,
+            second: 0,
+            third: 0,
+        },
+        one: number,
+        one_more: number,
+        two: number,
+        two_more: number,
+        three: number,
+    }
+}
+
+fn command(kind: u32, first: u16, second: u16) -> GelvanhCommand {
+    GelvanhCommand {
+        kind,
+        attributes: 0,
+        first,
+        second,
+        foreground: NO_COLOR,
+        background: NO_COLOR,
+        underline: NO_COLOR,
+    }
+}
+
+fn character(c: char, modifiers: u8) -> GelvanhEvent {
+    GelvanhEvent {
+        code: 15,
+        value: u32::from(c),
+        modifiers,
+        ..plain(3)
+    }
+}
+
+#[test]
+fn sizes_are_the_headers(rt: HostRuntime) {
+    assert_eq!(rt; size_of::<GelvanhState>(), 52);
+    assert_eq!(rt; align_of::<GelvanhState>(), 4);
+    assert_eq!(rt; size_of::<GelvanhEvent>(), 16);
+    assert_eq!(rt; align_of::<GelvanhEvent>(), 4);
+    assert_eq!(rt; size_of::<GelvanhColor>(), 4);
+    assert_eq!(rt; size_of::<GelvanhCommand>(), 24);
+}
+
+#[test]
+fn a_full_table_goes_on_where_it_stopped(rt: HostRuntime) {
+    let mut state = start();
+    let mut events = [plain(0); 2];
+    let mut count = 0;
+    let piece = "aÜ\x1b[A\x1b".as_bytes();
+    let taken = gelvanh_feed(&mut state, piece, false, false, &mut events, &mut count);
+    assert_eq!(rt; (taken, count), (3, 2));
+    assert_eq!(rt; events, [character('a', 0), character('Ü', 1)]);
+    let rest = &piece[taken.min(piece.len())..];
+    let taken = gelvanh_feed(&mut state, rest, false, false, &mut events, &mut count);
+    assert_eq!(rt; (taken, count), (4, 2));
+    // Up and Esc
+    assert_eq!(rt;
+        (events[0].kind, events[0].code, events[1].code),
+        (3, 4, 17)
+    );
+    assert!(rt; !gelvanh_is_undecided(&state));
+    let taken = gelvanh_feed(
+        &mut state,
+        b"\x1b[1;5",
+        true,
+        false,
+        &mut events,
+        &mut count,
+    );
+    assert_eq!(rt; (taken, count, gelvanh_is_undecided(&state)), (5, 0, true));
+    // Ctrl-Left
+    let taken = gelvanh_feed(&mut state, b"D", true, false, &mut events, &mut count);
+    assert_eq!(rt;
+        (taken, count, events[0].code, events[0].modifiers),
+        (1, 1, 2, 2)
+    );
+}
+
+#[test]
+fn a_paste_stops_at_its_start_and_at_its_end(rt: HostRuntime) {
+    let mut state = start();
+    let mut events = [plain(0); 8];
+    let mut count = 0;
+    let piece = b"x\x1b[200~a\xFFb\x1b[201~y";
+    let taken = gelvanh_feed(&mut state, piece, true, false, &mut events, &mut count);
+    assert_eq!(rt; (taken, count, gelvanh_is_pasting(&state)), (7, 1, true));
+    let rest = &piece[taken.min(piece.len())..];
+    let taken = gelvanh_feed(&mut state, rest, true, false, &mut events, &mut count);
+    assert_eq!(rt; (taken, count, gelvanh_is_pasting(&state)), (9, 1, false));
+    assert_eq!(rt; events[0], plain(5));
+}
+
+#[test]
+fn a_pastes_text_is_written_as_far_as_there_is_room(rt: HostRuntime) {
+    let mut text = [0u8; 5];
+    let mut written = 0;
+    let bytes = b"ab\xFF\xC3\xBCc";
+    let read = gelvanh_paste_text(bytes, &mut text, &mut written);
+    assert_eq!(rt; (read, written), (3, 5));
+    assert_eq!(rt; text, [b'a', b'b', 0xEF, 0xBF, 0xBD]);
+    let read = gelvanh_paste_text(&bytes[3..], &mut text, &mut written);
+    assert_eq!(rt; (read, written), (3, 3));
+    assert!(rt; text.starts_with("üc".as_bytes()));
+}
+
+#[test]
+fn commands_are_written_or_told(rt: HostRuntime) {
+    let mut slice = [0u8; 8];
+    let mut length = 0;
+    let told = gelvanh_command(&command(0, 9, 1), true, &mut slice, &mut length);
+    assert_eq!(rt; (told, length), (0, 7));
+    assert_eq!(rt; slice, *b"\x1b[2;10H\0");
+    // the mouse's modes are 40 bytes
+    let told = gelvanh_command(&command(27, 0, 0), true, &mut slice, &mut length);
+    assert_eq!(rt; (told, length), (1, 40));
+    assert_eq!(rt; slice, *b"\x1b[2;10H\0");
+    for unknown in [
+        command(24, 0, 0),
+        command(46, 0, 0),
+        command(15, 7, 0),
+        command(35, 0, 0),
+    ] {
+        let told = gelvanh_command(&unknown, true, &mut slice, &mut length);
+        assert_eq!(rt; (told, length), (2, 0));
+    }
+}
+
+#[test]
+fn long_commands_are_written_too(rt: HostRuntime) {
+    let mut slice = [0u8; 256];
+    let mut length = 0;
+    let all = GelvanhCommand {
+        attributes: 0x1FFF_FFFE,
+        ..command(40, 0, 0)
+    };
+    let told = gelvanh_command(&all, true, &mut slice, &mut length);
+    assert_eq!(rt; (told, length), (0, 134));
+    assert!(rt; slice.starts_with(b"\x1b[0m\x1b[1m"));
+    assert!(rt; (&slice[129..]).starts_with(b"\x1b[55m\0"));
+    let bad = GelvanhCommand {
+        attributes: 0x2000_0000,
+        ..all
+    };
+    assert_eq!(rt; gelvanh_command(&bad, true, &mut slice, &mut length), 2);
+}
+
+#[test]
+fn texts_are_written(rt: HostRuntime) {
+    let mut slice = [0u8; 64];
+    let mut length = 0;
+    let told = gelvanh_print("ä".as_bytes(), &mut slice, &mut length);
+    assert_eq!(rt; (told, length), (0, 2));
+    assert_eq!(rt; gelvanh_print(b"\xFF", &mut slice, &mut length), 2);
+    let told = gelvanh_set_title(b"t", &mut slice, &mut length);
+    assert_eq!(rt; (told, length), (0, 6));
+    assert!(rt; slice.starts_with(b"\x1b]0;t\x07"));
+    let red = GelvanhCommand {
+        foreground: GelvanhColor {
+            kind: 4,
+            ..NO_COLOR
+        },
+        ..command(0, 0, 0)
+    };
+    let told = gelvanh_print_styled(&red, b"x", true, &mut slice, &mut length);
+    assert_eq!(rt; (told, length), (0, 15));
+    assert!(rt; slice.starts_with(b"\x1b[38;5;9mx\x1b[39m"));
+    let told = gelvanh_copy_to_clipboard(b"foo", b"c", &mut slice, &mut length);
+    assert_eq!(rt; (told, length), (0, 13));
+    assert!(rt; slice.starts_with(b"\x1b]52;c;Zm9v\x1b\\"));
+}

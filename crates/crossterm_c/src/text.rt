@@ -1,0 +1,60 @@
+//! The text of a paste, into a caller's slice.
+ghost use Rattle.std.specs.Prelude.{◌≡◌, ◌⊎◌, ◌≤◌, ◌<◌, ◌+◌, ◌++◌, length, take, drop};
+ghost use Rattle.std.specs.List.{AllByRecursion};
+ghost use Rattle.crossterm_c.specs.Text.{Begins, Writes};
+
+use bstr::decode_utf8;
+
+/// U+FFFD in UTF-8.
+const REPLACEMENT: &[u8] = &[0xEF, 0xBF, 0xBD];
+
+/// How many bytes of ASCII stand in front.
+fn ascii_in(bytes: &[u8]) -> usize
+    ensures within { result ≤ length bytes.now }
+    ensures ascii { AllByRecursion (λ b. b < 128) (take result bytes.now) }
+{
+    for (i, byte) in bytes.iter().enumerate() {
+        if *byte >= 128 {
+            return i;
+        }
+    }
+    bytes.len()
+}
+
+/// What the text of some bytes begins with, and how many of them that is of: ASCII as far as there is room, or one character.
+fn front_of<'a>(bytes: &'a [u8], room: usize) -> (&'a [u8], usize)
+    requires { 0 < length bytes.now }
+    ensures some { 0 < result.1 }
+    ensures within { result.1 ≤ length bytes.now }
+    ensures text { Begins bytes.now result.0.now result.1 }
+    ensures short { (length result.0.now ≤ room) ⊎ (length result.0.now ≤ 4) }
+{
+    let count = ascii_in(&bytes[..bytes.len().min(room)]);
+    if count > 0 {
+        return (&bytes[..count], count);
+    }
+    match decode_utf8(bytes) {
+        (Some(_), size) => (&bytes[..size], size),
+        (None, size) => (REPLACEMENT, size),
+    }
+}
+
+/// Writes the text of some bytes, as far as there is room for whole characters. It tells how many bytes were read; `written` is how many
+/// were written.
+pub(crate) fn write_text(bytes: &[u8], text: &mut [u8], written: &mut usize) -> usize
+    ensures { Writes bytes.now text.new written.new result }
+{
+    let mut place = 0;
+    *written = 0;
+    while place < bytes.len() {
+        let room = text.len() - *written;
+        let (front, read) = front_of(&bytes[place..], room);
+        if front.len() > room {
+            return place;
+        }
+        text[*written..*written + front.len()].copy_from_slice(front);
+        *written += front.len();
+        place += read;
+    }
+    place
+}

@@ -1,0 +1,27 @@
+-- The events of a parser, one after another.
+use Rattle.std.specs.Prelude.{◌≡◌, ◌≤◌, ◌++◌, List, map, Option}
+use Rattle.std.specs.Iterator.{Yields, YieldsFirstBy}
+use Rattle.crossterm_types.specs.Seen.{Seen, seen}
+use Rattle.crossterm_types.specs.declared.event.InternalEvent.{InternalEvent}
+use Rattle.crossterm_parse.specs.Standing.{StandsStill}
+use Rattle.crossterm_parse.specs.declared.parse.events.Events.{Events}
+
+module _ {A : Type 0} where
+  -- The events not yet given.
+  abbrev pub events_left_in : Events A → List Seen
+  events_left_in events = events.parser.now.waiting
+
+  -- An iterator over the events of the same parser, which stands for what it stood for.
+  pub record KeepsParser (old new : Events A) : Type 0 where
+    pub same : new.parser.ghost_name ≡ old.parser.ghost_name
+    pub stands : StandsStill old.parser.now new.parser.now
+    pub room : old.parser.now.room ≤ new.parser.now.room
+
+  -- The first event that waits was given, where there is one, and nothing else changed.
+  abbrev pub GivesFirst : Events A → Option (InternalEvent A) → Events A → Type 0
+  GivesFirst old event new = YieldsFirstBy seen events_left_in old event new × KeepsParser old new
+
+  -- Some events were given: they are the first ones, in order, and nothing else changed.
+  abbrev pub GivesInOrder : Events A → Type 0
+  GivesInOrder old = (events : List (InternalEvent A)) (new : Events A) → Yields GivesFirst old events new
+      → (events_left_in old ≡ map seen events ++ events_left_in new) × KeepsParser old new
