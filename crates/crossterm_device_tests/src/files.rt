@@ -3,6 +3,7 @@
 use crate::answers::{NOW, is_woken, tells, waits_out};
 use crate::ends::cooked;
 use crossterm_read::source::{Device, PolledDevice};
+use expectations::expect;
 use std::alloc::Global;
 use std::fs::{File, Files};
 use std::io::{self, Read, Write};

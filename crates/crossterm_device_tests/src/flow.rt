@@ -3,6 +3,7 @@
 use crate::answers::long;
 use crate::ends::{connected, piped, socket};
 use crossterm_read::source::{Answer, Device, Waker};
+use expectations::expect;
 use std::alloc::Global;
 use std::fs::Files;
 use std::io::{self, Write};

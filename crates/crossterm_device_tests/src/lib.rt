@@ -5,20 +5,6 @@
 //! come is waited for within a limit.
 #![tactic(auto)]
 
-/// Fails the test where something doesn't hold, and says what.
-#[cfg(test)]
-fn expected(rt: &impl std::process::Abort, holds: bool, what: &str) {
-    assert!(rt; holds, "{what}");
-}
-
-// One call, and no text formatted in the test itself: a test's proof grows with its branches.
-#[cfg(test)]
-macro_rules! expect {
-    ($rt:expr; $holds:expr) => {
-        crate::expected(&$rt, $holds, stringify!($holds))
-    };
-}
-
 #[cfg(test)]
 mod answers;
 #[cfg(test)]

@@ -5,6 +5,7 @@ use crate::ends::{connected, piped, socket};
 use crate::readers::is_key;
 use crossterm_read::source::{Device, DeviceSource, EventSource};
 use crossterm_types::event::KeyCode;
+use expectations::expect;
 use std::alloc::Global;
 use std::fs::Files;
 use std::io::{self, Write};

@@ -4,6 +4,7 @@ use crate::answers::{NOW, fails, is_idle, is_raw, tells, tells_many};
 use crate::ends::cooked;
 use crossterm_read::source::{Device, DeviceSource, EventSource, RawFlag, ReadDevice};
 use crossterm_types::event::{Event, InternalEvent, KeyCode};
+use expectations::expect;
 use std::alloc::Global;
 use std::io::{self, Cursor, ErrorKind, Read};
 

@@ -3,6 +3,7 @@
 use crate::answers::{NOW, fails, is_idle, is_woken, resizes, tells, waits_out};
 use crate::ends::{SizedEnds, cooked, sized};
 use crossterm_read::source::{Device, PolledDevice};
+use expectations::expect;
 use std::alloc::Global;
 use std::fs::{File, Files, OpenOptions};
 use std::io::{self, ErrorKind, Write};

@@ -3,6 +3,7 @@
 use crate::answers::{NOW, is_idle, is_woken, tells_many, waits_out};
 use crate::ends::{connected, piped, socket};
 use crossterm_read::source::{Device, DeviceSource, EventSource, Waker};
+use expectations::expect;
 use std::alloc::Global;
 use std::fs::Files;
 use std::io::{self, ErrorKind, Write};

@@ -1,7 +1,7 @@
 //! Attributes and sets of them.
 
-use crate::is_text;
 use crossterm_style::{Attribute, Attributes, SGR, SetAttribute};
+use expectations::{expect, is_text};
 use std::alloc::Global;
 
 /// An attribute, its number in `SGR` and the parameter that sets it.

@@ -1,7 +1,7 @@
 //! Colours: their texts, how they are read, their names, and how many a terminal has.
 
-use crate::is_text;
 use crossterm_style::{Color, ColorOutput, Colored, Colors, available_color_count};
+use expectations::{expect, is_text};
 use std::alloc::Global;
 
 /// Each colour with a name.

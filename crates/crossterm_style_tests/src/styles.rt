@@ -1,9 +1,9 @@
 //! Styles: their fields, and what styled contents show.
 
 use crate::attributes::{ATTRIBUTES, bold_and_dim};
-use crate::is_text;
 use crossterm_style::{AsStyle, Attribute, Color, ContentStyle, StyledContent, style};
 use crossterm_stylize::Stylize;
+use expectations::{expect, is_text};
 use std::alloc::{AllocError, Global};
 
 /// A style with every field.

@@ -2,6 +2,7 @@
 
 use crossterm_flags::ValueFault;
 use crossterm_style::{Attribute, Color, Colored};
+use expectations::expect;
 use serde_json::Value;
 use std::alloc::Global;
 

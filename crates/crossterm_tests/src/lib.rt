@@ -6,29 +6,11 @@
 #![tactic(auto)]
 
 #[cfg(test)]
-mod plain;
-
-/// Fails the test where something doesn't hold, and says what.
-#[cfg(test)]
-fn expected(rt: &impl std::process::Abort, holds: bool, what: &str) {
-    assert!(rt; holds, "{what}");
-}
-
-// One call, and no text formatted in the test itself: a test's proof grows with its branches.
-#[cfg(test)]
-macro_rules! expect {
-    ($rt:expr; $holds:expr) => {
-        crate::expected(&$rt, $holds, stringify!($holds))
-    };
-    ($rt:expr; $holds:expr, $what:expr) => {
-        crate::expected(&$rt, $holds, $what)
-    };
-}
-
-#[cfg(test)]
 mod parser;
 #[cfg(test)]
 mod pastes;
+#[cfg(test)]
+mod plain;
 #[cfg(test)]
 mod reading;
 #[cfg(test)]

@@ -4,6 +4,7 @@ use crate::plain::{Divided, divide};
 use crossterm_parse::marked::Marked;
 use crossterm_parse::parse::Parser;
 use crossterm_types::event::{Event, InternalEvent, KeyCode, KeyEvent, KeyModifiers};
+use expectations::expect;
 use std::alloc::{AllocError, Global};
 
 /// What a device told at once: bytes, whether more follow at once, and the mode.

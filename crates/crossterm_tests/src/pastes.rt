@@ -12,6 +12,7 @@ use crossterm_read::read::{Call, Reply, Trace, play};
 use crossterm_read::source::Act;
 use crossterm_types::event::filter::AnyFilter;
 use crossterm_types::event::{Event, InternalEvent};
+use expectations::expect;
 use std::alloc::{AllocError, Global};
 use std::io;
 use std::marker::Brand;

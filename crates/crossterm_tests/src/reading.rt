@@ -5,6 +5,7 @@ use crossterm_read::read::InternalEventReader;
 use crossterm_read::source::{DeviceSource, Script};
 use crossterm_types::event::filter::{AnyFilter, Classes, EventFilter, Filter};
 use crossterm_types::event::{Event, InternalEvent, KeyCode};
+use expectations::expect;
 use linked_list_allocator::LocalHeap;
 use std::alloc::{AllocError, Allocator, Global};
 use std::cell::Cell;

@@ -1,6 +1,7 @@
 //! A parser whose memory is refused.
 
 use crossterm_parse::parse::Parser;
+use expectations::expect;
 use linked_list_allocator::LocalHeap;
 use std::alloc::{AllocError, Global};
 

@@ -5,6 +5,7 @@ use crossterm_read::read::{Call, Reply, Trace, play};
 use crossterm_read::source::Act;
 use crossterm_types::event::filter::AnyFilter;
 use crossterm_types::event::{Event, InternalEvent, KeyCode};
+use expectations::expect;
 use linked_list_allocator::LocalHeap;
 use std::alloc::{AllocError, Allocator, Global};
 use std::io;

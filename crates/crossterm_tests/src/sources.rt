@@ -3,6 +3,7 @@
 use crate::scripts::{Part, acts_of, source_of};
 use crossterm_read::source::{Answer, Device, DeviceSource, EventSource, Script, Waker};
 use crossterm_types::event::{Event, InternalEvent};
+use expectations::expect;
 use std::alloc::AllocError;
 use std::io::{self, ErrorKind};
 use std::time::Duration;

@@ -6,6 +6,7 @@ use crossterm_read::source::{Answer, Device, DeviceSource, EventSource, Script, 
 use crossterm_types::event::filter::EventFilter;
 use crossterm_types::event::timeout::Clock;
 use crossterm_types::event::{Event, InternalEvent};
+use expectations::expect;
 use std::alloc::{AllocError, Global};
 use std::io::{self, ErrorKind};
 use std::sync::Wait;

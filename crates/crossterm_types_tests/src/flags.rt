@@ -2,6 +2,7 @@
 
 use crate::prints;
 use crossterm_types::event::{KeyEventState, KeyModifiers, KeyboardEnhancementFlags};
+use expectations::expect;
 use std::alloc::Global;
 use std::fmt::Debug;
 use std::format;

@@ -2,6 +2,7 @@
 
 use crate::prints;
 use crossterm_types::event::{KeyCode, MediaKeyCode, ModifierKeyCode};
+use expectations::expect;
 use std::alloc::Global;
 
 /// Keys and their names.

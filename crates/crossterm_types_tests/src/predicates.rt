@@ -4,6 +4,7 @@ use crossterm_types::event::{
     Event, KeyCode, KeyEvent, KeyEventKind, KeyEventState, KeyModifiers, MediaKeyCode,
     ModifierKeyCode, MouseButton, MouseEvent, MouseEventKind,
 };
+use expectations::expect;
 use std::alloc::AllocError;
 
 /// The keys that are named by their variant alone.

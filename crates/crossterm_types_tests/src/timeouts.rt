@@ -1,6 +1,7 @@
 //! Limits of time, and the system's clock.
 
 use crossterm_types::event::timeout::{Clock, PollTimeout, SystemClock};
+use expectations::expect;
 use std::cell::Cell;
 use std::io::{self, ErrorKind};
 use std::rt;

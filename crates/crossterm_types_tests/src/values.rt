@@ -4,6 +4,7 @@ use crossterm_types::event::{
     Event, KeyCode, KeyEvent, KeyEventKind, KeyEventState, KeyModifiers, KeyboardEnhancementFlags,
     MediaKeyCode, ModifierKeyCode, MouseButton, MouseEvent, MouseEventKind, ValueFault,
 };
+use expectations::expect;
 use linked_list_allocator::LocalHeap;
 use serde_json::Value;
 use std::alloc::{AllocError, Global};
