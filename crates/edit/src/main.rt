@@ -4,19 +4,17 @@
 //! is asked for the cursor's place isn't lost, and stays in order. Its one argument is the folder of the pipes that `with_terminal` makes.
 #![tactic(auto)]
 
-ghost use Rattle.crossterm_read.specs.Shared.{IsPassOf};
-
 mod line;
 
-use crossterm::cursor::{self, MoveTo};
-use crossterm::event::read::InternalEventReader;
-use crossterm::event::source::{DeviceSource, EventSource};
+use crossterm::cursor::MoveTo;
+use crossterm::event::source::EventSource;
 use crossterm::event::timeout::{Clock, SystemClock};
-use crossterm::event::{DisableBracketedPaste, EnableBracketedPaste, Event, EventReader, Pass};
+use crossterm::event::{DisableBracketedPaste, EnableBracketedPaste, Event};
 use crossterm::style::{Color, ColorOutput, Print, ResetColor, SetForegroundColor};
-use crossterm::terminal::{Clear, ClearType, ModeDevice, Terminal};
+use crossterm::terminal::{Clear, ClearType, ModeDevice};
 use crossterm::{QueueableCommand, execute, queue};
 use line::{Line, Then};
+use own_terminal::Session;
 use std::alloc::Global;
 use std::io::{self, BufWriter, ErrorKind, Write};
 use std::sync::Wait;
@@ -27,13 +25,7 @@ const COLORS: ColorOutput = ColorOutput::Enabled;
 /// A terminal whose lines are edited.
 #[derive(Drop)]
 struct Editor<S: EventSource<Global>, D: ModeDevice, W, C> {
-    alloc: Global,
-    term: Terminal<D>,
-    reader: EventReader<S>,
-    pass: Pass<S>,
-    out: W,
-    clock: C,
-    ghost own: { IsPassOf reader pass },
+    session: Session<S, D, W, C>,
 }
 
 /// Where a line begins on the screen, and how many columns that has.
@@ -62,15 +54,8 @@ fn draw<W: Write>(out: &mut W, line: &Line, place: Place) -> io::Result<()> {
 impl<S: EventSource<Global>, D: ModeDevice, W: Write, C: Clock> Editor<S, D, W, C> {
     /// Where the cursor is, and how wide the screen is.
     fn place<R: Wait>(&mut self, rt: &R) -> io::Result<Place> {
-        let (column, row) = cursor::position(
-            rt,
-            &mut self.term,
-            &self.reader,
-            &mut self.pass,
-            &mut self.out,
-            &mut self.clock,
-        )?;
-        let (columns, _) = self.term.size(b"80", b"24")?;
+        let (column, row) = self.session.position(rt)?;
+        let (columns, _) = self.session.term.size(b"80", b"24")?;
         Ok(Place {
             column,
             row,
@@ -80,7 +65,7 @@ impl<S: EventSource<Global>, D: ModeDevice, W: Write, C: Clock> Editor<S, D, W, 
 
     /// Takes one event, and does to the line what it says.
     fn turn<R: Wait>(&mut self, rt: &R, line: &mut Line, place: &mut Place) -> io::Result<Then> {
-        match self.reader.read(rt, &mut self.pass)? {
+        match self.session.read(rt)? {
             Event::Key(key) => return Ok(line.press(&key)?),
             Event::Paste(text) => line.insert_all(text.as_str())?,
             Event::Resize(columns, rows) => {
@@ -94,10 +79,10 @@ impl<S: EventSource<Global>, D: ModeDevice, W: Write, C: Clock> Editor<S, D, W, 
 
     /// Edits a line until it is done.
     fn edit<R: Wait>(&mut self, rt: &R, line: &mut Line) -> io::Result<Then> {
-        execute!(self.out, COLORS, EnableBracketedPaste, Print("> "))?;
+        execute!(self.session.out, COLORS, EnableBracketedPaste, Print("> "))?;
         let mut place = self.place(rt)?;
         for _ in 0..u64::MAX {
-            draw(&mut self.out, line, place)?;
+            draw(&mut self.session.out, line, place)?;
             match self.turn(rt, line, &mut place)? {
                 Then::GoOn => {}
                 then => return Ok(then),
@@ -109,20 +94,25 @@ impl<S: EventSource<Global>, D: ModeDevice, W: Write, C: Clock> Editor<S, D, W, 
     /// Tells a line.
     fn tell(&mut self, line: &Line) -> io::Result<()> {
         let count = line.chars().len();
-        let mut text = format!(in self.alloc; "{count}: ")?;
+        let mut text = format!(in self.session.alloc; "{count}: ")?;
         for c in line.chars() {
             text.push(*c)?;
         }
-        execute!(self.out, COLORS, Print(text), Print("\n"))
+        execute!(self.session.out, COLORS, Print(text), Print("\n"))
     }
 
     /// Reads a line in raw mode, and tells it. Whatever comes, the mode stands then that stood before.
     fn talk<R: Wait>(&mut self, rt: &R) -> io::Result<Then> {
-        let mut line = Line::new(self.alloc);
-        self.term.enable_raw_mode()?;
+        let mut line = Line::new(self.session.alloc);
+        self.session.term.enable_raw_mode()?;
         let then = self.edit(rt, &mut line);
-        let left = execute!(self.out, COLORS, DisableBracketedPaste, Print("\r\n"));
-        self.term.disable_raw_mode()?;
+        let left = execute!(
+            self.session.out,
+            COLORS,
+            DisableBracketedPaste,
+            Print("\r\n")
+        );
+        self.session.term.disable_raw_mode()?;
         left?;
         match then {
             Ok(Then::Done) => self.tell(&line)?,
@@ -140,20 +130,10 @@ fn main(rt: HostRuntime) -> io::Result<()> {
         eprintln!(rt; "usage: terminal/with_terminal crates/edit/out/edit")?;
         return Err(io::Error::from(ErrorKind::InvalidInput));
     };
-    let (device, term) = own_terminal::open(&rt, alloc, rt.stdin(), folder.as_str())?;
-    let reader = InternalEventReader::new(alloc, DeviceSource::new(alloc, device));
-    let (reader, mut passes) = EventReader::new(&rt, alloc, reader, 1)?;
-    let Some(pass) = passes.pop() else {
-        return Ok(());
-    };
-    let mut editor = Editor {
-        alloc,
-        term,
-        reader,
-        pass,
-        out: BufWriter::new(alloc, io::writer(&rt))?,
-        clock: SystemClock::new(&rt),
-    };
+    let out = BufWriter::new(alloc, io::writer(&rt))?;
+    let clock = SystemClock::new(&rt);
+    let session = Session::open(&rt, alloc, rt.stdin(), folder.as_str(), out, clock)?;
+    let mut editor = Editor { session };
     for _ in 0..u64::MAX {
         if editor.talk(&rt)? == Then::Quit {
             break;

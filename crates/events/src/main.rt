@@ -4,19 +4,17 @@
 //! pipes that `with_terminal` makes.
 #![tactic(auto)]
 
-ghost use Rattle.crossterm_read.specs.Shared.{IsPassOf};
-
-use crossterm::event::read::InternalEventReader;
-use crossterm::event::source::{DeviceSource, EventSource};
+use crossterm::event::source::EventSource;
 use crossterm::event::timeout::{Clock, SystemClock};
 use crossterm::event::{
     DisableBracketedPaste, DisableFocusChange, DisableMouseCapture, EnableBracketedPaste,
-    EnableFocusChange, EnableMouseCapture, Event, EventReader, KeyCode, KeyEvent, KeyModifiers,
-    KeyboardEnhancementFlags, Pass, PopKeyboardEnhancementFlags, PushKeyboardEnhancementFlags,
+    EnableFocusChange, EnableMouseCapture, Event, KeyCode, KeyEvent, KeyModifiers,
+    KeyboardEnhancementFlags, PopKeyboardEnhancementFlags, PushKeyboardEnhancementFlags,
 };
 use crossterm::style::ColorOutput;
-use crossterm::terminal::{ModeDevice, Terminal, supports_keyboard_enhancement};
-use crossterm::{QueueableCommand, cursor, execute, queue};
+use crossterm::terminal::{ModeDevice, supports_keyboard_enhancement};
+use crossterm::{QueueableCommand, execute, queue};
+use own_terminal::Session;
 use std::alloc::Global;
 use std::io::{self, BufWriter, ErrorKind, Write};
 use std::sync::Wait;
@@ -50,64 +48,47 @@ fn is_quit(key: &KeyEvent) -> bool {
     key.code == KeyCode::Esc || *key == KeyEvent::new(KeyCode::Char('c'), KeyModifiers::CONTROL)
 }
 
-/// A terminal, its events, and where they are shown.
+/// A terminal whose events are shown.
 #[derive(Drop)]
-struct Session<S: EventSource<Global>, D: ModeDevice, W, C> {
-    alloc: Global,
-    term: Terminal<D>,
-    reader: EventReader<S>,
-    pass: Pass<S>,
-    out: W,
-    clock: C,
-    ghost own: { IsPassOf reader pass },
+struct Viewer<S: EventSource<Global>, D: ModeDevice, W, C> {
+    session: Session<S, D, W, C>,
 }
 
-impl<S: EventSource<Global>, D: ModeDevice, W: Write, C: Clock> Session<S, D, W, C> {
+impl<S: EventSource<Global>, D: ModeDevice, W: Write, C: Clock> Viewer<S, D, W, C> {
     /// Shows one event, and tells whether it is the last one.
     fn show<R: Wait>(&mut self, rt: &R, event: &Event) -> io::Result<bool> {
-        let text = format!(in self.alloc; "{event:?}\r\n")?;
-        self.out.write_all(text.as_bytes())?;
+        let text = format!(in self.session.alloc; "{event:?}\r\n")?;
+        self.session.out.write_all(text.as_bytes())?;
         let Event::Key(key) = event else {
             return Ok(false);
         };
         if *key == KeyEvent::from(KeyCode::Char('c')) {
-            let (column, row) = cursor::position(
-                rt,
-                &mut self.term,
-                &self.reader,
-                &mut self.pass,
-                &mut self.out,
-                &mut self.clock,
-            )?;
-            let text = format!(in self.alloc;
+            let (column, row) = self.session.position(rt)?;
+            let text = format!(in self.session.alloc;
                 "the cursor stands in column {column}, row {row}\r\n"
             )?;
-            self.out.write_all(text.as_bytes())?;
+            self.session.out.write_all(text.as_bytes())?;
         }
         Ok(is_quit(key))
     }
 
     /// Shows what comes within a second, and tells whether it was the last event.
     fn turn<R: Wait>(&mut self, rt: &R) -> io::Result<bool> {
-        let limit = Duration::from_secs(1);
-        let is_over = if self
-            .reader
-            .poll(rt, &mut self.pass, limit, &mut self.clock)?
-        {
-            let event = self.reader.read(rt, &mut self.pass)?;
+        let is_over = if self.session.poll(rt, Duration::from_secs(1))? {
+            let event = self.session.read(rt)?;
             self.show(rt, &event)?
         } else {
-            self.out.write_all(b".\r\n")?;
+            self.session.out.write_all(b".\r\n")?;
             false
         };
-        self.out.flush()?;
+        self.session.out.flush()?;
         Ok(is_over)
     }
 
     /// Shows events until the last one, or the end of input.
     fn run<R: Wait>(&mut self, rt: &R) -> io::Result<()> {
-        self.out.write_all(HELP.as_bytes())?;
-        self.out.flush()?;
+        self.session.out.write_all(HELP.as_bytes())?;
+        self.session.out.flush()?;
         for _ in 0..u64::MAX {
             match self.turn(rt) {
                 Ok(true) => break,
@@ -121,22 +102,22 @@ impl<S: EventSource<Global>, D: ModeDevice, W: Write, C: Clock> Session<S, D, W,
 
     /// Raw mode, and all reports on; then the events; then all as it was.
     fn all<R: Wait>(&mut self, rt: &R) -> io::Result<()> {
-        self.term.enable_raw_mode()?;
+        self.session.term.enable_raw_mode()?;
         let has_flags = supports_keyboard_enhancement(
             rt,
-            &mut self.term,
-            &self.reader,
-            &mut self.pass,
-            &mut self.out,
-            &mut self.clock,
+            &mut self.session.term,
+            &self.session.reader,
+            &mut self.session.pass,
+            &mut self.session.out,
+            &mut self.session.clock,
         )
         .unwrap_or(false);
-        let shown = match enter(&mut self.out, has_flags) {
+        let shown = match enter(&mut self.session.out, has_flags) {
             Ok(()) => self.run(rt),
             Err(error) => Err(error),
         };
-        let left = leave(&mut self.out, has_flags);
-        self.term.disable_raw_mode()?;
+        let left = leave(&mut self.session.out, has_flags);
+        self.session.term.disable_raw_mode()?;
         shown?;
         left
     }
@@ -149,19 +130,9 @@ fn main(rt: HostRuntime) -> io::Result<()> {
         eprintln!(rt; "usage: terminal/with_terminal crates/events/out/events")?;
         return Err(io::Error::from(ErrorKind::InvalidInput));
     };
-    let (device, term) = own_terminal::open(&rt, alloc, rt.stdin(), folder.as_str())?;
-    let reader = InternalEventReader::new(alloc, DeviceSource::new(alloc, device));
-    let (reader, mut passes) = EventReader::new(&rt, alloc, reader, 1)?;
-    let Some(pass) = passes.pop() else {
-        return Ok(());
-    };
-    let mut session = Session {
-        alloc,
-        term,
-        reader,
-        pass,
-        out: BufWriter::new(alloc, io::writer(&rt))?,
-        clock: SystemClock::new(&rt),
-    };
-    session.all(&rt)
+    let out = BufWriter::new(alloc, io::writer(&rt))?;
+    let clock = SystemClock::new(&rt);
+    let session = Session::open(&rt, alloc, rt.stdin(), folder.as_str(), out, clock)?;
+    let mut viewer = Viewer { session };
+    viewer.all(&rt)
 }

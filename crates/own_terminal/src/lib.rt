@@ -4,8 +4,11 @@
 //! program may.
 #![tactic(auto)]
 
+mod session;
+
 use crossterm::event::source::{PolledDevice, RawFlag};
 use crossterm::terminal::{SttyDevice, Terminal};
+pub use session::Session;
 use std::alloc::Global;
 use std::format;
 use std::fs::{File, Files};
