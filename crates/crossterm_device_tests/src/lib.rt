@@ -6,20 +6,4 @@
 #![tactic(auto)]
 
 #[cfg(test)]
-mod answers;
-#[cfg(test)]
-mod ends;
-#[cfg(test)]
-mod files;
-#[cfg(test)]
-mod flow;
-#[cfg(test)]
-mod polled;
-#[cfg(test)]
-mod readers;
-#[cfg(test)]
-mod refused;
-#[cfg(test)]
-mod sizes;
-#[cfg(test)]
-mod woken;
+mod tests;

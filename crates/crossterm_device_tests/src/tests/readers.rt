@@ -1,7 +1,7 @@
 //! A device over a reader.
 
-use crate::answers::{NOW, fails, is_idle, is_raw, tells, tells_many};
-use crate::ends::cooked;
+use crate::tests::answers::{NOW, fails, is_idle, is_raw, tells, tells_many};
+use crate::tests::ends::cooked;
 use crossterm_read::source::{Device, DeviceSource, EventSource, RawFlag, ReadDevice};
 use crossterm_types::event::{Event, InternalEvent, KeyCode};
 use expectations::expect;

@@ -1,7 +1,7 @@
 //! Much, from another thread, and a wake-up amid it.
 
-use crate::answers::long;
-use crate::ends::{connected, piped, socket};
+use crate::tests::answers::long;
+use crate::tests::ends::{connected, piped, socket};
 use crossterm_read::source::{Answer, Device, Waker};
 use expectations::expect;
 use std::alloc::Global;

@@ -1,7 +1,7 @@
 //! What the system can't watch.
 
-use crate::answers::{NOW, is_woken, tells, waits_out};
-use crate::ends::cooked;
+use crate::tests::answers::{NOW, is_woken, tells, waits_out};
+use crate::tests::ends::cooked;
 use crossterm_read::source::{Device, PolledDevice};
 use expectations::expect;
 use std::alloc::Global;

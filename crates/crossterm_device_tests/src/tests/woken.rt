@@ -1,7 +1,7 @@
 //! Wakers.
 
-use crate::answers::{NOW, is_idle, is_woken, tells_many, waits_out};
-use crate::ends::{connected, piped, socket};
+use crate::tests::answers::{NOW, is_idle, is_woken, tells_many, waits_out};
+use crate::tests::ends::{connected, piped, socket};
 use crossterm_read::source::{Device, DeviceSource, EventSource, Waker};
 use expectations::expect;
 use std::alloc::Global;
@@ -71,19 +71,9 @@ fn sockets<R: Net + Threads + Clock + Sync>(rt: &R, alloc: Global) -> io::Result
 }
 
 #[test]
-fn a_pipe_is_woken(rt: HostRuntime) -> io::Result<()> {
+fn pipes_connections_and_sockets_are_woken(rt: HostRuntime) -> io::Result<()> {
     expect!(rt; pipes(&rt, rt.alloc())?);
-    Ok(())
-}
-
-#[test]
-fn a_connection_is_woken(rt: HostRuntime) -> io::Result<()> {
     expect!(rt; connections(&rt, rt.alloc())?);
-    Ok(())
-}
-
-#[test]
-fn a_socket_is_woken(rt: HostRuntime) -> io::Result<()> {
     expect!(rt; sockets(&rt, rt.alloc())?);
     Ok(())
 }

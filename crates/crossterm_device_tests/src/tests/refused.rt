@@ -1,6 +1,6 @@
 //! Memory that is refused. Each allocation is refused in turn by the command that runs the tests, as `rt try --test --fail-alloc N`.
 
-use crate::ends::{piped, sized, socket};
+use crate::tests::ends::{piped, sized, socket};
 use expectations::expect;
 use std::alloc::Global;
 use std::fs::{File, Files};

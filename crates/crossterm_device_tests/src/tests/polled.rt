@@ -1,8 +1,8 @@
 //! What comes at once, and what is waited for.
 
-use crate::answers::{NOW, is_idle, long, tells, tells_many, waits_out};
-use crate::ends::{connected, piped, socket};
-use crate::readers::is_key;
+use crate::tests::answers::{NOW, is_idle, long, tells, tells_many, waits_out};
+use crate::tests::ends::{connected, piped, socket};
+use crate::tests::readers::is_key;
 use crossterm_read::source::{Device, DeviceSource, EventSource};
 use crossterm_types::event::KeyCode;
 use expectations::expect;
@@ -84,19 +84,9 @@ fn sockets<R: Net + Clock>(rt: &R, alloc: Global) -> io::Result<bool> {
 }
 
 #[test]
-fn a_pipe_is_told(rt: HostRuntime) -> io::Result<()> {
+fn pipes_connections_and_sockets_are_told(rt: HostRuntime) -> io::Result<()> {
     expect!(rt; pipes(&rt, rt.alloc())?);
-    Ok(())
-}
-
-#[test]
-fn a_connection_is_told(rt: HostRuntime) -> io::Result<()> {
     expect!(rt; connections(&rt, rt.alloc())?);
-    Ok(())
-}
-
-#[test]
-fn a_socket_is_told(rt: HostRuntime) -> io::Result<()> {
     expect!(rt; sockets(&rt, rt.alloc())?);
     Ok(())
 }

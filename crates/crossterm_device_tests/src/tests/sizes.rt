@@ -1,7 +1,7 @@
 //! Sizes, in lines of text.
 
-use crate::answers::{NOW, fails, is_idle, is_woken, resizes, tells, waits_out};
-use crate::ends::{SizedEnds, cooked, sized};
+use crate::tests::answers::{NOW, fails, is_idle, is_woken, resizes, tells, waits_out};
+use crate::tests::ends::{SizedEnds, cooked, sized};
 use crossterm_read::source::{Device, PolledDevice};
 use expectations::expect;
 use std::alloc::Global;
