@@ -5,7 +5,7 @@ use expectations::{expect, is_text};
 use std::alloc::Global;
 
 /// Each colour with a name.
-static NAMED: [(&str, Color); 17] = [
+pub static NAMED: [(&str, Color); 17] = [
     ("reset", Color::Reset),
     ("black", Color::Black),
     ("dark_red", Color::DarkRed),

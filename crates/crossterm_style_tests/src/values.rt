@@ -1,32 +1,16 @@
 //! JSON values of colours and attributes; the texts of colours are those of crossterm's own tests.
 
+use crate::colors::NAMED;
 use crossterm_flags::ValueFault;
 use crossterm_style::{Attribute, Color, Colored};
 use expectations::expect;
 use serde_json::Value;
 use std::alloc::Global;
 
-/// Texts and the colours that they tell.
-static READ: [(&str, Color); 31] = [
+/// Texts beside the names, and the colours that they tell.
+static READ: [(&str, Color); 14] = [
     ("Reset", Color::Reset),
-    ("reset", Color::Reset),
     ("Red", Color::Red),
-    ("red", Color::Red),
-    ("dark_red", Color::DarkRed),
-    ("grey", Color::Grey),
-    ("dark_grey", Color::DarkGrey),
-    ("green", Color::Green),
-    ("dark_green", Color::DarkGreen),
-    ("yellow", Color::Yellow),
-    ("dark_yellow", Color::DarkYellow),
-    ("blue", Color::Blue),
-    ("dark_blue", Color::DarkBlue),
-    ("magenta", Color::Magenta),
-    ("dark_magenta", Color::DarkMagenta),
-    ("cyan", Color::Cyan),
-    ("dark_cyan", Color::DarkCyan),
-    ("white", Color::White),
-    ("black", Color::Black),
     ("ansi_(255)", Color::AnsiValue(255)),
     ("ansi_(+007)", Color::AnsiValue(7)),
     (")ansi_(9", Color::AnsiValue(9)),
@@ -123,9 +107,11 @@ fn is_carried(alloc: Global, color: Color) -> bool {
 
 #[test]
 fn colors_are_carried(rt: HostRuntime) {
+    for (name, color) in &NAMED {
+        expect!(rt; tells(rt.alloc(), name, *color) && is_carried(rt.alloc(), *color), name);
+    }
     for (text, color) in &READ {
-        expect!(rt; tells(rt.alloc(), text, *color), text);
-        expect!(rt; is_carried(rt.alloc(), *color), text);
+        expect!(rt; tells(rt.alloc(), text, *color) && is_carried(rt.alloc(), *color), text);
     }
 }
 
