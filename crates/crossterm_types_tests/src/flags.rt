@@ -107,35 +107,20 @@ macro_rules! assigned {
     }};
 }
 
-fn modifiers_have_bits() -> bool {
+fn have_bits() -> bool {
     has_bits!(KeyModifiers, 63)
+        && has_bits!(KeyEventState, 7)
+        && has_bits!(KeyboardEnhancementFlags, 15)
 }
 
-fn states_have_bits() -> bool {
-    has_bits!(KeyEventState, 7)
-}
-
-fn enhancements_have_bits() -> bool {
-    has_bits!(KeyboardEnhancementFlags, 15)
-}
-
-fn modifiers_know_bits() -> bool {
-    knows_bits!(KeyModifiers)
-}
-
-fn states_know_bits() -> bool {
-    knows_bits!(KeyEventState)
-}
-
-fn enhancements_know_bits() -> bool {
-    knows_bits!(KeyboardEnhancementFlags)
+fn know_bits() -> bool {
+    knows_bits!(KeyModifiers) && knows_bits!(KeyEventState) && knows_bits!(KeyboardEnhancementFlags)
 }
 
 #[test]
 fn bits_become_sets(rt: HostRuntime) {
-    expect!(rt; modifiers_have_bits() && modifiers_know_bits());
-    expect!(rt; states_have_bits() && states_know_bits());
-    expect!(rt; enhancements_have_bits() && enhancements_know_bits());
+    expect!(rt; have_bits());
+    expect!(rt; know_bits());
 }
 
 static MODIFIERS: [KeyModifiers; 6] = [
@@ -174,84 +159,52 @@ fn constants_have_their_bits(rt: HostRuntime) {
     expect!(rt; KeyEventState::NONE.bits() == 0);
 }
 
-fn modifiers_join(pair: &Pair) -> bool {
+fn join(pair: &Pair) -> bool {
     joins!(KeyModifiers, pair)
+        && joins!(KeyEventState, pair)
+        && joins!(KeyboardEnhancementFlags, pair)
 }
 
-fn modifiers_join_by_sign(pair: &Pair) -> bool {
+fn join_by_sign(pair: &Pair) -> bool {
     joins_by_sign!(KeyModifiers, pair)
+        && joins_by_sign!(KeyEventState, pair)
+        && joins_by_sign!(KeyboardEnhancementFlags, pair)
 }
 
-fn states_join(pair: &Pair) -> bool {
-    joins!(KeyEventState, pair)
-}
-
-fn states_join_by_sign(pair: &Pair) -> bool {
-    joins_by_sign!(KeyEventState, pair)
-}
-
-fn enhancements_join(pair: &Pair) -> bool {
-    joins!(KeyboardEnhancementFlags, pair)
-}
-
-fn enhancements_join_by_sign(pair: &Pair) -> bool {
-    joins_by_sign!(KeyboardEnhancementFlags, pair)
-}
-
-fn modifiers_meet(pair: &Pair) -> bool {
+fn meet(pair: &Pair) -> bool {
     meets!(KeyModifiers, pair)
-}
-
-fn states_meet(pair: &Pair) -> bool {
-    meets!(KeyEventState, pair)
-}
-
-fn enhancements_meet(pair: &Pair) -> bool {
-    meets!(KeyboardEnhancementFlags, pair)
+        && meets!(KeyEventState, pair)
+        && meets!(KeyboardEnhancementFlags, pair)
 }
 
 #[test]
 fn sets_are_joined_and_meet(rt: HostRuntime) {
     for pair in &PAIRS {
-        expect!(rt; modifiers_join(pair) && modifiers_join_by_sign(pair) && modifiers_meet(pair));
-        expect!(rt; states_join(pair) && states_join_by_sign(pair) && states_meet(pair));
-        expect!(rt; enhancements_join(pair) && enhancements_join_by_sign(pair));
-        expect!(rt; enhancements_meet(pair));
+        expect!(rt; join(pair));
+        expect!(rt; join_by_sign(pair));
+        expect!(rt; meet(pair));
     }
-}
-
-fn changed_modifiers() -> [u8; 4] {
-    changed!(KeyModifiers)
-}
-
-fn assigned_modifiers() -> [u8; 4] {
-    assigned!(KeyModifiers)
-}
-
-fn changed_states() -> [u8; 4] {
-    changed!(KeyEventState)
-}
-
-fn assigned_states() -> [u8; 4] {
-    assigned!(KeyEventState)
-}
-
-fn changed_enhancements() -> [u8; 4] {
-    changed!(KeyboardEnhancementFlags)
-}
-
-fn assigned_enhancements() -> [u8; 4] {
-    assigned!(KeyboardEnhancementFlags)
 }
 
 /// The bits of the sets in turn where one and two are put in, left out, and changed about.
 const CHANGED: [u8; 4] = [3, 2, 3, 1];
 
+fn are_changed() -> bool {
+    changed!(KeyModifiers) == CHANGED
+        && changed!(KeyEventState) == CHANGED
+        && changed!(KeyboardEnhancementFlags) == CHANGED
+}
+
+fn are_assigned() -> bool {
+    assigned!(KeyModifiers) == CHANGED
+        && assigned!(KeyEventState) == CHANGED
+        && assigned!(KeyboardEnhancementFlags) == CHANGED
+}
+
 #[test]
 fn sets_are_changed(rt: HostRuntime) {
-    expect!(rt; changed_modifiers() == CHANGED && assigned_modifiers() == CHANGED);
-    expect!(rt; changed_states() == CHANGED && assigned_states() == CHANGED);
-    expect!(rt; changed_enhancements() == CHANGED && assigned_enhancements() == CHANGED);
+    expect!(rt; are_changed());
+    expect!(rt; are_assigned());
 }
 
 /// The bits of the part of a set, where there is one.
