@@ -5,31 +5,5 @@
 //! an end of input behind a number of turns, and each turn is a nap of a millisecond.
 #![tactic(auto)]
 
-/// Fails the test where something doesn't hold, and says what.
 #[cfg(test)]
-fn expected(rt: &impl std::process::Abort, holds: bool, what: &str) {
-    assert!(rt; holds, "{what}");
-}
-
-// One call, and no text formatted in the test itself: a test's proof grows with its branches.
-#[cfg(test)]
-macro_rules! expect {
-    ($rt:expr; $holds:expr) => {
-        crate::expected(&$rt, $holds, stringify!($holds))
-    };
-}
-
-#[cfg(test)]
-mod closing;
-#[cfg(test)]
-mod devices;
-#[cfg(test)]
-mod limits;
-#[cfg(test)]
-mod order;
-#[cfg(test)]
-mod queries;
-#[cfg(test)]
-mod refused;
-#[cfg(test)]
-mod waking;
+mod tests;

@@ -4,7 +4,7 @@ ghost use Rattle.std.specs.Prelude.{◌≡◌, length};
 ghost use Rattle.crossterm_read.specs.Device.{CountWithin};
 
 use crossterm_read::source::{Answer, Device, Waker};
-use crossterm_test_devices::{TURNS, is_raised_within, nap};
+use crossterm_test_devices::{TURNS, is_raised_within, nap, rest};
 use std::alloc::{AllocError, Global};
 use std::io;
 use std::io::ErrorKind;
@@ -73,16 +73,14 @@ impl<R: Wait + Drop> Gated<R> {
     {
         self.gate.asked_forever.store(true, Ordering::SeqCst);
         nap(&self.rt);
-        let count = if self.gate.is_open.swap(false, Ordering::SeqCst) {
+        if self.gate.is_open.swap(false, Ordering::SeqCst) {
             buf[0] = b'a';
-            1
-        } else if self.turns == 0 {
-            0
-        } else {
-            self.turns -= 1;
-            return Answer::Idle;
-        };
-        Answer::Bytes { count, raw: false }
+            return Answer::Bytes {
+                count: 1,
+                raw: false,
+            };
+        }
+        rest(&mut self.turns)
     }
 }
 
@@ -154,14 +152,7 @@ impl<R: Wait + Drop> Device for FailsOnce<R> {
             self.failures = 1;
             return Err(io::Error::from(ErrorKind::Other));
         }
-        if self.turns == 0 {
-            return Ok(Answer::Bytes {
-                count: 0,
-                raw: false,
-            });
-        }
-        self.turns -= 1;
-        Ok(Answer::Idle)
+        Ok(rest(&mut self.turns))
     }
 
     fn failures(&self) -> u64 {

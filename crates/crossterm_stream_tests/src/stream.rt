@@ -8,6 +8,7 @@ use crossterm_read::source::{Device, DeviceSource, EventSource};
 use crossterm_read::stream::EventStream;
 use crossterm_test_devices::{TURNS, letter_of, nap, reader_of};
 use crossterm_types::event::Event;
+use expectations::expect;
 use futures::task::Poll;
 use futures::test::MockTask;
 use futures::{Stream, StreamExt};
@@ -106,34 +107,20 @@ fn the_newest_is_woken(rt: HostRuntime) -> io::Result<()> {
     Ok(())
 }
 
-/// Whether a stream gives a fault before the turns are over, and nothing before that.
-fn gives_fault<D: Device, R: Wait + Drop>(
+/// What a stream answers within so many turns: what first isn't pending.
+fn answer_within<D: Device, R: Wait + Drop>(
     rt: &R,
     task: &MockTask,
     stream: &mut Over<D, R>,
-) -> bool {
-    for _ in 0..TURNS {
+    turns: u32,
+) -> Answer {
+    for _ in 0..turns {
         match poll(task, stream) {
             Answer::Pending => nap(rt),
-            other => return other == Answer::Fault(ErrorKind::Other),
+            other => return other,
         }
     }
-    false
-}
-
-/// Whether a stream is pending in the next 100 turns.
-fn stays_pending<D: Device, R: Wait + Drop>(
-    rt: &R,
-    task: &MockTask,
-    stream: &mut Over<D, R>,
-) -> bool {
-    for _ in 0..100u32 {
-        if poll(task, stream) != Answer::Pending {
-            return false;
-        }
-        nap(rt);
-    }
-    true
+    Answer::Pending
 }
 
 /// Whether a fault that the worker met is given once.
@@ -143,7 +130,9 @@ where
 {
     let mut stream = stream_of(rt, alloc, FailsOnce::new(rt, alloc)?)?;
     let task = MockTask::new(&rt)?;
-    Ok(gives_fault(&rt, &task, &mut stream) && stays_pending(&rt, &task, &mut stream))
+    let first = answer_within(&rt, &task, &mut stream, TURNS);
+    let later = answer_within(&rt, &task, &mut stream, 100);
+    Ok(first == Answer::Fault(ErrorKind::Other) && later == Answer::Pending)
 }
 
 #[test]

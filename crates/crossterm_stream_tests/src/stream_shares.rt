@@ -1,13 +1,12 @@
 //! A stream takes its part of what passes read beside it.
-ghost use Rattle.std.specs.Prelude.{IfOk};
-ghost use Rattle.crossterm_read.specs.Shared.{IsPassOf};
 
 use crate::stream::stream_by;
-use crossterm_read::read::{EventReader, Pass};
+use crossterm_read::read::EventReader;
 use crossterm_read::source::{Act, DeviceSource, Script};
 use crossterm_read::stream::EventStream;
-use crossterm_test_devices::{Reader, Seat, TURNS, nap, script_of, seat};
+use crossterm_test_devices::{Reader, Seat, TURNS, nap, script_of};
 use crossterm_types::event::Event;
+use expectations::expect;
 use futures::task::Poll;
 use futures::test::MockTask;
 use std::alloc::{AllocError, AllocGlobal, Global};
@@ -45,18 +44,11 @@ fn number_of(event: io::Result<Event>) -> Option<u16> {
 type Part = Result<Vec<u16>, AllocError>;
 
 /// What a pass reads of its part. A number that isn't the pass's own last one ends it.
-fn read_part<R: Wait>(
-    rt: &R,
-    alloc: Global,
-    shared: &EventReader<Source>,
-    mut pass: Pass<Source>,
-) -> Part
-    requires { IsPassOf shared.now pass }
-{
+fn read_part<R: Wait>(rt: &R, alloc: Global, mut seat: Seat<Source>) -> Part {
     let mut taken = Vec::new(alloc);
     for _ in 0..PART {
-        match number_of(shared.read(rt, &mut pass)) {
-            Some(number) if pass.last() == Some(u64::from(number)) => taken.push(number)?,
+        match number_of(seat.read(rt)) {
+            Some(number) if seat.pass.last() == Some(u64::from(number)) => taken.push(number)?,
             _ => break,
         }
     }
@@ -109,40 +101,19 @@ fn is_all(alloc: Global, parts: [Vec<u16>; 3]) -> Result<bool, AllocError> {
     )
 }
 
-/// What two threads read.
-fn read_by_two<R: Wait + Threads + Sync>(
-    rt: &R,
-    alloc: Global,
-    one: Seat<Source>,
-    other: Seat<Source>,
-) -> (Part, Part)
-    requires { IsPassOf one.0 one.1 × IsPassOf other.0 other.1 }
-{
-    thread::join(
-        rt,
-        move ||
-            requires { IsPassOf one.0 one.1 }
-        { read_part(rt, alloc, &one.0, one.1) },
-        move ||
-            requires { IsPassOf other.0 other.1 }
-        { read_part(rt, alloc, &other.0, other.1) },
-    )
-}
-
 /// Two shares of a reader, each with a pass, and a stream.
-type Three<R> = ((Seat<Source>, Seat<Source>), EventStream<Source, R>);
+type Three<R> = (Seat<Source>, Seat<Source>, EventStream<Source, R>);
 
 /// Opens a reader for two passes and a stream.
 fn three<R>(rt: R, alloc: Global) -> io::Result<Three<R>>
 where
     R: Threads + Wait + Copy + Send + Drop + 'static,
-    ensures { IfOk result (λ r. IsPassOf r.0.0.0 r.0.0.1 × IsPassOf r.0.1.0 r.0.1.1) }
 {
     let (shared, mut passes) = EventReader::new(&rt, alloc, sizes(alloc)?, 4)?;
-    let one = seat(&shared, &mut passes)?;
-    let other = seat(&shared, &mut passes)?;
+    let one = Seat::next(&shared, &mut passes)?;
+    let other = Seat::next(&shared, &mut passes)?;
     let stream = stream_by(rt, alloc, &shared, &mut passes)?;
-    Ok(((one, other), stream))
+    Ok((one, other, stream))
 }
 
 /// Whether two passes and a stream take each event once.
@@ -150,13 +121,17 @@ fn is_each_once<R>(rt: R, alloc: Global) -> io::Result<bool>
 where
     R: Threads + Wait + RandomSource + AllocGlobal + Copy + Send + Sync + Drop + 'static,
 {
-    let ((one, other), mut stream) = three(rt, alloc)?;
+    let (one, other, mut stream) = three(rt, alloc)?;
     let task = MockTask::new(&rt)?;
     let ((first, second), third) = thread::join(
         &rt,
-        move ||
-            requires { IsPassOf one.0 one.1 × IsPassOf other.0 other.1 }
-        { read_by_two(&rt, alloc, one, other) },
+        move || {
+            thread::join(
+                &rt,
+                move || read_part(&rt, alloc, one),
+                move || read_part(&rt, alloc, other),
+            )
+        },
         || stream_part(&rt, alloc, &task, &mut stream),
     );
     Ok(is_all(alloc, [first?, second?, third?])?)

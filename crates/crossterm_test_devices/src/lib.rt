@@ -3,12 +3,17 @@
 //! It is a crate of its own, since a crate with tests is proved twice.
 #![tactic(auto)]
 
-ghost use Rattle.std.specs.Prelude.{All, IfOk};
-ghost use Rattle.crossterm_read.specs.Shared.{IsPassOf};
+ghost use Rattle.std.specs.Prelude.{ℕ};
+ghost use Rattle.crossterm_read.specs.Device.{CountWithin};
 
-use crossterm_read::read::{EventReader, InternalEventReader, Pass};
-use crossterm_read::source::{Act, Device, DeviceSource, EventSource, Script};
+mod clocks;
+mod seats;
+
+pub use clocks::{Still, Ticking};
+use crossterm_read::read::InternalEventReader;
+use crossterm_read::source::{Act, Answer, Device, DeviceSource, Script};
 use crossterm_types::event::Event;
+pub use seats::{Seat, alone, two};
 use std::alloc::{AllocError, Global};
 use std::io;
 use std::sync::atomic::{AtomicBool, Ordering};
@@ -21,10 +26,15 @@ pub const TURNS: u32 = 10_000;
 /// The reader of one thread over a device.
 pub type Reader<D> = InternalEventReader<DeviceSource<D>>;
 
+/// A pause of this length.
+pub fn sleep<R: Wait>(rt: &R, time: Duration) {
+    let quiet = Condvar::new();
+    quiet.sleep(rt, quiet.notifications(), time);
+}
+
 /// A pause of a millisecond.
 pub fn nap<R: Wait>(rt: &R) {
-    let quiet = Condvar::new();
-    quiet.sleep(rt, quiet.notifications(), Duration::from_millis(1));
+    sleep(rt, Duration::from_millis(1));
 }
 
 /// Whether a flag is raised within so many turns.
@@ -36,6 +46,20 @@ pub fn is_raised_within<R: Wait>(rt: &R, flag: &AtomicBool, turns: u32) -> bool 
         nap(rt);
     }
     false
+}
+
+/// What a device answers that has nothing to tell: it is idle for its turns, and then the input ends.
+pub fn rest(turns: &mut u32) -> Answer
+    ensures { (size : ℕ) → CountWithin result size }
+{
+    if *turns == 0 {
+        return Answer::Bytes {
+            count: 0,
+            raw: false,
+        };
+    }
+    *turns -= 1;
+    Answer::Idle
 }
 
 /// A reader over a device that holds nothing yet.
@@ -56,29 +80,18 @@ pub fn script_of(alloc: Global, acts: Vec<Act>) -> Reader<Script> {
     reader_of(alloc, Script::new(acts))
 }
 
-/// A share of a reader, and a pass of it.
-pub type Seat<S> = (EventReader<S>, Pass<S>);
-
-/// One more share of a reader, with the last of the passes that are left.
-pub fn seat<S: EventSource<Global>>(
-    shared: &EventReader<S>,
-    passes: &mut Vec<Pass<S>>,
-) -> io::Result<Seat<S>>
-    requires { All (IsPassOf shared.now) passes.old.items }
-    ensures left { All (IsPassOf shared.now) passes.new.items }
-    ensures seat { IfOk result (λ r. IsPassOf r.0 r.1) }
-{
-    let share = shared.share()?;
-    match passes.pop() {
-        Some(pass) => Ok((share, pass)),
-        None => Err(io::Error::from(io::ErrorKind::NotFound)),
-    }
-}
-
 /// A key's letter, and `?` for all else.
 pub fn letter_of(event: &Event) -> char {
     match event {
         Event::Key(key) => key.code.as_char().unwrap_or('?'),
         _ => '?',
+    }
+}
+
+/// The letter that was read, or `None` for a fault.
+pub fn letter_in(read: io::Result<Event>) -> Option<char> {
+    match read {
+        Ok(event) => Some(letter_of(&event)),
+        Err(_) => None,
     }
 }

@@ -1,11 +1,10 @@
 //! Queries through a shared reader.
-ghost use Rattle.crossterm_read.specs.Shared.{IsPassOf};
 
-use crate::devices::{Still, Ticking, alone, letter};
 use crossterm_flags::KeyboardEnhancementFlags;
-use crossterm_read::read::{EventReader, Pass};
 use crossterm_read::source::{Act, DeviceSource, Script};
-use crossterm_test_devices::{Reader, script_of, text};
+use crossterm_test_devices::{Reader, Seat, Still, Ticking, alone, script_of, text};
+use crossterm_types::event::timeout::Clock;
+use expectations::expect;
 use std::alloc::{AllocError, Global};
 use std::io;
 use std::io::ErrorKind;
@@ -26,24 +25,26 @@ fn fails<T: Drop>(answer: io::Result<T>) -> bool {
     matches!(answer, Err(error) if error.kind() == ErrorKind::Other)
 }
 
-/// The cursor's place, where the clock stands still.
-fn place<R: Wait>(
+/// How many milliseconds limit each query.
+const LIMIT: u64 = 50;
+
+/// The cursor's place, by this clock.
+fn place<R: Wait, C: Clock>(
     rt: &R,
-    shared: &EventReader<Source>,
-    pass: &mut Pass<Source>,
-) -> io::Result<(u16, u16)>
-    requires { IsPassOf shared.now pass.old }
-    ensures { IsPassOf shared.now pass.new }
-{
-    shared.position_by(rt, pass, Duration::from_secs(1), &mut Still)
+    seat: &mut Seat<Source>,
+    clock: &mut C,
+) -> io::Result<(u16, u16)> {
+    let limit = Duration::from_millis(LIMIT);
+    seat.shared.position_by(rt, &mut seat.pass, limit, clock)
 }
 
 /// Whether the place comes past a held letter, which stays.
 fn is_placed<R: Wait>(rt: &R, alloc: Global) -> io::Result<bool> {
-    let (shared, mut pass) = alone(rt, alloc, telling(alloc, b"a\x1b[20;10R")?)?;
-    let none = pass.last().is_none();
-    let placed = matches!(place(rt, &shared, &mut pass), Ok((9, 19))) && pass.last() == Some(1);
-    let read = letter(shared.read(rt, &mut pass)) == Some('a') && pass.last() == Some(0);
+    let mut seat = alone(rt, alloc, telling(alloc, b"a\x1b[20;10R")?)?;
+    let none = seat.pass.last().is_none();
+    let placed = matches!(place(rt, &mut seat, &mut Still), Ok((9, 19)))
+        && seat.pass.last() == Some(1);
+    let read = seat.letter(rt) == Some('a') && seat.pass.last() == Some(0);
     Ok(none && placed && read)
 }
 
@@ -53,16 +54,14 @@ fn a_place_is_taken_past_a_held_letter(rt: HostRuntime) -> io::Result<()> {
     Ok(())
 }
 
-/// The flags, where the clock stands still.
-fn flags<R: Wait>(
+/// The flags, by this clock.
+fn flags<R: Wait, C: Clock>(
     rt: &R,
-    shared: &EventReader<Source>,
-    pass: &mut Pass<Source>,
-) -> io::Result<Option<KeyboardEnhancementFlags>>
-    requires { IsPassOf shared.now pass.old }
-    ensures { IsPassOf shared.now pass.new }
-{
-    shared.keyboard_by(rt, pass, Duration::from_secs(1), &mut Still)
+    seat: &mut Seat<Source>,
+    clock: &mut C,
+) -> io::Result<Option<KeyboardEnhancementFlags>> {
+    let limit = Duration::from_millis(LIMIT);
+    seat.shared.keyboard_by(rt, &mut seat.pass, limit, clock)
 }
 
 /// Whether these are the flags that have the number 1.
@@ -73,9 +72,9 @@ fn is_first(flags: io::Result<Option<KeyboardEnhancementFlags>>) -> bool {
 /// Whether flags are told and the attributes behind them are taken, and attributes alone are no flags.
 fn is_flagged<R: Wait>(rt: &R, alloc: Global) -> io::Result<bool> {
     let reader = telling(alloc, b"\x1b[?1u\x1b[?62c\x1b[?62c")?;
-    let (shared, mut pass) = alone(rt, alloc, reader)?;
-    let told = is_first(flags(rt, &shared, &mut pass)) && pass.last() == Some(1);
-    let none = matches!(flags(rt, &shared, &mut pass), Ok(None)) && pass.last() == Some(2);
+    let mut seat = alone(rt, alloc, reader)?;
+    let told = is_first(flags(rt, &mut seat, &mut Still)) && seat.pass.last() == Some(1);
+    let none = matches!(flags(rt, &mut seat, &mut Still), Ok(None)) && seat.pass.last() == Some(2);
     Ok(told && none)
 }
 
@@ -95,16 +94,16 @@ fn after(alloc: Global, act: Act) -> Result<Reader<Script>, AllocError> {
 
 /// Whether a query for the place fails at this act, and the next one is answered. The clock stands still, so that no limit passes.
 fn fails_once<R: Wait>(rt: &R, alloc: Global, act: Act) -> io::Result<bool> {
-    let (shared, mut pass) = alone(rt, alloc, after(alloc, act)?)?;
-    let failed = fails(place(rt, &shared, &mut pass));
-    Ok(failed && matches!(place(rt, &shared, &mut pass), Ok((9, 19))))
+    let mut seat = alone(rt, alloc, after(alloc, act)?)?;
+    let failed = fails(place(rt, &mut seat, &mut Still));
+    Ok(failed && matches!(place(rt, &mut seat, &mut Still), Ok((9, 19))))
 }
 
 /// The same of a query for the flags.
 fn fails_once_for_flags<R: Wait>(rt: &R, alloc: Global, act: Act) -> io::Result<bool> {
-    let (shared, mut pass) = alone(rt, alloc, after(alloc, act)?)?;
-    let failed = fails(flags(rt, &shared, &mut pass));
-    Ok(failed && is_first(flags(rt, &shared, &mut pass)))
+    let mut seat = alone(rt, alloc, after(alloc, act)?)?;
+    let failed = fails(flags(rt, &mut seat, &mut Still));
+    Ok(failed && is_first(flags(rt, &mut seat, &mut Still)))
 }
 
 #[test]
@@ -126,31 +125,18 @@ fn then_idle(alloc: Global, bytes: &[u8]) -> Result<Reader<Script>, AllocError> 
     Ok(script_of(alloc, acts))
 }
 
-/// The flags within 50 ms, where the clock goes on.
-fn flags_in_time<R: Wait>(
-    rt: &R,
-    shared: &EventReader<Source>,
-    pass: &mut Pass<Source>,
-) -> io::Result<Option<KeyboardEnhancementFlags>>
-    requires { IsPassOf shared.now pass.old }
-    ensures { IsPassOf shared.now pass.new }
-{
-    shared.keyboard_by(rt, pass, Duration::from_millis(50), &mut Ticking::new())
-}
-
 /// Whether queries end when the clock has passed their limit.
 fn ends_in_time<R: Wait>(rt: &R, alloc: Global) -> io::Result<bool> {
-    let (shared, mut pass) = alone(rt, alloc, then_idle(alloc, b"")?)?;
-    let limit = Duration::from_millis(50);
-    let unplaced = fails(shared.position_by(rt, &mut pass, limit, &mut Ticking::new()));
-    let unflagged = fails(flags_in_time(rt, &shared, &mut pass));
-    Ok(unplaced && unflagged && pass.last().is_none())
+    let mut seat = alone(rt, alloc, then_idle(alloc, b"")?)?;
+    let unplaced = fails(place(rt, &mut seat, &mut Ticking::new()));
+    let unflagged = fails(flags(rt, &mut seat, &mut Ticking::new()));
+    Ok(unplaced && unflagged && seat.pass.last().is_none())
 }
 
 /// Whether flags are told where no attributes follow in time.
 fn needs_no_attributes<R: Wait>(rt: &R, alloc: Global) -> io::Result<bool> {
-    let (shared, mut pass) = alone(rt, alloc, then_idle(alloc, b"\x1b[?1u")?)?;
-    Ok(is_first(flags_in_time(rt, &shared, &mut pass)) && pass.last() == Some(0))
+    let mut seat = alone(rt, alloc, then_idle(alloc, b"\x1b[?1u")?)?;
+    Ok(is_first(flags(rt, &mut seat, &mut Ticking::new())) && seat.pass.last() == Some(0))
 }
 
 #[test]

@@ -4,6 +4,7 @@ use crossterm_read::read::{EventReader, InternalEventReader, Pass};
 use crossterm_read::source::{DeviceSource, Script};
 use crossterm_test_devices::{script_of, text};
 use crossterm_types::event::filter::EventFilter;
+use expectations::expect;
 use linked_list_allocator::LocalHeap;
 use std::alloc::{AllocError, Global};
 use std::io;

@@ -1,11 +1,10 @@
 //! Each event comes to one pass, in the order of arrival.
-ghost use Rattle.std.specs.Prelude.{IfOk};
 ghost use Rattle.crossterm_read.specs.Shared.{IsPassOf};
 
-use crate::devices::letter;
 use crossterm_read::read::{EventReader, Pass};
 use crossterm_read::source::{DeviceSource, Script};
-use crossterm_test_devices::{Reader, Seat, script_of, seat, text};
+use crossterm_test_devices::{Reader, Seat, letter_in, script_of, text};
+use expectations::expect;
 use std::alloc::{AllocError, Global};
 use std::sync::Wait;
 use std::thread::Threads;
@@ -40,18 +39,11 @@ type Arrived = (u64, char);
 type Drained = Result<Vec<Arrived>, AllocError>;
 
 /// Reads to the end of input.
-fn drain<R: Wait>(
-    rt: &R,
-    alloc: Global,
-    shared: EventReader<Source>,
-    mut pass: Pass<Source>,
-) -> Drained
-    requires { IsPassOf shared pass }
-{
+fn drain<R: Wait>(rt: &R, alloc: Global, mut seat: Seat<Source>) -> Drained {
     let mut taken = Vec::new(alloc);
     for _ in rt.forever() {
-        match letter(shared.read(rt, &mut pass)) {
-            Some(letter) => taken.push((pass.last().unwrap_or(u64::MAX), letter))?,
+        match seat.letter(rt) {
+            Some(letter) => taken.push((seat.pass.last().unwrap_or(u64::MAX), letter))?,
             None => break,
         }
     }
@@ -84,68 +76,37 @@ fn is_all(alloc: Global, parts: [Vec<Arrived>; 4]) -> Result<bool, AllocError> {
     Ok(is_script(&all))
 }
 
+/// Two seats at a reader.
+type Two = (Seat<Source>, Seat<Source>);
+
 /// Four shares of a reader, each with a pass.
-fn four<R: Wait>(
-    rt: &R,
-    alloc: Global,
-    reader: Reader<Script>,
-) -> io::Result<((Seat<Source>, Seat<Source>), (Seat<Source>, Seat<Source>))>
-    ensures { IfOk result (λ r. (IsPassOf r.0.0.0 r.0.0.1 × IsPassOf r.0.1.0 r.0.1.1) × (IsPassOf r.1.0.0 r.1.0.1 × IsPassOf r.1.1.0 r.1.1.1)) }
-{
+fn four<R: Wait>(rt: &R, alloc: Global, reader: Reader<Script>) -> io::Result<(Two, Two)> {
     let (shared, mut passes) = EventReader::new(rt, alloc, reader, 4)?;
-    let a = seat(&shared, &mut passes)?;
-    let b = seat(&shared, &mut passes)?;
-    let c = seat(&shared, &mut passes)?;
-    let d = seat(&shared, &mut passes)?;
+    let a = Seat::next(&shared, &mut passes)?;
+    let b = Seat::next(&shared, &mut passes)?;
+    let c = Seat::next(&shared, &mut passes)?;
+    let d = Seat::next(&shared, &mut passes)?;
     Ok(((a, b), (c, d)))
 }
 
 /// What two threads read.
-fn drained_by_two<R: Wait + Threads + Sync>(
-    rt: &R,
-    alloc: Global,
-    one: Seat<Source>,
-    other: Seat<Source>,
-) -> (Drained, Drained)
-    requires { IsPassOf one.0 one.1 × IsPassOf other.0 other.1 }
-{
+fn drained<R: Wait + Threads + Sync>(rt: &R, alloc: Global, two: Two) -> (Drained, Drained) {
+    let (one, other) = two;
     thread::join(
         rt,
-        move ||
-            requires { IsPassOf one.0 one.1 }
-        { drain(rt, alloc, one.0, one.1) },
-        move ||
-            requires { IsPassOf other.0 other.1 }
-        { drain(rt, alloc, other.0, other.1) },
-    )
-}
-
-/// What four threads read.
-fn drained_by_four<R: Wait + Threads + Sync>(
-    rt: &R,
-    alloc: Global,
-    a: Seat<Source>,
-    b: Seat<Source>,
-    c: Seat<Source>,
-    d: Seat<Source>,
-) -> ((Drained, Drained), (Drained, Drained))
-    requires { IsPassOf a.0 a.1 × IsPassOf b.0 b.1 × IsPassOf c.0 c.1 × IsPassOf d.0 d.1 }
-{
-    thread::join(
-        rt,
-        move ||
-            requires { IsPassOf a.0 a.1 × IsPassOf b.0 b.1 }
-        { drained_by_two(rt, alloc, a, b) },
-        move ||
-            requires { IsPassOf c.0 c.1 × IsPassOf d.0 d.1 }
-        { drained_by_two(rt, alloc, c, d) },
+        move || drain(rt, alloc, one),
+        move || drain(rt, alloc, other),
     )
 }
 
 /// Whether four threads take each event once.
 fn is_each_once<R: Wait + Threads + Sync>(rt: &R, alloc: Global) -> io::Result<bool> {
-    let ((a, b), (c, d)) = four(rt, alloc, letters(alloc)?)?;
-    let ((a, b), (c, d)) = drained_by_four(rt, alloc, a, b, c, d);
+    let (one, other) = four(rt, alloc, letters(alloc)?)?;
+    let ((a, b), (c, d)) = thread::join(
+        rt,
+        move || drained(rt, alloc, one),
+        move || drained(rt, alloc, other),
+    );
     Ok(is_all(alloc, [a?, b?, c?, d?])?)
 }
 
@@ -164,10 +125,10 @@ fn reads_on<R: Wait>(
 ) -> bool
     requires { IsPassOf shared.now one × IsPassOf shared.now other }
 {
-    let first = letter(shared.read(rt, &mut one)) == Some('a');
-    let second = letter(shared.read(rt, &mut other)) == Some('b');
+    let first = letter_in(shared.read(rt, &mut one)) == Some('a');
+    let second = letter_in(shared.read(rt, &mut other)) == Some('b');
     shared.meet(&mut one, other);
-    let third = letter(shared.read(rt, &mut one)) == Some('c');
+    let third = letter_in(shared.read(rt, &mut one)) == Some('c');
     first && second && third && one.last() == Some(2)
 }
 

@@ -1,12 +1,10 @@
 //! The last share gives the reader back.
-ghost use Rattle.crossterm_read.specs.Shared.{IsPassOf};
 
-use crate::devices::{Still, alone, letter, two};
-use crossterm_read::read::{EventReader, Pass};
-use crossterm_read::source::{DeviceSource, Script};
-use crossterm_test_devices::{Reader, Seat, letter_of, script_of, text};
+use crossterm_read::source::Script;
+use crossterm_test_devices::{Reader, alone, letter_of, script_of, text, two};
 use crossterm_types::event::InternalEvent;
 use crossterm_types::event::filter::{AnyFilter, EventFilter};
+use expectations::expect;
 use std::alloc::{AllocError, Global};
 use std::io;
 use std::sync::Wait;
@@ -54,49 +52,28 @@ fn goes_on<R: Wait>(rt: &R, closed: Option<Reader<Script>>) -> bool {
     }
 }
 
-type Source = DeviceSource<Script>;
-
-/// Whether a poll for such events with limit zero answers so.
-fn polls<R: Wait>(
-    rt: &R,
-    shared: &EventReader<Source>,
-    pass: &mut Pass<Source>,
-    filter: AnyFilter,
-    want: bool,
-) -> bool
-    requires { IsPassOf shared.now pass.old }
-    ensures { IsPassOf shared.now pass.new }
-{
-    let zero = Some(Duration::ZERO);
-    matches!(shared.poll_by(rt, pass, zero, &mut Still, filter), Ok(ready) if ready == want)
-}
-
 /// Whether a reader is closed by the last of two shares alone, with what polls held.
-fn is_closed_last<R: Wait>(rt: &R, one: Seat<Source>, other: Seat<Source>) -> bool
-    requires { IsPassOf one.0 one.1 × IsPassOf other.0 other.1 }
-{
-    let (shared, mut one) = one;
-    let (share, mut other) = other;
+fn is_closed_last<R: Wait>(rt: &R, alloc: Global) -> io::Result<bool> {
+    let (mut one, other) = two(rt, alloc, three_letters(alloc)?)?;
+    let zero = Some(Duration::ZERO);
     // The first poll holds `a`. The second asks once, since no event of its kind is held, and so holds `b`.
-    let holds = polls(rt, &shared, &mut one, AnyFilter::Event, true)
-        && polls(rt, &shared, &mut one, AnyFilter::Cursor, false);
-    let shares = shared.close(rt, &mut one).is_none();
-    holds && shares && goes_on(rt, share.close(rt, &mut other))
+    let first = one.poll(rt, zero, AnyFilter::Event)?;
+    let second = one.poll(rt, zero, AnyFilter::Cursor)?;
+    let shares = one.close(rt).is_none();
+    Ok(first && !second && shares && goes_on(rt, other.close(rt)))
 }
 
 #[test]
 fn the_last_share_gives_what_was_left(rt: HostRuntime) -> io::Result<()> {
-    let (one, other) = two(&rt, rt.alloc(), three_letters(rt.alloc())?)?;
-    expect!(rt; is_closed_last(&rt, one, other));
+    expect!(rt; is_closed_last(&rt, rt.alloc())?);
     Ok(())
 }
 
 /// Whether a share that was dropped counts no more.
 fn is_closed_alone<R: Wait>(rt: &R, alloc: Global) -> io::Result<bool> {
-    let (shared, mut pass) = alone(rt, alloc, three_letters(alloc)?)?;
-    drop(shared.share()?);
-    let reads = letter(shared.read(rt, &mut pass)) == Some('a');
-    Ok(reads && shared.close(rt, &mut pass).is_some())
+    let mut seat = alone(rt, alloc, three_letters(alloc)?)?;
+    drop(seat.shared.share()?);
+    Ok(seat.letter(rt) == Some('a') && seat.close(rt).is_some())
 }
 
 #[test]

@@ -1,12 +1,10 @@
 //! Polls with a limit, where nobody else has the reader.
-ghost use Rattle.crossterm_read.specs.Shared.{IsPassOf};
 
-use crate::devices::{Still, Ticking, alone, letter};
-use crossterm_read::read::{EventReader, Pass};
-use crossterm_read::source::{Act, DeviceSource, Script};
-use crossterm_test_devices::{Reader, script_of, text};
+use crossterm_read::source::{Act, Script};
+use crossterm_test_devices::{Reader, Seat, Ticking, alone, letter_in, script_of, text};
 use crossterm_types::event::filter::AnyFilter;
 use crossterm_types::event::timeout::Clock;
+use expectations::expect;
 use std::alloc::{AllocError, Global};
 use std::io;
 use std::sync::Wait;
@@ -22,29 +20,14 @@ fn idle_and_letter(alloc: Global, times: u32) -> Result<Reader<Script>, AllocErr
     Ok(script_of(alloc, acts))
 }
 
-type Source = DeviceSource<Script>;
-
-/// Whether a poll with limit zero answers so.
-fn polls_at_once<R: Wait>(
-    rt: &R,
-    shared: &EventReader<Source>,
-    pass: &mut Pass<Source>,
-    want: bool,
-) -> bool
-    requires { IsPassOf shared.now pass.old }
-    ensures { IsPassOf shared.now pass.new }
-{
-    let zero = Some(Duration::ZERO);
-    matches!(shared.poll_by(rt, pass, zero, &mut Still, AnyFilter::Event), Ok(ready) if ready == want)
-}
-
 /// Whether a poll with limit zero asks once, and sees what is held.
 fn asks_once<R: Wait>(rt: &R, alloc: Global) -> io::Result<bool> {
-    let (shared, mut pass) = alone(rt, alloc, idle_and_letter(alloc, 1)?)?;
-    let idle = polls_at_once(rt, &shared, &mut pass, false);
-    let came = polls_at_once(rt, &shared, &mut pass, true);
-    let held = polls_at_once(rt, &shared, &mut pass, true);
-    Ok(idle && came && held)
+    let mut seat = alone(rt, alloc, idle_and_letter(alloc, 1)?)?;
+    let zero = Some(Duration::ZERO);
+    let early = seat.poll(rt, zero, AnyFilter::Event)?;
+    let came = seat.poll(rt, zero, AnyFilter::Event)?;
+    let held = seat.poll(rt, zero, AnyFilter::Event)?;
+    Ok(!early && came && held)
 }
 
 #[test]
@@ -61,11 +44,11 @@ fn has_gone_on(clock: &Ticking) -> bool {
 
 /// Whether a poll ends when the clock has passed its limit, and leaves what comes later.
 fn ends_in_time<R: Wait>(rt: &R, alloc: Global) -> io::Result<bool> {
-    let (shared, mut pass) = alone(rt, alloc, idle_and_letter(alloc, 200)?)?;
+    let Seat { shared, mut pass } = alone(rt, alloc, idle_and_letter(alloc, 200)?)?;
     let mut clock = Ticking::new();
     let ready = shared.poll(rt, &mut pass, Duration::from_millis(100), &mut clock);
     let ended = matches!(ready, Ok(false)) && has_gone_on(&clock);
-    Ok(ended && letter(shared.read(rt, &mut pass)) == Some('a'))
+    Ok(ended && letter_in(shared.read(rt, &mut pass)) == Some('a'))
 }
 
 #[test]

@@ -1,6 +1,0 @@
-use Rattle.crossterm_read.specs.Shared.{IsPassOf}
-use Rattle.crossterm_shared_tests.proofs.waking.polls_at_last.Given as goal
-
--- the pass stays one of the reader's
-abbrev pub invariant-loop : goal.invariant-loop
-invariant-loop g l = IsPassOf l.shared l.pass
