@@ -1,9 +1,9 @@
 //! Copies to the clipboard: selections there and back, and what a copy may hold.
 
-use crate::is_text;
 use crossterm::Command;
 use crossterm::clipboard::{ClipboardSelection, ClipboardType, CopyToClipboard};
 use crossterm::style::ColorOutput;
+use expectations::{expect, is_text};
 use std::alloc::Global;
 use std::convert::AsSlice;
 use std::io;

@@ -1,6 +1,5 @@
 //! Commands from outside: the macros, updates, lists of commands, and what each command derives.
 
-use crate::is_text;
 use crate::queueing::kind;
 use crate::tape::Tape;
 use crossterm::cursor::{Hide, MoveTo, SetCursorStyle, Show};
@@ -11,6 +10,7 @@ use crossterm::{
     AnyCommand, ExecutableCommand, QueueableCommand, SynchronizedUpdate, csi, execute, osc, queue,
     queue_all,
 };
+use expectations::{expect, is_text};
 use std::alloc::{AllocError, Global};
 use std::fmt::Debug;
 use std::io::{self, ErrorKind, Write};

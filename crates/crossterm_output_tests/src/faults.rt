@@ -13,6 +13,7 @@ use crossterm::{
     write_commands,
 };
 use crossterm_command::write_text;
+use expectations::expect;
 use std::alloc::{AllocError, Global};
 use std::io::{self, ErrorKind};
 

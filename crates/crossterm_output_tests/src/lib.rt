@@ -4,32 +4,6 @@
 //! `probe say` can tell of a command, its bytes, stands in the tables of `probe` alone.
 #![tactic(auto)]
 
-/// Fails the test where something doesn't hold, and says what.
-#[cfg(test)]
-fn expected(rt: &impl std::process::Abort, holds: bool, what: &str) {
-    assert!(rt; holds, "{what}");
-}
-
-// One call, and no text formatted in the test itself: a test's proof grows with its branches.
-#[cfg(test)]
-macro_rules! expect {
-    ($rt:expr; $holds:expr) => {
-        crate::expected(&$rt, $holds, stringify!($holds))
-    };
-    ($rt:expr; $holds:expr, $what:expr) => {
-        crate::expected(&$rt, $holds, $what)
-    };
-}
-
-/// Whether a text was made, and is this one.
-#[cfg(test)]
-fn is_text<E: Drop>(made: Result<std::string::String, E>, want: &str) -> bool {
-    match made {
-        Ok(text) => text.as_str() == want,
-        Err(_) => false,
-    }
-}
-
 #[cfg(test)]
 mod clipboard;
 #[cfg(test)]
@@ -38,6 +12,8 @@ mod commands;
 mod faults;
 #[cfg(test)]
 mod modes;
+#[cfg(test)]
+mod noted;
 #[cfg(test)]
 mod queries;
 #[cfg(test)]

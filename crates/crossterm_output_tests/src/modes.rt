@@ -1,112 +1,33 @@
 //! Raw mode on and off over a device of modes, and sizes.
 
-ghost use Rattle.std.specs.Prelude.{◌≡◌, ◌≤◌, None, OnOk, OnErr, ⊤};
-ghost use Rattle.crossterm.specs.Modes.{Refuses};
+ghost use Rattle.std.specs.Prelude.{◌≡◌, None, OnOk};
 
+use crate::noted::{Call, Noted, SIZE, terminal_by};
 use crossterm::event::source::RawFlag;
-use crossterm::terminal::{ModeDevice, Terminal, WindowSize, tput_value};
+use crossterm::terminal::{ModeDevice, Terminal, tput_value};
+use expectations::expect;
 use std::alloc::Global;
 use std::io::{self, ErrorKind};
+use std::sync::atomic::AtomicU32;
 
-/// What a device refuses.
-#[derive(Clone, Copy, PartialEq, Eq)]
-enum Refused {
-    Nothing,
-    Mode,
-    Raw,
-    Back,
-    Size,
-}
-
-/// A device whose modes are numbers: the one that it has at first is 7, and the raw mode of a mode is 100 more.
-#[derive(Drop)]
-struct Modes {
-    mode: u8,
-    refused: Refused,
-    asked: u32,
-    failures: u64,
-}
-
-impl Modes {
-    fn new(refused: Refused) -> Modes {
-        Modes {
-            mode: 7,
-            refused,
-            asked: 0,
-            failures: 0,
-        }
-    }
-
-    /// Counts a call, and fails where it is refused.
-    fn unless(&mut self, refused: Refused) -> io::Result<()>
-        ensures mode { self.new.mode ≡ self.old.mode }
-        ensures rise { self.old.failures ≤ self.new.failures }
-        ensures err { OnErr result (Refuses self.old.failures self.new.failures) }
-    {
-        self.asked = self.asked.saturating_add(1);
-        if self.refused == refused {
-            self.failures = self.failures.saturating_add(1);
-            return Err(io::Error::from(ErrorKind::PermissionDenied));
-        }
-        Ok(())
-    }
-}
-
-impl ModeDevice for Modes {
-    type Mode = u8;
-
-    ghost stands = { λ s. s.mode };
-
-    ghost sized = { λ _ _ _. ⊤ };
-
-    ghost failed = { λ s. s.failures };
-
-    fn mode(&mut self) -> io::Result<u8> {
-        self.unless(Refused::Mode)?;
-        Ok(self.mode)
-    }
-
-    fn set_raw(&mut self, mode: &u8) -> io::Result<()> {
-        self.unless(Refused::Raw)?;
-        self.mode = mode.saturating_add(100);
-        Ok(())
-    }
-
-    fn set_mode(&mut self, mode: &u8) -> io::Result<()> {
-        self.unless(Refused::Back)?;
-        self.mode = *mode;
-        Ok(())
-    }
-
-    fn window_size(&mut self) -> io::Result<WindowSize> {
-        self.unless(Refused::Size)?;
-        Ok(WindowSize {
-            rows: 24,
-            columns: 80,
-            width: 640,
-            height: 480,
-        })
-    }
-
-    fn failures(&self) -> u64 {
-        self.failures
-    }
-}
-
-/// A terminal over such a device, and its flag once more.
-fn terminal_of(alloc: Global, refused: Refused) -> io::Result<(Terminal<Modes>, RawFlag)> {
+/// A terminal over a device of modes, and its flag once more.
+fn terminal_of(
+    alloc: Global,
+    calls: &AtomicU32,
+    refused: Option<Call>,
+) -> io::Result<(Terminal<Noted<'_>>, RawFlag)> {
     let flag = RawFlag::new(alloc)?;
     let shared = flag.share()?;
-    Ok((Terminal::new(Modes::new(refused), flag), shared))
+    Ok((terminal_by(flag, calls, refused), shared))
 }
 
 /// Whether raw mode is on, by the terminal and by the flag.
-fn is_raw(terminal: &Terminal<Modes>, flag: &RawFlag) -> bool {
+fn is_raw(terminal: &Terminal<Noted<'_>>, flag: &RawFlag) -> bool {
     matches!(terminal.is_raw_mode_enabled(), Ok(true)) && flag.get()
 }
 
 /// Whether raw mode is off, by both.
-fn is_cooked(terminal: &Terminal<Modes>, flag: &RawFlag) -> bool {
+fn is_cooked(terminal: &Terminal<Noted<'_>>, flag: &RawFlag) -> bool {
     matches!(terminal.is_raw_mode_enabled(), Ok(false)) && !flag.get()
 }
 
@@ -123,7 +44,7 @@ fn raw_and_back<D: ModeDevice>(terminal: &mut Terminal<D>) -> io::Result<()>
 }
 
 /// Whether raw mode is on once however often it is switched on, and off in the same way.
-fn switches(terminal: &mut Terminal<Modes>, flag: &RawFlag) -> bool {
+fn switches(terminal: &mut Terminal<Noted<'_>>, flag: &RawFlag) -> bool {
     let off = is_cooked(terminal, flag) && terminal.disable_raw_mode().is_ok();
     let on = terminal.enable_raw_mode().is_ok() && is_raw(terminal, flag);
     let twice = terminal.enable_raw_mode().is_ok() && is_raw(terminal, flag);
@@ -133,7 +54,8 @@ fn switches(terminal: &mut Terminal<Modes>, flag: &RawFlag) -> bool {
 
 #[test]
 fn raw_mode_is_switched_on_and_off(rt: HostRuntime) -> io::Result<()> {
-    let (mut terminal, flag) = terminal_of(rt.alloc(), Refused::Nothing)?;
+    let calls = AtomicU32::new(0);
+    let (mut terminal, flag) = terminal_of(rt.alloc(), &calls, None)?;
     expect!(rt; switches(&mut terminal, &flag));
     raw_and_back(&mut terminal)?;
     expect!(rt; is_cooked(&terminal, &flag));
@@ -141,15 +63,17 @@ fn raw_mode_is_switched_on_and_off(rt: HostRuntime) -> io::Result<()> {
 }
 
 /// Whether a device that refuses to tell its mode, or to set the raw one, leaves raw mode off.
-fn stays_cooked(alloc: Global, refused: Refused) -> io::Result<bool> {
-    let (mut terminal, flag) = terminal_of(alloc, refused)?;
+fn stays_cooked(alloc: Global, refused: Call) -> io::Result<bool> {
+    let calls = AtomicU32::new(0);
+    let (mut terminal, flag) = terminal_of(alloc, &calls, Some(refused))?;
     let denied = is_denied(terminal.enable_raw_mode());
     Ok(denied && is_cooked(&terminal, &flag))
 }
 
 /// Whether a device that refuses to set the mode that stood before leaves raw mode on, each time.
 fn stays_raw(alloc: Global) -> io::Result<bool> {
-    let (mut terminal, flag) = terminal_of(alloc, Refused::Back)?;
+    let calls = AtomicU32::new(0);
+    let (mut terminal, flag) = terminal_of(alloc, &calls, Some(Call::SetMode))?;
     let on = terminal.enable_raw_mode().is_ok();
     let once = is_denied(terminal.disable_raw_mode()) && is_raw(&terminal, &flag);
     let twice = is_denied(terminal.disable_raw_mode()) && is_raw(&terminal, &flag);
@@ -158,23 +82,17 @@ fn stays_raw(alloc: Global) -> io::Result<bool> {
 
 #[test]
 fn refused_switches_leave_the_mode_as_it_was(rt: HostRuntime) -> io::Result<()> {
-    expect!(rt; stays_cooked(rt.alloc(), Refused::Mode)?);
-    expect!(rt; stays_cooked(rt.alloc(), Refused::Raw)?);
+    expect!(rt; stays_cooked(rt.alloc(), Call::Mode)?);
+    expect!(rt; stays_cooked(rt.alloc(), Call::SetRaw)?);
     expect!(rt; stays_raw(rt.alloc())?);
     Ok(())
 }
 
-const SIZE: WindowSize = WindowSize {
-    rows: 24,
-    columns: 80,
-    width: 640,
-    height: 480,
-};
-
 /// Whether the window's size is told, and both texts of `tput` where it isn't.
 fn tells_sizes(alloc: Global) -> io::Result<bool> {
-    let (mut told, _flag) = terminal_of(alloc, Refused::Nothing)?;
-    let (mut untold, _flag) = terminal_of(alloc, Refused::Size)?;
+    let calls = AtomicU32::new(0);
+    let (mut told, _flag) = terminal_of(alloc, &calls, None)?;
+    let (mut untold, _flag) = terminal_of(alloc, &calls, Some(Call::WindowSize))?;
     let window = matches!(told.window_size(), Ok(size) if size == SIZE);
     let size = matches!(told.size(b"132", b"50"), Ok((80, 24)));
     let tput = matches!(untold.size(b"132\n", b"50\n"), Ok((132, 50)));

@@ -1,149 +1,28 @@
 //! Queries of a terminal: what they write, in which mode they ask, and what they answer.
 
-ghost use Rattle.std.specs.Prelude.{◌≡◌, ◌≤◌, OnErr, IfOk, ⊤};
-ghost use Rattle.crossterm.specs.Modes.{Refuses};
-ghost use Rattle.crossterm_read.specs.Shared.{IsPassOf};
-
+use crate::noted::{Call, terminal_by};
 use crate::witness::Witness;
 use crossterm::cursor::position;
-use crossterm::event::read::InternalEventReader;
 use crossterm::event::source::{Act, DeviceSource, RawFlag, Script};
-use crossterm::event::timeout::Clock;
-use crossterm::event::{EventReader, Pass};
-use crossterm::terminal::{
-    ModeDevice, Terminal, WindowSize, query_keyboard_enhancement_flags,
-    supports_keyboard_enhancement,
-};
+use crossterm::terminal::{query_keyboard_enhancement_flags, supports_keyboard_enhancement};
+use crossterm_test_devices::{Seat, Still, alone, script_of};
+use expectations::expect;
 use std::alloc::Global;
 use std::io::{self, ErrorKind};
 use std::sync::Wait;
 use std::sync::atomic::{AtomicU32, Ordering};
-use std::time::Duration;
 
 type Source = DeviceSource<Script>;
 
-/// A call of the device of modes.
-#[derive(Clone, Copy, PartialEq, Eq)]
-enum Call {
-    Mode,
-    SetRaw,
-    SetMode,
-}
-
-/// The digit that stands for a call.
-fn digit(call: Call) -> u32 {
-    match call {
-        Call::Mode => 1,
-        Call::SetRaw => 2,
-        Call::SetMode => 3,
-    }
-}
-
-/// A device of modes that notes its calls, as the digits of a number, and refuses one of them.
-#[derive(Drop)]
-struct Noted<'a> {
-    calls: &'a AtomicU32,
-    refused: Option<Call>,
-    mode: u8,
-    failures: u64,
-}
-
-impl Noted<'_> {
-    /// Notes a call, and fails where it is refused.
-    fn note(&mut self, call: Call) -> io::Result<()>
-        ensures mode { self.new.mode ≡ self.old.mode }
-        ensures rise { self.old.failures ≤ self.new.failures }
-        ensures err { OnErr result (Refuses self.old.failures self.new.failures) }
-    {
-        let before = self.calls.load(Ordering::SeqCst);
-        let calls = before.saturating_mul(10).saturating_add(digit(call));
-        self.calls.store(calls, Ordering::SeqCst);
-        if self.refused == Some(call) {
-            self.failures = self.failures.saturating_add(1);
-            return Err(io::Error::from(ErrorKind::PermissionDenied));
-        }
-        Ok(())
-    }
-}
-
-impl ModeDevice for Noted<'_> {
-    type Mode = u8;
-
-    ghost stands = { λ s. s.mode };
-
-    ghost sized = { λ _ _ _. ⊤ };
-
-    ghost failed = { λ s. s.failures };
-
-    fn mode(&mut self) -> io::Result<u8> {
-        self.note(Call::Mode)?;
-        Ok(self.mode)
-    }
-
-    fn set_raw(&mut self, mode: &u8) -> io::Result<()> {
-        self.note(Call::SetRaw)?;
-        self.mode = mode.saturating_add(100);
-        Ok(())
-    }
-
-    fn set_mode(&mut self, mode: &u8) -> io::Result<()> {
-        self.note(Call::SetMode)?;
-        self.mode = *mode;
-        Ok(())
-    }
-
-    fn window_size(&mut self) -> io::Result<WindowSize> {
-        Ok(WindowSize {
-            rows: 24,
-            columns: 80,
-            width: 0,
-            height: 0,
-        })
-    }
-
-    fn failures(&self) -> u64 {
-        self.failures
-    }
-}
-
-/// A clock that stands still.
-#[derive(Drop)]
-struct Still;
-
-impl Clock for Still {
-    ghost told = { λ _. 0 };
-
-    fn now(&mut self) -> Duration {
-        Duration::ZERO
-    }
-
-    fn last(&self) -> Duration {
-        Duration::ZERO
-    }
-}
-
 /// A shared reader over a script of this act and this text, and its only pass.
-fn alone<R: Wait>(
-    rt: &R,
-    alloc: Global,
-    act: Act,
-    text: &[u8],
-) -> io::Result<(EventReader<Source>, Pass<Source>)>
-    ensures { IfOk result (λ r. IsPassOf r.0 r.1) }
-{
+fn telling<R: Wait>(rt: &R, alloc: Global, act: Act, text: &[u8]) -> io::Result<Seat<Source>> {
     let mut acts = Vec::new(alloc);
     acts.push(act)?;
     acts.push(Act::Piece {
         bytes: Vec::from_slice(alloc, text)?,
         raw: true,
     })?;
-    let source = DeviceSource::new(alloc, Script::new(acts));
-    let reader = InternalEventReader::new(alloc, source);
-    let (shared, mut passes) = EventReader::new(rt, alloc, reader, 1)?;
-    match passes.pop() {
-        Some(pass) => Ok((shared, pass)),
-        None => Err(io::Error::from(ErrorKind::NotFound)),
-    }
+    alone(rt, alloc, script_of(alloc, acts))
 }
 
 /// What came of a query for the place: the answer, the calls of the device of modes, whether the terminal is raw, and the number of what was taken.
@@ -164,8 +43,8 @@ fn asked_place<R: Wait>(
     out: &mut Witness,
 ) -> io::Result<Met> {
     let calls = AtomicU32::new(0);
-    let mut term = terminal(alloc, &calls, refused)?;
-    let (shared, mut pass) = alone(rt, alloc, act, b"\x1b[20;10R")?;
+    let mut term = terminal_by(RawFlag::new(alloc)?, &calls, refused);
+    let Seat { shared, mut pass } = telling(rt, alloc, act, b"\x1b[20;10R")?;
     let place = position(rt, &mut term, &shared, &mut pass, out, &mut Still);
     Ok(Met {
         place,
@@ -173,21 +52,6 @@ fn asked_place<R: Wait>(
         is_raw: matches!(term.is_raw_mode_enabled(), Ok(true)),
         last: pass.last(),
     })
-}
-
-/// A terminal that isn't raw.
-fn terminal(
-    alloc: Global,
-    calls: &AtomicU32,
-    refused: Option<Call>,
-) -> io::Result<Terminal<Noted<'_>>> {
-    let device = Noted {
-        calls,
-        refused,
-        mode: 7,
-        failures: 0,
-    };
-    Ok(Terminal::new(device, RawFlag::new(alloc)?))
 }
 
 /// Whether the answer is a fault of this kind.
@@ -253,9 +117,9 @@ fn the_place_is_asked_for_in_raw_mode(rt: HostRuntime) -> io::Result<()> {
 /// Whether the flags are told, and what was written for them.
 fn tells_flags<R: Wait>(rt: &R, alloc: Global) -> io::Result<bool> {
     let calls = AtomicU32::new(0);
-    let mut term = terminal(alloc, &calls, None)?;
+    let mut term = terminal_by(RawFlag::new(alloc)?, &calls, None);
     let mut out = willing(alloc);
-    let (shared, mut pass) = alone(rt, alloc, Act::Idle, b"\x1b[?1u\x1b[?62c")?;
+    let Seat { shared, mut pass } = telling(rt, alloc, Act::Idle, b"\x1b[?1u\x1b[?62c")?;
     let flags = query_keyboard_enhancement_flags(
         rt, &mut term, &shared, &mut pass, &mut out, &mut Still,
     );
@@ -266,9 +130,9 @@ fn tells_flags<R: Wait>(rt: &R, alloc: Global) -> io::Result<bool> {
 /// Whether attributes alone tell that there are no flags.
 fn tells_no_support<R: Wait>(rt: &R, alloc: Global) -> io::Result<bool> {
     let calls = AtomicU32::new(0);
-    let mut term = terminal(alloc, &calls, None)?;
+    let mut term = terminal_by(RawFlag::new(alloc)?, &calls, None);
     let mut out = willing(alloc);
-    let (shared, mut pass) = alone(rt, alloc, Act::Idle, b"\x1b[?62c")?;
+    let Seat { shared, mut pass } = telling(rt, alloc, Act::Idle, b"\x1b[?62c")?;
     let raw = term.enable_raw_mode().is_ok();
     let known = supports_keyboard_enhancement(
         rt, &mut term, &shared, &mut pass, &mut out, &mut Still,

@@ -9,6 +9,7 @@ use crossterm::{
     write_command,
 };
 use crossterm_command::laws::one_reading;
+use expectations::expect;
 use std::alloc::Global;
 use std::fmt;
 use std::io::{self, ErrorKind};

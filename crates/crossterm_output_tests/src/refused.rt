@@ -3,6 +3,7 @@
 use crate::queueing::kind;
 use crossterm::clipboard::{ClipboardSelection, CopyToClipboard};
 use crossterm::style::Attribute;
+use expectations::expect;
 use linked_list_allocator::LocalHeap;
 use std::alloc::AllocError;
 use std::io::ErrorKind;

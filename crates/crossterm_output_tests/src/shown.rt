@@ -1,6 +1,5 @@
 //! Commands that show as the text that they write.
 
-use crate::is_text;
 use crossterm::cursor::{
     DisableBlinking, EnableBlinking, Hide, MoveDown, MoveLeft, MoveRight, MoveTo, MoveToColumn,
     MoveToNextLine, MoveToPreviousLine, MoveToRow, MoveUp, RestorePosition, SavePosition,
@@ -11,6 +10,7 @@ use crossterm::style::{
     SetForegroundColor, Stylize,
 };
 use crossterm::terminal::{Clear, ClearType, ScrollDown, ScrollUp, SetSize};
+use expectations::{expect, is_text};
 use std::alloc::Global;
 
 /// Whether moves to a place show so.

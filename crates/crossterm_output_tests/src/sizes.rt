@@ -1,6 +1,5 @@
 //! Long texts and the greatest numbers, through a writer that takes little at a time.
 
-use crate::is_text;
 use crate::tape::Tape;
 use crossterm::clipboard::{ClipboardSelection, CopyToClipboard};
 use crossterm::cursor::{
@@ -12,6 +11,7 @@ use crossterm::{
     AnyCommand, Command, ExecutableCommand, QueueableCommand, SynchronizedUpdate, execute, queue,
     queue_all,
 };
+use expectations::{expect, is_text};
 use std::alloc::{AllocError, Global};
 use std::io;
 use std::test::Fail;

@@ -2,6 +2,7 @@
 
 use crossterm::event::source::RawFlag;
 use crossterm::terminal::{ModeDevice, SttyDevice, SttyMode, Terminal, WindowSize};
+use expectations::expect;
 use std::alloc::Global;
 use std::io::{self, ErrorKind};
 

@@ -2,6 +2,7 @@
 
 use crossterm::event::ValueFault;
 use crossterm::terminal::ClearType;
+use expectations::expect;
 use serde_json::Value;
 use std::alloc::Global;
 
