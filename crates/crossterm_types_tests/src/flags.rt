@@ -229,42 +229,38 @@ fn enhancement_bits(part: Option<KeyboardEnhancementFlags>) -> Option<u8> {
     bits_of!(part)
 }
 
-fn modifier_parts(bits: u8) -> [Option<u8>; 4] {
-    let mut parts = KeyModifiers::from_bits_retain(bits).iter();
-    [
-        modifier_bits(parts.next()),
-        modifier_bits(parts.next()),
-        modifier_bits(parts.next()),
-        modifier_bits(parts.next()),
-    ]
+/// The bits of the first five parts of a set, where there are so many.
+macro_rules! five_parts {
+    ($Flags:ident, $bits_of:ident, $bits:expr) => {{
+        let mut parts = $Flags::from_bits_retain($bits).iter();
+        [
+            $bits_of(parts.next()),
+            $bits_of(parts.next()),
+            $bits_of(parts.next()),
+            $bits_of(parts.next()),
+            $bits_of(parts.next()),
+        ]
+    }};
+}
+
+fn modifier_parts(bits: u8) -> [Option<u8>; 5] {
+    five_parts!(KeyModifiers, modifier_bits, bits)
 }
 
 fn state_parts(bits: u8) -> [Option<u8>; 5] {
-    let mut parts = KeyEventState::from_bits_retain(bits).iter();
-    [
-        state_bits(parts.next()),
-        state_bits(parts.next()),
-        state_bits(parts.next()),
-        state_bits(parts.next()),
-        state_bits(parts.next()),
-    ]
+    five_parts!(KeyEventState, state_bits, bits)
 }
 
-fn enhancement_parts(bits: u8) -> [Option<u8>; 3] {
-    let mut parts = KeyboardEnhancementFlags::from_bits_retain(bits).iter();
-    [
-        enhancement_bits(parts.next()),
-        enhancement_bits(parts.next()),
-        enhancement_bits(parts.next()),
-    ]
+fn enhancement_parts(bits: u8) -> [Option<u8>; 5] {
+    five_parts!(KeyboardEnhancementFlags, enhancement_bits, bits)
 }
 
 #[test]
 fn iter_gives_each_part(rt: HostRuntime) {
-    expect!(rt; modifier_parts(65) == [Some(1), Some(64), None, None]);
+    expect!(rt; modifier_parts(65) == [Some(1), Some(64), None, None, None]);
     expect!(rt; state_parts(134) == [Some(2), Some(4), Some(128), None, None]);
-    expect!(rt; enhancement_parts(9) == [Some(1), Some(8), None]);
-    expect!(rt; modifier_parts(KeyModifiers::NONE.bits()) == [None; 4]);
+    expect!(rt; enhancement_parts(9) == [Some(1), Some(8), None, None, None]);
+    expect!(rt; modifier_parts(KeyModifiers::NONE.bits()) == [None; 5]);
 }
 
 static PRINTED: [(u8, &str); 6] = [
