@@ -33,27 +33,18 @@ use Rattle.crossterm_c.specs.declared.command.GelvanhCommand.{GelvanhCommand}
 use Rattle.crossterm_c.specs.declared.outlet.Outcome.{Outcome}
 use Rattle.crossterm_c.specs.declared.outlet.Outcome.TheVariants.{Written, TooSmall, NamesNothing, Failed}
 
--- The cursor's shape, what is cleared, and an attribute, by their places.
+-- The cursor's shape, what is cleared, and an attribute, by their places in declared order.
+abbrev pub shapes : List SetCursorStyle
+shapes = shape.DefaultUserShape ∷ shape.BlinkingBlock ∷ shape.SteadyBlock ∷ shape.BlinkingUnderScore ∷ shape.SteadyUnderScore ∷ shape.BlinkingBar ∷ shape.SteadyBar ∷ []
+
 abbrev pub shape_at : ℕ → Option SetCursorStyle
-shape_at n =
-    if n == 0 then Some shape.DefaultUserShape else
-    if n == 1 then Some shape.BlinkingBlock else
-    if n == 2 then Some shape.SteadyBlock else
-    if n == 3 then Some shape.BlinkingUnderScore else
-    if n == 4 then Some shape.SteadyUnderScore else
-    if n == 5 then Some shape.BlinkingBar else
-    if n == 6 then Some shape.SteadyBar else
-    None
+shape_at n = slice_get shapes n
+
+abbrev pub clearings : List ClearType
+clearings = cleared.All ∷ cleared.Purge ∷ cleared.FromCursorDown ∷ cleared.FromCursorUp ∷ cleared.CurrentLine ∷ cleared.UntilNewLine ∷ []
 
 abbrev pub cleared_at : ℕ → Option ClearType
-cleared_at n =
-    if n == 0 then Some cleared.All else
-    if n == 1 then Some cleared.Purge else
-    if n == 2 then Some cleared.FromCursorDown else
-    if n == 3 then Some cleared.FromCursorUp else
-    if n == 4 then Some cleared.CurrentLine else
-    if n == 5 then Some cleared.UntilNewLine else
-    None
+cleared_at n = slice_get clearings n
 
 abbrev pub attribute_at : ℕ → Option Attribute
 attribute_at n = slice_get all_attributes n

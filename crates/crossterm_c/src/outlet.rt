@@ -67,24 +67,7 @@ impl fmt::Write for Outlet<'_> {
     }
 }
 
-/// The length of a command's text.
-fn length_of<C: Command>(command: &C, colors: ColorOutput) -> Result<usize, fmt::Error>
-    ensures { IfOk result (λ n. IfSome (C.text command.now colors) (λ text. n ≡ length text)) }
-{
-    let mut outlet = Outlet {
-        slice: &mut [],
-        length: 0,
-    };
-    let result = command.write_ansi(&mut outlet, colors);
-    let Outlet { slice, length } = outlet;
-    let _ = &*slice;
-    match result {
-        Ok(()) => Ok(length),
-        Err(e) => Err(e),
-    }
-}
-
-/// Writes a command whose text fits.
+/// Offers a command's text to a slice, which takes what fits, and tells how long it is.
 fn fill<C: Command>(command: &C, colors: ColorOutput, slice: &mut [u8]) -> Result<usize, fmt::Error>
     ensures { IfOk result (λ n. IfSome (C.text command.now colors) (λ text. Puts slice.old 0 text slice.new n)) }
 {
@@ -121,7 +104,7 @@ fn write_long<C: Command>(
     ensures { IfSome (C.text command.now colors) (λ text. Answers text slice.old slice.new length.new result) }
 {
     *length = 0;
-    let Ok(needed) = length_of(command, colors) else {
+    let Ok(needed) = fill(command, colors, &mut []) else {
         return Outcome::Failed;
     };
     *length = needed;

@@ -11,20 +11,22 @@ use crossterm::cursor::{
 };
 use crossterm::style::ColorOutput;
 
+/// The cursor's shapes, in declared order.
+const SHAPES: [SetCursorStyle; 7] = [
+    SetCursorStyle::DefaultUserShape,
+    SetCursorStyle::BlinkingBlock,
+    SetCursorStyle::SteadyBlock,
+    SetCursorStyle::BlinkingUnderScore,
+    SetCursorStyle::SteadyUnderScore,
+    SetCursorStyle::BlinkingBar,
+    SetCursorStyle::SteadyBar,
+];
+
 /// The cursor's shape at a place.
 fn shape_of(place: u16) -> Option<SetCursorStyle>
     ensures { result ≡ shape_at place }
 {
-    match place {
-        0 => Some(SetCursorStyle::DefaultUserShape),
-        1 => Some(SetCursorStyle::BlinkingBlock),
-        2 => Some(SetCursorStyle::SteadyBlock),
-        3 => Some(SetCursorStyle::BlinkingUnderScore),
-        4 => Some(SetCursorStyle::SteadyUnderScore),
-        5 => Some(SetCursorStyle::BlinkingBar),
-        6 => Some(SetCursorStyle::SteadyBar),
-        _ => None,
-    }
+    SHAPES.get(usize::from(place)).copied()
 }
 
 /// Writes a command of the cursor.

@@ -11,19 +11,21 @@ use crossterm::terminal::{
     SetSize,
 };
 
+/// What can be cleared, in declared order.
+const CLEARED: [ClearType; 6] = [
+    ClearType::All,
+    ClearType::Purge,
+    ClearType::FromCursorDown,
+    ClearType::FromCursorUp,
+    ClearType::CurrentLine,
+    ClearType::UntilNewLine,
+];
+
 /// What is cleared, at a place.
 fn cleared_of(place: u16) -> Option<ClearType>
     ensures { result ≡ cleared_at place }
 {
-    match place {
-        0 => Some(ClearType::All),
-        1 => Some(ClearType::Purge),
-        2 => Some(ClearType::FromCursorDown),
-        3 => Some(ClearType::FromCursorUp),
-        4 => Some(ClearType::CurrentLine),
-        5 => Some(ClearType::UntilNewLine),
-        _ => None,
-    }
+    CLEARED.get(usize::from(place)).copied()
 }
 
 /// Writes a command of the terminal.
