@@ -63,43 +63,14 @@ pub(crate) fn paste_end() -> GelvanhEvent
 fn media(code: MediaKeyCode) -> u32
     ensures { media_at result ≡ code }
 {
-    match code {
-        MediaKeyCode::Play => 0,
-        MediaKeyCode::Pause => 1,
-        MediaKeyCode::PlayPause => 2,
-        MediaKeyCode::Reverse => 3,
-        MediaKeyCode::Stop => 4,
-        MediaKeyCode::FastForward => 5,
-        MediaKeyCode::Rewind => 6,
-        MediaKeyCode::TrackNext => 7,
-        MediaKeyCode::TrackPrevious => 8,
-        MediaKeyCode::Record => 9,
-        MediaKeyCode::LowerVolume => 10,
-        MediaKeyCode::RaiseVolume => 11,
-        MediaKeyCode::MuteVolume => 12,
-    }
+    code as u32
 }
 
 /// The place of a modifier key.
 fn modifier(code: ModifierKeyCode) -> u32
     ensures { modifier_at result ≡ code }
 {
-    match code {
-        ModifierKeyCode::LeftShift => 0,
-        ModifierKeyCode::LeftControl => 1,
-        ModifierKeyCode::LeftAlt => 2,
-        ModifierKeyCode::LeftSuper => 3,
-        ModifierKeyCode::LeftHyper => 4,
-        ModifierKeyCode::LeftMeta => 5,
-        ModifierKeyCode::RightShift => 6,
-        ModifierKeyCode::RightControl => 7,
-        ModifierKeyCode::RightAlt => 8,
-        ModifierKeyCode::RightSuper => 9,
-        ModifierKeyCode::RightHyper => 10,
-        ModifierKeyCode::RightMeta => 11,
-        ModifierKeyCode::IsoLevel3Shift => 12,
-        ModifierKeyCode::IsoLevel5Shift => 13,
-    }
+    code as u32
 }
 
 /// The place of a key, and its number or its character.
@@ -141,22 +112,14 @@ fn code_and_value(code: KeyCode) -> (u16, u32)
 fn press(kind: KeyEventKind) -> u8
     ensures { press_at result ≡ kind }
 {
-    match kind {
-        KeyEventKind::Press => 0,
-        KeyEventKind::Repeat => 1,
-        KeyEventKind::Release => 2,
-    }
+    kind as u8
 }
 
 /// The place of a button.
 fn button(button: MouseButton) -> u32
     ensures { button_at result ≡ button }
 {
-    match button {
-        MouseButton::Left => 0,
-        MouseButton::Right => 1,
-        MouseButton::Middle => 2,
-    }
+    button as u32
 }
 
 /// The place of what the mouse did, and its button.
