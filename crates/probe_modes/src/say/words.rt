@@ -102,7 +102,10 @@ fn named<A: Allocator + Clone>(
     argument: &str,
 ) -> Result<AnyCommand<A>, Wrong> {
     match word {
-        "SetCursorStyle" => Ok(AnyCommand::SetCursorStyle(by_name(SetCursorStyle::all(), argument)?)),
+        "SetCursorStyle" => Ok(AnyCommand::SetCursorStyle(by_name(
+            SetCursorStyle::all(),
+            argument,
+        )?)),
         "Clear" => Ok(AnyCommand::Clear(Clear(by_name(ClearType::all(), argument)?))),
         "PushKeyboardEnhancementFlags" => pushed(number(argument)),
         _ => styling(alloc, word, argument),
