@@ -2,13 +2,10 @@
 ghost use Rattle.std.specs.Prelude.{◌≡◌, ◌-◌, ℕ, List, length, take};
 ghost use Rattle.crossterm_types.specs.Seen.{Key, Mouse};
 ghost use Rattle.crossterm_parse.specs.Meaning.{pasted, seen_meaning};
-ghost use Rattle.crossterm_c.specs.Event.{button_at, code_at, done_at, event_at, media_at, modifier_at, press_at};
+ghost use Rattle.crossterm_c.specs.Event.{code_at, done_at, event_at};
 
 use crossterm_parse::meaning::Meaning;
-use crossterm_types::event::{
-    KeyCode, KeyEvent, KeyEventKind, MediaKeyCode, ModifierKeyCode, MouseButton, MouseEvent,
-    MouseEventKind,
-};
+use crossterm_types::event::{KeyCode, KeyEvent, MouseEvent, MouseEventKind};
 
 /// An event. Which fields count depends on its kind; the others are 0.
 #[repr(C)]
@@ -59,20 +56,6 @@ pub(crate) fn paste_end() -> GelvanhEvent
     plain(5)
 }
 
-/// The place of a media key.
-fn media(code: MediaKeyCode) -> u32
-    ensures { media_at result ≡ code }
-{
-    code as u32
-}
-
-/// The place of a modifier key.
-fn modifier(code: ModifierKeyCode) -> u32
-    ensures { modifier_at result ≡ code }
-{
-    code as u32
-}
-
 /// The place of a key, and its number or its character.
 fn code_and_value(code: KeyCode) -> (u16, u32)
     ensures { code_at result.0 result.1 ≡ code }
@@ -103,23 +86,9 @@ fn code_and_value(code: KeyCode) -> (u16, u32)
         KeyCode::Pause => (22, 0),
         KeyCode::Menu => (23, 0),
         KeyCode::KeypadBegin => (24, 0),
-        KeyCode::Media(code) => (25, media(code)),
-        KeyCode::Modifier(code) => (26, modifier(code)),
+        KeyCode::Media(code) => (25, code as u32),
+        KeyCode::Modifier(code) => (26, code as u32),
     }
-}
-
-/// The number of pressed, held or let go.
-fn press(kind: KeyEventKind) -> u8
-    ensures { press_at result ≡ kind }
-{
-    kind as u8
-}
-
-/// The place of a button.
-fn button(button: MouseButton) -> u32
-    ensures { button_at result ≡ button }
-{
-    button as u32
 }
 
 /// The place of what the mouse did, and its button.
@@ -127,9 +96,9 @@ fn done_by_mouse(kind: MouseEventKind) -> (u16, u32)
     ensures { done_at result.0 result.1 ≡ kind }
 {
     match kind {
-        MouseEventKind::Down(which) => (0, button(which)),
-        MouseEventKind::Up(which) => (1, button(which)),
-        MouseEventKind::Drag(which) => (2, button(which)),
+        MouseEventKind::Down(which) => (0, which as u32),
+        MouseEventKind::Up(which) => (1, which as u32),
+        MouseEventKind::Drag(which) => (2, which as u32),
         MouseEventKind::Moved => (3, 0),
         MouseEventKind::ScrollDown => (4, 0),
         MouseEventKind::ScrollUp => (5, 0),
@@ -147,7 +116,7 @@ pub(crate) fn of_key(key: KeyEvent) -> GelvanhEvent
         code,
         value,
         modifiers: key.modifiers.bits(),
-        press: press(key.kind),
+        press: key.kind as u8,
         state: key.state.bits(),
         ..plain(3)
     }
