@@ -14,39 +14,39 @@ use crossterm_parse::state::{Progress, State};
 use crossterm_parse::steps::Steps;
 use std::sync::ledger::{Blank, Ledger};
 
-/// Takes bytes outside of a paste: all, or as many as the table has room for, or those up to the start of a paste.
+/// Takes bytes outside of a paste: all, or as many as the table has room for, or those up to the start of a paste. It tells how many bytes it
+/// took, and how many events it gave.
 fn feed_sequences<L: Ledger>(
     state: &mut State,
     piece: &[u8],
     more: bool,
     raw: bool,
     events: &mut [GelvanhEvent],
-    given: &mut usize,
     steps: &mut Steps<L>,
-) -> usize
-    requires outside { is_paste state.old ≡ false }
-    requires room { given.old ≤ length events.old }
-    ensures taken { result ≤ length piece.now }
-    ensures fills { FillsOver state.old state.new events.old events.new given.old given.new (take result (marked piece.now more raw)) }
-    ensures given { given.new ≤ length events.new }
+) -> (usize, usize)
+    requires { is_paste state.old ≡ false }
+    ensures taken { result.0 ≤ length piece.now }
+    ensures fills { FillsOver state.old state.new events.old events.new 0 result.1 (take result.0 (marked piece.now more raw)) }
+    ensures given { result.1 ≤ length events.new }
     ensures room { length events.new ≡ length events.old }
-    ensures all { (result ≡ length piece.now) ⊎ (given.new ≡ length events.new) ⊎ (is_paste state.new ≡ true) }
-    ensures some { given.old < length events.old → 0 < length piece.now → 0 < result }
+    ensures all { (result.0 ≡ length piece.now) ⊎ (result.1 ≡ length events.new) ⊎ (is_paste state.new ≡ true) }
+    ensures some { 0 < length events.old → 0 < length piece.now → 0 < result.0 }
 {
     let mut place = 0;
+    let mut given = 0;
     while place < piece.len() {
         if state.is_paste() {
-            return place;
+            return (place, given);
         }
-        place += run(state, &piece[place..], events, given, steps);
-        if place == piece.len() || *given == events.len() {
-            return place;
+        place += run(state, &piece[place..], events, &mut given, steps);
+        if place == piece.len() || given == events.len() {
+            return (place, given);
         }
         let pause = pauses(more, place, piece.len());
-        put(state, piece[place], raw, pause, events, given, steps);
+        put(state, piece[place], raw, pause, events, &mut given, steps);
         place += 1;
     }
-    place
+    (place, given)
 }
 
 /// Takes the bytes of an open paste before the next ESC, where none of its end is met, and tells how many.
@@ -113,18 +113,17 @@ pub(crate) fn feed<L: Ledger>(
     ensures some { 0 < length events.old → 0 < length piece.now → 0 < result.0 }
 {
     let mut steps: Steps<L> = Steps::new(blank);
-    let mut given = 0;
     if events.is_empty() {
-        return (0, given);
+        return (0, 0);
     }
     if !state.is_paste() {
-        let taken = feed_sequences(state, piece, more, raw, events, &mut given, &mut steps);
-        return (taken, given);
+        return feed_sequences(state, piece, more, raw, events, &mut steps);
     }
     let (taken, over) = feed_paste(state, piece, &mut steps);
     if !over {
-        return (taken, given);
+        return (taken, 0);
     }
+    let mut given = 0;
     give(events, &mut given, paste_end());
     (taken, given)
 }

@@ -10,8 +10,8 @@ returns-then-is_empty-clause-feeds g c = feeds_nothing c.args.state.now
 
 pub returns-then-not-is_paste-clause-feeds : goal.returns-then-not-is_paste-clause-feeds
 returns-then-not-is_paste-clause-feeds g c =
-    feeds_filled c.args.state.now c.feed_sequences-taken.new.state c.args.events.now c.feed_sequences-taken.new.events c.feed_sequences-taken.new.given _ _ (search rules)
-    c.feed_sequences-taken.ensures.fills
+    feeds_filled c.args.state.now c.feed_sequences.new.state c.args.events.now c.feed_sequences.new.events c.feed_sequences.result.1 _ _ (search rules)
+    c.feed_sequences.ensures.fills
 
 pub returns-clause-feeds : goal.returns-clause-feeds
 returns-clause-feeds g c =
