@@ -1,8 +1,6 @@
 -- What one more byte does to a number that is read from its digits.
-use Rattle.std.proofs.Common.{◌≡◌, ◌≤◌, ◌<◌, ℕ, zero, suc, ◌+◌, ◌-◌, ◌*◌, ◌&&◌, nat_le, Bool, true, false, cond, min, List, [], ◌∷◌, filter, refl, sym, ap, subst, ◌∙◌, arith, length, drop}
+use Rattle.std.proofs.Common.{◌≡◌, ℕ, ◌+◌, ◌-◌, ◌*◌, Bool, true, false, cond, min, List, [], ◌∷◌, filter, sym, ap, ◌∙◌, arith}
 use Rattle.std.specs.List.{fold}
-use Rattle.std.proofs.Math.Nat.{min-eq_left, min-eq_right}
-use Rattle.std.proofs.lemmas.List.{drop_more}
 use Rattle.crossterm.specs.Sizes.{is_digit, number_after}
 
 -- A number that is cut at 65536 before a digit is the same as one that is cut after it.

@@ -36,6 +36,10 @@ cursor_style SteadyUnderScore = cursor_shape "4"
 cursor_style BlinkingBar = cursor_shape "5"
 cursor_style SteadyBar = cursor_shape "6"
 
+-- the cursor's shapes, in declared order
+abbrev pub all_shapes : List SetCursorStyle
+all_shapes = DefaultUserShape ∷ BlinkingBlock ∷ SteadyBlock ∷ BlinkingUnderScore ∷ SteadyUnderScore ∷ BlinkingBar ∷ SteadyBar ∷ []
+
 -- ED and EL
 abbrev pub clear : ClearType → List Token
 clear All = control (codes "2") "J"

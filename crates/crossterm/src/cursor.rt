@@ -1,11 +1,11 @@
 //! Commands of the cursor, and its place.
 //!
 //! Each command shows (`Display`) as the text that it writes.
-ghost use Rattle.std.specs.Prelude.{Some, ◌+◌};
+ghost use Rattle.std.specs.Prelude.{◌≡◌, Some, ◌+◌};
 ghost use Rattle.crossterm_command.specs.Controls.{private, reset, set};
 ghost use Rattle.crossterm_command.specs.declared.color_output.ColorOutput.TheVariants.{Enabled};
 ghost use Rattle.crossterm_command.specs.Tokens.{text_of};
-ghost use Rattle.crossterm.specs.Sequences.{by, cursor_style, move_to};
+ghost use Rattle.crossterm.specs.Sequences.{all_shapes, by, cursor_style, move_to};
 
 pub mod sys;
 
@@ -335,6 +335,23 @@ pub enum SetCursorStyle {
     SteadyUnderScore,
     BlinkingBar,
     SteadyBar,
+}
+
+impl SetCursorStyle {
+    /// All shapes, in declared order.
+    pub fn all<'a>() -> &'a [SetCursorStyle]
+        ensures { result.now ≡ all_shapes }
+    {
+        &[
+            SetCursorStyle::DefaultUserShape,
+            SetCursorStyle::BlinkingBlock,
+            SetCursorStyle::SteadyBlock,
+            SetCursorStyle::BlinkingUnderScore,
+            SetCursorStyle::SteadyUnderScore,
+            SetCursorStyle::BlinkingBar,
+            SetCursorStyle::SteadyBar,
+        ]
+    }
 }
 
 impl Command for SetCursorStyle {

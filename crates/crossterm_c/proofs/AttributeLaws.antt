@@ -1,6 +1,5 @@
 -- Sets of attributes by their bits.
-use Rattle.std.proofs.Common.{◌≡◌, ◌<◌, ◌+◌, ℕ, Bool, List, [], ◌∷◌, ◌++◌, length, take, get_or, refl, ap, sym, ◌∙◌}
-use Rattle.std.proofs.lemmas.List.{take_more}
+use Rattle.std.proofs.Common.{◌≡◌, ℕ, Bool, List, [], ◌∷◌, ◌++◌, refl, ap, sym, ◌∙◌}
 use Rattle.std.proofs.lemmas.List.Elements.{filter-append}
 use Rattle.std.specs.Int.RustNames.{bit_or}
 use Rattle.std.specs.List.{filter}
@@ -12,18 +11,13 @@ with_all-append : (bits : ℕ) (xs ys : List Attribute) → with_all bits (xs ++
 with_all-append bits [] ys = refl
 with_all-append bits (x ∷ xs) ys = with_all-append (bit_or bits (bit_of x)) xs ys
 
-gathered : (test : Attribute → Bool) (all : List Attribute) (i : ℕ) (d : Attribute) → i < length all
-    → of_list (filter test (take (i + 1) all)) ≡ with_all (of_list (filter test (take i all))) (filter test (get_or all i d ∷ []))
-gathered test all i d lt =
-    ap (λ (l : List Attribute). of_list (filter test l)) (take_more all i d lt)
-    ∙ ap of_list (filter-append test (take i all) (get_or all i d ∷ []))
-    ∙ with_all-append 0 (filter test (take i all)) (filter test (get_or all i d ∷ []))
+gathered : (test : Attribute → Bool) (all : List Attribute) (x : Attribute) → of_list (filter test (all ++ x ∷ [])) ≡ with_all (of_list (filter test all)) (filter test (x ∷ []))
+gathered test all x = ap of_list (filter-append test all (x ∷ [])) ∙ with_all-append 0 (filter test all) (filter test (x ∷ []))
 
 -- one attribute more
-pub gathers_more : (test : Attribute → Bool) (all : List Attribute) (i : ℕ) (d : Attribute) (k n : ℕ) → i < length all → k ≡ of_list (filter test (take i all))
-    → n ≡ with_all k (filter test (get_or all i d ∷ [])) → n ≡ of_list (filter test (take (i + 1) all))
-gathers_more test all i d k n lt before more =
-    more ∙ ap (λ (b : ℕ). with_all b (filter test (get_or all i d ∷ []))) before ∙ sym (gathered test all i d lt)
+pub gathers_more : (test : Attribute → Bool) (all : List Attribute) (x : Attribute) (k n : ℕ) → k ≡ of_list (filter test all)
+    → n ≡ with_all k (filter test (x ∷ [])) → n ≡ of_list (filter test (all ++ x ∷ []))
+gathers_more test all x k n before more = more ∙ ap (λ (b : ℕ). with_all b (filter test (x ∷ []))) before ∙ sym (gathered test all x)
 
 -- what all attributes gather
 pub gathers_all : (bits k : ℕ) (all : List Attribute) → all ≡ all_attributes → k ≡ of_list (filter (includes bits) all) → k ≡ known_of bits

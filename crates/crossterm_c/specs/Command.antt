@@ -23,37 +23,21 @@ use Rattle.crossterm_style.specs.declared.types.color.Color.{Color}
 use Rattle.crossterm_style.specs.declared.types.color.Color.TheVariants as color
 use Rattle.crossterm_style.specs.declared.types.colored.Colored.TheVariants.{ForegroundColor, BackgroundColor, UnderlineColor}
 use Rattle.crossterm_style.specs.declared.types.colors.Colors.{Colors}
-use Rattle.crossterm.specs.Sequences.{by, clear, cursor_style, disable_mouse, enable_mouse, move_to, push_flags, scroll, set_size}
+use Rattle.crossterm.specs.Sequences.{all_shapes, by, clear, cursor_style, disable_mouse, enable_mouse, move_to, push_flags, scroll, set_size}
 use Rattle.crossterm.specs.declared.cursor.SetCursorStyle.{SetCursorStyle}
-use Rattle.crossterm.specs.declared.cursor.SetCursorStyle.TheVariants as shape
 use Rattle.crossterm.specs.declared.terminal.ClearType.{ClearType}
-use Rattle.crossterm.specs.declared.terminal.ClearType.TheVariants as cleared
+use Rattle.crossterm.specs.Values.{all_clears}
 use Rattle.crossterm_c.specs.declared.color.GelvanhColor.{GelvanhColor}
 use Rattle.crossterm_c.specs.declared.command.GelvanhCommand.{GelvanhCommand}
 use Rattle.crossterm_c.specs.declared.outlet.Outcome.{Outcome}
 use Rattle.crossterm_c.specs.declared.outlet.Outcome.TheVariants.{Written, TooSmall, NamesNothing, Failed}
 
--- The cursor's shape, what is cleared, and an attribute, by their places.
+-- The cursor's shape, what is cleared, and an attribute, by their places in declared order.
 abbrev pub shape_at : ℕ → Option SetCursorStyle
-shape_at n =
-    if n == 0 then Some shape.DefaultUserShape else
-    if n == 1 then Some shape.BlinkingBlock else
-    if n == 2 then Some shape.SteadyBlock else
-    if n == 3 then Some shape.BlinkingUnderScore else
-    if n == 4 then Some shape.SteadyUnderScore else
-    if n == 5 then Some shape.BlinkingBar else
-    if n == 6 then Some shape.SteadyBar else
-    None
+shape_at n = slice_get all_shapes n
 
 abbrev pub cleared_at : ℕ → Option ClearType
-cleared_at n =
-    if n == 0 then Some cleared.All else
-    if n == 1 then Some cleared.Purge else
-    if n == 2 then Some cleared.FromCursorDown else
-    if n == 3 then Some cleared.FromCursorUp else
-    if n == 4 then Some cleared.CurrentLine else
-    if n == 5 then Some cleared.UntilNewLine else
-    None
+cleared_at n = slice_get all_clears n
 
 abbrev pub attribute_at : ℕ → Option Attribute
 attribute_at n = slice_get all_attributes n
@@ -162,18 +146,13 @@ colors_by _ _ = None
 abbrev pub colors_at : GelvanhCommand → Option Colors
 colors_at c = colors_by (there_at c.foreground) (there_at c.background)
 
--- Commands of colours.
-abbrev pub color_text : ColorOutput → GelvanhCommand → Option (List ℕ)
-color_text colors c =
+-- Commands of colours, of attributes and of whole styles that have no text of their own.
+abbrev pub style_text : ColorOutput → GelvanhCommand → Option (List ℕ)
+style_text colors c =
     if c.kind == 35 then option_map (λ s. text_of (color_functions colors (ForegroundColor s))) (color_at c.foreground) else
     if c.kind == 36 then option_map (λ s. text_of (color_functions colors (BackgroundColor s))) (color_at c.background) else
     if c.kind == 37 then option_map (λ s. text_of (color_functions colors (UnderlineColor s))) (color_at c.underline) else
     if c.kind == 38 then option_map (λ s. text_of (colors_functions colors s.foreground s.background)) (colors_at c) else
-    None
-
--- Commands of attributes and of whole styles that have no text of their own.
-abbrev pub style_text : ColorOutput → GelvanhCommand → Option (List ℕ)
-style_text colors c =
     if c.kind == 39 then option_map (λ s. text_of (attribute_functions s)) (attribute_at c.first) else
     if c.kind == 40 then option_map (λ s. text_of (told colors (attribute_acts s.0))) (attributes_at c.attributes) else
     if c.kind == 41 then option_map (λ s. text_of (told colors (style_acts s))) (style_at c) else
@@ -186,7 +165,6 @@ command_text colors c =
     if nat_lt c.kind 16 then cursor_text c else
     if nat_lt c.kind 27 then terminal_text c else
     if nat_lt c.kind 35 then event_text c else
-    if nat_lt c.kind 39 then color_text colors c else
     style_text colors c
 
 abbrev printed_by : ColorOutput → Option ContentStyle → List ℕ → Option (List ℕ)

@@ -1,7 +1,7 @@
 //! Colours and attributes as numbers.
-ghost use Rattle.std.specs.Prelude.{◌≡◌, slice_get, [], ◌∷◌};
+ghost use Rattle.std.specs.Prelude.{◌≡◌, [], ◌∷◌};
 ghost use Rattle.std.specs.List.{filter};
-ghost use Rattle.crossterm_style.specs.Attributes.{all_attributes, of_list, with_all};
+ghost use Rattle.crossterm_style.specs.Attributes.{with_all};
 ghost use Rattle.crossterm_c.specs.Command.{attribute_at, attributes_at, color_at, includes, known_of, there_at};
 
 use crossterm::style::{Attribute, Attributes, Color};
@@ -20,55 +20,11 @@ pub struct GelvanhColor {
     pub b: u8,
 }
 
-/// All attributes, in declared order.
-const ATTRIBUTES: [Attribute; 28] = [
-    Attribute::Reset,
-    Attribute::Bold,
-    Attribute::Dim,
-    Attribute::Italic,
-    Attribute::Underlined,
-    Attribute::DoubleUnderlined,
-    Attribute::Undercurled,
-    Attribute::Underdotted,
-    Attribute::Underdashed,
-    Attribute::SlowBlink,
-    Attribute::RapidBlink,
-    Attribute::Reverse,
-    Attribute::Hidden,
-    Attribute::CrossedOut,
-    Attribute::Fraktur,
-    Attribute::NoBold,
-    Attribute::NormalIntensity,
-    Attribute::NoItalic,
-    Attribute::NoUnderline,
-    Attribute::NoBlink,
-    Attribute::NoReverse,
-    Attribute::NoHidden,
-    Attribute::NotCrossedOut,
-    Attribute::Framed,
-    Attribute::Encircled,
-    Attribute::OverLined,
-    Attribute::NotFramedOrEncircled,
-    Attribute::NotOverLined,
-];
-
-fn attributes<'a>() -> &'a [Attribute]
-    ensures { result.now ≡ all_attributes }
-{
-    &ATTRIBUTES
-}
-
-fn at(all: &[Attribute], place: usize) -> Option<Attribute>
-    ensures { result ≡ slice_get all.now place }
-{
-    all.get(place).copied()
-}
-
 /// The attribute at a place.
 pub(crate) fn attribute_of(place: u16) -> Option<Attribute>
     ensures { result ≡ attribute_at place }
 {
-    at(attributes(), usize::from(place))
+    Attribute::iterator().nth(usize::from(place))
 }
 
 /// Adds an attribute to a set and to its bits, where some bits include it.
@@ -84,25 +40,17 @@ fn include(bits: u32, attribute: Attribute, set: &mut Attributes, known: &mut u3
     }
 }
 
-/// The set of those attributes that some bits include, and its bits.
-fn gather(bits: u32, all: &[Attribute]) -> (Attributes, u32)
-    ensures set { result.0.0 ≡ result.1 }
-    ensures bits { result.1 ≡ of_list (filter (includes bits) all.now) }
-{
-    let mut set = Attributes::none();
-    let mut known = 0;
-    for attribute in all {
-        include(bits, *attribute, &mut set, &mut known);
-    }
-    (set, known)
-}
-
 /// The set of all attributes that some bits include, and its bits.
 fn known_in(bits: u32) -> (Attributes, u32)
     ensures set { result.0.0 ≡ result.1 }
     ensures bits { result.1 ≡ known_of bits }
 {
-    gather(bits, attributes())
+    let mut set = Attributes::none();
+    let mut known = 0;
+    for attribute in Attribute::iterator() {
+        include(bits, attribute, &mut set, &mut known);
+    }
+    (set, known)
 }
 
 /// The set of some bits, where they are those of attributes.

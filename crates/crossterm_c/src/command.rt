@@ -9,7 +9,7 @@ mod terminal;
 pub(crate) mod text;
 
 use crate::color::GelvanhColor;
-use crate::outlet::Outcome;
+use crate::outlet::Answer;
 use crossterm::style::ColorOutput;
 
 /// A command that has no text of its own. Which fields count depends on its kind.
@@ -44,27 +44,19 @@ pub(crate) fn output_of(colors: bool) -> ColorOutput
 }
 
 /// Writes the command that the numbers name.
-fn write_any(
-    command: &GelvanhCommand,
-    colors: ColorOutput,
-    slice: &mut [u8],
-    length: &mut usize,
-) -> Outcome
-    ensures { AnswersTo (command_text colors command.now) slice.old slice.new length.new result }
+fn write_any(command: &GelvanhCommand, colors: ColorOutput, slice: &mut [u8]) -> Answer
+    ensures { AnswersTo (command_text colors command.now) slice.old slice.new result.length result.outcome }
 {
     if command.kind < 16 {
-        return cursor::write_cursor(command, colors, slice, length);
+        return cursor::write_cursor(command, slice);
     }
     if command.kind < 27 {
-        return terminal::write_terminal(command, colors, slice, length);
+        return terminal::write_terminal(command, slice);
     }
     if command.kind < 35 {
-        return event::write_event(command, colors, slice, length);
+        return event::write_event(command, slice);
     }
-    if command.kind < 39 {
-        return style::write_colors(command, colors, slice, length);
-    }
-    style::write_style(command, colors, slice, length)
+    style::write_style(command, colors, slice)
 }
 
 /// Writes a command that has no text of its own into a slice.
@@ -81,5 +73,5 @@ pub extern "C" fn gelvanh_command(
 ) -> u32
     ensures { AnswersTo (command_text (output_of colors) command.now) slice.old slice.new length.new (outcome_at result) }
 {
-    write_any(command, output_of(colors), slice, length).number()
+    write_any(command, output_of(colors), slice).tell(length)
 }

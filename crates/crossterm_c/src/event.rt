@@ -2,13 +2,10 @@
 ghost use Rattle.std.specs.Prelude.{◌≡◌, ◌-◌, ℕ, List, length, take};
 ghost use Rattle.crossterm_types.specs.Seen.{Key, Mouse};
 ghost use Rattle.crossterm_parse.specs.Meaning.{pasted, seen_meaning};
-ghost use Rattle.crossterm_c.specs.Event.{button_at, code_at, done_at, event_at, media_at, modifier_at, press_at};
+ghost use Rattle.crossterm_c.specs.Event.{code_at, done_at, event_at};
 
 use crossterm_parse::meaning::Meaning;
-use crossterm_types::event::{
-    KeyCode, KeyEvent, KeyEventKind, MediaKeyCode, ModifierKeyCode, MouseButton, MouseEvent,
-    MouseEventKind,
-};
+use crossterm_types::event::{KeyCode, KeyEvent, MouseEvent, MouseEventKind};
 
 /// An event. Which fields count depends on its kind; the others are 0.
 #[repr(C)]
@@ -59,49 +56,6 @@ pub(crate) fn paste_end() -> GelvanhEvent
     plain(5)
 }
 
-/// The place of a media key.
-fn media(code: MediaKeyCode) -> u32
-    ensures { media_at result ≡ code }
-{
-    match code {
-        MediaKeyCode::Play => 0,
-        MediaKeyCode::Pause => 1,
-        MediaKeyCode::PlayPause => 2,
-        MediaKeyCode::Reverse => 3,
-        MediaKeyCode::Stop => 4,
-        MediaKeyCode::FastForward => 5,
-        MediaKeyCode::Rewind => 6,
-        MediaKeyCode::TrackNext => 7,
-        MediaKeyCode::TrackPrevious => 8,
-        MediaKeyCode::Record => 9,
-        MediaKeyCode::LowerVolume => 10,
-        MediaKeyCode::RaiseVolume => 11,
-        MediaKeyCode::MuteVolume => 12,
-    }
-}
-
-/// The place of a modifier key.
-fn modifier(code: ModifierKeyCode) -> u32
-    ensures { modifier_at result ≡ code }
-{
-    match code {
-        ModifierKeyCode::LeftShift => 0,
-        ModifierKeyCode::LeftControl => 1,
-        ModifierKeyCode::LeftAlt => 2,
-        ModifierKeyCode::LeftSuper => 3,
-        ModifierKeyCode::LeftHyper => 4,
-        ModifierKeyCode::LeftMeta => 5,
-        ModifierKeyCode::RightShift => 6,
-        ModifierKeyCode::RightControl => 7,
-        ModifierKeyCode::RightAlt => 8,
-        ModifierKeyCode::RightSuper => 9,
-        ModifierKeyCode::RightHyper => 10,
-        ModifierKeyCode::RightMeta => 11,
-        ModifierKeyCode::IsoLevel3Shift => 12,
-        ModifierKeyCode::IsoLevel5Shift => 13,
-    }
-}
-
 /// The place of a key, and its number or its character.
 fn code_and_value(code: KeyCode) -> (u16, u32)
     ensures { code_at result.0 result.1 ≡ code }
@@ -132,30 +86,8 @@ fn code_and_value(code: KeyCode) -> (u16, u32)
         KeyCode::Pause => (22, 0),
         KeyCode::Menu => (23, 0),
         KeyCode::KeypadBegin => (24, 0),
-        KeyCode::Media(code) => (25, media(code)),
-        KeyCode::Modifier(code) => (26, modifier(code)),
-    }
-}
-
-/// The number of pressed, held or let go.
-fn press(kind: KeyEventKind) -> u8
-    ensures { press_at result ≡ kind }
-{
-    match kind {
-        KeyEventKind::Press => 0,
-        KeyEventKind::Repeat => 1,
-        KeyEventKind::Release => 2,
-    }
-}
-
-/// The place of a button.
-fn button(button: MouseButton) -> u32
-    ensures { button_at result ≡ button }
-{
-    match button {
-        MouseButton::Left => 0,
-        MouseButton::Right => 1,
-        MouseButton::Middle => 2,
+        KeyCode::Media(code) => (25, code as u32),
+        KeyCode::Modifier(code) => (26, code as u32),
     }
 }
 
@@ -164,9 +96,9 @@ fn done_by_mouse(kind: MouseEventKind) -> (u16, u32)
     ensures { done_at result.0 result.1 ≡ kind }
 {
     match kind {
-        MouseEventKind::Down(which) => (0, button(which)),
-        MouseEventKind::Up(which) => (1, button(which)),
-        MouseEventKind::Drag(which) => (2, button(which)),
+        MouseEventKind::Down(which) => (0, which as u32),
+        MouseEventKind::Up(which) => (1, which as u32),
+        MouseEventKind::Drag(which) => (2, which as u32),
         MouseEventKind::Moved => (3, 0),
         MouseEventKind::ScrollDown => (4, 0),
         MouseEventKind::ScrollUp => (5, 0),
@@ -184,7 +116,7 @@ pub(crate) fn of_key(key: KeyEvent) -> GelvanhEvent
         code,
         value,
         modifiers: key.modifiers.bits(),
-        press: press(key.kind),
+        press: key.kind as u8,
         state: key.state.bits(),
         ..plain(3)
     }

@@ -12,41 +12,41 @@ use crossterm_parse::parse::pauses;
 use crossterm_parse::paste::{Met, before_escape};
 use crossterm_parse::state::{Progress, State};
 use crossterm_parse::steps::Steps;
-use std::sync::ledger::Ledger;
+use std::sync::ledger::{Blank, Ledger};
 
-/// Takes bytes outside of a paste: all, or as many as the table has room for, or those up to the start of a paste.
+/// Takes bytes outside of a paste: all, or as many as the table has room for, or those up to the start of a paste. It tells how many bytes it
+/// took, and how many events it gave.
 fn feed_sequences<L: Ledger>(
     state: &mut State,
     piece: &[u8],
     more: bool,
     raw: bool,
     events: &mut [GelvanhEvent],
-    given: &mut usize,
     steps: &mut Steps<L>,
-) -> usize
-    requires outside { is_paste state.old ≡ false }
-    requires room { given.old ≤ length events.old }
-    ensures taken { result ≤ length piece.now }
-    ensures fills { FillsOver state.old state.new events.old events.new given.old given.new (take result (marked piece.now more raw)) }
-    ensures given { given.new ≤ length events.new }
+) -> (usize, usize)
+    requires { is_paste state.old ≡ false }
+    ensures taken { result.0 ≤ length piece.now }
+    ensures fills { FillsOver state.old state.new events.old events.new 0 result.1 (take result.0 (marked piece.now more raw)) }
+    ensures given { result.1 ≤ length events.new }
     ensures room { length events.new ≡ length events.old }
-    ensures all { (result ≡ length piece.now) ⊎ (given.new ≡ length events.new) ⊎ (is_paste state.new ≡ true) }
-    ensures some { given.old < length events.old → 0 < length piece.now → 0 < result }
+    ensures all { (result.0 ≡ length piece.now) ⊎ (result.1 ≡ length events.new) ⊎ (is_paste state.new ≡ true) }
+    ensures some { 0 < length events.old → 0 < length piece.now → 0 < result.0 }
 {
     let mut place = 0;
+    let mut given = 0;
     while place < piece.len() {
         if state.is_paste() {
-            return place;
+            return (place, given);
         }
-        place += run(state, &piece[place..], events, given, steps);
-        if place == piece.len() || *given == events.len() {
-            return place;
+        place += run(state, &piece[place..], events, &mut given, steps);
+        if place == piece.len() || given == events.len() {
+            return (place, given);
         }
         let pause = pauses(more, place, piece.len());
-        put(state, piece[place], raw, pause, events, given, steps);
+        put(state, piece[place], raw, pause, events, &mut given, steps);
         place += 1;
     }
-    place
+    (place, given)
 }
 
 /// Takes the bytes of an open paste before the next ESC, where none of its end is met, and tells how many.
@@ -93,33 +93,37 @@ fn feed_paste<L: Ledger>(state: &mut State, piece: &[u8], steps: &mut Steps<L>) 
     (place, false)
 }
 
-/// Takes bytes, and gives their events in a table that is empty yet.
+/// Takes bytes, and gives their events in a table, from its front on. It tells how many of both. Steps are counted in a new ledger, which
+/// costs nothing.
 pub(crate) fn feed<L: Ledger>(
     state: &mut State,
     piece: &[u8],
     more: bool,
     raw: bool,
     events: &mut [GelvanhEvent],
-    given: &mut usize,
-    steps: &mut Steps<L>,
-) -> usize
-    requires { given.old ≡ 0 }
-    ensures taken { result ≤ length piece.now }
-    ensures given { given.new ≤ length events.new }
+    blank: Blank,
+) -> (usize, usize)
+    requires name { blank.name ≡ L.name }
+    requires parts { (blank.parts ≡ L.parts) × (0 < L.parts) }
+    ensures taken { result.0 ≤ length piece.now }
+    ensures given { result.1 ≤ length events.new }
     ensures room { length events.new ≡ length events.old }
-    ensures feeds { Feeds state.old state.new (take given.new events.new) (take result piece.now) (take result (marked piece.now more raw)) }
-    ensures all { (result ≡ length piece.now) ⊎ (given.new ≡ length events.new) ⊎ (is_paste state.new ≢ is_paste state.old) }
-    ensures some { 0 < length events.old → 0 < length piece.now → 0 < result }
+    ensures feeds { Feeds state.old state.new (take result.1 events.new) (take result.0 piece.now) (take result.0 (marked piece.now more raw)) }
+    ensures all { (result.0 ≡ length piece.now) ⊎ (result.1 ≡ length events.new) ⊎ (is_paste state.new ≢ is_paste state.old) }
+    ensures some { 0 < length events.old → 0 < length piece.now → 0 < result.0 }
 {
+    let mut steps: Steps<L> = Steps::new(blank);
     if events.is_empty() {
-        return 0;
+        return (0, 0);
     }
     if !state.is_paste() {
-        return feed_sequences(state, piece, more, raw, events, given, steps);
+        return feed_sequences(state, piece, more, raw, events, &mut steps);
     }
-    let (taken, over) = feed_paste(state, piece, steps);
-    if over {
-        give(events, given, paste_end());
+    let (taken, over) = feed_paste(state, piece, &mut steps);
+    if !over {
+        return (taken, 0);
     }
-    taken
+    let mut given = 0;
+    give(events, &mut given, paste_end());
+    (taken, given)
 }

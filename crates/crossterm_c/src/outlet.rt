@@ -1,7 +1,7 @@
 //! Commands into a caller's slice.
 ghost use Rattle.std.specs.Prelude.{◌≡◌, ◌≤◌, ◌+◌, ℕ, List, length, IfSome, IfNone, IfOk, OnOk, Some, None};
 ghost use Rattle.std.specs.Fmt.{WritesText};
-ghost use Rattle.crossterm_c.specs.Command.{Answers, AnswersTo, outcome_at};
+ghost use Rattle.crossterm_c.specs.Command.{Answers, outcome_at};
 ghost use Rattle.crossterm_c.specs.Outlet.{Puts};
 
 use arrayvec::ArrayString;
@@ -36,6 +36,34 @@ impl Outcome {
     }
 }
 
+/// What came of a command, and how long its text is where there is one.
+#[derive(Clone, Copy)]
+pub(crate) struct Answer {
+    pub(crate) outcome: Outcome,
+    pub(crate) length: usize,
+}
+
+impl Answer {
+    /// Numbers that name nothing.
+    pub(crate) fn nothing() -> Answer
+        ensures { result ≡ record { outcome = Outcome.NamesNothing; length = 0 } }
+    {
+        Answer {
+            outcome: Outcome::NamesNothing,
+            length: 0,
+        }
+    }
+
+    /// The outcome's number for the caller, and the length.
+    pub(crate) fn tell(self, length: &mut usize) -> u32
+        ensures length { length.new ≡ self.length }
+        ensures outcome { outcome_at result ≡ self.outcome }
+    {
+        *length = self.length;
+        self.outcome.number()
+    }
+}
+
 /// Copies bytes to a place, where they fit.
 #[inline(always)]
 fn copy_in(slice: &mut [u8], place: usize, end: usize, bytes: &[u8])
@@ -67,24 +95,7 @@ impl fmt::Write for Outlet<'_> {
     }
 }
 
-/// The length of a command's text.
-fn length_of<C: Command>(command: &C, colors: ColorOutput) -> Result<usize, fmt::Error>
-    ensures { IfOk result (λ n. IfSome (C.text command.now colors) (λ text. n ≡ length text)) }
-{
-    let mut outlet = Outlet {
-        slice: &mut [],
-        length: 0,
-    };
-    let result = command.write_ansi(&mut outlet, colors);
-    let Outlet { slice, length } = outlet;
-    let _ = &*slice;
-    match result {
-        Ok(()) => Ok(length),
-        Err(e) => Err(e),
-    }
-}
-
-/// Writes a command whose text fits.
+/// Offers a command's text to a slice, which takes what fits, and tells how long it is.
 fn fill<C: Command>(command: &C, colors: ColorOutput, slice: &mut [u8]) -> Result<usize, fmt::Error>
     ensures { IfOk result (λ n. IfSome (C.text command.now colors) (λ text. Puts slice.old 0 text slice.new n)) }
 {
@@ -99,63 +110,63 @@ fn fill<C: Command>(command: &C, colors: ColorOutput, slice: &mut [u8]) -> Resul
 }
 
 /// Writes a text.
-pub(crate) fn put(text: &str, slice: &mut [u8], length: &mut usize) -> Outcome
-    ensures { Answers text.now slice.old slice.new length.new result }
+pub(crate) fn put(text: &str, slice: &mut [u8]) -> Answer
+    ensures { Answers text.now slice.old slice.new result.length result.outcome }
 {
-    *length = text.len();
+    let length = text.len();
     if text.len() > slice.len() {
-        return Outcome::TooSmall;
+        return Answer {
+            outcome: Outcome::TooSmall,
+            length,
+        };
     }
     slice[..text.len()].copy_from_slice(text.as_bytes());
-    Outcome::Written
+    Answer {
+        outcome: Outcome::Written,
+        length,
+    }
 }
 
 /// Writes a command whose text is long.
 #[inline(never)]
-fn write_long<C: Command>(
-    command: &C,
-    colors: ColorOutput,
-    slice: &mut [u8],
-    length: &mut usize,
-) -> Outcome
-    ensures { IfSome (C.text command.now colors) (λ text. Answers text slice.old slice.new length.new result) }
+fn write_long<C: Command>(command: &C, colors: ColorOutput, slice: &mut [u8]) -> Answer
+    ensures { IfSome (C.text command.now colors) (λ text. Answers text slice.old slice.new result.length result.outcome) }
 {
-    *length = 0;
-    let Ok(needed) = length_of(command, colors) else {
-        return Outcome::Failed;
+    let Ok(length) = fill(command, colors, &mut []) else {
+        return Answer {
+            outcome: Outcome::Failed,
+            length: 0,
+        };
     };
-    *length = needed;
-    if needed > slice.len() {
-        return Outcome::TooSmall;
+    if length > slice.len() {
+        return Answer {
+            outcome: Outcome::TooSmall,
+            length,
+        };
     }
-    match fill(command, colors, slice) {
+    let outcome = match fill(command, colors, slice) {
         Ok(_) => Outcome::Written,
         Err(fmt::Error) => Outcome::Failed,
-    }
+    };
+    Answer { outcome, length }
 }
 
 /// Writes a command: at once where its text is short.
 #[inline(always)]
-pub(crate) fn write<C: Command>(
-    command: &C,
-    colors: ColorOutput,
-    slice: &mut [u8],
-    length: &mut usize,
-) -> Outcome
-    ensures { IfSome (C.text command.now colors) (λ text. Answers text slice.old slice.new length.new result) }
+pub(crate) fn write<C: Command>(command: &C, colors: ColorOutput, slice: &mut [u8]) -> Answer
+    ensures { IfSome (C.text command.now colors) (λ text. Answers text slice.old slice.new result.length result.outcome) }
 {
     let mut short = ArrayString::<48>::new();
     match command.write_ansi(&mut short, colors) {
-        Ok(()) => put(short.as_str(), slice, length),
-        Err(fmt::Error) => write_long(command, colors, slice, length),
+        Ok(()) => put(short.as_str(), slice),
+        Err(fmt::Error) => write_long(command, colors, slice),
     }
 }
 
-/// Numbers that name nothing.
-pub(crate) fn nothing(length: &mut usize) -> Outcome
-    ensures length { length.new ≡ 0 }
-    ensures nothing { result ≡ Outcome.NamesNothing }
+/// Writes a command whose text has no colours.
+#[inline(always)]
+pub(crate) fn write_plain<C: Command>(command: &C, slice: &mut [u8]) -> Answer
+    ensures { IfSome (C.text command.now ColorOutput.Enabled) (λ text. Answers text slice.old slice.new result.length result.outcome) }
 {
-    *length = 0;
-    Outcome::NamesNothing
+    write(command, ColorOutput::Enabled, slice)
 }

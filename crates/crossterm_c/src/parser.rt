@@ -12,33 +12,8 @@ use crate::feed::feed;
 use crate::state::{GelvanhState, flatten, state_of};
 use crate::text::write_text;
 use crossterm_parse::state::State;
-use crossterm_parse::steps::Steps;
 use std::marker::Brand;
-use std::sync::ledger::{Blank, Ledger};
-
-/// Takes bytes with a counter of a new ledger, which costs nothing.
-fn feed_uncounted<L: Ledger>(
-    state: &mut State,
-    piece: &[u8],
-    more: bool,
-    raw: bool,
-    events: &mut [GelvanhEvent],
-    given: &mut usize,
-    blank: Blank,
-) -> usize
-    requires name { blank.name ≡ L.name }
-    requires parts { (blank.parts ≡ L.parts) × (0 < L.parts) }
-    requires none { given.old ≡ 0 }
-    ensures taken { result ≤ length piece.now }
-    ensures given { given.new ≤ length events.new }
-    ensures room { length events.new ≡ length events.old }
-    ensures feeds { Feeds state.old state.new (take given.new events.new) (take result piece.now) (take result (marked piece.now more raw)) }
-    ensures all { (result ≡ length piece.now) ⊎ (given.new ≡ length events.new) ⊎ (is_paste state.new ≢ is_paste state.old) }
-    ensures some { 0 < length events.old → 0 < length piece.now → 0 < result }
-{
-    let mut steps: Steps<L> = Steps::new(blank);
-    feed(state, piece, more, raw, events, given, &mut steps)
-}
+use std::sync::ledger::Blank;
 
 /// Takes bytes of a terminal, and tells how many. `count` is how many events they gave, which stand in front of `events`.
 ///
@@ -66,9 +41,9 @@ pub extern "C" fn gelvanh_feed(
     ensures some { 0 < length events.old → 0 < length piece.now → 0 < result }
 {
     let mut open = state_of(state);
-    *count = 0;
-    let taken = feed_uncounted::<Brand>(&mut open, piece, more, raw, events, count, Blank::new(1));
+    let (taken, given) = feed::<Brand>(&mut open, piece, more, raw, events, Blank::new(1));
     *state = flatten(&open);
+    *count = given;
     taken
 }
 

@@ -13,7 +13,7 @@ use crossterm_parse::utf8::Validity;
 
 /// A number that is being read.
 #[repr(C)]
-#[derive(Clone, Copy)]
+#[derive(Clone, Copy, Default)]
 pub struct GelvanhNumber {
     /// How far: with no byte yet, a `+`, a value, past 32 bits, or no number.
     pub kind: u32,
@@ -23,7 +23,7 @@ pub struct GelvanhNumber {
 
 /// The bytes of a character so far.
 #[repr(C)]
-#[derive(Clone, Copy)]
+#[derive(Clone, Copy, Default)]
 pub struct GelvanhBytes {
     /// How many.
     pub count: u8,
@@ -37,7 +37,7 @@ pub struct GelvanhBytes {
 
 /// The state of the parser. All zeros is a parser that has seen no bytes.
 #[repr(C)]
-#[derive(Clone, Copy)]
+#[derive(Clone, Copy, Default)]
 pub struct GelvanhState {
     /// Which of the twelve states.
     pub kind: u8,
@@ -234,42 +234,13 @@ fn met_of(flat: u8) -> Met
     }
 }
 
-fn no_number() -> GelvanhNumber
-    ensures { result ≡ record { kind = 0; value = 0 } }
-{
-    GelvanhNumber { kind: 0, value: 0 }
-}
-
-fn no_begun() -> GelvanhBytes
-    ensures { result ≡ record { count = 0; first = 0; second = 0; third = 0 } }
-{
-    GelvanhBytes {
-        count: 0,
-        first: 0,
-        second: 0,
-        third: 0,
-    }
-}
-
 fn empty(kind: u8) -> GelvanhState
     ensures kind { result.kind ≡ kind }
     ensures begun { result.begun ≡ record { count = 0; first = 0; second = 0; third = 0 } }
 {
     GelvanhState {
         kind,
-        part_one: 0,
-        part_two: 0,
-        place: 0,
-        last: 0,
-        validity: 0,
-        opening: 0,
-        escaped: 0,
-        begun: no_begun(),
-        one: no_number(),
-        one_more: no_number(),
-        two: no_number(),
-        two_more: no_number(),
-        three: no_number(),
+        ..GelvanhState::default()
     }
 }
 
@@ -279,9 +250,9 @@ fn flat_digits(kind: u8, digits: &Digits, opening: u8) -> GelvanhState
     ensures opening { result.opening ≡ opening }
 {
     let (validity, begun) = match digits.validity {
-        Validity::Sound => (0, no_begun()),
+        Validity::Sound => (0, GelvanhBytes::default()),
         Validity::Partial(begun) => (1, flat_begun(begun)),
-        Validity::Broken => (2, no_begun()),
+        Validity::Broken => (2, GelvanhBytes::default()),
     };
     GelvanhState {
         kind,

@@ -7,7 +7,7 @@ use crate::command::text::{
 use crate::command::{GelvanhCommand, gelvanh_command};
 use crate::event::{GelvanhEvent, plain};
 use crate::parser::{gelvanh_feed, gelvanh_is_pasting, gelvanh_is_undecided, gelvanh_paste_text};
-use crate::state::{GelvanhBytes, GelvanhNumber, GelvanhState};
+use crate::state::GelvanhState;
 use std::mem::{align_of, size_of};
 
 const NO_COLOR: GelvanhColor = GelvanhColor {
@@ -16,31 +16,6 @@ const NO_COLOR: GelvanhColor = GelvanhColor {
     g: 0,
     b: 0,
 };
-
-fn start() -> GelvanhState {
-    let number = GelvanhNumber { kind: 0, value: 0 };
-    GelvanhState {
-        kind: 0,
-        part_one: 0,
-        part_two: 0,
-        place: 0,
-        last: 0,
-        validity: 0,
-        opening: 0,
-        escaped: 0,
-        begun: GelvanhBytes {
-            count: 0,
-            first: 0,
-            second: 0,
-            third: 0,
-        },
-        one: number,
-        one_more: number,
-        two: number,
-        two_more: number,
-        three: number,
-    }
-}
 
 fn command(kind: u32, first: u16, second: u16) -> GelvanhCommand {
     GelvanhCommand {
@@ -75,7 +50,7 @@ fn sizes_are_the_headers(rt: HostRuntime) {
 
 #[test]
 fn a_full_table_goes_on_where_it_stopped(rt: HostRuntime) {
-    let mut state = start();
+    let mut state = GelvanhState::default();
     let mut events = [plain(0); 2];
     let mut count = 0;
     let piece = "aÜ\x1b[A\x1b".as_bytes();
@@ -110,7 +85,7 @@ fn a_full_table_goes_on_where_it_stopped(rt: HostRuntime) {
 
 #[test]
 fn a_paste_stops_at_its_start_and_at_its_end(rt: HostRuntime) {
-    let mut state = start();
+    let mut state = GelvanhState::default();
     let mut events = [plain(0); 8];
     let mut count = 0;
     let piece = b"x\x1b[200~a\xFFb\x1b[201~y";

@@ -1,6 +1,7 @@
 //! The text of a paste, into a caller's slice.
 ghost use Rattle.std.specs.Prelude.{◌≡◌, ◌⊎◌, ◌≤◌, ◌<◌, ◌+◌, ◌++◌, length, take, drop};
 ghost use Rattle.std.specs.List.{AllByRecursion};
+ghost use Rattle.bstr.specs.Utf8.{decoded};
 ghost use Rattle.crossterm_c.specs.Text.{Begins, Writes};
 
 use bstr::decode_utf8;
@@ -21,6 +22,17 @@ fn ascii_in(bytes: &[u8]) -> usize
     bytes.len()
 }
 
+/// The character in front, where there is one, and how many bytes it has or the part that isn't UTF-8.
+fn character_of(bytes: &[u8]) -> (Option<char>, usize)
+    requires { 0 < length bytes.now }
+    ensures decoded { (result.0 ≡ (decoded bytes.now).char) × (result.1 ≡ (decoded bytes.now).size) }
+    ensures some { 0 < result.1 }
+    ensures few { result.1 ≤ 4 }
+    ensures within { result.1 ≤ length bytes.now }
+{
+    decode_utf8(bytes)
+}
+
 /// What the text of some bytes begins with, and how many of them that is of: ASCII as far as there is room, or one character.
 fn front_of<'a>(bytes: &'a [u8], room: usize) -> (&'a [u8], usize)
     requires { 0 < length bytes.now }
@@ -33,7 +45,7 @@ fn front_of<'a>(bytes: &'a [u8], room: usize) -> (&'a [u8], usize)
     if count > 0 {
         return (&bytes[..count], count);
     }
-    match decode_utf8(bytes) {
+    match character_of(bytes) {
         (Some(_), size) => (&bytes[..size], size),
         (None, size) => (REPLACEMENT, size),
     }

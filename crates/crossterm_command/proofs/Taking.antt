@@ -9,8 +9,9 @@ use Rattle.crossterm_command.specs.declared.fault.CommandFault.TheVariants.{Writ
 use Rattle.std.specs.declared.io.Error.{Error}
 use Rattle.std.specs.IoError.{error_kind}
 use Rattle.crossterm_command.specs.Faults.{Answers, Stopped}
-use Rattle.crossterm_command.specs.Writing.{Stops, Takes}
+use Rattle.crossterm_command.specs.Writing.{Stops, Takes, Writes}
 use Rattle.crossterm_command.proofs.Rows.{front_of_first, front_of_second}
+use Rattle.crossterm_command.proofs.Texts.{in_calls}
 
 appends_keeps : (a b c : Option (List ℕ)) (bs : List ℕ) → Appends a b bs → Keeps b c → Appends a c bs
 appends_keeps None b c bs p q = tt
@@ -45,6 +46,12 @@ module _ {W N E : Type 0} (name : W → N) (held : W → Option (List ℕ)) (fau
 
   pub took_whole : (w : W) (bs : List ℕ) (v : W) → WritesInCalls Took w bs v → Took w bs v
   took_whole w bs v p = subst (λ l. Took w l v) p.whole (took_parts w p.parts v p.calls)
+
+  -- the same of a command's text, by the fault that there is then
+  pub took_text : (w : W) (text : Option (List ℕ)) (v : W) (f : Option E) → fault v ≡ f → Writes Took w text v
+      → IfSome text (λ bs. (name v ≡ name w) × Takes (held w) (fault w) bs (held v) f)
+  took_text w None v f is p = tt
+  took_text w (Some bs) v f is p = subst (λ g. (name v ≡ name w) × Takes (held w) (fault w) bs (held v) g) is (took_whole w bs v (in_calls Took w bs v p))
 
 -- where a fact follows for the text that is there
 pub if_some_weaken : (o : Option (List ℕ)) (P Q : List ℕ → Type 0) → ((bs : List ℕ) → P bs → Q bs) → IfSome o P → IfSome o Q

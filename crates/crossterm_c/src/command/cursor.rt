@@ -1,62 +1,39 @@
 //! Commands of the cursor.
-ghost use Rattle.std.specs.Prelude.{◌≡◌};
-ghost use Rattle.crossterm_c.specs.Command.{AnswersTo, cursor_text, shape_at};
+ghost use Rattle.crossterm_c.specs.Command.{AnswersTo, cursor_text};
 
 use super::GelvanhCommand;
-use crate::outlet::{Outcome, nothing, write};
+use crate::outlet::{Answer, write_plain};
 use crossterm::cursor::{
     DisableBlinking, EnableBlinking, Hide, MoveDown, MoveLeft, MoveRight, MoveTo, MoveToColumn,
     MoveToNextLine, MoveToPreviousLine, MoveToRow, MoveUp, RestorePosition, SavePosition,
     SetCursorStyle, Show,
 };
-use crossterm::style::ColorOutput;
-
-/// The cursor's shape at a place.
-fn shape_of(place: u16) -> Option<SetCursorStyle>
-    ensures { result ≡ shape_at place }
-{
-    match place {
-        0 => Some(SetCursorStyle::DefaultUserShape),
-        1 => Some(SetCursorStyle::BlinkingBlock),
-        2 => Some(SetCursorStyle::SteadyBlock),
-        3 => Some(SetCursorStyle::BlinkingUnderScore),
-        4 => Some(SetCursorStyle::SteadyUnderScore),
-        5 => Some(SetCursorStyle::BlinkingBar),
-        6 => Some(SetCursorStyle::SteadyBar),
-        _ => None,
-    }
-}
 
 /// Writes a command of the cursor.
-pub(super) fn write_cursor(
-    command: &GelvanhCommand,
-    colors: ColorOutput,
-    slice: &mut [u8],
-    length: &mut usize,
-) -> Outcome
-    ensures { AnswersTo (cursor_text command.now) slice.old slice.new length.new result }
+pub(super) fn write_cursor(command: &GelvanhCommand, slice: &mut [u8]) -> Answer
+    ensures { AnswersTo (cursor_text command.now) slice.old slice.new result.length result.outcome }
 {
     let (first, second) = (command.first, command.second);
     match command.kind {
-        0 => write(&MoveTo(first, second), colors, slice, length),
-        1 => write(&MoveToColumn(first), colors, slice, length),
-        2 => write(&MoveToRow(first), colors, slice, length),
-        3 => write(&MoveToNextLine(first), colors, slice, length),
-        4 => write(&MoveToPreviousLine(first), colors, slice, length),
-        5 => write(&MoveUp(first), colors, slice, length),
-        6 => write(&MoveDown(first), colors, slice, length),
-        7 => write(&MoveRight(first), colors, slice, length),
-        8 => write(&MoveLeft(first), colors, slice, length),
-        9 => write(&SavePosition, colors, slice, length),
-        10 => write(&RestorePosition, colors, slice, length),
-        11 => write(&Hide, colors, slice, length),
-        12 => write(&Show, colors, slice, length),
-        13 => write(&EnableBlinking, colors, slice, length),
-        14 => write(&DisableBlinking, colors, slice, length),
-        15 => match shape_of(first) {
-            Some(shape) => write(&shape, colors, slice, length),
-            None => nothing(length),
+        0 => write_plain(&MoveTo(first, second), slice),
+        1 => write_plain(&MoveToColumn(first), slice),
+        2 => write_plain(&MoveToRow(first), slice),
+        3 => write_plain(&MoveToNextLine(first), slice),
+        4 => write_plain(&MoveToPreviousLine(first), slice),
+        5 => write_plain(&MoveUp(first), slice),
+        6 => write_plain(&MoveDown(first), slice),
+        7 => write_plain(&MoveRight(first), slice),
+        8 => write_plain(&MoveLeft(first), slice),
+        9 => write_plain(&SavePosition, slice),
+        10 => write_plain(&RestorePosition, slice),
+        11 => write_plain(&Hide, slice),
+        12 => write_plain(&Show, slice),
+        13 => write_plain(&EnableBlinking, slice),
+        14 => write_plain(&DisableBlinking, slice),
+        15 => match SetCursorStyle::all().get(usize::from(first)) {
+            Some(shape) => write_plain(shape, slice),
+            None => Answer::nothing(),
         },
-        _ => nothing(length),
+        _ => Answer::nothing(),
     }
 }

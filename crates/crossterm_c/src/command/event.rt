@@ -2,38 +2,32 @@
 ghost use Rattle.crossterm_c.specs.Command.{AnswersTo, event_text};
 
 use super::GelvanhCommand;
-use crate::outlet::{Outcome, nothing, write};
+use crate::outlet::{Answer, write_plain};
 use crossterm::event::{
     DisableBracketedPaste, DisableFocusChange, DisableMouseCapture, EnableBracketedPaste,
     EnableFocusChange, EnableMouseCapture, KeyboardEnhancementFlags, PopKeyboardEnhancementFlags,
     PushKeyboardEnhancementFlags,
 };
-use crossterm::style::ColorOutput;
 
 /// Writes a command that tells which events to report.
-pub(super) fn write_event(
-    command: &GelvanhCommand,
-    colors: ColorOutput,
-    slice: &mut [u8],
-    length: &mut usize,
-) -> Outcome
-    ensures { AnswersTo (event_text command.now) slice.old slice.new length.new result }
+pub(super) fn write_event(command: &GelvanhCommand, slice: &mut [u8]) -> Answer
+    ensures { AnswersTo (event_text command.now) slice.old slice.new result.length result.outcome }
 {
     match command.kind {
-        27 => write(&EnableMouseCapture, colors, slice, length),
-        28 => write(&DisableMouseCapture, colors, slice, length),
-        29 => write(&EnableFocusChange, colors, slice, length),
-        30 => write(&DisableFocusChange, colors, slice, length),
-        31 => write(&EnableBracketedPaste, colors, slice, length),
-        32 => write(&DisableBracketedPaste, colors, slice, length),
+        27 => write_plain(&EnableMouseCapture, slice),
+        28 => write_plain(&DisableMouseCapture, slice),
+        29 => write_plain(&EnableFocusChange, slice),
+        30 => write_plain(&DisableFocusChange, slice),
+        31 => write_plain(&EnableBracketedPaste, slice),
+        32 => write_plain(&DisableBracketedPaste, slice),
         33 => {
             if command.first > 255 {
-                return nothing(length);
+                return Answer::nothing();
             }
             let flags = KeyboardEnhancementFlags::from_bits_retain(command.first as u8);
-            write(&PushKeyboardEnhancementFlags(flags), colors, slice, length)
+            write_plain(&PushKeyboardEnhancementFlags(flags), slice)
         }
-        34 => write(&PopKeyboardEnhancementFlags, colors, slice, length),
-        _ => nothing(length),
+        34 => write_plain(&PopKeyboardEnhancementFlags, slice),
+        _ => Answer::nothing(),
     }
 }

@@ -1,10 +1,12 @@
 //! Commands of style.
-ghost use Rattle.std.specs.Prelude.{◌≡◌};
-ghost use Rattle.crossterm_c.specs.Command.{AnswersTo, color_text, colors_at, style_at, style_text};
+ghost use Rattle.std.specs.Prelude.{◌≡◌, IfSome, None};
+ghost use Rattle.std.specs.Option.{MatchOption};
+ghost use Rattle.crossterm_c.specs.Command.{Answers, AnswersTo, colors_at, style_at, style_text};
 
 use super::GelvanhCommand;
 use crate::color::{attribute_of, attributes_of, color_of, there_of};
-use crate::outlet::{Outcome, nothing, write};
+use crate::outlet::{Answer, write};
+use crossterm::Command;
 use crossterm::style::{
     ColorOutput, Colors, ContentStyle, ResetColor, SetAttribute, SetAttributes, SetBackgroundColor,
     SetColors, SetForegroundColor, SetStyle, SetUnderlineColor,
@@ -38,59 +40,51 @@ fn colors_of(command: &GelvanhCommand) -> Option<Colors>
     })
 }
 
-/// Writes a command of colours.
-pub(super) fn write_colors(
-    command: &GelvanhCommand,
+/// Writes a command, where the numbers name one.
+#[inline(always)]
+fn write_some<C: Command + Drop>(
+    command: Option<C>,
     colors: ColorOutput,
     slice: &mut [u8],
-    length: &mut usize,
-) -> Outcome
-    ensures { AnswersTo (color_text colors command.now) slice.old slice.new length.new result }
+) -> Answer
+    ensures { MatchOption command (AnswersTo None slice.old slice.new result.length result.outcome)
+        (λ c. IfSome (C.text c colors) (λ text. Answers text slice.old slice.new result.length result.outcome)) }
 {
-    match command.kind {
-        35 => match color_of(command.foreground) {
-            Some(color) => write(&SetForegroundColor(color), colors, slice, length),
-            None => nothing(length),
-        },
-        36 => match color_of(command.background) {
-            Some(color) => write(&SetBackgroundColor(color), colors, slice, length),
-            None => nothing(length),
-        },
-        37 => match color_of(command.underline) {
-            Some(color) => write(&SetUnderlineColor(color), colors, slice, length),
-            None => nothing(length),
-        },
-        38 => match colors_of(command) {
-            Some(both) => write(&SetColors(both), colors, slice, length),
-            None => nothing(length),
-        },
-        _ => nothing(length),
+    match command {
+        Some(command) => write(&command, colors, slice),
+        None => Answer::nothing(),
     }
 }
 
-/// Writes a command of attributes or of a whole style.
-pub(super) fn write_style(
-    command: &GelvanhCommand,
-    colors: ColorOutput,
-    slice: &mut [u8],
-    length: &mut usize,
-) -> Outcome
-    ensures { AnswersTo (style_text colors command.now) slice.old slice.new length.new result }
+/// Writes a command of colours, of attributes or of a whole style.
+pub(super) fn write_style(command: &GelvanhCommand, colors: ColorOutput, slice: &mut [u8]) -> Answer
+    ensures { AnswersTo (style_text colors command.now) slice.old slice.new result.length result.outcome }
 {
     match command.kind {
-        39 => match attribute_of(command.first) {
-            Some(attribute) => write(&SetAttribute(attribute), colors, slice, length),
-            None => nothing(length),
-        },
-        40 => match attributes_of(command.attributes) {
-            Some(attributes) => write(&SetAttributes(attributes), colors, slice, length),
-            None => nothing(length),
-        },
-        41 => match style_of(command) {
-            Some(style) => write(&SetStyle(style), colors, slice, length),
-            None => nothing(length),
-        },
-        43 => write(&ResetColor, colors, slice, length),
-        _ => nothing(length),
+        35 => write_some(
+            color_of(command.foreground).map(SetForegroundColor),
+            colors,
+            slice,
+        ),
+        36 => write_some(
+            color_of(command.background).map(SetBackgroundColor),
+            colors,
+            slice,
+        ),
+        37 => write_some(
+            color_of(command.underline).map(SetUnderlineColor),
+            colors,
+            slice,
+        ),
+        38 => write_some(colors_of(command).map(SetColors), colors, slice),
+        39 => write_some(attribute_of(command.first).map(SetAttribute), colors, slice),
+        40 => write_some(
+            attributes_of(command.attributes).map(SetAttributes),
+            colors,
+            slice,
+        ),
+        41 => write_some(style_of(command).map(SetStyle), colors, slice),
+        43 => write(&ResetColor, colors, slice),
+        _ => Answer::nothing(),
     }
 }

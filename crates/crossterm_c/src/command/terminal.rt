@@ -1,55 +1,34 @@
 //! Commands of the terminal.
-ghost use Rattle.std.specs.Prelude.{◌≡◌};
-ghost use Rattle.crossterm_c.specs.Command.{AnswersTo, cleared_at, terminal_text};
+ghost use Rattle.crossterm_c.specs.Command.{AnswersTo, terminal_text};
 
 use super::GelvanhCommand;
-use crate::outlet::{Outcome, nothing, write};
-use crossterm::style::ColorOutput;
+use crate::outlet::{Answer, write_plain};
 use crossterm::terminal::{
     BeginSynchronizedUpdate, Clear, ClearType, DisableLineWrap, EnableLineWrap,
     EndSynchronizedUpdate, EnterAlternateScreen, LeaveAlternateScreen, ScrollDown, ScrollUp,
     SetSize,
 };
-
-/// What is cleared, at a place.
-fn cleared_of(place: u16) -> Option<ClearType>
-    ensures { result ≡ cleared_at place }
-{
-    match place {
-        0 => Some(ClearType::All),
-        1 => Some(ClearType::Purge),
-        2 => Some(ClearType::FromCursorDown),
-        3 => Some(ClearType::FromCursorUp),
-        4 => Some(ClearType::CurrentLine),
-        5 => Some(ClearType::UntilNewLine),
-        _ => None,
-    }
-}
+use crossterm_flags::value::Named;
 
 /// Writes a command of the terminal.
-pub(super) fn write_terminal(
-    command: &GelvanhCommand,
-    colors: ColorOutput,
-    slice: &mut [u8],
-    length: &mut usize,
-) -> Outcome
-    ensures { AnswersTo (terminal_text command.now) slice.old slice.new length.new result }
+pub(super) fn write_terminal(command: &GelvanhCommand, slice: &mut [u8]) -> Answer
+    ensures { AnswersTo (terminal_text command.now) slice.old slice.new result.length result.outcome }
 {
     let (first, second) = (command.first, command.second);
     match command.kind {
-        16 => write(&DisableLineWrap, colors, slice, length),
-        17 => write(&EnableLineWrap, colors, slice, length),
-        18 => write(&EnterAlternateScreen, colors, slice, length),
-        19 => write(&LeaveAlternateScreen, colors, slice, length),
-        20 => match cleared_of(first) {
-            Some(cleared) => write(&Clear(cleared), colors, slice, length),
-            None => nothing(length),
+        16 => write_plain(&DisableLineWrap, slice),
+        17 => write_plain(&EnableLineWrap, slice),
+        18 => write_plain(&EnterAlternateScreen, slice),
+        19 => write_plain(&LeaveAlternateScreen, slice),
+        20 => match ClearType::all().get(usize::from(first)) {
+            Some(cleared) => write_plain(&Clear(*cleared), slice),
+            None => Answer::nothing(),
         },
-        21 => write(&ScrollUp(first), colors, slice, length),
-        22 => write(&ScrollDown(first), colors, slice, length),
-        23 => write(&SetSize(first, second), colors, slice, length),
-        25 => write(&BeginSynchronizedUpdate, colors, slice, length),
-        26 => write(&EndSynchronizedUpdate, colors, slice, length),
-        _ => nothing(length),
+        21 => write_plain(&ScrollUp(first), slice),
+        22 => write_plain(&ScrollDown(first), slice),
+        23 => write_plain(&SetSize(first, second), slice),
+        25 => write_plain(&BeginSynchronizedUpdate, slice),
+        26 => write_plain(&EndSynchronizedUpdate, slice),
+        _ => Answer::nothing(),
     }
 }

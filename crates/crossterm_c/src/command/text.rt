@@ -7,7 +7,7 @@ ghost use Rattle.crossterm_c.specs.Command.{AnswersText, AnswersTo, copied, outc
 
 use super::{GelvanhCommand, output_of};
 use crate::command::style::style_of;
-use crate::outlet::{Outcome, nothing, put, write};
+use crate::outlet::{Answer, put, write, write_plain};
 use base64::display::Base64Display;
 use base64::engine::general_purpose::STANDARD;
 use crossterm::Command;
@@ -20,11 +20,11 @@ use std::fmt;
 pub extern "C" fn gelvanh_print(text: &[u8], slice: &mut [u8], length: &mut usize) -> u32
     ensures { AnswersText text.now (Some text.now) slice.old slice.new length.new (outcome_at result) }
 {
-    let outcome = match str::from_utf8(text) {
-        Ok(text) => put(text, slice, length),
-        Err(_) => nothing(length),
+    let answer = match str::from_utf8(text) {
+        Ok(text) => put(text, slice),
+        Err(_) => Answer::nothing(),
     };
-    outcome.number()
+    answer.tell(length)
 }
 
 /// Sets the window's title, in UTF-8: the command `SetTitle`. It answers as `gelvanh_print` does.
@@ -32,31 +32,20 @@ pub extern "C" fn gelvanh_print(text: &[u8], slice: &mut [u8], length: &mut usiz
 pub extern "C" fn gelvanh_set_title(title: &[u8], slice: &mut [u8], length: &mut usize) -> u32
     ensures { AnswersText title.now (Some (text_of (set_title title.now))) slice.old slice.new length.new (outcome_at result) }
 {
-    let outcome = match str::from_utf8(title) {
-        Ok(title) => write(&SetTitle(title), ColorOutput::Enabled, slice, length),
-        Err(_) => nothing(length),
+    let answer = match str::from_utf8(title) {
+        Ok(title) => write_plain(&SetTitle(title), slice),
+        Err(_) => Answer::nothing(),
     };
-    outcome.number()
+    answer.tell(length)
 }
 
 /// Prints a text in the style of a command, where it has one.
-fn print_styled(
-    style: &GelvanhCommand,
-    text: &str,
-    colors: ColorOutput,
-    slice: &mut [u8],
-    length: &mut usize,
-) -> Outcome
-    ensures { AnswersTo (printed colors style.now text.now) slice.old slice.new length.new result }
+fn print_styled(style: &GelvanhCommand, text: &str, colors: ColorOutput, slice: &mut [u8]) -> Answer
+    ensures { AnswersTo (printed colors style.now text.now) slice.old slice.new result.length result.outcome }
 {
     match style_of(style) {
-        Some(style) => write(
-            &PrintStyledContent(style.apply(text)),
-            colors,
-            slice,
-            length,
-        ),
-        None => nothing(length),
+        Some(style) => write(&PrintStyledContent(style.apply(text)), colors, slice),
+        None => Answer::nothing(),
     }
 }
 
@@ -72,11 +61,11 @@ pub extern "C" fn gelvanh_print_styled(
 ) -> u32
     ensures { AnswersText text.now (printed (output_of colors) style.now text.now) slice.old slice.new length.new (outcome_at result) }
 {
-    let outcome = match str::from_utf8(text) {
-        Ok(text) => print_styled(style, text, output_of(colors), slice, length),
-        Err(_) => nothing(length),
+    let answer = match str::from_utf8(text) {
+        Ok(text) => print_styled(style, text, output_of(colors), slice),
+        Err(_) => Answer::nothing(),
     };
-    outcome.number()
+    answer.tell(length)
 }
 
 /// Writes the sequence that copies bytes.
@@ -113,12 +102,12 @@ pub extern "C" fn gelvanh_copy_to_clipboard(
 ) -> u32
     ensures { AnswersText places.now (Some (text_of (copied content.now places.now))) slice.old slice.new length.new (outcome_at result) }
 {
-    let outcome = match str::from_utf8(places) {
+    let answer = match str::from_utf8(places) {
         Ok(places) => {
             let copy = CopyTo { content, places };
-            write(&copy, ColorOutput::Enabled, slice, length)
+            write_plain(&copy, slice)
         }
-        Err(_) => nothing(length),
+        Err(_) => Answer::nothing(),
     };
-    outcome.number()
+    answer.tell(length)
 }

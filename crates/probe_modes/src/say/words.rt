@@ -22,6 +22,7 @@ use crossterm::terminal::{
     EndSynchronizedUpdate, EnterAlternateScreen, LeaveAlternateScreen, ScrollDown, ScrollUp,
     SetSize, SetTitle,
 };
+use crossterm_flags::value::Named;
 use std::alloc::Allocator;
 
 /// A command of the cursor, of the terminal or of style without arguments.
@@ -88,27 +89,6 @@ fn placed<A: Allocator>(word: &str, columns: u16, rows: u16) -> Option<AnyComman
     }
 }
 
-/// The shapes of a cursor.
-const SHAPES: [SetCursorStyle; 7] = [
-    SetCursorStyle::DefaultUserShape,
-    SetCursorStyle::BlinkingBlock,
-    SetCursorStyle::SteadyBlock,
-    SetCursorStyle::BlinkingUnderScore,
-    SetCursorStyle::SteadyUnderScore,
-    SetCursorStyle::BlinkingBar,
-    SetCursorStyle::SteadyBar,
-];
-
-/// What can be cleared.
-const CLEARED: [ClearType; 6] = [
-    ClearType::All,
-    ClearType::Purge,
-    ClearType::FromCursorDown,
-    ClearType::FromCursorUp,
-    ClearType::CurrentLine,
-    ClearType::UntilNewLine,
-];
-
 /// Two numbers with a blank between.
 fn pair(rest: &str) -> Option<(u16, u16)> {
     let (first, second) = rest.split_once(' ')?;
@@ -122,8 +102,11 @@ fn named<A: Allocator + Clone>(
     argument: &str,
 ) -> Result<AnyCommand<A>, Wrong> {
     match word {
-        "SetCursorStyle" => Ok(AnyCommand::SetCursorStyle(by_name(&SHAPES, argument)?)),
-        "Clear" => Ok(AnyCommand::Clear(Clear(by_name(&CLEARED, argument)?))),
+        "SetCursorStyle" => Ok(AnyCommand::SetCursorStyle(by_name(
+            SetCursorStyle::all(),
+            argument,
+        )?)),
+        "Clear" => Ok(AnyCommand::Clear(Clear(by_name(ClearType::all(), argument)?))),
         "PushKeyboardEnhancementFlags" => pushed(number(argument)),
         _ => styling(alloc, word, argument),
     }

@@ -7,16 +7,16 @@ use Rattle.crossterm_c.proofs.feed.feed_sequences.Goals as goal
 pub loop-place-init : goal.loop-place-init
 loop-place-init g c = record {
   within = omega arith;
-  fills = λ kept. advance_none (filled kept c.args.state.now c.args.events.now c.args.given.now);
-  given = c.requires.room;
+  fills = λ kept. advance_none (filled kept c.args.state.now c.args.events.now 0);
+  given = omega arith;
   most = omega arith;
-  start = λ e. c.requires.outside;
+  start = λ e. c.requires;
   room = refl;
 }
 
 pub returns-then-place-piece-clause-fills : goal.returns-then-place-piece-clause-fills
 returns-then-place-piece-clause-fills g c kept =
-    advance_rest c.run-place.result (filled kept c.args.state.now c.args.events.now c.args.given.now) (filled kept c.loop-place.state c.loop-place.events c.loop-place.given)
+    advance_rest c.run-place.result (filled kept c.args.state.now c.args.events.now 0) (filled kept c.loop-place.state c.loop-place.events c.loop-place.given)
     (filled kept c.run-place.new.state c.run-place.new.events c.run-place.new.given) c.args.piece.now c.args.more c.args.raw c.loop-place.place (omega (arith, c.run-place.ensures.within))
     (c.run-place.ensures.fills kept) (c.loop-place.invariant.fills kept)
 
@@ -24,7 +24,7 @@ pub loop-place-preserved : goal.loop-place-preserved
 loop-place-preserved g c = record {
   within = omega arith;
   fills = λ kept.
-      let old = filled kept c.args.state.now c.args.events.now c.args.given.now in
+      let old = filled kept c.args.state.now c.args.events.now 0 in
       let mid = filled kept c.run-place.new.state c.run-place.new.events c.run-place.new.given in
       let ran = advance_rest c.run-place.result old (filled kept c.loop-place.state c.loop-place.events c.loop-place.given) mid
       c.args.piece.now c.args.more c.args.raw c.loop-place.place (omega (arith, c.run-place.ensures.within)) (c.run-place.ensures.fills kept) (c.loop-place.invariant.fills kept) in

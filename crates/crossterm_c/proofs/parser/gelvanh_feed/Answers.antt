@@ -7,8 +7,8 @@ use Rattle.crossterm_c.proofs.parser.gelvanh_feed.Goals as goal
 
 pub returns-clause-feeds : goal.returns-clause-feeds
 returns-clause-feeds c =
-    let given = take c.feed_uncounted-taken.new.given c.feed_uncounted-taken.new.events in
-    let bytes = take c.feed_uncounted-taken.result c.args.piece.now in
-    let taken = take c.feed_uncounted-taken.result (marked c.args.piece.now c.args.more c.args.raw) in
+    let given = take c.feed-taken.result.1 c.feed-taken.new.events in
+    let bytes = take c.feed-taken.result.0 c.args.piece.now in
+    let taken = take c.feed-taken.result.0 (marked c.args.piece.now c.args.more c.args.raw) in
     subst (λ (new : State). Feeds (state_at c.args.state.now) new given bytes taken) (sym c.flatten.ensures)
-    (subst (λ (old : State). Feeds old c.feed_uncounted-taken.new.state given bytes taken) c.state_of-open.ensures c.feed_uncounted-taken.ensures.feeds)
+    (subst (λ (old : State). Feeds old c.feed-taken.new.state given bytes taken) c.state_of-open.ensures c.feed-taken.ensures.feeds)

@@ -1,5 +1,5 @@
 use Rattle.crossterm_c.proofs.parser.gelvanh_feed.Given as goal
 
 -- the ledger is the new one
-abbrev pub ghosts-feed_uncounted : goal.ghosts-feed_uncounted
-ghosts-feed_uncounted a = record { name = a.blank.name; parts = a.blank.parts }
+abbrev pub ghosts-feed : goal.ghosts-feed
+ghosts-feed a = record { name = a.blank.name; parts = a.blank.parts }

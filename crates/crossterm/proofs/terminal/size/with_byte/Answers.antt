@@ -1,4 +1,4 @@
-use Rattle.std.proofs.Common.{◌≡◌, ◌≤◌, ◌∷◌, ◌∙◌, ap, ℕ, List, ◌+◌, ◌-◌, ◌*◌, min, arith, true}
+use Rattle.std.proofs.Common.{◌≡◌, ◌∙◌, ap, ◌+◌, ◌-◌, ◌*◌, min, arith, true}
 use Rattle.std.proofs.lemmas.Bool.Decides.{nat_tests}
 use Rattle.crossterm.specs.Sizes.{is_digit, number_after}
 use Rattle.crossterm.proofs.SizeLaws.{digit_read}

@@ -1,5 +1,4 @@
 -- What was read are the bytes of the text.
-use Rattle.std.proofs.Common.{ℕ, List}
 use Rattle.std.specs.Io.KnownBytes.{Consumes}
 use Rattle.crossterm.proofs.terminal.sys.stty.read_line.Given as goal
 

@@ -1,5 +1,5 @@
 use Rattle.std.proofs.Common.{rules, ◌≡◌, None, ◌∙◌}
-use Rattle.crossterm.specs.Asking.{InRawMode, not_off}
+use Rattle.crossterm.specs.Asking.{not_off}
 use Rattle.crossterm.proofs.terminal.sys.unix.query_keyboard_enhancement_flags.Goals as goal
 
 pub returns-in_err-disable_raw_mode-clause-query : goal.returns-in_err-disable_raw_mode-clause-query

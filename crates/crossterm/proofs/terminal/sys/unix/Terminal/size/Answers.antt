@@ -1,6 +1,5 @@
-use Rattle.std.proofs.Common.{◌≡◌, refl, sym, ap, ◌∙◌, rules, arith}
+use Rattle.std.proofs.Common.{rules, arith}
 use Rattle.std.specs.Result.{result_ok}
-use Rattle.crossterm.specs.Modes.{told_size}
 use Rattle.crossterm.proofs.terminal.sys.unix.Terminal.size.Goals as goal
 use Rattle.crossterm.proofs.terminal.sys.unix.Terminal.size.Goals.{in-Ok, in-Err+in-Some, in-Err+in-None}
 

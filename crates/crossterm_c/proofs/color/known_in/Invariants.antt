@@ -1,0 +1,13 @@
+use Rattle.std.proofs.Common.{◌≡◌, ◌++◌}
+use Rattle.std.specs.List.{filter}
+use Rattle.crossterm_style.specs.Attributes.{all_attributes, of_list}
+use Rattle.crossterm_c.specs.Command.{includes}
+use Rattle.crossterm_c.proofs.color.known_in.Given as goal
+
+-- the attributes before this one were gathered
+abbrev pub invariant-loop-attribute : goal.invariant-loop-attribute
+invariant-loop-attribute l = record {
+  set : l.set.0 ≡ l.known;
+  bits : l.known ≡ of_list (filter (includes l.bits) l.yielded);
+  joined : l.yielded ++ l.attribute-iterator ≡ all_attributes;
+}
