@@ -2,9 +2,10 @@
 ghost use Rattle.std.specs.Prelude.{◌≡◌, IfOk, Some};
 ghost use Rattle.serde_json.specs.Data.{string};
 ghost use Rattle.serde_json.specs.View.{view};
-ghost use Rattle.crossterm_flags.specs.Values.{Reads, Tells, reads_named};
+ghost use Rattle.crossterm_flags.specs.Values.{Reads, Tells};
 ghost use Rattle.crossterm_types.specs.Values.{FitsCode, FitsKey, code_value, holding_code, key_value, only_char, reads_code, reads_key};
-ghost use Rattle.crossterm_types.specs.Variants.{all_kinds, all_media, all_modifiers, kind_variant, media_variant, modifier_variant};
+ghost use Rattle.crossterm_flags.specs.Variants.{reads_variant, variant};
+ghost use Rattle.crossterm_types.specs.Variants.{kinds, media_keys, modifier_keys};
 
 use crate::event::{
     KeyCode, KeyEvent, KeyEventKind, KeyEventState, KeyModifiers, MediaKeyCode, ModifierKeyCode,
@@ -23,8 +24,8 @@ impl KeyEventKind {
     /// `Memory` where memory for it was refused.
     #[tactic(auto, using(crate::proofs::ValueLaws::kind_back, crossterm_flags::proofs::ValueLaws::told_back))]
     pub fn to_value(&self, alloc: Global) -> Result<Value, ValueFault>
-        ensures tells { Tells (string (kind_variant self.now)) result }
-        ensures back { IfOk result (λ v. reads_named kind_variant all_kinds (view v) ≡ Some self.now) }
+        ensures tells { Tells (string (variant kinds self.now)) result }
+        ensures back { IfOk result (λ v. reads_variant kinds (view v) ≡ Some self.now) }
     {
         tell_text(alloc, self.name())
     }
@@ -34,7 +35,7 @@ impl KeyEventKind {
     /// # Errors
     /// `Shape` where the JSON is no such text.
     pub fn from_value(value: &Value) -> Result<KeyEventKind, ValueFault>
-        ensures { Reads (λ x. x) (reads_named kind_variant all_kinds (view value.now)) result }
+        ensures { Reads (λ x. x) (reads_variant kinds (view value.now)) result }
     {
         shaped(read_named(value))
     }
@@ -47,8 +48,8 @@ impl MediaKeyCode {
     /// `Memory` where memory for it was refused.
     #[tactic(auto, using(crate::proofs::ValueLaws::media_back, crossterm_flags::proofs::ValueLaws::told_back))]
     pub fn to_value(&self, alloc: Global) -> Result<Value, ValueFault>
-        ensures tells { Tells (string (media_variant self.now)) result }
-        ensures back { IfOk result (λ v. reads_named media_variant all_media (view v) ≡ Some self.now) }
+        ensures tells { Tells (string (variant media_keys self.now)) result }
+        ensures back { IfOk result (λ v. reads_variant media_keys (view v) ≡ Some self.now) }
     {
         tell_text(alloc, self.name())
     }
@@ -58,7 +59,7 @@ impl MediaKeyCode {
     /// # Errors
     /// `Shape` where the JSON is no such text.
     pub fn from_value(value: &Value) -> Result<MediaKeyCode, ValueFault>
-        ensures { Reads (λ x. x) (reads_named media_variant all_media (view value.now)) result }
+        ensures { Reads (λ x. x) (reads_variant media_keys (view value.now)) result }
     {
         shaped(read_named(value))
     }
@@ -71,8 +72,8 @@ impl ModifierKeyCode {
     /// `Memory` where memory for it was refused.
     #[tactic(auto, using(crate::proofs::ValueLaws::modifier_back, crossterm_flags::proofs::ValueLaws::told_back))]
     pub fn to_value(&self, alloc: Global) -> Result<Value, ValueFault>
-        ensures tells { Tells (string (modifier_variant self.now)) result }
-        ensures back { IfOk result (λ v. reads_named modifier_variant all_modifiers (view v) ≡ Some self.now) }
+        ensures tells { Tells (string (variant modifier_keys self.now)) result }
+        ensures back { IfOk result (λ v. reads_variant modifier_keys (view v) ≡ Some self.now) }
     {
         tell_text(alloc, self.name())
     }
@@ -82,7 +83,7 @@ impl ModifierKeyCode {
     /// # Errors
     /// `Shape` where the JSON is no such text.
     pub fn from_value(value: &Value) -> Result<ModifierKeyCode, ValueFault>
-        ensures { Reads (λ x. x) (reads_named modifier_variant all_modifiers (view value.now)) result }
+        ensures { Reads (λ x. x) (reads_variant modifier_keys (view value.now)) result }
     {
         shaped(read_named(value))
     }

@@ -2,9 +2,10 @@
 ghost use Rattle.std.specs.Prelude.{◌≡◌, IfOk, Some};
 ghost use Rattle.serde_json.specs.Data.{string};
 ghost use Rattle.serde_json.specs.View.{view};
-ghost use Rattle.crossterm_flags.specs.Values.{Reads, Tells, reads_named};
+ghost use Rattle.crossterm_flags.specs.Values.{Reads, Tells};
 ghost use Rattle.crossterm_types.specs.Values.{FitsMouse, holding_mouse, mouse_kind_value, mouse_value, reads_mouse, reads_mouse_kind};
-ghost use Rattle.crossterm_types.specs.Variants.{all_buttons, button_variant};
+ghost use Rattle.crossterm_flags.specs.Variants.{reads_variant, variant};
+ghost use Rattle.crossterm_types.specs.Variants.{buttons};
 
 use crate::event::{KeyModifiers, MouseButton, MouseEvent, MouseEventKind};
 use crossterm_flags::ValueFault;
@@ -21,8 +22,8 @@ impl MouseButton {
     /// `Memory` where memory for it was refused.
     #[tactic(auto, using(crate::proofs::ValueLaws::button_back, crossterm_flags::proofs::ValueLaws::told_back))]
     pub fn to_value(&self, alloc: Global) -> Result<Value, ValueFault>
-        ensures tells { Tells (string (button_variant self.now)) result }
-        ensures back { IfOk result (λ v. reads_named button_variant all_buttons (view v) ≡ Some self.now) }
+        ensures tells { Tells (string (variant buttons self.now)) result }
+        ensures back { IfOk result (λ v. reads_variant buttons (view v) ≡ Some self.now) }
     {
         tell_text(alloc, self.name())
     }
@@ -32,7 +33,7 @@ impl MouseButton {
     /// # Errors
     /// `Shape` where the JSON is no such text.
     pub fn from_value(value: &Value) -> Result<MouseButton, ValueFault>
-        ensures { Reads (λ x. x) (reads_named button_variant all_buttons (view value.now)) result }
+        ensures { Reads (λ x. x) (reads_variant buttons (view value.now)) result }
     {
         shaped(read_named(value))
     }

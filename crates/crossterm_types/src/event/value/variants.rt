@@ -1,5 +1,6 @@
 //! The names of variants, by which JSON values tell them.
-ghost use Rattle.crossterm_types.specs.Variants.{all_buttons, all_kinds, all_media, all_modifiers, button_variant, code_variant, kind_variant, media_variant, modifier_variant, mouse_variant, plain_codes, plain_mouse};
+ghost use Rattle.crossterm_flags.specs.Variants.{all, variant};
+ghost use Rattle.crossterm_types.specs.Variants.{buttons, code_variant, kinds, media_keys, modifier_keys, mouse_variant, plain_keys, plain_mouse};
 
 use crate::event::{
     KeyCode, KeyEventKind, MediaKeyCode, ModifierKeyCode, MouseButton, MouseEventKind,
@@ -7,9 +8,9 @@ use crate::event::{
 use crossterm_flags::value::Named;
 
 impl Named for KeyEventKind {
-    ghost name = { kind_variant };
+    ghost name = { variant kinds };
 
-    ghost all = { all_kinds };
+    ghost all = { all kinds };
 
     fn name(self) -> &'static str {
         match self {
@@ -29,9 +30,9 @@ impl Named for KeyEventKind {
 }
 
 impl Named for MediaKeyCode {
-    ghost name = { media_variant };
+    ghost name = { variant media_keys };
 
-    ghost all = { all_media };
+    ghost all = { all media_keys };
 
     fn name(self) -> &'static str {
         match self {
@@ -71,9 +72,9 @@ impl Named for MediaKeyCode {
 }
 
 impl Named for ModifierKeyCode {
-    ghost name = { modifier_variant };
+    ghost name = { variant modifier_keys };
 
-    ghost all = { all_modifiers };
+    ghost all = { all modifier_keys };
 
     fn name(self) -> &'static str {
         match self {
@@ -115,9 +116,9 @@ impl Named for ModifierKeyCode {
 }
 
 impl Named for MouseButton {
-    ghost name = { button_variant };
+    ghost name = { variant buttons };
 
-    ghost all = { all_buttons };
+    ghost all = { all buttons };
 
     fn name(self) -> &'static str {
         match self {
@@ -136,7 +137,7 @@ impl Named for MouseButton {
 impl Named for KeyCode {
     ghost name = { code_variant };
 
-    ghost all = { plain_codes };
+    ghost all = { all plain_keys };
 
     fn name(self) -> &'static str {
         match self {
@@ -203,7 +204,7 @@ impl Named for KeyCode {
 impl Named for MouseEventKind {
     ghost name = { mouse_variant };
 
-    ghost all = { plain_mouse };
+    ghost all = { all plain_mouse };
 
     fn name(self) -> &'static str {
         match self {
