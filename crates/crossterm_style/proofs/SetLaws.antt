@@ -1,9 +1,12 @@
 -- What holds of bits, and of sets of attributes.
-use Rattle.std.proofs.Common.{◌≡◌, ◌≢◌, ℕ, zero, suc, ◌+◌, ◌-◌, ◌^◌, ◌<◌, ◌==◌, ◌%◌, min, max, Bool, true, false, not, ◌&&◌, ◌||◌, refl, sym, ap, ◌∙◌, arith, get_or}
+use mathlib.Core.Bool.{true≢false}
+use Rattle.std.proofs.Common.{◌≡◌, ◌≢◌, ℕ, zero, suc, ◌+◌, ◌-◌, ◌^◌, ◌<◌, ◌==◌, ◌%◌, min, max, Bool, true, false, not, ◌&&◌, ◌||◌, refl, sym, ap, ◌∙◌, arith, rules, get_or}
 use Rattle.std.proofs.lemmas.Bool.Decides.{nat_tests}
 use Rattle.std.proofs.lemmas.Nat.Bits.{bit_at-zero, bit_at-lt, bit_at_and, bit_at_or, bit_at_xor, bit_at_not, bit_at-pow_same, bit_at-pow_other}
 use Rattle.std.specs.Int.{bit_at, bit_not, w32}
 use Rattle.std.specs.Int.RustNames.{bit_and, bit_or, bit_xor}
+use Rattle.crossterm_flags.proofs.Ranks.{of_each}
+use Rattle.crossterm_style.specs.contracts.types.attribute.Attribute as attribute_enum
 use Rattle.crossterm_style.specs.declared.types.attribute.Attribute.{Attribute}
 use Rattle.crossterm_style.specs.declared.types.attribute.Attribute.TheVariants as attribute
 use Rattle.crossterm_style.specs.Attributes.{Makes, all_attributes, bit_of, differ, has, place_of}
@@ -45,64 +48,10 @@ without_bits p (suc (suc q)) l m = absurd (omega (arith, m))
 -- ---- places
 
 pub place_few : (a : Attribute) → place_of a < 28
-place_few attribute.Reset = omega arith
-place_few attribute.Bold = omega arith
-place_few attribute.Dim = omega arith
-place_few attribute.Italic = omega arith
-place_few attribute.Underlined = omega arith
-place_few attribute.DoubleUnderlined = omega arith
-place_few attribute.Undercurled = omega arith
-place_few attribute.Underdotted = omega arith
-place_few attribute.Underdashed = omega arith
-place_few attribute.SlowBlink = omega arith
-place_few attribute.RapidBlink = omega arith
-place_few attribute.Reverse = omega arith
-place_few attribute.Hidden = omega arith
-place_few attribute.CrossedOut = omega arith
-place_few attribute.Fraktur = omega arith
-place_few attribute.NoBold = omega arith
-place_few attribute.NormalIntensity = omega arith
-place_few attribute.NoItalic = omega arith
-place_few attribute.NoUnderline = omega arith
-place_few attribute.NoBlink = omega arith
-place_few attribute.NoReverse = omega arith
-place_few attribute.NoHidden = omega arith
-place_few attribute.NotCrossedOut = omega arith
-place_few attribute.Framed = omega arith
-place_few attribute.Encircled = omega arith
-place_few attribute.OverLined = omega arith
-place_few attribute.NotFramedOrEncircled = omega arith
-place_few attribute.NotOverLined = omega arith
+place_few = of_each attribute_enum.enum _ (search (arith, rules))
 
 at_place : (a : Attribute) → get_or all_attributes (place_of a) attribute.Reset ≡ a
-at_place attribute.Reset = refl
-at_place attribute.Bold = refl
-at_place attribute.Dim = refl
-at_place attribute.Italic = refl
-at_place attribute.Underlined = refl
-at_place attribute.DoubleUnderlined = refl
-at_place attribute.Undercurled = refl
-at_place attribute.Underdotted = refl
-at_place attribute.Underdashed = refl
-at_place attribute.SlowBlink = refl
-at_place attribute.RapidBlink = refl
-at_place attribute.Reverse = refl
-at_place attribute.Hidden = refl
-at_place attribute.CrossedOut = refl
-at_place attribute.Fraktur = refl
-at_place attribute.NoBold = refl
-at_place attribute.NormalIntensity = refl
-at_place attribute.NoItalic = refl
-at_place attribute.NoUnderline = refl
-at_place attribute.NoBlink = refl
-at_place attribute.NoReverse = refl
-at_place attribute.NoHidden = refl
-at_place attribute.NotCrossedOut = refl
-at_place attribute.Framed = refl
-at_place attribute.Encircled = refl
-at_place attribute.OverLined = refl
-at_place attribute.NotFramedOrEncircled = refl
-at_place attribute.NotOverLined = refl
+at_place = of_each attribute_enum.enum _ (search rules)
 
 same_place : (a b : Attribute) → place_of b ≡ place_of a → b ≡ a
 same_place a b e = sym (at_place b) ∙ ap (λ n. get_or all_attributes n attribute.Reset) e ∙ at_place a
@@ -128,14 +77,19 @@ difference x y fits a =
 pub itself : (a : Attribute) → has (bit_of a) a ≡ true
 itself a = ap (λ n. n == 1) (bit_at-pow_same (place_of a + 1))
 
+equal_places : (m n : ℕ) → (m == n) ≡ true → m ≡ n
+equal_places m n e = grind (arith, nat_tests)
+
+other_places : (m n : ℕ) → (m == n) ≡ false → m + 1 ≢ n + 1
+other_places m n e same = absurd (grind (arith, nat_tests))
+
 pub one : (a b : Attribute) → has (bit_of a) b ≡ true → b ≡ a
 one a b is = go (place_of b == place_of a) refl where
   go : (t : Bool) → (place_of b == place_of a) ≡ t → b ≡ a
-  go true e = same_place a b (grind (arith, nat_tests))
+  go true e = same_place a b (equal_places (place_of b) (place_of a) e)
   go false e =
-      let apart : place_of b + 1 ≢ place_of a + 1 = λ same. absurd (grind (arith, nat_tests)) in
-      let gone : has (bit_of a) b ≡ false = ap (λ n. n == 1) (bit_at-pow_other (place_of a + 1) (place_of b + 1) apart) in
-      cc
+      let gone : has (bit_of a) b ≡ false = ap (λ n. n == 1) (bit_at-pow_other (place_of a + 1) (place_of b + 1) (other_places (place_of b) (place_of a) e)) in
+      absurd (true≢false (sym is ∙ gone))
 
 pub none : (a : Attribute) → has 0 a ≡ false
 none a = ap (λ n. n == 1) (bit_at-zero (place_of a + 1))

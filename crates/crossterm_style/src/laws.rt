@@ -4,13 +4,14 @@ ghost use Rattle.std.specs.Int.{bit_not, w32};
 ghost use Rattle.std.specs.Int.RustNames.{bit_and, bit_or, bit_xor};
 ghost use Rattle.std.specs.List.{AllByRecursion, Contains};
 ghost use Rattle.crossterm_flags.specs.Orders.{ComparesBy};
+ghost use Rattle.crossterm_flags.specs.Variants.{rank_order};
 ghost use Rattle.crossterm_style.specs.Acts.{style_acts};
 ghost use Rattle.crossterm_style.specs.Appearance.{ActsShow, ColorsShow, DisabledMakesPlain, FitsAct, FitsThere, OneUnderline, PaletteHasNames, ResetComesFirst, StyledEndsPlain, UnderlineColorStays, colors_acts};
-ghost use Rattle.crossterm_style.specs.Attributes.{Makes, bit_of, differ, has, of_list};
+ghost use Rattle.crossterm_style.specs.Attributes.{Makes, attributes, bit_of, differ, has, of_list};
 ghost use Rattle.crossterm_style.specs.declared.types.attribute.Attribute.{Attribute};
 ghost use Rattle.crossterm_style.specs.Colors.{FitsColored, LaterIsAssociative, LaterWins, NoColorsAreNeutral};
 ghost use Rattle.crossterm_style.specs.Fields.{OneColor, OneColored, TextIsReadBack};
-ghost use Rattle.crossterm_style.specs.Ranks.{attribute_order, color_order, colored_order};
+ghost use Rattle.crossterm_style.specs.Ranks.{color_order, colored_order};
 
 use crate::{Attribute, Attributes, Color, Colored, Colors, ContentStyle};
 use std::cmp::{Ord, PartialOrd};
@@ -54,7 +55,7 @@ pub fn colors_read()
 
 /// The declared orders of attributes and colours: variants in the order of their ranks, and two of one variant by what they hold.
 pub fn declared_orders()
-    ensures attributes { ComparesBy attribute_order ⟦<Attribute as Ord>⟧.cmp ⟦<Attribute as PartialOrd>⟧.partial_cmp }
+    ensures attributes { ComparesBy (rank_order attributes) ⟦<Attribute as Ord>⟧.cmp ⟦<Attribute as PartialOrd>⟧.partial_cmp }
     ensures colors { ComparesBy color_order ⟦<Color as Ord>⟧.cmp ⟦<Color as PartialOrd>⟧.partial_cmp }
     ensures colored { ComparesBy colored_order ⟦<Colored as Ord>⟧.cmp ⟦<Colored as PartialOrd>⟧.partial_cmp }
 {}

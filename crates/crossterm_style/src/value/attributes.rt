@@ -2,9 +2,9 @@
 ghost use Rattle.std.specs.Prelude.{◌≡◌, IfOk, Some};
 ghost use Rattle.serde_json.specs.Data.{string};
 ghost use Rattle.serde_json.specs.View.{view};
-ghost use Rattle.crossterm_flags.specs.Values.{Reads, Tells, reads_named};
-ghost use Rattle.crossterm_style.specs.Attributes.{all_attributes};
-ghost use Rattle.crossterm_style.specs.Values.{attribute_variant};
+ghost use Rattle.crossterm_flags.specs.Values.{Reads, Tells};
+ghost use Rattle.crossterm_flags.specs.Variants.{reads_variant, variant};
+ghost use Rattle.crossterm_style.specs.Attributes.{all_attributes, attributes};
 
 use crate::Attribute;
 use crossterm_flags::ValueFault;
@@ -13,7 +13,7 @@ use serde_json::Value;
 use std::alloc::Global;
 
 impl Named for Attribute {
-    ghost name = { attribute_variant };
+    ghost name = { variant attributes };
 
     ghost all = { all_attributes };
 
@@ -62,8 +62,8 @@ impl Attribute {
     /// `Memory` where memory for it was refused.
     #[tactic(auto, using(crate::proofs::ValueLaws::attribute_back, crossterm_flags::proofs::ValueLaws::told_back))]
     pub fn to_value(&self, alloc: Global) -> Result<Value, ValueFault>
-        ensures tells { Tells (string (attribute_variant self.now)) result }
-        ensures back { IfOk result (λ v. reads_named attribute_variant all_attributes (view v) ≡ Some self.now) }
+        ensures tells { Tells (string (variant attributes self.now)) result }
+        ensures back { IfOk result (λ v. reads_variant attributes (view v) ≡ Some self.now) }
     {
         tell_text(alloc, self.name())
     }
@@ -73,7 +73,7 @@ impl Attribute {
     /// # Errors
     /// `Shape` where the JSON is no such text.
     pub fn from_value(value: &Value) -> Result<Attribute, ValueFault>
-        ensures { Reads (λ x. x) (reads_named attribute_variant all_attributes (view value.now)) result }
+        ensures { Reads (λ x. x) (reads_variant attributes (view value.now)) result }
     {
         shaped(read_named(value))
     }
