@@ -93,3 +93,6 @@ one a b is = go (place_of b == place_of a) refl where
 
 pub none : (a : Attribute) → has 0 a ≡ false
 none a = ap (λ n. n == 1) (bit_at-zero (place_of a + 1))
+
+-- What is said of sets.
+pub ruleset said = (union, intersection, symmetric_difference, difference, itself, none)

@@ -18,6 +18,7 @@ use std::cmp::{Ord, PartialOrd};
 
 /// `Attributes` is a set: `with`, `set`, `extend` and `|` make the union, `without` and `unset` the difference, `&` the intersection,
 /// `toggle` and `^` the symmetric difference; a set of one attribute has that one alone, that of a list exactly the list's, and the empty set none.
+#[tactic(auto, using(crate::proofs::SetLaws::said, crate::proofs::SetMembers::listed))]
 pub fn sets()
     ensures union { (x y : ℕ) → Makes (λ p q. p || q) x y (bit_or x y) }
     ensures intersection { (x y : ℕ) → Makes (λ p q. p && q) x y (bit_and x y) }
@@ -47,6 +48,7 @@ pub fn colors_then()
 
 /// What `parse_ansi` answers is settled by the text, and at the text of a colour it is that colour, `AnsiValue(0)` to `AnsiValue(15)` by
 /// their names.
+#[tactic(auto, using(crate::proofs::ReadingLaws::one_colored, crate::proofs::TextLaws::text_is_read_back))]
 pub fn colors_read()
     ensures color { OneColor }
     ensures colored { OneColored }
@@ -68,12 +70,14 @@ pub fn looks()
 
 /// With colours, a content in its style leaves the plain style plain exactly where it has an attribute, or no colour of its underline but
 /// the terminal's own.
+#[tactic(auto, using(crate::proofs::StyledLooks::styled_ends_plain))]
 pub fn styled_ends_plain()
     ensures { StyledEndsPlain }
 {}
 
 /// Some looks: the palette's 9 is red; a colour that isn't written makes all plain; `Reset` of a set comes first; of two underlines the later
 /// stands alone; an underline's colour outlives its content.
+#[tactic(auto, using(crate::proofs::StyledLooks::said))]
 pub fn some_looks()
     ensures palette { PaletteHasNames }
     ensures disabled { DisabledMakesPlain }
