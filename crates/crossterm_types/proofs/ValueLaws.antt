@@ -11,12 +11,12 @@ use lib.Dec.{ltb}
 use Rattle.std.proofs.lemmas.Bool.Decides.{nat_tests}
 use Rattle.serde_json.specs.Data.{string}
 use Rattle.crossterm_flags.proofs.Ranks.{of_each}
-use Rattle.crossterm_flags.specs.Values.{first_named, number_value, reads_below, same}
+use Rattle.crossterm_flags.specs.Values.{number_value, reads_below, same}
 use Rattle.crossterm_types.specs.Seen.{seen_event}
 use Rattle.crossterm_types.specs.Seen as seen
 use Rattle.crossterm_types.specs.Values.{FitsCode, FitsEvent, FitsKey, FitsMouse, code_value, event_value, key_value, mouse_kind_value, mouse_value, only_char, point, reads_code, reads_event, reads_key, reads_mouse, reads_mouse_kind}
-use Rattle.crossterm_flags.specs.Variants.{all, variant}
-use Rattle.crossterm_types.specs.Variants.{buttons, code_variant, kinds, media_keys, modifier_keys}
+use Rattle.crossterm_flags.specs.Variants.{value_in, variant}
+use Rattle.crossterm_types.specs.Variants.{buttons, kinds, media_keys, modifier_keys, plain_keys}
 use Rattle.crossterm_types.specs.contracts.event.key.KeyEventKind as kind_enum
 use Rattle.crossterm_types.specs.contracts.event.key.MediaKeyCode as medias
 use Rattle.crossterm_types.specs.contracts.event.key.ModifierKeyCode as modifiers
@@ -34,13 +34,13 @@ use Rattle.crossterm_types.specs.declared.event.key.KeyEventKind.{KeyEventKind}
 use Rattle.crossterm_types.specs.declared.event.key.MediaKeyCode.{MediaKeyCode}
 use Rattle.crossterm_types.specs.declared.event.key.ModifierKeyCode.{ModifierKeyCode}
 
-pub kind_back : (x : KeyEventKind) → first_named (variant kinds) (all kinds) (variant kinds x) ≡ Some x
+pub kind_back : (x : KeyEventKind) → value_in kinds.rows (variant kinds x) ≡ Some x
 kind_back = of_each kind_enum.enum _ (search rules)
 
-pub media_back : (x : MediaKeyCode) → first_named (variant media_keys) (all media_keys) (variant media_keys x) ≡ Some x
+pub media_back : (x : MediaKeyCode) → value_in media_keys.rows (variant media_keys x) ≡ Some x
 media_back = of_each medias.enum _ (search rules)
 
-pub modifier_back : (x : ModifierKeyCode) → first_named (variant modifier_keys) (all modifier_keys) (variant modifier_keys x) ≡ Some x
+pub modifier_back : (x : ModifierKeyCode) → value_in modifier_keys.rows (variant modifier_keys x) ≡ Some x
 modifier_back = of_each modifiers.enum _ (search rules)
 
 -- ---- characters
@@ -94,7 +94,7 @@ none_of text a b c d w x y z f g h k =
 
 -- A key that holds nothing is told by its variant.
 pub plain_told : (c : KeyCode) → ((n : ℕ) → c ≡ code.F n → ⊥) → ((n : ℕ) → c ≡ code.Char n → ⊥) → ((k : MediaKeyCode) → c ≡ code.Media k → ⊥) → ((k : ModifierKeyCode) → c ≡ code.Modifier k → ⊥)
-    → code_value c ≡ string (code_variant c)
+    → code_value c ≡ string (variant plain_keys c)
 plain_told (code.F n) f g h k = absurd (f n refl)
 plain_told (code.Char n) f g h k = absurd (g n refl)
 plain_told (code.Media key) f g h k = absurd (h key refl)
@@ -126,7 +126,7 @@ key_back key fits i =
 
 -- ---- the mouse
 
-pub button_back : (x : MouseButton) → first_named (variant buttons) (all buttons) (variant buttons x) ≡ Some x
+pub button_back : (x : MouseButton) → value_in buttons.rows (variant buttons x) ≡ Some x
 button_back = of_each button_enum.enum _ (search rules)
 
 pub mouse_kind_back : (m : MouseEventKind) → reads_mouse_kind (mouse_kind_value m) ≡ Some m

@@ -6,13 +6,13 @@ use Rattle.std.specs.declared.result.Result.{Result}
 use Rattle.std.proofs.Math.Utf8.{scalar}
 use Rattle.serde_json.specs.Data.{Data, array, item, member, no_items, no_members, object, string}
 use Rattle.serde_json.specs.Find.{as_str}
-use Rattle.crossterm_flags.specs.Values.{number_value, one_member, reads_below, reads_four, reads_member, reads_named, reads_two, same}
+use Rattle.crossterm_flags.specs.Values.{number_value, one_member, reads_below, reads_four, reads_member, reads_two, same}
 use Rattle.crossterm_flags.specs.declared.value.ValueFault.{ValueFault}
 use Rattle.crossterm_flags.specs.declared.value.ValueFault.TheVariants.{Memory, Shape}
 use Rattle.crossterm_types.specs.Seen.{Seen, seen_event}
 use Rattle.crossterm_types.specs.Seen as seen
-use Rattle.crossterm_flags.specs.Variants.{all, reads_variant, variant}
-use Rattle.crossterm_types.specs.Variants.{buttons, code_variant, kinds, media_keys, modifier_keys, mouse_variant, plain_keys, plain_mouse}
+use Rattle.crossterm_flags.specs.Variants.{reads_variant, variant}
+use Rattle.crossterm_types.specs.Variants.{buttons, kinds, media_keys, modifier_keys, plain_keys, plain_mouse}
 use Rattle.crossterm_types.specs.declared.event.Event.{Event}
 use Rattle.crossterm_types.specs.declared.event.Event.TheVariants as event
 use Rattle.crossterm_types.specs.declared.event.key.KeyCode.{KeyCode}
@@ -30,7 +30,7 @@ code_value (code.F n) = one_member (codes "F") (number_value n)
 code_value (code.Char c) = one_member (codes "Char") (string (encode_utf8 c))
 code_value (code.Media key) = one_member (codes "Media") (string (variant media_keys key))
 code_value (code.Modifier key) = one_member (codes "Modifier") (string (variant modifier_keys key))
-code_value plain = string (code_variant plain)
+code_value plain = string (variant plain_keys plain)
 
 -- The code point that one to four bytes of UTF-8 spell.
 abbrev pub point : List ℕ → ℕ
@@ -54,7 +54,7 @@ holding_code held =
     None)))
 
 abbrev pub reads_code : Data → Option KeyCode
-reads_code d = option_or (reads_named code_variant (all plain_keys) d) (option_and_then holding_code (reads_member d))
+reads_code d = option_or (reads_variant plain_keys d) (option_and_then holding_code (reads_member d))
 
 -- A key event: an object of its fields.
 abbrev pub key_value : KeyEvent → Data
@@ -80,7 +80,7 @@ abbrev pub mouse_kind_value : MouseEventKind → Data
 mouse_kind_value (mouse.Down button) = one_member (codes "Down") (string (variant buttons button))
 mouse_kind_value (mouse.Up button) = one_member (codes "Up") (string (variant buttons button))
 mouse_kind_value (mouse.Drag button) = one_member (codes "Drag") (string (variant buttons button))
-mouse_kind_value plain = string (mouse_variant plain)
+mouse_kind_value plain = string (variant plain_mouse plain)
 
 -- What reads as something that the mouse does with a button.
 abbrev pub holding_mouse : List ℕ × Data → Option MouseEventKind
@@ -91,7 +91,7 @@ holding_mouse held =
     None))
 
 abbrev pub reads_mouse_kind : Data → Option MouseEventKind
-reads_mouse_kind d = option_or (reads_named mouse_variant (all plain_mouse) d) (option_and_then holding_mouse (reads_member d))
+reads_mouse_kind d = option_or (reads_variant plain_mouse d) (option_and_then holding_mouse (reads_member d))
 
 -- A mouse event: an object of its fields.
 abbrev pub mouse_value : MouseEvent → Data

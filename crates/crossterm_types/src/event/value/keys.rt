@@ -12,7 +12,7 @@ use crate::event::{
 };
 use crossterm_flags::ValueFault;
 use crossterm_flags::value::{
-    Named, read_byte, read_four, read_member, read_named, shaped, tell_member, tell_text,
+    read_byte, read_four, read_member, read_named, shaped, tell_member, tell_named, tell_text,
 };
 use serde_json::{Value, json};
 use std::alloc::Global;
@@ -27,7 +27,7 @@ impl KeyEventKind {
         ensures tells { Tells (string (variant kinds self.now)) result }
         ensures back { IfOk result (λ v. reads_variant kinds (view v) ≡ Some self.now) }
     {
-        tell_text(alloc, self.name())
+        tell_named(alloc, *self)
     }
 
     /// The kind whose variant a JSON text is. It takes no memory.
@@ -51,7 +51,7 @@ impl MediaKeyCode {
         ensures tells { Tells (string (variant media_keys self.now)) result }
         ensures back { IfOk result (λ v. reads_variant media_keys (view v) ≡ Some self.now) }
     {
-        tell_text(alloc, self.name())
+        tell_named(alloc, *self)
     }
 
     /// The key whose variant a JSON text is. It takes no memory.
@@ -75,7 +75,7 @@ impl ModifierKeyCode {
         ensures tells { Tells (string (variant modifier_keys self.now)) result }
         ensures back { IfOk result (λ v. reads_variant modifier_keys (view v) ≡ Some self.now) }
     {
-        tell_text(alloc, self.name())
+        tell_named(alloc, *self)
     }
 
     /// The key whose variant a JSON text is. It takes no memory.
@@ -123,14 +123,16 @@ impl KeyCode {
     fn tell(self, alloc: Global) -> Result<Value, ValueFault>
         ensures { Tells (code_value self) result }
     {
-        let held = match self {
-            KeyCode::F(number) => Value::from(number),
-            KeyCode::Char(c) => tell_text(alloc, c.encode_utf8(&mut [0; 4]))?,
-            KeyCode::Media(key) => key.to_value(alloc)?,
-            KeyCode::Modifier(key) => key.to_value(alloc)?,
-            _ => return tell_text(alloc, self.name()),
-        };
-        tell_member(alloc, self.name(), held)
+        match self {
+            KeyCode::F(number) => tell_member(alloc, "F", Value::from(number)),
+            KeyCode::Char(c) => {
+                let text = tell_text(alloc, c.encode_utf8(&mut [0; 4]))?;
+                tell_member(alloc, "Char", text)
+            }
+            KeyCode::Media(key) => tell_member(alloc, "Media", key.to_value(alloc)?),
+            KeyCode::Modifier(key) => tell_member(alloc, "Modifier", key.to_value(alloc)?),
+            plain => tell_named(alloc, plain),
+        }
     }
 
     /// A key that holds something, by its variant.

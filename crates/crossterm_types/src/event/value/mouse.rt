@@ -10,7 +10,7 @@ ghost use Rattle.crossterm_types.specs.Variants.{buttons};
 use crate::event::{KeyModifiers, MouseButton, MouseEvent, MouseEventKind};
 use crossterm_flags::ValueFault;
 use crossterm_flags::value::{
-    Named, read_byte, read_four, read_member, read_named, read_word, shaped, tell_member, tell_text,
+    read_byte, read_four, read_member, read_named, read_word, shaped, tell_member, tell_named,
 };
 use serde_json::{Value, json};
 use std::alloc::Global;
@@ -25,7 +25,7 @@ impl MouseButton {
         ensures tells { Tells (string (variant buttons self.now)) result }
         ensures back { IfOk result (λ v. reads_variant buttons (view v) ≡ Some self.now) }
     {
-        tell_text(alloc, self.name())
+        tell_named(alloc, *self)
     }
 
     /// The button whose variant a JSON text is. It takes no memory.
@@ -50,13 +50,10 @@ impl MouseEventKind {
         ensures back { IfOk result (λ v. reads_mouse_kind (view v) ≡ Some self.now) }
     {
         match self {
-            MouseEventKind::Down(button)
-            | MouseEventKind::Up(button)
-            | MouseEventKind::Drag(button) => {
-                let button = button.to_value(alloc)?;
-                tell_member(alloc, self.name(), button)
-            }
-            _ => tell_text(alloc, self.name()),
+            MouseEventKind::Down(button) => tell_member(alloc, "Down", button.to_value(alloc)?),
+            MouseEventKind::Up(button) => tell_member(alloc, "Up", button.to_value(alloc)?),
+            MouseEventKind::Drag(button) => tell_member(alloc, "Drag", button.to_value(alloc)?),
+            plain => tell_named(alloc, *plain),
         }
     }
 

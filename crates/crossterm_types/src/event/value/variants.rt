@@ -1,231 +1,67 @@
 //! The names of variants, by which JSON values tell them.
-ghost use Rattle.crossterm_flags.specs.Variants.{all, variant};
-ghost use Rattle.crossterm_types.specs.Variants.{buttons, code_variant, kinds, media_keys, modifier_keys, mouse_variant, plain_keys, plain_mouse};
+ghost use Rattle.crossterm_types.specs.Variants.{buttons, kinds, media_keys, modifier_keys, plain_keys, plain_mouse};
 
 use crate::event::{
     KeyCode, KeyEventKind, MediaKeyCode, ModifierKeyCode, MouseButton, MouseEventKind,
 };
+use crossterm_flags::named_variants;
 use crossterm_flags::value::Named;
 
 impl Named for KeyEventKind {
-    ghost name = { variant kinds };
+    ghost rows = { kinds.rows };
 
-    ghost all = { all kinds };
-
-    fn name(self) -> &'static str {
-        match self {
-            KeyEventKind::Press => "Press",
-            KeyEventKind::Repeat => "Repeat",
-            KeyEventKind::Release => "Release",
-        }
-    }
-
-    fn all<'a>() -> &'a [KeyEventKind] {
-        &[
-            KeyEventKind::Press,
-            KeyEventKind::Repeat,
-            KeyEventKind::Release,
-        ]
+    fn rows<'a>() -> &'a [(&'static str, KeyEventKind)] {
+        named_variants!(KeyEventKind: Press Repeat Release)
     }
 }
 
 impl Named for MediaKeyCode {
-    ghost name = { variant media_keys };
+    ghost rows = { media_keys.rows };
 
-    ghost all = { all media_keys };
-
-    fn name(self) -> &'static str {
-        match self {
-            MediaKeyCode::Play => "Play",
-            MediaKeyCode::Pause => "Pause",
-            MediaKeyCode::PlayPause => "PlayPause",
-            MediaKeyCode::Reverse => "Reverse",
-            MediaKeyCode::Stop => "Stop",
-            MediaKeyCode::FastForward => "FastForward",
-            MediaKeyCode::Rewind => "Rewind",
-            MediaKeyCode::TrackNext => "TrackNext",
-            MediaKeyCode::TrackPrevious => "TrackPrevious",
-            MediaKeyCode::Record => "Record",
-            MediaKeyCode::LowerVolume => "LowerVolume",
-            MediaKeyCode::RaiseVolume => "RaiseVolume",
-            MediaKeyCode::MuteVolume => "MuteVolume",
-        }
-    }
-
-    fn all<'a>() -> &'a [MediaKeyCode] {
-        &[
-            MediaKeyCode::Play,
-            MediaKeyCode::Pause,
-            MediaKeyCode::PlayPause,
-            MediaKeyCode::Reverse,
-            MediaKeyCode::Stop,
-            MediaKeyCode::FastForward,
-            MediaKeyCode::Rewind,
-            MediaKeyCode::TrackNext,
-            MediaKeyCode::TrackPrevious,
-            MediaKeyCode::Record,
-            MediaKeyCode::LowerVolume,
-            MediaKeyCode::RaiseVolume,
-            MediaKeyCode::MuteVolume,
-        ]
+    fn rows<'a>() -> &'a [(&'static str, MediaKeyCode)] {
+        named_variants!(MediaKeyCode:
+            Play Pause PlayPause Reverse Stop FastForward Rewind TrackNext TrackPrevious Record
+            LowerVolume RaiseVolume MuteVolume
+        )
     }
 }
 
 impl Named for ModifierKeyCode {
-    ghost name = { variant modifier_keys };
+    ghost rows = { modifier_keys.rows };
 
-    ghost all = { all modifier_keys };
-
-    fn name(self) -> &'static str {
-        match self {
-            ModifierKeyCode::LeftShift => "LeftShift",
-            ModifierKeyCode::LeftControl => "LeftControl",
-            ModifierKeyCode::LeftAlt => "LeftAlt",
-            ModifierKeyCode::LeftSuper => "LeftSuper",
-            ModifierKeyCode::LeftHyper => "LeftHyper",
-            ModifierKeyCode::LeftMeta => "LeftMeta",
-            ModifierKeyCode::RightShift => "RightShift",
-            ModifierKeyCode::RightControl => "RightControl",
-            ModifierKeyCode::RightAlt => "RightAlt",
-            ModifierKeyCode::RightSuper => "RightSuper",
-            ModifierKeyCode::RightHyper => "RightHyper",
-            ModifierKeyCode::RightMeta => "RightMeta",
-            ModifierKeyCode::IsoLevel3Shift => "IsoLevel3Shift",
-            ModifierKeyCode::IsoLevel5Shift => "IsoLevel5Shift",
-        }
-    }
-
-    fn all<'a>() -> &'a [ModifierKeyCode] {
-        &[
-            ModifierKeyCode::LeftShift,
-            ModifierKeyCode::LeftControl,
-            ModifierKeyCode::LeftAlt,
-            ModifierKeyCode::LeftSuper,
-            ModifierKeyCode::LeftHyper,
-            ModifierKeyCode::LeftMeta,
-            ModifierKeyCode::RightShift,
-            ModifierKeyCode::RightControl,
-            ModifierKeyCode::RightAlt,
-            ModifierKeyCode::RightSuper,
-            ModifierKeyCode::RightHyper,
-            ModifierKeyCode::RightMeta,
-            ModifierKeyCode::IsoLevel3Shift,
-            ModifierKeyCode::IsoLevel5Shift,
-        ]
+    fn rows<'a>() -> &'a [(&'static str, ModifierKeyCode)] {
+        named_variants!(ModifierKeyCode:
+            LeftShift LeftControl LeftAlt LeftSuper LeftHyper LeftMeta RightShift RightControl
+            RightAlt RightSuper RightHyper RightMeta IsoLevel3Shift IsoLevel5Shift
+        )
     }
 }
 
 impl Named for MouseButton {
-    ghost name = { variant buttons };
+    ghost rows = { buttons.rows };
 
-    ghost all = { all buttons };
-
-    fn name(self) -> &'static str {
-        match self {
-            MouseButton::Left => "Left",
-            MouseButton::Right => "Right",
-            MouseButton::Middle => "Middle",
-        }
-    }
-
-    fn all<'a>() -> &'a [MouseButton] {
-        &[MouseButton::Left, MouseButton::Right, MouseButton::Middle]
+    fn rows<'a>() -> &'a [(&'static str, MouseButton)] {
+        named_variants!(MouseButton: Left Right Middle)
     }
 }
 
 // Only the variants that hold nothing are listed.
 impl Named for KeyCode {
-    ghost name = { code_variant };
+    ghost rows = { plain_keys.rows };
 
-    ghost all = { all plain_keys };
-
-    fn name(self) -> &'static str {
-        match self {
-            KeyCode::Backspace => "Backspace",
-            KeyCode::Enter => "Enter",
-            KeyCode::Left => "Left",
-            KeyCode::Right => "Right",
-            KeyCode::Up => "Up",
-            KeyCode::Down => "Down",
-            KeyCode::Home => "Home",
-            KeyCode::End => "End",
-            KeyCode::PageUp => "PageUp",
-            KeyCode::PageDown => "PageDown",
-            KeyCode::Tab => "Tab",
-            KeyCode::BackTab => "BackTab",
-            KeyCode::Delete => "Delete",
-            KeyCode::Insert => "Insert",
-            KeyCode::F(_) => "F",
-            KeyCode::Char(_) => "Char",
-            KeyCode::Null => "Null",
-            KeyCode::Esc => "Esc",
-            KeyCode::CapsLock => "CapsLock",
-            KeyCode::ScrollLock => "ScrollLock",
-            KeyCode::NumLock => "NumLock",
-            KeyCode::PrintScreen => "PrintScreen",
-            KeyCode::Pause => "Pause",
-            KeyCode::Menu => "Menu",
-            KeyCode::KeypadBegin => "KeypadBegin",
-            KeyCode::Media(_) => "Media",
-            KeyCode::Modifier(_) => "Modifier",
-        }
-    }
-
-    fn all<'a>() -> &'a [KeyCode] {
-        &[
-            KeyCode::Backspace,
-            KeyCode::Enter,
-            KeyCode::Left,
-            KeyCode::Right,
-            KeyCode::Up,
-            KeyCode::Down,
-            KeyCode::Home,
-            KeyCode::End,
-            KeyCode::PageUp,
-            KeyCode::PageDown,
-            KeyCode::Tab,
-            KeyCode::BackTab,
-            KeyCode::Delete,
-            KeyCode::Insert,
-            KeyCode::Null,
-            KeyCode::Esc,
-            KeyCode::CapsLock,
-            KeyCode::ScrollLock,
-            KeyCode::NumLock,
-            KeyCode::PrintScreen,
-            KeyCode::Pause,
-            KeyCode::Menu,
-            KeyCode::KeypadBegin,
-        ]
+    fn rows<'a>() -> &'a [(&'static str, KeyCode)] {
+        named_variants!(KeyCode:
+            Backspace Enter Left Right Up Down Home End PageUp PageDown Tab BackTab Delete Insert
+            Null Esc CapsLock ScrollLock NumLock PrintScreen Pause Menu KeypadBegin
+        )
     }
 }
 
 // Only the variants that hold nothing are listed.
 impl Named for MouseEventKind {
-    ghost name = { mouse_variant };
+    ghost rows = { plain_mouse.rows };
 
-    ghost all = { all plain_mouse };
-
-    fn name(self) -> &'static str {
-        match self {
-            MouseEventKind::Down(_) => "Down",
-            MouseEventKind::Up(_) => "Up",
-            MouseEventKind::Drag(_) => "Drag",
-            MouseEventKind::Moved => "Moved",
-            MouseEventKind::ScrollDown => "ScrollDown",
-            MouseEventKind::ScrollUp => "ScrollUp",
-            MouseEventKind::ScrollLeft => "ScrollLeft",
-            MouseEventKind::ScrollRight => "ScrollRight",
-        }
-    }
-
-    fn all<'a>() -> &'a [MouseEventKind] {
-        &[
-            MouseEventKind::Moved,
-            MouseEventKind::ScrollDown,
-            MouseEventKind::ScrollUp,
-            MouseEventKind::ScrollLeft,
-            MouseEventKind::ScrollRight,
-        ]
+    fn rows<'a>() -> &'a [(&'static str, MouseEventKind)] {
+        named_variants!(MouseEventKind: Moved ScrollDown ScrollUp ScrollLeft ScrollRight)
     }
 }
