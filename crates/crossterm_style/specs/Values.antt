@@ -1,6 +1,5 @@
 -- How colours are told as JSON, and what JSON reads as them.
-use Rattle.std.specs.Prelude.{◌≡◌, ℕ, zero, suc, ◌+◌, ◌-◌, ◌*◌, ◌<◌, ◌==◌, ◌&&◌, ◌||◌, ◌⊎◌, ⊤, nat_lt, Bool, true, false, List, [], ◌∷◌, ◌++◌, length, map, slice_index, Option, Some, None, MatchResult, codes, if◌then◌else◌}
-use Rattle.std.specs.Borrow.{Bor}
+use Rattle.std.specs.Prelude.{◌≡◌, ℕ, zero, suc, ◌+◌, ◌-◌, ◌*◌, ◌<◌, ◌==◌, ◌&&◌, ◌||◌, ◌⊎◌, ⊤, nat_lt, Bool, true, false, List, [], ◌∷◌, ◌++◌, length, slice_index, Option, Some, None, MatchResult, codes, if◌then◌else◌}
 use Rattle.std.specs.Char.{digit_value}
 use Rattle.std.specs.Fmt.{decimal}
 use Rattle.std.specs.List.{slice_split}
@@ -11,7 +10,7 @@ use Rattle.std.specs.declared.result.Result.{Result}
 use Rattle.serde_json.specs.Data.{Data, string}
 use Rattle.serde_json.specs.Find.{as_str}
 use Rattle.crossterm_flags.specs.Values.{one_member, reads_member, same}
-use Rattle.crossterm_flags.specs.Variants as variants
+use Rattle.crossterm_flags.specs.Variants.{name_in}
 use Rattle.crossterm_flags.specs.declared.value.ValueFault.{ValueFault}
 use Rattle.crossterm_flags.specs.declared.value.ValueFault.TheVariants.{Memory, Shape}
 use Rattle.crossterm_style.specs.ColorNames.{names}
@@ -23,19 +22,15 @@ use Rattle.crossterm_style.specs.declared.types.colored.Colored.TheVariants as c
 
 -- ---- what is told of a colour
 
--- The name of a colour in a table, and nothing where it has none.
-abbrev pub name_in : List (List ℕ × Color) → Color → List ℕ
-name_in = variants.name_in color_eq.ghosts.eq
-
--- a program's table of names, as it stands
-abbrev pub table_of : List (Bor (List ℕ) × Color) → List (List ℕ × Color)
-table_of table = map (λ entry. (entry.0.now, entry.1)) table
+-- The name of a colour that has one.
+abbrev pub color_name : Color → List ℕ
+color_name = name_in color_eq.ghosts.eq names
 
 -- The text of a colour: its place in the palette, its parts, or its name.
 abbrev pub color_text : Color → List ℕ
 color_text (color.AnsiValue n) = codes "ansi_(" ++ (decimal n ++ codes ")")
 color_text (color.Rgb r g b) = codes "rgb_(" ++ (decimal r ++ (codes "," ++ (decimal g ++ (codes "," ++ (decimal b ++ codes ")")))))
-color_text c = name_in names c
+color_text c = color_name c
 
 -- ---- what a text reads as
 

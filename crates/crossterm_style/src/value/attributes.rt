@@ -4,54 +4,24 @@ ghost use Rattle.serde_json.specs.Data.{string};
 ghost use Rattle.serde_json.specs.View.{view};
 ghost use Rattle.crossterm_flags.specs.Values.{Reads, Tells};
 ghost use Rattle.crossterm_flags.specs.Variants.{reads_variant, variant};
-ghost use Rattle.crossterm_style.specs.Attributes.{all_attributes, attributes};
+ghost use Rattle.crossterm_style.specs.Attributes.{attributes};
 
 use crate::Attribute;
-use crossterm_flags::ValueFault;
-use crossterm_flags::value::{Named, read_named, shaped, tell_text};
+use crossterm_flags::value::{Named, read_named, shaped, tell_named};
+use crossterm_flags::{ValueFault, named_variants};
 use serde_json::Value;
 use std::alloc::Global;
 
 impl Named for Attribute {
-    ghost name = { variant attributes };
+    ghost rows = { attributes.rows };
 
-    ghost all = { all_attributes };
-
-    fn name(self) -> &'static str {
-        match self {
-            Attribute::Reset => "Reset",
-            Attribute::Bold => "Bold",
-            Attribute::Dim => "Dim",
-            Attribute::Italic => "Italic",
-            Attribute::Underlined => "Underlined",
-            Attribute::DoubleUnderlined => "DoubleUnderlined",
-            Attribute::Undercurled => "Undercurled",
-            Attribute::Underdotted => "Underdotted",
-            Attribute::Underdashed => "Underdashed",
-            Attribute::SlowBlink => "SlowBlink",
-            Attribute::RapidBlink => "RapidBlink",
-            Attribute::Reverse => "Reverse",
-            Attribute::Hidden => "Hidden",
-            Attribute::CrossedOut => "CrossedOut",
-            Attribute::Fraktur => "Fraktur",
-            Attribute::NoBold => "NoBold",
-            Attribute::NormalIntensity => "NormalIntensity",
-            Attribute::NoItalic => "NoItalic",
-            Attribute::NoUnderline => "NoUnderline",
-            Attribute::NoBlink => "NoBlink",
-            Attribute::NoReverse => "NoReverse",
-            Attribute::NoHidden => "NoHidden",
-            Attribute::NotCrossedOut => "NotCrossedOut",
-            Attribute::Framed => "Framed",
-            Attribute::Encircled => "Encircled",
-            Attribute::OverLined => "OverLined",
-            Attribute::NotFramedOrEncircled => "NotFramedOrEncircled",
-            Attribute::NotOverLined => "NotOverLined",
-        }
-    }
-
-    fn all<'a>() -> &'a [Attribute] {
-        Attribute::all()
+    fn rows<'a>() -> &'a [(&'static str, Attribute)] {
+        named_variants!(Attribute:
+            Reset Bold Dim Italic Underlined DoubleUnderlined Undercurled Underdotted Underdashed
+            SlowBlink RapidBlink Reverse Hidden CrossedOut Fraktur NoBold NormalIntensity NoItalic
+            NoUnderline NoBlink NoReverse NoHidden NotCrossedOut Framed Encircled OverLined
+            NotFramedOrEncircled NotOverLined
+        )
     }
 }
 
@@ -65,7 +35,7 @@ impl Attribute {
         ensures tells { Tells (string (variant attributes self.now)) result }
         ensures back { IfOk result (λ v. reads_variant attributes (view v) ≡ Some self.now) }
     {
-        tell_text(alloc, self.name())
+        tell_named(alloc, *self)
     }
 
     /// The attribute whose variant a JSON text is. It takes no memory.
