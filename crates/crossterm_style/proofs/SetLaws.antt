@@ -13,37 +13,17 @@ use Rattle.crossterm_style.specs.Attributes.{Makes, all_attributes, bit_of, diff
 
 -- ---- two bits
 
-or_bits : (p q : ℕ) → p < 2 → q < 2 → (max p q == 1) ≡ (p == 1 || q == 1)
-or_bits zero zero l m = refl
-or_bits zero (suc zero) l m = refl
-or_bits (suc zero) zero l m = refl
-or_bits (suc zero) (suc zero) l m = refl
-or_bits (suc (suc p)) q l m = absurd (omega (arith, l))
-or_bits p (suc (suc q)) l m = absurd (omega (arith, m))
-
-and_bits : (p q : ℕ) → p < 2 → q < 2 → (min p q == 1) ≡ (p == 1 && q == 1)
-and_bits zero zero l m = refl
-and_bits zero (suc zero) l m = refl
-and_bits (suc zero) zero l m = refl
-and_bits (suc zero) (suc zero) l m = refl
-and_bits (suc (suc p)) q l m = absurd (omega (arith, l))
-and_bits p (suc (suc q)) l m = absurd (omega (arith, m))
-
-xor_bits : (p q : ℕ) → p < 2 → q < 2 → ((p + q) % 2 == 1) ≡ differ (p == 1) (q == 1)
-xor_bits zero zero l m = refl
-xor_bits zero (suc zero) l m = refl
-xor_bits (suc zero) zero l m = refl
-xor_bits (suc zero) (suc zero) l m = refl
-xor_bits (suc (suc p)) q l m = absurd (omega (arith, l))
-xor_bits p (suc (suc q)) l m = absurd (omega (arith, m))
-
-without_bits : (p q : ℕ) → p < 2 → q < 2 → (min p (1 - q) == 1) ≡ (p == 1 && not (q == 1))
-without_bits zero zero l m = refl
-without_bits zero (suc zero) l m = refl
-without_bits (suc zero) zero l m = refl
-without_bits (suc zero) (suc zero) l m = refl
-without_bits (suc (suc p)) q l m = absurd (omega (arith, l))
-without_bits p (suc (suc q)) l m = absurd (omega (arith, m))
+-- What is done to bits is what is done to truths, where it is at each pair of bits.
+module _ (on_bits : ℕ → ℕ → ℕ) (on_truths : Bool → Bool → Bool)
+    (neither : (on_bits 0 0 == 1) ≡ on_truths false false) (second : (on_bits 0 1 == 1) ≡ on_truths false true)
+    (first : (on_bits 1 0 == 1) ≡ on_truths true false) (both : (on_bits 1 1 == 1) ≡ on_truths true true) where
+  two_bits : (p q : ℕ) → p < 2 → q < 2 → (on_bits p q == 1) ≡ on_truths (p == 1) (q == 1)
+  two_bits zero zero l m = neither
+  two_bits zero (suc zero) l m = second
+  two_bits (suc zero) zero l m = first
+  two_bits (suc zero) (suc zero) l m = both
+  two_bits (suc (suc p)) q l m = absurd (omega (arith, l))
+  two_bits p (suc (suc q)) l m = absurd (omega (arith, m))
 
 -- ---- places
 
@@ -59,20 +39,20 @@ same_place a b e = sym (at_place b) ∙ ap (λ n. get_or all_attributes n attrib
 -- ---- sets
 
 pub union : (x y : ℕ) → Makes (λ p q. p || q) x y (bit_or x y)
-union x y a = let i = place_of a + 1 in ap (λ n. n == 1) (bit_at_or x y i) ∙ or_bits (bit_at x i) (bit_at y i) (bit_at-lt x i) (bit_at-lt y i)
+union x y a = let i = place_of a + 1 in ap (λ n. n == 1) (bit_at_or x y i) ∙ two_bits max (λ p q. p || q) refl refl refl refl (bit_at x i) (bit_at y i) (bit_at-lt x i) (bit_at-lt y i)
 
 pub intersection : (x y : ℕ) → Makes (λ p q. p && q) x y (bit_and x y)
-intersection x y a = let i = place_of a + 1 in ap (λ n. n == 1) (bit_at_and x y i) ∙ and_bits (bit_at x i) (bit_at y i) (bit_at-lt x i) (bit_at-lt y i)
+intersection x y a = let i = place_of a + 1 in ap (λ n. n == 1) (bit_at_and x y i) ∙ two_bits min (λ p q. p && q) refl refl refl refl (bit_at x i) (bit_at y i) (bit_at-lt x i) (bit_at-lt y i)
 
 pub symmetric_difference : (x y : ℕ) → Makes differ x y (bit_xor x y)
-symmetric_difference x y a = let i = place_of a + 1 in ap (λ n. n == 1) (bit_at_xor x y i) ∙ xor_bits (bit_at x i) (bit_at y i) (bit_at-lt x i) (bit_at-lt y i)
+symmetric_difference x y a = let i = place_of a + 1 in ap (λ n. n == 1) (bit_at_xor x y i) ∙ two_bits (λ p q. (p + q) % 2) differ refl refl refl refl (bit_at x i) (bit_at y i) (bit_at-lt x i) (bit_at-lt y i)
 
 pub difference : (x y : ℕ) → y < 2 ^ 32 → Makes (λ p q. p && not q) x y (bit_and x (bit_not w32 y))
 difference x y fits a =
     let i = place_of a + 1 in
     let few : i < 32 = omega (arith, place_few a) in
     ap (λ n. n == 1) (bit_at_and x (bit_not w32 y) i ∙ ap (min (bit_at x i)) (bit_at_not w32 y i fits few))
-    ∙ without_bits (bit_at x i) (bit_at y i) (bit_at-lt x i) (bit_at-lt y i)
+    ∙ two_bits (λ p q. min p (1 - q)) (λ p q. p && not q) refl refl refl refl (bit_at x i) (bit_at y i) (bit_at-lt x i) (bit_at-lt y i)
 
 pub itself : (a : Attribute) → has (bit_of a) a ≡ true
 itself a = ap (λ n. n == 1) (bit_at-pow_same (place_of a + 1))

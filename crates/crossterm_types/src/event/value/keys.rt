@@ -1,93 +1,16 @@
 //! JSON values of keys.
 ghost use Rattle.std.specs.Prelude.{◌≡◌, IfOk, Some};
-ghost use Rattle.serde_json.specs.Data.{string};
 ghost use Rattle.serde_json.specs.View.{view};
 ghost use Rattle.crossterm_flags.specs.Values.{Reads, Tells};
 ghost use Rattle.crossterm_types.specs.Values.{FitsCode, FitsKey, code_value, holding_code, key_value, only_char, reads_code, reads_key};
-ghost use Rattle.crossterm_flags.specs.Variants.{reads_variant, variant};
-ghost use Rattle.crossterm_types.specs.Variants.{kinds, media_keys, modifier_keys};
 
-use crate::event::{
-    KeyCode, KeyEvent, KeyEventKind, KeyEventState, KeyModifiers, MediaKeyCode, ModifierKeyCode,
-};
+use crate::event::{KeyCode, KeyEvent, KeyEventState, KeyModifiers};
 use crossterm_flags::ValueFault;
 use crossterm_flags::value::{
     read_byte, read_four, read_member, read_named, shaped, tell_member, tell_named, tell_text,
 };
 use serde_json::{Value, json};
 use std::alloc::Global;
-
-impl KeyEventKind {
-    /// Its variant as a JSON text.
-    ///
-    /// # Errors
-    /// `Memory` where memory for it was refused.
-    #[tactic(auto, using(crate::proofs::ValueLaws::kind_back, crossterm_flags::proofs::ValueLaws::told_back))]
-    pub fn to_value(&self, alloc: Global) -> Result<Value, ValueFault>
-        ensures tells { Tells (string (variant kinds self.now)) result }
-        ensures back { IfOk result (λ v. reads_variant kinds (view v) ≡ Some self.now) }
-    {
-        tell_named(alloc, *self)
-    }
-
-    /// The kind whose variant a JSON text is. It takes no memory.
-    ///
-    /// # Errors
-    /// `Shape` where the JSON is no such text.
-    pub fn from_value(value: &Value) -> Result<KeyEventKind, ValueFault>
-        ensures { Reads (λ x. x) (reads_variant kinds (view value.now)) result }
-    {
-        shaped(read_named(value))
-    }
-}
-
-impl MediaKeyCode {
-    /// Its variant as a JSON text.
-    ///
-    /// # Errors
-    /// `Memory` where memory for it was refused.
-    #[tactic(auto, using(crate::proofs::ValueLaws::media_back, crossterm_flags::proofs::ValueLaws::told_back))]
-    pub fn to_value(&self, alloc: Global) -> Result<Value, ValueFault>
-        ensures tells { Tells (string (variant media_keys self.now)) result }
-        ensures back { IfOk result (λ v. reads_variant media_keys (view v) ≡ Some self.now) }
-    {
-        tell_named(alloc, *self)
-    }
-
-    /// The key whose variant a JSON text is. It takes no memory.
-    ///
-    /// # Errors
-    /// `Shape` where the JSON is no such text.
-    pub fn from_value(value: &Value) -> Result<MediaKeyCode, ValueFault>
-        ensures { Reads (λ x. x) (reads_variant media_keys (view value.now)) result }
-    {
-        shaped(read_named(value))
-    }
-}
-
-impl ModifierKeyCode {
-    /// Its variant as a JSON text.
-    ///
-    /// # Errors
-    /// `Memory` where memory for it was refused.
-    #[tactic(auto, using(crate::proofs::ValueLaws::modifier_back, crossterm_flags::proofs::ValueLaws::told_back))]
-    pub fn to_value(&self, alloc: Global) -> Result<Value, ValueFault>
-        ensures tells { Tells (string (variant modifier_keys self.now)) result }
-        ensures back { IfOk result (λ v. reads_variant modifier_keys (view v) ≡ Some self.now) }
-    {
-        tell_named(alloc, *self)
-    }
-
-    /// The key whose variant a JSON text is. It takes no memory.
-    ///
-    /// # Errors
-    /// `Shape` where the JSON is no such text.
-    pub fn from_value(value: &Value) -> Result<ModifierKeyCode, ValueFault>
-        ensures { Reads (λ x. x) (reads_variant modifier_keys (view value.now)) result }
-    {
-        shaped(read_named(value))
-    }
-}
 
 /// The character of a text that has one.
 #[tactic(auto, using(crate::proofs::ValueLaws::char_back))]

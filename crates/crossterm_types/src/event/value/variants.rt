@@ -1,17 +1,48 @@
-//! The names of variants, by which JSON values tell them.
+//! JSON values of enums whose variants hold nothing, and the names of variants by which others are told.
+ghost use Rattle.std.specs.Prelude.{◌≡◌, IfOk, Some};
+ghost use Rattle.serde_json.specs.Data.{string};
+ghost use Rattle.serde_json.specs.View.{view};
+ghost use Rattle.crossterm_flags.specs.Values.{Reads, Tells};
+ghost use Rattle.crossterm_flags.specs.Variants.{reads_variant, variant};
 ghost use Rattle.crossterm_types.specs.Variants.{buttons, kinds, media_keys, modifier_keys, plain_keys, plain_mouse};
 
 use crate::event::{
     KeyCode, KeyEventKind, MediaKeyCode, ModifierKeyCode, MouseButton, MouseEventKind,
 };
-use crossterm_flags::named_variants;
-use crossterm_flags::value::Named;
+use crossterm_flags::value::{Named, read_named, shaped, tell_named};
+use crossterm_flags::{ValueFault, named_variants};
+use serde_json::Value;
+use std::alloc::Global;
 
 impl Named for KeyEventKind {
     ghost rows = { kinds.rows };
 
     fn rows<'a>() -> &'a [(&'static str, KeyEventKind)] {
         named_variants!(KeyEventKind: Press Repeat Release)
+    }
+}
+
+impl KeyEventKind {
+    /// Its variant as a JSON text.
+    ///
+    /// # Errors
+    /// `Memory` where memory for it was refused.
+    #[tactic(auto, using(crate::proofs::ValueLaws::kind_back, crossterm_flags::proofs::ValueLaws::told_back))]
+    pub fn to_value(&self, alloc: Global) -> Result<Value, ValueFault>
+        ensures tells { Tells (string (variant kinds self.now)) result }
+        ensures back { IfOk result (λ v. reads_variant kinds (view v) ≡ Some self.now) }
+    {
+        tell_named(alloc, *self)
+    }
+
+    /// The kind whose variant a JSON text is. It takes no memory.
+    ///
+    /// # Errors
+    /// `Shape` where the JSON is no such text.
+    pub fn from_value(value: &Value) -> Result<KeyEventKind, ValueFault>
+        ensures { Reads (λ x. x) (reads_variant kinds (view value.now)) result }
+    {
+        shaped(read_named(value))
     }
 }
 
@@ -26,6 +57,30 @@ impl Named for MediaKeyCode {
     }
 }
 
+impl MediaKeyCode {
+    /// Its variant as a JSON text.
+    ///
+    /// # Errors
+    /// `Memory` where memory for it was refused.
+    #[tactic(auto, using(crate::proofs::ValueLaws::media_back, crossterm_flags::proofs::ValueLaws::told_back))]
+    pub fn to_value(&self, alloc: Global) -> Result<Value, ValueFault>
+        ensures tells { Tells (string (variant media_keys self.now)) result }
+        ensures back { IfOk result (λ v. reads_variant media_keys (view v) ≡ Some self.now) }
+    {
+        tell_named(alloc, *self)
+    }
+
+    /// The key whose variant a JSON text is. It takes no memory.
+    ///
+    /// # Errors
+    /// `Shape` where the JSON is no such text.
+    pub fn from_value(value: &Value) -> Result<MediaKeyCode, ValueFault>
+        ensures { Reads (λ x. x) (reads_variant media_keys (view value.now)) result }
+    {
+        shaped(read_named(value))
+    }
+}
+
 impl Named for ModifierKeyCode {
     ghost rows = { modifier_keys.rows };
 
@@ -37,11 +92,59 @@ impl Named for ModifierKeyCode {
     }
 }
 
+impl ModifierKeyCode {
+    /// Its variant as a JSON text.
+    ///
+    /// # Errors
+    /// `Memory` where memory for it was refused.
+    #[tactic(auto, using(crate::proofs::ValueLaws::modifier_back, crossterm_flags::proofs::ValueLaws::told_back))]
+    pub fn to_value(&self, alloc: Global) -> Result<Value, ValueFault>
+        ensures tells { Tells (string (variant modifier_keys self.now)) result }
+        ensures back { IfOk result (λ v. reads_variant modifier_keys (view v) ≡ Some self.now) }
+    {
+        tell_named(alloc, *self)
+    }
+
+    /// The key whose variant a JSON text is. It takes no memory.
+    ///
+    /// # Errors
+    /// `Shape` where the JSON is no such text.
+    pub fn from_value(value: &Value) -> Result<ModifierKeyCode, ValueFault>
+        ensures { Reads (λ x. x) (reads_variant modifier_keys (view value.now)) result }
+    {
+        shaped(read_named(value))
+    }
+}
+
 impl Named for MouseButton {
     ghost rows = { buttons.rows };
 
     fn rows<'a>() -> &'a [(&'static str, MouseButton)] {
         named_variants!(MouseButton: Left Right Middle)
+    }
+}
+
+impl MouseButton {
+    /// Its variant as a JSON text.
+    ///
+    /// # Errors
+    /// `Memory` where memory for it was refused.
+    #[tactic(auto, using(crate::proofs::ValueLaws::button_back, crossterm_flags::proofs::ValueLaws::told_back))]
+    pub fn to_value(&self, alloc: Global) -> Result<Value, ValueFault>
+        ensures tells { Tells (string (variant buttons self.now)) result }
+        ensures back { IfOk result (λ v. reads_variant buttons (view v) ≡ Some self.now) }
+    {
+        tell_named(alloc, *self)
+    }
+
+    /// The button whose variant a JSON text is. It takes no memory.
+    ///
+    /// # Errors
+    /// `Shape` where the JSON is no such text.
+    pub fn from_value(value: &Value) -> Result<MouseButton, ValueFault>
+        ensures { Reads (λ x. x) (reads_variant buttons (view value.now)) result }
+    {
+        shaped(read_named(value))
     }
 }
 
