@@ -42,6 +42,14 @@ pub trait Named: Copy + PartialEq {
         ensures { rows_of result.now ≡ rows };
 }
 
+/// Some variants of an enum.
+#[macro_export]
+macro_rules! variants {
+    ($enum:ident: $($variant:ident)*) => {
+        [$($enum::$variant),*]
+    };
+}
+
 /// Some variants of an enum with their names, which are their identifiers.
 #[macro_export]
 macro_rules! named_variants {

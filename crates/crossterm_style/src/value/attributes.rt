@@ -7,23 +7,10 @@ ghost use Rattle.crossterm_flags.specs.Variants.{reads_variant, variant};
 ghost use Rattle.crossterm_style.specs.Attributes.{attributes};
 
 use crate::Attribute;
-use crossterm_flags::value::{Named, read_named, shaped, tell_named};
-use crossterm_flags::{ValueFault, named_variants};
+use crossterm_flags::ValueFault;
+use crossterm_flags::value::{read_named, shaped, tell_named};
 use serde_json::Value;
 use std::alloc::Global;
-
-impl Named for Attribute {
-    ghost rows = { attributes.rows };
-
-    fn rows<'a>() -> &'a [(&'static str, Attribute)] {
-        named_variants!(Attribute:
-            Reset Bold Dim Italic Underlined DoubleUnderlined Undercurled Underdotted Underdashed
-            SlowBlink RapidBlink Reverse Hidden CrossedOut Fraktur NoBold NormalIntensity NoItalic
-            NoUnderline NoBlink NoReverse NoHidden NotCrossedOut Framed Encircled OverLined
-            NotFramedOrEncircled NotOverLined
-        )
-    }
-}
 
 impl Attribute {
     /// Its variant as a JSON text.
