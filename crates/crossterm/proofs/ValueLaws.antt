@@ -1,14 +1,10 @@
 -- What is cleared and is told is read back.
-use Rattle.std.proofs.Common.{◌≡◌, Some, refl}
-use Rattle.crossterm_flags.specs.Values.{first_named}
-use Rattle.crossterm.specs.Values.{all_clears, clear_variant}
+use Rattle.std.proofs.Common.{◌≡◌, Some, rules}
+use Rattle.crossterm_flags.proofs.Ranks.{of_each}
+use Rattle.crossterm_flags.specs.Variants.{value_in, variant}
+use Rattle.crossterm.specs.Values.{clears}
+use Rattle.crossterm.specs.contracts.terminal.ClearType as clear_enum
 use Rattle.crossterm.specs.declared.terminal.ClearType.{ClearType}
-use Rattle.crossterm.specs.declared.terminal.ClearType.TheVariants as clear
 
-pub clear_back : (c : ClearType) → first_named clear_variant all_clears (clear_variant c) ≡ Some c
-clear_back clear.All = refl
-clear_back clear.Purge = refl
-clear_back clear.FromCursorDown = refl
-clear_back clear.FromCursorUp = refl
-clear_back clear.CurrentLine = refl
-clear_back clear.UntilNewLine = refl
+pub clear_back : (c : ClearType) → value_in clears.rows (variant clears c) ≡ Some c
+clear_back = of_each clear_enum.enum _ (search rules)

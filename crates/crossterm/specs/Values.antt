@@ -1,17 +1,14 @@
--- How what is cleared is told as JSON: by its variant.
-use Rattle.std.specs.Prelude.{ℕ, List, [], ◌∷◌, codes}
+-- What is cleared, by its variants: JSON values tell it by their names, and it is ordered by their ranks.
+use Rattle.std.specs.Prelude.{[], ◌∷◌, codes}
+use Rattle.crossterm_flags.specs.Variants.{Variants}
+use Rattle.crossterm.specs.contracts.terminal.ClearTypePartialEq.TheImpl as clear_eq
 use Rattle.crossterm.specs.declared.terminal.ClearType.{ClearType}
 use Rattle.crossterm.specs.declared.terminal.ClearType.TheVariants as clear
 
--- The variant of what is cleared.
-abbrev pub clear_variant : ClearType → List ℕ
-clear_variant clear.All = codes "All"
-clear_variant clear.Purge = codes "Purge"
-clear_variant clear.FromCursorDown = codes "FromCursorDown"
-clear_variant clear.FromCursorUp = codes "FromCursorUp"
-clear_variant clear.CurrentLine = codes "CurrentLine"
-clear_variant clear.UntilNewLine = codes "UntilNewLine"
-
--- All of them, in declared order.
-abbrev pub all_clears : List ClearType
-all_clears = clear.All ∷ clear.Purge ∷ clear.FromCursorDown ∷ clear.FromCursorUp ∷ clear.CurrentLine ∷ clear.UntilNewLine ∷ []
+abbrev pub clears : Variants ClearType
+clears = record {
+  eq = clear_eq.ghosts.eq;
+  rows =
+      (codes "All", clear.All) ∷ (codes "Purge", clear.Purge) ∷ (codes "FromCursorDown", clear.FromCursorDown) ∷ (codes "FromCursorUp", clear.FromCursorUp) ∷
+      (codes "CurrentLine", clear.CurrentLine) ∷ (codes "UntilNewLine", clear.UntilNewLine) ∷ [];
+}

@@ -1,7 +1,8 @@
 //! What holds of commands, whatever they are made of.
 ghost use Rattle.crossterm_flags.specs.Orders.{ComparesBy};
+ghost use Rattle.crossterm_flags.specs.Variants.{rank_order};
 ghost use Rattle.crossterm.specs.Clipboard.{CopiesRead, ReadsBack, ReadsSame, WritesBack};
-ghost use Rattle.crossterm.specs.Ranks.{clear_order};
+ghost use Rattle.crossterm.specs.Values.{clears};
 
 use crate::terminal::ClearType;
 use std::cmp::{Ord, PartialOrd};
@@ -21,5 +22,5 @@ pub fn copies_read()
 
 /// The declared order of `ClearType`: its variants in the order of their ranks.
 pub fn declared_order()
-    ensures { ComparesBy clear_order ⟦<ClearType as Ord>⟧.cmp ⟦<ClearType as PartialOrd>⟧.partial_cmp }
+    ensures { ComparesBy (rank_order clears) ⟦<ClearType as Ord>⟧.cmp ⟦<ClearType as PartialOrd>⟧.partial_cmp }
 {}

@@ -1,5 +1,5 @@
 -- The order of an enum's values: by the ranks of their variants, and of one variant by what it holds.
-use Rattle.std.proofs.Common.{◌≡◌, ℕ, suc, ◌<◌, ◌≤◌, List, [], ◌∷◌, Option, Some, refl, sym, ap, ◌∙◌, arith}
+use Rattle.std.proofs.Common.{◌≡◌, ℕ, suc, ◌<◌, ◌≤◌, List, [], ◌∷◌, Option, Some, refl, sym, ap, subst, ◌∙◌, arith}
 use mathlib.Core.Logic.{inl, inr}
 use denote.Struct.Field.{Field}
 use denote.Struct.Values.{Values}
@@ -66,6 +66,19 @@ then_nothing Greater = refl
 pub in_rank_order : (N : Record) (each : Each Ordering N.parts) (rank : N.D → ℕ) → Ranks N each rank (λ a b. Equal)
     → (a b : N.D) → by Less Greater N.parts each (N.as_values a) (N.as_values b) ≡ on rank nat_cmp a b
 in_rank_order N each rank ranked a b = in_order N each rank (λ a b. Equal) ranked a b ∙ then_nothing (nat_cmp (rank a) (rank b))
+
+-- What holds at each variant holds of each value of an enum.
+abbrev pub AtEach : (Fss : List (List Field)) → (Choice Fss → Type 0) → Type 0
+AtEach [] P = Unit {0}
+AtEach (Fs ∷ Fss) P = ((x : Values Fs) → P (inl x)) × AtEach Fss (λ c. P (inr c))
+
+each_choice : (Fss : List (List Field)) (P : Choice Fss → Type 0) → AtEach Fss P → (c : Choice Fss) → P c
+each_choice [] P all c = absurd c
+each_choice (Fs ∷ Fss) P all (inl x) = all.0 x
+each_choice (Fs ∷ Fss) P all (inr c) = each_choice Fss (λ c. P (inr c)) all.1 c
+
+pub of_each : (N : Record) (P : N.D → Type 0) → AtEach N.parts (λ c. P (N.make c)) → (x : N.D) → P x
+of_each N P all x = subst P (N.eta x) (each_choice N.parts (λ c. P (N.make c)) all (N.as_values x))
 
 -- Where a type's comparisons agree and one goes by an order, both do.
 pub compares : {T : Type 0} {order cmp : T → T → Ordering} {partial : T → T → Option Ordering} → Agrees partial cmp → ((a b : T) → cmp a b ≡ order a b)

@@ -3,3 +3,4 @@ pub mod Names
 pub mod Orders
 pub mod Tables
 pub mod Values
+pub mod Variants

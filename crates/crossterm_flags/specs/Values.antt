@@ -1,10 +1,10 @@
 -- How values are told as JSON, and what parts of JSON read as. An object's members stand in the order of their names.
-use Rattle.std.specs.Prelude.{◌≡◌, ℕ, ◌&&◌, nat_eq, nat_lt, Bool, List, [], ◌∷◌, Option, Some, None, MatchResult, if◌then◌else◌}
+use Rattle.std.specs.Prelude.{◌≡◌, ℕ, ◌&&◌, nat_eq, nat_lt, Bool, List, Option, Some, None, MatchResult, if◌then◌else◌}
 use Rattle.std.specs.Cmp.Lexicographic.{pointwise}
 use Rattle.std.specs.Option.{option_and_then}
 use Rattle.std.specs.declared.result.Result.{Result}
-use Rattle.serde_json.specs.Data.{Data, Items, Members, string, number, unsigned, object, member, no_members, item, no_items}
-use Rattle.serde_json.specs.Find.{as_number, as_object, as_str, as_u64, as_array}
+use Rattle.serde_json.specs.Data.{Data, Items, Members, number, unsigned, object, member, no_members, item, no_items}
+use Rattle.serde_json.specs.Find.{as_number, as_object, as_u64, as_array}
 use Rattle.serde_json.specs.View.{view}
 use Rattle.serde_json.specs.declared.value.Value.{Value}
 use Rattle.crossterm_flags.specs.declared.value.ValueFault.{ValueFault}
@@ -36,15 +36,6 @@ below limit n = if nat_lt n limit then Some n else None
 
 abbrev pub reads_below : ℕ → Data → Option ℕ
 reads_below limit d = option_and_then (below limit) (option_and_then as_u64 (as_number d))
-
--- The first of some values whose name is a text.
-abbrev pub first_named : {X : Type 0} → (X → List ℕ) → List X → List ℕ → Option X
-first_named name [] text = None
-first_named name (x ∷ xs) text = if same (name x) text then Some x else first_named name xs text
-
--- A text that is a name of one of some values.
-abbrev pub reads_named : {X : Type 0} → (X → List ℕ) → List X → Data → Option X
-reads_named name all d = option_and_then (first_named name all) (as_str d)
 
 -- The member of an object that has one: its name and what stands there.
 abbrev pub alone : Members → Option (List ℕ × Data)

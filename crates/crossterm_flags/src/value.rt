@@ -3,7 +3,8 @@ ghost use Rattle.std.specs.Prelude.{◌≡◌, ⊤, ℕ, List, MatchResult};
 ghost use Rattle.std.specs.Option.{option_map, option_and_then};
 ghost use Rattle.serde_json.specs.Data.{string};
 ghost use Rattle.serde_json.specs.View.{view};
-ghost use Rattle.crossterm_flags.specs.Values.{Reads, Tells, below, first_named, number_value, one_member, reads_below, reads_four, reads_member, reads_named, reads_two};
+ghost use Rattle.crossterm_flags.specs.Values.{Reads, Tells, below, number_value, one_member, reads_below, reads_four, reads_member, reads_two};
+ghost use Rattle.crossterm_flags.specs.Variants.{name_in, reads_named, rows_of, value_in};
 ghost use Rattle.crossterm_flags.specs.declared.value.ValueFault.TheVariants.{Memory, Shape};
 
 mod flags;
@@ -31,29 +32,50 @@ impl From<AllocError> for ValueFault {
     }
 }
 
-/// A type whose values have names.
-pub trait Named: Copy {
-    // The name of a value.
-    ghost name: { Self → List ℕ };
+/// A type of whose values a name alone tells some or all.
+pub trait Named: Copy + PartialEq {
+    // Those values with their names, in declared order.
+    ghost rows: { List (List ℕ × Self) };
 
-    // The values that a name alone tells.
-    ghost all: { List Self };
+    /// Those values with their names, in declared order.
+    fn rows<'a>() -> &'a [(&'static str, Self)]
+        ensures { rows_of result.now ≡ rows };
+}
 
-    /// The name.
-    fn name(self) -> &'static str
-        ensures { result.now ≡ name self };
+/// Some variants of an enum.
+#[macro_export]
+macro_rules! variants {
+    ($enum:ident: $($variant:ident)*) => {
+        [$($enum::$variant),*]
+    };
+}
 
-    /// The values that a name alone tells, in declared order.
-    fn all<'a>() -> &'a [Self]
-        ensures { result.now ≡ all };
+/// Some variants of an enum with their names, which are their identifiers.
+#[macro_export]
+macro_rules! named_variants {
+    ($enum:ident: $($variant:ident)*) => {
+        &[$((stringify!($variant), $enum::$variant)),*]
+    };
+}
+
+/// The name of a value in a table, and nothing where it has none.
+pub fn name_in<'a, T: Copy + PartialEq>(table: &[(&'a str, T)], value: T) -> &'a str
+    ensures { result.now ≡ name_in ⟦<T as PartialEq>⟧.eq (rows_of table.now) value }
+{
+    for (name, named) in table {
+        if *named == value {
+            return name;
+        }
+    }
+    ""
 }
 
 /// The value of a name, if one has it.
-pub fn value_named<T: Named>(text: &str) -> Option<T>
-    ensures { result ≡ first_named T.name T.all text.now }
+fn value_named<T: Named>(text: &str) -> Option<T>
+    ensures { result ≡ value_in T.rows text.now }
 {
-    for value in T::all() {
-        if value.name() == text {
+    for (name, value) in T::rows() {
+        if *name == text {
             return Some(*value);
         }
     }
@@ -62,12 +84,19 @@ pub fn value_named<T: Named>(text: &str) -> Option<T>
 
 /// The value whose name a JSON text is.
 pub fn read_named<T: Named>(value: &Value) -> Option<T>
-    ensures { result ≡ reads_named T.name T.all (view value.now) }
+    ensures { result ≡ reads_named T.rows (view value.now) }
 {
     match value.as_str() {
         Some(text) => value_named(text),
         None => None,
     }
+}
+
+/// The name of a value as JSON.
+pub fn tell_named<T: Named>(alloc: Global, value: T) -> Result<Value, ValueFault>
+    ensures { Tells (string (name_in ⟦<T as PartialEq>⟧.eq T.rows value)) result }
+{
+    tell_text(alloc, name_in(T::rows(), value))
 }
 
 /// A text as JSON.

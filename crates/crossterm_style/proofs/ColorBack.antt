@@ -7,8 +7,7 @@ use Rattle.std.specs.List.{AllByRecursion, slice_split}
 use Rattle.std.specs.Option.{option_map}
 use Rattle.std.specs.Prelude.{if◌then◌else◌}
 use Rattle.std.proofs.lemmas.Bool.Decides.{nat_tests}
-use Rattle.crossterm_style.specs.ColorNames.{names}
-use Rattle.crossterm_style.specs.Values.{FitsColor, FitsPlace, byte_of, color_text, colored_value, fields_rgb, holds, name_in, read_color, reads_colored, rgb_of, unmarked, without}
+use Rattle.crossterm_style.specs.Values.{FitsColor, FitsPlace, byte_of, color_name, color_text, colored_value, fields_rgb, holds, read_color, reads_colored, rgb_of, unmarked, without}
 use Rattle.crossterm_style.specs.declared.types.color.Color.{Color}
 use Rattle.crossterm_style.specs.declared.types.color.Color.TheVariants as color
 use Rattle.crossterm_style.specs.declared.types.colored.Colored.{Colored}
@@ -17,7 +16,7 @@ use Rattle.crossterm_style.proofs.MarkLaws.{byte_back}
 use Rattle.crossterm_style.proofs.TextLaws.{IsDigit, byte_digits, byte_reads}
 
 -- A colour that is no number is told by its name.
-pub named_told : (c : Color) → ((n : ℕ) → c ≡ color.AnsiValue n → ⊥) → ((r g b : ℕ) → c ≡ color.Rgb r g b → ⊥) → color_text c ≡ name_in names c
+pub named_told : (c : Color) → ((n : ℕ) → c ≡ color.AnsiValue n → ⊥) → ((r g b : ℕ) → c ≡ color.Rgb r g b → ⊥) → color_text c ≡ color_name c
 named_told (color.AnsiValue n) f g = absurd (f n refl)
 named_told (color.Rgb r g b) f h = absurd (h r g b refl)
 named_told _ f g = refl

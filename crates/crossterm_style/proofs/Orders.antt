@@ -1,9 +1,10 @@
 -- The derived comparisons are the declared orders.
 use Rattle.std.proofs.Common.{◌≡◌, rules}
 use Rattle.crossterm_flags.proofs.Ranks.{in_order, in_rank_order}
-use Rattle.crossterm_style.specs.Attributes.{place_of}
-use Rattle.crossterm_style.specs.Ranks.{attribute_order, color_holds, color_order, color_rank, colored_holds, colored_order, colored_rank}
-use Rattle.crossterm_style.specs.contracts.types.attribute.Attribute as attributes
+use Rattle.crossterm_flags.specs.Variants.{rank_order}
+use Rattle.crossterm_style.specs.Attributes.{attributes, place_of}
+use Rattle.crossterm_style.specs.Ranks.{color_holds, color_order, color_rank, colored_holds, colored_order, colored_rank}
+use Rattle.crossterm_style.specs.contracts.types.attribute.Attribute as attribute_enum
 use Rattle.crossterm_style.specs.contracts.types.attribute.AttributeOrd.TheImpl as attribute
 use Rattle.crossterm_style.specs.contracts.types.color.Color as colors
 use Rattle.crossterm_style.specs.contracts.types.color.ColorOrd.TheImpl as color
@@ -13,8 +14,8 @@ use Rattle.crossterm_style.specs.declared.types.attribute.Attribute.{Attribute}
 use Rattle.crossterm_style.specs.declared.types.color.Color.{Color}
 use Rattle.crossterm_style.specs.declared.types.colored.Colored.{Colored}
 
-pub attributes_ordered : (a b : Attribute) → attribute.ghosts.cmp a b ≡ attribute_order a b
-attributes_ordered = in_rank_order attributes.enum _ place_of (search rules)
+pub attributes_ordered : (a b : Attribute) → attribute.ghosts.cmp a b ≡ rank_order attributes a b
+attributes_ordered = in_rank_order attribute_enum.enum _ place_of (search rules)
 
 pub colors_ordered : (a b : Color) → color.ghosts.cmp a b ≡ color_order a b
 colors_ordered = in_order colors.enum _ color_rank color_holds (search rules)

@@ -120,3 +120,6 @@ unfolding members
 underline_color_stays =
     let acts : List Act = (styled_acts (record no_style { underline_color = Some color.Green }) (codes "x") ++ (Prints (codes "y") ∷ [])) in
     let fits : AllByRecursion FitsAct acts = (omega arith, (tt, (tt, (tt, tt)))) in ((acts_show Enabled acts plain fits).0, refl)
+
+-- What is said of some looks.
+pub ruleset said = (palette_has_names, disabled_makes_plain, reset_comes_first, one_underline, underline_color_stays)

@@ -1,40 +1,21 @@
--- The declared orders of colours and attributes: the rank of each variant, and of two values of one variant the order of what they hold.
-use Rattle.std.specs.Prelude.{ℕ}
+-- The declared orders of colours: the rank of each variant, and of two values of one variant the order of what they hold.
+use Rattle.std.specs.Prelude.{ℕ, map}
 use Rattle.std.specs.Ordering.{nat_cmp, on, ordering_then, then_cmp}
 use Rattle.std.specs.declared.cmp.Ordering.{Ordering}
 use Rattle.std.specs.declared.cmp.Ordering.TheVariants.{Equal}
-use Rattle.crossterm_style.specs.Attributes.{place_of}
-use Rattle.crossterm_style.specs.declared.types.attribute.Attribute.{Attribute}
+use Rattle.crossterm_flags.specs.Variants.{place_in}
+use Rattle.crossterm_style.specs.ColorNames.{names}
+use Rattle.crossterm_style.specs.contracts.types.color.ColorPartialEq.TheImpl as color_eq
 use Rattle.crossterm_style.specs.declared.types.color.Color.{Color}
 use Rattle.crossterm_style.specs.declared.types.color.Color.TheVariants as color
 use Rattle.crossterm_style.specs.declared.types.colored.Colored.{Colored}
 use Rattle.crossterm_style.specs.declared.types.colored.Colored.TheVariants as colored
 
--- The order of attributes: that of their places.
-abbrev pub attribute_order : Attribute → Attribute → Ordering
-attribute_order = on place_of nat_cmp
-
--- The ranks of colours.
+-- The ranks of colours: the sixteen of the palette by their names, and the terminal's own before them.
 abbrev pub color_rank : Color → ℕ
-color_rank color.Reset = 0
-color_rank color.Black = 1
-color_rank color.DarkGrey = 2
-color_rank color.Red = 3
-color_rank color.DarkRed = 4
-color_rank color.Green = 5
-color_rank color.DarkGreen = 6
-color_rank color.Yellow = 7
-color_rank color.DarkYellow = 8
-color_rank color.Blue = 9
-color_rank color.DarkBlue = 10
-color_rank color.Magenta = 11
-color_rank color.DarkMagenta = 12
-color_rank color.Cyan = 13
-color_rank color.DarkCyan = 14
-color_rank color.White = 15
-color_rank color.Grey = 16
 color_rank (color.Rgb r g b) = 17
 color_rank (color.AnsiValue place) = 18
+color_rank named = place_in color_eq.ghosts.eq (map (λ row. row.1) names) named
 
 -- Of two colours of one rank: by red, green and blue, or by the place in the palette.
 abbrev pub color_holds : Color → Color → Ordering

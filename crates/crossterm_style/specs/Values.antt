@@ -1,6 +1,5 @@
--- How colours and attributes are told as JSON, and what JSON reads as them.
-use Rattle.std.specs.Prelude.{◌≡◌, ℕ, zero, suc, ◌+◌, ◌-◌, ◌*◌, ◌<◌, ◌==◌, ◌&&◌, ◌||◌, ◌⊎◌, ⊤, nat_lt, Bool, true, false, List, [], ◌∷◌, ◌++◌, length, map, slice_index, Option, Some, None, MatchResult, codes, if◌then◌else◌}
-use Rattle.std.specs.Borrow.{Bor}
+-- How colours are told as JSON, and what JSON reads as them.
+use Rattle.std.specs.Prelude.{◌≡◌, ℕ, zero, suc, ◌+◌, ◌-◌, ◌*◌, ◌<◌, ◌==◌, ◌&&◌, ◌||◌, ◌⊎◌, ⊤, nat_lt, Bool, true, false, List, [], ◌∷◌, ◌++◌, length, slice_index, Option, Some, None, MatchResult, codes, if◌then◌else◌}
 use Rattle.std.specs.Char.{digit_value}
 use Rattle.std.specs.Fmt.{decimal}
 use Rattle.std.specs.List.{slice_split}
@@ -11,66 +10,27 @@ use Rattle.std.specs.declared.result.Result.{Result}
 use Rattle.serde_json.specs.Data.{Data, string}
 use Rattle.serde_json.specs.Find.{as_str}
 use Rattle.crossterm_flags.specs.Values.{one_member, reads_member, same}
+use Rattle.crossterm_flags.specs.Variants.{name_in}
 use Rattle.crossterm_flags.specs.declared.value.ValueFault.{ValueFault}
 use Rattle.crossterm_flags.specs.declared.value.ValueFault.TheVariants.{Memory, Shape}
 use Rattle.crossterm_style.specs.ColorNames.{names}
 use Rattle.crossterm_style.specs.contracts.types.color.ColorPartialEq.TheImpl as color_eq
-use Rattle.crossterm_style.specs.declared.types.attribute.Attribute.{Attribute}
-use Rattle.crossterm_style.specs.declared.types.attribute.Attribute.TheVariants as attribute
 use Rattle.crossterm_style.specs.declared.types.color.Color.{Color}
 use Rattle.crossterm_style.specs.declared.types.color.Color.TheVariants as color
 use Rattle.crossterm_style.specs.declared.types.colored.Colored.{Colored}
 use Rattle.crossterm_style.specs.declared.types.colored.Colored.TheVariants as colored
 
--- ---- attributes
-
--- The variant of an attribute.
-abbrev pub attribute_variant : Attribute → List ℕ
-attribute_variant attribute.Reset = codes "Reset"
-attribute_variant attribute.Bold = codes "Bold"
-attribute_variant attribute.Dim = codes "Dim"
-attribute_variant attribute.Italic = codes "Italic"
-attribute_variant attribute.Underlined = codes "Underlined"
-attribute_variant attribute.DoubleUnderlined = codes "DoubleUnderlined"
-attribute_variant attribute.Undercurled = codes "Undercurled"
-attribute_variant attribute.Underdotted = codes "Underdotted"
-attribute_variant attribute.Underdashed = codes "Underdashed"
-attribute_variant attribute.SlowBlink = codes "SlowBlink"
-attribute_variant attribute.RapidBlink = codes "RapidBlink"
-attribute_variant attribute.Reverse = codes "Reverse"
-attribute_variant attribute.Hidden = codes "Hidden"
-attribute_variant attribute.CrossedOut = codes "CrossedOut"
-attribute_variant attribute.Fraktur = codes "Fraktur"
-attribute_variant attribute.NoBold = codes "NoBold"
-attribute_variant attribute.NormalIntensity = codes "NormalIntensity"
-attribute_variant attribute.NoItalic = codes "NoItalic"
-attribute_variant attribute.NoUnderline = codes "NoUnderline"
-attribute_variant attribute.NoBlink = codes "NoBlink"
-attribute_variant attribute.NoReverse = codes "NoReverse"
-attribute_variant attribute.NoHidden = codes "NoHidden"
-attribute_variant attribute.NotCrossedOut = codes "NotCrossedOut"
-attribute_variant attribute.Framed = codes "Framed"
-attribute_variant attribute.Encircled = codes "Encircled"
-attribute_variant attribute.OverLined = codes "OverLined"
-attribute_variant attribute.NotFramedOrEncircled = codes "NotFramedOrEncircled"
-attribute_variant attribute.NotOverLined = codes "NotOverLined"
-
 -- ---- what is told of a colour
 
--- The name of a colour in a table, and nothing where it has none.
-abbrev pub name_in : List (List ℕ × Color) → Color → List ℕ
-name_in [] c = []
-name_in (e ∷ es) c = if color_eq.ghosts.eq e.1 c then e.0 else name_in es c
-
--- a program's table of names, as it stands
-abbrev pub table_of : List (Bor (List ℕ) × Color) → List (List ℕ × Color)
-table_of table = map (λ entry. (entry.0.now, entry.1)) table
+-- The name of a colour that has one.
+abbrev pub color_name : Color → List ℕ
+color_name = name_in color_eq.ghosts.eq names
 
 -- The text of a colour: its place in the palette, its parts, or its name.
 abbrev pub color_text : Color → List ℕ
 color_text (color.AnsiValue n) = codes "ansi_(" ++ (decimal n ++ codes ")")
 color_text (color.Rgb r g b) = codes "rgb_(" ++ (decimal r ++ (codes "," ++ (decimal g ++ (codes "," ++ (decimal b ++ codes ")")))))
-color_text c = name_in names c
+color_text c = color_name c
 
 -- ---- what a text reads as
 

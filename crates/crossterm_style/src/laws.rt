@@ -4,19 +4,21 @@ ghost use Rattle.std.specs.Int.{bit_not, w32};
 ghost use Rattle.std.specs.Int.RustNames.{bit_and, bit_or, bit_xor};
 ghost use Rattle.std.specs.List.{AllByRecursion, Contains};
 ghost use Rattle.crossterm_flags.specs.Orders.{ComparesBy};
+ghost use Rattle.crossterm_flags.specs.Variants.{rank_order};
 ghost use Rattle.crossterm_style.specs.Acts.{style_acts};
 ghost use Rattle.crossterm_style.specs.Appearance.{ActsShow, ColorsShow, DisabledMakesPlain, FitsAct, FitsThere, OneUnderline, PaletteHasNames, ResetComesFirst, StyledEndsPlain, UnderlineColorStays, colors_acts};
-ghost use Rattle.crossterm_style.specs.Attributes.{Makes, bit_of, differ, has, of_list};
+ghost use Rattle.crossterm_style.specs.Attributes.{Makes, attributes, bit_of, differ, has, of_list};
 ghost use Rattle.crossterm_style.specs.declared.types.attribute.Attribute.{Attribute};
 ghost use Rattle.crossterm_style.specs.Colors.{FitsColored, LaterIsAssociative, LaterWins, NoColorsAreNeutral};
 ghost use Rattle.crossterm_style.specs.Fields.{OneColor, OneColored, TextIsReadBack};
-ghost use Rattle.crossterm_style.specs.Ranks.{attribute_order, color_order, colored_order};
+ghost use Rattle.crossterm_style.specs.Ranks.{color_order, colored_order};
 
 use crate::{Attribute, Attributes, Color, Colored, Colors, ContentStyle};
 use std::cmp::{Ord, PartialOrd};
 
 /// `Attributes` is a set: `with`, `set`, `extend` and `|` make the union, `without` and `unset` the difference, `&` the intersection,
 /// `toggle` and `^` the symmetric difference; a set of one attribute has that one alone, that of a list exactly the list's, and the empty set none.
+#[tactic(auto, using(crate::proofs::SetLaws::said, crate::proofs::SetMembers::listed))]
 pub fn sets()
     ensures union { (x y : ℕ) → Makes (λ p q. p || q) x y (bit_or x y) }
     ensures intersection { (x y : ℕ) → Makes (λ p q. p && q) x y (bit_and x y) }
@@ -46,6 +48,7 @@ pub fn colors_then()
 
 /// What `parse_ansi` answers is settled by the text, and at the text of a colour it is that colour, `AnsiValue(0)` to `AnsiValue(15)` by
 /// their names.
+#[tactic(auto, using(crate::proofs::ReadingLaws::one_colored, crate::proofs::TextLaws::text_is_read_back))]
 pub fn colors_read()
     ensures color { OneColor }
     ensures colored { OneColored }
@@ -54,7 +57,7 @@ pub fn colors_read()
 
 /// The declared orders of attributes and colours: variants in the order of their ranks, and two of one variant by what they hold.
 pub fn declared_orders()
-    ensures attributes { ComparesBy attribute_order ⟦<Attribute as Ord>⟧.cmp ⟦<Attribute as PartialOrd>⟧.partial_cmp }
+    ensures attributes { ComparesBy (rank_order attributes) ⟦<Attribute as Ord>⟧.cmp ⟦<Attribute as PartialOrd>⟧.partial_cmp }
     ensures colors { ComparesBy color_order ⟦<Color as Ord>⟧.cmp ⟦<Color as PartialOrd>⟧.partial_cmp }
     ensures colored { ComparesBy colored_order ⟦<Colored as Ord>⟧.cmp ⟦<Colored as PartialOrd>⟧.partial_cmp }
 {}
@@ -67,12 +70,14 @@ pub fn looks()
 
 /// With colours, a content in its style leaves the plain style plain exactly where it has an attribute, or no colour of its underline but
 /// the terminal's own.
+#[tactic(auto, using(crate::proofs::StyledLooks::styled_ends_plain))]
 pub fn styled_ends_plain()
     ensures { StyledEndsPlain }
 {}
 
 /// Some looks: the palette's 9 is red; a colour that isn't written makes all plain; `Reset` of a set comes first; of two underlines the later
 /// stands alone; an underline's colour outlives its content.
+#[tactic(auto, using(crate::proofs::StyledLooks::said))]
 pub fn some_looks()
     ensures palette { PaletteHasNames }
     ensures disabled { DisabledMakesPlain }

@@ -4,9 +4,11 @@ use denote.RattleType.{RattleType}
 use mir.Syntax.{Dict}
 use Rattle.std.specs.Ordering.{nat_cmp, ordering_then}
 use Rattle.crossterm_flags.proofs.Ranks.{in_order, in_rank_order}
+use Rattle.crossterm_flags.specs.Variants.{rank, rank_order}
 use Rattle.crossterm_types.specs.Compared.{fields_cmp, key_cmp}
 use Rattle.crossterm_types.specs.Normal.{normal}
-use Rattle.crossterm_types.specs.Ranks.{button_order, button_rank, code_holds, code_order, code_rank, event_holds, event_order, event_rank, fields_order, internal_holds, internal_order, internal_rank, key_order, kind_order, kind_rank, media_order, media_rank, modifier_order, modifier_rank, mouse_holds, mouse_kind_order, mouse_order, mouse_rank}
+use Rattle.crossterm_types.specs.Ranks.{code_holds, code_order, event_holds, event_order, event_rank, fields_order, internal_holds, internal_order, internal_rank, key_order, mouse_holds, mouse_kind_order, mouse_order}
+use Rattle.crossterm_types.specs.Variants.{buttons, code_rank, kinds, media_keys, modifier_keys, mouse_rank}
 use Rattle.std.specs.declared.alloc.Allocator.{Ghosts}
 use Rattle.crossterm_types.specs.contracts.event.Event as events
 use Rattle.crossterm_types.specs.contracts.event.EventOrd.TheImpl as event
@@ -14,13 +16,13 @@ use Rattle.crossterm_types.specs.contracts.event.InternalEvent as internals
 use Rattle.crossterm_types.specs.contracts.event.InternalEventOrd.TheImpl as internal
 use Rattle.crossterm_types.specs.contracts.event.key.KeyCode as codes
 use Rattle.crossterm_types.specs.contracts.event.key.KeyCodeOrd.TheImpl as code
-use Rattle.crossterm_types.specs.contracts.event.key.KeyEventKind as kinds
+use Rattle.crossterm_types.specs.contracts.event.key.KeyEventKind as kind_enum
 use Rattle.crossterm_types.specs.contracts.event.key.KeyEventKindOrd.TheImpl as kind
 use Rattle.crossterm_types.specs.contracts.event.key.MediaKeyCode as medias
 use Rattle.crossterm_types.specs.contracts.event.key.MediaKeyCodeOrd.TheImpl as media
 use Rattle.crossterm_types.specs.contracts.event.key.ModifierKeyCode as modifiers
 use Rattle.crossterm_types.specs.contracts.event.key.ModifierKeyCodeOrd.TheImpl as modifier
-use Rattle.crossterm_types.specs.contracts.event.mouse.MouseButton as buttons
+use Rattle.crossterm_types.specs.contracts.event.mouse.MouseButton as button_enum
 use Rattle.crossterm_types.specs.contracts.event.mouse.MouseButtonOrd.TheImpl as button
 use Rattle.crossterm_types.specs.contracts.event.mouse.MouseEventKind as mouse_kinds
 use Rattle.crossterm_types.specs.contracts.event.mouse.MouseEventKindOrd.TheImpl as mouse_kind
@@ -36,17 +38,17 @@ use Rattle.crossterm_types.specs.declared.event.mouse.MouseButton.{MouseButton}
 use Rattle.crossterm_types.specs.declared.event.mouse.MouseEvent.{MouseEvent}
 use Rattle.crossterm_types.specs.declared.event.mouse.MouseEventKind.{MouseEventKind}
 
-pub kinds_ordered : (a b : KeyEventKind) → kind.ghosts.cmp a b ≡ kind_order a b
-kinds_ordered = in_rank_order kinds.enum _ kind_rank (search rules)
+pub kinds_ordered : (a b : KeyEventKind) → kind.ghosts.cmp a b ≡ rank_order kinds a b
+kinds_ordered = in_rank_order kind_enum.enum _ (rank kinds) (search rules)
 
-pub media_ordered : (a b : MediaKeyCode) → media.ghosts.cmp a b ≡ media_order a b
-media_ordered = in_rank_order medias.enum _ media_rank (search rules)
+pub media_ordered : (a b : MediaKeyCode) → media.ghosts.cmp a b ≡ rank_order media_keys a b
+media_ordered = in_rank_order medias.enum _ (rank media_keys) (search rules)
 
-pub modifiers_ordered : (a b : ModifierKeyCode) → modifier.ghosts.cmp a b ≡ modifier_order a b
-modifiers_ordered = in_rank_order modifiers.enum _ modifier_rank (search rules)
+pub modifiers_ordered : (a b : ModifierKeyCode) → modifier.ghosts.cmp a b ≡ rank_order modifier_keys a b
+modifiers_ordered = in_rank_order modifiers.enum _ (rank modifier_keys) (search rules)
 
-pub buttons_ordered : (a b : MouseButton) → button.ghosts.cmp a b ≡ button_order a b
-buttons_ordered = in_rank_order buttons.enum _ button_rank (search rules)
+pub buttons_ordered : (a b : MouseButton) → button.ghosts.cmp a b ≡ rank_order buttons a b
+buttons_ordered = in_rank_order button_enum.enum _ (rank buttons) (search rules)
 
 pub mouse_kinds_ordered : (a b : MouseEventKind) → mouse_kind.ghosts.cmp a b ≡ mouse_kind_order a b
 mouse_kinds_ordered = in_order mouse_kinds.enum _ mouse_rank mouse_holds (search (rules, buttons_ordered))

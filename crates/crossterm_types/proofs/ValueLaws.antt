@@ -3,28 +3,27 @@ use mathlib.Core.Bool.{true≢false}
 use Rattle.std.proofs.lemmas.Cmp.{nat_list_eq_equiv}
 use Rattle.std.specs.Cmp.Lexicographic.{same_text}
 use Rattle.std.specs.Prelude.{◌&&◌, nat_lt, if◌then◌else◌}
-use Rattle.std.proofs.Common.{◌≡◌, ◌≢◌, ◌+◌, ◌*◌, ◌/◌, ◌%◌, ◌<◌, ℕ, Bool, true, false, cond, List, [], ◌∷◌, Option, None, Some, refl, sym, ap, subst, ◌∙◌, arith}
+use Rattle.std.proofs.Common.{◌≡◌, ◌≢◌, ◌+◌, ◌*◌, ◌/◌, ◌%◌, ◌<◌, ℕ, Bool, true, false, cond, List, [], ◌∷◌, Option, None, Some, refl, sym, ap, subst, arith, rules}
 use Rattle.std.specs.Char.{IsScalar, encode_utf8}
 use Rattle.std.specs.Option.{option_and_then, option_map}
 use lib.Utf8.{next, scalar}
 use lib.Dec.{ltb}
 use Rattle.std.proofs.lemmas.Bool.Decides.{nat_tests}
-use Rattle.std.specs.Prelude.{IfOk}
-use Rattle.std.specs.declared.result.Result.{Result}
-use Rattle.std.specs.declared.result.Result.TheVariants.{Ok, Err}
-use Rattle.serde_json.specs.Data.{Data, string}
-use Rattle.serde_json.specs.View.{view}
-use Rattle.serde_json.specs.declared.value.Value.{Value}
-use Rattle.crossterm_flags.specs.Values.{Tells, first_named, number_value, reads_below, same}
-use Rattle.crossterm_flags.specs.declared.value.ValueFault.{ValueFault}
+use Rattle.serde_json.specs.Data.{string}
+use Rattle.crossterm_flags.proofs.Ranks.{of_each}
+use Rattle.crossterm_flags.specs.Values.{number_value, reads_below, same}
 use Rattle.crossterm_types.specs.Seen.{seen_event}
 use Rattle.crossterm_types.specs.Seen as seen
 use Rattle.crossterm_types.specs.Values.{FitsCode, FitsEvent, FitsKey, FitsMouse, code_value, event_value, key_value, mouse_kind_value, mouse_value, only_char, point, reads_code, reads_event, reads_key, reads_mouse, reads_mouse_kind}
-use Rattle.crossterm_types.specs.Variants.{all_buttons, all_kinds, all_media, all_modifiers, button_variant, code_variant, kind_variant, media_variant, modifier_variant}
+use Rattle.crossterm_flags.specs.Variants.{value_in, variant}
+use Rattle.crossterm_types.specs.Variants.{buttons, kinds, media_keys, modifier_keys, plain_keys}
+use Rattle.crossterm_types.specs.contracts.event.key.KeyEventKind as kind_enum
+use Rattle.crossterm_types.specs.contracts.event.key.MediaKeyCode as medias
+use Rattle.crossterm_types.specs.contracts.event.key.ModifierKeyCode as modifiers
+use Rattle.crossterm_types.specs.contracts.event.mouse.MouseButton as button_enum
 use Rattle.crossterm_types.specs.declared.event.Event.{Event}
 use Rattle.crossterm_types.specs.declared.event.Event.TheVariants as event
 use Rattle.crossterm_types.specs.declared.event.mouse.MouseButton.{MouseButton}
-use Rattle.crossterm_types.specs.declared.event.mouse.MouseButton.TheVariants as button
 use Rattle.crossterm_types.specs.declared.event.mouse.MouseEvent.{MouseEvent}
 use Rattle.crossterm_types.specs.declared.event.mouse.MouseEventKind.{MouseEventKind}
 use Rattle.crossterm_types.specs.declared.event.mouse.MouseEventKind.TheVariants as mouse
@@ -32,47 +31,17 @@ use Rattle.crossterm_types.specs.declared.event.key.KeyCode.{KeyCode}
 use Rattle.crossterm_types.specs.declared.event.key.KeyCode.TheVariants as code
 use Rattle.crossterm_types.specs.declared.event.key.KeyEvent.{KeyEvent}
 use Rattle.crossterm_types.specs.declared.event.key.KeyEventKind.{KeyEventKind}
-use Rattle.crossterm_types.specs.declared.event.key.KeyEventKind.TheVariants as kind
 use Rattle.crossterm_types.specs.declared.event.key.MediaKeyCode.{MediaKeyCode}
-use Rattle.crossterm_types.specs.declared.event.key.MediaKeyCode.TheVariants as media
 use Rattle.crossterm_types.specs.declared.event.key.ModifierKeyCode.{ModifierKeyCode}
-use Rattle.crossterm_types.specs.declared.event.key.ModifierKeyCode.TheVariants as modifier
 
-pub kind_back : (x : KeyEventKind) → first_named kind_variant all_kinds (kind_variant x) ≡ Some x
-kind_back kind.Press = refl
-kind_back kind.Repeat = refl
-kind_back kind.Release = refl
+pub kind_back : (x : KeyEventKind) → value_in kinds.rows (variant kinds x) ≡ Some x
+kind_back = of_each kind_enum.enum _ (search rules)
 
-pub media_back : (x : MediaKeyCode) → first_named media_variant all_media (media_variant x) ≡ Some x
-media_back media.Play = refl
-media_back media.Pause = refl
-media_back media.PlayPause = refl
-media_back media.Reverse = refl
-media_back media.Stop = refl
-media_back media.FastForward = refl
-media_back media.Rewind = refl
-media_back media.TrackNext = refl
-media_back media.TrackPrevious = refl
-media_back media.Record = refl
-media_back media.LowerVolume = refl
-media_back media.RaiseVolume = refl
-media_back media.MuteVolume = refl
+pub media_back : (x : MediaKeyCode) → value_in media_keys.rows (variant media_keys x) ≡ Some x
+media_back = of_each medias.enum _ (search rules)
 
-pub modifier_back : (x : ModifierKeyCode) → first_named modifier_variant all_modifiers (modifier_variant x) ≡ Some x
-modifier_back modifier.LeftShift = refl
-modifier_back modifier.LeftControl = refl
-modifier_back modifier.LeftAlt = refl
-modifier_back modifier.LeftSuper = refl
-modifier_back modifier.LeftHyper = refl
-modifier_back modifier.LeftMeta = refl
-modifier_back modifier.RightShift = refl
-modifier_back modifier.RightControl = refl
-modifier_back modifier.RightAlt = refl
-modifier_back modifier.RightSuper = refl
-modifier_back modifier.RightHyper = refl
-modifier_back modifier.RightMeta = refl
-modifier_back modifier.IsoLevel3Shift = refl
-modifier_back modifier.IsoLevel5Shift = refl
+pub modifier_back : (x : ModifierKeyCode) → value_in modifier_keys.rows (variant modifier_keys x) ≡ Some x
+modifier_back = of_each modifiers.enum _ (search rules)
 
 -- ---- characters
 
@@ -125,7 +94,7 @@ none_of text a b c d w x y z f g h k =
 
 -- A key that holds nothing is told by its variant.
 pub plain_told : (c : KeyCode) → ((n : ℕ) → c ≡ code.F n → ⊥) → ((n : ℕ) → c ≡ code.Char n → ⊥) → ((k : MediaKeyCode) → c ≡ code.Media k → ⊥) → ((k : ModifierKeyCode) → c ≡ code.Modifier k → ⊥)
-    → code_value c ≡ string (code_variant c)
+    → code_value c ≡ string (variant plain_keys c)
 plain_told (code.F n) f g h k = absurd (f n refl)
 plain_told (code.Char n) f g h k = absurd (g n refl)
 plain_told (code.Media key) f g h k = absurd (h key refl)
@@ -157,10 +126,8 @@ key_back key fits i =
 
 -- ---- the mouse
 
-pub button_back : (x : MouseButton) → first_named button_variant all_buttons (button_variant x) ≡ Some x
-button_back button.Left = refl
-button_back button.Right = refl
-button_back button.Middle = refl
+pub button_back : (x : MouseButton) → value_in buttons.rows (variant buttons x) ≡ Some x
+button_back = of_each button_enum.enum _ (search rules)
 
 pub mouse_kind_back : (m : MouseEventKind) → reads_mouse_kind (mouse_kind_value m) ≡ Some m
 mouse_kind_back (mouse.Down b) = ap (option_map mouse.Down) (button_back b)

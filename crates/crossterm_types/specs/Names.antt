@@ -1,7 +1,9 @@
 -- The names by which keys are shown.
-use Rattle.std.specs.Prelude.{ℕ, List, ◌++◌, ◌==◌, if◌then◌else◌, codes}
+use Rattle.std.specs.Prelude.{ℕ, List, [], ◌∷◌, ◌++◌, ◌==◌, if◌then◌else◌, codes}
 use Rattle.std.specs.Char.{encode_utf8}
 use Rattle.std.specs.Fmt.{decimal}
+use Rattle.crossterm_flags.specs.Variants.{name_in}
+use Rattle.crossterm_types.specs.Variants.{media_keys, modifier_keys, plain_keys}
 use Rattle.crossterm_types.specs.declared.event.key.KeyCode.{KeyCode}
 use Rattle.crossterm_types.specs.declared.event.key.KeyCode.TheVariants as key
 use Rattle.crossterm_types.specs.declared.event.key.MediaKeyCode.{MediaKeyCode}
@@ -9,69 +11,40 @@ use Rattle.crossterm_types.specs.declared.event.key.MediaKeyCode.TheVariants as 
 use Rattle.crossterm_types.specs.declared.event.key.ModifierKeyCode.{ModifierKeyCode}
 use Rattle.crossterm_types.specs.declared.event.key.ModifierKeyCode.TheVariants as modifier
 
+-- The names of media keys that aren't their variants.
+abbrev media_names : List (List ℕ × MediaKeyCode)
+media_names =
+    (codes "Play/Pause", media.PlayPause) ∷ (codes "Fast Forward", media.FastForward) ∷ (codes "Next Track", media.TrackNext) ∷ (codes "Previous Track", media.TrackPrevious) ∷
+    (codes "Lower Volume", media.LowerVolume) ∷ (codes "Raise Volume", media.RaiseVolume) ∷ (codes "Mute Volume", media.MuteVolume) ∷ []
+
 -- The name of a media key.
 abbrev pub media_name : MediaKeyCode → List ℕ
-media_name media.Play = codes "Play"
-media_name media.Pause = codes "Pause"
-media_name media.PlayPause = codes "Play/Pause"
-media_name media.Reverse = codes "Reverse"
-media_name media.Stop = codes "Stop"
-media_name media.FastForward = codes "Fast Forward"
-media_name media.Rewind = codes "Rewind"
-media_name media.TrackNext = codes "Next Track"
-media_name media.TrackPrevious = codes "Previous Track"
-media_name media.Record = codes "Record"
-media_name media.LowerVolume = codes "Lower Volume"
-media_name media.RaiseVolume = codes "Raise Volume"
-media_name media.MuteVolume = codes "Mute Volume"
+media_name = name_in media_keys.eq (media_names ++ media_keys.rows)
 
--- The name of a modifier key.
+-- The names of modifier keys.
+abbrev modifier_names : List (List ℕ × ModifierKeyCode)
+modifier_names =
+    (codes "Left Shift", modifier.LeftShift) ∷ (codes "Left Ctrl", modifier.LeftControl) ∷ (codes "Left Alt", modifier.LeftAlt) ∷ (codes "Left Super", modifier.LeftSuper) ∷ (codes "Left Hyper", modifier.LeftHyper) ∷
+    (codes "Left Meta", modifier.LeftMeta) ∷ (codes "Right Shift", modifier.RightShift) ∷ (codes "Right Ctrl", modifier.RightControl) ∷ (codes "Right Alt", modifier.RightAlt) ∷ (codes "Right Super", modifier.RightSuper) ∷
+    (codes "Right Hyper", modifier.RightHyper) ∷ (codes "Right Meta", modifier.RightMeta) ∷ (codes "Iso Level 3 Shift", modifier.IsoLevel3Shift) ∷ (codes "Iso Level 5 Shift", modifier.IsoLevel5Shift) ∷ []
+
 abbrev pub modifier_name : ModifierKeyCode → List ℕ
-modifier_name modifier.LeftShift = codes "Left Shift"
-modifier_name modifier.LeftControl = codes "Left Ctrl"
-modifier_name modifier.LeftAlt = codes "Left Alt"
-modifier_name modifier.LeftSuper = codes "Left Super"
-modifier_name modifier.LeftHyper = codes "Left Hyper"
-modifier_name modifier.LeftMeta = codes "Left Meta"
-modifier_name modifier.RightShift = codes "Right Shift"
-modifier_name modifier.RightControl = codes "Right Ctrl"
-modifier_name modifier.RightAlt = codes "Right Alt"
-modifier_name modifier.RightSuper = codes "Right Super"
-modifier_name modifier.RightHyper = codes "Right Hyper"
-modifier_name modifier.RightMeta = codes "Right Meta"
-modifier_name modifier.IsoLevel3Shift = codes "Iso Level 3 Shift"
-modifier_name modifier.IsoLevel5Shift = codes "Iso Level 5 Shift"
+modifier_name = name_in modifier_keys.eq modifier_names
 
 -- A character by itself, and a space, which none would see, by its name.
 abbrev pub char_name : ℕ → List ℕ
 char_name c = if c == 32 then codes "Space" else encode_utf8 c
 
+-- The names of keys that hold nothing where they aren't their variants.
+abbrev key_names : List (List ℕ × KeyCode)
+key_names =
+    (codes "Page Up", key.PageUp) ∷ (codes "Page Down", key.PageDown) ∷ (codes "Back Tab", key.BackTab) ∷ (codes "Del", key.Delete) ∷ (codes "Caps Lock", key.CapsLock) ∷
+    (codes "Scroll Lock", key.ScrollLock) ∷ (codes "Num Lock", key.NumLock) ∷ (codes "Print Screen", key.PrintScreen) ∷ (codes "Begin", key.KeypadBegin) ∷ []
+
 -- The name of a key. A function key is `F` and its number.
 abbrev pub key_name : KeyCode → List ℕ
-key_name key.Backspace = codes "Backspace"
-key_name key.Enter = codes "Enter"
-key_name key.Left = codes "Left"
-key_name key.Right = codes "Right"
-key_name key.Up = codes "Up"
-key_name key.Down = codes "Down"
-key_name key.Home = codes "Home"
-key_name key.End = codes "End"
-key_name key.PageUp = codes "Page Up"
-key_name key.PageDown = codes "Page Down"
-key_name key.Tab = codes "Tab"
-key_name key.BackTab = codes "Back Tab"
-key_name key.Delete = codes "Del"
-key_name key.Insert = codes "Insert"
 key_name (key.F n) = codes "F" ++ decimal n
 key_name (key.Char c) = char_name c
-key_name key.Null = codes "Null"
-key_name key.Esc = codes "Esc"
-key_name key.CapsLock = codes "Caps Lock"
-key_name key.ScrollLock = codes "Scroll Lock"
-key_name key.NumLock = codes "Num Lock"
-key_name key.PrintScreen = codes "Print Screen"
-key_name key.Pause = codes "Pause"
-key_name key.Menu = codes "Menu"
-key_name key.KeypadBegin = codes "Begin"
 key_name (key.Media m) = media_name m
 key_name (key.Modifier m) = modifier_name m
+key_name plain = name_in plain_keys.eq (key_names ++ plain_keys.rows) plain

@@ -4,7 +4,9 @@ use Rattle.std.specs.Cmp.Lexicographic.{slice_cmp}
 use Rattle.std.specs.Ordering.{nat_cmp, on, ordering_then, then_cmp}
 use Rattle.std.specs.declared.cmp.Ordering.{Ordering}
 use Rattle.std.specs.declared.cmp.Ordering.TheVariants.{Equal}
+use Rattle.crossterm_flags.specs.Variants.{rank_order}
 use Rattle.crossterm_types.specs.Normal.{normal}
+use Rattle.crossterm_types.specs.Variants.{buttons, code_rank, kinds, media_keys, modifier_keys, mouse_rank}
 use Rattle.crossterm_types.specs.declared.event.Event.{Event}
 use Rattle.crossterm_types.specs.declared.event.Event.TheVariants as event
 use Rattle.crossterm_types.specs.declared.event.InternalEvent.{InternalEvent}
@@ -12,108 +14,19 @@ use Rattle.crossterm_types.specs.declared.event.InternalEvent.TheVariants as int
 use Rattle.crossterm_types.specs.declared.event.key.KeyCode.{KeyCode}
 use Rattle.crossterm_types.specs.declared.event.key.KeyCode.TheVariants as code
 use Rattle.crossterm_types.specs.declared.event.key.KeyEvent.{KeyEvent}
-use Rattle.crossterm_types.specs.declared.event.key.KeyEventKind.{KeyEventKind}
-use Rattle.crossterm_types.specs.declared.event.key.KeyEventKind.TheVariants as kind
-use Rattle.crossterm_types.specs.declared.event.key.MediaKeyCode.{MediaKeyCode}
-use Rattle.crossterm_types.specs.declared.event.key.MediaKeyCode.TheVariants as media
-use Rattle.crossterm_types.specs.declared.event.key.ModifierKeyCode.{ModifierKeyCode}
-use Rattle.crossterm_types.specs.declared.event.key.ModifierKeyCode.TheVariants as modifier
-use Rattle.crossterm_types.specs.declared.event.mouse.MouseButton.{MouseButton}
-use Rattle.crossterm_types.specs.declared.event.mouse.MouseButton.TheVariants as button
 use Rattle.crossterm_types.specs.declared.event.mouse.MouseEvent.{MouseEvent}
 use Rattle.crossterm_types.specs.declared.event.mouse.MouseEventKind.{MouseEventKind}
 use Rattle.crossterm_types.specs.declared.event.mouse.MouseEventKind.TheVariants as mouse
-
--- The ranks of the kinds of key events.
-abbrev pub kind_rank : KeyEventKind → ℕ
-kind_rank kind.Press = 0
-kind_rank kind.Repeat = 1
-kind_rank kind.Release = 2
-
--- Their order.
-abbrev pub kind_order : KeyEventKind → KeyEventKind → Ordering
-kind_order = on kind_rank nat_cmp
-
--- The ranks of media keys.
-abbrev pub media_rank : MediaKeyCode → ℕ
-media_rank media.Play = 0
-media_rank media.Pause = 1
-media_rank media.PlayPause = 2
-media_rank media.Reverse = 3
-media_rank media.Stop = 4
-media_rank media.FastForward = 5
-media_rank media.Rewind = 6
-media_rank media.TrackNext = 7
-media_rank media.TrackPrevious = 8
-media_rank media.Record = 9
-media_rank media.LowerVolume = 10
-media_rank media.RaiseVolume = 11
-media_rank media.MuteVolume = 12
-
--- Their order.
-abbrev pub media_order : MediaKeyCode → MediaKeyCode → Ordering
-media_order = on media_rank nat_cmp
-
--- The ranks of modifier keys.
-abbrev pub modifier_rank : ModifierKeyCode → ℕ
-modifier_rank modifier.LeftShift = 0
-modifier_rank modifier.LeftControl = 1
-modifier_rank modifier.LeftAlt = 2
-modifier_rank modifier.LeftSuper = 3
-modifier_rank modifier.LeftHyper = 4
-modifier_rank modifier.LeftMeta = 5
-modifier_rank modifier.RightShift = 6
-modifier_rank modifier.RightControl = 7
-modifier_rank modifier.RightAlt = 8
-modifier_rank modifier.RightSuper = 9
-modifier_rank modifier.RightHyper = 10
-modifier_rank modifier.RightMeta = 11
-modifier_rank modifier.IsoLevel3Shift = 12
-modifier_rank modifier.IsoLevel5Shift = 13
-
--- Their order.
-abbrev pub modifier_order : ModifierKeyCode → ModifierKeyCode → Ordering
-modifier_order = on modifier_rank nat_cmp
-
--- The ranks of keys.
-abbrev pub code_rank : KeyCode → ℕ
-code_rank code.Backspace = 0
-code_rank code.Enter = 1
-code_rank code.Left = 2
-code_rank code.Right = 3
-code_rank code.Up = 4
-code_rank code.Down = 5
-code_rank code.Home = 6
-code_rank code.End = 7
-code_rank code.PageUp = 8
-code_rank code.PageDown = 9
-code_rank code.Tab = 10
-code_rank code.BackTab = 11
-code_rank code.Delete = 12
-code_rank code.Insert = 13
-code_rank (code.F number) = 14
-code_rank (code.Char c) = 15
-code_rank code.Null = 16
-code_rank code.Esc = 17
-code_rank code.CapsLock = 18
-code_rank code.ScrollLock = 19
-code_rank code.NumLock = 20
-code_rank code.PrintScreen = 21
-code_rank code.Pause = 22
-code_rank code.Menu = 23
-code_rank code.KeypadBegin = 24
-code_rank (code.Media key) = 25
-code_rank (code.Modifier key) = 26
 
 -- Of two keys of one rank: by the number, the code point, the media key or the modifier key.
 abbrev pub code_holds : KeyCode → KeyCode → Ordering
 code_holds (code.F m) (code.F n) = nat_cmp m n
 code_holds (code.Char c) (code.Char d) = nat_cmp c d
-code_holds (code.Media a) (code.Media b) = media_order a b
-code_holds (code.Modifier a) (code.Modifier b) = modifier_order a b
+code_holds (code.Media a) (code.Media b) = rank_order media_keys a b
+code_holds (code.Modifier a) (code.Modifier b) = rank_order modifier_keys a b
 code_holds _ _ = Equal
 
--- Their order.
+-- The order of keys' codes.
 abbrev pub code_order : KeyCode → KeyCode → Ordering
 code_order = then_cmp (on code_rank nat_cmp) code_holds
 
@@ -121,41 +34,20 @@ code_order = then_cmp (on code_rank nat_cmp) code_holds
 abbrev pub fields_order : KeyEvent → KeyEvent → Ordering
 fields_order a b =
     ordering_then (code_order a.code b.code)
-    (ordering_then (nat_cmp a.modifiers.0 b.modifiers.0) (ordering_then (kind_order a.kind b.kind) (nat_cmp a.state.0 b.state.0)))
+    (ordering_then (nat_cmp a.modifiers.0 b.modifiers.0) (ordering_then (rank_order kinds a.kind b.kind) (nat_cmp a.state.0 b.state.0)))
 
 -- The order of keys: that of their normal forms' fields.
 abbrev pub key_order : KeyEvent → KeyEvent → Ordering
 key_order = on normal fields_order
 
--- The ranks of buttons.
-abbrev pub button_rank : MouseButton → ℕ
-button_rank button.Left = 0
-button_rank button.Right = 1
-button_rank button.Middle = 2
-
--- Their order.
-abbrev pub button_order : MouseButton → MouseButton → Ordering
-button_order = on button_rank nat_cmp
-
--- The ranks of what the mouse does.
-abbrev pub mouse_rank : MouseEventKind → ℕ
-mouse_rank (mouse.Down button) = 0
-mouse_rank (mouse.Up button) = 1
-mouse_rank (mouse.Drag button) = 2
-mouse_rank mouse.Moved = 3
-mouse_rank mouse.ScrollDown = 4
-mouse_rank mouse.ScrollUp = 5
-mouse_rank mouse.ScrollLeft = 6
-mouse_rank mouse.ScrollRight = 7
-
 -- Of two of one rank: by the button.
 abbrev pub mouse_holds : MouseEventKind → MouseEventKind → Ordering
-mouse_holds (mouse.Down a) (mouse.Down b) = button_order a b
-mouse_holds (mouse.Up a) (mouse.Up b) = button_order a b
-mouse_holds (mouse.Drag a) (mouse.Drag b) = button_order a b
+mouse_holds (mouse.Down a) (mouse.Down b) = rank_order buttons a b
+mouse_holds (mouse.Up a) (mouse.Up b) = rank_order buttons a b
+mouse_holds (mouse.Drag a) (mouse.Drag b) = rank_order buttons a b
 mouse_holds _ _ = Equal
 
--- Their order.
+-- The order of what the mouse does.
 abbrev pub mouse_kind_order : MouseEventKind → MouseEventKind → Ordering
 mouse_kind_order = then_cmp (on mouse_rank nat_cmp) mouse_holds
 

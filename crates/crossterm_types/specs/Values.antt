@@ -6,12 +6,13 @@ use Rattle.std.specs.declared.result.Result.{Result}
 use Rattle.std.proofs.Math.Utf8.{scalar}
 use Rattle.serde_json.specs.Data.{Data, array, item, member, no_items, no_members, object, string}
 use Rattle.serde_json.specs.Find.{as_str}
-use Rattle.crossterm_flags.specs.Values.{number_value, one_member, reads_below, reads_four, reads_member, reads_named, reads_two, same}
+use Rattle.crossterm_flags.specs.Values.{number_value, one_member, reads_below, reads_four, reads_member, reads_two, same}
 use Rattle.crossterm_flags.specs.declared.value.ValueFault.{ValueFault}
 use Rattle.crossterm_flags.specs.declared.value.ValueFault.TheVariants.{Memory, Shape}
 use Rattle.crossterm_types.specs.Seen.{Seen, seen_event}
 use Rattle.crossterm_types.specs.Seen as seen
-use Rattle.crossterm_types.specs.Variants.{all_buttons, all_kinds, all_media, all_modifiers, button_variant, code_variant, kind_variant, media_variant, modifier_variant, mouse_variant, plain_codes, plain_mouse}
+use Rattle.crossterm_flags.specs.Variants.{reads_variant, variant}
+use Rattle.crossterm_types.specs.Variants.{buttons, kinds, media_keys, modifier_keys, plain_keys, plain_mouse}
 use Rattle.crossterm_types.specs.declared.event.Event.{Event}
 use Rattle.crossterm_types.specs.declared.event.Event.TheVariants as event
 use Rattle.crossterm_types.specs.declared.event.key.KeyCode.{KeyCode}
@@ -27,9 +28,9 @@ use Rattle.crossterm_types.specs.declared.event.mouse.MouseEventKind.TheVariants
 abbrev pub code_value : KeyCode → Data
 code_value (code.F n) = one_member (codes "F") (number_value n)
 code_value (code.Char c) = one_member (codes "Char") (string (encode_utf8 c))
-code_value (code.Media key) = one_member (codes "Media") (string (media_variant key))
-code_value (code.Modifier key) = one_member (codes "Modifier") (string (modifier_variant key))
-code_value plain = string (code_variant plain)
+code_value (code.Media key) = one_member (codes "Media") (string (variant media_keys key))
+code_value (code.Modifier key) = one_member (codes "Modifier") (string (variant modifier_keys key))
+code_value plain = string (variant plain_keys plain)
 
 -- The code point that one to four bytes of UTF-8 spell.
 abbrev pub point : List ℕ → ℕ
@@ -48,17 +49,17 @@ abbrev pub holding_code : List ℕ × Data → Option KeyCode
 holding_code held =
     if same held.0 (codes "F") then option_map code.F (reads_below 256 held.1) else (
     if same held.0 (codes "Char") then option_map code.Char (option_and_then only_char (as_str held.1)) else (
-    if same held.0 (codes "Media") then option_map code.Media (reads_named media_variant all_media held.1) else (
-    if same held.0 (codes "Modifier") then option_map code.Modifier (reads_named modifier_variant all_modifiers held.1) else
+    if same held.0 (codes "Media") then option_map code.Media (reads_variant media_keys held.1) else (
+    if same held.0 (codes "Modifier") then option_map code.Modifier (reads_variant modifier_keys held.1) else
     None)))
 
 abbrev pub reads_code : Data → Option KeyCode
-reads_code d = option_or (reads_named code_variant plain_codes d) (option_and_then holding_code (reads_member d))
+reads_code d = option_or (reads_variant plain_keys d) (option_and_then holding_code (reads_member d))
 
 -- A key event: an object of its fields.
 abbrev pub key_value : KeyEvent → Data
 key_value key = object (member (codes "code") (code_value key.code)
-    (member (codes "kind") (string (kind_variant key.kind))
+    (member (codes "kind") (string (variant kinds key.kind))
     (member (codes "modifiers") (number_value key.modifiers.0)
     (member (codes "state") (number_value key.state.0) no_members))))
 
@@ -67,7 +68,7 @@ abbrev pub key_of : Data × Data × Data × Data → Option KeyEvent
 key_of fields =
     option_and_then (λ code. option_and_then (λ kind. option_and_then (λ modifiers. option_map (λ state.
     record { code = code; modifiers = record { 0 = modifiers }; kind = kind; state = record { 0 = state } })
-    (reads_below 256 fields.3)) (reads_below 256 fields.2)) (reads_named kind_variant all_kinds fields.1)) (reads_code fields.0)
+    (reads_below 256 fields.3)) (reads_below 256 fields.2)) (reads_variant kinds fields.1)) (reads_code fields.0)
 
 abbrev pub reads_key : Data → Option KeyEvent
 reads_key d = option_and_then key_of (reads_four (codes "code") (codes "kind") (codes "modifiers") (codes "state") d)
@@ -76,21 +77,21 @@ reads_key d = option_and_then key_of (reads_four (codes "code") (codes "kind") (
 
 -- What the mouse does: its variant, or an object of its variant and the button.
 abbrev pub mouse_kind_value : MouseEventKind → Data
-mouse_kind_value (mouse.Down button) = one_member (codes "Down") (string (button_variant button))
-mouse_kind_value (mouse.Up button) = one_member (codes "Up") (string (button_variant button))
-mouse_kind_value (mouse.Drag button) = one_member (codes "Drag") (string (button_variant button))
-mouse_kind_value plain = string (mouse_variant plain)
+mouse_kind_value (mouse.Down button) = one_member (codes "Down") (string (variant buttons button))
+mouse_kind_value (mouse.Up button) = one_member (codes "Up") (string (variant buttons button))
+mouse_kind_value (mouse.Drag button) = one_member (codes "Drag") (string (variant buttons button))
+mouse_kind_value plain = string (variant plain_mouse plain)
 
 -- What reads as something that the mouse does with a button.
 abbrev pub holding_mouse : List ℕ × Data → Option MouseEventKind
 holding_mouse held =
-    if same held.0 (codes "Down") then option_map mouse.Down (reads_named button_variant all_buttons held.1) else (
-    if same held.0 (codes "Up") then option_map mouse.Up (reads_named button_variant all_buttons held.1) else (
-    if same held.0 (codes "Drag") then option_map mouse.Drag (reads_named button_variant all_buttons held.1) else
+    if same held.0 (codes "Down") then option_map mouse.Down (reads_variant buttons held.1) else (
+    if same held.0 (codes "Up") then option_map mouse.Up (reads_variant buttons held.1) else (
+    if same held.0 (codes "Drag") then option_map mouse.Drag (reads_variant buttons held.1) else
     None))
 
 abbrev pub reads_mouse_kind : Data → Option MouseEventKind
-reads_mouse_kind d = option_or (reads_named mouse_variant plain_mouse d) (option_and_then holding_mouse (reads_member d))
+reads_mouse_kind d = option_or (reads_variant plain_mouse d) (option_and_then holding_mouse (reads_member d))
 
 -- A mouse event: an object of its fields.
 abbrev pub mouse_value : MouseEvent → Data

@@ -1,5 +1,13 @@
--- The names of variants, by which JSON values tell them.
-use Rattle.std.specs.Prelude.{ℕ, List, [], ◌∷◌, codes}
+-- The variants of enums and their names, by which JSON values tell them and by which they are ordered: of each enum one table.
+use Rattle.std.specs.Prelude.{ℕ, List, [], ◌∷◌, ◌++◌, codes, map}
+use Rattle.crossterm_flags.specs.Values.{same}
+use Rattle.crossterm_flags.specs.Variants.{Variants, place_in, variant}
+use Rattle.crossterm_types.specs.contracts.event.key.KeyCodePartialEq.TheImpl as code_eq
+use Rattle.crossterm_types.specs.contracts.event.key.KeyEventKindPartialEq.TheImpl as kind_eq
+use Rattle.crossterm_types.specs.contracts.event.key.MediaKeyCodePartialEq.TheImpl as media_eq
+use Rattle.crossterm_types.specs.contracts.event.key.ModifierKeyCodePartialEq.TheImpl as modifier_eq
+use Rattle.crossterm_types.specs.contracts.event.mouse.MouseButtonPartialEq.TheImpl as button_eq
+use Rattle.crossterm_types.specs.contracts.event.mouse.MouseEventKindPartialEq.TheImpl as mouse_eq
 use Rattle.crossterm_types.specs.declared.event.key.KeyCode.{KeyCode}
 use Rattle.crossterm_types.specs.declared.event.key.KeyCode.TheVariants as code
 use Rattle.crossterm_types.specs.declared.event.key.KeyEventKind.{KeyEventKind}
@@ -13,179 +21,82 @@ use Rattle.crossterm_types.specs.declared.event.mouse.MouseButton.TheVariants as
 use Rattle.crossterm_types.specs.declared.event.mouse.MouseEventKind.{MouseEventKind}
 use Rattle.crossterm_types.specs.declared.event.mouse.MouseEventKind.TheVariants as mouse
 
--- The variant of a kind of key events.
-abbrev pub kind_variant : KeyEventKind → List ℕ
-kind_variant kind.Press = codes "Press"
-kind_variant kind.Repeat = codes "Repeat"
-kind_variant kind.Release = codes "Release"
+abbrev pub kinds : Variants KeyEventKind
+kinds = record { eq = kind_eq.ghosts.eq; rows = (codes "Press", kind.Press) ∷ (codes "Repeat", kind.Repeat) ∷ (codes "Release", kind.Release) ∷ [] }
 
--- All of them, in declared order.
-abbrev pub all_kinds : List KeyEventKind
-all_kinds =
-    kind.Press ∷
-    kind.Repeat ∷
-    kind.Release ∷
-    []
+abbrev pub media_keys : Variants MediaKeyCode
+media_keys = record {
+  eq = media_eq.ghosts.eq;
+  rows =
+      (codes "Play", media.Play) ∷ (codes "Pause", media.Pause) ∷ (codes "PlayPause", media.PlayPause) ∷ (codes "Reverse", media.Reverse) ∷
+      (codes "Stop", media.Stop) ∷ (codes "FastForward", media.FastForward) ∷ (codes "Rewind", media.Rewind) ∷ (codes "TrackNext", media.TrackNext) ∷
+      (codes "TrackPrevious", media.TrackPrevious) ∷ (codes "Record", media.Record) ∷ (codes "LowerVolume", media.LowerVolume) ∷ (codes "RaiseVolume", media.RaiseVolume) ∷
+      (codes "MuteVolume", media.MuteVolume) ∷ [];
+}
 
--- The variant of a media key.
-abbrev pub media_variant : MediaKeyCode → List ℕ
-media_variant media.Play = codes "Play"
-media_variant media.Pause = codes "Pause"
-media_variant media.PlayPause = codes "PlayPause"
-media_variant media.Reverse = codes "Reverse"
-media_variant media.Stop = codes "Stop"
-media_variant media.FastForward = codes "FastForward"
-media_variant media.Rewind = codes "Rewind"
-media_variant media.TrackNext = codes "TrackNext"
-media_variant media.TrackPrevious = codes "TrackPrevious"
-media_variant media.Record = codes "Record"
-media_variant media.LowerVolume = codes "LowerVolume"
-media_variant media.RaiseVolume = codes "RaiseVolume"
-media_variant media.MuteVolume = codes "MuteVolume"
+abbrev pub modifier_keys : Variants ModifierKeyCode
+modifier_keys = record {
+  eq = modifier_eq.ghosts.eq;
+  rows =
+      (codes "LeftShift", modifier.LeftShift) ∷ (codes "LeftControl", modifier.LeftControl) ∷ (codes "LeftAlt", modifier.LeftAlt) ∷ (codes "LeftSuper", modifier.LeftSuper) ∷
+      (codes "LeftHyper", modifier.LeftHyper) ∷ (codes "LeftMeta", modifier.LeftMeta) ∷ (codes "RightShift", modifier.RightShift) ∷ (codes "RightControl", modifier.RightControl) ∷
+      (codes "RightAlt", modifier.RightAlt) ∷ (codes "RightSuper", modifier.RightSuper) ∷ (codes "RightHyper", modifier.RightHyper) ∷ (codes "RightMeta", modifier.RightMeta) ∷
+      (codes "IsoLevel3Shift", modifier.IsoLevel3Shift) ∷ (codes "IsoLevel5Shift", modifier.IsoLevel5Shift) ∷ [];
+}
 
--- All of them, in declared order.
-abbrev pub all_media : List MediaKeyCode
-all_media =
-    media.Play ∷
-    media.Pause ∷
-    media.PlayPause ∷
-    media.Reverse ∷
-    media.Stop ∷
-    media.FastForward ∷
-    media.Rewind ∷
-    media.TrackNext ∷
-    media.TrackPrevious ∷
-    media.Record ∷
-    media.LowerVolume ∷
-    media.RaiseVolume ∷
-    media.MuteVolume ∷
-    []
+abbrev pub buttons : Variants MouseButton
+buttons = record { eq = button_eq.ghosts.eq; rows = (codes "Left", button.Left) ∷ (codes "Right", button.Right) ∷ (codes "Middle", button.Middle) ∷ [] }
 
--- The variant of a modifier key.
-abbrev pub modifier_variant : ModifierKeyCode → List ℕ
-modifier_variant modifier.LeftShift = codes "LeftShift"
-modifier_variant modifier.LeftControl = codes "LeftControl"
-modifier_variant modifier.LeftAlt = codes "LeftAlt"
-modifier_variant modifier.LeftSuper = codes "LeftSuper"
-modifier_variant modifier.LeftHyper = codes "LeftHyper"
-modifier_variant modifier.LeftMeta = codes "LeftMeta"
-modifier_variant modifier.RightShift = codes "RightShift"
-modifier_variant modifier.RightControl = codes "RightControl"
-modifier_variant modifier.RightAlt = codes "RightAlt"
-modifier_variant modifier.RightSuper = codes "RightSuper"
-modifier_variant modifier.RightHyper = codes "RightHyper"
-modifier_variant modifier.RightMeta = codes "RightMeta"
-modifier_variant modifier.IsoLevel3Shift = codes "IsoLevel3Shift"
-modifier_variant modifier.IsoLevel5Shift = codes "IsoLevel5Shift"
+-- ---- keys
 
--- All of them, in declared order.
-abbrev pub all_modifiers : List ModifierKeyCode
-all_modifiers =
-    modifier.LeftShift ∷
-    modifier.LeftControl ∷
-    modifier.LeftAlt ∷
-    modifier.LeftSuper ∷
-    modifier.LeftHyper ∷
-    modifier.LeftMeta ∷
-    modifier.RightShift ∷
-    modifier.RightControl ∷
-    modifier.RightAlt ∷
-    modifier.RightSuper ∷
-    modifier.RightHyper ∷
-    modifier.RightMeta ∷
-    modifier.IsoLevel3Shift ∷
-    modifier.IsoLevel5Shift ∷
-    []
+-- Those that hold nothing: before those that hold a number or a character, and after them.
+abbrev early_keys : List (List ℕ × KeyCode)
+early_keys =
+    (codes "Backspace", code.Backspace) ∷ (codes "Enter", code.Enter) ∷ (codes "Left", code.Left) ∷ (codes "Right", code.Right) ∷
+    (codes "Up", code.Up) ∷ (codes "Down", code.Down) ∷ (codes "Home", code.Home) ∷ (codes "End", code.End) ∷
+    (codes "PageUp", code.PageUp) ∷ (codes "PageDown", code.PageDown) ∷ (codes "Tab", code.Tab) ∷ (codes "BackTab", code.BackTab) ∷
+    (codes "Delete", code.Delete) ∷ (codes "Insert", code.Insert) ∷ []
 
--- The variant of a button.
-abbrev pub button_variant : MouseButton → List ℕ
-button_variant button.Left = codes "Left"
-button_variant button.Right = codes "Right"
-button_variant button.Middle = codes "Middle"
+abbrev late_keys : List (List ℕ × KeyCode)
+late_keys =
+    (codes "Null", code.Null) ∷ (codes "Esc", code.Esc) ∷ (codes "CapsLock", code.CapsLock) ∷ (codes "ScrollLock", code.ScrollLock) ∷
+    (codes "NumLock", code.NumLock) ∷ (codes "PrintScreen", code.PrintScreen) ∷ (codes "Pause", code.Pause) ∷ (codes "Menu", code.Menu) ∷
+    (codes "KeypadBegin", code.KeypadBegin) ∷ []
 
--- All of them, in declared order.
-abbrev pub all_buttons : List MouseButton
-all_buttons =
-    button.Left ∷
-    button.Right ∷
-    button.Middle ∷
-    []
+abbrev pub plain_keys : Variants KeyCode
+plain_keys = record { eq = code_eq.ghosts.eq; rows = early_keys ++ late_keys }
 
 -- The variant of a key.
 abbrev pub code_variant : KeyCode → List ℕ
-code_variant code.Backspace = codes "Backspace"
-code_variant code.Enter = codes "Enter"
-code_variant code.Left = codes "Left"
-code_variant code.Right = codes "Right"
-code_variant code.Up = codes "Up"
-code_variant code.Down = codes "Down"
-code_variant code.Home = codes "Home"
-code_variant code.End = codes "End"
-code_variant code.PageUp = codes "PageUp"
-code_variant code.PageDown = codes "PageDown"
-code_variant code.Tab = codes "Tab"
-code_variant code.BackTab = codes "BackTab"
-code_variant code.Delete = codes "Delete"
-code_variant code.Insert = codes "Insert"
-code_variant (code.F _) = codes "F"
-code_variant (code.Char _) = codes "Char"
-code_variant code.Null = codes "Null"
-code_variant code.Esc = codes "Esc"
-code_variant code.CapsLock = codes "CapsLock"
-code_variant code.ScrollLock = codes "ScrollLock"
-code_variant code.NumLock = codes "NumLock"
-code_variant code.PrintScreen = codes "PrintScreen"
-code_variant code.Pause = codes "Pause"
-code_variant code.Menu = codes "Menu"
-code_variant code.KeypadBegin = codes "KeypadBegin"
-code_variant (code.Media _) = codes "Media"
-code_variant (code.Modifier _) = codes "Modifier"
+code_variant (code.F number) = codes "F"
+code_variant (code.Char c) = codes "Char"
+code_variant (code.Media key) = codes "Media"
+code_variant (code.Modifier key) = codes "Modifier"
+code_variant plain = variant plain_keys plain
 
--- Those that hold nothing, in declared order.
-abbrev pub plain_codes : List KeyCode
-plain_codes =
-    code.Backspace ∷
-    code.Enter ∷
-    code.Left ∷
-    code.Right ∷
-    code.Up ∷
-    code.Down ∷
-    code.Home ∷
-    code.End ∷
-    code.PageUp ∷
-    code.PageDown ∷
-    code.Tab ∷
-    code.BackTab ∷
-    code.Delete ∷
-    code.Insert ∷
-    code.Null ∷
-    code.Esc ∷
-    code.CapsLock ∷
-    code.ScrollLock ∷
-    code.NumLock ∷
-    code.PrintScreen ∷
-    code.Pause ∷
-    code.Menu ∷
-    code.KeypadBegin ∷
-    []
+-- Its rank: the place of its variant among all of them.
+abbrev pub code_rank : KeyCode → ℕ
+code_rank key =
+    let names = map (λ row. row.0) in
+    place_in same (names early_keys ++ (codes "F" ∷ codes "Char" ∷ (names late_keys ++ (codes "Media" ∷ codes "Modifier" ∷ [])))) (code_variant key)
 
--- The variant of what the mouse does.
+-- ---- the mouse
+
+-- What it does without a button.
+abbrev pub plain_mouse : Variants MouseEventKind
+plain_mouse = record {
+  eq = mouse_eq.ghosts.eq;
+  rows =
+      (codes "Moved", mouse.Moved) ∷ (codes "ScrollDown", mouse.ScrollDown) ∷ (codes "ScrollUp", mouse.ScrollUp) ∷ (codes "ScrollLeft", mouse.ScrollLeft) ∷ (codes "ScrollRight", mouse.ScrollRight) ∷ [];
+}
+
+-- The variant of what it does.
 abbrev pub mouse_variant : MouseEventKind → List ℕ
-mouse_variant (mouse.Down _) = codes "Down"
-mouse_variant (mouse.Up _) = codes "Up"
-mouse_variant (mouse.Drag _) = codes "Drag"
-mouse_variant mouse.Moved = codes "Moved"
-mouse_variant mouse.ScrollDown = codes "ScrollDown"
-mouse_variant mouse.ScrollUp = codes "ScrollUp"
-mouse_variant mouse.ScrollLeft = codes "ScrollLeft"
-mouse_variant mouse.ScrollRight = codes "ScrollRight"
+mouse_variant (mouse.Down button) = codes "Down"
+mouse_variant (mouse.Up button) = codes "Up"
+mouse_variant (mouse.Drag button) = codes "Drag"
+mouse_variant plain = variant plain_mouse plain
 
--- Those that hold nothing, in declared order.
-abbrev pub plain_mouse : List MouseEventKind
-plain_mouse =
-    mouse.Moved ∷
-    mouse.ScrollDown ∷
-    mouse.ScrollUp ∷
-    mouse.ScrollLeft ∷
-    mouse.ScrollRight ∷
-    []
+-- Its rank: the place of its variant among all of them.
+abbrev pub mouse_rank : MouseEventKind → ℕ
+mouse_rank event = place_in same (codes "Down" ∷ codes "Up" ∷ codes "Drag" ∷ map (λ row. row.0) plain_mouse.rows) (mouse_variant event)

@@ -1,12 +1,14 @@
 //! Attributes of text.
 ghost use Rattle.std.specs.Prelude.{◌≡◌, ◌<◌, ◌≤◌, length, IfOk, IfErr, Some, string_bytes};
 ghost use Rattle.std.specs.IoError.{error_kind};
-ghost use Rattle.crossterm_style.specs.Attributes.{all_attributes, bit_of, code_of, place_of};
+ghost use Rattle.crossterm_style.specs.Attributes.{all_attributes, attributes, bit_of, code_of, place_of};
 ghost use Rattle.crossterm_command.specs.Tokens.{text_of};
 ghost use Rattle.crossterm_style.specs.Styles.{attribute_functions};
 
 use crate::{AttributeIter, SetAttribute};
 use crossterm_command::execute_fmt;
+use crossterm_flags::value::Named;
+use crossterm_flags::{named_variants, variants};
 use std::alloc::Allocator;
 use std::io::ErrorKind;
 use std::{fmt, io};
@@ -78,37 +80,28 @@ pub enum Attribute {
     NotOverLined,
 }
 
+/// Of all attributes, in declared order, what a macro makes of an enum's variants.
+macro_rules! all_attributes {
+    ($made:ident) => {
+        $made!(Attribute:
+            Reset Bold Dim Italic Underlined DoubleUnderlined Undercurled Underdotted Underdashed
+            SlowBlink RapidBlink Reverse Hidden CrossedOut Fraktur NoBold NormalIntensity NoItalic
+            NoUnderline NoBlink NoReverse NoHidden NotCrossedOut Framed Encircled OverLined
+            NotFramedOrEncircled NotOverLined
+        )
+    };
+}
+
+impl Named for Attribute {
+    ghost rows = { attributes.rows };
+
+    fn rows<'a>() -> &'a [(&'static str, Attribute)] {
+        all_attributes!(named_variants)
+    }
+}
+
 impl Attribute {
-    const ALL: [Attribute; 28] = [
-        Attribute::Reset,
-        Attribute::Bold,
-        Attribute::Dim,
-        Attribute::Italic,
-        Attribute::Underlined,
-        Attribute::DoubleUnderlined,
-        Attribute::Undercurled,
-        Attribute::Underdotted,
-        Attribute::Underdashed,
-        Attribute::SlowBlink,
-        Attribute::RapidBlink,
-        Attribute::Reverse,
-        Attribute::Hidden,
-        Attribute::CrossedOut,
-        Attribute::Fraktur,
-        Attribute::NoBold,
-        Attribute::NormalIntensity,
-        Attribute::NoItalic,
-        Attribute::NoUnderline,
-        Attribute::NoBlink,
-        Attribute::NoReverse,
-        Attribute::NoHidden,
-        Attribute::NotCrossedOut,
-        Attribute::Framed,
-        Attribute::Encircled,
-        Attribute::OverLined,
-        Attribute::NotFramedOrEncircled,
-        Attribute::NotOverLined,
-    ];
+    const ALL: [Attribute; 28] = all_attributes!(variants);
 
     /// All attributes, in declared order.
     pub(crate) fn all<'a>() -> &'a [Attribute]

@@ -1,10 +1,11 @@
 //! Colours.
 ghost use Rattle.std.specs.Prelude.{◌≡◌, ◌⊎◌, MatchOption, MatchResult};
-ghost use Rattle.crossterm_style.specs.Values.{color_in, name_in, table_of};
+ghost use Rattle.crossterm_style.specs.Values.{color_in, color_name};
 ghost use Rattle.crossterm_style.specs.ColorNames.{entries, names, Names, NamesIn, NamesNone, NamesNoneIn};
 ghost use Rattle.crossterm_style.specs.Fields.{IsColorRead};
 
 use crate::fields::Fields;
+use crossterm_flags::value::name_in;
 use std::str::FromStr;
 
 /// A colour of text, of what is behind it, or of its underline.
@@ -93,21 +94,9 @@ pub(crate) fn color_named(text: &str) -> Option<Color>
     color_in(&NAMES, text)
 }
 
-/// The name of a colour in a table, and nothing where it has none.
-fn name_in<'a>(table: &[(&'a str, Color)], color: Color) -> &'a str
-    ensures { result.now ≡ name_in (table_of table.now) color }
-{
-    for (name, named) in table {
-        if *named == color {
-            return name;
-        }
-    }
-    ""
-}
-
 /// The name of a colour that has one.
 pub(crate) fn name_of(color: Color) -> &'static str
-    ensures { result.now ≡ name_in names color }
+    ensures { result.now ≡ color_name color }
 {
     name_in(&NAMES, color)
 }

@@ -1,8 +1,10 @@
 //! Laws of keys, and of the orders of events.
 ghost use Rattle.std.specs.Prelude.{◌≡◌, ◌↔◌, IsTrue};
 ghost use Rattle.crossterm_flags.specs.Orders.{ComparesBy};
+ghost use Rattle.crossterm_flags.specs.Variants.{rank_order};
 ghost use Rattle.crossterm_types.specs.Normal.{normal};
-ghost use Rattle.crossterm_types.specs.Ranks.{button_order, code_order, event_order, internal_order, key_order, kind_order, media_order, modifier_order, mouse_kind_order, mouse_order};
+ghost use Rattle.crossterm_types.specs.Ranks.{code_order, event_order, internal_order, key_order, mouse_kind_order, mouse_order};
+ghost use Rattle.crossterm_types.specs.Variants.{buttons, kinds, media_keys, modifier_keys};
 ghost use Rattle.crossterm_types.specs.declared.event.key.KeyEvent.{KeyEvent};
 
 use crate::event::{
@@ -28,12 +30,12 @@ pub fn normal_form_laws()
 /// The declared orders of keys and of the mouse, on which sorted tables of them rest: variants in the order of their ranks, two of one variant
 /// by what they hold, and structs by their fields in order, of keys those of the normal form. It does nothing when it runs.
 pub fn declared_orders()
-    ensures kinds { ComparesBy kind_order ⟦<KeyEventKind as Ord>⟧.cmp ⟦<KeyEventKind as PartialOrd>⟧.partial_cmp }
-    ensures media { ComparesBy media_order ⟦<MediaKeyCode as Ord>⟧.cmp ⟦<MediaKeyCode as PartialOrd>⟧.partial_cmp }
-    ensures modifiers { ComparesBy modifier_order ⟦<ModifierKeyCode as Ord>⟧.cmp ⟦<ModifierKeyCode as PartialOrd>⟧.partial_cmp }
+    ensures kinds { ComparesBy (rank_order kinds) ⟦<KeyEventKind as Ord>⟧.cmp ⟦<KeyEventKind as PartialOrd>⟧.partial_cmp }
+    ensures media { ComparesBy (rank_order media_keys) ⟦<MediaKeyCode as Ord>⟧.cmp ⟦<MediaKeyCode as PartialOrd>⟧.partial_cmp }
+    ensures modifiers { ComparesBy (rank_order modifier_keys) ⟦<ModifierKeyCode as Ord>⟧.cmp ⟦<ModifierKeyCode as PartialOrd>⟧.partial_cmp }
     ensures codes { ComparesBy code_order ⟦<KeyCode as Ord>⟧.cmp ⟦<KeyCode as PartialOrd>⟧.partial_cmp }
     ensures keys { ComparesBy key_order ⟦<KeyEvent as Ord>⟧.cmp ⟦<KeyEvent as PartialOrd>⟧.partial_cmp }
-    ensures buttons { ComparesBy button_order ⟦<MouseButton as Ord>⟧.cmp ⟦<MouseButton as PartialOrd>⟧.partial_cmp }
+    ensures buttons { ComparesBy (rank_order buttons) ⟦<MouseButton as Ord>⟧.cmp ⟦<MouseButton as PartialOrd>⟧.partial_cmp }
     ensures mouse_kinds { ComparesBy mouse_kind_order ⟦<MouseEventKind as Ord>⟧.cmp ⟦<MouseEventKind as PartialOrd>⟧.partial_cmp }
     ensures mouse { ComparesBy mouse_order ⟦<MouseEvent as Ord>⟧.cmp ⟦<MouseEvent as PartialOrd>⟧.partial_cmp }
 {}

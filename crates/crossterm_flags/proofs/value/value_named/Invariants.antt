@@ -1,7 +1,7 @@
--- What is left of the values has the name exactly as all have.
+-- What is left of the rows has the name exactly as all have.
 use Rattle.std.proofs.Common.{◌≡◌, drop}
-use Rattle.crossterm_flags.specs.Values.{first_named}
+use Rattle.crossterm_flags.specs.Variants.{rows_of, value_in}
 use Rattle.crossterm_flags.proofs.value.value_named.Given as goal
 
-abbrev pub invariant-loop-value : goal.invariant-loop-value
-invariant-loop-value g l = first_named g.T.Named.name (drop l.value-index l.value-items) l.text ≡ first_named g.T.Named.name g.T.Named.all l.text
+abbrev pub invariant-loop-name : goal.invariant-loop-name
+invariant-loop-name g l = value_in (rows_of (drop l.name-index l.name-items)) l.text ≡ value_in g.T.Named.rows l.text

@@ -1,92 +1,16 @@
 //! JSON values of keys.
 ghost use Rattle.std.specs.Prelude.{◌≡◌, IfOk, Some};
-ghost use Rattle.serde_json.specs.Data.{string};
 ghost use Rattle.serde_json.specs.View.{view};
-ghost use Rattle.crossterm_flags.specs.Values.{Reads, Tells, reads_named};
+ghost use Rattle.crossterm_flags.specs.Values.{Reads, Tells};
 ghost use Rattle.crossterm_types.specs.Values.{FitsCode, FitsKey, code_value, holding_code, key_value, only_char, reads_code, reads_key};
-ghost use Rattle.crossterm_types.specs.Variants.{all_kinds, all_media, all_modifiers, kind_variant, media_variant, modifier_variant};
 
-use crate::event::{
-    KeyCode, KeyEvent, KeyEventKind, KeyEventState, KeyModifiers, MediaKeyCode, ModifierKeyCode,
-};
+use crate::event::{KeyCode, KeyEvent, KeyEventState, KeyModifiers};
 use crossterm_flags::ValueFault;
 use crossterm_flags::value::{
-    Named, read_byte, read_four, read_member, read_named, shaped, tell_member, tell_text,
+    read_byte, read_four, read_member, read_named, shaped, tell_member, tell_named, tell_text,
 };
 use serde_json::{Value, json};
 use std::alloc::Global;
-
-impl KeyEventKind {
-    /// Its variant as a JSON text.
-    ///
-    /// # Errors
-    /// `Memory` where memory for it was refused.
-    #[tactic(auto, using(crate::proofs::ValueLaws::kind_back, crossterm_flags::proofs::ValueLaws::told_back))]
-    pub fn to_value(&self, alloc: Global) -> Result<Value, ValueFault>
-        ensures tells { Tells (string (kind_variant self.now)) result }
-        ensures back { IfOk result (λ v. reads_named kind_variant all_kinds (view v) ≡ Some self.now) }
-    {
-        tell_text(alloc, self.name())
-    }
-
-    /// The kind whose variant a JSON text is. It takes no memory.
-    ///
-    /// # Errors
-    /// `Shape` where the JSON is no such text.
-    pub fn from_value(value: &Value) -> Result<KeyEventKind, ValueFault>
-        ensures { Reads (λ x. x) (reads_named kind_variant all_kinds (view value.now)) result }
-    {
-        shaped(read_named(value))
-    }
-}
-
-impl MediaKeyCode {
-    /// Its variant as a JSON text.
-    ///
-    /// # Errors
-    /// `Memory` where memory for it was refused.
-    #[tactic(auto, using(crate::proofs::ValueLaws::media_back, crossterm_flags::proofs::ValueLaws::told_back))]
-    pub fn to_value(&self, alloc: Global) -> Result<Value, ValueFault>
-        ensures tells { Tells (string (media_variant self.now)) result }
-        ensures back { IfOk result (λ v. reads_named media_variant all_media (view v) ≡ Some self.now) }
-    {
-        tell_text(alloc, self.name())
-    }
-
-    /// The key whose variant a JSON text is. It takes no memory.
-    ///
-    /// # Errors
-    /// `Shape` where the JSON is no such text.
-    pub fn from_value(value: &Value) -> Result<MediaKeyCode, ValueFault>
-        ensures { Reads (λ x. x) (reads_named media_variant all_media (view value.now)) result }
-    {
-        shaped(read_named(value))
-    }
-}
-
-impl ModifierKeyCode {
-    /// Its variant as a JSON text.
-    ///
-    /// # Errors
-    /// `Memory` where memory for it was refused.
-    #[tactic(auto, using(crate::proofs::ValueLaws::modifier_back, crossterm_flags::proofs::ValueLaws::told_back))]
-    pub fn to_value(&self, alloc: Global) -> Result<Value, ValueFault>
-        ensures tells { Tells (string (modifier_variant self.now)) result }
-        ensures back { IfOk result (λ v. reads_named modifier_variant all_modifiers (view v) ≡ Some self.now) }
-    {
-        tell_text(alloc, self.name())
-    }
-
-    /// The key whose variant a JSON text is. It takes no memory.
-    ///
-    /// # Errors
-    /// `Shape` where the JSON is no such text.
-    pub fn from_value(value: &Value) -> Result<ModifierKeyCode, ValueFault>
-        ensures { Reads (λ x. x) (reads_named modifier_variant all_modifiers (view value.now)) result }
-    {
-        shaped(read_named(value))
-    }
-}
 
 /// The character of a text that has one.
 #[tactic(auto, using(crate::proofs::ValueLaws::char_back))]
@@ -122,14 +46,16 @@ impl KeyCode {
     fn tell(self, alloc: Global) -> Result<Value, ValueFault>
         ensures { Tells (code_value self) result }
     {
-        let held = match self {
-            KeyCode::F(number) => Value::from(number),
-            KeyCode::Char(c) => tell_text(alloc, c.encode_utf8(&mut [0; 4]))?,
-            KeyCode::Media(key) => key.to_value(alloc)?,
-            KeyCode::Modifier(key) => key.to_value(alloc)?,
-            _ => return tell_text(alloc, self.name()),
-        };
-        tell_member(alloc, self.name(), held)
+        match self {
+            KeyCode::F(number) => tell_member(alloc, "F", Value::from(number)),
+            KeyCode::Char(c) => {
+                let text = tell_text(alloc, c.encode_utf8(&mut [0; 4]))?;
+                tell_member(alloc, "Char", text)
+            }
+            KeyCode::Media(key) => tell_member(alloc, "Media", key.to_value(alloc)?),
+            KeyCode::Modifier(key) => tell_member(alloc, "Modifier", key.to_value(alloc)?),
+            plain => tell_named(alloc, plain),
+        }
     }
 
     /// A key that holds something, by its variant.

@@ -1,42 +1,16 @@
 //! JSON values of the mouse.
 ghost use Rattle.std.specs.Prelude.{◌≡◌, IfOk, Some};
-ghost use Rattle.serde_json.specs.Data.{string};
 ghost use Rattle.serde_json.specs.View.{view};
-ghost use Rattle.crossterm_flags.specs.Values.{Reads, Tells, reads_named};
+ghost use Rattle.crossterm_flags.specs.Values.{Reads, Tells};
 ghost use Rattle.crossterm_types.specs.Values.{FitsMouse, holding_mouse, mouse_kind_value, mouse_value, reads_mouse, reads_mouse_kind};
-ghost use Rattle.crossterm_types.specs.Variants.{all_buttons, button_variant};
 
-use crate::event::{KeyModifiers, MouseButton, MouseEvent, MouseEventKind};
+use crate::event::{KeyModifiers, MouseEvent, MouseEventKind};
 use crossterm_flags::ValueFault;
 use crossterm_flags::value::{
-    Named, read_byte, read_four, read_member, read_named, read_word, shaped, tell_member, tell_text,
+    read_byte, read_four, read_member, read_named, read_word, shaped, tell_member, tell_named,
 };
 use serde_json::{Value, json};
 use std::alloc::Global;
-
-impl MouseButton {
-    /// Its variant as a JSON text.
-    ///
-    /// # Errors
-    /// `Memory` where memory for it was refused.
-    #[tactic(auto, using(crate::proofs::ValueLaws::button_back, crossterm_flags::proofs::ValueLaws::told_back))]
-    pub fn to_value(&self, alloc: Global) -> Result<Value, ValueFault>
-        ensures tells { Tells (string (button_variant self.now)) result }
-        ensures back { IfOk result (λ v. reads_named button_variant all_buttons (view v) ≡ Some self.now) }
-    {
-        tell_text(alloc, self.name())
-    }
-
-    /// The button whose variant a JSON text is. It takes no memory.
-    ///
-    /// # Errors
-    /// `Shape` where the JSON is no such text.
-    pub fn from_value(value: &Value) -> Result<MouseButton, ValueFault>
-        ensures { Reads (λ x. x) (reads_named button_variant all_buttons (view value.now)) result }
-    {
-        shaped(read_named(value))
-    }
-}
 
 impl MouseEventKind {
     /// What the mouse did as JSON: its variant, and with a button an object of the variant and the button, as `{"Down":"Left"}`.
@@ -49,13 +23,10 @@ impl MouseEventKind {
         ensures back { IfOk result (λ v. reads_mouse_kind (view v) ≡ Some self.now) }
     {
         match self {
-            MouseEventKind::Down(button)
-            | MouseEventKind::Up(button)
-            | MouseEventKind::Drag(button) => {
-                let button = button.to_value(alloc)?;
-                tell_member(alloc, self.name(), button)
-            }
-            _ => tell_text(alloc, self.name()),
+            MouseEventKind::Down(button) => tell_member(alloc, "Down", button.to_value(alloc)?),
+            MouseEventKind::Up(button) => tell_member(alloc, "Up", button.to_value(alloc)?),
+            MouseEventKind::Drag(button) => tell_member(alloc, "Drag", button.to_value(alloc)?),
+            plain => tell_named(alloc, *plain),
         }
     }
 

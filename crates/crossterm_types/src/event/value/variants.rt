@@ -1,230 +1,170 @@
-//! The names of variants, by which JSON values tell them.
-ghost use Rattle.crossterm_types.specs.Variants.{all_buttons, all_kinds, all_media, all_modifiers, button_variant, code_variant, kind_variant, media_variant, modifier_variant, mouse_variant, plain_codes, plain_mouse};
+//! JSON values of enums whose variants hold nothing, and the names of variants by which others are told.
+ghost use Rattle.std.specs.Prelude.{◌≡◌, IfOk, Some};
+ghost use Rattle.serde_json.specs.Data.{string};
+ghost use Rattle.serde_json.specs.View.{view};
+ghost use Rattle.crossterm_flags.specs.Values.{Reads, Tells};
+ghost use Rattle.crossterm_flags.specs.Variants.{reads_variant, variant};
+ghost use Rattle.crossterm_types.specs.Variants.{buttons, kinds, media_keys, modifier_keys, plain_keys, plain_mouse};
 
 use crate::event::{
     KeyCode, KeyEventKind, MediaKeyCode, ModifierKeyCode, MouseButton, MouseEventKind,
 };
-use crossterm_flags::value::Named;
+use crossterm_flags::value::{Named, read_named, shaped, tell_named};
+use crossterm_flags::{ValueFault, named_variants};
+use serde_json::Value;
+use std::alloc::Global;
 
 impl Named for KeyEventKind {
-    ghost name = { kind_variant };
+    ghost rows = { kinds.rows };
 
-    ghost all = { all_kinds };
+    fn rows<'a>() -> &'a [(&'static str, KeyEventKind)] {
+        named_variants!(KeyEventKind: Press Repeat Release)
+    }
+}
 
-    fn name(self) -> &'static str {
-        match self {
-            KeyEventKind::Press => "Press",
-            KeyEventKind::Repeat => "Repeat",
-            KeyEventKind::Release => "Release",
-        }
+impl KeyEventKind {
+    /// Its variant as a JSON text.
+    ///
+    /// # Errors
+    /// `Memory` where memory for it was refused.
+    #[tactic(auto, using(crate::proofs::ValueLaws::kind_back, crossterm_flags::proofs::ValueLaws::told_back))]
+    pub fn to_value(&self, alloc: Global) -> Result<Value, ValueFault>
+        ensures tells { Tells (string (variant kinds self.now)) result }
+        ensures back { IfOk result (λ v. reads_variant kinds (view v) ≡ Some self.now) }
+    {
+        tell_named(alloc, *self)
     }
 
-    fn all<'a>() -> &'a [KeyEventKind] {
-        &[
-            KeyEventKind::Press,
-            KeyEventKind::Repeat,
-            KeyEventKind::Release,
-        ]
+    /// The kind whose variant a JSON text is. It takes no memory.
+    ///
+    /// # Errors
+    /// `Shape` where the JSON is no such text.
+    pub fn from_value(value: &Value) -> Result<KeyEventKind, ValueFault>
+        ensures { Reads (λ x. x) (reads_variant kinds (view value.now)) result }
+    {
+        shaped(read_named(value))
     }
 }
 
 impl Named for MediaKeyCode {
-    ghost name = { media_variant };
+    ghost rows = { media_keys.rows };
 
-    ghost all = { all_media };
+    fn rows<'a>() -> &'a [(&'static str, MediaKeyCode)] {
+        named_variants!(MediaKeyCode:
+            Play Pause PlayPause Reverse Stop FastForward Rewind TrackNext TrackPrevious Record
+            LowerVolume RaiseVolume MuteVolume
+        )
+    }
+}
 
-    fn name(self) -> &'static str {
-        match self {
-            MediaKeyCode::Play => "Play",
-            MediaKeyCode::Pause => "Pause",
-            MediaKeyCode::PlayPause => "PlayPause",
-            MediaKeyCode::Reverse => "Reverse",
-            MediaKeyCode::Stop => "Stop",
-            MediaKeyCode::FastForward => "FastForward",
-            MediaKeyCode::Rewind => "Rewind",
-            MediaKeyCode::TrackNext => "TrackNext",
-            MediaKeyCode::TrackPrevious => "TrackPrevious",
-            MediaKeyCode::Record => "Record",
-            MediaKeyCode::LowerVolume => "LowerVolume",
-            MediaKeyCode::RaiseVolume => "RaiseVolume",
-            MediaKeyCode::MuteVolume => "MuteVolume",
-        }
+impl MediaKeyCode {
+    /// Its variant as a JSON text.
+    ///
+    /// # Errors
+    /// `Memory` where memory for it was refused.
+    #[tactic(auto, using(crate::proofs::ValueLaws::media_back, crossterm_flags::proofs::ValueLaws::told_back))]
+    pub fn to_value(&self, alloc: Global) -> Result<Value, ValueFault>
+        ensures tells { Tells (string (variant media_keys self.now)) result }
+        ensures back { IfOk result (λ v. reads_variant media_keys (view v) ≡ Some self.now) }
+    {
+        tell_named(alloc, *self)
     }
 
-    fn all<'a>() -> &'a [MediaKeyCode] {
-        &[
-            MediaKeyCode::Play,
-            MediaKeyCode::Pause,
-            MediaKeyCode::PlayPause,
-            MediaKeyCode::Reverse,
-            MediaKeyCode::Stop,
-            MediaKeyCode::FastForward,
-            MediaKeyCode::Rewind,
-            MediaKeyCode::TrackNext,
-            MediaKeyCode::TrackPrevious,
-            MediaKeyCode::Record,
-            MediaKeyCode::LowerVolume,
-            MediaKeyCode::RaiseVolume,
-            MediaKeyCode::MuteVolume,
-        ]
+    /// The key whose variant a JSON text is. It takes no memory.
+    ///
+    /// # Errors
+    /// `Shape` where the JSON is no such text.
+    pub fn from_value(value: &Value) -> Result<MediaKeyCode, ValueFault>
+        ensures { Reads (λ x. x) (reads_variant media_keys (view value.now)) result }
+    {
+        shaped(read_named(value))
     }
 }
 
 impl Named for ModifierKeyCode {
-    ghost name = { modifier_variant };
+    ghost rows = { modifier_keys.rows };
 
-    ghost all = { all_modifiers };
+    fn rows<'a>() -> &'a [(&'static str, ModifierKeyCode)] {
+        named_variants!(ModifierKeyCode:
+            LeftShift LeftControl LeftAlt LeftSuper LeftHyper LeftMeta RightShift RightControl
+            RightAlt RightSuper RightHyper RightMeta IsoLevel3Shift IsoLevel5Shift
+        )
+    }
+}
 
-    fn name(self) -> &'static str {
-        match self {
-            ModifierKeyCode::LeftShift => "LeftShift",
-            ModifierKeyCode::LeftControl => "LeftControl",
-            ModifierKeyCode::LeftAlt => "LeftAlt",
-            ModifierKeyCode::LeftSuper => "LeftSuper",
-            ModifierKeyCode::LeftHyper => "LeftHyper",
-            ModifierKeyCode::LeftMeta => "LeftMeta",
-            ModifierKeyCode::RightShift => "RightShift",
-            ModifierKeyCode::RightControl => "RightControl",
-            ModifierKeyCode::RightAlt => "RightAlt",
-            ModifierKeyCode::RightSuper => "RightSuper",
-            ModifierKeyCode::RightHyper => "RightHyper",
-            ModifierKeyCode::RightMeta => "RightMeta",
-            ModifierKeyCode::IsoLevel3Shift => "IsoLevel3Shift",
-            ModifierKeyCode::IsoLevel5Shift => "IsoLevel5Shift",
-        }
+impl ModifierKeyCode {
+    /// Its variant as a JSON text.
+    ///
+    /// # Errors
+    /// `Memory` where memory for it was refused.
+    #[tactic(auto, using(crate::proofs::ValueLaws::modifier_back, crossterm_flags::proofs::ValueLaws::told_back))]
+    pub fn to_value(&self, alloc: Global) -> Result<Value, ValueFault>
+        ensures tells { Tells (string (variant modifier_keys self.now)) result }
+        ensures back { IfOk result (λ v. reads_variant modifier_keys (view v) ≡ Some self.now) }
+    {
+        tell_named(alloc, *self)
     }
 
-    fn all<'a>() -> &'a [ModifierKeyCode] {
-        &[
-            ModifierKeyCode::LeftShift,
-            ModifierKeyCode::LeftControl,
-            ModifierKeyCode::LeftAlt,
-            ModifierKeyCode::LeftSuper,
-            ModifierKeyCode::LeftHyper,
-            ModifierKeyCode::LeftMeta,
-            ModifierKeyCode::RightShift,
-            ModifierKeyCode::RightControl,
-            ModifierKeyCode::RightAlt,
-            ModifierKeyCode::RightSuper,
-            ModifierKeyCode::RightHyper,
-            ModifierKeyCode::RightMeta,
-            ModifierKeyCode::IsoLevel3Shift,
-            ModifierKeyCode::IsoLevel5Shift,
-        ]
+    /// The key whose variant a JSON text is. It takes no memory.
+    ///
+    /// # Errors
+    /// `Shape` where the JSON is no such text.
+    pub fn from_value(value: &Value) -> Result<ModifierKeyCode, ValueFault>
+        ensures { Reads (λ x. x) (reads_variant modifier_keys (view value.now)) result }
+    {
+        shaped(read_named(value))
     }
 }
 
 impl Named for MouseButton {
-    ghost name = { button_variant };
+    ghost rows = { buttons.rows };
 
-    ghost all = { all_buttons };
+    fn rows<'a>() -> &'a [(&'static str, MouseButton)] {
+        named_variants!(MouseButton: Left Right Middle)
+    }
+}
 
-    fn name(self) -> &'static str {
-        match self {
-            MouseButton::Left => "Left",
-            MouseButton::Right => "Right",
-            MouseButton::Middle => "Middle",
-        }
+impl MouseButton {
+    /// Its variant as a JSON text.
+    ///
+    /// # Errors
+    /// `Memory` where memory for it was refused.
+    #[tactic(auto, using(crate::proofs::ValueLaws::button_back, crossterm_flags::proofs::ValueLaws::told_back))]
+    pub fn to_value(&self, alloc: Global) -> Result<Value, ValueFault>
+        ensures tells { Tells (string (variant buttons self.now)) result }
+        ensures back { IfOk result (λ v. reads_variant buttons (view v) ≡ Some self.now) }
+    {
+        tell_named(alloc, *self)
     }
 
-    fn all<'a>() -> &'a [MouseButton] {
-        &[MouseButton::Left, MouseButton::Right, MouseButton::Middle]
+    /// The button whose variant a JSON text is. It takes no memory.
+    ///
+    /// # Errors
+    /// `Shape` where the JSON is no such text.
+    pub fn from_value(value: &Value) -> Result<MouseButton, ValueFault>
+        ensures { Reads (λ x. x) (reads_variant buttons (view value.now)) result }
+    {
+        shaped(read_named(value))
     }
 }
 
 // Only the variants that hold nothing are listed.
 impl Named for KeyCode {
-    ghost name = { code_variant };
+    ghost rows = { plain_keys.rows };
 
-    ghost all = { plain_codes };
-
-    fn name(self) -> &'static str {
-        match self {
-            KeyCode::Backspace => "Backspace",
-            KeyCode::Enter => "Enter",
-            KeyCode::Left => "Left",
-            KeyCode::Right => "Right",
-            KeyCode::Up => "Up",
-            KeyCode::Down => "Down",
-            KeyCode::Home => "Home",
-            KeyCode::End => "End",
-            KeyCode::PageUp => "PageUp",
-            KeyCode::PageDown => "PageDown",
-            KeyCode::Tab => "Tab",
-            KeyCode::BackTab => "BackTab",
-            KeyCode::Delete => "Delete",
-            KeyCode::Insert => "Insert",
-            KeyCode::F(_) => "F",
-            KeyCode::Char(_) => "Char",
-            KeyCode::Null => "Null",
-            KeyCode::Esc => "Esc",
-            KeyCode::CapsLock => "CapsLock",
-            KeyCode::ScrollLock => "ScrollLock",
-            KeyCode::NumLock => "NumLock",
-            KeyCode::PrintScreen => "PrintScreen",
-            KeyCode::Pause => "Pause",
-            KeyCode::Menu => "Menu",
-            KeyCode::KeypadBegin => "KeypadBegin",
-            KeyCode::Media(_) => "Media",
-            KeyCode::Modifier(_) => "Modifier",
-        }
-    }
-
-    fn all<'a>() -> &'a [KeyCode] {
-        &[
-            KeyCode::Backspace,
-            KeyCode::Enter,
-            KeyCode::Left,
-            KeyCode::Right,
-            KeyCode::Up,
-            KeyCode::Down,
-            KeyCode::Home,
-            KeyCode::End,
-            KeyCode::PageUp,
-            KeyCode::PageDown,
-            KeyCode::Tab,
-            KeyCode::BackTab,
-            KeyCode::Delete,
-            KeyCode::Insert,
-            KeyCode::Null,
-            KeyCode::Esc,
-            KeyCode::CapsLock,
-            KeyCode::ScrollLock,
-            KeyCode::NumLock,
-            KeyCode::PrintScreen,
-            KeyCode::Pause,
-            KeyCode::Menu,
-            KeyCode::KeypadBegin,
-        ]
+    fn rows<'a>() -> &'a [(&'static str, KeyCode)] {
+        named_variants!(KeyCode:
+            Backspace Enter Left Right Up Down Home End PageUp PageDown Tab BackTab Delete Insert
+            Null Esc CapsLock ScrollLock NumLock PrintScreen Pause Menu KeypadBegin
+        )
     }
 }
 
 // Only the variants that hold nothing are listed.
 impl Named for MouseEventKind {
-    ghost name = { mouse_variant };
+    ghost rows = { plain_mouse.rows };
 
-    ghost all = { plain_mouse };
-
-    fn name(self) -> &'static str {
-        match self {
-            MouseEventKind::Down(_) => "Down",
-            MouseEventKind::Up(_) => "Up",
-            MouseEventKind::Drag(_) => "Drag",
-            MouseEventKind::Moved => "Moved",
-            MouseEventKind::ScrollDown => "ScrollDown",
-            MouseEventKind::ScrollUp => "ScrollUp",
-            MouseEventKind::ScrollLeft => "ScrollLeft",
-            MouseEventKind::ScrollRight => "ScrollRight",
-        }
-    }
-
-    fn all<'a>() -> &'a [MouseEventKind] {
-        &[
-            MouseEventKind::Moved,
-            MouseEventKind::ScrollDown,
-            MouseEventKind::ScrollUp,
-            MouseEventKind::ScrollLeft,
-            MouseEventKind::ScrollRight,
-        ]
+    fn rows<'a>() -> &'a [(&'static str, MouseEventKind)] {
+        named_variants!(MouseEventKind: Moved ScrollDown ScrollUp ScrollLeft ScrollRight)
     }
 }
