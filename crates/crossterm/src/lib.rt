@@ -4,6 +4,21 @@
 //! and readers in `crossterm_read`; how a command gets to a writer, and how a terminal reads it, in `crossterm_command`; `Print` in
 //! `crossterm_style`. What each promises stands in that crate. The commands themselves are here: what a terminal is told by them is
 //! `specs/Functions.antt`, and a command's text is the bytes of that.
+//!
+//! What to believe, in the order in which it reads (`specs/`), and where it is proved:
+//!
+//! | Definitions | Lines | Of | Contract |
+//! |---|---|---|---|
+//! | `Clipboard` | 67 | places of a copy, and what a copy tells | `CopyToClipboard` |
+//! | `Sequences` | 66 | what a terminal is told by commands that have fields | `Command::text` of each |
+//! | `Functions` | 77 | the same of all commands, by their fields | `write_commands`, `queue_all` |
+//! | `Painted` | 32 | what they do to the look | `write_commands`, `queue_all` (`shown`) |
+//! | `Updates` | 17 | an update that a terminal shows at once | `SynchronizedUpdate::sync_update` |
+//! | `Modes` | 18 | a terminal's modes and its size | `Terminal::{enable_raw_mode, disable_raw_mode, window_size, size}` |
+//! | `Sizes` | 31 | sizes as `tput` writes them | `tput_value` |
+//! | `Stty` | 28 | a helper that runs `stty` | `SttyDevice` |
+//! | `Asking` | 32 | queries, and raw mode around them | `cursor::position`, `terminal::query_keyboard_enhancement_flags` |
+//! | `Values` | 14 | what is cleared, as JSON and in its order | `ClearType`; `laws::declared_order` |
 #![tactic(auto)]
 
 pub mod clipboard;

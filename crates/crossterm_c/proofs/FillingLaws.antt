@@ -4,9 +4,9 @@ use Rattle.std.proofs.lemmas.List.{map-append}
 use Rattle.crossterm_types.specs.Seen.{Seen}
 use Rattle.crossterm_types.specs.Seen as seen
 use Rattle.crossterm_types.specs.declared.event.key.KeyEvent.{KeyEvent}
-use Rattle.crossterm_parse.specs.Machine.{Opens, is_paste}
+use Rattle.crossterm_parse.specs.inside.Automaton.{Opens, is_paste}
 use Rattle.crossterm_parse.specs.Meaning.{seen_meaning}
-use Rattle.crossterm_parse.specs.Standing.{Gives}
+use Rattle.crossterm_parse.specs.inside.Putting.{Gives}
 use Rattle.crossterm_parse.specs.declared.meaning.Meaning.{Meaning}
 use Rattle.crossterm_parse.specs.declared.meaning.Meaning.TheVariants.{Key}
 use Rattle.crossterm_parse.specs.declared.state.State.{State}

@@ -3,18 +3,19 @@ use Rattle.std.proofs.Common.{◌≡◌, ◌==◌, ◌≤◌, ◌<◌, ℕ, ◌+
 use Rattle.std.proofs.lemmas.List.{append-nil, length-append, take-append-le, take_more, take_rest}
 use Rattle.std.proofs.Math.Seq.{take-add}
 use Rattle.crossterm_types.specs.Seen.{Seen}
-use Rattle.crossterm_parse.specs.Machine.{is_paste, met_after, met_anew, state_after, state_left, text_left, events_left}
+use Rattle.crossterm_parse.specs.inside.Automaton.{is_paste, met_after, met_anew, state_after, state_left, text_left, events_left}
 use Rattle.crossterm_parse.specs.Marked.{marked}
 use Rattle.crossterm_parse.specs.Meaning.{pasted}
-use Rattle.crossterm_parse.specs.Standing.{AdvancesOver, PutsAll, PutsByte}
-use Rattle.crossterm_parse.specs.Step.{Step, Open, Closed}
+use Rattle.crossterm_parse.specs.View.{AdvancesOver}
+use Rattle.crossterm_parse.specs.inside.Putting.{PutsAll, PutsByte}
+use Rattle.crossterm_parse.specs.inside.Step.{Step, Open, Closed}
 use Rattle.crossterm_parse.specs.declared.paste.Met.{Met}
 use Rattle.crossterm_parse.specs.declared.paste.Met.TheVariants as met
 use Rattle.crossterm_parse.specs.declared.state.State.{State}
-use Rattle.crossterm_parse.specs.declared.state.State.TheVariants.{Ground, Escape, Ss3, Csi, Bracket, Coded, Sgr, Private, Reply, Numbered, Paste, Utf8}
-use Rattle.crossterm_parse.proofs.StandingLaws.{advance_more}
+use Rattle.crossterm_parse.specs.declared.state.State.TheVariants.{Ground, Escape, Ss3, Csi, LinuxKey, X10, Sgr, Private, Reply, Numbered, Paste, Utf8}
+use Rattle.crossterm_parse.proofs.ViewLaws.{advance_more}
 use Rattle.crossterm_parse.proofs.RunLaws.{advance_rest, puts_paste}
-use Rattle.crossterm_c.specs.Feeding.{after_paste, standing}
+use Rattle.crossterm_c.specs.Feeding.{after_paste, view_of}
 
 -- the bytes of a piece up to a place, and more of what is left
 pub taken_on : (piece : List ℕ) (i n : ℕ) → take i piece ++ take n (take (length piece - i) (drop i piece)) ≡ take (i + n) piece
@@ -22,14 +23,14 @@ taken_on piece i n = ap (λ (bs : List ℕ). take i piece ++ take n bs) (take_re
 
 -- bytes were skipped
 pub skipped : (old mid : State) (kept : List ℕ) (waiting : List Seen) (piece : List ℕ) (more raw : Bool) (i n : ℕ) → i + n ≤ length piece
-    → ((before : List ℕ) → PutsAll (standing mid before waiting) (standing mid (before ++ take n (take (length piece - i) (drop i piece))) waiting) (take n (take (length piece - i) (drop i piece))))
-    → AdvancesOver (standing old kept waiting) (standing mid (kept ++ take i piece) waiting) (take i (marked piece more raw))
-    → AdvancesOver (standing old kept waiting) (standing mid (kept ++ take (i + n) piece) waiting) (take (i + n) (marked piece more raw))
+    → ((before : List ℕ) → PutsAll (view_of mid before waiting) (view_of mid (before ++ take n (take (length piece - i) (drop i piece))) waiting) (take n (take (length piece - i) (drop i piece))))
+    → AdvancesOver (view_of old kept waiting) (view_of mid (kept ++ take i piece) waiting) (take i (marked piece more raw))
+    → AdvancesOver (view_of old kept waiting) (view_of mid (kept ++ take (i + n) piece) waiting) (take (i + n) (marked piece more raw))
 skipped old mid kept waiting piece more raw i n l puts before =
     let rest = take n (take (length piece - i) (drop i piece)) in
     let whole : (kept ++ take i piece) ++ rest ≡ kept ++ take (i + n) piece = append_assoc kept (take i piece) rest ∙ ap (λ (bs : List ℕ). kept ++ bs) (taken_on piece i n) in
-    subst (λ (bs : List ℕ). AdvancesOver (standing old kept waiting) (standing mid bs waiting) (take (i + n) (marked piece more raw))) whole
-    (advance_rest n (standing old kept waiting) (standing mid (kept ++ take i piece) waiting) (standing mid ((kept ++ take i piece) ++ rest) waiting) piece more raw i l (puts (kept ++ take i piece)) before)
+    subst (λ (bs : List ℕ). AdvancesOver (view_of old kept waiting) (view_of mid bs waiting) (take (i + n) (marked piece more raw))) whole
+    (advance_rest n (view_of old kept waiting) (view_of mid (kept ++ take i piece) waiting) (view_of mid ((kept ++ take i piece) ++ rest) waiting) piece more raw i l (puts (kept ++ take i piece)) before)
 
 left_anew : (t : Bool) (m : Met) (b : ℕ) → is_paste (state_left (if t then Open (Paste m) else met_anew b)) ≡ true
 left_anew true m b = refl
@@ -54,8 +55,8 @@ paste_goes_on Ground new b raw pause h e = cc
 paste_goes_on Escape new b raw pause h e = cc
 paste_goes_on Ss3 new b raw pause h e = cc
 paste_goes_on Csi new b raw pause h e = cc
-paste_goes_on Bracket new b raw pause h e = cc
-paste_goes_on (Coded c) new b raw pause h e = cc
+paste_goes_on LinuxKey new b raw pause h e = cc
+paste_goes_on (X10 c) new b raw pause h e = cc
 paste_goes_on (Sgr d) new b raw pause h e = cc
 paste_goes_on Private new b raw pause h e = cc
 paste_goes_on (Reply f) new b raw pause h e = cc
@@ -69,9 +70,9 @@ text_goes_on false t text b hs ht = cc
 
 -- a byte with which a paste goes on
 pub byte_goes_on : (old new : State) (text : List ℕ) (waiting : List Seen) (b : ℕ) (raw pause : Bool) → is_paste old ≡ true → state_after old b raw false ≡ Open new
-    → PutsByte (standing old text waiting) (standing new (text ++ b ∷ []) waiting) b raw pause
+    → PutsByte (view_of old text waiting) (view_of new (text ++ b ∷ []) waiting) b raw pause
 byte_goes_on old new text waiting b raw pause h opens =
-    puts_paste (standing old text waiting) (standing new (text ++ b ∷ []) waiting) b raw raw false pause h (
+    puts_paste (view_of old text waiting) (view_of new (text ++ b ∷ []) waiting) b raw raw false pause h (
       ap (λ (s : Step). state_left s) (sym opens),
       text_goes_on (is_paste old) (is_paste new) text b h (paste_goes_on old new b raw false h opens) ∙ ap (λ (s : Step). text_left s old text b) (sym opens),
       sym (append-nil waiting) ∙ ap (λ (s : Step). waiting ++ events_left s text) (sym opens),
@@ -79,9 +80,9 @@ byte_goes_on old new text waiting b raw pause h opens =
 
 -- the byte with which it is over
 pub byte_closes : (old : State) (text : List ℕ) (waiting : List Seen) (b : ℕ) (raw pause : Bool) → is_paste old ≡ true → state_after old b raw false ≡ Closed
-    → PutsByte (standing old text waiting) (standing Ground [] (waiting ++ pasted (take (length text - 5) text) ∷ [])) b raw pause
+    → PutsByte (view_of old text waiting) (view_of Ground [] (waiting ++ pasted (take (length text - 5) text) ∷ [])) b raw pause
 byte_closes old text waiting b raw pause h closes =
-    puts_paste (standing old text waiting) (standing Ground [] (waiting ++ pasted (take (length text - 5) text) ∷ [])) b raw raw false pause h (
+    puts_paste (view_of old text waiting) (view_of Ground [] (waiting ++ pasted (take (length text - 5) text) ∷ [])) b raw raw false pause h (
       ap (λ (s : Step). state_left s) (sym closes),
       ap (λ (s : Step). text_left s old text b) (sym closes),
       ap (λ (s : Step). waiting ++ events_left s text) (sym closes),
@@ -102,25 +103,25 @@ kept_more kept piece i b l is = append_assoc kept (take i piece) (b ∷ [])
 -- a byte more of an open paste
 pub paste_more : (old mid new : State) (kept : List ℕ) (waiting : List Seen) (piece : List ℕ) (more raw : Bool) (i b : ℕ) → i < length piece → b ≡ get_or piece i 0
     → is_paste mid ≡ true → state_after mid b raw false ≡ Open new
-    → AdvancesOver (standing old kept waiting) (standing mid (kept ++ take i piece) waiting) (take i (marked piece more raw))
-    → AdvancesOver (standing old kept waiting) (standing new (kept ++ take (i + 1) piece) waiting) (take (i + 1) (marked piece more raw))
+    → AdvancesOver (view_of old kept waiting) (view_of mid (kept ++ take i piece) waiting) (take i (marked piece more raw))
+    → AdvancesOver (view_of old kept waiting) (view_of new (kept ++ take (i + 1) piece) waiting) (take (i + 1) (marked piece more raw))
 paste_more old mid new kept waiting piece more raw i b l is h opens before =
     let text = kept ++ take i piece in
     let pause = not more && (i + 1 == length piece) in
     let puts = byte_goes_on mid new text waiting b raw pause h opens in
-    subst (λ (bs : List ℕ). AdvancesOver (standing old kept waiting) (standing new bs waiting) (take (i + 1) (marked piece more raw))) (kept_more kept piece i b l is)
-    (advance_more (standing old kept waiting) (standing mid text waiting) (standing new (text ++ b ∷ []) waiting) piece more raw i b pause l is refl puts.0 puts.1 puts.2 before)
+    subst (λ (bs : List ℕ). AdvancesOver (view_of old kept waiting) (view_of new bs waiting) (take (i + 1) (marked piece more raw))) (kept_more kept piece i b l is)
+    (advance_more (view_of old kept waiting) (view_of mid text waiting) (view_of new (text ++ b ∷ []) waiting) piece more raw i b pause l is refl puts.0 puts.1 puts.2 before)
 
 -- the last byte of it
 pub paste_closes : (old mid : State) (kept : List ℕ) (waiting : List Seen) (piece : List ℕ) (more raw : Bool) (i b : ℕ) → i < length piece → b ≡ get_or piece i 0
     → is_paste mid ≡ true → state_after mid b raw false ≡ Closed
-    → AdvancesOver (standing old kept waiting) (standing mid (kept ++ take i piece) waiting) (take i (marked piece more raw))
-    → AdvancesOver (standing old kept waiting) (after_paste Ground (kept ++ take (i + 1) piece) waiting true) (take (i + 1) (marked piece more raw))
+    → AdvancesOver (view_of old kept waiting) (view_of mid (kept ++ take i piece) waiting) (take i (marked piece more raw))
+    → AdvancesOver (view_of old kept waiting) (after_paste Ground (kept ++ take (i + 1) piece) waiting true) (take (i + 1) (marked piece more raw))
 paste_closes old mid kept waiting piece more raw i b l is h closes before =
     let text = kept ++ take i piece in
     let pause = not more && (i + 1 == length piece) in
     let puts = byte_closes mid text waiting b raw pause h closes in
     let same : take (length text - 5) text ≡ take (length (kept ++ take (i + 1) piece) - 6) (kept ++ take (i + 1) piece) =
     text_of_kept text b ∙ ap (λ (bs : List ℕ). take (length bs - 6) bs) (kept_more kept piece i b l is) in
-    subst (λ (bs : List ℕ). AdvancesOver (standing old kept waiting) (standing Ground [] (waiting ++ pasted bs ∷ [])) (take (i + 1) (marked piece more raw))) same
-    (advance_more (standing old kept waiting) (standing mid text waiting) (standing Ground [] (waiting ++ pasted (take (length text - 5) text) ∷ [])) piece more raw i b pause l is refl puts.0 puts.1 puts.2 before)
+    subst (λ (bs : List ℕ). AdvancesOver (view_of old kept waiting) (view_of Ground [] (waiting ++ pasted bs ∷ [])) (take (i + 1) (marked piece more raw))) same
+    (advance_more (view_of old kept waiting) (view_of mid text waiting) (view_of Ground [] (waiting ++ pasted (take (length text - 5) text) ∷ [])) piece more raw i b pause l is refl puts.0 puts.1 puts.2 before)

@@ -10,9 +10,9 @@ use Rattle.crossterm_parse.specs.declared.character.Begun.{Begun}
 use Rattle.crossterm_parse.specs.declared.character.Begun.TheVariants as begun
 use Rattle.crossterm_parse.specs.declared.utf8.Validity.{Validity}
 use Rattle.crossterm_parse.specs.declared.utf8.Validity.TheVariants as validity
-use Rattle.crossterm_parse.specs.declared.numbered.Digits.{Digits}
-use Rattle.crossterm_parse.specs.declared.mouse.Codes.{Codes}
-use Rattle.crossterm_parse.specs.declared.mouse.Codes.TheVariants as codes
+use Rattle.crossterm_parse.specs.declared.numbered.Parameters.{Parameters}
+use Rattle.crossterm_parse.specs.declared.mouse.X10Report.{X10Report}
+use Rattle.crossterm_parse.specs.declared.mouse.X10Report.TheVariants as x10
 use Rattle.crossterm_parse.specs.declared.paste.Met.{Met}
 use Rattle.crossterm_parse.specs.declared.paste.Met.TheVariants as met
 use Rattle.crossterm_parse.specs.declared.paste.Opening.{Opening}
@@ -55,12 +55,12 @@ abbrev pub validity_by : ℕ → GelvanhBytes → Validity
 validity_by n numbers = if n == 0 then validity.Sound else if n == 1 then validity.Partial (begun_at numbers) else validity.Broken
 
 -- The bytes after `ESC [ M`: none, one, or else two.
-abbrev pub codes_at : GelvanhBytes → Codes
-codes_at numbers = if numbers.count == 0 then codes.Empty else if numbers.count == 1 then codes.Code numbers.first else codes.Column numbers.first numbers.second
+abbrev pub x10_at : GelvanhBytes → X10Report
+x10_at numbers = if numbers.count == 0 then x10.Empty else if numbers.count == 1 then x10.Code numbers.first else x10.Column numbers.first numbers.second
 
 -- What is read of a numbered sequence or of a report of the mouse.
-abbrev pub digits_at : GelvanhState → Digits
-digits_at numbers = record {
+abbrev pub parameters_at : GelvanhState → Parameters
+parameters_at numbers = record {
   fields = record {
     first = record { first = number_at numbers.one; second = number_at numbers.one_more; part = part_at numbers.part_one };
     second = record { first = number_at numbers.two; second = number_at numbers.two_more; part = part_at numbers.part_two };
@@ -77,12 +77,12 @@ state_at numbers =
     if numbers.kind == 1 then state.Escape else
     if numbers.kind == 2 then state.Ss3 else
     if numbers.kind == 3 then state.Csi else
-    if numbers.kind == 4 then state.Bracket else
-    if numbers.kind == 5 then state.Coded (codes_at numbers.begun) else
-    if numbers.kind == 6 then state.Sgr (digits_at numbers) else
+    if numbers.kind == 4 then state.LinuxKey else
+    if numbers.kind == 5 then state.X10 (x10_at numbers.begun) else
+    if numbers.kind == 6 then state.Sgr (parameters_at numbers) else
     if numbers.kind == 7 then state.Private else
     if numbers.kind == 8 then state.Reply numbers.last else
-    if numbers.kind == 9 then state.Numbered (digits_at numbers) (opening_at numbers.opening) else
+    if numbers.kind == 9 then state.Numbered (parameters_at numbers) (opening_at numbers.opening) else
     if numbers.kind == 10 then state.Paste (met_at numbers.opening) else
     if numbers.kind == 11 then state.Utf8 (record { escaped = not (numbers.escaped == 0); begun = begun_at numbers.begun }) else
     state.Ground

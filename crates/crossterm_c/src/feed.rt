@@ -1,10 +1,10 @@
 //! Bytes to events.
 ghost use Rattle.std.specs.Prelude.{◌≡◌, ◌≢◌, ◌⊎◌, ◌≤◌, ◌<◌, not, true, false, Bool, ℕ, List, ◌++◌, length, take};
 ghost use Rattle.crossterm_types.specs.Seen.{Seen};
-ghost use Rattle.crossterm_parse.specs.Machine.{is_paste};
+ghost use Rattle.crossterm_parse.specs.inside.Automaton.{is_paste};
 ghost use Rattle.crossterm_parse.specs.Marked.{marked};
-ghost use Rattle.crossterm_parse.specs.Standing.{PutsAll};
-ghost use Rattle.crossterm_c.specs.Feeding.{Feeds, FillsOver, Pastes, standing};
+ghost use Rattle.crossterm_parse.specs.inside.Putting.{PutsAll};
+ghost use Rattle.crossterm_c.specs.Feeding.{Feeds, FillsOver, Pastes, view_of};
 
 use crate::event::{GelvanhEvent, paste_end};
 use crate::table::{give, put, run};
@@ -54,7 +54,7 @@ fn feed_sequences<L: Ledger>(
 fn skip_text<L: Ledger>(state: &State, bytes: &[u8], steps: &mut Steps<L>) -> usize
     requires { is_paste state.now ≡ true }
     ensures within { result ≤ length bytes.now }
-    ensures puts { (kept : List ℕ) (waiting : List Seen) → PutsAll (standing state.now kept waiting) (standing state.now (kept ++ take result bytes.now) waiting) (take result bytes.now) }
+    ensures puts { (kept : List ℕ) (waiting : List Seen) → PutsAll (view_of state.now kept waiting) (view_of state.now (kept ++ take result bytes.now) waiting) (take result bytes.now) }
 {
     match state {
         State::Paste(Met::Nothing) => {

@@ -4,6 +4,17 @@
 //! and none blocks. `gelvanh_feed` follows the only division of the bytes as `Parser::advance` does (`specs/Feeding.antt`); what the
 //! numbers of a state, an event and a command mean is `specs/State.antt`, `specs/Event.antt` and `specs/Command.antt`. The header for C is
 //! `bindings/c/gelvanh.h`.
+//!
+//! What to believe, in the order in which it reads (`specs/`), and where it is proved:
+//!
+//! | Definitions | Lines | Of | Contract |
+//! |---|---|---|---|
+//! | `State` | 88 | the state of an open sequence as numbers | `gelvanh_is_undecided`, `gelvanh_is_pasting` |
+//! | `Event` | 86 | events as numbers | `gelvanh_feed` |
+//! | `Feeding` | 54 | what a call does that takes bytes | `gelvanh_feed` |
+//! | `Text` | 18 | the text of a paste, piece by piece | `gelvanh_paste_text` |
+//! | `Command` | 206 | commands as numbers, and their texts | `gelvanh_command`, `gelvanh_print` and the like |
+//! | `Outlet` | 9 | a slice that takes what fits | the same |
 #![tactic(auto)]
 
 mod color;

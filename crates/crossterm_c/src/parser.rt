@@ -1,6 +1,6 @@
 //! The parser's calls.
 ghost use Rattle.std.specs.Prelude.{◌≡◌, ◌≢◌, ◌⊎◌, ◌↔◌, ◌≤◌, ◌<◌, List, length, take, IsTrue, []};
-ghost use Rattle.crossterm_parse.specs.Machine.{StandsFor, is_paste};
+ghost use Rattle.crossterm_parse.specs.inside.Automaton.{StateRepresents, is_paste};
 ghost use Rattle.crossterm_parse.specs.Marked.{bytes_of, marked};
 ghost use Rattle.crossterm_parse.specs.declared.marked.Marked.{Marked};
 ghost use Rattle.crossterm_c.specs.Feeding.{Feeds};
@@ -50,7 +50,7 @@ pub extern "C" fn gelvanh_feed(
 /// Whether bytes were taken that are no whole sequence yet.
 #[unsafe(no_mangle)]
 pub extern "C" fn gelvanh_is_undecided(state: &GelvanhState) -> bool
-    ensures { (before : List Marked) → StandsFor (state_at state.now) (bytes_of before) → (IsTrue result ↔ (before ≢ [])) }
+    ensures { (before : List Marked) → StateRepresents (state_at state.now) (bytes_of before) → (IsTrue result ↔ (before ≢ [])) }
 {
     !matches!(state_of(state), State::Ground)
 }

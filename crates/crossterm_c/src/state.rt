@@ -1,12 +1,12 @@
 //! The state of an open sequence as numbers, and back.
 ghost use Rattle.std.specs.Prelude.{◌≡◌};
-ghost use Rattle.crossterm_c.specs.State.{codes_at, number_at, part_at, place_at, begun_at, opening_at, met_at, digits_at, state_at};
+ghost use Rattle.crossterm_c.specs.State.{x10_at, number_at, part_at, place_at, begun_at, opening_at, met_at, parameters_at, state_at};
 
 use crossterm_parse::character::{Begun, Character};
 use crossterm_parse::fields::{Field, Fields, Part, Place};
-use crossterm_parse::mouse::Codes;
+use crossterm_parse::mouse::X10Report;
 use crossterm_parse::number::Number;
-use crossterm_parse::numbered::Digits;
+use crossterm_parse::numbered::Parameters;
 use crossterm_parse::paste::{Met, Opening};
 use crossterm_parse::state::State;
 use crossterm_parse::utf8::Validity;
@@ -128,13 +128,13 @@ fn begun_of(flat: GelvanhBytes) -> Begun
     }
 }
 
-fn flat_codes(codes: Codes) -> GelvanhBytes
-    ensures { codes_at result ≡ codes }
+fn flat_x10(report: X10Report) -> GelvanhBytes
+    ensures { x10_at result ≡ report }
 {
-    let (count, first, second) = match codes {
-        Codes::Empty => (0, 0, 0),
-        Codes::Code(code) => (1, code, 0),
-        Codes::Column(code, column) => (2, code, column),
+    let (count, first, second) = match report {
+        X10Report::Empty => (0, 0, 0),
+        X10Report::Code(code) => (1, code, 0),
+        X10Report::Column(code, column) => (2, code, column),
     };
     GelvanhBytes {
         count,
@@ -244,38 +244,38 @@ fn empty(kind: u8) -> GelvanhState
     }
 }
 
-fn flat_digits(kind: u8, digits: &Digits, opening: u8) -> GelvanhState
-    ensures digits { digits_at result ≡ digits.now }
+fn flat_parameters(kind: u8, parameters: &Parameters, opening: u8) -> GelvanhState
+    ensures parameters { parameters_at result ≡ parameters.now }
     ensures kind { result.kind ≡ kind }
     ensures opening { result.opening ≡ opening }
 {
-    let (validity, begun) = match digits.validity {
+    let (validity, begun) = match parameters.validity {
         Validity::Sound => (0, GelvanhBytes::default()),
         Validity::Partial(begun) => (1, flat_begun(begun)),
         Validity::Broken => (2, GelvanhBytes::default()),
     };
     GelvanhState {
         kind,
-        part_one: flat_part(digits.fields.first.part),
-        part_two: flat_part(digits.fields.second.part),
-        place: flat_place(digits.fields.place),
-        last: digits.last,
+        part_one: flat_part(parameters.fields.first.part),
+        part_two: flat_part(parameters.fields.second.part),
+        place: flat_place(parameters.fields.place),
+        last: parameters.last,
         validity,
         opening,
         escaped: 0,
         begun,
-        one: flat_number(digits.fields.first.first),
-        one_more: flat_number(digits.fields.first.second),
-        two: flat_number(digits.fields.second.first),
-        two_more: flat_number(digits.fields.second.second),
-        three: flat_number(digits.fields.third),
+        one: flat_number(parameters.fields.first.first),
+        one_more: flat_number(parameters.fields.first.second),
+        two: flat_number(parameters.fields.second.first),
+        two_more: flat_number(parameters.fields.second.second),
+        three: flat_number(parameters.fields.third),
     }
 }
 
-fn digits_of(flat: &GelvanhState) -> Digits
-    ensures { result ≡ digits_at flat.now }
+fn parameters_of(flat: &GelvanhState) -> Parameters
+    ensures { result ≡ parameters_at flat.now }
 {
-    Digits {
+    Parameters {
         fields: Fields {
             first: Field {
                 first: number_of(flat.one),
@@ -308,20 +308,24 @@ pub fn flatten(state: &State) -> GelvanhState
         State::Escape => empty(1),
         State::Ss3 => empty(2),
         State::Csi => empty(3),
-        State::Bracket => empty(4),
-        State::Coded(codes) => {
+        State::LinuxKey => empty(4),
+        State::X10(report) => {
             let mut flat = empty(5);
-            flat.begun = flat_codes(*codes);
+            flat.begun = flat_x10(*report);
             flat
         }
-        State::Sgr(digits) => flat_digits(6, digits, 0),
+        State::Sgr(parameters) => flat_parameters(6, parameters, 0),
         State::Private => empty(7),
         State::Reply(first) => {
             let mut flat = empty(8);
             flat.last = *first;
             flat
         }
-        State::Numbered(digits, opening) => flat_digits(9, digits, flat_opening(*opening)),
+        State::Numbered(parameters, opening) => flat_parameters(
+            9,
+            parameters,
+            flat_opening(*opening),
+        ),
         State::Paste(met) => {
             let mut flat = empty(10);
             flat.opening = flat_met(*met);
@@ -344,16 +348,16 @@ pub fn state_of(flat: &GelvanhState) -> State
         1 => State::Escape,
         2 => State::Ss3,
         3 => State::Csi,
-        4 => State::Bracket,
-        5 => State::Coded(match flat.begun.count {
-            0 => Codes::Empty,
-            1 => Codes::Code(flat.begun.first),
-            _ => Codes::Column(flat.begun.first, flat.begun.second),
+        4 => State::LinuxKey,
+        5 => State::X10(match flat.begun.count {
+            0 => X10Report::Empty,
+            1 => X10Report::Code(flat.begun.first),
+            _ => X10Report::Column(flat.begun.first, flat.begun.second),
         }),
-        6 => State::Sgr(digits_of(flat)),
+        6 => State::Sgr(parameters_of(flat)),
         7 => State::Private,
         8 => State::Reply(flat.last),
-        9 => State::Numbered(digits_of(flat), opening_of(flat.opening)),
+        9 => State::Numbered(parameters_of(flat), opening_of(flat.opening)),
         10 => State::Paste(met_of(flat.opening)),
         11 => State::Utf8(Character {
             escaped: flat.escaped != 0,

@@ -1,12 +1,12 @@
 //! Runs of bytes outside of a paste, and their events in the caller's table: what `Parser` does with its own queue.
 ghost use Rattle.std.specs.Prelude.{◌≡◌, ◌+◌, ◌≤◌, ◌<◌, false, ℕ, List, ◌++◌, ◌∷◌, [], length, take};
 ghost use Rattle.crossterm_types.specs.Seen.{Key};
-ghost use Rattle.crossterm_parse.specs.Machine.{is_paste};
+ghost use Rattle.crossterm_parse.specs.inside.Automaton.{is_paste};
 ghost use Rattle.crossterm_c.specs.Event.{event_at};
 ghost use Rattle.crossterm_c.specs.Feeding.{FillsAll, FillsByte};
 
 use crate::event::{GelvanhEvent, of_key, of_meaning};
-use crossterm_parse::meaning::{letter_key, typed_key};
+use crossterm_parse::meaning::{ascii_key, typed_key};
 use crossterm_parse::state::{Progress, State};
 use crossterm_parse::steps::Steps;
 use std::sync::ledger::Ledger;
@@ -70,7 +70,7 @@ fn give_letters<L: Ledger>(
     let most = bytes.len().min(events.len() - *given);
     let count = state.put_letters(&bytes[..most], steps);
     for letter in &bytes[..count] {
-        give(events, given, of_key(letter_key(*letter)));
+        give(events, given, of_key(ascii_key(*letter)));
     }
     count
 }

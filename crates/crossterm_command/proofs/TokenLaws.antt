@@ -3,7 +3,7 @@ use Rattle.std.proofs.Common.{◌≡◌, ℕ, List, [], ◌∷◌, ◌++◌, ref
 use Rattle.std.specs.Char.{encode_utf8}
 use Rattle.std.specs.List.{AllByRecursion}
 use Rattle.std.proofs.lemmas.Str.{encode_same}
-use Rattle.crossterm_command.specs.Tokens.{OscEnd, Token, IsParameter, IsIntermediate, IsFinal, IsOscText, IsPlain, IsWellFormed, NoneBeginsAnother, OneReading, ending, spelled, text_of}
+use Rattle.crossterm_command.specs.Tokens.{OscEnd, Token, IsParameter, IsIntermediate, IsFinal, IsOscText, IsPlain, IsWellFormed, TokensArePrefixFree, UniqueReading, ending, spelled, text_of}
 use Rattle.crossterm_command.specs.Tokens.OscEnd.{St, Bell}
 use Rattle.crossterm_command.specs.Tokens.Token.{Char, Csi, Osc, Private}
 
@@ -53,7 +53,7 @@ not_escape : (c : ℕ) (x y : List ℕ) → IsPlain c → encode_utf8 c ++ x ≡
 unfolding encode_utf8
 not_escape c x y n e = n (encode_same c 0x1B x y e).0
 
-pub none_begins_another : NoneBeginsAnother
+pub none_begins_another : TokensArePrefixFree
 none_begins_another (Char c) (Char d) x y p q e = let (same, rest) = encode_same c d x y e in (ap Char same, rest)
 none_begins_another (Char c) (Csi qs js g) x y p q e = absurd (not_escape c x _ p.1 e)
 none_begins_another (Char c) (Osc u b) x y p q e = absurd (not_escape c x _ p.1 e)
@@ -101,5 +101,5 @@ same_text (t ∷ ts) (u ∷ us) p q e =
     let others = same_text ts us p.1 q.1 rest in
     cc
 
-pub one_reading : OneReading
+pub one_reading : UniqueReading
 one_reading bytes ts us p q = same_text ts us p.0 q.0 (p.1 ∙ sym q.1)

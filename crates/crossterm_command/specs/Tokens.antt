@@ -74,9 +74,9 @@ abbrev pub Reads : List ℕ → List Token → Type 0
 Reads bytes ts = AllByRecursion IsWellFormed ts × (text_of ts ≡ bytes)
 
 -- Two tokens that begin one text are the same, and end at one place: no spelling of a token begins another one's.
-abbrev pub NoneBeginsAnother : Type 0
-NoneBeginsAnother = (t u : Token) (rest more : List ℕ) → IsWellFormed t → IsWellFormed u → spelled t rest ≡ spelled u more → (t ≡ u) × (rest ≡ more)
+abbrev pub TokensArePrefixFree : Type 0
+TokensArePrefixFree = (t u : Token) (rest more : List ℕ) → IsWellFormed t → IsWellFormed u → spelled t rest ≡ spelled u more → (t ≡ u) × (rest ≡ more)
 
 -- Bytes read as tokens in one way at most.
-abbrev pub OneReading : Type 0
-OneReading = (bytes : List ℕ) (ts us : List Token) → Reads bytes ts → Reads bytes us → ts ≡ us
+abbrev pub UniqueReading : Type 0
+UniqueReading = (bytes : List ℕ) (ts us : List Token) → Reads bytes ts → Reads bytes us → ts ≡ us

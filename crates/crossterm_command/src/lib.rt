@@ -3,10 +3,20 @@
 //! It stands on the kit alone. The layers above use that a command which was written is exactly its text, or a beginning of it with an
 //! error (`specs/Writing.antt`), and that bytes read back as control functions and characters in one way at most (`specs/Tokens.antt`,
 //! whose law stands on `laws::one_reading`). Lemmas for their proofs are `proofs/Texts.antt` and `proofs/Readings.antt`.
+//!
+//! What to believe, in the order in which it reads (`specs/`), and where it is proved:
+//!
+//! | Definitions | Lines | Of | Contract |
+//! |---|---|---|---|
+//! | `Tokens` | 82 | how a terminal reads bytes | `laws::one_reading` |
+//! | `Controls` | 28 | control sequences by parameters and a letter | |
+//! | `Writing` | 37 | what a writer's bytes grow by | `write_text`, `write_command`, `queue`, `execute` and the like |
+//! | `Faults` | 20 | why a command was stopped, and what was written | `CommandFault`, `send_command` |
+//! | `Environment` | 8 | values of environment variables | `ColorOutput::from_env` |
 #![tactic(auto)]
 
-mod ansi;
 mod color_output;
+mod command;
 mod fault;
 pub mod laws;
 mod queueable;
@@ -14,8 +24,8 @@ mod shown;
 mod tries;
 mod writing;
 
-pub use ansi::Command;
 pub use color_output::ColorOutput;
+pub use command::Command;
 pub use fault::CommandFault;
 pub use queueable::{ExecutableCommand, QueueableCommand, execute_command, queue_command};
 pub use shown::execute_fmt;

@@ -6,6 +6,17 @@
 //! For the crates above stand here too what it means that a type's comparisons
 //! go by an order (`specs/Orders.antt`), the names and ranks of an enum's variants by one table (`specs/Variants.antt`), and the lemmas that
 //! an enum's derived comparisons go by ranks (`proofs/Ranks.antt`).
+//!
+//! What to believe, in the order in which it reads (`specs/`), and where it is proved:
+//!
+//! | Definitions | Lines | Of | Contract |
+//! |---|---|---|---|
+//! | `Bits` | 30 | sets of bits as numbers, by a table of named constants | each method of the three types |
+//! | `Tables` | 28 | the constants of each type | the same |
+//! | `Names` | 17 | the text of a key's modifiers | `Display` of `KeyModifiers` |
+//! | `Variants` | 58 | an enum's variants by one table of names | |
+//! | `Orders` | 8 | what a type's comparisons answer | `laws` of the crates above |
+//! | `Values` | 66 | values as JSON | `Serialize` and `Deserialize` of each |
 #![tactic(auto)]
 
 mod enhancement;

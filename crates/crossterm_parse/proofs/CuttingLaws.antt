@@ -7,48 +7,48 @@ use Rattle.crossterm_parse.specs.Marked.{Marked, bytes_of}
 use Rattle.crossterm_parse.specs.Division.{Divides, IsUndecided}
 use Rattle.crossterm_parse.specs.Grammar.{Whole}
 use Rattle.crossterm_parse.specs.Meaning.{meaning_of}
-use Rattle.crossterm_parse.specs.Standing.{Standing, Stands, AdvancesOver, AdvancesThrough, CutsAlike, EmptyDoesNothing, StepsThrough, TwoStepsAByte, AStepAByte, paste_length}
-use Rattle.crossterm_parse.proofs.DivisionLaws.{one_division}
+use Rattle.crossterm_parse.specs.View.{ParserView, Represents, AdvancesOver, AdvancesThrough, CutsAlike, EmptyDoesNothing, StepsThrough, TwoStepsAByte, AStepAByte, paste_length}
+use Rattle.crossterm_parse.proofs.DivisionLaws.{unique_division}
 use Rattle.crossterm_parse.proofs.GrammarLaws.{nil_not_whole, whole_closes}
-use Rattle.crossterm_parse.proofs.StandingLaws.{advance_join, advance_none}
+use Rattle.crossterm_parse.proofs.ViewLaws.{advance_join, advance_none}
 
 -- many pieces are one
-through_over : (old new : Standing) (pieces : List (List Marked)) → AdvancesThrough old pieces new → AdvancesOver old new (flat_map (λ piece. piece) pieces)
-through_over old new [] e = subst (λ (s : Standing). AdvancesOver old s []) (sym e) (advance_none old)
+through_over : (old new : ParserView) (pieces : List (List Marked)) → AdvancesThrough old pieces new → AdvancesOver old new (flat_map (λ piece. piece) pieces)
+through_over old new [] e = subst (λ (s : ParserView). AdvancesOver old s []) (sym e) (advance_none old)
 through_over old new (piece ∷ pieces) t = advance_join old t.0 new piece (flat_map (λ p. p) pieces) t.1 (through_over t.0 new pieces t.2)
 
-same_events : (old new other : Standing) (taken before : List Marked) → Stands old before → IsUndecided Whole before → AdvancesOver old new taken → AdvancesOver old other taken
+same_events : (old new other : ParserView) (taken before : List Marked) → Represents old before → IsUndecided Whole before → AdvancesOver old new taken → AdvancesOver old other taken
     → new.waiting ≡ other.waiting
-same_events old new other taken before stands undecided first second =
-    let a = first before stands undecided in
-    let b = second before stands undecided in
-    let same = one_division Whole nil_not_whole whole_closes (before ++ taken) a.parts b.parts a.rest b.rest a.division b.division in
+same_events old new other taken before represents undecided first second =
+    let a = first before represents undecided in
+    let b = second before represents undecided in
+    let same = unique_division Whole nil_not_whole whole_closes (before ++ taken) a.parts b.parts a.rest b.rest a.division b.division in
     a.given ∙ ap (λ (parts : List (List Marked)). old.waiting ++ filter_map meaning_of parts) same.0 ∙ sym b.given
 
 pub cuts_alike : CutsAlike
-cuts_alike old new other pieces others before stands undecided e first second =
-    same_events old new other (flat_map (λ p. p) pieces) before stands undecided (through_over old new pieces first)
+cuts_alike old new other pieces others before represents undecided e first second =
+    same_events old new other (flat_map (λ p. p) pieces) before represents undecided (through_over old new pieces first)
     (subst (λ (taken : List Marked). AdvancesOver old other taken) (sym e) (through_over old other others second))
 
 pub empty_does_nothing : EmptyDoesNothing
-empty_does_nothing old new advance before stands undecided =
-    let a = advance before stands undecided in
+empty_does_nothing old new advance before represents undecided =
+    let a = advance before represents undecided in
     let none : Divides Whole (before ++ []) [] before = record { joined = append-nil before; whole = tt; undecided = undecided } in
-    let same = one_division Whole nil_not_whole whole_closes (before ++ []) a.parts [] a.rest before a.division none in (
+    let same = unique_division Whole nil_not_whole whole_closes (before ++ []) a.parts [] a.rest before a.division none in (
       a.given ∙ ap (λ (parts : List (List Marked)). old.waiting ++ filter_map meaning_of parts) same.0 ∙ append-nil old.waiting,
-      subst (Stands new) same.1 a.stands,
+      subst (Represents new) same.1 a.represents,
     )
 
-steps_through : (old new : Standing) (s t : ℕ) (pieces : List (List Marked)) (before : List Marked) → Stands old before → IsUndecided Whole before → StepsThrough old s pieces new t
+steps_through : (old new : ParserView) (s t : ℕ) (pieces : List (List Marked)) (before : List Marked) → Represents old before → IsUndecided Whole before → StepsThrough old s pieces new t
     → t ≤ s + paste_length (bytes_of before) + 2 * length (flat_map (λ piece. piece) pieces)
-steps_through old new s t [] before stands undecided e = omega (arith, e.1)
-steps_through old new s t (piece ∷ pieces) before stands undecided (mid, m, advance, steps, later) =
-    let a = advance before stands undecided in
+steps_through old new s t [] before represents undecided e = omega (arith, e.1)
+steps_through old new s t (piece ∷ pieces) before represents undecided (mid, m, advance, steps, later) =
+    let a = advance before represents undecided in
     let rest = flat_map (λ p. p) pieces in
-    omega (arith, steps before a.rest stands a.stands, steps_through mid new m t pieces a.rest a.stands a.division.undecided later, length-append piece rest)
+    omega (arith, steps before a.rest represents a.represents, steps_through mid new m t pieces a.rest a.represents a.division.undecided later, length-append piece rest)
 
 pub two_steps_a_byte : TwoStepsAByte
-two_steps_a_byte old new s t pieces before stands undecided none steps = omega (arith, none, steps_through old new s t pieces before stands undecided steps)
+two_steps_a_byte old new s t pieces before represents undecided none steps = omega (arith, none, steps_through old new s t pieces before represents undecided steps)
 
 pub a_step_a_byte : AStepAByte
 a_step_a_byte s t [] e = omega (arith, e)

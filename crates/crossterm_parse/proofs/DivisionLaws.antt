@@ -4,7 +4,7 @@ use Rattle.std.proofs.lemmas.List.{append-nil, append_cancel_left, take-append-l
 use Rattle.std.proofs.lemmas.Bool.{cases_lt}
 use Rattle.std.proofs.lemmas.Grind.{flat_map-append}
 use Rattle.std.specs.List.{flat_map, AllByRecursion}
-use Rattle.crossterm_parse.specs.Division.{IsUndecided, Divides, NoneBeginsAnother, OneDivision, SomeDivision}
+use Rattle.crossterm_parse.specs.Division.{IsUndecided, Divides, IsPrefixFree, UniqueDivision, SomeDivision}
 
 -- of two fronts of one list, one is a front of the other
 pub two_fronts : {X : Type 0} (p q a b : List X) → p ++ a ≡ q ++ b → ((x : List X) × (q ≡ p ++ x)) ⊎ ((x : List X) × (p ≡ q ++ x))
@@ -25,13 +25,13 @@ not_front W p a rest e w h = h (length p) (subst W (sym (ap (take (length p)) e 
 not_cons : {X : Type 0} (x : X) (xs : List X) → x ∷ xs ≡ [] → ⊥
 not_cons x xs e = cc
 
-pub one_division : {X : Type 0} (W : List X → Type 0) → (W [] → ⊥) → NoneBeginsAnother W → OneDivision W
-one_division W n c list [] [] rest other d e = (refl, sym d.joined ∙ e.joined)
-one_division W n c list [] (q ∷ qs) rest other d e =
+pub unique_division : {X : Type 0} (W : List X → Type 0) → (W [] → ⊥) → IsPrefixFree W → UniqueDivision W
+unique_division W n c list [] [] rest other d e = (refl, sym d.joined ∙ e.joined)
+unique_division W n c list [] (q ∷ qs) rest other d e =
     absurd (not_front W q (flat_map (λ part. part) qs ++ other) rest (sym d.joined ∙ e.joined ∙ append_assoc q (flat_map (λ part. part) qs) other) e.whole.0 d.undecided)
-one_division W n c list (p ∷ ps) [] rest other d e =
+unique_division W n c list (p ∷ ps) [] rest other d e =
     absurd (not_front W p (flat_map (λ part. part) ps ++ rest) other (sym e.joined ∙ d.joined ∙ append_assoc p (flat_map (λ part. part) ps) rest) d.whole.0 e.undecided)
-one_division {X} W n c list (p ∷ ps) (q ∷ qs) rest other d e =
+unique_division {X} W n c list (p ∷ ps) (q ∷ qs) rest other d e =
     let after_p = flat_map (λ (part : List X). part) ps ++ rest in
     let after_q = flat_map (λ (part : List X). part) qs ++ other in
     let both : p ++ after_p ≡ q ++ after_q = sym (append_assoc p _ rest) ∙ sym d.joined ∙ e.joined ∙ append_assoc q _ other in
@@ -40,7 +40,7 @@ one_division {X} W n c list (p ∷ ps) (q ∷ qs) rest other d e =
       | inr w ↦ let more : w.0 ≡ [] = c q w.0 e.whole.0 (subst W w.1 d.whole.0) in let is : p ≡ q ++ w.0 = w.1 in is ∙ ap (λ (x : List X). q ++ x) more ∙ append-nil q
     ] in
     let rests : after_p ≡ after_q = append_cancel_left q after_p after_q (ap (λ (x : List X). x ++ after_p) (sym same) ∙ both) in
-    let later = one_division W n c after_p ps qs rest other
+    let later = unique_division W n c after_p ps qs rest other
     (record { joined = refl; whole = d.whole.1; undecided = d.undecided })
     (record { joined = rests; whole = e.whole.1; undecided = e.undecided }) in
     (let tails : ps ≡ qs = later.0 in cc, later.1)

@@ -1,7 +1,10 @@
 -- The fields of a text that grows byte by byte.
 use Rattle.std.proofs.Common.{◌≡◌, ◌==◌, ℕ, Bool, true, false, cond, List, [], ◌∷◌, ◌++◌, refl, ap, sym, ◌∙◌, subst, Option, option_and_then, eqb-true}
-use Rattle.crossterm_parse.specs.Fields.{push_first, cut, nth, empty_field, parts_at, field_after, fields_at, fields_after, whole_at, whole_of, ReadsParts, ReadsField, ReadsFields}
-use Rattle.crossterm_parse.specs.Number.{number, number_after, reading, Tracks}
+use Rattle.std.specs.Str.{byte}
+use Rattle.crossterm_parse.specs.Fields.{push_first, cut, nth}
+use Rattle.crossterm_parse.specs.inside.Fields.{empty_field, parts_at, field_after, fields_at, fields_after, whole_at, whole_of, ReadsParts, ReadsField, ReadsFields}
+use Rattle.crossterm_parse.specs.Number.{number}
+use Rattle.crossterm_parse.specs.inside.Numbers.{number_after, reading, Tracks}
 use Rattle.crossterm_parse.specs.declared.fields.Field.{Field}
 use Rattle.crossterm_parse.specs.declared.fields.Fields.{Fields}
 use Rattle.crossterm_parse.specs.declared.fields.Part.{Part}
@@ -93,7 +96,7 @@ parts_more f (x ∷ y ∷ z ∷ zs) b r = subst (λ (p : Part). ReadsParts (part
 field_more : (f : Field) (text : List ℕ) (b : ℕ) → ReadsField f text → ReadsField (field_after f b) (text ++ b ∷ [])
 field_more f text b r = (
   subst (Tracks (text ++ b ∷ [])) (sym (whole_more f.part f.first f.second b)) (tracks_more text (whole_of f) b r.0),
-  subst (ReadsParts (parts_at f.part f b)) (sym (cut_more 58 text b)) (parts_more f (cut 58 text) b r.1),
+  subst (ReadsParts (parts_at f.part f b)) (sym (cut_more 58 text b)) (parts_more f (cut (byte ":") text) b r.1),
 )
 
 pub empty_reads : ReadsField empty_field []
@@ -124,8 +127,8 @@ fields_more f (x ∷ y ∷ z ∷ w ∷ ws) b r = subst (λ (p : Place). ReadsFie
   go false (v ∷ vs) = r
 
 -- One more byte of a text.
-pub text_more : (f : Fields) (text : List ℕ) (b : ℕ) → ReadsFields f (cut 59 text) → ReadsFields (fields_after f b) (cut 59 (text ++ b ∷ []))
-text_more f text b r = subst (ReadsFields (fields_after f b)) (sym (cut_more 59 text b)) (fields_more f (cut 59 text) b r)
+pub text_more : (f : Fields) (text : List ℕ) (b : ℕ) → ReadsFields f (cut (byte ";") text) → ReadsFields (fields_after f b) (cut (byte ";") (text ++ b ∷ []))
+text_more f text b r = subst (ReadsFields (fields_after f b)) (sym (cut_more 59 text b)) (fields_more f (cut (byte ";") text) b r)
 
 abbrev parts_number : ℕ → List (List ℕ) → Option ℕ
 parts_number j parts = option_and_then number (nth j parts)
@@ -146,7 +149,7 @@ abbrev pub in_fields : ℕ → List (List ℕ) → Option ℕ
 in_fields k fields = option_and_then number (nth k fields)
 
 abbrev pub in_parts : ℕ → ℕ → List (List ℕ) → Option ℕ
-in_parts k j fields = option_and_then (λ field. option_and_then number (nth j (cut 58 field))) (nth k fields)
+in_parts k j fields = option_and_then (λ field. option_and_then number (nth j (cut (byte ":") field))) (nth k fields)
 
 -- what three fields tell is what stands in the text
 pub record Numbers (f : Fields) (fields : List (List ℕ)) : Type 0 where
@@ -158,6 +161,18 @@ pub record Numbers (f : Fields) (fields : List (List ℕ)) : Type 0 where
   pub mask : reading f.second.first ≡ in_parts 1 0 fields
   pub kind : reading f.second.second ≡ in_parts 1 1 fields
 
+-- what was read of three fields, whatever comes after them
+of_three : (f : Fields) (x y z : List ℕ) (more : List (List ℕ)) → ReadsField f.first x → ReadsField f.second y → Tracks z f.third → Numbers f (x ∷ y ∷ z ∷ more)
+of_three f x y z more first second third = record {
+  first = tracks_reading x (whole_of f.first) first.0;
+  second = tracks_reading y (whole_of f.second) second.0;
+  third = tracks_reading z f.third third;
+  code = first_part f.first (cut (byte ":") x) first.1;
+  alternate = second_part f.first (cut (byte ":") x) first.1;
+  mask = first_part f.second (cut (byte ":") y) second.1;
+  kind = second_part f.second (cut (byte ":") y) second.1;
+}
+
 -- What was read of a text is what stands in it.
 pub numbers_of : (f : Fields) (fields : List (List ℕ)) → ReadsFields f fields → Numbers f fields
 numbers_of f [] r = absurd r
@@ -165,8 +180,8 @@ numbers_of f (x ∷ []) r = record {
   first = tracks_reading x (whole_of f.first) r.1.0;
   second = rw r.2 refl;
   third = rw r.3 refl;
-  code = first_part f.first (cut 58 x) r.1.1;
-  alternate = second_part f.first (cut 58 x) r.1.1;
+  code = first_part f.first (cut (byte ":") x) r.1.1;
+  alternate = second_part f.first (cut (byte ":") x) r.1.1;
   mask = rw r.2 refl;
   kind = rw r.2 refl;
 }
@@ -174,26 +189,10 @@ numbers_of f (x ∷ y ∷ []) r = record {
   first = tracks_reading x (whole_of f.first) r.1.0;
   second = tracks_reading y (whole_of f.second) r.2.0;
   third = rw r.3 refl;
-  code = first_part f.first (cut 58 x) r.1.1;
-  alternate = second_part f.first (cut 58 x) r.1.1;
-  mask = first_part f.second (cut 58 y) r.2.1;
-  kind = second_part f.second (cut 58 y) r.2.1;
+  code = first_part f.first (cut (byte ":") x) r.1.1;
+  alternate = second_part f.first (cut (byte ":") x) r.1.1;
+  mask = first_part f.second (cut (byte ":") y) r.2.1;
+  kind = second_part f.second (cut (byte ":") y) r.2.1;
 }
-numbers_of f (x ∷ y ∷ z ∷ []) r = record {
-  first = tracks_reading x (whole_of f.first) r.1.0;
-  second = tracks_reading y (whole_of f.second) r.2.0;
-  third = tracks_reading z f.third r.3;
-  code = first_part f.first (cut 58 x) r.1.1;
-  alternate = second_part f.first (cut 58 x) r.1.1;
-  mask = first_part f.second (cut 58 y) r.2.1;
-  kind = second_part f.second (cut 58 y) r.2.1;
-}
-numbers_of f (x ∷ y ∷ z ∷ w ∷ ws) r = record {
-  first = tracks_reading x (whole_of f.first) r.1.0;
-  second = tracks_reading y (whole_of f.second) r.2.0;
-  third = tracks_reading z f.third r.3;
-  code = first_part f.first (cut 58 x) r.1.1;
-  alternate = second_part f.first (cut 58 x) r.1.1;
-  mask = first_part f.second (cut 58 y) r.2.1;
-  kind = second_part f.second (cut 58 y) r.2.1;
-}
+numbers_of f (x ∷ y ∷ z ∷ []) r = of_three f x y z [] r.1 r.2 r.3
+numbers_of f (x ∷ y ∷ z ∷ w ∷ ws) r = of_three f x y z (w ∷ ws) r.1 r.2 r.3

@@ -6,10 +6,10 @@ use Rattle.crossterm_parse.specs.Giving.{GivesInOrder, KeepsParser, events_left_
 
 module _ {A : Type 0} where
   keeps_itself : (e : Events A) → KeepsParser e e
-  keeps_itself e = record { same = refl; stands = λ before s. s; room = omega arith }
+  keeps_itself e = record { same = refl; represents = λ before s. s; room = omega arith }
 
   keeps_on : (d e f : Events A) → KeepsParser d e → KeepsParser e f → KeepsParser d f
-  keeps_on d e f p q = record { same = q.same ∙ p.same; stands = λ before s. q.stands before (p.stands before s); room = omega (arith, p.room, q.room) }
+  keeps_on d e f p q = record { same = q.same ∙ p.same; represents = λ before s. q.represents before (p.represents before s); room = omega (arith, p.room, q.room) }
 
   pub gives_in_order : (e : Events A) → GivesInOrder e
   gives_in_order e [] f run = subst (λ x. (events_left_in e ≡ events_left_in x) × KeepsParser e x) run (refl, keeps_itself e)

@@ -1,70 +1,36 @@
 -- The tests of the grammar say what its definitions say, and no whole sequence begins another.
-use Rattle.std.proofs.Common.{◌≡◌, ◌≢◌, ◌==◌, ◌⊎◌, inl, inr, ℕ, Bool, true, false, cond, ◌&&◌, ◌||◌, List, [], ◌∷◌, ◌++◌, refl, ap, sym, ◌∙◌, arith, length, ◌<◌, zero, suc, subst, drop, append_assoc}
+use Rattle.std.proofs.Common.{◌≤◌, ◌≡◌, ◌≢◌, ◌==◌, ◌⊎◌, inl, inr, ℕ, Bool, true, false, cond, ◌&&◌, ◌||◌, List, [], ◌∷◌, ◌++◌, refl, ap, sym, ◌∙◌, arith, length, ◌<◌, zero, suc, subst, drop, append_assoc}
 use Rattle.std.specs.Prelude.{nat_le}
 use Rattle.std.proofs.lemmas.Bool.{false≢true, cases_Bool, eq-eqb, eqb-true}
 use Rattle.std.proofs.lemmas.Bool.Decides.{nat_tests, eqb_tells}
 use Rattle.std.specs.List.{AllByRecursion}
 use Rattle.crossterm_parse.specs.Marked.{Marked, bytes_of}
-use Rattle.crossterm_parse.specs.Deciding.{is_nil, is_one, is_three, is_digit, is_final, is_reply_end, is_mouse_end, ends_numbered, ends_reply, ends_mouse, ends_private, ends_paste, ends_digit, ends_csi, is_lead, is_continuing, further_after, ends_character, is_character, ends_escape, is_shape, is_whole, begins}
+use Rattle.crossterm_parse.specs.Bytes.{is_digit}
+use Rattle.crossterm_parse.specs.Grammar.{begins, IsDigit, IsFinal, IsAlone, EndsNoMouse, EndsNoReply, HasNoEnd, EndsReply, IsLead, IsContinuing, continuing_after, CharacterShape, single, broken, Shape, text, two_escapes, with_escape, after_ss3, after_csi, linux_key, x10, mouse, reply, numbered, paste, paste_mark, paste_start, paste_end, BeginsPaused, Whole, key, sequence}
+use Rattle.crossterm_parse.specs.inside.Recognizer.{is_nil, is_one, is_three, is_final, is_reply_end, is_mouse_end, ends_numbered, ends_reply, ends_mouse, ends_private, ends_paste, ends_digit, ends_csi, is_lead, is_continuing, further_after, ends_character, is_character, ends_escape, is_shape, is_whole}
 use Rattle.crossterm_parse.specs.Grammar as grammar
-use Rattle.crossterm_parse.specs.Grammar.{IsDigit, IsFinal, IsAlone, EndsNoMouse, EndsNoReply, HasNoEnd, EndsReply, IsLead, IsContinuing, continuing_after, CharacterShape, single, broken, Shape, text, two_escapes, with_escape, after_ss3, after_csi, after_bracket, coded, mouse, reply, numbered, paste, paste_mark, paste_start, paste_end, BeginsPaused, Whole, key, sequence}
-use Rattle.crossterm_parse.specs.Division.{NoneBeginsAnother}
+use Rattle.crossterm_parse.specs.Division.{IsPrefixFree}
 use Rattle.crossterm_parse.proofs.PasteLaws.{and_parts, begins_is, begins_from, paste_true, Pasted, true_paste, not_mark}
 use Rattle.crossterm_parse.proofs.EndLaws.{chosen, true_nil, Tells, ended, Ends, true_ends, Closes, nil_closes, choice_closes, ends_close}
 
-pub digit_true : (b : ℕ) → IsDigit b → is_digit b ≡ true
-digit_true b h = grind (arith, nat_tests)
+-- whether a byte is one of some in a row, and what that says
+pub within_true : {low high : ℕ} (b : ℕ) → (low ≤ b) × (b ≤ high) → (nat_le low b && nat_le b high) ≡ true
+within_true b h = grind (arith, nat_tests)
 
-pub true_digit : (b : ℕ) → is_digit b ≡ true → IsDigit b
-true_digit b h = grind (arith, nat_tests)
+pub true_within : {low high : ℕ} (b : ℕ) → (nat_le low b && nat_le b high) ≡ true → (low ≤ b) × (b ≤ high)
+true_within b h = grind (arith, nat_tests)
 
-pub false_digit : (b : ℕ) → ¬ IsDigit b → is_digit b ≡ false
-false_digit b h = grind (arith, nat_tests)
+within_false : {low high : ℕ} (b : ℕ) → ¬ ((low ≤ b) × (b ≤ high)) → (nat_le low b && nat_le b high) ≡ false
+within_false b h = grind (arith, nat_tests)
 
-pub not_digit : (b : ℕ) → is_digit b ≡ false → ¬ IsDigit b
-not_digit b h = grind (arith, nat_tests)
-
-pub final_true : (b : ℕ) → IsFinal b → is_final b ≡ true
-final_true b h = grind (arith, nat_tests)
-
-pub true_final : (b : ℕ) → is_final b ≡ true → IsFinal b
-true_final b h = grind (arith, nat_tests)
-
-pub false_final : (b : ℕ) → ¬ IsFinal b → is_final b ≡ false
-false_final b h = grind (arith, nat_tests)
-
-pub not_final : (b : ℕ) → is_final b ≡ false → ¬ IsFinal b
-not_final b h = grind (arith, nat_tests)
+pub not_within : {low high : ℕ} (b : ℕ) → (nat_le low b && nat_le b high) ≡ false → ¬ ((low ≤ b) × (b ≤ high))
+not_within b h = grind (arith, nat_tests)
 
 pub final_tells : Tells (λ b. ¬ IsFinal b) is_final
-final_tells = record { fails = false_final; none = not_final }
-
-lead_true : (b : ℕ) → IsLead b → is_lead b ≡ true
-lead_true b h = grind (arith, nat_tests)
-
-pub true_lead : (b : ℕ) → is_lead b ≡ true → IsLead b
-true_lead b h = grind (arith, nat_tests)
-
-lead_false : (b : ℕ) → ¬ IsLead b → is_lead b ≡ false
-lead_false b h = grind (arith, nat_tests)
-
-not_lead : (b : ℕ) → is_lead b ≡ false → ¬ IsLead b
-not_lead b h = grind (arith, nat_tests)
-
-pub continuing_true : (b : ℕ) → IsContinuing b → is_continuing b ≡ true
-continuing_true b h = grind (arith, nat_tests)
-
-pub true_continuing : (b : ℕ) → is_continuing b ≡ true → IsContinuing b
-true_continuing b h = grind (arith, nat_tests)
-
-continuing_false : (b : ℕ) → ¬ IsContinuing b → is_continuing b ≡ false
-continuing_false b h = grind (arith, nat_tests)
-
-not_continuing : (b : ℕ) → is_continuing b ≡ false → ¬ IsContinuing b
-not_continuing b h = grind (arith, nat_tests)
+final_tells = record { fails = λ b. within_false b; none = λ b. not_within b }
 
 one_more : (lead : ℕ) → continuing_after lead ≡ suc (further_after lead)
-one_more lead = go (nat_le lead 223) (nat_le lead 239) where
+one_more lead = go (nat_le lead 0xDF) (nat_le lead 0xEF) where
   go : (s t : Bool) → cond s 1 (cond t 2 3) ≡ suc (cond s 0 (cond t 1 2))
   go true t = refl
   go false true = refl
@@ -74,18 +40,18 @@ all_continue : (n : ℕ) (more : List ℕ) → AllByRecursion IsContinuing more 
 all_continue n [] h l = absurd (omega arith)
 all_continue zero (b ∷ []) h l = refl
 all_continue zero (b ∷ c ∷ bs) h l = absurd (omega arith)
-all_continue (suc n) (b ∷ bs) h l = rw (continuing_true b h.0) (all_continue n bs h.1 (omega arith))
+all_continue (suc n) (b ∷ bs) h l = rw (within_true b h.0) (all_continue n bs h.1 (omega arith))
 
 breaks_off : (n : ℕ) (more : List ℕ) (b : ℕ) → AllByRecursion IsContinuing more → length more < suc n → ¬ IsContinuing b → ends_character n (more ++ b ∷ []) ≡ true
 breaks_off zero [] b h l k = refl
-breaks_off (suc n) [] b h l k = rw (continuing_false b k)
+breaks_off (suc n) [] b h l k = rw (within_false b k)
 breaks_off zero (c ∷ more) b h l k = absurd (omega arith)
-breaks_off (suc n) (c ∷ more) b h l k = rw (continuing_true c h.0) (breaks_off n more b h.1 (omega arith) k)
+breaks_off (suc n) (c ∷ more) b h l k = rw (within_true c h.0) (breaks_off n more b h.1 (omega arith) k)
 
 character_true : (bytes : List ℕ) → CharacterShape bytes → is_character bytes ≡ true
-character_true bytes (single b ne not e) = rw (e, lead_false b not)
-character_true bytes (grammar.CharacterShape.character lead more is all l e) = rw (e, lead_true lead is) (all_continue (further_after lead) more all (l ∙ one_more lead))
-character_true bytes (broken lead b more is all l k e) = rw (e, lead_true lead is) (breaks_off (further_after lead) more b all (subst (λ (n : ℕ). length more < n) (one_more lead) l) k)
+character_true bytes (single b ne not e) = rw (e, within_false b not)
+character_true bytes (grammar.CharacterShape.character lead more is all l e) = rw (e, within_true lead is) (all_continue (further_after lead) more all (l ∙ one_more lead))
+character_true bytes (broken lead b more is all l k e) = rw (e, within_true lead is) (breaks_off (further_after lead) more b all (subst (λ (n : ℕ). length more < n) (one_more lead) l) k)
 
 -- a character doesn't begin with an escape
 not_escape : (b : ℕ) (rest : List ℕ) → CharacterShape (b ∷ rest) → (b == 27) ≡ false
@@ -104,30 +70,26 @@ alone_true b (n, m, k, l, d) =
     let t : (b == 77) ≡ false = grind (arith, nat_tests) in
     let u : (b == 60) ≡ false = grind (arith, nat_tests) in
     let v : (b == 63) ≡ false = grind (arith, nat_tests) in
-    rw (s, t, u, v, false_digit b d)
+    rw (s, t, u, v, within_false b d)
 
 -- a digit is none of the bytes that `ESC [` chooses by
 pub digit_apart : (d : ℕ) → IsDigit d → ((d == 91) ≡ false) × ((d == 77) ≡ false) × ((d == 60) ≡ false) × ((d == 63) ≡ false) × (is_digit d ≡ true)
-digit_apart d h = (grind (arith, nat_tests), grind (arith, nat_tests), grind (arith, nat_tests), grind (arith, nat_tests), digit_true d h)
+digit_apart d h = (grind (arith, nat_tests), grind (arith, nat_tests), grind (arith, nat_tests), grind (arith, nat_tests), within_true d h)
 
 digit_csi : (d : ℕ) (bs : List ℕ) → IsDigit d → ends_csi (d ∷ bs) ≡ ends_digit (d ∷ bs)
 digit_csi d bs h = let t = digit_apart d h in rw (t.0, t.1, t.2, t.3, t.4)
 
-pub no_reply : (b : ℕ) → EndsNoReply b → is_reply_end b ≡ false
-no_reply b h =
-    let n = h.0 in
-    let m = h.1 in
-    let s : (b == 99) ≡ false = grind (arith, nat_tests) in
-    let t : (b == 117) ≡ false = grind (arith, nat_tests) in
+neither : (b m n : ℕ) → b ≢ m → b ≢ n → (b == m || b == n) ≡ false
+neither b m n h k =
+    let s : (b == m) ≡ false = grind (arith, nat_tests) in
+    let t : (b == n) ≡ false = grind (arith, nat_tests) in
     rw (s, t)
 
+pub no_reply : (b : ℕ) → EndsNoReply b → is_reply_end b ≡ false
+no_reply b h = neither b 99 117 h.0 h.1
+
 pub no_mouse_end : (b : ℕ) → EndsNoMouse b → is_mouse_end b ≡ false
-no_mouse_end b h =
-    let n = h.0 in
-    let m = h.1 in
-    let s : (b == 77) ≡ false = grind (arith, nat_tests) in
-    let t : (b == 109) ≡ false = grind (arith, nat_tests) in
-    rw (s, t)
+no_mouse_end b h = neither b 77 109 h.0 h.1
 
 or_either : (s t : Bool) → s || t ≡ true → (s ≡ true) ⊎ (t ≡ true)
 or_either true t h = inl refl
@@ -178,12 +140,12 @@ shape_true bytes (with_escape b rest not_o not_bracket c e) = rw e (
     rw (s, t, not_escape b rest c) (character_true (b ∷ rest) c))
 shape_true bytes (after_ss3 b e) = rw e
 shape_true bytes (after_csi b alone e) = rw e (alone_true b alone)
-shape_true bytes (after_bracket b e) = rw e
+shape_true bytes (linux_key b e) = rw e
 shape_true bytes (reply w f none ends e) = rw e (private_true w f none ends)
-shape_true bytes (coded a b c e) = rw e
+shape_true bytes (x10 a b c e) = rw e
 shape_true bytes (mouse w f none ends e) = rw e (ended EndsNoMouse is_mouse_end mouse_tells w f none (is_one_of f 77 109 ends))
 shape_true bytes (numbered d f w is nf l ne e) = rw e (digit_csi d (w ++ f ∷ []) is
-    ∙ rw (not_mark d f w nf (λ (h : d ∷ (w ++ f ∷ []) ≡ paste_mark). ne (e ∙ ap (λ (ys : List ℕ). 27 ∷ 91 ∷ ys) h))) (ended (λ b. ¬ IsFinal b) is_final final_tells w f nf (final_true f l)))
+    ∙ rw (not_mark d f w nf (λ (h : d ∷ (w ++ f ∷ []) ≡ paste_mark). ne (e ∙ ap (λ (ys : List ℕ). 27 ∷ 91 ∷ ys) h))) (ended (λ b. ¬ IsFinal b) is_final final_tells w f nf (within_true f l)))
 shape_true bytes (paste within first e) = rw e (paste_true within first)
 
 true_one : (bs : List ℕ) → is_one bs ≡ true → (b : ℕ) × (bs ≡ b ∷ [])
@@ -206,11 +168,11 @@ true_ended : (n : ℕ) (bs : List ℕ) → ends_character n bs ≡ true → Ende
 true_ended n [] h = absurd (false≢true h)
 true_ended zero (b ∷ bs) h = subst (λ (ys : List ℕ). Ended zero (b ∷ ys)) (sym (true_nil bs h)) (go (is_continuing b) refl) where
   go : (t : Bool) → is_continuing b ≡ t → Ended zero (b ∷ [])
-  go true c = full (true_continuing b c, tt) refl
-  go false c = one_ended zero b (not_continuing b c)
+  go true c = full (true_within b c, tt) refl
+  go false c = one_ended zero b (not_within b c)
 true_ended (suc n) (b ∷ bs) h = elim (chosen (is_continuing b) (ends_character n bs) (is_nil bs) true h) [
-  | inl w ↦ ended_more n b bs (true_continuing b w.0) (true_ended n bs w.1)
-  | inr w ↦ subst (λ (ys : List ℕ). Ended (suc n) (b ∷ ys)) (sym (true_nil bs w.1)) (one_ended (suc n) b (not_continuing b w.0))
+  | inl w ↦ ended_more n b bs (true_within b w.0) (true_ended n bs w.1)
+  | inr w ↦ subst (λ (ys : List ℕ). Ended (suc n) (b ∷ ys)) (sym (true_nil bs w.1)) (one_ended (suc n) b (not_within b w.0))
 ]
 
 ended_character : (b : ℕ) (bs : List ℕ) → IsLead b → Ended (further_after b) bs → CharacterShape (b ∷ bs)
@@ -219,8 +181,8 @@ ended_character b bs is (off more c all l k e) = broken b c more is all (subst (
 
 true_character : (b : ℕ) (bs : List ℕ) → b ≢ 27 → is_character (b ∷ bs) ≡ true → CharacterShape (b ∷ bs)
 true_character b bs ne h = elim (chosen (is_lead b) (ends_character (further_after b) bs) (is_nil bs) true h) [
-  | inl w ↦ ended_character b bs (true_lead b w.0) (true_ended (further_after b) bs w.1)
-  | inr w ↦ single b ne (not_lead b w.0) (ap (λ (ys : List ℕ). b ∷ ys) (true_nil bs w.1))
+  | inl w ↦ ended_character b bs (true_within b w.0) (true_ended (further_after b) bs w.1)
+  | inr w ↦ single b ne (not_within b w.0) (ap (λ (ys : List ℕ). b ∷ ys) (true_nil bs w.1))
 ]
 
 ss3_shape : (b : ℕ) (bs : List ℕ) (c : ℕ) → b ≡ 79 → bs ≡ c ∷ [] → Shape (27 ∷ b ∷ bs)
@@ -240,7 +202,7 @@ private_shape (b ∷ bs) h = elim (chosen (b == 99) (is_nil bs) (ends_reply bs) 
 ]
 
 numbered_shape : (b : ℕ) (bs : List ℕ) → IsDigit b → begins paste_mark (b ∷ bs) ≡ false → Ends (λ b. ¬ IsFinal b) is_final bs → Shape (27 ∷ 91 ∷ b ∷ bs)
-numbered_shape b bs d n later = numbered b later.last later.before d later.none_before (true_final later.last later.closed)
+numbered_shape b bs d n later = numbered b later.last later.before d later.none_before (true_within later.last later.closed)
     (λ (e : 27 ∷ 91 ∷ b ∷ bs ≡ paste_start). false≢true (sym n ∙ begins_from paste_mark (b ∷ bs) [] (ap (drop 2) e)))
     (ap (λ (ys : List ℕ). 27 ∷ 91 ∷ b ∷ ys) later.is)
 
@@ -253,22 +215,22 @@ digit_shape b bs d h = elim (chosen (begins paste_mark (b ∷ bs)) (ends_paste (
   | inr v ↦ numbered_shape b bs d v.0 (true_ends (λ b. ¬ IsFinal b) is_final final_tells bs v.1)
 ]
 
-bracket_shape : (b : ℕ) (bs : List ℕ) (c : ℕ) → b ≡ 91 → bs ≡ c ∷ [] → Shape (27 ∷ 91 ∷ b ∷ bs)
-bracket_shape b bs c is e = after_bracket c (rw (is, e))
+linux_shape : (b : ℕ) (bs : List ℕ) (c : ℕ) → b ≡ 91 → bs ≡ c ∷ [] → Shape (27 ∷ 91 ∷ b ∷ bs)
+linux_shape b bs c is e = linux_key c (rw (is, e))
 
 mouse_shape : (bs : List ℕ) → Ends EndsNoMouse is_mouse_end bs → Shape (27 ∷ 91 ∷ 60 ∷ bs)
 mouse_shape bs later = mouse later.before later.last later.none_before (one_of later.last 77 109 later.closed) (ap (λ (ys : List ℕ). 27 ∷ 91 ∷ 60 ∷ ys) later.is)
 
-coded_shape : (bs : List ℕ) → is_three bs ≡ true → Shape (27 ∷ 91 ∷ 77 ∷ bs)
-coded_shape [] h = absurd (false≢true h)
-coded_shape (a ∷ []) h = absurd (false≢true h)
-coded_shape (a ∷ b ∷ bs) h = let one = true_one bs h in coded a b one.0 (ap (λ (ys : List ℕ). 27 ∷ 91 ∷ 77 ∷ a ∷ b ∷ ys) one.1)
+x10_shape : (bs : List ℕ) → is_three bs ≡ true → Shape (27 ∷ 91 ∷ 77 ∷ bs)
+x10_shape [] h = absurd (false≢true h)
+x10_shape (a ∷ []) h = absurd (false≢true h)
+x10_shape (a ∷ b ∷ bs) h = let one = true_one bs h in x10 a b one.0 (ap (λ (ys : List ℕ). 27 ∷ 91 ∷ 77 ∷ a ∷ b ∷ ys) one.1)
 
 -- where the first byte is none of those, a digit or another
 true_other : (b : ℕ) (bs : List ℕ) → b ≢ 91 → b ≢ 77 → b ≢ 60 → b ≢ 63 → cond (is_digit b) (ends_digit (b ∷ bs)) (is_nil bs) ≡ true → Shape (27 ∷ 91 ∷ b ∷ bs)
 true_other b bs n m k l h = elim (chosen (is_digit b) (ends_digit (b ∷ bs)) (is_nil bs) true h) [
-  | inl u ↦ digit_shape b bs (true_digit b u.0) u.1
-  | inr u ↦ after_csi b (n, m, k, l, not_digit b u.0) (ap (λ (ys : List ℕ). 27 ∷ 91 ∷ b ∷ ys) (true_nil bs u.1))
+  | inl u ↦ digit_shape b bs (true_within b u.0) u.1
+  | inr u ↦ after_csi b (n, m, k, l, not_within b u.0) (ap (λ (ys : List ℕ). 27 ∷ 91 ∷ b ∷ ys) (true_nil bs u.1))
 ]
 
 differs : (b c : ℕ) → (b == c) ≡ false → b ≢ c
@@ -277,9 +239,9 @@ differs b c h = grind (arith, nat_tests)
 true_csi : (bs : List ℕ) → ends_csi bs ≡ true → Shape (27 ∷ 91 ∷ bs)
 true_csi [] h = absurd (false≢true h)
 true_csi (b ∷ bs) h = elim (chosen (b == 91) _ _ true h) [
-  | inl w ↦ let one = true_one bs w.1 in bracket_shape b bs one.0 (eqb-true b 91 w.0) one.1
+  | inl w ↦ let one = true_one bs w.1 in linux_shape b bs one.0 (eqb-true b 91 w.0) one.1
   | inr w ↦ elim (chosen (b == 77) _ _ true w.1) [
-    | inl v ↦ let is : b ≡ 77 = eqb-true b 77 v.0 in rw is (coded_shape bs v.1)
+    | inl v ↦ let is : b ≡ 77 = eqb-true b 77 v.0 in rw is (x10_shape bs v.1)
     | inr v ↦ elim (chosen (b == 60) _ _ true v.1) [
       | inl u ↦ let is : b ≡ 60 = eqb-true b 60 u.0 in rw is (mouse_shape bs (true_ends EndsNoMouse is_mouse_end mouse_tells bs u.1))
       | inr u ↦ elim (chosen (b == 63) _ _ true u.1) [
@@ -364,8 +326,8 @@ digit_closes (b ∷ c ∷ d ∷ []) x h l = go (begins paste_mark (b ∷ c ∷ d
 digit_closes (b ∷ c ∷ d ∷ e ∷ a) x h l =
     choice_closes (begins paste_mark (b ∷ c ∷ d ∷ e ∷ [])) ends_paste (λ bs. ends_numbered (c ∷ d ∷ e ∷ bs)) paste_closes (further_closes c d e) a x h l
 
-digits_close : (b : ℕ) → Closes (λ bs. ends_digit (b ∷ bs))
-digits_close b a x h l = digit_closes (b ∷ a) x h l
+parameters_close : (b : ℕ) → Closes (λ bs. ends_digit (b ∷ bs))
+parameters_close b a x h l = digit_closes (b ∷ a) x h l
 
 csi_closes : Closes ends_csi
 csi_closes [] x h l = absurd (false≢true h)
@@ -374,7 +336,7 @@ csi_closes (b ∷ a) x h l =
     (choice_closes (b == 77) is_three _ three_closes
     (choice_closes (b == 60) ends_mouse _ (ends_close is_mouse_end)
     (choice_closes (b == 63) ends_private _ private_closes
-    (choice_closes (is_digit b) (λ bs. ends_digit (b ∷ bs)) is_nil (digits_close b) nil_closes)))) a x h l
+    (choice_closes (is_digit b) (λ bs. ends_digit (b ∷ bs)) is_nil (parameters_close b) nil_closes)))) a x h l
 
 escape_closes : Closes ends_escape
 escape_closes [] x h l = absurd (false≢true h)
@@ -442,7 +404,7 @@ bytes_of_nil [] h = refl
 bytes_of_nil (m ∷ x) h = absurd cc
 
 -- no whole sequence begins another
-pub whole_closes : NoneBeginsAnother Whole
+pub whole_closes : IsPrefixFree Whole
 whole_closes [] more w v = absurd (nil_not_whole w)
 whole_closes (m ∷ a) more w v = bytes_of_nil more (
     choice_closes ((m.byte == 27) && m.pause) is_nil (λ bs. is_shape (m.byte ∷ bs)) nil_closes

@@ -1,13 +1,13 @@
+pub mod Ascii
 pub mod CuttingLaws
 pub mod DivisionLaws
 pub mod EndLaws
 pub mod FieldsLaws
 pub mod GivingLaws
 pub mod GrammarLaws
-pub mod Letters
 pub mod MachineLaws
 pub mod NumberLaws
 pub mod PasteLaws
 pub mod RunLaws
-pub mod StandingLaws
+pub mod ViewLaws
 pub mod Utf8Laws

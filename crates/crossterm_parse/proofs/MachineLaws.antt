@@ -8,28 +8,29 @@ use Rattle.bstr.specs.Utf8.{decoded}
 use Rattle.crossterm_parse.specs.declared.character.Begun.{Begun}
 use Rattle.crossterm_parse.specs.declared.character.Begun.TheVariants.{One, Two, Three}
 use Rattle.crossterm_parse.specs.declared.meaning.Meaning.TheVariants.{PrimaryDeviceAttributes}
-use Rattle.crossterm_parse.specs.declared.mouse.Codes.{Codes}
-use Rattle.crossterm_parse.specs.declared.mouse.Codes.TheVariants as codes
-use Rattle.crossterm_parse.specs.declared.numbered.Digits.{Digits}
+use Rattle.crossterm_parse.specs.declared.mouse.X10Report.{X10Report}
+use Rattle.crossterm_parse.specs.declared.mouse.X10Report.TheVariants as x10
+use Rattle.crossterm_parse.specs.declared.numbered.Parameters.{Parameters}
 use Rattle.crossterm_parse.specs.declared.paste.Met.{Met}
 use Rattle.crossterm_parse.specs.declared.paste.Met.TheVariants as met
 use Rattle.crossterm_parse.specs.declared.paste.Opening.{Opening}
 use Rattle.crossterm_parse.specs.declared.paste.Opening.TheVariants as opening
 use Rattle.crossterm_parse.specs.declared.state.State.{State}
-use Rattle.crossterm_parse.specs.declared.state.State.TheVariants.{Ground, Escape, Ss3, Csi, Bracket, Coded, Sgr, Private, Reply, Numbered, Paste, Utf8}
-use Rattle.crossterm_parse.specs.Step.{Step, Open, Whole, Closed, Grown}
-use Rattle.crossterm_parse.specs.Characters.{begun_bytes}
-use Rattle.crossterm_parse.specs.Deciding.{begins, ends_paste, ends_digit, is_digit, is_final, is_reply_end, is_mouse_end, ends_reply, is_lead, is_continuing, further_after, ends_character, is_decided}
+use Rattle.crossterm_parse.specs.declared.state.State.TheVariants.{Ground, Escape, Ss3, Csi, LinuxKey, X10, Sgr, Private, Reply, Numbered, Paste, Utf8}
+use Rattle.crossterm_parse.specs.inside.Step.{Step, Open, Whole, Closed, Grown}
+use Rattle.crossterm_parse.specs.inside.Characters.{begun_bytes}
+use Rattle.crossterm_parse.specs.Bytes.{is_digit}
+use Rattle.crossterm_parse.specs.Grammar.{begins, paste_mark, paste_start, IsDigit, IsFinal, IsLead, EndsNoMouse, EndsNoReply}
+use Rattle.crossterm_parse.specs.inside.Recognizer.{ends_paste, ends_digit, is_final, is_reply_end, is_mouse_end, ends_reply, is_lead, is_continuing, further_after, ends_character, is_decided}
 use Rattle.crossterm_parse.specs.Fields.{cut}
-use Rattle.crossterm_parse.specs.Grammar.{paste_mark, paste_start, IsDigit, IsFinal, IsLead, EndsNoMouse, EndsNoReply}
-use Rattle.crossterm_parse.specs.Machine.{grown, step_of, digits_after, empty_digits, readings_at, state_after, prefixed, IsBegun, OpenReply, OpenMouse, OpenPaste, OpenNumber, IsOpening, Kept, opens_with, opens_after, number_ends, met_bytes, met_anew, met_after, coded_after, codes_bytes, StandsFor, IsRight}
+use Rattle.crossterm_parse.specs.inside.Automaton.{grown, step_of, parameters_after, empty_parameters, readings_at, state_after, prefixed, IsBegun, OpenReply, OpenMouse, OpenPaste, OpenNumber, IsOpening, Kept, opens_with, opens_after, number_ends, met_bytes, met_anew, met_after, x10_after, x10_bytes, StateRepresents, IsRight}
 use Rattle.crossterm_parse.specs.Meaning.{meaning, with_alt, decoded_character, flags_reply}
 use Rattle.crossterm_parse.specs.Numbered.{Readings, readings_of, numbered_by, numbered, sgr_by, front_of, last_of}
 use Rattle.crossterm_parse.proofs.DivisionLaws.{all_push}
 use Rattle.crossterm_parse.proofs.FieldsLaws.{empty_reads, text_more, numbers_of}
 use Rattle.crossterm_parse.proofs.PasteLaws.{and_false, third_apart, begins_start}
 use Rattle.crossterm_parse.proofs.EndLaws.{ended, not_ended}
-use Rattle.crossterm_parse.proofs.GrammarLaws.{digit_apart, true_digit, not_final, final_tells, is_one_of, reply_tells, mouse_tells, not_reply_end, not_mouse_end, true_lead, continuing_true, true_continuing}
+use Rattle.crossterm_parse.proofs.GrammarLaws.{digit_apart, true_within, not_within, final_tells, is_one_of, reply_tells, mouse_tells, not_reply_end, not_mouse_end, within_true}
 use Rattle.crossterm_parse.proofs.Utf8Laws.{utf8_more, utf8_is, utf8_nil}
 
 -- a byte that leads a character is none of those that an escape chooses by
@@ -106,14 +107,14 @@ begun_right : (escaped : Bool) (t : Begun) (bytes : List ℕ) (b : ℕ) (raw pau
     → IsRight (step_of escaped (grown escaped t b)) (bytes ++ b ∷ []) raw pause
 begun_right escaped (One a) bytes b raw pause e h = rw (e, prefixed_more escaped (a ∷ []) (b ∷ [])) (
     cond_both (is_continuing b && nat_lt 0 (further_after a)) _ _ (λ (g : Grown). IsRight (step_of escaped g) (prefixed escaped (a ∷ b ∷ [])) raw pause)
-    (λ t. (decided_begun escaped a b [] pause h ∙ one_end (further_after a) b ∙ ap not t, (refl, let w = both (is_continuing b) (nat_lt 0 (further_after a)) t in (h, true_continuing b w.0, above 0 (further_after a) w.1))))
+    (λ t. (decided_begun escaped a b [] pause h ∙ one_end (further_after a) b ∙ ap not t, (refl, let w = both (is_continuing b) (nat_lt 0 (further_after a)) t in (h, true_within b w.0, above 0 (further_after a) w.1))))
     (λ t. (decided_begun escaped a b [] pause h ∙ one_end (further_after a) b ∙ ap not t, sym (meaning_begun escaped raw a b [] h), one_short escaped a b)))
 begun_right escaped (Two a b) bytes c raw pause e h = rw (e, prefixed_more escaped (a ∷ b ∷ []) (c ∷ [])) (
     cond_both (is_continuing c && nat_lt 1 (further_after a)) _ _ (λ (g : Grown). IsRight (step_of escaped g) (prefixed escaped (a ∷ b ∷ c ∷ [])) raw pause)
-    (λ t. (decided_begun escaped a b (c ∷ []) pause h.0 ∙ two_end (further_after a) b c (continuing_true b h.1) h.2 ∙ ap not t, (refl, let w = both (is_continuing c) (nat_lt 1 (further_after a)) t in (h.0, h.1, true_continuing c w.0, above 1 (further_after a) w.1))))
-    (λ t. (decided_begun escaped a b (c ∷ []) pause h.0 ∙ two_end (further_after a) b c (continuing_true b h.1) h.2 ∙ ap not t, sym (meaning_begun escaped raw a b (c ∷ []) h.0), two_short escaped a b c)))
+    (λ t. (decided_begun escaped a b (c ∷ []) pause h.0 ∙ two_end (further_after a) b c (within_true b h.1) h.2 ∙ ap not t, (refl, let w = both (is_continuing c) (nat_lt 1 (further_after a)) t in (h.0, h.1, true_within c w.0, above 1 (further_after a) w.1))))
+    (λ t. (decided_begun escaped a b (c ∷ []) pause h.0 ∙ two_end (further_after a) b c (within_true b h.1) h.2 ∙ ap not t, sym (meaning_begun escaped raw a b (c ∷ []) h.0), two_short escaped a b c)))
 begun_right escaped (Three a b c) bytes d raw pause e h = rw (e, prefixed_more escaped (a ∷ b ∷ c ∷ []) (d ∷ [])) (
-  decided_begun escaped a b (c ∷ d ∷ []) pause h.0 ∙ three_end (further_after a) b c d (continuing_true b h.1) (continuing_true c h.2) h.3 (further_le a),
+  decided_begun escaped a b (c ∷ d ∷ []) pause h.0 ∙ three_end (further_after a) b c d (within_true b h.1) (within_true c h.2) h.3 (further_le a),
   sym (meaning_begun escaped raw a b (c ∷ d ∷ []) h.0),
   three_short escaped a b c d,
 )
@@ -134,7 +135,7 @@ decided_numbered : (d : ℕ) (bs : List ℕ) (pause : Bool) → IsDigit d → is
 decided_numbered d bs pause h = let t = digit_apart d h in rw (t.0, t.1, t.2, t.3, t.4) refl
 
 -- what was read is what stands in the text
-pub kept_readings : (d : Digits) (text : List ℕ) → Kept d text → readings_at d ≡ readings_of text
+pub kept_readings : (d : Parameters) (text : List ℕ) → Kept d text → readings_at d ≡ readings_of text
 kept_readings d text k =
     let n = numbers_of d.fields (cut 59 text) k.reads in
     let v = utf8_is text d.validity k.utf8 in
@@ -158,14 +159,14 @@ front_push : (text : List ℕ) (b : ℕ) → front_of (text ++ b ∷ []) ≡ tex
 front_push [] b = refl
 front_push (c ∷ cs) b = front_of-push c cs b
 
-pub kept_none : Kept empty_digits []
+pub kept_none : Kept empty_parameters []
 kept_none = record { reads = (refl, empty_reads, refl, refl); last = refl; utf8 = utf8_nil }
 
-pub kept_more : (d : Digits) (text : List ℕ) (b : ℕ) → Kept d text → Kept (digits_after d b) (text ++ b ∷ [])
+pub kept_more : (d : Parameters) (text : List ℕ) (b : ℕ) → Kept d text → Kept (parameters_after d b) (text ++ b ∷ [])
 kept_more d text b k = record { reads = text_more d.fields text b k.reads; last = sym (last_push text b); utf8 = utf8_more text d.validity b k.utf8 }
 
 -- what is meant by a text and a final byte, by what is kept of the text
-kept_means : {A : Type 0} (by : ℕ → Readings → A) (d : Digits) (text : List ℕ) (b : ℕ) → Kept d text
+kept_means : {A : Type 0} (by : ℕ → Readings → A) (d : Parameters) (text : List ℕ) (b : ℕ) → Kept d text
     → by b (readings_at d) ≡ by (last_of (text ++ b ∷ [])) (readings_of (front_of (text ++ b ∷ [])))
 kept_means by d text b k = ap (λ (r : Readings). by b r) (kept_readings d text k)
     ∙ sym (ap (λ (bs : List ℕ). by (last_of (text ++ b ∷ [])) (readings_of bs)) (front_push text b) ∙ ap (λ (f : ℕ). by f (readings_of text)) (last_push text b))
@@ -199,7 +200,7 @@ opening_is b = go (b == 50) refl where
   go false t = λ more. rw (t, and_false (begins (48 ∷ 48 ∷ 126 ∷ []) more))
 
 -- a final byte that opens no paste
-number_whole : (d : Digits) (p : Opening) (bytes : List ℕ) (b : ℕ) (raw pause : Bool) → OpenNumber d p bytes → is_final b ≡ true → (p ≡ opening.Zeros → (b == 126) ≡ false)
+number_whole : (d : Parameters) (p : Opening) (bytes : List ℕ) (b : ℕ) (raw pause : Bool) → OpenNumber d p bytes → is_final b ≡ true → (p ≡ opening.Zeros → (b == 126) ≡ false)
     → IsRight (Whole (numbered_by raw b (readings_at d))) (bytes ++ b ∷ []) raw pause
 number_whole d p bytes b raw pause o l h =
     let none = opens_none p (o.digit ∷ o.more) b o.opens h in
@@ -209,8 +210,8 @@ number_whole d p bytes b raw pause o l h =
       begins_start (o.digit ∷ (o.more ++ b ∷ [])) ∙ none,
     )
 
-number_more : (d : Digits) (p : Opening) (bytes : List ℕ) (b : ℕ) (raw pause : Bool) → OpenNumber d p bytes → is_final b ≡ false
-    → IsRight (Open (Numbered (digits_after d b) (opens_after p b))) (bytes ++ b ∷ []) raw pause
+number_more : (d : Parameters) (p : Opening) (bytes : List ℕ) (b : ℕ) (raw pause : Bool) → OpenNumber d p bytes → is_final b ≡ false
+    → IsRight (Open (Numbered (parameters_after d b) (opens_after p b))) (bytes ++ b ∷ []) raw pause
 number_more d p bytes b raw pause o l =
     let none = opens_none p (o.digit ∷ o.more) b o.opens (λ h. not_tilde b l) in
     rw o.is (
@@ -220,13 +221,13 @@ number_more d p bytes b raw pause o l =
         more = o.more ++ b ∷ [];
         is = refl;
         is_digit = o.is_digit;
-        no_final = all_push (λ c. ¬ IsFinal c) o.more b o.no_final (not_final b l);
+        no_final = all_push (λ c. ¬ IsFinal c) o.more b o.no_final (not_within b l);
         kept = kept_more d (o.digit ∷ o.more) b o.kept;
         opens = opens_more p (o.digit ∷ o.more) b o.opens (not_tilde b l);
       },
     )
 
-number_end : (d : Digits) (p : Opening) (bytes : List ℕ) (b : ℕ) (raw pause : Bool) → OpenNumber d p bytes → is_final b ≡ true → IsRight (number_ends p d raw b) (bytes ++ b ∷ []) raw pause
+number_end : (d : Parameters) (p : Opening) (bytes : List ℕ) (b : ℕ) (raw pause : Bool) → OpenNumber d p bytes → is_final b ≡ true → IsRight (number_ends p d raw b) (bytes ++ b ∷ []) raw pause
 number_end d opening.Two bytes b raw pause o l = number_whole d opening.Two bytes b raw pause o l (λ h. cc)
 number_end d opening.Zero bytes b raw pause o l = number_whole d opening.Zero bytes b raw pause o l (λ h. cc)
 number_end d opening.Not bytes b raw pause o l = number_whole d opening.Not bytes b raw pause o l (λ h. cc)
@@ -238,30 +239,30 @@ number_end d opening.Zeros bytes b raw pause o l = go (b == 126) refl where
   go true t = opened (eqb-true b 126 t) (o.is ∙ ap (λ (ys : List ℕ). 27 ∷ 91 ∷ ys) o.opens)
   go false t = number_whole d opening.Zeros bytes b raw pause o l (λ h. t)
 
-number_right : (d : Digits) (p : Opening) (bytes : List ℕ) (b : ℕ) (raw pause : Bool) → OpenNumber d p bytes → IsRight (state_after (Numbered d p) b raw pause) (bytes ++ b ∷ []) raw pause
+number_right : (d : Parameters) (p : Opening) (bytes : List ℕ) (b : ℕ) (raw pause : Bool) → OpenNumber d p bytes → IsRight (state_after (Numbered d p) b raw pause) (bytes ++ b ∷ []) raw pause
 number_right d p bytes b raw pause o = cond_both (is_final b) _ _ (λ (s : Step). IsRight s (bytes ++ b ∷ []) raw pause) (number_end d p bytes b raw pause o) (number_more d p bytes b raw pause o)
 
 -- a report of the mouse
-mouse_whole : (d : Digits) (bytes : List ℕ) (b : ℕ) (raw pause : Bool) → OpenMouse d bytes → is_mouse_end b ≡ true → IsRight (Whole (sgr_by b (readings_at d))) (bytes ++ b ∷ []) raw pause
+mouse_whole : (d : Parameters) (bytes : List ℕ) (b : ℕ) (raw pause : Bool) → OpenMouse d bytes → is_mouse_end b ≡ true → IsRight (Whole (sgr_by b (readings_at d))) (bytes ++ b ∷ []) raw pause
 mouse_whole d bytes b raw pause o l = rw o.is (
   ended EndsNoMouse is_mouse_end mouse_tells o.more b o.no_end l,
   kept_means sgr_by d o.more b o.kept,
   third_apart 60 (o.more ++ b ∷ []) refl,
 )
 
-mouse_more : (d : Digits) (bytes : List ℕ) (b : ℕ) (raw pause : Bool) → OpenMouse d bytes → is_mouse_end b ≡ false → IsRight (Open (Sgr (digits_after d b))) (bytes ++ b ∷ []) raw pause
+mouse_more : (d : Parameters) (bytes : List ℕ) (b : ℕ) (raw pause : Bool) → OpenMouse d bytes → is_mouse_end b ≡ false → IsRight (Open (Sgr (parameters_after d b))) (bytes ++ b ∷ []) raw pause
 mouse_more d bytes b raw pause o l = rw o.is (
   not_ended EndsNoMouse is_mouse_end mouse_tells o.more b o.no_end l,
   record { more = o.more ++ b ∷ []; is = refl; no_end = all_push EndsNoMouse o.more b o.no_end (not_mouse_end b l); kept = kept_more d o.more b o.kept },
 )
 
-mouse_right : (d : Digits) (bytes : List ℕ) (b : ℕ) (raw pause : Bool) → OpenMouse d bytes → IsRight (state_after (Sgr d) b raw pause) (bytes ++ b ∷ []) raw pause
+mouse_right : (d : Parameters) (bytes : List ℕ) (b : ℕ) (raw pause : Bool) → OpenMouse d bytes → IsRight (state_after (Sgr d) b raw pause) (bytes ++ b ∷ []) raw pause
 mouse_right d bytes b raw pause o = cond_both (is_mouse_end b) _ _ (λ (s : Step). IsRight s (bytes ++ b ∷ []) raw pause) (mouse_whole d bytes b raw pause o) (mouse_more d bytes b raw pause o)
 
-coded_right : (c : Codes) (bytes : List ℕ) (b : ℕ) (raw pause : Bool) → bytes ≡ 27 ∷ 91 ∷ 77 ∷ codes_bytes c → IsRight (coded_after c b) (bytes ++ b ∷ []) raw pause
-coded_right codes.Empty bytes b raw pause e = rw e (refl, refl)
-coded_right (codes.Code x) bytes b raw pause e = rw e (refl, refl)
-coded_right (codes.Column x y) bytes b raw pause e = rw e (refl, refl, third_apart 77 (x ∷ y ∷ b ∷ []) refl)
+x10_right : (c : X10Report) (bytes : List ℕ) (b : ℕ) (raw pause : Bool) → bytes ≡ 27 ∷ 91 ∷ 77 ∷ x10_bytes c → IsRight (x10_after c b) (bytes ++ b ∷ []) raw pause
+x10_right x10.Empty bytes b raw pause e = rw e (refl, refl)
+x10_right (x10.Code x) bytes b raw pause e = rw e (refl, refl)
+x10_right (x10.Column x y) bytes b raw pause e = rw e (refl, refl, third_apart 77 (x ∷ y ∷ b ∷ []) refl)
 
 -- the last byte, and what stands before it
 pub last_at : (bytes : List ℕ) → 0 < length bytes → last_of bytes ≡ get_or bytes (length bytes - 1) 0
@@ -279,14 +280,14 @@ front_at (b ∷ c ∷ bs) =
     ap (λ (xs : List ℕ). b ∷ xs) (front_at (c ∷ bs)) ∙ sym (ap (λ (i : ℕ). take i (b ∷ c ∷ bs)) e)
 
 -- the first digit
-number_begun : (b : ℕ) → is_digit b ≡ true → OpenNumber (digits_after empty_digits b) (opens_with b) (27 ∷ 91 ∷ b ∷ [])
+number_begun : (b : ℕ) → is_digit b ≡ true → OpenNumber (parameters_after empty_parameters b) (opens_with b) (27 ∷ 91 ∷ b ∷ [])
 number_begun b t = record {
   digit = b;
   more = [];
   is = refl;
-  is_digit = true_digit b t;
+  is_digit = true_within b t;
   no_final = tt;
-  kept = kept_more empty_digits [] b kept_none;
+  kept = kept_more empty_parameters [] b kept_none;
   opens = opening_is b;
 }
 
@@ -426,7 +427,7 @@ ground_right bytes b raw pause e = rw e (cond_both (b == 27) _ _ (λ (s : Step).
     (λ p. (rw (t, p), rw t, refl))
     (λ p. (rw (t, p), let is : b ≡ 27 = grind (arith, nat_tests) in rw is)))
     (λ t. cond_both (is_lead b) _ _ (λ (s : Step). IsRight s (b ∷ []) raw pause)
-    (λ l. (rw (t, l), (refl, true_lead b l)))
+    (λ l. (rw (t, l), (refl, true_within b l)))
     (λ l. (rw (t, l), rw t, refl))))
 
 escape_right : (bytes : List ℕ) (b : ℕ) (raw pause : Bool) → bytes ≡ 27 ∷ [] → IsRight (state_after Escape b raw pause) (bytes ++ b ∷ []) raw pause
@@ -437,17 +438,17 @@ escape_right bytes b raw pause e = rw e (cond_both (b == 79) _ _ (λ (s : Step).
     (λ u. cond_both (b == 27) _ _ (λ (s : Step). IsRight s (27 ∷ b ∷ []) raw pause)
     (λ v. (rw (t, u, v), rw (t, u, v), refl))
     (λ v. cond_both (is_lead b) _ _ (λ (s : Step). IsRight s (27 ∷ b ∷ []) raw pause)
-    (λ l. (rw (t, u, v, l), (refl, true_lead b l)))
+    (λ l. (rw (t, u, v, l), (refl, true_within b l)))
     (λ l. (rw (t, u, v, l), rw (t, u, v), refl))))))
 
 -- One more byte does right.
-pub state_right : (state : State) (bytes : List ℕ) (b : ℕ) (raw pause : Bool) → StandsFor state bytes → IsRight (state_after state b raw pause) (bytes ++ b ∷ []) raw pause
+pub state_right : (state : State) (bytes : List ℕ) (b : ℕ) (raw pause : Bool) → StateRepresents state bytes → IsRight (state_after state b raw pause) (bytes ++ b ∷ []) raw pause
 state_right Ground bytes b raw pause e = ground_right bytes b raw pause e
 state_right Escape bytes b raw pause e = escape_right bytes b raw pause e
 state_right Ss3 bytes b raw pause e = rw e (refl, refl, refl)
 state_right Csi bytes b raw pause e = csi_right bytes b raw pause e
-state_right Bracket bytes b raw pause e = rw e (refl, refl, refl)
-state_right (Coded c) bytes b raw pause e = coded_right c bytes b raw pause e
+state_right LinuxKey bytes b raw pause e = rw e (refl, refl, refl)
+state_right (X10 c) bytes b raw pause e = x10_right c bytes b raw pause e
 state_right (Sgr d) bytes b raw pause e = mouse_right d bytes b raw pause e
 state_right Private bytes b raw pause e = private_right bytes b raw pause e
 state_right (Reply first) bytes b raw pause e = reply_right first bytes b raw pause e

@@ -7,23 +7,24 @@ use Rattle.std.proofs.lemmas.Bool.Decides.{nat_tests}
 use Rattle.std.specs.List.{AllByRecursion}
 use Rattle.bstr.specs.Utf8.{Decoded, decoded, second, continues, code_of_2, code_of_3, code_of_4}
 use Rattle.bstr.proofs.lemmas.PieceLemmas.{by-shape}
-use Rattle.crossterm_parse.specs.Deciding.{is_lead, is_continuing, further_after}
+use Rattle.crossterm_parse.specs.inside.Recognizer.{is_lead, is_continuing, further_after}
 use Rattle.crossterm_parse.specs.Meaning.{typed, decoded_character}
 use Rattle.memchr.specs.Find.{Nowhere, Passes, is_byte}
-use Rattle.crossterm_parse.specs.Machine.{IsCharacterOf, IsLetter, state_after, state_left, text_left, events_left, is_paste, Opens, StandsFor}
+use Rattle.crossterm_parse.specs.inside.Automaton.{IsCharacterOf, IsLetter, state_after, state_left, text_left, events_left, is_paste, Opens, StateRepresents, kept_text}
 use Rattle.crossterm_parse.specs.Marked.{Marked, bytes_of, marked}
-use Rattle.crossterm_parse.specs.Standing.{Standing, Stands, kept_text, AdvancesOver, Gives, PutsAll, PutsByte}
+use Rattle.crossterm_parse.specs.View.{ParserView, Represents, AdvancesOver}
+use Rattle.crossterm_parse.specs.inside.Putting.{Gives, PutsAll, PutsByte}
 use Rattle.crossterm_parse.specs.declared.paste.Met.TheVariants as met
 use Rattle.crossterm_parse.specs.declared.state.State.{State}
-use Rattle.crossterm_parse.specs.declared.state.State.TheVariants.{Ground, Escape, Ss3, Csi, Bracket, Coded, Sgr, Private, Reply, Numbered, Paste, Utf8}
-use Rattle.crossterm_parse.specs.Step.{Step, Open, Whole}
+use Rattle.crossterm_parse.specs.declared.state.State.TheVariants.{Ground, Escape, Ss3, Csi, LinuxKey, X10, Sgr, Private, Reply, Numbered, Paste, Utf8}
+use Rattle.crossterm_parse.specs.inside.Step.{Step, Open, Whole}
 use Rattle.crossterm_parse.specs.declared.character.Begun.{Begun}
 use Rattle.crossterm_parse.specs.declared.character.Begun.TheVariants.{One, Two, Three}
 use Rattle.crossterm_parse.specs.declared.meaning.Meaning.{Meaning}
-use Rattle.crossterm_parse.proofs.StandingLaws.{advance_more}
+use Rattle.crossterm_parse.proofs.ViewLaws.{advance_more}
 use Rattle.crossterm_parse.proofs.Utf8Laws.{leads, two_whole, three_whole, four_whole}
 
-same_start : (old mid new : Standing) (b : ℕ) (raw pause : Bool) → PutsAll old mid [] → PutsByte mid new b raw pause → PutsByte old new b raw pause
+same_start : (old mid new : ParserView) (b : ℕ) (raw pause : Bool) → PutsAll old mid [] → PutsByte mid new b raw pause → PutsByte old new b raw pause
 same_start old mid new b raw pause same puts = (
   puts.0 ∙ (λ k. state_left (state_after (same.0 k) b raw pause)),
   puts.1 ∙ (λ k. text_left (state_after (same.0 k) b raw pause) (same.0 k) (same.1 k) b),
@@ -31,22 +32,22 @@ same_start old mid new b raw pause same puts = (
 )
 
 -- one more byte
-pub puts_more : (old mid new : Standing) (bs : List ℕ) (b : ℕ) → PutsAll old mid bs → ((raw pause : Bool) → PutsByte mid new b raw pause) → PutsAll old new (bs ++ b ∷ [])
+pub puts_more : (old mid new : ParserView) (bs : List ℕ) (b : ℕ) → PutsAll old mid bs → ((raw pause : Bool) → PutsByte mid new b raw pause) → PutsAll old new (bs ++ b ∷ [])
 puts_more old mid new [] b all puts = (new, (λ raw pause. same_start old mid new b raw pause all (puts raw pause)), (refl, refl, refl))
 puts_more old mid new (x ∷ xs) b all puts = (all.0, all.1, puts_more all.0 mid new xs b all.2 puts)
 
 -- a change of the room alone puts nothing
-pub puts_still : (old mid new : Standing) (bs : List ℕ) → PutsAll old mid bs → PutsAll mid new [] → PutsAll old new bs
+pub puts_still : (old mid new : ParserView) (bs : List ℕ) → PutsAll old mid bs → PutsAll mid new [] → PutsAll old new bs
 puts_still old mid new [] all same = (same.0 ∙ all.0, same.1 ∙ all.1, same.2 ∙ all.2)
 puts_still old mid new (b ∷ bs) all same = (all.0, all.1, puts_still all.0 mid new bs all.2 same)
 
 -- more bytes
-puts_join : (old mid new : Standing) (bs cs : List ℕ) → PutsAll old mid bs → PutsAll mid new cs → PutsAll old new (bs ++ cs)
+puts_join : (old mid new : ParserView) (bs cs : List ℕ) → PutsAll old mid bs → PutsAll mid new cs → PutsAll old new (bs ++ cs)
 puts_join old mid new bs [] all same = subst (PutsAll old new) (sym (append-nil bs)) (puts_still old mid new bs all same)
 puts_join old mid new bs (c ∷ cs) all more = subst (PutsAll old new) (append_assoc bs (c ∷ []) cs)
     (puts_join old more.0 new (bs ++ c ∷ []) cs (puts_more old mid more.0 bs c all more.1) more.2)
 
-pub puts_after : (old mid new : Standing) (bs : List ℕ) → PutsAll old mid [] → PutsAll mid new bs → PutsAll old new bs
+pub puts_after : (old mid new : ParserView) (bs : List ℕ) → PutsAll old mid [] → PutsAll mid new bs → PutsAll old new bs
 puts_after old mid new bs same all = puts_join old mid new [] bs same all
 
 take_none : (n : ℕ) → take {A = ℕ} n [] ≡ []
@@ -61,14 +62,14 @@ take_join (suc i) n (b ∷ bs) =
     ap (λ (t : List ℕ). b ∷ t) (take_join i n bs) ∙ ap (λ (m : ℕ). take m (b ∷ bs)) more
 
 -- more bytes of what is left
-pub puts_on : (old mid new : Standing) (bs : List ℕ) (i n : ℕ) → PutsAll old mid (take i bs) → PutsAll mid new (take n (take (length bs - i) (drop i bs)))
+pub puts_on : (old mid new : ParserView) (bs : List ℕ) (i n : ℕ) → PutsAll old mid (take i bs) → PutsAll mid new (take n (take (length bs - i) (drop i bs)))
     → PutsAll old new (take (i + n) bs)
 puts_on old mid new bs i n all more =
     let left : length (drop i bs) ≤ length bs - i = omega (arith, length-drop i bs) in
     subst (PutsAll old new) (take_join i n bs)
     (puts_join old mid new (take i bs) (take n (drop i bs)) all (subst (λ (cs : List ℕ). PutsAll mid new (take n cs)) (take_all (length bs - i) (drop i bs) left) more))
 
-plain_byte : (old : Standing) (b : ℕ) (raw pause : Bool) → b == 27 ≡ false → old.state ≡ Paste met.Nothing
+plain_byte : (old : ParserView) (b : ℕ) (raw pause : Bool) → b == 27 ≡ false → old.state ≡ Paste met.Nothing
     → PutsByte old (record { waiting = old.waiting; state = old.state; text = old.text ++ b ∷ []; room = old.room }) b raw pause
 plain_byte old b raw pause e is = (
   is ∙ sym (ap (λ (s : State). state_left (state_after s b raw pause)) is ∙ ap (λ (t : Bool). Paste (if t then met.Escape else met.Nothing)) e),
@@ -77,11 +78,11 @@ plain_byte old b raw pause e is = (
 )
 
 -- bytes of a paste before the next ESC
-pub paste_run : (bs : List ℕ) (old new : Standing) → AllByRecursion (λ b. b == 27 ≡ false) bs → old.state ≡ Paste met.Nothing → new.state ≡ old.state
+pub paste_run : (bs : List ℕ) (old new : ParserView) → AllByRecursion (λ b. b == 27 ≡ false) bs → old.state ≡ Paste met.Nothing → new.state ≡ old.state
     → new.text ≡ old.text ++ bs → new.waiting ≡ old.waiting → PutsAll old new bs
 paste_run [] old new none is state text waiting = (state, text ∙ append-nil old.text, waiting)
 paste_run (b ∷ bs) old new none is state text waiting =
-    let mid : Standing = record { waiting = old.waiting; state = old.state; text = old.text ++ b ∷ []; room = old.room } in
+    let mid : ParserView = record { waiting = old.waiting; state = old.state; text = old.text ++ b ∷ []; room = old.room } in
     (mid, (λ raw pause. plain_byte old b raw pause none.0 is), paste_run bs mid new none.1 is state (text ∙ sym (append_assoc old.text (b ∷ []) bs)) waiting)
 
 -- in a paste neither the mode nor a pause matters
@@ -91,15 +92,15 @@ paste_after Ground b raw other pause still h = absurd (false≢true h)
 paste_after Escape b raw other pause still h = absurd (false≢true h)
 paste_after Ss3 b raw other pause still h = absurd (false≢true h)
 paste_after Csi b raw other pause still h = absurd (false≢true h)
-paste_after Bracket b raw other pause still h = absurd (false≢true h)
-paste_after (Coded c) b raw other pause still h = absurd (false≢true h)
+paste_after LinuxKey b raw other pause still h = absurd (false≢true h)
+paste_after (X10 c) b raw other pause still h = absurd (false≢true h)
 paste_after (Sgr d) b raw other pause still h = absurd (false≢true h)
 paste_after Private b raw other pause still h = absurd (false≢true h)
 paste_after (Reply f) b raw other pause still h = absurd (false≢true h)
 paste_after (Numbered d o) b raw other pause still h = absurd (false≢true h)
 paste_after (Utf8 c) b raw other pause still h = absurd (false≢true h)
 
-pub puts_paste : (old new : Standing) (b : ℕ) (raw other pause still : Bool) → is_paste old.state ≡ true → PutsByte old new b raw pause → PutsByte old new b other still
+pub puts_paste : (old new : ParserView) (b : ℕ) (raw other pause still : Bool) → is_paste old.state ≡ true → PutsByte old new b raw pause → PutsByte old new b other still
 puts_paste old new b raw other pause still h puts =
     let e = paste_after old.state b raw other pause still h in (
       puts.0 ∙ ap (λ (s : Step). state_left s) e,
@@ -117,19 +118,19 @@ none_is bs zero f = tt
 none_is [] (suc n) f = tt
 none_is (b ∷ bs) (suc n) f = (not_true (b == 27) (f 0 (omega arith) (omega arith)), none_is bs n (λ k low high. f (suc k) (omega arith) (omega (arith, high))))
 
-still : (mid new : Standing) (rest : List Marked) → PutsAll mid new [] → Stands mid rest → Stands new rest
-still mid new rest same stands = (
-  subst (λ (s : State). StandsFor s (bytes_of rest)) (sym same.0) stands.0,
-  same.1 ∙ stands.1 ∙ ap (λ (s : State). kept_text s (bytes_of rest)) (sym same.0),
+still : (mid new : ParserView) (rest : List Marked) → PutsAll mid new [] → Represents mid rest → Represents new rest
+still mid new rest same represents = (
+  subst (λ (s : State). StateRepresents s (bytes_of rest)) (sym same.0) represents.0,
+  same.1 ∙ represents.1 ∙ ap (λ (s : State). kept_text s (bytes_of rest)) (sym same.0),
 )
 
-pub advance_still : (old mid new : Standing) (taken : List Marked) → PutsAll mid new [] → AdvancesOver old mid taken → AdvancesOver old new taken
-advance_still old mid new taken same over before stands undecided =
-    let a = over before stands undecided in
-    record { parts = a.parts; rest = a.rest; division = a.division; given = same.2 ∙ a.given; stands = still mid new a.rest same a.stands }
+pub advance_still : (old mid new : ParserView) (taken : List Marked) → PutsAll mid new [] → AdvancesOver old mid taken → AdvancesOver old new taken
+advance_still old mid new taken same over before represents undecided =
+    let a = over before represents undecided in
+    record { parts = a.parts; rest = a.rest; division = a.division; given = same.2 ∙ a.given; represents = still mid new a.rest same a.represents }
 
 -- a run
-pub advance_run : (n : ℕ) (old mid new : Standing) (piece : List ℕ) (more raw : Bool) (i : ℕ) → i + n ≤ length piece → PutsAll mid new (take n (drop i piece))
+pub advance_run : (n : ℕ) (old mid new : ParserView) (piece : List ℕ) (more raw : Bool) (i : ℕ) → i + n ≤ length piece → PutsAll mid new (take n (drop i piece))
     → AdvancesOver old mid (take i (marked piece more raw)) → AdvancesOver old new (take (i + n) (marked piece more raw))
 advance_run zero old mid new piece more raw i l all before =
     let none : i ≡ i + 0 = omega arith in
@@ -144,7 +145,7 @@ advance_run (suc n) old mid new piece more raw i l all before =
     subst (λ (j : ℕ). AdvancesOver old new (take j (marked piece more raw))) on (advance_run n old front.0 new piece more raw (i + 1) (omega (arith, l)) front.2 next)
 
 -- a run over what is left of the piece
-pub advance_rest : (n : ℕ) (old mid new : Standing) (piece : List ℕ) (more raw : Bool) (i : ℕ) → i + n ≤ length piece
+pub advance_rest : (n : ℕ) (old mid new : ParserView) (piece : List ℕ) (more raw : Bool) (i : ℕ) → i + n ≤ length piece
     → PutsAll mid new (take n (take (length piece - i) (drop i piece)))
     → AdvancesOver old mid (take i (marked piece more raw)) → AdvancesOver old new (take (i + n) (marked piece more raw))
 advance_rest n old mid new piece more raw i l all before =
@@ -158,10 +159,10 @@ opens_more old mid new [] b all opens outside = (new, (λ raw pause. ap (λ (s :
 opens_more old mid new (x ∷ xs) b all opens outside = (all.0, all.1, all.2, opens_more all.0 mid new xs b all.3 opens outside)
 
 -- bytes with which a sequence goes on
-pub opens_puts : (bs : List ℕ) (old new : Standing) → Opens old.state new.state bs → new.text ≡ old.text → new.waiting ≡ old.waiting → PutsAll old new bs
+pub opens_puts : (bs : List ℕ) (old new : ParserView) → Opens old.state new.state bs → new.text ≡ old.text → new.waiting ≡ old.waiting → PutsAll old new bs
 opens_puts [] old new opens text waiting = (opens, text, waiting)
 opens_puts (b ∷ bs) old new opens text waiting =
-    let mid : Standing = record { waiting = old.waiting; state = opens.0; text = old.text; room = old.room } in
+    let mid : ParserView = record { waiting = old.waiting; state = opens.0; text = old.text; room = old.room } in
     let puts : (raw pause : Bool) → PutsByte old mid b raw pause = λ raw pause. (
       ap (λ (s : Step). state_left s) (sym (opens.1 raw pause)),
       sym (ap (λ (s : Step). text_left s old.state old.text b) (opens.1 raw pause)
@@ -184,7 +185,7 @@ letter_after b is raw pause =
     let low : nat_lt b 127 ≡ true = grind (arith, nat_tests) in
     rw (escape, lead, nul, tab, feed, enter, control, digit, low) refl
 
-whole_byte : (old new : Standing) (state : State) (b : ℕ) (m : Meaning) → old.state ≡ state → ((raw pause : Bool) → state_after state b raw pause ≡ Whole (Some m)) → Gives old new m
+whole_byte : (old new : ParserView) (state : State) (b : ℕ) (m : Meaning) → old.state ≡ state → ((raw pause : Bool) → state_after state b raw pause ≡ Whole (Some m)) → Gives old new m
     → (raw pause : Bool) → PutsByte old new b raw pause
 whole_byte old new state b m is whole gives raw pause =
     let step : state_after old.state b raw pause ≡ Whole (Some m) = ap (λ (s : State). state_after s b raw pause) is ∙ whole raw pause in (
@@ -193,7 +194,7 @@ whole_byte old new state b m is whole gives raw pause =
       gives.2 ∙ sym (ap (λ (s : Step). old.waiting ++ events_left s old.text) step),
     )
 
-pub letter_puts : (old new : Standing) (b : ℕ) → IsLetter b → old.state ≡ Ground → Gives old new (typed b) → (raw pause : Bool) → PutsByte old new b raw pause
+pub letter_puts : (old new : ParserView) (b : ℕ) → IsLetter b → old.state ≡ Ground → Gives old new (typed b) → (raw pause : Bool) → PutsByte old new b raw pause
 letter_puts old new b is ground gives = whole_byte old new Ground b (typed b) ground (letter_after b is) gives
 
 pub take_less : (n m : ℕ) (bs : List ℕ) → n ≤ length (take m bs) → take n (take m bs) ≡ take n bs
@@ -215,7 +216,7 @@ letter_at (b ∷ bs) (suc i) all l = letter_at bs i all.1 (omega (arith, l))
 abbrev begun : Begun → State
 begun t = Utf8 (record { escaped = false; begun = t })
 
-open_byte : (old : Standing) (state next : State) (b : ℕ) → old.state ≡ state → ((raw pause : Bool) → state_after state b raw pause ≡ Open next) → is_paste next ≡ false
+open_byte : (old : ParserView) (state next : State) (b : ℕ) → old.state ≡ state → ((raw pause : Bool) → state_after state b raw pause ≡ Open next) → is_paste next ≡ false
     → (raw pause : Bool) → PutsByte old (record { waiting = old.waiting; state = next; text = old.text; room = old.room }) b raw pause
 open_byte old state next b is opens outside raw pause =
     let step : state_after old.state b raw pause ≡ Open next = ap (λ (s : State). state_after s b raw pause) is ∙ opens raw pause in (
@@ -255,10 +256,10 @@ further_two a l =
     let t : nat_le a 239 ≡ false = grind (arith, nat_tests) in
     rw (s, t) refl
 
-two_puts : (old new : Standing) (a b c : ℕ) → 0xC2 ≤ a → a < 0xE0 → second a b ≡ true → Some (code_of_2 a b) ≡ Some c → old.state ≡ Ground → Gives old new (typed c)
+two_puts : (old new : ParserView) (a b c : ℕ) → 0xC2 ≤ a → a < 0xE0 → second a b ≡ true → Some (code_of_2 a b) ≡ Some c → old.state ≡ Ground → Gives old new (typed c)
     → PutsAll old new (a ∷ b ∷ [])
 two_puts old new a b c low high ok is ground gives =
-    let one : Standing = record { waiting = old.waiting; state = begun (One a); text = old.text; room = old.room } in
+    let one : ParserView = record { waiting = old.waiting; state = begun (One a); text = old.text; room = old.room } in
     let last : (raw pause : Bool) → state_after (begun (One a)) b raw pause ≡ Whole (Some (typed c)) = λ raw pause.
     rw (further_none a high, continuing b (second-continues a b ok)) refl
     ∙ ap (λ (x : Option ℕ). Whole (decoded_character x)) ((two_whole a b (leads a low (omega arith)) ok (grind (arith, nat_tests))).0 ∙ is) in (
@@ -267,11 +268,11 @@ two_puts old new a b c low high ok is ground gives =
       (new, whole_byte one new (begun (One a)) b (typed c) refl last gives, (refl, refl, refl)),
     )
 
-three_puts : (old new : Standing) (a b d c : ℕ) → 0xE0 ≤ a → a < 0xF0 → second a b ≡ true → continues d ≡ true → Some (code_of_3 a b d) ≡ Some c → old.state ≡ Ground → Gives old new (typed c)
+three_puts : (old new : ParserView) (a b d c : ℕ) → 0xE0 ≤ a → a < 0xF0 → second a b ≡ true → continues d ≡ true → Some (code_of_3 a b d) ≡ Some c → old.state ≡ Ground → Gives old new (typed c)
     → PutsAll old new (a ∷ b ∷ d ∷ [])
 three_puts old new a b d c low high ok more is ground gives =
-    let one : Standing = record { waiting = old.waiting; state = begun (One a); text = old.text; room = old.room } in
-    let two : Standing = record { waiting = old.waiting; state = begun (Two a b); text = old.text; room = old.room } in
+    let one : ParserView = record { waiting = old.waiting; state = begun (One a); text = old.text; room = old.room } in
+    let two : ParserView = record { waiting = old.waiting; state = begun (Two a b); text = old.text; room = old.room } in
     let next : (raw pause : Bool) → state_after (begun (One a)) b raw pause ≡ Open (begun (Two a b)) = λ raw pause.
     rw (further_one a low high, continuing b (second-continues a b ok)) refl in
     let last : (raw pause : Bool) → state_after (begun (Two a b)) d raw pause ≡ Whole (Some (typed c)) = λ raw pause.
@@ -286,12 +287,12 @@ three_puts old new a b d c low high ok more is ground gives =
       ),
     )
 
-four_puts : (old new : Standing) (a b d e c : ℕ) → 0xF0 ≤ a → a ≤ 0xF4 → second a b ≡ true → continues d ≡ true → continues e ≡ true → Some (code_of_4 a b d e) ≡ Some c
+four_puts : (old new : ParserView) (a b d e c : ℕ) → 0xF0 ≤ a → a ≤ 0xF4 → second a b ≡ true → continues d ≡ true → continues e ≡ true → Some (code_of_4 a b d e) ≡ Some c
     → old.state ≡ Ground → Gives old new (typed c) → PutsAll old new (a ∷ b ∷ d ∷ e ∷ [])
 four_puts old new a b d e c low high ok more most is ground gives =
-    let one : Standing = record { waiting = old.waiting; state = begun (One a); text = old.text; room = old.room } in
-    let two : Standing = record { waiting = old.waiting; state = begun (Two a b); text = old.text; room = old.room } in
-    let three : Standing = record { waiting = old.waiting; state = begun (Three a b d); text = old.text; room = old.room } in
+    let one : ParserView = record { waiting = old.waiting; state = begun (One a); text = old.text; room = old.room } in
+    let two : ParserView = record { waiting = old.waiting; state = begun (Two a b); text = old.text; room = old.room } in
+    let three : ParserView = record { waiting = old.waiting; state = begun (Three a b d); text = old.text; room = old.room } in
     let next : (raw pause : Bool) → state_after (begun (One a)) b raw pause ≡ Open (begun (Two a b)) = λ raw pause.
     rw (further_two a low, continuing b (second-continues a b ok)) refl in
     let longer : (raw pause : Bool) → state_after (begun (Two a b)) d raw pause ≡ Open (begun (Three a b d)) = λ raw pause.
@@ -311,7 +312,7 @@ four_puts old new a b d e c low high ok more most is ground gives =
       ),
     )
 
-pub character_puts : (old new : Standing) (bs : List ℕ) (c size : ℕ) → IsCharacterOf bs c size → old.state ≡ Ground → Gives old new (typed c) → PutsAll old new (take size bs)
+pub character_puts : (old new : ParserView) (bs : List ℕ) (c size : ℕ) → IsCharacterOf bs c size → old.state ≡ Ground → Gives old new (typed c) → PutsAll old new (take size bs)
 character_puts old new bs x size is ground gives =
     let b = slice_index bs 0 in let c = slice_index bs 1 in let d = slice_index bs 2 in let e = slice_index bs 3 in
     let one = λ (h : 0 < length bs). drop_more bs 0 0 h in

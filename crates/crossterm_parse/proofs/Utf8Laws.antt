@@ -1,9 +1,8 @@
 -- UTF-8, byte by byte.
 use Rattle.std.proofs.Common.{◌≡◌, ◌==◌, ◌≤◌, inl, inr, ℕ, Bool, true, false, cond, ◌&&◌, List, [], ◌∷◌, ◌++◌, refl, ap, sym, ◌∙◌, subst, arith, Some, None, length, length-append, suc, append_assoc}
 use Rattle.std.specs.Prelude.{nat_lt, nat_le, encode_utf8_all}
-use Rattle.std.proofs.lemmas.Bool.{false≢true, cases_Bool}
+use Rattle.std.proofs.lemmas.Bool.{false≢true, cases_Bool, and_parts}
 use Rattle.std.proofs.lemmas.Bool.Decides.{nat_tests}
-use Rattle.std.proofs.lemmas.Bool.{and_parts}
 use Rattle.std.proofs.lemmas.List.{append-nil, take_at, drop_at, drop_all}
 use Rattle.std.proofs.lemmas.Str.{IsUtf8-append, IsUtf8-encode, IsUtf8-drop, IsCharBoundary-from_take, IsUtf8-from_is_utf8, is_utf8-from_IsUtf8}
 use Rattle.std.specs.Str.{IsUtf8, is_utf8}
@@ -12,9 +11,9 @@ use Rattle.std.proofs.Math.Utf8.{scalar, scalars}
 use Rattle.bstr.specs.Utf8.{Decoded, good, decoded, second, continues, code_of_2, code_of_3, code_of_4}
 use Rattle.bstr.proofs.lemmas.SoundLemmas.{SpellsChar-decoded}
 use Rattle.bstr.proofs.lemmas.EncodeLemmas.{decoded-encode}
-use Rattle.crossterm_parse.specs.Characters.{begun_bytes}
-use Rattle.crossterm_parse.specs.Machine.{is_sound}
-use Rattle.crossterm_parse.specs.Utf8.{begun_after, utf8_after, IsFront, TracksUtf8}
+use Rattle.crossterm_parse.specs.inside.Characters.{begun_bytes}
+use Rattle.crossterm_parse.specs.inside.Automaton.{is_sound}
+use Rattle.crossterm_parse.specs.inside.Utf8.{begun_after, utf8_after, IsFront, TracksUtf8}
 use Rattle.crossterm_parse.specs.declared.character.Begun.{Begun}
 use Rattle.crossterm_parse.specs.declared.character.Begun.TheVariants.{One, Two, Three}
 use Rattle.crossterm_parse.specs.declared.utf8.Validity.{Validity}

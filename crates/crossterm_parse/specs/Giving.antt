@@ -3,7 +3,7 @@ use Rattle.std.specs.Prelude.{◌≡◌, ◌≤◌, ◌++◌, List, map, Option}
 use Rattle.std.specs.Iterator.{Yields, YieldsFirstBy}
 use Rattle.crossterm_types.specs.Seen.{Seen, seen}
 use Rattle.crossterm_types.specs.declared.event.InternalEvent.{InternalEvent}
-use Rattle.crossterm_parse.specs.Standing.{StandsStill}
+use Rattle.crossterm_parse.specs.View.{RepresentsSame}
 use Rattle.crossterm_parse.specs.declared.parse.events.Events.{Events}
 
 module _ {A : Type 0} where
@@ -11,10 +11,10 @@ module _ {A : Type 0} where
   abbrev pub events_left_in : Events A → List Seen
   events_left_in events = events.parser.now.waiting
 
-  -- An iterator over the events of the same parser, which stands for what it stood for.
+  -- An iterator over the events of the same parser, which represents what it represented.
   pub record KeepsParser (old new : Events A) : Type 0 where
     pub same : new.parser.ghost_name ≡ old.parser.ghost_name
-    pub stands : StandsStill old.parser.now new.parser.now
+    pub represents : RepresentsSame old.parser.now new.parser.now
     pub room : old.parser.now.room ≤ new.parser.now.room
 
   -- The first event that waits was given, where there is one, and nothing else changed.

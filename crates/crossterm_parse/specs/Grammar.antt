@@ -1,21 +1,23 @@
 -- What a terminal's bytes are made of: sequences, each by where it ends and not by what it means.
-use Rattle.std.specs.Prelude.{◌≡◌, ◌≢◌, ◌≤◌, ◌<◌, ℕ, nat_le, if◌then◌else◌, length, Bool, true, List, [], ◌∷◌, ◌++◌, ◌⊎◌}
+use Rattle.std.specs.Prelude.{codes, ◌≡◌, ◌≢◌, ◌≤◌, ◌<◌, ℕ, nat_le, if◌then◌else◌, length, Bool, true, List, [], ◌∷◌, ◌++◌, ◌⊎◌, ◌==◌, false, ◌&&◌}
+use Rattle.std.specs.Str.{byte}
 use Rattle.std.specs.List.{AllByRecursion}
+use Rattle.crossterm_parse.specs.Bytes.{ESC}
 use Rattle.crossterm_parse.specs.Marked.{Marked, bytes_of}
 
 -- A byte that leads a character in UTF-8, one that continues it, and how many continue it (RFC 3629).
 abbrev pub IsLead : ℕ → Type 0
-IsLead b = (192 ≤ b) × (b ≤ 247)
+IsLead b = (0xC0 ≤ b) × (b ≤ 0xF7)
 
 abbrev pub IsContinuing : ℕ → Type 0
-IsContinuing b = (128 ≤ b) × (b ≤ 191)
+IsContinuing b = (0x80 ≤ b) × (b ≤ 0xBF)
 
 abbrev pub continuing_after : ℕ → ℕ
-continuing_after lead = if nat_le lead 223 then 1 else if nat_le lead 239 then 2 else 3
+continuing_after lead = if nat_le lead 0xDF then 1 else if nat_le lead 0xEF then 2 else 3
 
 -- A byte by itself, a character in UTF-8, or one that is broken off by a byte that doesn't continue it and that belongs to it.
 pub data CharacterShape (bytes : List ℕ) : Type 0 where
-  single : (b : ℕ) → b ≢ 27 → ¬ IsLead b → bytes ≡ b ∷ [] → CharacterShape bytes
+  single : (b : ℕ) → b ≢ ESC → ¬ IsLead b → bytes ≡ b ∷ [] → CharacterShape bytes
   character : (lead : ℕ) (more : List ℕ) → IsLead lead → AllByRecursion IsContinuing more → length more ≡ continuing_after lead
       → bytes ≡ lead ∷ more → CharacterShape bytes
   broken : (lead b : ℕ) (more : List ℕ) → IsLead lead → AllByRecursion IsContinuing more → length more < continuing_after lead → ¬ IsContinuing b
@@ -23,40 +25,40 @@ pub data CharacterShape (bytes : List ℕ) : Type 0 where
 
 -- A digit, and what ends a numbered sequence: a final byte of ECMA-48.
 abbrev pub IsDigit : ℕ → Type 0
-IsDigit b = (48 ≤ b) × (b ≤ 57)
+IsDigit b = (byte "0" ≤ b) × (b ≤ byte "9")
 
 abbrev pub IsFinal : ℕ → Type 0
-IsFinal b = (64 ≤ b) × (b ≤ 126)
+IsFinal b = (0x40 ≤ b) × (b ≤ 0x7E)
 
 -- A byte after `ESC [` that doesn't ask for more: neither `[`, `M`, `<` nor `?`, nor a digit.
 abbrev pub IsAlone : ℕ → Type 0
-IsAlone b = (b ≢ 91) × (b ≢ 77) × (b ≢ 60) × (b ≢ 63) × ¬ IsDigit b
+IsAlone b = (b ≢ byte "[") × (b ≢ byte "M") × (b ≢ byte "<") × (b ≢ byte "?") × ¬ IsDigit b
 
 -- A byte that ends no report of the mouse, which `M` and `m` do.
 abbrev pub EndsNoMouse : ℕ → Type 0
-EndsNoMouse b = (b ≢ 77) × (b ≢ 109)
+EndsNoMouse b = (b ≢ byte "M") × (b ≢ byte "m")
 
 -- A byte that ends no reply, and bytes after `ESC [ ?` that end none: there a `u` at once ends none either.
 abbrev pub EndsNoReply : ℕ → Type 0
-EndsNoReply b = (b ≢ 99) × (b ≢ 117)
+EndsNoReply b = (b ≢ byte "c") × (b ≢ byte "u")
 
 abbrev pub HasNoEnd : List ℕ → Type 0
 HasNoEnd [] = Unit {0}
-HasNoEnd (b ∷ bs) = (b ≢ 99) × AllByRecursion EndsNoReply bs
+HasNoEnd (b ∷ bs) = (b ≢ byte "c") × AllByRecursion EndsNoReply bs
 
 -- What ends a reply after those bytes: `c`, or `u` but not at once.
 abbrev pub EndsReply : List ℕ → ℕ → Type 0
-EndsReply w f = (f ≡ 99) ⊎ ((f ≡ 117) × (w ≢ []))
+EndsReply w f = (f ≡ byte "c") ⊎ ((f ≡ byte "u") × (w ≢ []))
 
 -- What opens a paste, from its first digit on and whole, and what ends it (xterm, bracketed paste mode).
 abbrev pub paste_mark : List ℕ
-paste_mark = 50 ∷ 48 ∷ 48 ∷ 126 ∷ []
+paste_mark = codes "200~"
 
 abbrev pub paste_start : List ℕ
-paste_start = 27 ∷ 91 ∷ paste_mark
+paste_start = ESC ∷ byte "[" ∷ paste_mark
 
 abbrev pub paste_end : List ℕ
-paste_end = 27 ∷ 91 ∷ 50 ∷ 48 ∷ 49 ∷ 126 ∷ []
+paste_end = ESC ∷ codes "[201~"
 
 -- The end that follows the text is the first one.
 abbrev pub EndsFirst : List ℕ → Type 0
@@ -67,24 +69,30 @@ EndsFirst text = (front back : List ℕ) → text ++ paste_end ≡ front ++ (pas
 -- begins with `ESC [` and a question mark (xterm, kitty), a numbered sequence `ESC [ d w f` with d a digit (xterm, kitty), and a paste.
 pub data Shape (bytes : List ℕ) : Type 0 where
   text : CharacterShape bytes → Shape bytes
-  two_escapes : bytes ≡ 27 ∷ 27 ∷ [] → Shape bytes
-  with_escape : (b : ℕ) (rest : List ℕ) → b ≢ 79 → b ≢ 91 → CharacterShape (b ∷ rest) → bytes ≡ 27 ∷ b ∷ rest → Shape bytes
-  after_ss3 : (b : ℕ) → bytes ≡ 27 ∷ 79 ∷ b ∷ [] → Shape bytes
-  after_csi : (b : ℕ) → IsAlone b → bytes ≡ 27 ∷ 91 ∷ b ∷ [] → Shape bytes
-  after_bracket : (b : ℕ) → bytes ≡ 27 ∷ 91 ∷ 91 ∷ b ∷ [] → Shape bytes
-  coded : (a b c : ℕ) → bytes ≡ 27 ∷ 91 ∷ 77 ∷ a ∷ b ∷ c ∷ [] → Shape bytes
-  mouse : (w : List ℕ) (f : ℕ) → AllByRecursion EndsNoMouse w → (f ≡ 77) ⊎ (f ≡ 109) → bytes ≡ 27 ∷ 91 ∷ 60 ∷ (w ++ f ∷ []) → Shape bytes
-  reply : (w : List ℕ) (f : ℕ) → HasNoEnd w → EndsReply w f → bytes ≡ 27 ∷ 91 ∷ 63 ∷ (w ++ f ∷ []) → Shape bytes
+  two_escapes : bytes ≡ ESC ∷ ESC ∷ [] → Shape bytes
+  with_escape : (b : ℕ) (rest : List ℕ) → b ≢ byte "O" → b ≢ byte "[" → CharacterShape (b ∷ rest) → bytes ≡ ESC ∷ b ∷ rest → Shape bytes
+  after_ss3 : (b : ℕ) → bytes ≡ ESC ∷ byte "O" ∷ b ∷ [] → Shape bytes
+  after_csi : (b : ℕ) → IsAlone b → bytes ≡ ESC ∷ byte "[" ∷ b ∷ [] → Shape bytes
+  linux_key : (b : ℕ) → bytes ≡ ESC ∷ byte "[" ∷ byte "[" ∷ b ∷ [] → Shape bytes
+  x10 : (a b c : ℕ) → bytes ≡ ESC ∷ byte "[" ∷ byte "M" ∷ a ∷ b ∷ c ∷ [] → Shape bytes
+  mouse : (w : List ℕ) (f : ℕ) → AllByRecursion EndsNoMouse w → (f ≡ byte "M") ⊎ (f ≡ byte "m") → bytes ≡ ESC ∷ byte "[" ∷ byte "<" ∷ (w ++ f ∷ []) → Shape bytes
+  reply : (w : List ℕ) (f : ℕ) → HasNoEnd w → EndsReply w f → bytes ≡ ESC ∷ byte "[" ∷ byte "?" ∷ (w ++ f ∷ []) → Shape bytes
   numbered : (d f : ℕ) (w : List ℕ) → IsDigit d → AllByRecursion (λ b. ¬ IsFinal b) w → IsFinal f → bytes ≢ paste_start
-      → bytes ≡ 27 ∷ 91 ∷ d ∷ (w ++ f ∷ []) → Shape bytes
+      → bytes ≡ ESC ∷ byte "[" ∷ d ∷ (w ++ f ∷ []) → Shape bytes
   paste : (text : List ℕ) → EndsFirst text → bytes ≡ paste_start ++ (text ++ paste_end) → Shape bytes
 
 -- An escape that nothing came with after it.
 abbrev pub BeginsPaused : List Marked → Type 0
 BeginsPaused [] = ⊥
-BeginsPaused (m ∷ ms) = (m.byte ≡ 27) × (m.pause ≡ true)
+BeginsPaused (m ∷ ms) = (m.byte ≡ ESC) × (m.pause ≡ true)
 
 -- A whole sequence: the Esc key, or a shape that doesn't begin with it. Pauses on later bytes count for nothing.
 pub data Whole (ms : List Marked) : Type 0 where
-  key : (raw : Bool) → ms ≡ record { byte = 27; raw = raw; pause = true } ∷ [] → Whole ms
+  key : (raw : Bool) → ms ≡ record { byte = ESC; raw = raw; pause = true } ∷ [] → Whole ms
   sequence : Shape (bytes_of ms) → ¬ BeginsPaused ms → Whole ms
+
+-- whether the second list begins with the first
+abbrev pub begins : List ℕ → List ℕ → Bool
+begins [] bs = true
+begins (p ∷ ps) [] = false
+begins (p ∷ ps) (b ∷ bs) = begins ps bs && (b == p)

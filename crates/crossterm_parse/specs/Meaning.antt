@@ -2,6 +2,7 @@
 use Rattle.std.specs.Prelude.{ℕ, ◌+◌, ◌-◌, ◌==◌, nat_lt, nat_le, if◌then◌else◌, Bool, ◌&&◌, List, [], ◌∷◌, length, take, drop, encode_utf8_all, Option, Some, None}
 use Rattle.std.specs.Int.RustNames.{bit_and, bit_or}
 use Rattle.std.specs.Option.{option_map}
+use Rattle.std.specs.Str.{byte}
 use Rattle.bstr.specs.Utf8.{decoded, lossy_chars}
 use Rattle.unicode.specs.Binary.{is_uppercase}
 use Rattle.crossterm_types.specs.declared.event.key.KeyCode.{KeyCode}
@@ -9,10 +10,11 @@ use Rattle.crossterm_types.specs.declared.event.key.KeyCode.TheVariants.{Backspa
 use Rattle.crossterm_types.specs.Keys.{modifiers_of, pressed}
 use Rattle.crossterm_types.specs.Seen as types
 use Rattle.crossterm_types.specs.Seen.{Seen}
-use Rattle.crossterm_parse.specs.Deciding.{is_digit, begins}
-use Rattle.crossterm_parse.specs.Grammar.{paste_start}
+use Rattle.crossterm_parse.specs.Bytes.{DEL, ESC, is_digit}
+use Rattle.crossterm_parse.specs.Grammar.{begins, paste_start}
+use Rattle.crossterm_parse.specs.Letters.{letter_key}
 use Rattle.crossterm_parse.specs.Marked.{Marked, bytes_of, last_raw}
-use Rattle.crossterm_parse.specs.Numbered.{numbered, sgr, coded_by, last_of}
+use Rattle.crossterm_parse.specs.Numbered.{numbered, sgr, x10_by, last_of}
 use Rattle.crossterm_parse.specs.declared.meaning.Meaning.{Meaning}
 use Rattle.crossterm_parse.specs.declared.meaning.Meaning.TheVariants.{Key, Mouse, FocusGained, FocusLost, CursorPosition, KeyboardEnhancementFlags, PrimaryDeviceAttributes}
 
@@ -27,49 +29,36 @@ typed c = pressed_with (Char c) (if is_uppercase c then 1 else 0)
 -- A byte by itself: the C0 set as a keyboard sends it (xterm), printable ASCII, and DEL.
 abbrev pub single : Bool → ℕ → Option Meaning
 single raw b =
-    if b == 0 then Some (pressed_with (Char 32) 2) else
-    if b == 9 then Some (pressed_with Tab 0) else
-    if b == 10 then Some (if raw then pressed_with (Char 106) 2 else pressed_with Enter 0) else
-    if b == 13 then Some (pressed_with Enter 0) else
-    if b == 27 then None else
-    if nat_le b 26 then Some (pressed_with (Char (b - 1 + 97)) 2) else
-    if nat_le b 31 then Some (pressed_with (Char (b - 28 + 52)) 2) else
-    if nat_lt b 127 then Some (typed b) else
-    if b == 127 then Some (pressed_with Backspace 0) else
+    if b == byte "\0" then Some (pressed_with (Char (byte " ")) 2) else
+    if b == byte "\t" then Some (pressed_with Tab 0) else
+    if b == byte "\n" then Some (if raw then pressed_with (Char (byte "j")) 2 else pressed_with Enter 0) else
+    if b == byte "\r" then Some (pressed_with Enter 0) else
+    if b == ESC then None else
+    if nat_le b 0x1A then Some (pressed_with (Char (b - 1 + byte "a")) 2) else
+    if nat_le b 0x1F then Some (pressed_with (Char (b - 0x1C + byte "4")) 2) else
+    if nat_lt b DEL then Some (typed b) else
+    if b == DEL then Some (pressed_with Backspace 0) else
     None
 
 -- What decodes as a character means that it was typed, and what doesn't means nothing.
 abbrev pub decoded_character : Option ℕ → Option Meaning
 decoded_character c = option_map typed c
 
+-- The key of a final letter by itself.
+abbrev pub letter_meaning : ℕ → Option Meaning
+letter_meaning b = option_map (λ code. pressed_with code 0) (letter_key b)
+
 -- The last byte of `ESC O b`.
 abbrev pub after_ss3 : ℕ → Option Meaning
-after_ss3 b =
-    if b == 65 then Some (pressed_with Up 0) else
-    if b == 66 then Some (pressed_with Down 0) else
-    if b == 67 then Some (pressed_with Right 0) else
-    if b == 68 then Some (pressed_with Left 0) else
-    if b == 72 then Some (pressed_with Home 0) else
-    if b == 70 then Some (pressed_with End 0) else
-    if nat_le 80 b && nat_le b 83 then Some (pressed_with (F (b - 79)) 0) else
-    None
+after_ss3 b = if b == byte "R" then Some (pressed_with (F 3) 0) else letter_meaning b
 
 -- The last byte of `ESC [ b`.
 abbrev pub after_csi : ℕ → Option Meaning
 after_csi b =
-    if b == 65 then Some (pressed_with Up 0) else
-    if b == 66 then Some (pressed_with Down 0) else
-    if b == 67 then Some (pressed_with Right 0) else
-    if b == 68 then Some (pressed_with Left 0) else
-    if b == 72 then Some (pressed_with Home 0) else
-    if b == 70 then Some (pressed_with End 0) else
-    if b == 90 then Some (pressed_with BackTab 1) else
-    if b == 73 then Some FocusGained else
-    if b == 79 then Some FocusLost else
-    if b == 80 then Some (pressed_with (F 1) 0) else
-    if b == 81 then Some (pressed_with (F 2) 0) else
-    if b == 83 then Some (pressed_with (F 4) 0) else
-    None
+    if b == byte "I" then Some FocusGained else
+    if b == byte "O" then Some FocusLost else
+    if b == byte "Z" then Some (pressed_with BackTab 1) else
+    letter_meaning b
 
 -- That key with ALT, or nothing.
 abbrev pub with_alt : Option Meaning → Option Meaning
@@ -86,17 +75,17 @@ ss3_meaning [] = None
 ss3_meaning (b ∷ bs) = after_ss3 b
 
 -- The last byte of `ESC [ [ b`.
-abbrev pub after_bracket : ℕ → Option Meaning
-after_bracket b = if nat_le 65 b && nat_le b 69 then Some (pressed_with (F (b - 64)) 0) else None
+abbrev pub linux_key : ℕ → Option Meaning
+linux_key b = if nat_le (byte "A") b && nat_le b (byte "E") then Some (pressed_with (F (b - byte "@")) 0) else None
 
-abbrev pub bracket_meaning : List ℕ → Option Meaning
-bracket_meaning [] = None
-bracket_meaning (b ∷ bs) = after_bracket b
+abbrev pub linux_meaning : List ℕ → Option Meaning
+linux_meaning [] = None
+linux_meaning (b ∷ bs) = linux_key b
 
 -- The three bytes after `ESC [ M`.
-abbrev pub coded_meaning : List ℕ → Option Meaning
-coded_meaning (a ∷ b ∷ c ∷ bs) = coded_by a b c
-coded_meaning _ = None
+abbrev pub x10_meaning : List ℕ → Option Meaning
+x10_meaning (a ∷ b ∷ c ∷ bs) = x10_by a b c
+x10_meaning _ = None
 
 -- The flags of a reply: the low four bits of the byte after `?`.
 abbrev pub flags_reply : ℕ → Meaning
@@ -105,28 +94,28 @@ flags_reply b = KeyboardEnhancementFlags (record { 0 = bit_and b 15 })
 -- A reply, from the byte after `?` to its end: `c` for the terminal's attributes, `u` for the flags of the keyboard protocol.
 abbrev pub reply_meaning : List ℕ → Option Meaning
 reply_meaning [] = None
-reply_meaning (b ∷ bs) = Some (if last_of (b ∷ bs) == 99 then PrimaryDeviceAttributes else flags_reply b)
+reply_meaning (b ∷ bs) = Some (if last_of (b ∷ bs) == byte "c" then PrimaryDeviceAttributes else flags_reply b)
 
 abbrev pub csi_meaning : Bool → List ℕ → Option Meaning
 csi_meaning raw [] = None
 csi_meaning raw (b ∷ bs) =
-    if b == 91 then bracket_meaning bs else
-    if b == 77 then coded_meaning bs else
-    if b == 60 then sgr bs else
-    if b == 63 then reply_meaning bs else
+    if b == byte "[" then linux_meaning bs else
+    if b == byte "M" then x10_meaning bs else
+    if b == byte "<" then sgr bs else
+    if b == byte "?" then reply_meaning bs else
     if is_digit b then numbered raw (b ∷ bs) else
     after_csi b
 
 -- a lone escape is the Esc key, and so are two
 abbrev pub escape_meaning : Bool → List ℕ → Option Meaning
 escape_meaning raw [] = Some (pressed_with Esc 0)
-escape_meaning raw (b ∷ bs) = if b == 79 then ss3_meaning bs else if b == 91 then csi_meaning raw bs else
-    if b == 27 then Some (pressed_with Esc 0) else with_alt (character_meaning raw (b ∷ bs))
+escape_meaning raw (b ∷ bs) = if b == byte "O" then ss3_meaning bs else if b == byte "[" then csi_meaning raw bs else
+    if b == ESC then Some (pressed_with Esc 0) else with_alt (character_meaning raw (b ∷ bs))
 
 -- What the complete bytes of a sequence mean, where raw is the mode told with the last one.
 abbrev pub meaning : Bool → List ℕ → Option Meaning
 meaning raw [] = None
-meaning raw (b ∷ bs) = if b == 27 then escape_meaning raw bs else character_meaning raw (b ∷ bs)
+meaning raw (b ∷ bs) = if b == ESC then escape_meaning raw bs else character_meaning raw (b ∷ bs)
 
 abbrev pub seen_meaning : Meaning → Seen
 seen_meaning (Key k) = types.Key k

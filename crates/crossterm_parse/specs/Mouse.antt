@@ -1,5 +1,6 @@
 -- What the mouse did (xterm, "Mouse Tracking").
 use Rattle.std.specs.Prelude.{ℕ, ◌+◌, ◌-◌, ◌*◌, ◌/◌, ◌%◌, ◌==◌, nat_le, if◌then◌else◌, Option, Some, None, option_and_then}
+use Rattle.std.specs.Str.{byte}
 use Rattle.std.specs.Int.RustNames.{bit_and, bit_or}
 use Rattle.std.specs.Option.{option_map}
 use Rattle.crossterm_types.specs.Keys.{modifiers_of}
@@ -61,4 +62,4 @@ let_go (Down button) = Up button
 let_go kind = kind
 
 abbrev pub released : ℕ → MouseEvent → MouseEvent
-released f m = if f == 109 then record m { kind = let_go m.kind } else m
+released f m = if f == byte "m" then record m { kind = let_go m.kind } else m

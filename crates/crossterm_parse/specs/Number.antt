@@ -1,13 +1,12 @@
 -- Numbers in a sequence.
-use Rattle.std.specs.Prelude.{◌≡◌, ◌<◌, ◌≤◌, ℕ, zero, suc, ◌+◌, ◌-◌, ◌*◌, ◌^◌, ◌==◌, nat_le, if◌then◌else◌, List, [], ◌∷◌, ◌++◌, Option, Some, None, option_and_then}
-use Rattle.crossterm_parse.specs.Deciding.{is_digit}
-use Rattle.crossterm_parse.specs.declared.number.Number.{Number}
-use Rattle.crossterm_parse.specs.declared.number.Number.TheVariants.{Empty, Plus, Value, Big, Bad}
+use Rattle.std.specs.Prelude.{ℕ, zero, suc, ◌+◌, ◌-◌, ◌*◌, ◌==◌, nat_le, if◌then◌else◌, List, [], ◌∷◌, Option, Some, None, option_and_then}
+use Rattle.std.specs.Str.{byte}
+use Rattle.crossterm_parse.specs.Bytes.{is_digit}
 
 -- digits after a number
 abbrev pub read_digits : ℕ → List ℕ → Option ℕ
 read_digits n [] = Some n
-read_digits n (b ∷ bs) = if is_digit b then read_digits (n * 10 + (b - 48)) bs else None
+read_digits n (b ∷ bs) = if is_digit b then read_digits (n * 10 + (b - byte "0")) bs else None
 
 -- one digit or more
 abbrev pub some_digits : List ℕ → Option ℕ
@@ -17,7 +16,7 @@ some_digits (b ∷ bs) = read_digits 0 (b ∷ bs)
 -- The value of a text that is a number: one digit or more, after a `+` or not. There is no greatest length.
 abbrev pub value_of : List ℕ → Option ℕ
 value_of [] = None
-value_of (b ∷ bs) = if b == 43 then some_digits bs else some_digits (b ∷ bs)
+value_of (b ∷ bs) = if b == byte "+" then some_digits bs else some_digits (b ∷ bs)
 
 abbrev pub at_most : ℕ → Option ℕ → Option ℕ
 at_most limit n = option_and_then (λ n. if nat_le n limit then Some n else None) n
@@ -33,31 +32,3 @@ less_one (suc n) = Some n
 
 abbrev pub coordinate : Option ℕ → Option ℕ
 coordinate n = option_and_then less_one (at_most 65535 n)
-
--- What a number that is being read tells of its text so far.
-abbrev pub Tracks : List ℕ → Number → Type 0
-Tracks text Empty = text ≡ []
-Tracks text Plus = text ≡ 43 ∷ []
-Tracks text (Value n) = (value_of text ≡ Some n) × (n < 2 ^ 32)
-Tracks text Big = (n : ℕ) × (value_of text ≡ Some n) × (2 ^ 32 ≤ n)
-Tracks text Bad = (more : List ℕ) → value_of (text ++ more) ≡ None
-
--- a digit after a value
-abbrev pub longer_value : ℕ → Number
-longer_value n = if nat_le n 4294967295 then Value n else Big
-
--- one more byte
-abbrev pub number_after : Number → ℕ → Number
-number_after Empty b = if b == 43 then Plus else if is_digit b then Value (b - 48) else Bad
-number_after Plus b = if is_digit b then Value (b - 48) else Bad
-number_after (Value n) b = if is_digit b then longer_value (n * 10 + (b - 48)) else Bad
-number_after Big b = if is_digit b then Big else Bad
-number_after Bad b = Bad
-
--- the number, where it is one of at most 32 bits
-abbrev pub reading : Number → Option ℕ
-reading Empty = None
-reading Plus = None
-reading (Value n) = Some n
-reading Big = None
-reading Bad = None

@@ -1,10 +1,10 @@
 //! A character in UTF-8 that is open.
 ghost use Rattle.std.specs.Prelude.{◌≡◌, ◌∷◌, [], ◌++◌, false, IsTrue, IsFalse};
 ghost use Rattle.bstr.specs.Utf8.{decoded};
-ghost use Rattle.crossterm_parse.specs.Characters.{begun_bytes};
-ghost use Rattle.crossterm_parse.specs.Deciding.{is_lead, is_continuing, further_after};
-ghost use Rattle.crossterm_parse.specs.Step.{More};
-ghost use Rattle.crossterm_parse.specs.Machine.{character_meaning, grown, over};
+ghost use Rattle.crossterm_parse.specs.inside.Characters.{begun_bytes};
+ghost use Rattle.crossterm_parse.specs.inside.Recognizer.{is_lead, is_continuing, further_after};
+ghost use Rattle.crossterm_parse.specs.inside.Step.{More};
+ghost use Rattle.crossterm_parse.specs.inside.Automaton.{character_meaning, grown, over};
 
 use crate::meaning::{Meaning, plus_alt, typed_character};
 use bstr::decode_utf8;

@@ -1,7 +1,7 @@
 //! The first three fields of a sequence that is open, as numbers.
 ghost use Rattle.std.specs.Prelude.{◌≡◌};
-ghost use Rattle.crossterm_parse.specs.Fields.{fields_of, field_after, fields_after, whole_of};
-ghost use Rattle.crossterm_parse.specs.Number.{number_after};
+ghost use Rattle.crossterm_parse.specs.inside.Fields.{fields_of, field_after, fields_after, whole_of};
+ghost use Rattle.crossterm_parse.specs.inside.Numbers.{number_after};
 
 use crate::number::Number;
 

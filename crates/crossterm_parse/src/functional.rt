@@ -1,41 +1,41 @@
 //! The keys of code points: kitty's keyboard protocol, `CSI u`.
 ghost use Rattle.std.specs.Prelude.{◌≡◌, ◌≤◌};
-ghost use Rattle.crossterm_parse.specs.Numbered.{plain_key, keypad_key, modifier_key, lock_code, keypad_code, media_code, modifier_code, char_of, text_code, pointed};
+ghost use Rattle.crossterm_parse.specs.Functional.{plain_key, keypad_key, modifier_key, lock_code, keypad_code, media_code, modifier_code, char_of, text_code, functional_key};
 
 use crossterm_types::event::{KeyCode, KeyEventState, KeyModifiers, MediaKeyCode, ModifierKeyCode};
 
 /// A key, with the modifiers and the state that it has by itself.
 #[derive(Clone, Copy)]
-pub struct Pointed {
+pub struct FunctionalKey {
     pub code: KeyCode,
     pub modifiers: KeyModifiers,
     pub state: KeyEventState,
 }
 
-fn plain(code: KeyCode) -> Pointed
+fn plain(code: KeyCode) -> FunctionalKey
     ensures { result ≡ plain_key code }
 {
-    Pointed {
+    FunctionalKey {
         code,
         modifiers: KeyModifiers::NONE,
         state: KeyEventState::NONE,
     }
 }
 
-fn on_keypad(code: KeyCode) -> Pointed
+fn on_keypad(code: KeyCode) -> FunctionalKey
     ensures { result ≡ keypad_key code }
 {
-    Pointed {
+    FunctionalKey {
         code,
         modifiers: KeyModifiers::NONE,
         state: KeyEventState::KEYPAD,
     }
 }
 
-fn adding(code: ModifierKeyCode, modifiers: KeyModifiers) -> Pointed
+fn adding(code: ModifierKeyCode, modifiers: KeyModifiers) -> FunctionalKey
     ensures { result ≡ modifier_key code modifiers.0 }
 {
-    Pointed {
+    FunctionalKey {
         code: KeyCode::Modifier(code),
         modifiers,
         state: KeyEventState::NONE,
@@ -103,7 +103,7 @@ fn media_key(point: u32) -> MediaKeyCode
     }
 }
 
-fn modifier_key_of(point: u32) -> Pointed
+fn modifier_key_of(point: u32) -> FunctionalKey
     ensures { result ≡ modifier_code point }
 {
     match point {
@@ -150,8 +150,8 @@ fn text_key(point: u32, raw: bool, shift: bool) -> Option<KeyCode>
 }
 
 /// The key of a code point, or nothing where it is no character.
-pub fn key_of_point(point: u32, raw: bool, shift: bool) -> Option<Pointed>
-    ensures { result ≡ pointed raw shift point }
+pub fn key_of_point(point: u32, raw: bool, shift: bool) -> Option<FunctionalKey>
+    ensures { result ≡ functional_key raw shift point }
 {
     match point {
         57358..=57363 => Some(plain(lock_key(point))),

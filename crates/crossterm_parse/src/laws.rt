@@ -1,13 +1,13 @@
 //! What holds of the grammar and of the parser.
-ghost use Rattle.crossterm_parse.specs.Division.{NoneBeginsAnother, OneDivision, SomeDivision};
+ghost use Rattle.crossterm_parse.specs.Division.{IsPrefixFree, UniqueDivision, SomeDivision};
 ghost use Rattle.crossterm_parse.specs.Grammar.{Whole};
-ghost use Rattle.crossterm_parse.specs.Standing.{AStepAByte, CutsAlike, EmptyDoesNothing, TwoStepsAByte};
+ghost use Rattle.crossterm_parse.specs.View.{AStepAByte, CutsAlike, EmptyDoesNothing, TwoStepsAByte};
 
 /// The law of the grammar: no whole sequence is a proper front of another, so bytes are divided in one way and in no second.
-pub fn one_division()
-    ensures closed { NoneBeginsAnother Whole }
+pub fn unique_division()
+    ensures closed { IsPrefixFree Whole }
     ensures some { SomeDivision Whole }
-    ensures one { OneDivision Whole }
+    ensures one { UniqueDivision Whole }
 {}
 
 /// The law of cuttings: however the same marked bytes are cut into pieces, they give the same events, and an empty piece does nothing.

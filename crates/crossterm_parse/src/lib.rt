@@ -1,7 +1,7 @@
 //! From the bytes of a terminal to its events: crossterm's `event::sys::unix::parse`.
 //!
 //! It stands on `crossterm_types`. The layers above use that `Parser::advance` and `Parser::next` follow the only division of the bytes
-//! into whole sequences (`specs/Standing.antt`). The grammar is `specs/Grammar.antt`, and what a sequence means `specs/Meaning.antt`.
+//! into whole sequences (`specs/ParserView.antt`). The grammar is `specs/Grammar.antt`, and what a sequence means `specs/Meaning.antt`.
 //!
 //! A sequence has one of these shapes, each by where it ends (ECMA-48, xterm's control sequences, kitty's keyboard protocol):
 //!
@@ -21,12 +21,35 @@
 //! | `ESC[200~` and a text | the first `ESC[201~` |
 //!
 //! ESC alone is the Esc key where nothing came with it after it.
+//!
+//! What to believe, in the order in which it reads (`specs/`), and where it is proved:
+//!
+//! | Definitions | Lines | Of | Contract |
+//! |---|---|---|---|
+//! | `Marked` | 20 | a byte with its mode, and whether a pause follows it | |
+//! | `Bytes` | 13 | bytes by their names | |
+//! | `Grammar` | 98 | which marked bytes are one whole sequence | `laws::unique_division` (`closed`) |
+//! | `Division` | 26 | a list cut into whole parts and a rest | `laws::unique_division` |
+//! | `Number` | 34 | the number of a text | `number.rt` |
+//! | `Fields` | 25 | the fields of a sequence and their parts | `fields.rt` |
+//! | `ModifierField` | 44 | modifiers, locks and kind | `modifier_field.rt` |
+//! | `Letters` | 19 | the keys of final letters | `letters::letter_key` |
+//! | `Functional` | 113 | kitty's functional keys | `functional.rt` |
+//! | `Bits` | 7 | bits of a mask | |
+//! | `Mouse` | 65 | what the mouse did | `mouse.rt` |
+//! | `Numbered` | 138 | what a numbered sequence means | `numbered.rt` |
+//! | `Meaning` | 143 | what any whole sequence means | `meaning.rt` |
+//! | `View` | 96 | a parser as its callers see it, and what it makes of a piece | `Parser::advance`; `laws::{cuttings, two_steps_a_byte, a_step_a_byte}` |
+//! | `Giving` | 27 | its events, one after another | `Parser::{next, events}` |
+//!
+//! What only proofs cite stands in `specs/inside/`.
 #![tactic(auto)]
 
 pub mod character;
 pub mod fields;
 mod functional;
 pub mod laws;
+pub mod letters;
 pub mod marked;
 pub mod meaning;
 mod modifier_field;

@@ -2,9 +2,10 @@
 ghost use Rattle.std.specs.Prelude.{◌≡◌, ◌≤◌, ◌<◌, ◌&&◌, nat_le};
 ghost use Rattle.bstr.specs.Utf8.{decoded};
 ghost use Rattle.crossterm_parse.specs.Mouse.{less};
-ghost use Rattle.crossterm_parse.specs.Numbered.{coded_by};
-ghost use Rattle.crossterm_parse.specs.Meaning.{pressed_with, typed, single, decoded_character, after_ss3, after_csi, after_bracket, flags_reply, with_alt};
+ghost use Rattle.crossterm_parse.specs.Numbered.{x10_by};
+ghost use Rattle.crossterm_parse.specs.Meaning.{pressed_with, typed, single, decoded_character, letter_meaning, after_ss3, after_csi, linux_key, flags_reply, with_alt};
 
+use crate::letters::letter_key;
 use crate::mouse::{byte_less, report};
 use bstr::decode_utf8;
 use crossterm_types::event::{
@@ -88,7 +89,7 @@ fn is_capital(byte: u8) -> bool
 }
 
 /// The key of a byte from space to tilde.
-pub fn letter_key(byte: u8) -> KeyEvent
+pub fn ascii_key(byte: u8) -> KeyEvent
     requires { (32 ≤ byte) × (byte < 127) }
     ensures { Meaning.Key result ≡ typed byte }
 {
@@ -101,11 +102,11 @@ pub fn letter_key(byte: u8) -> KeyEvent
 }
 
 /// What a byte from space to tilde means by itself.
-pub fn meaning_of_letter(byte: u8) -> Meaning
+pub fn meaning_of_ascii(byte: u8) -> Meaning
     requires { (32 ≤ byte) × (byte < 127) }
     ensures { result ≡ typed byte }
 {
-    Meaning::Key(letter_key(byte))
+    Meaning::Key(ascii_key(byte))
 }
 
 /// What a byte means by itself.
@@ -125,7 +126,7 @@ pub fn meaning_of_byte(byte: u8, raw: bool) -> Option<Meaning>
             KeyCode::Char((byte - 28 + b'4') as char),
             KeyModifiers::CONTROL,
         )),
-        32..=126 => Some(meaning_of_letter(byte)),
+        32..=126 => Some(meaning_of_ascii(byte)),
         127 => Some(pressed_alone(KeyCode::Backspace)),
         _ => None,
     }
@@ -154,48 +155,41 @@ fn place_in(byte: u8) -> Option<u16>
     }
 }
 
+/// What a final letter means by itself.
+fn meaning_of_letter(last: u8) -> Option<Meaning>
+    ensures { result ≡ letter_meaning last }
+{
+    match letter_key(last) {
+        Some(code) => Some(pressed_alone(code)),
+        None => None,
+    }
+}
+
 /// What the last byte of `ESC O b` means.
 pub fn meaning_after_ss3(byte: u8) -> Option<Meaning>
     ensures { result ≡ after_ss3 byte }
 {
-    let code = match byte {
-        b'A' => KeyCode::Up,
-        b'B' => KeyCode::Down,
-        b'C' => KeyCode::Right,
-        b'D' => KeyCode::Left,
-        b'H' => KeyCode::Home,
-        b'F' => KeyCode::End,
-        b'P'..=b'S' => KeyCode::F(byte - b'O'),
-        _ => return None,
-    };
-    Some(pressed_alone(code))
+    match byte {
+        b'R' => Some(pressed_alone(KeyCode::F(3))),
+        _ => meaning_of_letter(byte),
+    }
 }
 
 /// What the last byte of `ESC [ b` means.
 pub fn meaning_after_csi(byte: u8) -> Option<Meaning>
     ensures { result ≡ after_csi byte }
 {
-    let code = match byte {
-        b'A' => KeyCode::Up,
-        b'B' => KeyCode::Down,
-        b'C' => KeyCode::Right,
-        b'D' => KeyCode::Left,
-        b'H' => KeyCode::Home,
-        b'F' => KeyCode::End,
-        b'Z' => return Some(pressed_key(KeyCode::BackTab, KeyModifiers::SHIFT)),
-        b'I' => return Some(Meaning::FocusGained),
-        b'O' => return Some(Meaning::FocusLost),
-        b'P' => KeyCode::F(1),
-        b'Q' => KeyCode::F(2),
-        b'S' => KeyCode::F(4),
-        _ => return None,
-    };
-    Some(pressed_alone(code))
+    match byte {
+        b'I' => Some(Meaning::FocusGained),
+        b'O' => Some(Meaning::FocusLost),
+        b'Z' => Some(pressed_key(KeyCode::BackTab, KeyModifiers::SHIFT)),
+        _ => meaning_of_letter(byte),
+    }
 }
 
 /// What the three bytes after `ESC [ M` mean.
-pub fn meaning_of_codes(code: u8, column: u8, row: u8) -> Option<Meaning>
-    ensures { result ≡ coded_by code column row }
+pub fn meaning_of_x10(code: u8, column: u8, row: u8) -> Option<Meaning>
+    ensures { result ≡ x10_by code column row }
 {
     let column = place_in(column);
     match report(byte_less(32, code), column, place_in(row)) {
@@ -205,8 +199,8 @@ pub fn meaning_of_codes(code: u8, column: u8, row: u8) -> Option<Meaning>
 }
 
 /// What the last byte of `ESC [ [ b` means.
-pub fn meaning_after_bracket(byte: u8) -> Option<Meaning>
-    ensures { result ≡ after_bracket byte }
+pub fn meaning_of_linux_key(byte: u8) -> Option<Meaning>
+    ensures { result ≡ linux_key byte }
 {
     match byte {
         b'A'..=b'E' => Some(pressed_alone(KeyCode::F(byte - b'@'))),

@@ -1,13 +1,13 @@
-//! The modifier field of a numbered sequence: which modifiers and locks were on, and whether the key was pressed, held or let go.
+//! The modifier field of a numbered sequence: which modifiers and locks were on, and whether the key was pressed, repeated or released.
 ghost use Rattle.std.specs.Prelude.{◌≡◌, Some};
 ghost use Rattle.crossterm_parse.specs.Bits.{where_bit};
-ghost use Rattle.crossterm_parse.specs.Numbered.{mask_modifiers, mask_state, kind_of, held, nothing_held, fallback};
+ghost use Rattle.crossterm_parse.specs.ModifierField.{mask_modifiers, mask_state, kind_of, modifier_field, empty_modifier_field, fallback};
 
 use crossterm_types::event::{KeyEventKind, KeyEventState, KeyModifiers};
 
 /// What the modifier field tells.
 #[derive(Clone, Copy)]
-pub struct Held {
+pub struct ModifierField {
     pub modifiers: KeyModifiers,
     pub kind: KeyEventKind,
     pub state: KeyEventState,
@@ -49,12 +49,12 @@ fn kind_in(kind: Option<u8>) -> KeyEventKind
     }
 }
 
-impl Held {
+impl ModifierField {
     /// No modifier, and pressed.
-    pub fn nothing() -> Held
-        ensures { result ≡ nothing_held }
+    pub fn empty() -> ModifierField
+        ensures { result ≡ empty_modifier_field }
     {
-        Held {
+        ModifierField {
             modifiers: KeyModifiers::NONE,
             kind: KeyEventKind::Press,
             state: KeyEventState::NONE,
@@ -62,11 +62,11 @@ impl Held {
     }
 
     /// What a mask and a kind tell, or nothing where there is no mask.
-    pub fn read(mask: Option<u8>, kind: Option<u8>) -> Option<Held>
-        ensures { result ≡ held mask kind }
+    pub fn read(mask: Option<u8>, kind: Option<u8>) -> Option<ModifierField>
+        ensures { result ≡ modifier_field mask kind }
     {
         match mask {
-            Some(mask) => Some(Held {
+            Some(mask) => Some(ModifierField {
                 modifiers: modifiers_in(mask),
                 kind: kind_in(kind),
                 state: state_in(mask),
@@ -76,11 +76,11 @@ impl Held {
     }
 
     /// What the last byte tells where the field can't be read: it is the mask, where it is a digit.
-    pub fn fallback(last: u8) -> Option<Held>
+    pub fn fallback(last: u8) -> Option<ModifierField>
         ensures { result ≡ fallback last }
     {
         match last {
-            b'0'..=b'9' => Held::read(Some(last - b'0'), None),
+            b'0'..=b'9' => ModifierField::read(Some(last - b'0'), None),
             _ => None,
         }
     }

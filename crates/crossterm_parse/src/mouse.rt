@@ -2,17 +2,17 @@
 ghost use Rattle.std.specs.Prelude.{◌≡◌, ◌<◌, IsTrue, IsFalse};
 ghost use Rattle.crossterm_types.specs.Keys.{modifiers_of};
 ghost use Rattle.crossterm_parse.specs.Mouse.{button_of, pressed_button, dragged_button, mouse_kind, mouse_modifiers, mouse_event, mouse_report, less, let_go, released};
-ghost use Rattle.crossterm_parse.specs.Machine.{coded_after, codes_meaning};
-ghost use Rattle.crossterm_parse.specs.declared.state.State.TheVariants.{Coded};
-ghost use Rattle.crossterm_parse.specs.Step.{Open, Whole};
+ghost use Rattle.crossterm_parse.specs.inside.Automaton.{x10_after, x10_meaning_with};
+ghost use Rattle.crossterm_parse.specs.declared.state.State.TheVariants.{X10};
+ghost use Rattle.crossterm_parse.specs.inside.Step.{Open, Whole};
 
-use crate::meaning::{Meaning, meaning_of_codes};
+use crate::meaning::{Meaning, meaning_of_x10};
 use crate::modifier_field::value_of_bit;
 use crossterm_types::event::{KeyModifiers, MouseButton, MouseEvent, MouseEventKind};
 
 /// The bytes after `ESC [ M` so far.
 #[derive(Clone, Copy)]
-pub enum Codes {
+pub enum X10Report {
     Empty,
     Code(u8),
     Column(u8, u8),
@@ -131,33 +131,33 @@ pub fn ended_by(last: u8, event: MouseEvent) -> MouseEvent
     }
 }
 
-impl Codes {
+impl X10Report {
     /// Takes one more byte, where the report goes on with it, and tells whether it does.
     #[inline(never)]
     pub fn put(&mut self, byte: u8) -> bool
-        ensures yes { IsTrue result → coded_after self.old byte ≡ Open (Coded self.new) }
-        ensures no { IsFalse result → coded_after self.old byte ≡ Whole (codes_meaning self.old byte) }
+        ensures yes { IsTrue result → x10_after self.old byte ≡ Open (X10 self.new) }
+        ensures no { IsFalse result → x10_after self.old byte ≡ Whole (x10_meaning_with self.old byte) }
         ensures same { IsFalse result → self.new ≡ self.old }
     {
         match *self {
-            Codes::Empty => {
-                *self = Codes::Code(byte);
+            X10Report::Empty => {
+                *self = X10Report::Code(byte);
                 true
             }
-            Codes::Code(code) => {
-                *self = Codes::Column(code, byte);
+            X10Report::Code(code) => {
+                *self = X10Report::Column(code, byte);
                 true
             }
-            Codes::Column(_, _) => false,
+            X10Report::Column(_, _) => false,
         }
     }
 
     /// What the report means that is whole with the byte.
     pub fn meaning(&self, byte: u8) -> Option<Meaning>
-        ensures { result ≡ codes_meaning self.now byte }
+        ensures { result ≡ x10_meaning_with self.now byte }
     {
         match *self {
-            Codes::Column(code, column) => meaning_of_codes(code, column, byte),
+            X10Report::Column(code, column) => meaning_of_x10(code, column, byte),
             _ => None,
         }
     }

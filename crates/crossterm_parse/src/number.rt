@@ -1,7 +1,8 @@
 //! Numbers that are read byte by byte.
 ghost use Rattle.std.specs.Prelude.{◌≡◌, true};
-ghost use Rattle.crossterm_parse.specs.Deciding.{is_digit};
-ghost use Rattle.crossterm_parse.specs.Number.{number_after, at_most, reading};
+ghost use Rattle.crossterm_parse.specs.Bytes.{is_digit};
+ghost use Rattle.crossterm_parse.specs.Number.{at_most};
+ghost use Rattle.crossterm_parse.specs.inside.Numbers.{number_after, reading};
 
 /// A number that is being read: one digit or more, after a `+` or not.
 #[derive(Clone, Copy)]

@@ -1,15 +1,19 @@
 //! A numbered sequence `ESC [ d w f`, with d a digit.
 ghost use Rattle.std.specs.Prelude.{◌≡◌, true};
-ghost use Rattle.crossterm_parse.specs.Deciding.{is_digit, is_final, is_mouse_end};
-ghost use Rattle.crossterm_parse.specs.Machine.{digits_after, empty_digits, readings_at};
+ghost use Rattle.crossterm_parse.specs.Bytes.{is_digit};
+ghost use Rattle.crossterm_parse.specs.inside.Recognizer.{is_final, is_mouse_end};
+ghost use Rattle.crossterm_parse.specs.inside.Automaton.{parameters_after, empty_parameters, readings_at};
 ghost use Rattle.crossterm_parse.specs.Mouse.{less, mouse_report};
-ghost use Rattle.crossterm_parse.specs.Number.{at_most, coordinate, reading};
-ghost use Rattle.crossterm_parse.specs.Numbered.{key_with, held_of, or_nothing_held, tilde_code, tilde_meaning, cursor_meaning, letter_code, letter_meaning, has_shift, pointed_meaning, code_meaning, rxvt_meaning, sgr_by, numbered_by};
+ghost use Rattle.crossterm_parse.specs.Number.{at_most, coordinate};
+ghost use Rattle.crossterm_parse.specs.inside.Numbers.{reading};
+ghost use Rattle.crossterm_parse.specs.ModifierField.{or_empty_modifier_field};
+ghost use Rattle.crossterm_parse.specs.Numbered.{key_with, modifier_field_of, tilde_code, tilde_meaning, cursor_meaning, numbered_letter, has_shift, functional_meaning, code_meaning, rxvt_meaning, sgr_by, numbered_by};
 
 use crate::fields::Fields;
-use crate::functional::{Pointed, character, key_of_point};
+use crate::functional::{FunctionalKey, character, key_of_point};
+use crate::letters::letter_key;
 use crate::meaning::Meaning;
-use crate::modifier_field::Held;
+use crate::modifier_field::ModifierField;
 use crate::mouse::{byte_less, ended_by, report};
 use crate::number::Number;
 use crate::utf8::Validity;
@@ -17,7 +21,7 @@ use crossterm_types::event::{KeyCode, KeyEvent, KeyEventState, KeyModifiers, Mou
 
 /// What is kept of a numbered sequence, however long it is.
 #[derive(Clone, Copy)]
-pub struct Digits {
+pub struct Parameters {
     pub fields: Fields,
     /// The last byte.
     pub last: u8,
@@ -32,14 +36,14 @@ pub fn is_final_byte(byte: u8) -> bool
     matches!(byte, 64..=126)
 }
 
-fn held_key(code: KeyCode, held: Held) -> Meaning
-    ensures { result ≡ key_with code held }
+fn key_with_modifiers(code: KeyCode, modifier_field: ModifierField) -> Meaning
+    ensures { result ≡ key_with code modifier_field }
 {
     Meaning::Key(KeyEvent {
         code,
-        modifiers: held.modifiers,
-        kind: held.kind,
-        state: held.state,
+        modifiers: modifier_field.modifiers,
+        kind: modifier_field.kind,
+        state: modifier_field.state,
     })
 }
 
@@ -63,24 +67,6 @@ fn tilde_key(number: u8) -> Option<KeyCode>
     }
 }
 
-/// The key of another final byte.
-fn letter_key(last: u8) -> Option<KeyCode>
-    ensures { result ≡ letter_code last }
-{
-    match last {
-        b'A' => Some(KeyCode::Up),
-        b'B' => Some(KeyCode::Down),
-        b'C' => Some(KeyCode::Right),
-        b'D' => Some(KeyCode::Left),
-        b'F' => Some(KeyCode::End),
-        b'H' => Some(KeyCode::Home),
-        b'P' => Some(KeyCode::F(1)),
-        b'Q' => Some(KeyCode::F(2)),
-        b'S' => Some(KeyCode::F(4)),
-        _ => None,
-    }
-}
-
 /// A coordinate, counted from 0, of a number that counts from 1.
 fn coordinate_of(number: Number) -> Option<u16>
     ensures { result ≡ coordinate (reading number) }
@@ -98,12 +84,16 @@ pub fn is_mouse_final(byte: u8) -> bool
     matches!(byte, b'M' | b'm')
 }
 
-/// A key of a code point, with what is held, and with its alternate where SHIFT is.
-fn pointed_key(held: Held, alternate: Option<u32>, key: Pointed) -> Meaning
-    ensures { result ≡ pointed_meaning held alternate key }
+/// A key of a code point, with its modifier field, and with its alternate where SHIFT is.
+fn meaning_of_functional(
+    modifier_field: ModifierField,
+    alternate: Option<u32>,
+    key: FunctionalKey,
+) -> Meaning
+    ensures { result ≡ functional_meaning modifier_field alternate key }
 {
-    let modifiers = held.modifiers | key.modifiers;
-    let state = held.state | key.state;
+    let modifiers = modifier_field.modifiers | key.modifiers;
+    let state = modifier_field.state | key.state;
     let shifted = match alternate {
         Some(point) if modifiers.contains(KeyModifiers::SHIFT) => character(point),
         _ => None,
@@ -112,24 +102,24 @@ fn pointed_key(held: Held, alternate: Option<u32>, key: Pointed) -> Meaning
         Some(c) => KeyEvent {
             code: KeyCode::Char(c),
             modifiers: KeyModifiers::from_bits_retain(modifiers.bits() & 0xFE),
-            kind: held.kind,
+            kind: modifier_field.kind,
             state,
         },
         None => KeyEvent {
             code: key.code,
             modifiers,
-            kind: held.kind,
+            kind: modifier_field.kind,
             state,
         },
     })
 }
 
-impl Digits {
+impl Parameters {
     /// No byte is read yet.
-    pub fn empty() -> Digits
-        ensures { result ≡ empty_digits }
+    pub fn empty() -> Parameters
+        ensures { result ≡ empty_parameters }
     {
-        Digits {
+        Parameters {
             fields: Fields::new(Number::Empty),
             last: 0,
             validity: Validity::Sound,
@@ -137,11 +127,11 @@ impl Digits {
     }
 
     /// The first digit is read.
-    pub fn new(digit: u8) -> Digits
+    pub fn new(digit: u8) -> Parameters
         requires { is_digit digit ≡ true }
-        ensures { result ≡ digits_after empty_digits digit }
+        ensures { result ≡ parameters_after empty_parameters digit }
     {
-        Digits {
+        Parameters {
             fields: Fields::new(Number::digit(digit)),
             last: digit,
             validity: Validity::Sound,
@@ -151,28 +141,28 @@ impl Digits {
     /// Reads a byte that doesn't end the sequence.
     #[inline(always)]
     pub fn read(&mut self, byte: u8)
-        ensures { self.new ≡ digits_after self.old byte }
+        ensures { self.new ≡ parameters_after self.old byte }
     {
         self.fields.read(byte);
         self.last = byte;
         self.validity.read(byte);
     }
 
-    fn held(&self) -> Option<Held>
-        ensures { result ≡ held_of (readings_at self.now) }
+    fn modifier_field(&self) -> Option<ModifierField>
+        ensures { result ≡ modifier_field_of (readings_at self.now) }
     {
-        Held::read(
+        ModifierField::read(
             self.fields.second.first.byte(),
             self.fields.second.second.byte(),
         )
     }
 
-    fn held_or_nothing(&self) -> Held
-        ensures { result ≡ or_nothing_held (held_of (readings_at self.now)) }
+    fn modifier_field_or_empty(&self) -> ModifierField
+        ensures { result ≡ or_empty_modifier_field (modifier_field_of (readings_at self.now)) }
     {
-        match self.held() {
-            Some(held) => held,
-            None => Held::nothing(),
+        match self.modifier_field() {
+            Some(modifier_field) => modifier_field,
+            None => ModifierField::empty(),
         }
     }
 
@@ -180,16 +170,16 @@ impl Digits {
         ensures { result ≡ tilde_meaning (readings_at self.now) }
     {
         let code = tilde_key(self.fields.first.whole().byte()?)?;
-        Some(held_key(code, self.held_or_nothing()))
+        Some(key_with_modifiers(code, self.modifier_field_or_empty()))
     }
 
     fn code_point(&self, raw: bool) -> Option<Meaning>
         ensures { result ≡ code_meaning raw (readings_at self.now) }
     {
-        let held = self.held_or_nothing();
-        let shift = held.modifiers.contains(KeyModifiers::SHIFT);
+        let modifier_field = self.modifier_field_or_empty();
+        let shift = modifier_field.modifiers.contains(KeyModifiers::SHIFT);
         let key = key_of_point(self.fields.first.first.value()?, raw, shift)?;
-        Some(pointed_key(held, self.fields.first.second.value(), key))
+        Some(meaning_of_functional(modifier_field, self.fields.first.second.value(), key))
     }
 
     fn cursor(&self) -> Option<Meaning>
@@ -235,18 +225,18 @@ impl Digits {
     }
 
     fn letter(&self, last: u8) -> Option<Meaning>
-        ensures { result ≡ letter_meaning last (readings_at self.now) }
+        ensures { result ≡ numbered_letter last (readings_at self.now) }
     {
         let code = letter_key(last)?;
-        let held = match self.held() {
-            Some(held) => held,
-            None => Held::fallback(self.last)?,
+        let modifier_field = match self.modifier_field() {
+            Some(modifier_field) => modifier_field,
+            None => ModifierField::fallback(self.last)?,
         };
-        Some(held_key(
+        Some(key_with_modifiers(
             code,
-            Held {
+            ModifierField {
                 state: KeyEventState::NONE,
-                ..held
+                ..modifier_field
             },
         ))
     }

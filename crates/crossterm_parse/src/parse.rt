@@ -9,12 +9,13 @@ ghost use Rattle.bstr.specs.Utf8.{lossy_chars};
 ghost use Rattle.std.specs.VecDeque.{deque_len, deque_capacity};
 ghost use Rattle.std.specs.declared.io.ErrorKind.TheVariants.{OutOfMemory};
 ghost use Rattle.crossterm_types.specs.Seen.{seen};
-ghost use Rattle.crossterm_parse.specs.Machine.{text_of, meaning_with, state_after, text_left, events_left, is_paste};
+ghost use Rattle.crossterm_parse.specs.inside.Automaton.{text_of, meaning_with, state_after, text_left, events_left, is_paste};
 ghost use Rattle.crossterm_parse.specs.Meaning.{decoded_character, seen_meaning, pasted, typed};
 ghost use Rattle.crossterm_parse.specs.Marked.{Marked, marked};
-ghost use Rattle.crossterm_parse.specs.Standing.{Standing, Stands, StandsStill, AdvancesOver, Puts, PutsByte, StaysAsItWas, EndsNoEvent, OpensNoPaste, TakesSteps};
+ghost use Rattle.crossterm_parse.specs.View.{ParserView, Represents, RepresentsSame, AdvancesOver, EndsNoEvent, OpensNoPaste, TakesSteps};
+ghost use Rattle.crossterm_parse.specs.inside.Putting.{Puts, PutsByte, StaysAsItWas};
 
-use crate::meaning::{Meaning, letter_key, typed_key};
+use crate::meaning::{Meaning, ascii_key, typed_key};
 use crate::paste::{Met, PasteText};
 use crate::state::{Progress, State};
 use crate::steps::Steps;
@@ -55,7 +56,7 @@ pub struct Parser<A: Allocator = Global> {
 }
 
 impl<A: Allocator> Model for Parser<A> {
-    ghost Value = { Standing };
+    ghost Value = { ParserView };
 
     ghost view = { λ p. record { waiting = map seen p.waiting.items; state = p.state; text = text_of p.paste; room = deque_capacity p.waiting - deque_len p.waiting } };
 }
@@ -92,7 +93,7 @@ impl<A: Allocator + Clone> Parser<A> {
     /// A parser that has seen no bytes.
     pub fn new(alloc: A) -> Self
         ensures waiting { result.waiting ≡ [] }
-        ensures stands { Stands result [] }
+        ensures represents { Represents result [] }
     {
         Parser {
             state: State::Ground,
@@ -108,7 +109,7 @@ impl<A: Allocator + Clone> Parser<A> {
         ensures ok { OnOk result (count ≤ self.new.room) }
         ensures err { IfErr result (λ e. error_kind e ≡ OutOfMemory) }
         ensures waiting { self.new.waiting ≡ self.old.waiting }
-        ensures stands { StandsStill self.old self.new }
+        ensures represents { RepresentsSame self.old self.new }
         ensures room { self.old.room ≤ self.new.room }
     {
         match self.waiting.reserve(count) {
@@ -310,7 +311,7 @@ impl<A: Allocator + Clone> Parser<A> {
         steps: &mut Steps<L>,
     ) -> usize
         ensures taken { result ≤ length piece.now }
-        // The events not yet given grow by the meanings of the parts of the only division, and the parser stands for the rest.
+        // The events not yet given grow by the meanings of the parts of the only division, and the parser represents the rest.
         ensures divided { AdvancesOver self.old self.new (take result (marked piece.now more raw)) }
         // A piece that ends no event, with no paste open after it, takes no memory.
         ensures quiet { EndsNoEvent self.old (marked piece.now more raw) → result ≡ length piece.now }
@@ -353,7 +354,7 @@ impl<A: Allocator + Clone> Parser<A> {
     pub fn next(&mut self) -> Option<InternalEvent<A>>
         ensures none { IfNone result ((self.old.waiting ≡ []) × (self.new.waiting ≡ [])) }
         ensures some { IfSome result (λ event. self.old.waiting ≡ seen event ∷ self.new.waiting) }
-        ensures stands { StandsStill self.old self.new }
+        ensures represents { RepresentsSame self.old self.new }
         ensures room { self.old.room ≤ self.new.room }
     {
         self.waiting.pop_front()
@@ -361,7 +362,7 @@ impl<A: Allocator + Clone> Parser<A> {
 
     /// Whether bytes were taken that are no whole sequence yet.
     pub fn is_undecided(&self) -> bool
-        ensures { (before : List Marked) → Stands self.now before → (IsTrue result ↔ (before ≢ [])) }
+        ensures { (before : List Marked) → Represents self.now before → (IsTrue result ↔ (before ≢ [])) }
     {
         !matches!(self.state, State::Ground)
     }

@@ -1,19 +1,19 @@
 //! The state of an open sequence, of a fixed size.
 ghost use Rattle.std.specs.Prelude.{◌≡◌, ◌≢◌, ◌+◌, ◌≤◌, Bool, true, false, length, take, IfNone, IfSome, IsTrue, IsFalse};
 ghost use Rattle.std.specs.List.{AllByRecursion};
-ghost use Rattle.crossterm_parse.specs.Machine.{IsCharacterOf, IsLetter, Opens, is_paste, meaning_with, state_after};
-ghost use Rattle.crossterm_parse.specs.Step.{Open, Whole, Closed};
-ghost use Rattle.crossterm_parse.specs.Deciding.{is_final, is_mouse_end};
+ghost use Rattle.crossterm_parse.specs.inside.Automaton.{Reads, IsCharacterOf, IsLetter, Opens, is_paste, meaning_with, state_after};
+ghost use Rattle.crossterm_parse.specs.inside.Step.{Open, Whole, Closed};
+ghost use Rattle.crossterm_parse.specs.inside.Recognizer.{is_final, is_mouse_end};
 ghost use Rattle.crossterm_parse.specs.declared.paste.Opening.{Opening};
-ghost use Rattle.crossterm_parse.specs.declared.numbered.Digits.{Digits};
+ghost use Rattle.crossterm_parse.specs.declared.numbered.Parameters.{Parameters};
 
 use crate::character::{Begun, Character, is_lead_byte};
 use crate::meaning::{
-    Meaning, meaning_after_bracket, meaning_after_csi, meaning_after_ss3, meaning_of_byte,
-    meaning_of_flags, plus_alt, pressed_alone,
+    Meaning, meaning_after_csi, meaning_after_ss3, meaning_of_byte, meaning_of_flags,
+    meaning_of_linux_key, plus_alt, pressed_alone,
 };
-use crate::mouse::Codes;
-use crate::numbered::{Digits, is_final_byte, is_mouse_final};
+use crate::mouse::X10Report;
+use crate::numbered::{Parameters, is_final_byte, is_mouse_final};
 use crate::paste::{Met, Opening};
 use crate::steps::Steps;
 use bstr::decode_utf8;
@@ -32,17 +32,17 @@ pub enum State {
     /// `ESC [`.
     Csi,
     /// `ESC [ [`.
-    Bracket,
+    LinuxKey,
     /// `ESC [ M` and up to two bytes.
-    Coded(Codes),
+    X10(X10Report),
     /// `ESC [ <` and more.
-    Sgr(Digits),
+    Sgr(Parameters),
     /// `ESC [ ?`.
     Private,
     /// `ESC [ ?` and more, with the byte after `?`.
     Reply(u8),
     /// `ESC [`, a digit and more.
-    Numbered(Digits, Opening),
+    Numbered(Parameters, Opening),
     /// `ESC[200~` and a text, which stands elsewhere.
     Paste(Met),
     /// A character in UTF-8, with an escape before it or none.
@@ -83,15 +83,15 @@ fn letters_in(bytes: &[u8]) -> usize
 
 /// Reads a byte with which a numbered sequence goes on, and tells whether it does.
 #[inline(always)]
-fn read_number(digits: &mut Digits, opening: &mut Opening, byte: u8) -> bool
-    ensures yes { IsTrue result → (raw pause : Bool) → state_after (State.Numbered digits.old opening.old) byte raw pause ≡ Open (State.Numbered digits.new opening.new) }
+fn read_number(parameters: &mut Parameters, opening: &mut Opening, byte: u8) -> bool
+    ensures yes { IsTrue result → (raw pause : Bool) → state_after (State.Numbered parameters.old opening.old) byte raw pause ≡ Open (State.Numbered parameters.new opening.new) }
     ensures no { IsFalse result → is_final byte ≡ true }
-    ensures same { IsFalse result → (digits.new ≡ digits.old) × (opening.new ≡ opening.old) }
+    ensures same { IsFalse result → (parameters.new ≡ parameters.old) × (opening.new ≡ opening.old) }
 {
     if is_final_byte(byte) {
         return false;
     }
-    digits.read(byte);
+    parameters.read(byte);
     if !matches!(opening, Opening::Not) {
         *opening = opening.put(byte);
     }
@@ -100,25 +100,25 @@ fn read_number(digits: &mut Digits, opening: &mut Opening, byte: u8) -> bool
 
 /// Reads a byte with which a report of the mouse goes on, and tells whether it does.
 #[inline(always)]
-fn read_report(digits: &mut Digits, byte: u8) -> bool
-    ensures yes { IsTrue result → (raw pause : Bool) → state_after (State.Sgr digits.old) byte raw pause ≡ Open (State.Sgr digits.new) }
+fn read_report(parameters: &mut Parameters, byte: u8) -> bool
+    ensures yes { IsTrue result → (raw pause : Bool) → state_after (State.Sgr parameters.old) byte raw pause ≡ Open (State.Sgr parameters.new) }
     ensures no { IsFalse result → is_mouse_end byte ≡ true }
-    ensures same { IsFalse result → digits.new ≡ digits.old }
+    ensures same { IsFalse result → parameters.new ≡ parameters.old }
 {
     if is_mouse_final(byte) {
         return false;
     }
-    digits.read(byte);
+    parameters.read(byte);
     true
 }
 
 /// Reads the bytes in front with which a numbered sequence goes on, and tells how many.
-fn read_numbers(digits: &mut Digits, opening: &mut Opening, bytes: &[u8]) -> usize
+fn read_numbers(parameters: &mut Parameters, opening: &mut Opening, bytes: &[u8]) -> usize
     ensures within { result ≤ length bytes.now }
-    ensures opens { Opens (State.Numbered digits.old opening.old) (State.Numbered digits.new opening.new) (take result bytes.now) }
+    ensures opens { Opens (State.Numbered parameters.old opening.old) (State.Numbered parameters.new opening.new) (take result bytes.now) }
 {
     for (i, byte) in bytes.iter().enumerate() {
-        if !read_number(digits, opening, *byte) {
+        if !read_number(parameters, opening, *byte) {
             return i;
         }
     }
@@ -126,12 +126,12 @@ fn read_numbers(digits: &mut Digits, opening: &mut Opening, bytes: &[u8]) -> usi
 }
 
 /// Reads the bytes in front with which a report of the mouse goes on, and tells how many.
-fn read_reports(digits: &mut Digits, bytes: &[u8]) -> usize
+fn read_reports(parameters: &mut Parameters, bytes: &[u8]) -> usize
     ensures within { result ≤ length bytes.now }
-    ensures opens { Opens (State.Sgr digits.old) (State.Sgr digits.new) (take result bytes.now) }
+    ensures opens { Opens (State.Sgr parameters.old) (State.Sgr parameters.new) (take result bytes.now) }
 {
     for (i, byte) in bytes.iter().enumerate() {
-        if !read_report(digits, *byte) {
+        if !read_report(parameters, *byte) {
             return i;
         }
     }
@@ -192,13 +192,13 @@ impl State {
             State::Ground => self.begin(byte, pause),
             State::Escape => self.escape(byte),
             State::Csi => self.introduce(byte),
-            State::Ss3 | State::Bracket | State::Paste(_) => false,
-            State::Coded(codes) => codes.put(byte),
-            State::Sgr(digits) => read_report(digits, byte),
+            State::Ss3 | State::LinuxKey | State::Paste(_) => false,
+            State::X10(report) => report.put(byte),
+            State::Sgr(parameters) => read_report(parameters, byte),
             State::Private => self.reply(byte),
             State::Reply(_) => byte != b'c' && byte != b'u',
-            State::Numbered(digits, opening) => {
-                read_number(digits, opening, byte) || self.open_paste(byte)
+            State::Numbered(parameters, opening) => {
+                read_number(parameters, opening, byte) || self.open_paste(byte)
             }
             State::Utf8(character) => character.put(byte),
         }
@@ -231,9 +231,7 @@ impl State {
     /// A byte after ESC: a pause after it changes nothing.
     fn escape(&mut self, byte: u8) -> bool
         requires { self.old ≡ State.Escape }
-        ensures yes { IsTrue result → (raw pause : Bool) → state_after self.old byte raw pause ≡ Open self.new }
-        ensures no { IsFalse result → (raw pause : Bool) → state_after self.old byte raw pause ≡ Whole (meaning_with self.old byte raw) }
-        ensures same { IsFalse result → self.new ≡ self.old }
+        ensures { Reads self.old self.new byte result }
     {
         if byte == b'O' {
             *self = State::Ss3;
@@ -257,17 +255,15 @@ impl State {
     /// A byte after `ESC [`: the mode and a pause change nothing.
     fn introduce(&mut self, byte: u8) -> bool
         requires { self.old ≡ State.Csi }
-        ensures yes { IsTrue result → (raw pause : Bool) → state_after self.old byte raw pause ≡ Open self.new }
-        ensures no { IsFalse result → (raw pause : Bool) → state_after self.old byte raw pause ≡ Whole (meaning_with self.old byte raw) }
-        ensures same { IsFalse result → self.new ≡ self.old }
+        ensures { Reads self.old self.new byte result }
     {
         match byte {
-            b'[' => *self = State::Bracket,
-            b'M' => *self = State::Coded(Codes::Empty),
-            b'<' => *self = State::Sgr(Digits::empty()),
+            b'[' => *self = State::LinuxKey,
+            b'M' => *self = State::X10(X10Report::Empty),
+            b'<' => *self = State::Sgr(Parameters::empty()),
             b'?' => *self = State::Private,
             b'0'..=b'9' => {
-                *self = State::Numbered(Digits::new(byte), Opening::new(byte));
+                *self = State::Numbered(Parameters::new(byte), Opening::new(byte));
             }
             _ => return false,
         }
@@ -277,9 +273,7 @@ impl State {
     /// A byte after `ESC [ ?`.
     fn reply(&mut self, byte: u8) -> bool
         requires { self.old ≡ State.Private }
-        ensures yes { IsTrue result → (raw pause : Bool) → state_after self.old byte raw pause ≡ Open self.new }
-        ensures no { IsFalse result → (raw pause : Bool) → state_after self.old byte raw pause ≡ Whole (meaning_with self.old byte raw) }
-        ensures same { IsFalse result → self.new ≡ self.old }
+        ensures { Reads self.old self.new byte result }
     {
         if byte == b'c' {
             return false;
@@ -291,10 +285,8 @@ impl State {
     /// A final byte of a numbered sequence, which opens a paste or ends the sequence.
     #[inline(always)]
     fn open_paste(&mut self, byte: u8) -> bool
-        requires { (digits : Digits) × (opening : Opening) × (self.old ≡ State.Numbered digits opening) × (is_final byte ≡ true) }
-        ensures yes { IsTrue result → (raw pause : Bool) → state_after self.old byte raw pause ≡ Open self.new }
-        ensures no { IsFalse result → (raw pause : Bool) → state_after self.old byte raw pause ≡ Whole (meaning_with self.old byte raw) }
-        ensures same { IsFalse result → self.new ≡ self.old }
+        requires { (parameters : Parameters) × (opening : Opening) × (self.old ≡ State.Numbered parameters opening) × (is_final byte ≡ true) }
+        ensures { Reads self.old self.new byte result }
     {
         if byte == b'~' && matches!(self, State::Numbered(_, Opening::Zeros)) {
             *self = State::Paste(Met::Nothing);
@@ -318,15 +310,15 @@ impl State {
             },
             State::Ss3 => meaning_after_ss3(byte),
             State::Csi => meaning_after_csi(byte),
-            State::Bracket => meaning_after_bracket(byte),
-            State::Coded(codes) => codes.meaning(byte),
-            State::Sgr(digits) => digits.sgr(byte),
+            State::LinuxKey => meaning_of_linux_key(byte),
+            State::X10(report) => report.meaning(byte),
+            State::Sgr(parameters) => parameters.sgr(byte),
             State::Private => Some(Meaning::PrimaryDeviceAttributes),
             State::Reply(first) => match byte {
                 b'u' => Some(meaning_of_flags(*first)),
                 _ => Some(Meaning::PrimaryDeviceAttributes),
             },
-            State::Numbered(digits, _) => digits.meaning(byte, raw),
+            State::Numbered(parameters, _) => parameters.meaning(byte, raw),
             State::Paste(_) => None,
             State::Utf8(character) => character.meaning(byte),
         }
@@ -376,8 +368,8 @@ impl State {
         ensures steps { steps.new ≡ steps.old + result }
     {
         let count = match self {
-            State::Numbered(digits, opening) => read_numbers(digits, opening, bytes),
-            State::Sgr(digits) => read_reports(digits, bytes),
+            State::Numbered(parameters, opening) => read_numbers(parameters, opening, bytes),
+            State::Sgr(parameters) => read_reports(parameters, bytes),
             _ => 0,
         };
         steps.count(count as u64);

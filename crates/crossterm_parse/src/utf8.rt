@@ -1,7 +1,7 @@
 //! Whether bytes that come one by one are UTF-8 so far.
 ghost use Rattle.std.specs.Prelude.{◌≡◌};
 ghost use Rattle.bstr.specs.Utf8.{second, continues};
-ghost use Rattle.crossterm_parse.specs.Utf8.{utf8_after, begun_after};
+ghost use Rattle.crossterm_parse.specs.inside.Utf8.{utf8_after, begun_after};
 
 use crate::character::Begun;
 

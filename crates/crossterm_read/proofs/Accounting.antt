@@ -8,12 +8,12 @@ use Rattle.std.proofs.lemmas.List.Quantifiers.{position-Some}
 use Rattle.crossterm_types.specs.Seen.{Seen}
 use Rattle.crossterm_types.specs.Seen as event
 use Rattle.crossterm_read.specs.Answers.{SourceAnswer, Gave, Nothing, Failed, gave}
-use Rattle.crossterm_read.specs.Device.{Word}
-use Rattle.crossterm_read.proofs.Happening.{told_front}
-use Rattle.crossterm_read.specs.declared.read.trace.Call.{Call}
-use Rattle.crossterm_read.specs.Shelf.{Shelf, arrived, numbered_after, next_number, Arrives}
-use Rattle.crossterm_read.specs.Steps.{TakeSays, ReadSays, PollSays, End, Ready, Tried, Broke, TakeStep, PollStep}
-use Rattle.crossterm_read.specs.Queries.{QuerySays, QueryStep, AfterReply, LeftSays, FlagsSay, KeyboardStep}
+use Rattle.crossterm_read.specs.Device.{DeviceAnswer}
+use Rattle.crossterm_read.proofs.Happening.{answered_front}
+use Rattle.crossterm_read.specs.declared.read.call.Call.{Call}
+use Rattle.crossterm_read.specs.Store.{EventStore, arrived, numbered_after, next_number, Arrives}
+use Rattle.crossterm_read.specs.Steps.{TakeReplies, ReadReplies, PollReplies, End, Ready, Tried, Broke, TakeStep, PollStep}
+use Rattle.crossterm_read.specs.Queries.{QueryReplies, QueryStep, AfterReply, LeftReplies, FlagsReplies, KeyboardStep}
 use Rattle.crossterm_read.specs.Replies.{Said, Replied, ToPoll, ToTake, ToQuery, Fault}
 use Rattle.crossterm_read.specs.Calls.{Step, Request, Poll, Read, Take, Position, Keyboard, request, Run, joined, empty, taken, numbered, IsWithin, Accounts, Plays}
 use Rattle.crossterm_types.specs.Admitting.{admitted, is_cursor_position, is_flags_reply, is_attributes}
@@ -51,11 +51,11 @@ within_trans_remove (x ∷ xs) (y ∷ ys) (suc i) (inl h) = inl (h.0, within_tra
 within_trans_remove (x ∷ xs) (y ∷ ys) (suc i) (inr h) = inr (within_trans_remove (x ∷ xs) ys (suc i) h)
 
 -- What came is what was taken and what is held.
-pub record Account (all done : List (Seen × ℕ)) (s : Shelf) : Type 0 where
+pub record Account (all done : List (Seen × ℕ)) (s : EventStore) : Type 0 where
   pub once : IsPermutation all (done ++ s.held)
   pub within : IsWithin s.held all
 
-arrives_account : (all done : List (Seen × ℕ)) (s m : Shelf) (zs : List SourceAnswer) → Account all done s → Arrives s zs m → Account (all ++ arrived s.arrivals zs) done m
+arrives_account : (all done : List (Seen × ℕ)) (s m : EventStore) (zs : List SourceAnswer) → Account all done s → Arrives s zs m → Account (all ++ arrived s.arrivals zs) done m
 arrives_account all done s m zs a h = record {
   once = subst (λ l. IsPermutation (all ++ arrived s.arrivals zs) l) (append_assoc done s.held (arrived s.arrivals zs) ∙ ap (λ l. done ++ l) (sym h.held))
       (IsPermutation-append_left (arrived s.arrivals zs) all (done ++ s.held) a.once);
@@ -63,14 +63,14 @@ arrives_account all done s m zs a h = record {
 }
 
 -- The same after a step that took more, and left this number.
-abbrev pub Taken : List (Seen × ℕ) → List (Seen × ℕ) → Shelf → List (Seen × ℕ) → ℕ → Type 0
+abbrev pub Taken : List (Seen × ℕ) → List (Seen × ℕ) → EventStore → List (Seen × ℕ) → ℕ → Type 0
 Taken all done t more n = Account all (done ++ more) t × (t.arrivals ≡ n)
 
 -- Nothing is taken where nothing changes.
-pub none_taken : (all done : List (Seen × ℕ)) (s t : Shelf) → t ≡ s → Account all done s → Taken all done t [] s.arrivals
-none_taken all done s t e a = (subst (λ l. Account all l t) (sym (append-nil done)) (subst (λ (y : Shelf). Account all done y) (sym e) a), ap (λ (y : Shelf). y.arrivals) e)
+pub none_taken : (all done : List (Seen × ℕ)) (s t : EventStore) → t ≡ s → Account all done s → Taken all done t [] s.arrivals
+none_taken all done s t e a = (subst (λ l. Account all l t) (sym (append-nil done)) (subst (λ (y : EventStore). Account all done y) (sym e) a), ap (λ (y : EventStore). y.arrivals) e)
 
-take_account : (f : Seen → Bool) (all done : List (Seen × ℕ)) (s t : Shelf) (x : Option (Seen × ℕ)) → Account all done s → TakeSays f s t x → Taken all done t (option_to_list x) s.arrivals
+take_account : (f : Seen → Bool) (all done : List (Seen × ℕ)) (s t : EventStore) (x : Option (Seen × ℕ)) → Account all done s → TakeReplies f s t x → Taken all done t (option_to_list x) s.arrivals
 take_account f all done s t None a h = none_taken all done s t h.1 a
 take_account f all done s t (Some x) a h =
     let b = position-Some (λ p. f p.0) s.held h.0 x h.1 in
@@ -78,9 +78,9 @@ take_account f all done s t (Some x) a h =
       once = IsPermutation-more all done s.held h.0 x b.0 (sym h.2) a.once;
       within = within_trans_remove s.held all h.0 a.within;
     } in
-    (subst (λ (y : Shelf). Account all (done ++ x ∷ []) y) (sym h.3) g, ap (λ (y : Shelf). y.arrivals) h.3)
+    (subst (λ (y : EventStore). Account all (done ++ x ∷ []) y) (sym h.3) g, ap (λ (y : EventStore). y.arrivals) h.3)
 
-poll_taken : (end : End) (r : Replied) → PollSays end r → taken (r ∷ []) ≡ []
+poll_taken : (end : End) (r : Replied) → PollReplies end r → taken (r ∷ []) ≡ []
 poll_taken Ready r h = ap (λ (y : Replied). taken (y ∷ [])) h
 poll_taken Tried r h = ap (λ (y : Replied). taken (y ∷ [])) h
 poll_taken (Broke kind) r (inl h) = ap (λ (y : Replied). taken (y ∷ [])) h.1
@@ -90,7 +90,7 @@ came_taken : (x : Option (Seen × ℕ)) → taken (ToTake x ∷ []) ≡ option_t
 came_taken None = refl
 came_taken (Some x) = refl
 
-read_account : (f : Seen → Bool) (all done : List (Seen × ℕ)) (end : End) (m t : Shelf) (r : Replied) → Account all done m → ReadSays f end m t r → Taken all done t (taken (r ∷ [])) m.arrivals
+read_account : (f : Seen → Bool) (all done : List (Seen × ℕ)) (end : End) (m t : EventStore) (r : Replied) → Account all done m → ReadReplies f end m t r → Taken all done t (taken (r ∷ [])) m.arrivals
 read_account f all done Ready m t (ToTake x) a h = subst (λ (l : List (Seen × ℕ)). Taken all done t l m.arrivals) (sym (came_taken x)) (take_account f all done m t x a h)
 read_account f all done Ready m t (ToPoll b) a h = absurd h
 read_account f all done Ready m t (ToQuery x y) a h = absurd h
@@ -98,7 +98,7 @@ read_account f all done Ready m t (Fault kind) a h = absurd h
 read_account f all done Tried m t r a h = subst (λ (y : Replied). Taken all done t (taken (y ∷ [])) m.arrivals) (sym h.1) (none_taken all done m t h.0 a)
 read_account f all done (Broke kind) m t r a h = subst (λ (y : Replied). Taken all done t (taken (y ∷ [])) m.arrivals) (sym h.1) (none_taken all done m t h.0 a)
 
-take_step : (f : Seen → Bool) (zs : List SourceAnswer) (all done : List (Seen × ℕ)) (s t : Shelf) (r : Replied) → Account all done s → TakeStep f zs s t r
+take_step : (f : Seen → Bool) (zs : List SourceAnswer) (all done : List (Seen × ℕ)) (s t : EventStore) (r : Replied) → Account all done s → TakeStep f zs s t r
     → Taken (all ++ arrived s.arrivals zs) done t (taken (r ∷ [])) (numbered_after s.arrivals zs)
 take_step f zs all done s t (ToTake x) a h =
     let k = subst (λ (l : List (Seen × ℕ)). Taken all done t l s.arrivals) (sym (came_taken x)) (take_account f all done s t x a h.1) in
@@ -109,50 +109,50 @@ take_step f zs all done s t (ToQuery x y) a h = absurd h
 take_step f zs all done s t (Fault kind) a h = absurd h
 
 -- what a poll, and then what is said of it, do to what came
-poll_account : (f : Seen → Bool) (tries : ℕ) (zs : List SourceAnswer) (all done : List (Seen × ℕ)) (s t : Shelf) (r : Replied) → Account all done s → PollStep tries f zs s t r
+poll_account : (f : Seen → Bool) (tries : ℕ) (zs : List SourceAnswer) (all done : List (Seen × ℕ)) (s t : EventStore) (r : Replied) → Account all done s → PollStep tries f zs s t r
     → Account (all ++ arrived s.arrivals zs) done t × (t.arrivals ≡ numbered_after s.arrivals zs)
 poll_account f tries zs all done s t r a h = (arrives_account all done s t zs a h.2, h.2.arrivals)
 
-query_account : (f : Seen → Bool) (all done : List (Seen × ℕ)) (p : Replied) (m t : Shelf) (r : Replied) → Account all done m → QuerySays f p m t r → Taken all done t (taken (r ∷ [])) m.arrivals
+query_account : (f : Seen → Bool) (all done : List (Seen × ℕ)) (p : Replied) (m t : EventStore) (r : Replied) → Account all done m → QueryReplies f p m t r → Taken all done t (taken (r ∷ [])) m.arrivals
 query_account f all done (ToPoll true) m t r a h = subst (λ (y : Replied). Taken all done t (taken (y ∷ [])) m.arrivals) (sym h.2) (take_account f all done m t (Some h.0) a h.1)
 query_account f all done (ToPoll false) m t r a h = subst (λ (y : Replied). Taken all done t (taken (y ∷ [])) m.arrivals) (sym h.1) (none_taken all done m t h.0 a)
 query_account f all done (ToTake x) m t r a h = absurd h
 query_account f all done (ToQuery x y) m t r a h = absurd h
 query_account f all done (Fault kind) m t r a h = subst (λ (y : Replied). Taken all done t (taken (y ∷ [])) m.arrivals) (sym h.1) (none_taken all done m t h.0 a)
 
-asked_account : (f : Seen → Bool) (tries : ℕ) (zs : List SourceAnswer) (all done : List (Seen × ℕ)) (s t : Shelf) (r : Replied) → Account all done s → QueryStep f tries zs s t r
+asked_account : (f : Seen → Bool) (tries : ℕ) (zs : List SourceAnswer) (all done : List (Seen × ℕ)) (s t : EventStore) (r : Replied) → Account all done s → QueryStep f tries zs s t r
     → Taken (all ++ arrived s.arrivals zs) done t (taken (r ∷ [])) (numbered_after s.arrivals zs)
 asked_account f tries zs all done s t r a h =
     let p = poll_account f tries zs all done s h.0 h.1 a h.2 in
     subst (λ (n : ℕ). Taken (all ++ arrived s.arrivals zs) done t (taken (r ∷ [])) n) p.1 (query_account f (all ++ arrived s.arrivals zs) done h.1 h.0 t r p.0 h.3)
 
-left_account : (all done : List (Seen × ℕ)) (p : Replied) (x : Seen × ℕ) (m t : Shelf) (r : Replied) → Account all (done ++ x ∷ []) m → LeftSays p x m t r → Taken all done t (taken (r ∷ [])) m.arrivals
+left_account : (all done : List (Seen × ℕ)) (p : Replied) (x : Seen × ℕ) (m t : EventStore) (r : Replied) → Account all (done ++ x ∷ []) m → LeftReplies p x m t r → Taken all done t (taken (r ∷ [])) m.arrivals
 left_account all done (ToPoll true) x m t r a h =
     let k = take_account is_attributes all (done ++ x ∷ []) m t (Some h.0) a h.1 in
     let k2 : Taken all done t (x ∷ h.0 ∷ []) m.arrivals = (subst (λ l. Account all l t) (append_assoc done (x ∷ []) (h.0 ∷ [])) k.0, k.1) in
     subst (λ (y : Replied). Taken all done t (taken (y ∷ [])) m.arrivals) (sym h.2) k2
 left_account all done (ToPoll false) x m t r a h = left_none all done x m t r a h
   where
-    left_none : (all done : List (Seen × ℕ)) (x : Seen × ℕ) (m t : Shelf) (r : Replied) → Account all (done ++ x ∷ []) m → (t ≡ m) × (r ≡ ToQuery x None) → Taken all done t (taken (r ∷ [])) m.arrivals
+    left_none : (all done : List (Seen × ℕ)) (x : Seen × ℕ) (m t : EventStore) (r : Replied) → Account all (done ++ x ∷ []) m → (t ≡ m) × (r ≡ ToQuery x None) → Taken all done t (taken (r ∷ [])) m.arrivals
     left_none all done x m t r a h =
-        let k : Taken all done t (x ∷ []) m.arrivals = (subst (λ (y : Shelf). Account all (done ++ x ∷ []) y) (sym h.0) a, ap (λ (y : Shelf). y.arrivals) h.0) in
+        let k : Taken all done t (x ∷ []) m.arrivals = (subst (λ (y : EventStore). Account all (done ++ x ∷ []) y) (sym h.0) a, ap (λ (y : EventStore). y.arrivals) h.0) in
         subst (λ (y : Replied). Taken all done t (taken (y ∷ [])) m.arrivals) (sym h.1) k
 left_account all done (ToTake y) x m t r a h = absurd h
 left_account all done (ToQuery y z) x m t r a h = absurd h
 left_account all done (Fault kind) x m t r a h =
-    let k : Taken all done t (x ∷ []) m.arrivals = (subst (λ (y : Shelf). Account all (done ++ x ∷ []) y) (sym h.0) a, ap (λ (y : Shelf). y.arrivals) h.0) in
+    let k : Taken all done t (x ∷ []) m.arrivals = (subst (λ (y : EventStore). Account all (done ++ x ∷ []) y) (sym h.0) a, ap (λ (y : EventStore). y.arrivals) h.0) in
     subst (λ (y : Replied). Taken all done t (taken (y ∷ [])) m.arrivals) (sym h.1) k
 
-abbrev AfterTaken : List SourceAnswer → List (Seen × ℕ) → List (Seen × ℕ) → Shelf → Shelf → List (Seen × ℕ) → Type 0
+abbrev AfterTaken : List SourceAnswer → List (Seen × ℕ) → List (Seen × ℕ) → EventStore → EventStore → List (Seen × ℕ) → Type 0
 AfterTaken zs all done s t more = Taken (all ++ arrived s.arrivals zs) done t more (numbered_after s.arrivals zs)
 
-nothing_after : (zs : List SourceAnswer) (all done : List (Seen × ℕ)) (s t : Shelf) (q r : Replied) → Taken all done s (taken (q ∷ [])) s.arrivals → (zs ≡ []) × (t ≡ s) × (r ≡ q) → AfterTaken zs all done s t (taken (r ∷ []))
+nothing_after : (zs : List SourceAnswer) (all done : List (Seen × ℕ)) (s t : EventStore) (q r : Replied) → Taken all done s (taken (q ∷ [])) s.arrivals → (zs ≡ []) × (t ≡ s) × (r ≡ q) → AfterTaken zs all done s t (taken (r ∷ []))
 nothing_after zs all done s t q r k h =
-    let a = subst (λ (y : Shelf). Taken all done y (taken (q ∷ [])) s.arrivals) (sym h.1) k in
+    let a = subst (λ (y : EventStore). Taken all done y (taken (q ∷ [])) s.arrivals) (sym h.1) k in
     let b = subst (λ l. Taken l done t (taken (q ∷ [])) s.arrivals) (sym (append-nil all)) a in
     subst (λ (l : List SourceAnswer). AfterTaken l all done s t (taken (r ∷ []))) (sym h.0) (subst (λ (y : Replied). Taken (all ++ []) done t (taken (y ∷ [])) s.arrivals) (sym h.2) b)
 
-after_account : (again : ℕ) (zs : List SourceAnswer) (y : Seen) (x : Seen × ℕ) (all done : List (Seen × ℕ)) (s t : Shelf) (r : Replied) → Taken all done s (x ∷ []) s.arrivals → AfterReply again zs y x s t r
+after_account : (again : ℕ) (zs : List SourceAnswer) (y : Seen) (x : Seen × ℕ) (all done : List (Seen × ℕ)) (s t : EventStore) (r : Replied) → Taken all done s (x ∷ []) s.arrivals → AfterReply again zs y x s t r
     → AfterTaken zs all done s t (taken (r ∷ []))
 after_account again zs (event.KeyboardFlags flags) x all done s t r k h =
     let p = poll_account is_attributes again zs all (done ++ x ∷ []) s h.0 h.1 k.0 h.2 in
@@ -166,14 +166,14 @@ after_account again zs (event.Resize c l) x all done s t r k h = nothing_after z
 after_account again zs (event.CursorPosition c l) x all done s t r k h = nothing_after zs all done s t (ToTake (Some x)) r k h
 after_account again zs event.PrimaryDeviceAttributes x all done s t r k h = nothing_after zs all done s t (ToTake (Some x)) r k h
 
-flags_account : (again : ℕ) (zs : List SourceAnswer) (q : Replied) (all done : List (Seen × ℕ)) (s t : Shelf) (r : Replied) → Taken all done s (taken (q ∷ [])) s.arrivals → FlagsSay again zs q s t r → AfterTaken zs all done s t (taken (r ∷ []))
+flags_account : (again : ℕ) (zs : List SourceAnswer) (q : Replied) (all done : List (Seen × ℕ)) (s t : EventStore) (r : Replied) → Taken all done s (taken (q ∷ [])) s.arrivals → FlagsReplies again zs q s t r → AfterTaken zs all done s t (taken (r ∷ []))
 flags_account again zs (ToTake (Some x)) all done s t r k h = after_account again zs x.0 x all done s t r k h
 flags_account again zs (ToTake None) all done s t r k h = absurd h
 flags_account again zs (ToPoll b) all done s t r k h = absurd h
 flags_account again zs (ToQuery x y) all done s t r k h = absurd h
 flags_account again zs (Fault kind) all done s t r k h = nothing_after zs all done s t (Fault kind) r k h
 
-keyboard_account : (tries again : ℕ) (zs : List SourceAnswer) (all done : List (Seen × ℕ)) (s t : Shelf) (r : Replied) → Account all done s → KeyboardStep tries again zs s t r
+keyboard_account : (tries again : ℕ) (zs : List SourceAnswer) (all done : List (Seen × ℕ)) (s t : EventStore) (r : Replied) → Account all done s → KeyboardStep tries again zs s t r
     → Taken (all ++ arrived s.arrivals zs) done t (taken (r ∷ [])) (numbered_after s.arrivals zs)
 keyboard_account tries again zs all done s t r a h =
     let xs = h.0 in
@@ -189,7 +189,7 @@ keyboard_account tries again zs all done s t r a h =
     (subst (λ l. Taken l done t (taken (r ∷ [])) (numbered_after s.arrivals (xs ++ ys))) more (subst (λ (n : ℕ). Taken ((all ++ arrived s.arrivals xs) ++ arrived m.arrivals ys) done t (taken (r ∷ [])) n) count f))
 
 -- A step of any request.
-pub step_account : (c : Request) (zs : List SourceAnswer) (all done : List (Seen × ℕ)) (s t : Shelf) (r : Replied) → Account all done s → Step c zs s t r
+pub step_account : (c : Request) (zs : List SourceAnswer) (all done : List (Seen × ℕ)) (s t : EventStore) (r : Replied) → Account all done s → Step c zs s t r
     → Taken (all ++ arrived s.arrivals zs) done t (taken (r ∷ [])) (numbered_after s.arrivals zs)
 step_account (Poll tries f) zs all done s t r a h =
     let b = arrives_account all done s t zs a h.2 in
@@ -212,7 +212,7 @@ taken_cons (ToPoll b) rs = refl
 taken_cons (Fault kind) rs = refl
 
 -- A step, and what follows it.
-pub account_more : (zs ws : List SourceAnswer) (r : Replied) (rs : List Replied) (all done : List (Seen × ℕ)) (s m t : Shelf) → m.arrivals ≡ numbered_after s.arrivals zs
+pub account_more : (zs ws : List SourceAnswer) (r : Replied) (rs : List Replied) (all done : List (Seen × ℕ)) (s m t : EventStore) → m.arrivals ≡ numbered_after s.arrivals zs
     → Account ((all ++ arrived s.arrivals zs) ++ arrived m.arrivals ws) ((done ++ taken (r ∷ [])) ++ taken rs) t → Account (all ++ arrived s.arrivals (zs ++ ws)) (done ++ taken (r ∷ rs)) t
 account_more zs ws r rs all done s m t k n =
     let e : (all ++ arrived s.arrivals zs) ++ arrived m.arrivals ws ≡ all ++ arrived s.arrivals (zs ++ ws) =
@@ -221,9 +221,9 @@ account_more zs ws r rs all done s m t k n =
     let d : (done ++ taken (r ∷ [])) ++ taken rs ≡ done ++ taken (r ∷ rs) = append_assoc done (taken (r ∷ [])) (taken rs) ∙ ap (λ l. done ++ l) (sym (taken_cons r rs)) in
     subst (λ l. Account l (done ++ taken (r ∷ rs)) t) e (subst (λ l. Account ((all ++ arrived s.arrivals zs) ++ arrived m.arrivals ws) l t) d n)
 
-run_account : (cs : List Call) (zss : List (List SourceAnswer)) (rs : List Replied) (all done : List (Seen × ℕ)) (s t : Shelf) → Account all done s → Run s cs zss rs t
+run_account : (cs : List Call) (zss : List (List SourceAnswer)) (rs : List Replied) (all done : List (Seen × ℕ)) (s t : EventStore) → Account all done s → Run s cs zss rs t
     → Account (all ++ arrived s.arrivals (joined zss)) (done ++ taken rs) t
-run_account [] [] [] all done s t a h = subst (λ (y : Shelf). Account (all ++ []) (done ++ []) y) (sym h) (subst (λ l. Account l (done ++ []) s) (sym (append-nil all)) (subst (λ l. Account all l s) (sym (append-nil done)) a))
+run_account [] [] [] all done s t a h = subst (λ (y : EventStore). Account (all ++ []) (done ++ []) y) (sym h) (subst (λ l. Account l (done ++ []) s) (sym (append-nil all)) (subst (λ l. Account all l s) (sym (append-nil done)) a))
 run_account [] [] (r ∷ rs) all done s t a h = absurd h
 run_account [] (zs ∷ zss) rs all done s t a h = absurd h
 run_account (c ∷ cs) [] rs all done s t a h = absurd h
@@ -238,11 +238,11 @@ arrived_gave n (Gave x ∷ zs) = ap (λ l. (x, n) ∷ l) (arrived_gave (next_num
 arrived_gave n (Nothing ∷ zs) = arrived_gave n zs
 arrived_gave n (Failed kind ∷ zs) = arrived_gave n zs
 
-pub accounts : (words : List Word) (calls : List Call) (said : List Said) (held : List Seen) → Plays words calls said held → Accounts words said held
-accounts words calls said held p =
+pub accounts : (device_answers : List DeviceAnswer) (calls : List Call) (said : List Said) (held : List Seen) → Plays device_answers calls said held → Accounts device_answers said held
+accounts device_answers calls said held p =
     let start : Account [] [] empty = record { once = IsPermutation-refl []; within = tt } in
     let k = run_account calls p.drawn p.replies [] [] empty p.last start p.run in
-    let f = told_front words (joined p.drawn) p.told in
+    let f = answered_front device_answers (joined p.drawn) p.answered in
     let numbers = arrived_gave 0 (joined p.drawn) in
     record {
       all = f.0;

@@ -15,9 +15,9 @@ use Rattle.crossterm_read.specs.declared.read.reader.AtWake.{AtWake}
 use Rattle.crossterm_read.specs.declared.read.reader.AtWake.TheVariants.{Stops, GoesOn}
 use Rattle.crossterm_read.specs.declared.read.reader.Once.{Once}
 use Rattle.crossterm_read.specs.declared.read.reader.Once.TheVariants as once
-use Rattle.crossterm_read.specs.Shelf.{Shelf, ReaderState}
-use Rattle.crossterm_read.specs.Shelf.{arrived, numbered_after, next_number, Arrives, capacity}
-use Rattle.crossterm_read.specs.Steps.{first_admitted, Passes, held_already, came, broke, tried, refused, Ready, Tried, Broke, Asked, DrawsOne, PollStep, end_of, RefusedOnlyWithoutRoom}
+use Rattle.crossterm_read.specs.Store.{EventStore, ReaderState, arrived, numbered_after, next_number, Arrives, capacity}
+use Rattle.crossterm_read.specs.Steps.{first_admitted, Passes, held_already, came, broke, tried, refused, Ready, Tried, Broke, PollStep, RefusedOnlyWithoutRoom}
+use Rattle.crossterm_read.specs.inside.Asking.{Asked, DrawsOne, end_of}
 use Rattle.crossterm_read.specs.Replies.{poll_reply}
 
 pub arrived-append : (n : ℕ) (xs ys : List SourceAnswer) → arrived n (xs ++ ys) ≡ arrived n xs ++ arrived (numbered_after n xs) ys
@@ -32,10 +32,10 @@ numbered_after-append n (Gave x ∷ xs) ys = numbered_after-append (next_number 
 numbered_after-append n (Nothing ∷ xs) ys = numbered_after-append n xs ys
 numbered_after-append n (Failed k ∷ xs) ys = numbered_after-append n xs ys
 
-pub arrives_none : (s : Shelf) → Arrives s [] s
+pub arrives_none : (s : EventStore) → Arrives s [] s
 arrives_none s = record { held = sym (append-nil s.held); arrivals = refl }
 
-pub arrives_more : (s m t : Shelf) (xs ys : List SourceAnswer) → Arrives s xs m → Arrives m ys t → Arrives s (xs ++ ys) t
+pub arrives_more : (s m t : EventStore) (xs ys : List SourceAnswer) → Arrives s xs m → Arrives m ys t → Arrives s (xs ++ ys) t
 arrives_more s m t xs ys a b = record {
   held = b.held ∙ ap (λ l. l ++ arrived m.arrivals ys) a.held ∙ append_assoc s.held (arrived s.arrivals xs) (arrived m.arrivals ys)
       ∙ ap (λ l. s.held ++ l) (ap (λ (k : ℕ). arrived s.arrivals xs ++ arrived k ys) a.arrivals ∙ sym (arrived-append s.arrivals xs ys));
@@ -71,10 +71,10 @@ length-arrived n (Nothing ∷ zs) = length-arrived n zs
 length-arrived n (Failed k ∷ zs) = length-arrived n zs
 
 -- Where there is no room left as many events came as there was room for.
-came_to_room : {S : Type 0} (s t : ReaderState S) (zs : List SourceAnswer) → Arrives s.shelf zs t.shelf → capacity s ≤ capacity t → t.room ≡ 0 → s.room ≤ length (gave zs)
+came_to_room : {S : Type 0} (s t : ReaderState S) (zs : List SourceAnswer) → Arrives s.store zs t.store → capacity s ≤ capacity t → t.room ≡ 0 → s.room ≤ length (gave zs)
 came_to_room s t zs a h e =
-    let held = ap length a.held ∙ length-append s.shelf.held (arrived s.shelf.arrivals zs) in
-    let came = length-arrived s.shelf.arrivals zs in
+    let held = ap length a.held ∙ length-append s.store.held (arrived s.store.arrivals zs) in
+    let came = length-arrived s.store.arrivals zs in
     omega arith
 
 pub none_of : (x : Option ℕ) → is_some x ≡ false → x ≡ None
@@ -86,27 +86,27 @@ module _ {S : Type 0} (drawn : S → List SourceAnswer → S → Type 0) (on : (
   pub record Asking (s t : ReaderState S) (i : ℕ) : Type 0 where
     pub answers : List SourceAnswer
     pub drawn_so : drawn s.source answers t.source
-    pub arrives : Arrives s.shelf answers t.shelf
+    pub arrives : Arrives s.store answers t.store
     pub passes : AllByRecursion (Passes wake f) answers
     pub count : length answers ≡ i
-    pub none : first_admitted f s.shelf.held ≡ None
+    pub none : first_admitted f s.store.held ≡ None
 
-  pub asking_none : ((s : S) → drawn s [] s) → (s t : ReaderState S) → t ≡ s → first_admitted f s.shelf.held ≡ None → Asking s t 0
+  pub asking_none : ((s : S) → drawn s [] s) → (s t : ReaderState S) → t ≡ s → first_admitted f s.store.held ≡ None → Asking s t 0
   asking_none law s t e n = subst (λ (y : ReaderState S). Asking s y 0) (sym e)
-      (record { answers = []; drawn_so = law s.source; arrives = arrives_none s.shelf; passes = tt; count = refl; none = n })
+      (record { answers = []; drawn_so = law s.source; arrives = arrives_none s.store; passes = tt; count = refl; none = n })
 
-  pub asking_more : (s m t : ReaderState S) (i : ℕ) (z : SourceAnswer) → Asking s m i → drawn m.source (z ∷ []) t.source → Arrives m.shelf (z ∷ []) t.shelf → Passes wake f z → Asking s t (i + 1)
+  pub asking_more : (s m t : ReaderState S) (i : ℕ) (z : SourceAnswer) → Asking s m i → drawn m.source (z ∷ []) t.source → Arrives m.store (z ∷ []) t.store → Passes wake f z → Asking s t (i + 1)
   asking_more s m t i z a d h p = record {
     answers = a.answers ++ z ∷ [];
     drawn_so = on s.source m.source t.source a.answers (z ∷ []) a.drawn_so d;
-    arrives = arrives_more s.shelf m.shelf t.shelf a.answers (z ∷ []) a.arrives h;
+    arrives = arrives_more s.store m.store t.store a.answers (z ∷ []) a.arrives h;
     passes = all_push (Passes wake f) a.answers z a.passes p;
     count = length-append a.answers (z ∷ []) ∙ ap (λ (k : ℕ). k + 1) a.count;
     none = a.none;
   }
 
-  pub asked_held : ((s : S) → drawn s [] s) → (s : ReaderState S) (tries : ℕ) → is_some (first_admitted f s.shelf.held) ≡ true → Asked drawn wake f tries s s Ready
-  asked_held law s tries h = ([], law s.source, arrives_none s.shelf, held_already h refl refl, tt)
+  pub asked_held : ((s : S) → drawn s [] s) → (s : ReaderState S) (tries : ℕ) → is_some (first_admitted f s.store.held) ≡ true → Asked drawn wake f tries s s Ready
+  asked_held law s tries h = ([], law s.source, arrives_none s.store, held_already h refl refl, tt)
 
   pub asked_tried : (s t : ReaderState S) (tries : ℕ) → Asking s t tries → Asked drawn wake f tries s t Tried
   asked_tried s t tries a = (a.answers, a.drawn_so, a.arrives, tried a.none a.passes a.count refl, tt)
@@ -114,22 +114,22 @@ module _ {S : Type 0} (drawn : S → List SourceAnswer → S → Type 0) (on : (
   pub asked_refused : (s t : ReaderState S) (i tries : ℕ) (kind : ErrorKind) → Asking s t i → i < tries → kind ≡ OutOfMemory → capacity s ≤ capacity t → t.room ≡ 0 → Asked drawn wake f tries s t (Broke kind)
   asked_refused s t i tries kind a h e r n = (a.answers, a.drawn_so, a.arrives, refused a.none a.passes (let c = a.count in omega arith) (ap Broke e), λ k. inr (came_to_room s t a.answers a.arrives r n))
 
-  pub asked_came : (s m t : ReaderState S) (i tries : ℕ) (x : Seen) → Asking s m i → i < tries → drawn m.source (Gave x ∷ []) t.source → Arrives m.shelf (Gave x ∷ []) t.shelf → f x ≡ true
+  pub asked_came : (s m t : ReaderState S) (i tries : ℕ) (x : Seen) → Asking s m i → i < tries → drawn m.source (Gave x ∷ []) t.source → Arrives m.store (Gave x ∷ []) t.store → f x ≡ true
       → Asked drawn wake f tries s t Ready
   asked_came s m t i tries x a h d r y = (
     a.answers ++ Gave x ∷ [],
     on s.source m.source t.source a.answers (Gave x ∷ []) a.drawn_so d,
-    arrives_more s.shelf m.shelf t.shelf a.answers (Gave x ∷ []) a.arrives r,
+    arrives_more s.store m.store t.store a.answers (Gave x ∷ []) a.arrives r,
     came a.none a.answers x refl a.passes y (let c = a.count in let l = length-append a.answers (Gave x ∷ []) in omega arith) refl,
     tt,
   )
 
-  pub asked_broke : (s m t : ReaderState S) (i tries : ℕ) (kind : ErrorKind) → Asking s m i → i < tries → drawn m.source (Failed kind ∷ []) t.source → Arrives m.shelf (Failed kind ∷ []) t.shelf
+  pub asked_broke : (s m t : ReaderState S) (i tries : ℕ) (kind : ErrorKind) → Asking s m i → i < tries → drawn m.source (Failed kind ∷ []) t.source → Arrives m.store (Failed kind ∷ []) t.store
       → (wake ≡ GoesOn → kind ≢ Interrupted) → Asked drawn wake f tries s t (Broke kind)
   asked_broke s m t i tries kind a h d r y = (
     a.answers ++ Failed kind ∷ [],
     on s.source m.source t.source a.answers (Failed kind ∷ []) a.drawn_so d,
-    arrives_more s.shelf m.shelf t.shelf a.answers (Failed kind ∷ []) a.arrives r,
+    arrives_more s.store m.store t.store a.answers (Failed kind ∷ []) a.arrives r,
     broke a.none a.answers kind refl a.passes y (let c = a.count in let l = length-append a.answers (Failed kind ∷ []) in omega arith) refl,
     λ e. inl (a.answers, ap (λ (k : ErrorKind). a.answers ++ Failed k ∷ []) e),
   )
@@ -146,7 +146,7 @@ module _ {S : Type 0} (drawn : S → List SourceAnswer → S → Type 0) (on : (
 module _ {S : Type 0} (drawn : S → List SourceAnswer → S → Type 0) (f : Seen → Bool) (tries : ℕ) (s t : ReaderState S) where
   -- a poll that says this
   abbrev pub Polls : Result Bool Error → Type 0
-  Polls r = (zs : List SourceAnswer) × drawn s.source zs t.source × PollStep tries f zs s.shelf t.shelf (poll_reply r) × IfErr r (λ e. RefusedOnlyWithoutRoom s.room zs (error_kind e))
+  Polls r = (zs : List SourceAnswer) × drawn s.source zs t.source × PollStep tries f zs s.store t.store (poll_reply r) × IfErr r (λ e. RefusedOnlyWithoutRoom s.room zs (error_kind e))
 
   pub poll_ok : (b : Bool) → Asked drawn Stops f tries s t (end_of (Ok b)) → Polls (Ok b)
   poll_ok true a = (a.0, a.1, (Ready, a.3, a.2, refl), tt)

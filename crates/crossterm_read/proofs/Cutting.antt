@@ -3,8 +3,8 @@ use Rattle.std.proofs.Common.{◌≡◌, ◌≤◌, ◌<◌, ◌+◌, ℕ, zero,
 use Rattle.std.proofs.Common.{get_or, min, drop-drop}
 use Rattle.std.proofs.Math.Seq.{drop-nil, take-nil}
 use Rattle.std.proofs.lemmas.List.{drop_all, drop_more, take_at, length-take-le}
-use Rattle.crossterm_read.specs.Device.{Word, Bytes}
-use Rattle.crossterm_read.specs.Scripted.{Tells, cut_within, buffers, piece_words, words, words_from}
+use Rattle.crossterm_read.specs.Device.{DeviceAnswer, Bytes}
+use Rattle.crossterm_read.specs.Scripted.{AnswersWith, cut_within, buffers, piece_answers, device_answers, device_answers_from}
 use Rattle.crossterm_read.specs.declared.source.script.Act.{Act}
 use Rattle.crossterm_read.specs.declared.source.script.Act.TheVariants as act
 
@@ -22,16 +22,16 @@ pub buffers_step : (bytes : List ℕ) → 0 < length bytes → buffers bytes ≡
 buffers_step [] h = absurd (omega arith)
 buffers_step (b ∷ bs) h = ap (λ (l : List (List ℕ)). take 1024 (b ∷ bs) ∷ l) (cut_more (length bs) (length (drop 1024 (b ∷ bs))) (drop 1024 (b ∷ bs)) (omega (arith, length-drop 1024 (b ∷ bs))) (omega arith))
 
-pub words_at : {A : Type 0} (acts : List (Act A)) (next told : ℕ) (a : Act A) → next < length acts → a ≡ get_or acts next a → words_from (drop next acts) told ≡ words_from (a ∷ drop (next + 1) acts) told
-words_at {A} acts next told a h e = ap (λ (l : List (Act A)). words_from l told) (drop_more acts next a h ∙ ap (λ (y : Act A). y ∷ drop (next + 1) acts) (sym e))
+pub words_at : {A : Type 0} (acts : List (Act A)) (next answered : ℕ) (a : Act A) → next < length acts → a ≡ get_or acts next a → device_answers_from (drop next acts) answered ≡ device_answers_from (a ∷ drop (next + 1) acts) answered
+words_at {A} acts next answered a h e = ap (λ (l : List (Act A)). device_answers_from l answered) (drop_more acts next a h ∙ ap (λ (y : Act A). y ∷ drop (next + 1) acts) (sym e))
 
 -- one buffer of a piece is told
-pub piece_step : (bytes more x : List ℕ) (raw : Bool) (ws left right : List Word) → 0 < length bytes → more ≡ drop 1024 bytes → x ≡ take 1024 bytes
-    → piece_words bytes raw ++ ws ≡ left → piece_words more raw ++ ws ≡ right → Tells left (Bytes x raw ∷ []) right
+pub piece_step : (bytes more x : List ℕ) (raw : Bool) (ws left right : List DeviceAnswer) → 0 < length bytes → more ≡ drop 1024 bytes → x ≡ take 1024 bytes
+    → piece_answers bytes raw ++ ws ≡ left → piece_answers more raw ++ ws ≡ right → AnswersWith left (Bytes x raw ∷ []) right
 piece_step bytes more x raw ws left right h m e p q =
     let s = ap (λ (l : List (List ℕ)). map (λ buffer. Bytes buffer raw) l ++ ws) (buffers_step bytes h) in
-    subst (λ (l : List Word). Tells l (Bytes x raw ∷ []) right) (sym s ∙ p)
-    (ap (λ (b : List ℕ). Bytes b raw) e, ap (λ (b : List ℕ). piece_words b raw ++ ws) (sym m) ∙ q)
+    subst (λ (l : List DeviceAnswer). AnswersWith l (Bytes x raw ∷ []) right) (sym s ∙ p)
+    (ap (λ (b : List ℕ). Bytes b raw) e, ap (λ (b : List ℕ). piece_answers b raw ++ ws) (sym m) ∙ q)
 
 min_drop : (k n : ℕ) (l : List ℕ) → n ≡ min k (length l) → drop n l ≡ drop k l
 min_drop k n [] h = drop-nil n ∙ sym (drop-nil k)
@@ -46,38 +46,38 @@ min_take (suc k) zero (b ∷ bs) h = absurd (omega arith)
 min_take (suc k) (suc n) (b ∷ bs) h = ap (λ (l : List ℕ). b ∷ l) (min_take k n bs (omega arith))
 
 -- what is left after as many bytes as there are, or 1024
-pub drop_told : (bytes : List ℕ) (told n : ℕ) → n ≡ min 1024 (length (drop told bytes)) → drop (told + n) bytes ≡ drop 1024 (drop told bytes)
-drop_told bytes told n e = sym (drop-drop n told bytes) ∙ min_drop 1024 n (drop told bytes) e
+pub drop_answered : (bytes : List ℕ) (answered n : ℕ) → n ≡ min 1024 (length (drop answered bytes)) → drop (answered + n) bytes ≡ drop 1024 (drop answered bytes)
+drop_answered bytes answered n e = sym (drop-drop n answered bytes) ∙ min_drop 1024 n (drop answered bytes) e
 
-pub take_told : (bytes buf : List ℕ) (n : ℕ) → n ≡ min 1024 (length bytes) → take n (take n bytes ++ drop n buf) ≡ take 1024 bytes
-take_told bytes buf n e = take_at (take n bytes) (drop n buf) n (length-take-le n bytes (omega arith)) ∙ min_take 1024 n bytes e
+pub take_answered : (bytes buf : List ℕ) (n : ℕ) → n ≡ min 1024 (length bytes) → take n (take n bytes ++ drop n buf) ≡ take 1024 bytes
+take_answered bytes buf n e = take_at (take n bytes) (drop n buf) n (length-take-le n bytes (omega arith)) ∙ min_take 1024 n bytes e
 
-words_start : {A : Type 0} (acts : List (Act A)) → words_from acts 0 ≡ words acts
-words_start [] = refl
-words_start (act.Piece bytes raw ∷ acts) = refl
-words_start (act.Resize columns rows ∷ acts) = refl
-words_start (act.Woken ∷ acts) = refl
-words_start (act.Idle ∷ acts) = refl
-words_start (act.Fault kind ∷ acts) = refl
+device_answers_start : {A : Type 0} (acts : List (Act A)) → device_answers_from acts 0 ≡ device_answers acts
+device_answers_start [] = refl
+device_answers_start (act.Piece bytes raw ∷ acts) = refl
+device_answers_start (act.Resize columns rows ∷ acts) = refl
+device_answers_start (act.Woken ∷ acts) = refl
+device_answers_start (act.Idle ∷ acts) = refl
+device_answers_start (act.Fault kind ∷ acts) = refl
 
--- an act of one word is told
-pub act_told : {A : Type 0} (acts : List (Act A)) (next told : ℕ) (a : Act A) (w : Word) (left : List Word) → next < length acts → a ≡ get_or acts next a
-    → words_from (a ∷ drop (next + 1) acts) told ≡ w ∷ words (drop (next + 1) acts) → words_from (drop next acts) told ≡ left → Tells left (w ∷ []) (words_from (drop (next + 1) acts) 0)
-act_told acts next told a w left h e one l =
-    subst (λ (ws : List Word). Tells ws (w ∷ []) (words_from (drop (next + 1) acts) 0)) (sym one ∙ sym (words_at acts next told a h e) ∙ l) (refl, sym (words_start (drop (next + 1) acts)))
+-- an act of one answer is given
+pub act_answered : {A : Type 0} (acts : List (Act A)) (next answered : ℕ) (a : Act A) (w : DeviceAnswer) (left : List DeviceAnswer) → next < length acts → a ≡ get_or acts next a
+    → device_answers_from (a ∷ drop (next + 1) acts) answered ≡ w ∷ device_answers (drop (next + 1) acts) → device_answers_from (drop next acts) answered ≡ left → AnswersWith left (w ∷ []) (device_answers_from (drop (next + 1) acts) 0)
+act_answered acts next answered a w left h e one l =
+    subst (λ (ws : List DeviceAnswer). AnswersWith ws (w ∷ []) (device_answers_from (drop (next + 1) acts) 0)) (sym one ∙ sym (words_at acts next answered a h e) ∙ l) (refl, sym (device_answers_start (drop (next + 1) acts)))
 
 -- all of a piece was told
-pub piece_over : {A : Type 0} (acts : List (Act A)) (next told : ℕ) (a : Act A) (bytes : Vec ℕ A) (raw : Bool) (left : List Word) → next < length acts → a ≡ get_or acts next a
-    → a ≡ act.Piece bytes raw → length bytes.items ≤ told → words_from (drop next acts) told ≡ left → words_from (drop (next + 1) acts) 0 ≡ left
-piece_over {A} acts next told a bytes raw left h e is over l =
+pub piece_over : {A : Type 0} (acts : List (Act A)) (next answered : ℕ) (a : Act A) (bytes : Vec ℕ A) (raw : Bool) (left : List DeviceAnswer) → next < length acts → a ≡ get_or acts next a
+    → a ≡ act.Piece bytes raw → length bytes.items ≤ answered → device_answers_from (drop next acts) answered ≡ left → device_answers_from (drop (next + 1) acts) 0 ≡ left
+piece_over {A} acts next answered a bytes raw left h e is over l =
     let rest = drop (next + 1) acts in
-    words_start rest ∙ ap (λ (ks : List ℕ). piece_words ks raw ++ words rest) (sym (drop_all told bytes.items over))
-    ∙ ap (λ (y : Act A). words_from (y ∷ rest) told) (sym is) ∙ sym (words_at acts next told a h e) ∙ l
+    device_answers_start rest ∙ ap (λ (ks : List ℕ). piece_answers ks raw ++ device_answers rest) (sym (drop_all answered bytes.items over))
+    ∙ ap (λ (y : Act A). device_answers_from (y ∷ rest) answered) (sym is) ∙ sym (words_at acts next answered a h e) ∙ l
 
 -- past the end the end of input is told
-pub end_told : {A : Type 0} (acts : List (Act A)) (next told : ℕ) (left : List Word) → length acts ≤ next → words_from (drop next acts) told ≡ left
-    → Tells left (Bytes [] false ∷ []) (words_from (drop next acts) told)
-end_told acts next told left h l =
-    let none = ap (λ ws. words_from ws told) (drop_all next acts h) in
-    subst (λ (ws : List Word). Tells ws (Bytes [] false ∷ []) (words_from (drop next acts) told)) l
-    (subst (λ (ws : List Word). Tells ws (Bytes [] false ∷ []) ws) (sym none) (refl, refl))
+pub end_answered : {A : Type 0} (acts : List (Act A)) (next answered : ℕ) (left : List DeviceAnswer) → length acts ≤ next → device_answers_from (drop next acts) answered ≡ left
+    → AnswersWith left (Bytes [] false ∷ []) (device_answers_from (drop next acts) answered)
+end_answered acts next answered left h l =
+    let none = ap (λ ws. device_answers_from ws answered) (drop_all next acts h) in
+    subst (λ (ws : List DeviceAnswer). AnswersWith ws (Bytes [] false ∷ []) (device_answers_from (drop next acts) answered)) l
+    (subst (λ (ws : List DeviceAnswer). AnswersWith ws (Bytes [] false ∷ []) ws) (sym none) (refl, refl))

@@ -7,8 +7,8 @@ use Rattle.std.proofs.lemmas.Map.Keys.{IsDistinct-IsPermutation}
 use Rattle.crossterm_types.specs.Seen.{Seen}
 use Rattle.crossterm_read.specs.Answers.{SourceAnswer}
 use Rattle.crossterm_read.specs.History.{Entry, Runs, Differ, EachOnce, all_events, answers_of, taken_by}
-use Rattle.crossterm_read.specs.Numbers.{Rise, IsLow, IsOrderly}
-use Rattle.crossterm_read.specs.Shelf.{ReaderState}
+use Rattle.crossterm_read.specs.Store.{IsLow, ReaderState}
+use Rattle.crossterm_read.specs.inside.Numbers.{Rise, IsOrderly}
 use Rattle.crossterm_read.proofs.Histories.{history_account}
 use Rattle.crossterm_read.proofs.Rising.{orderly_arrived}
 use Rattle.crossterm_read.proofs.Takes.{rise}
@@ -38,12 +38,12 @@ differ : (all done held : List (Seen × ℕ)) → Rise all → IsPermutation all
 differ all done held r p = distinct_front done held (IsDistinct-IsPermutation same_number (λ x y. grind (arith)) all (done ++ held) p (rise_distinct all r))
 
 -- Each event of a legal history is taken once or held, in order, and the numbers of those that one filter takes rise.
-pub each_once : {S : Type 0} (drawn : S → List SourceAnswer → S → Type 0) (o t : ReaderState S) (log : List Entry) → IsOrderly o.shelf.held o.shelf.arrivals → Runs drawn o log t → EachOnce o log t
+pub each_once : {S : Type 0} (drawn : S → List SourceAnswer → S → Type 0) (o t : ReaderState S) (log : List Entry) → IsOrderly o.store.held o.store.arrivals → Runs drawn o log t → EachOnce o log t
 each_once drawn o t log orderly h =
     let a = history_account drawn o t log h in record {
       once = a.0.once;
       in_order = a.0.within;
       arrivals = a.1;
-      differ = λ low. differ (all_events o log) (taken_by log) t.shelf.held (orderly_arrived o.shelf.held o.shelf.arrivals (answers_of log) orderly (subst IsLow a.1 low)).rise a.0.once;
+      differ = λ low. differ (all_events o log) (taken_by log) t.store.held (orderly_arrived o.store.held o.store.arrivals (answers_of log) orderly (subst IsLow a.1 low)).rise a.0.once;
       rise = rise drawn o t log orderly h;
     }

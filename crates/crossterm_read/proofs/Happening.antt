@@ -10,27 +10,27 @@ use Rattle.crossterm_parse.specs.Division.{Divides, IsUndecided}
 use Rattle.crossterm_parse.proofs.DivisionLaws as laws
 use Rattle.crossterm_parse.proofs.GrammarLaws.{nil_not_whole, whole_or_not}
 use Rattle.crossterm_read.specs.Answers.{SourceAnswer, Gave, Nothing, Failed, gave}
-use Rattle.crossterm_read.specs.Device.{Word, Bytes, Resized, Woken, Idle, Fault, told_bytes}
-use Rattle.crossterm_read.specs.Scripted.{Tells}
+use Rattle.crossterm_read.specs.Device.{DeviceAnswer, Bytes, Resized, Woken, Idle, Fault, marked_bytes}
+use Rattle.crossterm_read.specs.Scripted.{AnswersWith}
 use Rattle.std.specs.declared.io.ErrorKind.TheVariants.{UnexpectedEof, Interrupted}
-use Rattle.crossterm_read.specs.Blocks.{Block, Ended, Single, Brings, Happens, Says, SaysAll, Told, events_of, block_events, all_bytes, byte_events, Happened, HappensByDivision}
+use Rattle.crossterm_read.specs.Outcomes.{Outcome, Ended, Single, Produces, Happens, Delivers, DeliversAll, Answered, events_of, outcome_events, all_bytes, byte_events, Happened, HappensByDivision}
 
 none_divided : (before : List Marked) → IsUndecided Whole before → Divides Whole (before ++ []) [] before
 none_divided before u = record { joined = append-nil before; whole = tt; undecided = u }
 
-abbrev Parts : List Marked → List Marked → List Block → List Marked → Type 0
+abbrev Parts : List Marked → List Marked → List Outcome → List Marked → Type 0
 Parts before bytes bs after = (parts : List (List Marked)) × Divides Whole (before ++ bytes) parts after × (flat_map byte_events bs ≡ filter_map meaning_of parts)
 
-single_on : (before bytes : List Marked) (x : SourceAnswer) (bs : List Block) (after : List Marked) → Parts before bytes bs after → Parts before bytes (Single x ∷ bs) after
+single_on : (before bytes : List Marked) (x : SourceAnswer) (bs : List Outcome) (after : List Marked) → Parts before bytes bs after → Parts before bytes (Single x ∷ bs) after
 single_on before bytes x bs after p = p
 
--- a word that brings no bytes is passed over
-passed : (before mid : List Marked) (ws : List Word) (x : SourceAnswer) (bs : List Block) (after : List Marked) → mid ≡ before → IsUndecided Whole before
+-- an answer without bytes is passed over
+passed : (before mid : List Marked) (ws : List DeviceAnswer) (x : SourceAnswer) (bs : List Outcome) (after : List Marked) → mid ≡ before → IsUndecided Whole before
     → (IsUndecided Whole mid → Parts mid (all_bytes ws) bs after) → Parts before (all_bytes ws) (Single x ∷ bs) after
 passed before mid ws x bs after e u later =
     single_on before (all_bytes ws) x bs after (subst (λ (l : List Marked). Parts l (all_bytes ws) bs after) e (later (subst (IsUndecided Whole) (sym e) u)))
 
-divided : (before : List Marked) (ws : List Word) (bs : List Block) (after : List Marked) → IsUndecided Whole before → Happens before ws bs after → Parts before (all_bytes ws) bs after
+divided : (before : List Marked) (ws : List DeviceAnswer) (bs : List Outcome) (after : List Marked) → IsUndecided Whole before → Happens before ws bs after → Parts before (all_bytes ws) bs after
 divided before [] [] after u h = ([], subst (λ (l : List Marked). Divides Whole (before ++ []) [] l) (sym h) (none_divided before u), refl)
 divided before [] (b ∷ bs) after u h = absurd h
 divided before (w ∷ ws) [] after u h = absurd h
@@ -38,8 +38,8 @@ divided before (Bytes (k ∷ ks) raw ∷ ws) (Ended es ∷ bs) after u h =
     let parts = h.1.0 in
     let p = divided h.0 ws bs after h.1.1.undecided h.2 in (
       parts ++ p.0,
-      subst (λ (l : List Marked). Divides Whole l (parts ++ p.0) after) (append_assoc before (told_bytes (k ∷ ks) raw) (all_bytes ws))
-          (laws.divide_join Whole (before ++ told_bytes (k ∷ ks) raw) (all_bytes ws) parts p.0 h.0 after h.1.1 p.1),
+      subst (λ (l : List Marked). Divides Whole l (parts ++ p.0) after) (append_assoc before (marked_bytes (k ∷ ks) raw) (all_bytes ws))
+          (laws.divide_join Whole (before ++ marked_bytes (k ∷ ks) raw) (all_bytes ws) parts p.0 h.0 after h.1.1 p.1),
       ap (λ (l : List Seen). l ++ flat_map byte_events bs) h.1.2
           ∙ ap (λ (l : List Seen). filter_map meaning_of parts ++ l) p.2 ∙ sym (filter_map-append meaning_of parts p.0),
     )
@@ -64,66 +64,66 @@ gave-append (Gave x ∷ xs) ys = ap (λ (l : List Seen). x ∷ l) (gave-append x
 gave-append (Nothing ∷ xs) ys = gave-append xs ys
 gave-append (Failed kind ∷ xs) ys = gave-append xs ys
 
-gave_says : (es : List Seen) (xs : List SourceAnswer) → Says es xs → gave xs ≡ es
-gave_says [] [] s = refl
-gave_says [] (Gave x ∷ xs) s = absurd s
-gave_says [] (Nothing ∷ xs) s = ap gave s
-gave_says [] (Failed kind ∷ xs) s = gave_says [] xs s.2
-gave_says (e ∷ es) [] s = absurd s
-gave_says (e ∷ es) (Gave x ∷ xs) s = ap (λ (y : Seen). y ∷ gave xs) s.0 ∙ ap (λ (l : List Seen). e ∷ l) (gave_says es xs s.1)
-gave_says (e ∷ es) (Nothing ∷ xs) s = absurd s
-gave_says (e ∷ es) (Failed kind ∷ xs) s = gave_says (e ∷ es) xs s.2
+gave_delivers : (es : List Seen) (xs : List SourceAnswer) → Delivers es xs → gave xs ≡ es
+gave_delivers [] [] s = refl
+gave_delivers [] (Gave x ∷ xs) s = absurd s
+gave_delivers [] (Nothing ∷ xs) s = ap gave s
+gave_delivers [] (Failed kind ∷ xs) s = gave_delivers [] xs s.2
+gave_delivers (e ∷ es) [] s = absurd s
+gave_delivers (e ∷ es) (Gave x ∷ xs) s = ap (λ (y : Seen). y ∷ gave xs) s.0 ∙ ap (λ (l : List Seen). e ∷ l) (gave_delivers es xs s.1)
+gave_delivers (e ∷ es) (Nothing ∷ xs) s = absurd s
+gave_delivers (e ∷ es) (Failed kind ∷ xs) s = gave_delivers (e ∷ es) xs s.2
 
-gave_single : (x : SourceAnswer) (rest : List SourceAnswer) → gave (x ∷ rest) ≡ block_events (Single x) ++ gave rest
+gave_single : (x : SourceAnswer) (rest : List SourceAnswer) → gave (x ∷ rest) ≡ outcome_events (Single x) ++ gave rest
 gave_single (Gave x) rest = refl
 gave_single Nothing rest = refl
 gave_single (Failed kind) rest = refl
 
-gave_all : (bs : List Block) (xs : List SourceAnswer) → SaysAll bs xs → gave xs ≡ events_of bs
+gave_all : (bs : List Outcome) (xs : List SourceAnswer) → DeliversAll bs xs → gave xs ≡ events_of bs
 gave_all [] xs s = ap gave s
-gave_all (Single x ∷ bs) xs s = ap gave s.1 ∙ gave_single x s.0 ∙ ap (λ (l : List Seen). block_events (Single x) ++ l) (gave_all bs s.0 s.2)
-gave_all (Ended es ∷ bs) xs s = ap gave s.2 ∙ gave-append s.0 s.1 ∙ ap (λ (l : List Seen). l ++ gave s.1) (gave_says es s.0 s.4) ∙ ap (λ (l : List Seen). es ++ l) (gave_all bs s.1 s.5)
+gave_all (Single x ∷ bs) xs s = ap gave s.1 ∙ gave_single x s.0 ∙ ap (λ (l : List Seen). outcome_events (Single x) ++ l) (gave_all bs s.0 s.2)
+gave_all (Ended es ∷ bs) xs s = ap gave s.2 ∙ gave-append s.0 s.1 ∙ ap (λ (l : List Seen). l ++ gave s.1) (gave_delivers es s.0 s.4) ∙ ap (λ (l : List Seen). es ++ l) (gave_all bs s.1 s.5)
 
-brings_some : (before : List Marked) (w : Word) → (b : Block) × (mid : List Marked) × Brings before w b mid
-brings_some before (Bytes [] raw) = (Single (Failed UnexpectedEof), before, (refl, refl))
-brings_some before (Bytes (k ∷ ks) raw) =
-    let d = laws.some_division Whole nil_not_whole whole_or_not (before ++ told_bytes (k ∷ ks) raw) in
+produces_some : (before : List Marked) (w : DeviceAnswer) → (b : Outcome) × (mid : List Marked) × Produces before w b mid
+produces_some before (Bytes [] raw) = (Single (Failed UnexpectedEof), before, (refl, refl))
+produces_some before (Bytes (k ∷ ks) raw) =
+    let d = laws.some_division Whole nil_not_whole whole_or_not (before ++ marked_bytes (k ∷ ks) raw) in
     (Ended (filter_map meaning_of d.0), d.1, (d.0, d.2, refl))
-brings_some before (Resized columns rows) = (Single (Gave (Resize columns rows)), before, (refl, refl))
-brings_some before Woken = (Single (Failed Interrupted), before, (refl, refl))
-brings_some before Idle = (Single Nothing, before, (refl, refl))
-brings_some before (Fault kind) = (Single (Failed kind), before, (refl, refl))
+produces_some before (Resized columns rows) = (Single (Gave (Resize columns rows)), before, (refl, refl))
+produces_some before Woken = (Single (Failed Interrupted), before, (refl, refl))
+produces_some before Idle = (Single Nothing, before, (refl, refl))
+produces_some before (Fault kind) = (Single (Failed kind), before, (refl, refl))
 
-happens_some : (before : List Marked) (ws : List Word) → (bs : List Block) × (after : List Marked) × Happens before ws bs after
+happens_some : (before : List Marked) (ws : List DeviceAnswer) → (bs : List Outcome) × (after : List Marked) × Happens before ws bs after
 happens_some before [] = ([], before, refl)
-happens_some before (w ∷ ws) = let b = brings_some before w in let r = happens_some b.1 ws in (b.0 ∷ r.0, r.1, (b.1, b.2, r.2))
+happens_some before (w ∷ ws) = let b = produces_some before w in let r = happens_some b.1 ws in (b.0 ∷ r.0, r.1, (b.1, b.2, r.2))
 
 -- no event comes past the end
-end_brings : (before mid : List Marked) (b : Block) → Brings before (Bytes [] false) b mid → (block_events b ≡ []) × (mid ≡ before)
-end_brings before mid (Ended es) h = absurd h
-end_brings before mid (Single x) h = (ap (λ (y : SourceAnswer). block_events (Single y)) h.0, h.1)
+end_produces : (before mid : List Marked) (b : Outcome) → Produces before (Bytes [] false) b mid → (outcome_events b ≡ []) × (mid ≡ before)
+end_produces before mid (Ended es) h = absurd h
+end_produces before mid (Single x) h = (ap (λ (y : SourceAnswer). outcome_events (Single y)) h.0, h.1)
 
-abbrev Extends : List Marked → List Word → List Block → Type 0
-Extends before words bs = (cs : List Block) × (last : List Marked) × (rest : List Seen) × Happens before words cs last × (events_of cs ≡ events_of bs ++ rest)
+abbrev Extends : List Marked → List DeviceAnswer → List Outcome → Type 0
+Extends before device_answers bs = (cs : List Outcome) × (last : List Marked) × (rest : List Seen) × Happens before device_answers cs last × (events_of cs ≡ events_of bs ++ rest)
 
-extends : (before : List Marked) (words told left : List Word) (bs : List Block) (after : List Marked) → Tells words told left → Happens before told bs after → Extends before words bs
-extends before words [] left [] after d h = let a = happens_some before words in (a.0, a.1, events_of a.0, a.2, refl)
-extends before words [] left (b ∷ bs) after d h = absurd h
-extends before words (x ∷ xs) left [] after d h = absurd h
+extends : (before : List Marked) (device_answers answered left : List DeviceAnswer) (bs : List Outcome) (after : List Marked) → AnswersWith device_answers answered left → Happens before answered bs after → Extends before device_answers bs
+extends before device_answers [] left [] after d h = let a = happens_some before device_answers in (a.0, a.1, events_of a.0, a.2, refl)
+extends before device_answers [] left (b ∷ bs) after d h = absurd h
+extends before device_answers (x ∷ xs) left [] after d h = absurd h
 extends before [] (x ∷ xs) left (b ∷ bs) after d h =
-    let q = end_brings before h.0 b (subst (λ (w : Word). Brings before w b h.0) d.0 h.1) in
+    let q = end_produces before h.0 b (subst (λ (w : DeviceAnswer). Produces before w b h.0) d.0 h.1) in
     let r : Extends before [] bs = subst (λ (l : List Marked). Extends l [] bs) q.1 (extends h.0 [] xs left bs after d.1 h.2) in
     (r.0, r.1, r.2, r.3, r.4 ∙ ap (λ (l : List Seen). (l ++ events_of bs) ++ r.2) (sym q.0))
 extends before (w ∷ ws) (x ∷ xs) left (b ∷ bs) after d h =
     let r = extends h.0 ws xs left bs after d.1 h.2 in
-    (b ∷ r.0, r.1, r.2, (h.0, subst (λ (y : Word). Brings before y b h.0) d.0 h.1, r.3), ap (λ (l : List Seen). block_events b ++ l) r.4 ∙ sym (append_assoc (block_events b) (events_of bs) r.2))
+    (b ∷ r.0, r.1, r.2, (h.0, subst (λ (y : DeviceAnswer). Produces before y b h.0) d.0 h.1, r.3), ap (λ (l : List Seen). outcome_events b ++ l) r.4 ∙ sym (append_assoc (outcome_events b) (events_of bs) r.2))
 
 -- The events among what was told are a front of what happens.
-pub told_front : (words : List Word) (list : List SourceAnswer) → Told words list → (all : List Seen) × (rest : List Seen) × Happened words all × (all ≡ gave list ++ rest)
-told_front words list t =
-    let r = extends [] words t.told t.left t.blocks t.undecided t.tells t.happens in (
+pub answered_front : (device_answers : List DeviceAnswer) (list : List SourceAnswer) → Answered device_answers list → (all : List Seen) × (rest : List Seen) × Happened device_answers all × (all ≡ gave list ++ rest)
+answered_front device_answers list t =
+    let r = extends [] device_answers t.answered t.left t.outcomes t.undecided t.answering t.happens in (
       events_of r.0,
       gave t.more ++ r.2,
       (r.0, r.1, r.3, refl),
-      r.4 ∙ ap (λ (l : List Seen). l ++ r.2) (sym (gave_all t.blocks (list ++ t.more) t.says) ∙ gave-append list t.more) ∙ append_assoc (gave list) (gave t.more) r.2,
+      r.4 ∙ ap (λ (l : List Seen). l ++ r.2) (sym (gave_all t.outcomes (list ++ t.more) t.delivers) ∙ gave-append list t.more) ∙ append_assoc (gave list) (gave t.more) r.2,
     )

@@ -4,7 +4,7 @@ use Rattle.std.proofs.lemmas.List.Sorted.{IsPermutation-refl}
 use Rattle.crossterm_types.specs.Seen.{Seen}
 use Rattle.crossterm_read.specs.Answers.{SourceAnswer, Gave, Nothing, Failed}
 use Rattle.crossterm_read.specs.History.{Entry, Makes, Runs, answers_of, taken_by}
-use Rattle.crossterm_read.specs.Shelf.{ReaderState, arrived, numbered_after, next_number}
+use Rattle.crossterm_read.specs.Store.{ReaderState, arrived, numbered_after, next_number}
 use Rattle.crossterm_read.proofs.Accounting.{Account, Taken, within_refl, none_taken, step_account, account_more}
 use Rattle.crossterm_read.proofs.Asking.{numbered_after-append}
 
@@ -27,30 +27,30 @@ module _ {S : Type 0} (drawn : S → List SourceAnswer → S → Type 0) where
   runs_snoc o m t (d ∷ log) e h k = (h.0, h.1, runs_snoc h.0 m t log e h.2 k)
 
   -- What came before a history and in it is what was taken before it and in it, and what is held.
-  runs_account : (all done : List (Seen × ℕ)) (s t : ReaderState S) (log : List Entry) → Account all done s.shelf → Runs drawn s log t
-      → Taken (all ++ arrived s.shelf.arrivals (answers_of log)) done t.shelf (taken_by log) (numbered_after s.shelf.arrivals (answers_of log))
+  runs_account : (all done : List (Seen × ℕ)) (s t : ReaderState S) (log : List Entry) → Account all done s.store → Runs drawn s log t
+      → Taken (all ++ arrived s.store.arrivals (answers_of log)) done t.store (taken_by log) (numbered_after s.store.arrivals (answers_of log))
   runs_account all done s t [] a h =
-      none_taken (all ++ []) done s.shelf t.shelf (sym (ap (λ (y : ReaderState S). y.shelf) h)) (subst (λ l. Account l done s.shelf) (sym (append-nil all)) a)
+      none_taken (all ++ []) done s.store t.store (sym (ap (λ (y : ReaderState S). y.store) h)) (subst (λ l. Account l done s.store) (sym (append-nil all)) a)
   runs_account all done s t (e ∷ es) a h =
       let m = h.0 in
-      let k = step_account e.call e.answers all done s.shelf m.shelf e.reply a h.1.1 in
-      let n = runs_account (all ++ arrived s.shelf.arrivals e.answers) (done ++ taken_by (e ∷ [])) m t es k.0 h.2 in (
-        account_more e.answers (answers_of es) e.reply (map (λ d. d.reply) es) all done s.shelf m.shelf t.shelf k.1 n.0,
-        n.1 ∙ ap (λ (i : ℕ). numbered_after i (answers_of es)) k.1 ∙ sym (numbered_after-append s.shelf.arrivals e.answers (answers_of es)),
+      let k = step_account e.call e.answers all done s.store m.store e.reply a h.1.1 in
+      let n = runs_account (all ++ arrived s.store.arrivals e.answers) (done ++ taken_by (e ∷ [])) m t es k.0 h.2 in (
+        account_more e.answers (answers_of es) e.reply (map (λ d. d.reply) es) all done s.store m.store t.store k.1 n.0,
+        n.1 ∙ ap (λ (i : ℕ). numbered_after i (answers_of es)) k.1 ∙ sym (numbered_after-append s.store.arrivals e.answers (answers_of es)),
       )
 
   -- What was held at first and came in a history is what was taken in it and what is held.
   pub history_account : (o t : ReaderState S) (log : List Entry) → Runs drawn o log t
-      → Taken (o.shelf.held ++ arrived o.shelf.arrivals (answers_of log)) [] t.shelf (taken_by log) (numbered_after o.shelf.arrivals (answers_of log))
-  history_account o t log h = runs_account o.shelf.held [] o t log (record { once = IsPermutation-refl o.shelf.held; within = within_refl o.shelf.held }) h
+      → Taken (o.store.held ++ arrived o.store.arrivals (answers_of log)) [] t.store (taken_by log) (numbered_after o.store.arrivals (answers_of log))
+  history_account o t log h = runs_account o.store.held [] o t log (record { once = IsPermutation-refl o.store.held; within = within_refl o.store.held }) h
 
   -- No event that had arrived is missing later.
-  pub not_fewer : (o t : ReaderState S) (seen between : List Entry) → o.shelf.arrivals < 2 ^ 64 → Runs drawn o (seen ++ between) t → numbered_after o.shelf.arrivals (answers_of seen) ≤ t.shelf.arrivals
+  pub not_fewer : (o t : ReaderState S) (seen between : List Entry) → o.store.arrivals < 2 ^ 64 → Runs drawn o (seen ++ between) t → numbered_after o.store.arrivals (answers_of seen) ≤ t.store.arrivals
   not_fewer o t seen between fits h =
       let f = runs_front o t seen between h in
       let m = f.0 in
       let first = (history_account o m seen f.1).1 in
       let last = (history_account m t between f.2).1 in
-      let grows = never_less m.shelf.arrivals (answers_of between) (let k = (never_less o.shelf.arrivals (answers_of seen) fits).1 in omega arith) in
+      let grows = never_less m.store.arrivals (answers_of between) (let k = (never_less o.store.arrivals (answers_of seen) fits).1 in omega arith) in
       let l = grows.0 in
       omega arith

@@ -11,8 +11,8 @@ use Rattle.crossterm_types.specs.declared.event.Event.TheVariants as event
 use Rattle.crossterm_types.specs.declared.event.InternalEvent.{InternalEvent}
 use Rattle.crossterm_types.specs.declared.event.InternalEvent.TheVariants as internal
 use Rattle.crossterm_types.specs.declared.event.filter.Classes.{Classes}
-use Rattle.crossterm_read.specs.Kinds.{has, kind_of, place_of, same_kind}
-use Rattle.crossterm_read.specs.Queues.{Ascends, AreJoined, IsEarliest, Joins, NotBefore, StandsAt, Takes, all_kinds, behind, earlier_of, in_order, joined, member_kept, numbered_anew, of_kind, put_in}
+use Rattle.crossterm_read.specs.inside.Kinds.{has, kind_of, place_of, same_kind}
+use Rattle.crossterm_read.specs.inside.Queues.{Ascends, AreJoined, IsEarliest, Joins, NotBefore, IsFirstAt, Takes, all_kinds, behind, earlier_of, in_order, joined, member_kept, numbered_anew, of_kind, put_in}
 use Rattle.crossterm_read.specs.declared.read.held.kind.Kind.{Kind}
 use Rattle.crossterm_read.specs.declared.read.held.kind.Kind.TheVariants.{Event, Cursor, Flags, Attributes}
 use Rattle.crossterm_read.specs.declared.read.held.kind.Place.{Place}
@@ -182,15 +182,15 @@ module _ {A : Type 0} where
       k
 
   -- A list whose order numbers rise is its parts in order.
-  told : (list : List (Member A)) → Ascends list → joined (λ k. of_kind k list) ≡ list
-  told [] a = refl
-  told (m ∷ ms) a = with_first m ms (kind_of m.event) a.0 ∙ ap (λ l. m ∷ l) (told ms a.1)
+  ordered : (list : List (Member A)) → Ascends list → joined (λ k. of_kind k list) ≡ list
+  ordered [] a = refl
+  ordered (m ∷ ms) a = with_first m ms (kind_of m.event) a.0 ∙ ap (λ l. m ∷ l) (ordered ms a.1)
 
   pub joined_same : (q p : Kind → List (Member A)) → ((k : Kind) → q k ≡ p k) → joined q ≡ joined p
   joined_same q p h = λ i. in_order (h Event i ++ (h Cursor i ++ (h Flags i ++ h Attributes i)))
 
   pub joined_is : (list : List (Member A)) (q : Kind → List (Member A)) → Joins list q → joined q ≡ list
-  joined_is list q j = joined_same q (λ k. of_kind k list) (λ k. sym (j.parts k)) ∙ told list j.ascends
+  joined_is list q j = joined_same q (λ k. of_kind k list) (λ k. sym (j.parts k)) ∙ ordered list j.ascends
 
   pub are_joined : (list : List (Member A)) (q : Kind → List (Member A)) → Joins list q → AreJoined q
   are_joined list q j = subst (λ l. Joins l q) (sym (joined_is list q j)) j
@@ -236,9 +236,9 @@ module _ {A : Type 0} where
     parts = λ k. part_without k kind at xs ys (q k) m (same_kind k kind) is place (j.parts k) refl ∙ sym (h k);
   }
 
-  pub stands_there : (xs ys : List (Member A)) (m d : Member A) (kind : Kind) (at : ℕ) (q : Kind → List (Member A)) → Joins (xs ++ m ∷ ys) q → kind ≡ kind_of m.event → at ≡ length (of_kind kind xs)
+  pub is_first_there : (xs ys : List (Member A)) (m d : Member A) (kind : Kind) (at : ℕ) (q : Kind → List (Member A)) → Joins (xs ++ m ∷ ys) q → kind ≡ kind_of m.event → at ≡ length (of_kind kind xs)
       → (get_or (q kind) at d ≡ m) × (at < length (q kind))
-  stands_there xs ys m d kind at q j is place =
+  is_first_there xs ys m d kind at q j is place =
       let here = sym (j.parts kind) ∙ part_of kind xs ys m true (sym (ap (λ (z : Kind). same_kind kind z) is) ∙ itself kind) in
       let long = ap length here ∙ length-append (of_kind kind xs) (m ∷ of_kind kind ys) in
       ((λ i. get_or (here i) (place i) d) ∙ get_here (of_kind kind xs) (of_kind kind ys) m d, omega arith)
@@ -382,6 +382,14 @@ module _ {A : Type 0} where
     parts = λ k. part_behind k kind (place_of at k) (q k) after m (same_kind k kind) is refl (j.parts k) ∙ ap (λ (n : ℕ). drop n (q k)) (sym (places k));
   }
 
+  -- what is left behind the earliest member
+  pub left_of : (q : Kind → List (Member A)) (at to : Places) (f : Front A) → AreJoined (behind q at) → IsEarliest (behind q at) (has all_classes) all_kinds (Some f)
+      → ((k : Kind) → place_of to k ≡ cond (same_kind k f.kind) (place_of at k + 1) (place_of at k))
+      → (after : List (Member A)) × (joined (behind q at) ≡ f.member.now ∷ after) × Joins after (behind q to)
+  left_of q at to f j e places =
+      let first = first_of (joined (behind q at)) (behind q at) f j e in
+      (first.0.0, first.0.1, joins_behind q at to first.0.0 f.member.now f.kind (subst (λ l. Joins l (behind q at)) first.0.1 j) first.1 places)
+
   -- One more is done, with another order number or with its own.
   module _ (k kind : Kind) (done after : List (Member A)) (m n : Member A) (is : kind ≡ kind_of m.event) (same : kind_of n.event ≡ kind_of m.event) where
     same_as : (b : Bool) → same_kind k kind ≡ b → same_kind k (kind_of n.event) ≡ b
@@ -432,7 +440,7 @@ module _ {A : Type 0} where
               (λ k. r.parts k ∙ ap (λ (z : Kind). of_kind k w.before ++ cond (same_kind k z) (m ∷ of_kind k after) (of_kind k after)) (sym next.1)) places;
         }
 
-    pub walked_found : (f : Front A) (place : Place) → IsEarliest (behind q at) (has all_classes) all_kinds (Some f) → passes f.member.now ≡ true → place.kind ≡ f.kind → place.at ≡ place_of at f.kind → StandsAt passes q place
+    pub walked_found : (f : Front A) (place : Place) → IsEarliest (behind q at) (has all_classes) all_kinds (Some f) → passes f.member.now ≡ true → place.kind ≡ f.kind → place.at ≡ place_of at f.kind → IsFirstAt passes q place
     walked_found f place e passed kind at_is =
         let next = next_one q at w.before w.after w.reached f e in
         record {
@@ -450,26 +458,26 @@ module _ {A : Type 0} where
     walked_all e = subst (λ l. AllByRecursion (λ m. passes m ≡ false) l) (sym (w.order ∙ ap (λ l. w.before ++ l) (none_next q at w.before w.after w.reached e) ∙ append-nil w.before)) w.passed
 
   -- The earliest front of the classes of a filter is the first member that it admits.
-  module _ (wanted : Kind → Bool) (passes : Member A → Bool) (says : (m : Member A) → passes m ≡ wanted (kind_of m.event)) (q : Kind → List (Member A)) (at : Places) (j : AreJoined q) (z : (k : Kind) → place_of at k ≡ 0) where
+  module _ (wanted : Kind → Bool) (passes : Member A → Bool) (delivers : (m : Member A) → passes m ≡ wanted (kind_of m.event)) (q : Kind → List (Member A)) (at : Places) (j : AreJoined q) (z : (k : Kind) → place_of at k ≡ 0) where
     at_fronts : Joins (joined q) (behind q at)
     at_fronts = joins_same (joined q) q (behind q at) j (λ k. ap (λ (n : ℕ). drop n (q k)) (z k))
 
-    pub front_stands : (f : Front A) (place : Place) → IsEarliest (behind q at) wanted all_kinds (Some f) → place.kind ≡ f.kind → place.at ≡ 0 → StandsAt passes q place
-    front_stands f place e kind zero_is =
+    pub front_represents : (f : Front A) (place : Place) → IsEarliest (behind q at) wanted all_kinds (Some f) → place.kind ≡ f.kind → place.at ≡ 0 → IsFirstAt passes q place
+    front_represents f place e kind zero_is =
         let first = first_found wanted (joined q) (behind q at) f at_fronts e in
         record {
           before = first.before;
           member = f.member.now;
           after = first.after;
           order = first.order;
-          first = all_also (λ m. wanted (kind_of m.event) ≡ false) (λ m. passes m ≡ false) first.before (λ m h. says m ∙ h) first.first;
-          admitted = says f.member.now ∙ ap wanted (sym first.kind_is) ∙ e.0;
+          first = all_also (λ m. wanted (kind_of m.event) ≡ false) (λ m. passes m ≡ false) first.before (λ m h. delivers m ∙ h) first.first;
+          admitted = delivers f.member.now ∙ ap wanted (sym first.kind_is) ∙ e.0;
           kind = kind ∙ first.kind_is;
           at = zero_is ∙ sym (ap (λ (k : Kind). length (of_kind k first.before)) kind ∙ ap length first.none);
         }
 
     pub no_front : IsEarliest (behind q at) wanted all_kinds None → AllByRecursion (λ m. passes m ≡ false) (joined q)
-    no_front e = all_also (λ m. wanted (kind_of m.event) ≡ false) (λ m. passes m ≡ false) (joined q) (λ m h. says m ∙ h) (none_found wanted (joined q) (behind q at) at_fronts e)
+    no_front e = all_also (λ m. wanted (kind_of m.event) ≡ false) (λ m. passes m ≡ false) (joined q) (λ m h. delivers m ∙ h) (none_found wanted (joined q) (behind q at) at_fronts e)
 
   -- Members numbered anew.
   ascends_anew : (n : ℕ) (ms : List (Member A)) → Ascends (numbered_anew n ms)
@@ -581,15 +589,15 @@ module _ {A : Type 0} where
   part_fits q j k = let e = ap length (j.parts k) in let f = few_pass (λ x. same_kind k (kind_of x.event)) (joined q) in omega arith
 
   -- The member at a place that was found is taken out.
-  pub taken_out : (passes : Member A → Bool) (q p : Kind → List (Member A)) (place : Place) (r : Option (Member A)) → AreJoined q → StandsAt passes q place → (IsSome r ↔ (place.at < length (q place.kind)))
+  pub taken_out : (passes : Member A → Bool) (q p : Kind → List (Member A)) (place : Place) (r : Option (Member A)) → AreJoined q → IsFirstAt passes q place → (IsSome r ↔ (place.at < length (q place.kind)))
       → IfSome r (λ m. m ≡ get_or (q place.kind) place.at m) → IfSome r (λ _. (k : Kind) → p k ≡ cond (same_kind k place.kind) (remove (q k) place.at) (q k)) → Takes passes q p r
   taken_out passes q p place None j s some value parts =
-      let there = stands_there s.before s.after s.member s.member place.kind place.at q (subst (λ l. Joins l q) s.order j) s.kind s.at in
+      let there = is_first_there s.before s.after s.member s.member place.kind place.at q (subst (λ l. Joins l q) s.order j) s.kind s.at in
       let e = some.1 there.1 in
       absurd (cc)
   taken_out passes q p place (Some m) j s some value parts =
       let all = subst (λ l. Joins l q) s.order j in
-      let there = stands_there s.before s.after s.member m place.kind place.at q all s.kind s.at in
+      let there = is_first_there s.before s.after s.member m place.kind place.at q all s.kind s.at in
       let it : s.member ≡ m = sym (value ∙ there.0) in
       record {
         before = s.before;

@@ -15,7 +15,7 @@ pub mod Rising
 pub mod Runs
 pub mod Seating
 pub mod Sharing
-pub mod Shelving
+pub mod Storing
 pub mod Spelling
 pub mod Streaming
 pub mod Takes

@@ -6,10 +6,10 @@ use Rattle.std.specs.Prelude.{⊤}
 use Rattle.crossbeam_queue.specs.Fifo.{Pushes, Pops, Forks, Learns, Merges}
 use Rattle.crossbeam_queue.proofs.Lists.{at_set, set_here, set_else, set_again, at_longer}
 use Rattle.crossterm_read.specs.Answers.{SourceAnswer}
-use Rattle.crossterm_read.specs.Shelf.{ReaderState}
+use Rattle.crossterm_read.specs.Store.{ReaderState}
 use Rattle.crossterm_read.specs.History.{Entry, Known, Meeting, StartsWith, Runs, are_of, calls_by}
-use Rattle.crossterm_read.specs.Numbers.{IsOrderly}
-use Rattle.crossterm_read.specs.Slot.{newcomer, first_of, one_less, one_more, longer, taught, Fits, Nobody, Holder, Open, Kept, Taken, Brings, Put, Learnt}
+use Rattle.crossterm_read.specs.inside.Numbers.{IsOrderly}
+use Rattle.crossterm_read.specs.inside.Slot.{newcomer, first_of, one_less, one_more, longer, taught, Fits, Nobody, Holder, Open, Kept, Taken, Produces, Put, Learnt}
 use Rattle.crossterm_read.proofs.Histories.{runs_front, runs_snoc}
 use Rattle.crossterm_read.proofs.Seating.{off, some_of, none_not, calls_by-append, calls_by-mine, calls_by-other, below, at_end, some_at, are_snoc, are_more, are_front, none_past, none_more, same_or_not, starts_on, first_there, longer_starts, longer_ours, longer_theirs, longer_whole, longer_calls}
 
@@ -55,7 +55,7 @@ module _ {S : Type 0} (drawn : S → List SourceAnswer → S → Type 0) where
       (at_set views by 0 w u e)
 
   -- The slot of a reader that was opened just now.
-  opens_from : (x : ReaderState S) (others : ℕ) → IsOrderly x.shelf.held x.shelf.arrivals → x.shelf.arrivals < 2 ^ 64 → Open drawn (x ∷ []) (first_of x others others ∷ [])
+  opens_from : (x : ReaderState S) (others : ℕ) → IsOrderly x.store.held x.store.arrivals → x.store.arrivals < 2 ^ 64 → Open drawn (x ∷ []) (first_of x others others ∷ [])
   opens_from x others orderly fits = record {
     opening = x;
     passes = suc others;
@@ -86,7 +86,7 @@ module _ {S : Type 0} (drawn : S → List SourceAnswer → S → Type 0) where
       one F here (suc by) v e = absurd (some-ne-none v (sym e))
 
   -- The reader is put in by the first pass.
-  opens : (n by : ℕ) (v : Known S) (x : ReaderState S) (others : ℕ) → v ≡ newcomer → IsOrderly x.shelf.held x.shelf.arrivals → x.shelf.arrivals < 2 ^ 64 → Pushes (Kept drawn) n by v x (λ w. w ≡ first_of x others others)
+  opens : (n by : ℕ) (v : Known S) (x : ReaderState S) (others : ℕ) → v ≡ newcomer → IsOrderly x.store.held x.store.arrivals → x.store.arrivals < 2 ^ 64 → Pushes (Kept drawn) n by v x (λ w. w ≡ first_of x others others)
   opens n by v x others new orderly fits items views room (inl h) at =
       (first_of x others others, inr (subst (λ (is : List (ReaderState S)). Open drawn (is ++ x ∷ []) (set views by (first_of x others others))) (sym h.0) (here views by h.1 at)), refl)
     where
@@ -172,7 +172,7 @@ module _ {S : Type 0} (drawn : S → List SourceAnswer → S → Type 0) where
   not_has_of false n = refl
 
   -- Who has the reader puts it back, after one call from where it was taken.
-  puts_it : (n by : ℕ) (v : Known S) (x : ReaderState S) (made : ReaderState S → Entry → ReaderState S → Type 0) → Brings drawn made v x → Pushes (Kept drawn) n by v x (λ w. Put drawn made v x w)
+  puts_it : (n by : ℕ) (v : Known S) (x : ReaderState S) (made : ReaderState S → Entry → ReaderState S → Type 0) → Produces drawn made v x → Pushes (Kept drawn) n by v x (λ w. Put drawn made v x w)
   puts_it n by v x made b items views room kept at =
       let e : Entry = b.call in
       let h = known items views by v b.opening b.opened kept at in
@@ -412,14 +412,14 @@ module _ {S : Type 0} (drawn : S → List SourceAnswer → S → Type 0) where
       }
 
   -- What a put asks, a take, and the first put: both ways that each may answer.
-  pub puts_as : (n by : ℕ) (v : Known S) (x : ReaderState S) (made : ReaderState S → Entry → ReaderState S → Type 0) → Brings drawn made v x
+  pub puts_as : (n by : ℕ) (v : Known S) (x : ReaderState S) (made : ReaderState S → Entry → ReaderState S → Type 0) → Produces drawn made v x
       → Pushes (Kept drawn) n by v x (λ w. Put drawn made v x w) × Learns (Kept drawn) by v (λ items. items ≡ [])
   puts_as n by v x made b = (puts_it n by v x made b, has_room by v b.opening b.opened b.has)
 
   pub takes_as : (by : ℕ) (v : Known S) (o : ReaderState S) → v.opening ≡ Some o → Pops (Kept drawn) by v (λ x w. Taken drawn v x w) × Learns (Kept drawn) by v (λ items. ⊤)
   takes_as by v o is = (takes_it by v o is, λ items views kept at. tt)
 
-  pub opens_as : (n by : ℕ) (v : Known S) (x : ReaderState S) (others : ℕ) → v ≡ newcomer → IsOrderly x.shelf.held x.shelf.arrivals → x.shelf.arrivals < 2 ^ 64
+  pub opens_as : (n by : ℕ) (v : Known S) (x : ReaderState S) (others : ℕ) → v ≡ newcomer → IsOrderly x.store.held x.store.arrivals → x.store.arrivals < 2 ^ 64
       → Pushes (Kept drawn) n by v x (λ w. w ≡ first_of x others others) × Learns (Kept drawn) by v (λ items. items ≡ [])
   opens_as n by v x others new orderly fits = (opens n by v x others new orderly fits, room)
     where

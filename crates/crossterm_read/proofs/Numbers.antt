@@ -2,10 +2,10 @@
 use Rattle.std.proofs.Common.{◌≡◌, ℕ, zero, suc, ◌+◌, ◌<◌, ◌≤◌, Bool, List, [], ◌∷◌, ◌++◌, Option, Some, None, sym, subst, arith}
 use Rattle.std.specs.List.{AllByRecursion, remove}
 use Rattle.crossterm_types.specs.Seen.{Seen}
-use Rattle.crossterm_read.specs.Numbers.{Rise, IsLow, IsOrderly}
+use Rattle.crossterm_read.specs.Store.{IsLow, EventStore, Arrives, next_number}
+use Rattle.crossterm_read.specs.inside.Numbers.{Rise, IsOrderly}
 use Rattle.crossterm_read.specs.Answers.{Gave}
-use Rattle.crossterm_read.specs.Shelf.{Shelf, Arrives, next_number}
-use Rattle.crossterm_read.specs.Steps.{TakeSays}
+use Rattle.crossterm_read.specs.Steps.{TakeReplies}
 use Rattle.crossterm_read.proofs.Asking.{all_push}
 
 -- The number before a low one is low, and one less.
@@ -49,9 +49,9 @@ orderly_less : (held : List (Seen × ℕ)) (n i : ℕ) → IsOrderly held n → 
 orderly_less held n i h low = let s = h low in record { rise = rise_remove held i s.rise; below = all_remove (λ k. k.1 < n) held i s.below }
 
 -- What an answer and a take leave is orderly.
-pub orderly_arrives : (s t : Shelf) (x : Seen) → IsOrderly s.held s.arrivals → Arrives s (Gave x ∷ []) t → IsOrderly t.held t.arrivals
+pub orderly_arrives : (s t : EventStore) (x : Seen) → IsOrderly s.held s.arrivals → Arrives s (Gave x ∷ []) t → IsOrderly t.held t.arrivals
 orderly_arrives s t x o a = subst (λ (y : List (Seen × ℕ) × ℕ). IsOrderly y.0 y.1) (λ i. (sym a.held i, sym a.arrivals i)) (orderly_more s.held s.arrivals x o)
 
-pub orderly_takes : (f : Seen → Bool) (s t : Shelf) (x : Option (Seen × ℕ)) → IsOrderly s.held s.arrivals → TakeSays f s t x → IsOrderly t.held t.arrivals
-orderly_takes f s t None o h = subst (λ (y : Shelf). IsOrderly y.held y.arrivals) (sym h.1) o
-orderly_takes f s t (Some x) o h = subst (λ (y : Shelf). IsOrderly y.held y.arrivals) (sym h.3) (orderly_less s.held s.arrivals h.0 o)
+pub orderly_takes : (f : Seen → Bool) (s t : EventStore) (x : Option (Seen × ℕ)) → IsOrderly s.held s.arrivals → TakeReplies f s t x → IsOrderly t.held t.arrivals
+orderly_takes f s t None o h = subst (λ (y : EventStore). IsOrderly y.held y.arrivals) (sym h.1) o
+orderly_takes f s t (Some x) o h = subst (λ (y : EventStore). IsOrderly y.held y.arrivals) (sym h.3) (orderly_less s.held s.arrivals h.0 o)

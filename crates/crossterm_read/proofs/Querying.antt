@@ -16,22 +16,22 @@ use Rattle.crossterm_types.specs.Timing.{Reaches}
 use Rattle.crossterm_read.specs.Answers.{SourceAnswer, Failed}
 use Rattle.crossterm_read.specs.declared.read.reader.AtWake.TheVariants.{Stops}
 use Rattle.crossterm_read.specs.History.{last_of}
-use Rattle.crossterm_read.specs.Queries.{QuerySays, AfterReply, FlagsSay, LeftSays}
+use Rattle.crossterm_read.specs.Queries.{QueryReplies, AfterReply, FlagsReplies, LeftReplies}
 use Rattle.crossterm_read.specs.Replies.{Replied, ToPoll, ToTake, ToQuery, Fault, poll_reply}
-use Rattle.crossterm_read.specs.Shelf.{Shelf, ReaderState, kept}
-use Rattle.crossterm_read.specs.Steps.{first_admitted, Asks, held_already, came, broke, tried, refused, RefusedOnlyWithoutRoom, End, Ready, Tried, Broke, PollStep, PollSays, TakeSays}
+use Rattle.crossterm_read.specs.Store.{EventStore, ReaderState, kept}
+use Rattle.crossterm_read.specs.Steps.{first_admitted, Asks, held_already, came, broke, tried, refused, RefusedOnlyWithoutRoom, End, Ready, Tried, Broke, PollStep, PollReplies, TakeReplies}
 use Rattle.crossterm_read.specs.Waiting.{EndsWith, EndsWoken, TimedPoll, TimedQuery, TimedKeyboard}
 use Rattle.crossterm_read.proofs.Ready.{ready_there}
-use Rattle.crossterm_read.proofs.Waiting.{fault_of, kind_of}
+use Rattle.crossterm_read.proofs.Waiting.{asked_last, fault_of, kind_of}
 
 not_false : ToPoll true ≡ ToPoll false → ⊥
 not_false e = cc
 
 -- Where a poll was true an admitted event is held.
-pub polled_there : (f : Seen → Bool) (tries : ℕ) (s m : Shelf) (zs : List SourceAnswer) (r : Replied) → PollStep tries f zs s m r → r ≡ ToPoll true → first_admitted f m.held ≡ None → ⊥
+pub polled_there : (f : Seen → Bool) (tries : ℕ) (s m : EventStore) (zs : List SourceAnswer) (r : Replied) → PollStep tries f zs s m r → r ≡ ToPoll true → first_admitted f m.held ≡ None → ⊥
 polled_there f tries s m zs r p said none = by_end p.0 p.1 p.3
   where
-    by_end : (end : End) → Asks Stops f tries s.held zs end → PollSays end r → ⊥
+    by_end : (end : End) → Asks Stops f tries s.held zs end → PollReplies end r → ⊥
     by_end Ready a q = ready_there Stops f tries s m zs a p.2 none
     by_end Tried a q = absurd (not_false (sym said ∙ q))
     by_end (Broke kind) a (inl q) = absurd (not_false (sym said ∙ q.1))
@@ -41,15 +41,15 @@ polled_there f tries s m zs r p said none = by_end p.0 p.1 p.3
         fault_true kind e = cc
 
 -- What was taken is admitted.
-pub taken_admitted : (f : Seen → Bool) (s t : Shelf) (x : Seen × ℕ) → TakeSays f s t (Some x) → f x.0 ≡ true
+pub taken_admitted : (f : Seen → Bool) (s t : EventStore) (x : Seen × ℕ) → TakeReplies f s t (Some x) → f x.0 ≡ true
 taken_admitted f s t x h = let p = position-Some (λ e. f e.0) s.held h.0 x h.1 in subst (λ (e : Seen × ℕ). f e.0 ≡ true) h.2 p.1
 
-pub try_admitted : {A : Type 0} (f : Seen → Bool) (s t : Shelf) (r : Option (InternalEvent A × ℕ)) → TakeSays f s t (option_map kept r) → IfSome r (λ x. f (seen x.0) ≡ true)
+pub try_admitted : {A : Type 0} (f : Seen → Bool) (s t : EventStore) (r : Option (InternalEvent A × ℕ)) → TakeReplies f s t (option_map kept r) → IfSome r (λ x. f (seen x.0) ≡ true)
 try_admitted f s t (Some x) h = taken_admitted f s t (kept x) h
 try_admitted f s t None h = tt
 
 -- What a query took is admitted.
-pub query_admitted : (f : Seen → Bool) (p : Replied) (s t : Shelf) (x : Seen × ℕ) → QuerySays f p s t (ToTake (Some x)) → f x.0 ≡ true
+pub query_admitted : (f : Seen → Bool) (p : Replied) (s t : EventStore) (x : Seen × ℕ) → QueryReplies f p s t (ToTake (Some x)) → f x.0 ≡ true
 query_admitted f (ToPoll true) s t x h = subst (λ (e : Seen × ℕ). f e.0 ≡ true) (sym (same x h.0 h.2)) (taken_admitted f s t h.0 h.1)
   where
     same : (x y : Seen × ℕ) → ToTake (Some x) ≡ ToTake (Some y) → x ≡ y
@@ -106,38 +106,21 @@ take_fault e = absurd (cc)
 query_not : {x : Seen × ℕ} {y : Option (Seen × ℕ)} {kind : ErrorKind} → ToQuery x y ≡ Fault kind → ⊥
 query_not e = absurd (cc)
 
--- Where a fault broke asking, and it wasn't that memory was refused, it is the last answer.
-asked_broke : (f : Seen → Bool) (tries : ℕ) (held : List (Seen × ℕ)) (zs : List SourceAnswer) (kind : ErrorKind) → kind ≢ OutOfMemory → Asks Stops f tries held zs (Broke kind) → EndsWith kind zs
-asked_broke f tries held zs kind n (held_already is z e) = absurd (not_ready kind e)
-  where
-    not_ready : (kind : ErrorKind) → Broke kind ≡ Ready → ⊥
-    not_ready kind e = cc
-asked_broke f tries held zs kind n (came none ys x z p g l e) = absurd (not_ready kind e)
-  where
-    not_ready : (kind : ErrorKind) → Broke kind ≡ Ready → ⊥
-    not_ready kind e = cc
-asked_broke f tries held zs kind n (broke none ys k z p o l e) = (ys, z ∙ ap (λ (x : ErrorKind). ys ++ Failed x ∷ []) (sym (kind_of kind k e)))
-asked_broke f tries held zs kind n (tried none p l e) = absurd (not_tried kind e)
-  where
-    not_tried : (kind : ErrorKind) → Broke kind ≡ Tried → ⊥
-    not_tried kind e = cc
-asked_broke f tries held zs kind n (refused none p l e) = absurd (n (kind_of kind OutOfMemory e))
-
 module _ {S : Type 0} (drawn : S → List SourceAnswer → S → Type 0) where
   -- A poll in time, and what is then taken, are a query in time.
-  pub timed_query : (f : Seen → Bool) (limit : Option Duration) (before after : ℕ) (s m t : ReaderState S) (p r : Replied) → TimedPoll drawn f limit before after s m p → QuerySays f p m.shelf t.shelf r → t.source ≡ m.source
+  pub timed_query : (f : Seen → Bool) (limit : Option Duration) (before after : ℕ) (s m t : ReaderState S) (p r : Replied) → TimedPoll drawn f limit before after s m p → QueryReplies f p m.store t.store r → t.source ≡ m.source
       → TimedQuery drawn f limit before after s t r
-  timed_query f limit before after s m t p r d says same = record {
+  timed_query f limit before after s m t p r d delivers same = record {
     tries = d.tries;
     answers = d.answers;
     drawn_so = subst (λ (y : S). drawn s.source d.answers y) (sym same) d.drawn_so;
-    step = (m.shelf, p, d.step, says);
-    memory = memory_of p d.memory says;
-    patient = patient_of p d.patient d.step says;
-    begun = λ none. ⊎_elim (λ n. inl n) (λ e. inr (memory_reply p e says)) (d.begun none);
+    step = (m.store, p, d.step, delivers);
+    memory = memory_of p d.memory delivers;
+    patient = patient_of p d.patient d.step delivers;
+    begun = λ none. ⊎_elim (λ n. inl n) (λ e. inr (memory_reply p e delivers)) (d.begun none);
   }
     where
-      memory_of : (p : Replied) → ((kind : ErrorKind) → p ≡ Fault kind → RefusedOnlyWithoutRoom s.room d.answers kind) → QuerySays f p m.shelf t.shelf r → (kind : ErrorKind) → r ≡ Fault kind → RefusedOnlyWithoutRoom s.room d.answers kind
+      memory_of : (p : Replied) → ((kind : ErrorKind) → p ≡ Fault kind → RefusedOnlyWithoutRoom s.room d.answers kind) → QueryReplies f p m.store t.store r → (kind : ErrorKind) → r ≡ Fault kind → RefusedOnlyWithoutRoom s.room d.answers kind
       memory_of (ToPoll true) h q kind e = absurd (take_fault (sym q.2 ∙ e))
       memory_of (ToPoll false) h q kind e = λ oom. absurd (other_memory (fault_of Other kind (sym q.1 ∙ e) ∙ oom))
         where
@@ -147,7 +130,7 @@ module _ {S : Type 0} (drawn : S → List SourceAnswer → S → Type 0) where
       memory_of (ToQuery x y) h q kind e = absurd q
       memory_of (Fault k) h q kind e = h kind (sym q.1 ∙ e)
 
-      patient_of : (p : Replied) → (p ≡ ToPoll false → EndsWoken d.answers ⊎ Reaches limit (after - before)) → PollStep d.tries f d.answers s.shelf m.shelf p → QuerySays f p m.shelf t.shelf r
+      patient_of : (p : Replied) → (p ≡ ToPoll false → EndsWoken d.answers ⊎ Reaches limit (after - before)) → PollStep d.tries f d.answers s.store m.store p → QueryReplies f p m.store t.store r
           → r ≡ Fault Other → EndsWoken d.answers ⊎ EndsWith Other d.answers ⊎ Reaches limit (after - before)
       patient_of (ToPoll true) h step q e = absurd (take_fault (sym q.2 ∙ e))
       patient_of (ToPoll false) h step q e = ⊎_elim (λ w. inl w) (λ l. inr (inr l)) (h refl)
@@ -164,15 +147,15 @@ module _ {S : Type 0} (drawn : S → List SourceAnswer → S → Type 0) where
           ready_fault : (b : Bool) → Fault k ≡ ToPoll b → ⊥
           ready_fault b e = cc
 
-          by_end : (end : End) → Asks Stops f d.tries s.shelf.held d.answers end → PollSays end (Fault k) → EndsWoken d.answers ⊎ EndsWith Other d.answers ⊎ Reaches limit (after - before)
-          by_end Ready a says = absurd (ready_fault true says)
-          by_end Tried a says = absurd (ready_fault false says)
-          by_end (Broke kind) a (inl says) = absurd (ready_fault false says.1)
-          by_end (Broke kind) a (inr says) =
-              let same : kind ≡ Other = sym (fault_of k kind says.1) ∙ is_other in
-              inr (inl (subst (λ x. EndsWith x d.answers) same (asked_broke f d.tries s.shelf.held d.answers kind (λ m. other_memory (sym same ∙ m)) a)))
+          by_end : (end : End) → Asks Stops f d.tries s.store.held d.answers end → PollReplies end (Fault k) → EndsWoken d.answers ⊎ EndsWith Other d.answers ⊎ Reaches limit (after - before)
+          by_end Ready a delivers = absurd (ready_fault true delivers)
+          by_end Tried a delivers = absurd (ready_fault false delivers)
+          by_end (Broke kind) a (inl delivers) = absurd (ready_fault false delivers.1)
+          by_end (Broke kind) a (inr delivers) =
+              let same : kind ≡ Other = sym (fault_of k kind delivers.1) ∙ is_other in
+              inr (inl (subst (λ x. EndsWith x d.answers) same (asked_last Stops f d.tries s.store.held d.answers kind (λ m. other_memory (sym same ∙ m)) a)))
 
-      memory_reply : (p : Replied) → p ≡ Fault OutOfMemory → QuerySays f p m.shelf t.shelf r → r ≡ Fault OutOfMemory
+      memory_reply : (p : Replied) → p ≡ Fault OutOfMemory → QueryReplies f p m.store t.store r → r ≡ Fault OutOfMemory
       memory_reply (ToPoll b) e q = absurd (poll_fault e)
         where
           poll_fault : ToPoll b ≡ Fault OutOfMemory → ⊥
@@ -182,13 +165,13 @@ module _ {S : Type 0} (drawn : S → List SourceAnswer → S → Type 0) where
       memory_reply (Fault k) e q = q.1 ∙ e
 
   -- A query whose answer is the keyboard query's own.
-  pub keyboard_alone : (limit : Option Duration) (before after : ℕ) (s t : ReaderState S) (r : Replied) → TimedQuery drawn is_flags_reply limit before after s t r → FlagsSay 0 [] r t.shelf t.shelf r → TimedKeyboard drawn limit before after s t r
-  keyboard_alone limit before after s t r q says = record {
+  pub keyboard_alone : (limit : Option Duration) (before after : ℕ) (s t : ReaderState S) (r : Replied) → TimedQuery drawn is_flags_reply limit before after s t r → FlagsReplies 0 [] r t.store t.store r → TimedKeyboard drawn limit before after s t r
+  keyboard_alone limit before after s t r q delivers = record {
     tries = q.tries;
     again = 0;
     answers = q.answers;
     drawn_so = q.drawn_so;
-    step = (q.answers, [], t.shelf, r, sym (append-nil q.answers), q.step, says);
+    step = (q.answers, [], t.store, r, sym (append-nil q.answers), q.step, delivers);
     memory = q.memory;
     patient = q.patient;
     begun = q.begun;
@@ -196,14 +179,14 @@ module _ {S : Type 0} (drawn : S → List SourceAnswer → S → Type 0) where
 
   -- After the flags it waits for the attributes.
   pub keyboard_flags : ((s t u : S) (xs ys : List SourceAnswer) → drawn s xs t → drawn t ys u → drawn s (xs ++ ys) u) → (limit again : Option Duration) (before mid start after : ℕ) (s m n t : ReaderState S) (x : Seen × ℕ) (y : Option (Seen × ℕ)) (p : Replied) (flags : KeyboardEnhancementFlags)
-      → x.0 ≡ KeyboardFlags flags → TimedQuery drawn is_flags_reply limit before mid s m (ToTake (Some x)) → TimedPoll drawn is_attributes again start after m n p → LeftSays p x n.shelf t.shelf (ToQuery x y) → t.source ≡ n.source
+      → x.0 ≡ KeyboardFlags flags → TimedQuery drawn is_flags_reply limit before mid s m (ToTake (Some x)) → TimedPoll drawn is_attributes again start after m n p → LeftReplies p x n.store t.store (ToQuery x y) → t.source ≡ n.source
       → TimedKeyboard drawn limit before after s t (ToQuery x y)
-  keyboard_flags on limit again before mid start after s m n t x y p flags is q d says same = record {
+  keyboard_flags on limit again before mid start after s m n t x y p flags is q d delivers same = record {
     tries = q.tries;
     again = d.tries;
     answers = q.answers ++ d.answers;
     drawn_so = subst (λ (z : S). drawn s.source (q.answers ++ d.answers) z) (sym same) (on s.source m.source n.source q.answers d.answers q.drawn_so d.drawn_so);
-    step = (q.answers, d.answers, m.shelf, ToTake (Some x), refl, q.step, subst (λ (z : Seen). AfterReply d.tries d.answers z x m.shelf t.shelf (ToQuery x y)) (sym is) (n.shelf, p, d.step, says));
+    step = (q.answers, d.answers, m.store, ToTake (Some x), refl, q.step, subst (λ (z : Seen). AfterReply d.tries d.answers z x m.store t.store (ToQuery x y)) (sym is) (n.store, p, d.step, delivers));
     memory = λ kind e. absurd (query_not e);
     patient = λ e. absurd (query_not e);
     begun = λ none. inl (λ nil. ⊎_elim (λ some. some (nil_front q.answers d.answers nil)) (λ e. take_fault e) (q.begun none));

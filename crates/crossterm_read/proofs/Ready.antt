@@ -9,7 +9,7 @@ use Rattle.std.proofs.lemmas.Bool.Decides.{nat_tests}
 use Rattle.crossterm_types.specs.Seen.{Seen}
 use Rattle.crossterm_read.specs.Answers.{SourceAnswer, Gave}
 use Rattle.crossterm_read.specs.declared.read.reader.AtWake.{AtWake}
-use Rattle.crossterm_read.specs.Shelf.{Shelf, Arrives, arrived, numbered_after}
+use Rattle.crossterm_read.specs.Store.{EventStore, Arrives, arrived, numbered_after}
 use Rattle.crossterm_read.specs.Steps.{first_admitted, Asks, held_already, came, broke, tried, refused, Ready, Tried, Broke}
 use Rattle.crossterm_read.proofs.Asking.{arrived-append}
 
@@ -30,7 +30,7 @@ last_admitted f xs x n e none =
     some_not e = absurd (cc)
 
 -- So it is after asking that found one.
-pub ready_there : (wake : AtWake) (f : Seen → Bool) (tries : ℕ) (s m : Shelf) (zs : List SourceAnswer) → Asks wake f tries s.held zs Ready → Arrives s zs m → first_admitted f m.held ≡ None → ⊥
+pub ready_there : (wake : AtWake) (f : Seen → Bool) (tries : ℕ) (s m : EventStore) (zs : List SourceAnswer) → Asks wake f tries s.held zs Ready → Arrives s zs m → first_admitted f m.held ≡ None → ⊥
 ready_there wake f tries s m zs (held_already h z e) a none =
     let same : m.held ≡ s.held = a.held ∙ ap (λ (l : List SourceAnswer). s.held ++ arrived s.arrivals l) z ∙ append-nil s.held in
     true≢false (sym h ∙ ap is_some (sym (ap (first_admitted f) same) ∙ none))

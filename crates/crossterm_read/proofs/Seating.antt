@@ -3,7 +3,7 @@ use Rattle.std.proofs.Common.{◌≡◌, ◌≢◌, ◌⊎◌, ℕ, zero, suc, �
 use mathlib.Core.Option.{some, some-ne-none}
 use lib.ListN.{get_elem?}
 use Rattle.crossterm_read.specs.History.{Entry, StartsWith, are_of, calls_by}
-use Rattle.crossterm_read.specs.Slot.{longer}
+use Rattle.crossterm_read.specs.inside.Slot.{longer}
 
 pub off : false ≡ true → ⊥
 off e = true≢false (sym e)

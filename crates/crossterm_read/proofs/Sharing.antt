@@ -4,12 +4,13 @@ use Rattle.std.specs.Prelude.{is_some, IfSome, IfNone, IfErr, IfOk}
 use Rattle.std.specs.List.{range_with_len}
 use Rattle.std.specs.declared.io.Error.{Error}
 use Rattle.crossterm_read.specs.Answers.{SourceAnswer}
-use Rattle.crossterm_read.specs.Shelf.{ReaderState}
+use Rattle.crossterm_read.specs.Store.{ReaderState}
 use Rattle.crossterm_read.specs.History.{Entry, Known, Sits, Runs, Extends, EachOnce, opened, Meets, Closes, calls_by, last_of, last_from}
-use Rattle.crossterm_read.specs.Numbers.{IsOrderly}
+use Rattle.crossterm_read.specs.inside.Numbers.{IsOrderly}
 use Rattle.crossterm_read.specs.Calls.{Request, Step}
 use Rattle.crossterm_read.specs.Entries.{IsPoll, IsPosition, IsKeyboard}
-use Rattle.crossterm_read.specs.Replies.{Replied, Fault, ToTake, Came, Faulted, poll_reply, read_reply, read_said, try_reply, last_said, last_tried, shown}
+use Rattle.crossterm_read.specs.Replies.{Replied, Fault, ToTake, Came, Faulted, poll_reply, read_said, shown}
+use Rattle.crossterm_read.specs.inside.Replies.{read_reply, try_reply, last_said, last_tried}
 use Rattle.crossterm_types.specs.Admitting.{admitted, is_cursor_position}
 use Rattle.crossterm_types.specs.Seen.{Seen, seen}
 use Rattle.crossterm_types.specs.declared.event.filter.AnyFilter.{AnyFilter}
@@ -18,7 +19,7 @@ use Rattle.crossterm_types.specs.declared.event.InternalEvent.{InternalEvent}
 use Rattle.std.specs.IoError.{error_kind}
 use Rattle.std.specs.declared.io.ErrorKind.{ErrorKind}
 use Rattle.crossterm_read.proofs.Waiting.{fault_of, timed_longer, query_longer, board_longer}
-use Rattle.crossterm_read.specs.Slot.{Taken, Put, Brings, Learnt, first_of, one_more, taught}
+use Rattle.crossterm_read.specs.inside.Slot.{Taken, Put, Produces, Learnt, first_of, one_more, taught}
 use Rattle.crossterm_read.proofs.EachOnce.{each_once}
 use Rattle.crossterm_read.proofs.Histories.{runs_snoc, not_fewer}
 use Rattle.crossterm_read.proofs.Seating.{off, some_of, calls_by-append, calls_by-mine, are_snoc}
@@ -67,11 +68,11 @@ module _ {S : Type 0} (drawn : S → List SourceAnswer → S → Type 0) where
   }
 
   -- What a put asks, after a take and one call.
-  pub brings : (made : ReaderState S → Entry → ReaderState S → Type 0) (v u : Known S) (x y : ReaderState S) → Taken drawn v x u → (call : Request) (answers : List SourceAnswer) (r : Replied)
-      → made x (record { by = u.number; call = call; answers = answers; reply = r }) y → drawn x.source answers y.source → Step call answers x.shelf y.shelf r → Brings drawn made u y
-  brings made v u x y t call answers r such d step = subst (λ (k : Known S). k.number ≡ u.number → Brings drawn made k y) (sym t.after) of_taken refl
+  pub produces : (made : ReaderState S → Entry → ReaderState S → Type 0) (v u : Known S) (x y : ReaderState S) → Taken drawn v x u → (call : Request) (answers : List SourceAnswer) (r : Replied)
+      → made x (record { by = u.number; call = call; answers = answers; reply = r }) y → drawn x.source answers y.source → Step call answers x.store y.store r → Produces drawn made u y
+  produces made v u x y t call answers r such d step = subst (λ (k : Known S). k.number ≡ u.number → Produces drawn made k y) (sym t.after) of_taken refl
     where
-      of_taken : v.number ≡ u.number → Brings drawn made (record v { seen = v.seen ++ t.between; has = true }) y
+      of_taken : v.number ≡ u.number → Produces drawn made (record v { seen = v.seen ++ t.between; has = true }) y
       of_taken same = record {
         opening = t.opening;
         found = x;
@@ -94,7 +95,7 @@ module _ {S : Type 0} (drawn : S → List SourceAnswer → S → Type 0) where
           let log : List Entry = (v.seen ++ t.between) ++ b.call ∷ [] in
           let ran : Runs drawn b.opening log y = runs_snoc drawn b.opening b.found y (v.seen ++ t.between) b.call b.runs b.makes in
           let same : t.opening ≡ b.opening = some_of _ _ (sym t.opened ∙ b.opened) in
-          let orderly : IsOrderly b.opening.shelf.held b.opening.shelf.arrivals = subst (λ (o : ReaderState S). IsOrderly o.shelf.held o.shelf.arrivals) same t.orderly in
+          let orderly : IsOrderly b.opening.store.held b.opening.store.arrivals = subst (λ (o : ReaderState S). IsOrderly o.store.held o.store.arrivals) same t.orderly in
           let after : w ≡ record v { seen = log; mine = v.mine ++ b.call ∷ [] } = q.1 ∙ ap (λ (h : Bool). record v { seen = log; mine = v.mine ++ b.call ∷ []; has = h }) (sym idle) in
           record {
             opening = b.opening;
@@ -109,7 +110,7 @@ module _ {S : Type 0} (drawn : S → List SourceAnswer → S → Type 0) where
             makes = b.makes;
             others = t.others;
             after = after;
-            fresh = not_fewer drawn b.opening b.found v.seen t.between (subst (λ (o : ReaderState S). o.shelf.arrivals < 2 ^ 64) same t.fits) b.runs;
+            fresh = not_fewer drawn b.opening b.found v.seen t.between (subst (λ (o : ReaderState S). o.store.arrivals < 2 ^ 64) same t.fits) b.runs;
             each_once = subst (λ (k : Known S). EachOnce b.opening k.seen y) (sym after) (each_once drawn b.opening y log orderly ran);
           }
 

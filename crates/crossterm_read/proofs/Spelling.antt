@@ -1,4 +1,4 @@
--- What a source answers is told by its device's words.
+-- What a source answers comes of its device's answers.
 use Rattle.std.proofs.Common.{◌≡◌, ◌≢◌, ℕ, Bool, List, [], ◌∷◌, ◌++◌, map, refl, ap, sym, subst, ◌∙◌, append-nil, append_assoc}
 use Rattle.std.proofs.lemmas.List.Elements.{filter_map-append}
 use Rattle.std.specs.List.{filter_map}
@@ -7,70 +7,64 @@ use Rattle.crossterm_parse.specs.declared.marked.Marked.{Marked}
 use Rattle.crossterm_types.specs.Seen.{Seen}
 use Rattle.crossterm_parse.specs.Grammar.{Whole}
 use Rattle.crossterm_parse.specs.Meaning.{meaning_of}
-use Rattle.crossterm_parse.specs.Division.{Divides, IsUndecided, OneDivision, SomeDivision}
+use Rattle.crossterm_parse.specs.Division.{Divides, IsUndecided, UniqueDivision, SomeDivision}
 use Rattle.crossterm_parse.proofs.DivisionLaws as laws
 use Rattle.crossterm_parse.proofs.GrammarLaws.{nil_not_whole, whole_closes, whole_or_not}
 use Rattle.crossterm_read.specs.Answers.{SourceAnswer, Gave, Nothing, Failed}
-use Rattle.crossterm_read.specs.Device.{Word, Bytes, Resized, Woken, Idle, Fault, told_bytes}
-use Rattle.crossterm_parse.specs.Standing.{Stands}
-use Rattle.crossterm_read.specs.Scripted.{Tells, ScriptLeft, ScriptTells}
-use Rattle.crossterm_read.specs.Turns.{Source, at, SourceDrawn}
-use Rattle.crossterm_read.specs.Turns.{At, Takes, GivesFirst, Turn, waited, again, fresh, other, Turns, Answers}
-use Rattle.crossterm_read.specs.Blocks.{Block, Ended, Single, Brings, Happens, Says, SaysAll, Told}
+use Rattle.crossterm_read.specs.Device.{DeviceAnswer, Bytes, Resized, Woken, Idle, Fault, marked_bytes}
+use Rattle.crossterm_parse.specs.View.{Represents}
+use Rattle.crossterm_read.specs.Scripted.{AnswersWith, ScriptLeft, ScriptTells}
+use Rattle.crossterm_read.specs.Outcomes.{IsAnsweredBy, Outcome, Ended, Single, Produces, Happens, Delivers, DeliversAll, Answered}
+use Rattle.crossterm_read.specs.inside.Turns.{Source, at, SourceDrawn, At, Takes, GivesFirst, Turn, waited, again, fresh, other, Turns}
 
-one : OneDivision Whole
-one = laws.one_division Whole nil_not_whole whole_closes
+one : UniqueDivision Whole
+one = laws.unique_division Whole nil_not_whole whole_closes
 
 some : SomeDivision Whole
 some = laws.some_division Whole nil_not_whole whole_or_not
 
--- the events of the block that is open
+-- the events of the outcome that is open
 abbrev current : List Seen → List (List Marked) → List Seen
 current waiting parts = waiting ++ filter_map meaning_of parts
 
 undivided : (before : List Marked) (parts : List (List Marked)) (rest : List Marked) → IsUndecided Whole before → Divides Whole (before ++ []) parts rest → (parts ≡ []) × (rest ≡ before)
 undivided before parts rest u d = one (before ++ []) parts [] rest before d (record { joined = append-nil before; whole = tt; undecided = u })
 
--- The answers go on so: what is left of the open block, and then the blocks of the words.
-record Spells (waiting : List Seen) (untaken : List Marked) (es : List Seen) (rest : List Marked) (ws : List Word) (xs : List SourceAnswer) : Type 0 where
-  blocks : List Block
+-- The answers go on so: what is left of the open outcome, of which this holds, and then the outcomes of the device's answers.
+record Spelled (P : List SourceAnswer → Type 0) (es : List Seen) (rest : List Marked) (ws : List DeviceAnswer) (xs : List SourceAnswer) : Type 0 where
+  outcomes : List Outcome
   after : List Marked
   more : List SourceAnswer
   front : List SourceAnswer
   others : List SourceAnswer
-  happens : Happens rest ws blocks after
+  happens : Happens rest ws outcomes after
   joined : xs ++ more ≡ front ++ others
-  says : Says es front
-  says_all : SaysAll blocks others
-  going : untaken ≢ [] → front ≢ []
-  closed : waiting ≡ [] → untaken ≡ [] → front ≡ []
+  delivers : Delivers es front
+  delivers_all : DeliversAll outcomes others
+  so : P front
 
-record Begun (es : List Seen) (rest : List Marked) (ws : List Word) (xs : List SourceAnswer) : Type 0 where
-  blocks : List Block
-  after : List Marked
-  more : List SourceAnswer
-  front : List SourceAnswer
-  others : List SourceAnswer
-  happens : Happens rest ws blocks after
-  joined : xs ++ more ≡ front ++ others
-  says : Says es front
-  says_all : SaysAll blocks others
-  begun : front ≢ []
+-- Some of it is left where bytes are untaken, and none where nothing waits either.
+abbrev Spells : List Seen → List Marked → List Seen → List Marked → List DeviceAnswer → List SourceAnswer → Type 0
+Spells waiting untaken = Spelled (λ front. (untaken ≢ [] → front ≢ []) × (waiting ≡ [] → untaken ≡ [] → front ≡ []))
+
+-- Some of it is left.
+abbrev Begun : List Seen → List Marked → List DeviceAnswer → List SourceAnswer → Type 0
+Begun = Spelled (λ front. front ≢ [])
 
 cons_not_nil : {X : Type 0} (x : X) (xs : List X) → x ∷ xs ≢ []
 cons_not_nil x xs e = cc
 
-says_gave : (es : List Seen) → Says es (map Gave es)
-says_gave [] = tt
-says_gave (e ∷ es) = (refl, says_gave es)
+delivers_gave : (es : List Seen) → Delivers es (map Gave es)
+delivers_gave [] = tt
+delivers_gave (e ∷ es) = (refl, delivers_gave es)
 
-says_gave_nothing : (es : List Seen) → Says es (map Gave es ++ Nothing ∷ [])
-says_gave_nothing [] = refl
-says_gave_nothing (e ∷ es) = (refl, says_gave_nothing es)
+delivers_gave_nothing : (es : List Seen) → Delivers es (map Gave es ++ Nothing ∷ [])
+delivers_gave_nothing [] = refl
+delivers_gave_nothing (e ∷ es) = (refl, delivers_gave_nothing es)
 
-says_refused : (es : List Seen) (front : List SourceAnswer) → front ≢ [] → Says es front → Says es (Failed OutOfMemory ∷ front)
-says_refused [] front n s = (refl, n, s)
-says_refused (e ∷ es) front n s = (refl, n, s)
+delivers_refused : (es : List Seen) (front : List SourceAnswer) → front ≢ [] → Delivers es front → Delivers es (Failed OutOfMemory ∷ front)
+delivers_refused [] front n s = (refl, n, s)
+delivers_refused (e ∷ es) front n s = (refl, n, s)
 
 push_not_nil : (xs : List SourceAnswer) → xs ++ Nothing ∷ [] ≢ []
 push_not_nil [] e = cc
@@ -82,34 +76,32 @@ map_nil es e = ap (map Gave) e
 -- nothing more was answered
 spell_none : (waiting : List Seen) (untaken : List Marked) (es : List Seen) (rest : List Marked) → (waiting ≡ [] → untaken ≡ [] → es ≡ []) → Spells waiting untaken es rest [] []
 spell_none waiting [] es rest n = record {
-  blocks = [];
+  outcomes = [];
   after = rest;
   more = map Gave es;
   front = map Gave es;
   others = [];
   happens = refl;
   joined = sym (append-nil (map Gave es));
-  says = says_gave es;
-  says_all = refl;
-  going = λ h. absurd (h refl);
-  closed = λ w u. map_nil es (n w u);
+  delivers = delivers_gave es;
+  delivers_all = refl;
+  so = (λ h. absurd (h refl), λ w u. map_nil es (n w u));
 }
 spell_none waiting (m ∷ ms) es rest n = record {
-  blocks = [];
+  outcomes = [];
   after = rest;
   more = map Gave es ++ Nothing ∷ [];
   front = map Gave es ++ Nothing ∷ [];
   others = [];
   happens = refl;
   joined = sym (append-nil (map Gave es ++ Nothing ∷ []));
-  says = says_gave_nothing es;
-  says_all = refl;
-  going = λ h. push_not_nil (map Gave es);
-  closed = λ w u. absurd (cons_not_nil m ms u);
+  delivers = delivers_gave_nothing es;
+  delivers_all = refl;
+  so = (λ h. push_not_nil (map Gave es), λ w u. absurd (cons_not_nil m ms u));
 }
 
 -- The parser took some bytes, and the first event was given, or none.
-begin : (w : List Seen) (u before : List Marked) (m : At) (x : SourceAnswer) (ws : List Word) (xs : List SourceAnswer) (parts : List (List Marked)) (rest : List Marked)
+begin : (w : List Seen) (u before : List Marked) (m : At) (x : SourceAnswer) (ws : List DeviceAnswer) (xs : List SourceAnswer) (parts : List (List Marked)) (rest : List Marked)
     → IsUndecided Whole before → Divides Whole (before ++ u) parts rest → GivesFirst w (record { waiting = w; untaken = u; undecided = before }) x m
     → ((ps : List (List Marked)) (r : List Marked) → Divides Whole (m.undecided ++ m.untaken) ps r → Spells m.waiting m.untaken (current m.waiting ps) r ws xs)
     → Begun (current w parts) rest ws (x ∷ xs)
@@ -117,47 +109,47 @@ begin (e ∷ es) u before m x ws xs parts rest h d g more =
     let s : Spells es u (current es parts) rest ws xs = subst
     (λ (y : At). (ps : List (List Marked)) (r : List Marked) → Divides Whole (y.undecided ++ y.untaken) ps r → Spells y.waiting y.untaken (current y.waiting ps) r ws xs) g.1 more parts rest d in
     record {
-      blocks = s.blocks;
+      outcomes = s.outcomes;
       after = s.after;
       more = s.more;
       front = x ∷ s.front;
       others = s.others;
       happens = s.happens;
       joined = ap (λ (l : List SourceAnswer). x ∷ l) s.joined;
-      says = subst (λ (y : SourceAnswer). Says (e ∷ current es parts) (y ∷ s.front)) (sym g.0) (refl, s.says);
-      says_all = s.says_all;
-      begun = cons_not_nil x s.front;
+      delivers = subst (λ (y : SourceAnswer). Delivers (e ∷ current es parts) (y ∷ s.front)) (sym g.0) (refl, s.delivers);
+      delivers_all = s.delivers_all;
+      so = cons_not_nil x s.front;
     }
 begin [] [] before m x ws xs parts rest h d g more =
     let s : Spells [] [] (current [] parts) rest ws xs = subst
     (λ (y : At). (ps : List (List Marked)) (r : List Marked) → Divides Whole (y.undecided ++ y.untaken) ps r → Spells y.waiting y.untaken (current y.waiting ps) r ws xs) g.1 more parts rest d in
     let none = undivided before parts rest h d in
     record {
-      blocks = s.blocks;
+      outcomes = s.outcomes;
       after = s.after;
       more = s.more;
       front = Nothing ∷ [];
       others = s.others;
       happens = s.happens;
-      joined = ap (λ (y : SourceAnswer). y ∷ (xs ++ s.more)) g.0 ∙ ap (λ (l : List SourceAnswer). Nothing ∷ l) (s.joined ∙ ap (λ (l : List SourceAnswer). l ++ s.others) (s.closed refl refl));
-      says = subst (λ (l : List (List Marked)). Says (current [] l) (Nothing ∷ [])) (sym none.0) refl;
-      says_all = s.says_all;
-      begun = cons_not_nil Nothing [];
+      joined = ap (λ (y : SourceAnswer). y ∷ (xs ++ s.more)) g.0 ∙ ap (λ (l : List SourceAnswer). Nothing ∷ l) (s.joined ∙ ap (λ (l : List SourceAnswer). l ++ s.others) (s.so.1 refl refl));
+      delivers = subst (λ (l : List (List Marked)). Delivers (current [] l) (Nothing ∷ [])) (sym none.0) refl;
+      delivers_all = s.delivers_all;
+      so = cons_not_nil Nothing [];
     }
 begin [] (k ∷ ks) before m x ws xs parts rest h d g more =
     let s : Spells [] (k ∷ ks) (current [] parts) rest ws xs = subst
     (λ (y : At). (ps : List (List Marked)) (r : List Marked) → Divides Whole (y.undecided ++ y.untaken) ps r → Spells y.waiting y.untaken (current y.waiting ps) r ws xs) g.1 more parts rest d in
     record {
-      blocks = s.blocks;
+      outcomes = s.outcomes;
       after = s.after;
       more = s.more;
       front = Failed OutOfMemory ∷ s.front;
       others = s.others;
       happens = s.happens;
       joined = ap (λ (y : SourceAnswer). y ∷ (xs ++ s.more)) g.0 ∙ ap (λ (l : List SourceAnswer). Failed OutOfMemory ∷ l) s.joined;
-      says = says_refused (current [] parts) s.front (s.going (cons_not_nil k ks)) s.says;
-      says_all = s.says_all;
-      begun = cons_not_nil (Failed OutOfMemory) s.front;
+      delivers = delivers_refused (current [] parts) s.front (s.so.0 (cons_not_nil k ks)) s.delivers;
+      delivers_all = s.delivers_all;
+      so = cons_not_nil (Failed OutOfMemory) s.front;
     }
 
 -- Two takes are one.
@@ -172,35 +164,34 @@ current_on : (mid : At) (before bytes : List Marked) (parts others : List (List 
 current_on mid before bytes parts others t e =
     ap (λ (l : List Seen). l ++ filter_map meaning_of others) t.waiting ∙ sym (filter_map-append meaning_of t.parts others) ∙ ap (filter_map meaning_of) (sym e)
 
-brings_single : (before : List Marked) (w : Word) (x : SourceAnswer) → Answers w x → Brings before w (Single x) before
-brings_single before (Bytes [] raw) x a = (a, refl)
-brings_single before (Bytes (b ∷ bs) raw) x a = absurd a
-brings_single before (Resized columns rows) x a = (a, refl)
-brings_single before Woken x a = (a, refl)
-brings_single before Idle x a = (a, refl)
-brings_single before (Fault kind) x a = (a, refl)
+produces_single : (before : List Marked) (w : DeviceAnswer) (x : SourceAnswer) → IsAnsweredBy w x → Produces before w (Single x) before
+produces_single before (Bytes [] raw) x a = (a, refl)
+produces_single before (Bytes (b ∷ bs) raw) x a = absurd a
+produces_single before (Resized columns rows) x a = (a, refl)
+produces_single before Woken x a = (a, refl)
+produces_single before Idle x a = (a, refl)
+produces_single before (Fault kind) x a = (a, refl)
 
 -- what the next answers are, from each state
-abbrev Next : At → List Word → List SourceAnswer → Type 0
+abbrev Next : At → List DeviceAnswer → List SourceAnswer → Type 0
 Next m ws xs = (ps : List (List Marked)) (r : List Marked) → Divides Whole (m.undecided ++ m.untaken) ps r → Spells m.waiting m.untaken (current m.waiting ps) r ws xs
 
-module _ (p m : At) (vs : List Word) (x : SourceAnswer) (xs : List SourceAnswer) where
+module _ (p m : At) (vs : List DeviceAnswer) (x : SourceAnswer) (xs : List SourceAnswer) where
   next_waited : (e : Seen) → p.waiting ≡ e ∷ m.waiting → m.untaken ≡ p.untaken → m.undecided ≡ p.undecided → x ≡ Gave e → Next m vs xs → Next p vs (x ∷ xs)
   next_waited e w u n g next ps r d =
       let d' : Divides Whole (m.undecided ++ m.untaken) ps r = subst (λ (l : List Marked). Divides Whole l ps r) (ap (λ (l : List Marked). l ++ p.untaken) (sym n) ∙ ap (λ (l : List Marked). m.undecided ++ l) (sym u)) d in
       let s = next ps r d' in
       record {
-        blocks = s.blocks;
+        outcomes = s.outcomes;
         after = s.after;
         more = s.more;
         front = Gave e ∷ s.front;
         others = s.others;
         happens = s.happens;
         joined = ap (λ (y : SourceAnswer). y ∷ (xs ++ s.more)) g ∙ ap (λ (l : List SourceAnswer). Gave e ∷ l) s.joined;
-        says = subst (λ (l : List Seen). Says (current l ps) (Gave e ∷ s.front)) (sym w) (refl, s.says);
-        says_all = s.says_all;
-        going = λ h. cons_not_nil (Gave e) s.front;
-        closed = λ a b. absurd (cons_not_nil e m.waiting (sym w ∙ a));
+        delivers = subst (λ (l : List Seen). Delivers (current l ps) (Gave e ∷ s.front)) (sym w) (refl, s.delivers);
+        delivers_all = s.delivers_all;
+        so = (λ h. cons_not_nil (Gave e) s.front, λ a b. absurd (cons_not_nil e m.waiting (sym w ∙ a)));
       }
 
   next_again : (mid : At) → p.waiting ≡ [] → p.untaken ≢ [] → Takes p.undecided p.untaken mid → GivesFirst mid.waiting mid x m → Next m vs xs → Next p vs (x ∷ xs)
@@ -210,112 +201,109 @@ module _ (p m : At) (vs : List Word) (x : SourceAnswer) (xs : List SourceAnswer)
       let b = begin mid.waiting mid.untaken mid.undecided m x vs xs o.0 o.1 t.division.undecided o.2 g next in
       let same : current mid.waiting o.0 ≡ current p.waiting ps = current_on mid p.undecided p.untaken ps o.0 t both.0 ∙ ap (λ (l : List Seen). l ++ filter_map meaning_of ps) (sym w) in
       record {
-        blocks = b.blocks;
+        outcomes = b.outcomes;
         after = b.after;
         more = b.more;
         front = b.front;
         others = b.others;
-        happens = subst (λ (l : List Marked). Happens l vs b.blocks b.after) (sym both.1) b.happens;
+        happens = subst (λ (l : List Marked). Happens l vs b.outcomes b.after) (sym both.1) b.happens;
         joined = b.joined;
-        says = subst (λ (l : List Seen). Says l b.front) same b.says;
-        says_all = b.says_all;
-        going = λ h. b.begun;
-        closed = λ a c. absurd (u c);
+        delivers = subst (λ (l : List Seen). Delivers l b.front) same b.delivers;
+        delivers_all = b.delivers_all;
+        so = (λ h. b.so, λ a c. absurd (u c));
       }
 
-  next_fresh : (bytes : List ℕ) (raw : Bool) (mid : At) → p.waiting ≡ [] → p.untaken ≡ [] → IsUndecided Whole p.undecided → bytes ≢ [] → Takes p.undecided (told_bytes bytes raw) mid → GivesFirst mid.waiting mid x m
+  next_fresh : (bytes : List ℕ) (raw : Bool) (mid : At) → p.waiting ≡ [] → p.untaken ≡ [] → IsUndecided Whole p.undecided → bytes ≢ [] → Takes p.undecided (marked_bytes bytes raw) mid → GivesFirst mid.waiting mid x m
       → Next m vs xs → Next p (Bytes bytes raw ∷ vs) (x ∷ xs)
   next_fresh [] raw mid w u h n t g next ps r d = absurd (n refl)
   next_fresh (k ∷ ks) raw mid w u h n t g next ps r d =
       let none = undivided p.undecided ps r h (subst (λ (l : List Marked). Divides Whole (p.undecided ++ l) ps r) u d) in
       let o = some (mid.undecided ++ mid.untaken) in
-      let all = some (p.undecided ++ told_bytes (k ∷ ks) raw) in
-      let both = taken_on p.undecided (told_bytes (k ∷ ks) raw) mid all.0 o.0 all.1 o.1 t all.2 o.2 in
+      let all = some (p.undecided ++ marked_bytes (k ∷ ks) raw) in
+      let both = taken_on p.undecided (marked_bytes (k ∷ ks) raw) mid all.0 o.0 all.1 o.1 t all.2 o.2 in
       let b = begin mid.waiting mid.untaken mid.undecided m x vs xs o.0 o.1 t.division.undecided o.2 g next in
-      let same = current_on mid p.undecided (told_bytes (k ∷ ks) raw) all.0 o.0 t both.0 in
+      let same = current_on mid p.undecided (marked_bytes (k ∷ ks) raw) all.0 o.0 t both.0 in
       record {
-        blocks = Ended (current mid.waiting o.0) ∷ b.blocks;
+        outcomes = Ended (current mid.waiting o.0) ∷ b.outcomes;
         after = b.after;
         more = b.more;
         front = [];
         others = x ∷ (xs ++ b.more);
         happens = (
           o.1,
-          subst (λ (l : List Marked). Brings l (Bytes (k ∷ ks) raw) (Ended (current mid.waiting o.0)) o.1) (sym none.1) (all.0, subst (λ (l : List Marked). Divides Whole (p.undecided ++ told_bytes (k ∷ ks) raw) all.0 l) both.1 all.2, same),
+          subst (λ (l : List Marked). Produces l (Bytes (k ∷ ks) raw) (Ended (current mid.waiting o.0)) o.1) (sym none.1) (all.0, subst (λ (l : List Marked). Divides Whole (p.undecided ++ marked_bytes (k ∷ ks) raw) all.0 l) both.1 all.2, same),
           b.happens,
         );
         joined = refl;
-        says = subst (λ (l : List Seen). Says l []) (sym (ap (λ (l : List Seen). l ++ filter_map meaning_of ps) w ∙ ap (λ (l : List (List Marked)). filter_map meaning_of l) none.0)) tt;
-        says_all = (b.front, b.others, b.joined, b.begun, b.says, b.says_all);
-        going = λ a. absurd (a u);
-        closed = λ a c. refl;
+        delivers = subst (λ (l : List Seen). Delivers l []) (sym (ap (λ (l : List Seen). l ++ filter_map meaning_of ps) w ∙ ap (λ (l : List (List Marked)). filter_map meaning_of l) none.0)) tt;
+        delivers_all = (b.front, b.others, b.joined, b.so, b.delivers, b.delivers_all);
+        so = (λ a. absurd (a u), λ a c. refl);
       }
 
-  next_other : (w : Word) → p.waiting ≡ [] → p.untaken ≡ [] → IsUndecided Whole p.undecided → Answers w x → m ≡ p → Next m vs xs → Next p (w ∷ vs) (x ∷ xs)
+  next_other : (w : DeviceAnswer) → p.waiting ≡ [] → p.untaken ≡ [] → IsUndecided Whole p.undecided → IsAnsweredBy w x → m ≡ p → Next m vs xs → Next p (w ∷ vs) (x ∷ xs)
   next_other w wt u h a e next ps r d =
       let none = undivided p.undecided ps r h (subst (λ (l : List Marked). Divides Whole (p.undecided ++ l) ps r) u d) in
       let s = subst (λ (y : At). (ps : List (List Marked)) (r : List Marked) → Divides Whole (y.undecided ++ y.untaken) ps r → Spells y.waiting y.untaken (current y.waiting ps) r vs xs) e next ps r d in
       record {
-        blocks = Single x ∷ s.blocks;
+        outcomes = Single x ∷ s.outcomes;
         after = s.after;
         more = s.more;
         front = [];
         others = x ∷ (xs ++ s.more);
-        happens = (r, brings_single r w x a, s.happens);
+        happens = (r, produces_single r w x a, s.happens);
         joined = refl;
-        says = subst (λ (l : List Seen). Says l []) (sym (ap (λ (l : List Seen). l ++ filter_map meaning_of ps) wt ∙ ap (λ (l : List (List Marked)). filter_map meaning_of l) none.0)) tt;
-        says_all = (xs ++ s.more, refl, subst (λ (l : List SourceAnswer). SaysAll s.blocks l) (sym (s.joined ∙ ap (λ (l : List SourceAnswer). l ++ s.others) (s.closed wt u))) s.says_all);
-        going = λ b. absurd (b u);
-        closed = λ b c. refl;
+        delivers = subst (λ (l : List Seen). Delivers l []) (sym (ap (λ (l : List Seen). l ++ filter_map meaning_of ps) wt ∙ ap (λ (l : List (List Marked)). filter_map meaning_of l) none.0)) tt;
+        delivers_all = (xs ++ s.more, refl, subst (λ (l : List SourceAnswer). DeliversAll s.outcomes l) (sym (s.joined ∙ ap (λ (l : List SourceAnswer). l ++ s.others) (s.so.1 wt u))) s.delivers_all);
+        so = (λ b. absurd (b u), λ b c. refl);
       }
 
 gives_undecided : (w : List Seen) (mid m : At) (x : SourceAnswer) → IsUndecided Whole mid.undecided → GivesFirst w mid x m → IsUndecided Whole m.undecided
 gives_undecided [] mid m x h g = subst (λ (y : At). IsUndecided Whole y.undecided) (sym g.1) h
 gives_undecided (e ∷ es) mid m x h g = subst (λ (y : At). IsUndecided Whole y.undecided) (sym g.1) h
 
-turn_undecided : (p m : At) (us : List Word) (x : SourceAnswer) → IsUndecided Whole p.undecided → Turn p us x m → IsUndecided Whole m.undecided
+turn_undecided : (p m : At) (us : List DeviceAnswer) (x : SourceAnswer) → IsUndecided Whole p.undecided → Turn p us x m → IsUndecided Whole m.undecided
 turn_undecided p m us x h (waited e w u n ws g) = subst (λ (l : List Marked). IsUndecided Whole l) (sym n) h
 turn_undecided p m us x h (again mid w u ws t g) = gives_undecided mid.waiting mid m x t.division.undecided g
 turn_undecided p m us x h (fresh bytes raw mid w u n ws t g) = gives_undecided mid.waiting mid m x t.division.undecided g
 turn_undecided p m us x h (other w wt u ws a e) = subst (λ (y : At). IsUndecided Whole y.undecided) (sym e) h
 
-next_turn : (p m : At) (us vs : List Word) (x : SourceAnswer) (xs : List SourceAnswer) → IsUndecided Whole p.undecided → Turn p us x m → Next m vs xs → Next p (us ++ vs) (x ∷ xs)
-next_turn p m us vs x xs h (waited e w u n ws g) next = subst (λ (l : List Word). Next p (l ++ vs) (x ∷ xs)) (sym ws) (next_waited p m vs x xs e w u n g next)
-next_turn p m us vs x xs h (again mid w u ws t g) next = subst (λ (l : List Word). Next p (l ++ vs) (x ∷ xs)) (sym ws) (next_again p m vs x xs mid w u t g next)
-next_turn p m us vs x xs h (fresh bytes raw mid w u n ws t g) next = subst (λ (l : List Word). Next p (l ++ vs) (x ∷ xs)) (sym ws) (next_fresh p m vs x xs bytes raw mid w u h n t g next)
-next_turn p m us vs x xs h (other w wt u ws a e) next = subst (λ (l : List Word). Next p (l ++ vs) (x ∷ xs)) (sym ws) (next_other p m vs x xs w wt u h a e next)
+next_turn : (p m : At) (us vs : List DeviceAnswer) (x : SourceAnswer) (xs : List SourceAnswer) → IsUndecided Whole p.undecided → Turn p us x m → Next m vs xs → Next p (us ++ vs) (x ∷ xs)
+next_turn p m us vs x xs h (waited e w u n ws g) next = subst (λ (l : List DeviceAnswer). Next p (l ++ vs) (x ∷ xs)) (sym ws) (next_waited p m vs x xs e w u n g next)
+next_turn p m us vs x xs h (again mid w u ws t g) next = subst (λ (l : List DeviceAnswer). Next p (l ++ vs) (x ∷ xs)) (sym ws) (next_again p m vs x xs mid w u t g next)
+next_turn p m us vs x xs h (fresh bytes raw mid w u n ws t g) next = subst (λ (l : List DeviceAnswer). Next p (l ++ vs) (x ∷ xs)) (sym ws) (next_fresh p m vs x xs bytes raw mid w u h n t g next)
+next_turn p m us vs x xs h (other w wt u ws a e) next = subst (λ (l : List DeviceAnswer). Next p (l ++ vs) (x ∷ xs)) (sym ws) (next_other p m vs x xs w wt u h a e next)
 
 next_none : (p : At) → IsUndecided Whole p.undecided → Next p [] []
 next_none p h ps r d = spell_none p.waiting p.untaken (current p.waiting ps) r (λ w u.
     let none = undivided p.undecided ps r h (subst (λ (l : List Marked). Divides Whole (p.undecided ++ l) ps r) u d) in
     ap (λ (l : List Seen). l ++ filter_map meaning_of ps) w ∙ ap (λ (l : List (List Marked)). filter_map meaning_of l) none.0)
 
-next_all : (p q : At) (ws : List Word) (xs : List SourceAnswer) → IsUndecided Whole p.undecided → Turns p ws xs q → Next p ws xs
-next_all p q ws [] h t = subst (λ (l : List Word). Next p l []) (sym t.0) (next_none p h)
-next_all p q ws (x ∷ xs) h t = subst (λ (l : List Word). Next p l (x ∷ xs)) (sym t.3)
+next_all : (p q : At) (ws : List DeviceAnswer) (xs : List SourceAnswer) → IsUndecided Whole p.undecided → Turns p ws xs q → Next p ws xs
+next_all p q ws [] h t = subst (λ (l : List DeviceAnswer). Next p l []) (sym t.0) (next_none p h)
+next_all p q ws (x ∷ xs) h t = subst (λ (l : List DeviceAnswer). Next p l (x ∷ xs)) (sym t.3)
     (next_turn p t.2 t.0 t.1 x xs h t.4 (next_all t.2 q t.1 xs (turn_undecided p t.2 t.0 x h t.4) t.5))
 
 nil_undecided : IsUndecided Whole []
 nil_undecided = laws.nil_undecided Whole nil_not_whole
 
--- What a source answers from its beginning on is told by the words that its device had.
-pub told_of : (q : At) (words ws left : List Word) (xs : List SourceAnswer) → Tells words ws left → Turns (record { waiting = []; untaken = []; undecided = [] }) ws xs q → Told words xs
-told_of q words ws left xs t turns =
+-- What a source answers from its beginning on comes of the answers that its device had.
+pub answered_of : (q : At) (device_answers ws left : List DeviceAnswer) (xs : List SourceAnswer) → AnswersWith device_answers ws left → Turns (record { waiting = []; untaken = []; undecided = [] }) ws xs q → Answered device_answers xs
+answered_of q device_answers ws left xs t turns =
     let s : Spells [] [] [] [] ws xs = next_all (record { waiting = []; untaken = []; undecided = [] }) q ws xs nil_undecided turns [] [] (record { joined = refl; whole = tt; undecided = nil_undecided }) in
     record {
-      told = ws;
+      answered = ws;
       left = left;
-      blocks = s.blocks;
+      outcomes = s.outcomes;
       undecided = s.after;
       more = s.more;
-      tells = t;
+      answering = t;
       happens = s.happens;
-      says = subst (λ (l : List SourceAnswer). SaysAll s.blocks l) (sym (s.joined ∙ ap (λ (l : List SourceAnswer). l ++ s.others) (s.closed refl refl))) s.says_all;
+      delivers = subst (λ (l : List SourceAnswer). DeliversAll s.outcomes l) (sym (s.joined ∙ ap (λ (l : List SourceAnswer). l ++ s.others) (s.so.1 refl refl))) s.delivers_all;
     }
 
 -- What a source over a script answers from its beginning on is told by the script.
-pub script_told : (s t : Source ScriptLeft) (xs : List SourceAnswer) → s.parser.waiting ≡ [] → Stands s.parser [] → s.untaken ≡ [] → SourceDrawn ScriptTells s xs t → Told s.device.left xs
-script_told s t xs w h u d =
+pub script_answered : (s t : Source ScriptLeft) (xs : List SourceAnswer) → s.parser.waiting ≡ [] → Represents s.parser [] → s.untaken ≡ [] → SourceDrawn ScriptTells s xs t → Answered s.device.left xs
+script_answered s t xs w h u d =
     let r = d.2 [] h nil_undecided in
     let same : at s [] ≡ record { waiting = []; untaken = []; undecided = [] } = λ i. record { waiting = w i; untaken = u i; undecided = [] } in
-    told_of (at t r.0) s.device.left d.0 t.device.left xs d.1.0 (subst (λ (y : At). Turns y d.0 xs (at t r.0)) same r.3)
+    answered_of (at t r.0) s.device.left d.0 t.device.left xs d.1.0 (subst (λ (y : At). Turns y d.0 xs (at t r.0)) same r.3)

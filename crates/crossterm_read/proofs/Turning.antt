@@ -7,59 +7,60 @@ use Rattle.crossterm_types.specs.Seen.{Seen}
 use Rattle.crossterm_parse.specs.Division.{Divides}
 use Rattle.crossterm_parse.specs.Grammar.{Whole}
 use Rattle.crossterm_parse.specs.Meaning.{meaning_of}
-use Rattle.crossterm_parse.specs.Standing.{Standing, StandsStill, AdvancesOver, EndsNoEvent}
+use Rattle.crossterm_parse.specs.View.{ParserView, RepresentsSame, AdvancesOver, EndsNoEvent}
 use Rattle.crossterm_read.specs.Answers.{SourceAnswer, Gave, Failed}
 use Rattle.std.specs.declared.io.ErrorKind.TheVariants.{OutOfMemory}
 use Rattle.std.proofs.Math.Seq.{drop-nil}
 use Rattle.std.proofs.lemmas.List.{drop_all, drop-take, length-take-le}
-use Rattle.crossterm_parse.proofs.StandingLaws.{length-marked}
-use Rattle.crossterm_read.specs.Device.{Word, Bytes, told_bytes}
-use Rattle.crossterm_read.specs.Turns.{Takes, GivesFirst, without_event, waited, again, fresh, other, Answers, Source, at, SourceDrawn, Hands}
+use Rattle.crossterm_parse.proofs.ViewLaws.{length-marked}
+use Rattle.crossterm_read.specs.Device.{DeviceAnswer, Bytes, marked_bytes}
+use Rattle.crossterm_read.specs.Outcomes.{IsAnsweredBy}
+use Rattle.crossterm_read.specs.inside.Turns.{Takes, GivesFirst, without_event, waited, again, fresh, other, Source, at, SourceDrawn, Hands}
 
-module _ {D : Type 0} (told : D → List Word → D → Type 0) where
-  from_inside : (i s t : Source D) (xs : List SourceAnswer) → i ≡ s → SourceDrawn told i xs t → SourceDrawn told s xs t
-  from_inside i s t xs e d = subst (λ (y : Source D). SourceDrawn told y xs t) e d
+module _ {D : Type 0} (answered : D → List DeviceAnswer → D → Type 0) where
+  from_inside : (i s t : Source D) (xs : List SourceAnswer) → i ≡ s → SourceDrawn answered i xs t → SourceDrawn answered s xs t
+  from_inside i s t xs e d = subst (λ (y : Source D). SourceDrawn answered y xs t) e d
 
-  pub other_turn : (i s : Source D) (new : Standing) (left : List Marked) (d : D) (w : Word) (x : SourceAnswer) → i ≡ s → i.parser.waiting ≡ [] → new.waiting ≡ [] → i.untaken ≡ [] → left ≡ []
-      → StandsStill i.parser new → told i.device (w ∷ []) d → Answers w x → SourceDrawn told s (x ∷ []) (record { parser = new; untaken = left; device = d })
+  pub other_turn : (i s : Source D) (new : ParserView) (left : List Marked) (d : D) (w : DeviceAnswer) (x : SourceAnswer) → i ≡ s → i.parser.waiting ≡ [] → new.waiting ≡ [] → i.untaken ≡ [] → left ≡ []
+      → RepresentsSame i.parser new → answered i.device (w ∷ []) d → IsAnsweredBy w x → SourceDrawn answered s (x ∷ []) (record { parser = new; untaken = left; device = d })
   other_turn i s new left d w x e ws wt us ut st h a = from_inside i s (record { parser = new; untaken = left; device = d }) (x ∷ []) e (
     w ∷ [],
     h,
-    λ before stands undecided.
+    λ before represents undecided.
         let same : at (record { parser = new; untaken = left; device = d }) before ≡ at i before = λ j. record { waiting = (wt ∙ sym ws) j; untaken = (ut ∙ sym us) j; undecided = before } in
-        (before, st before stands, undecided, (w ∷ [], [], at (record { parser = new; untaken = left; device = d }) before, refl, other w ws us refl a same, (refl, refl))),
+        (before, st before represents, undecided, (w ∷ [], [], at (record { parser = new; untaken = left; device = d }) before, refl, other w ws us refl a same, (refl, refl))),
   )
 
-  pub waited_turn : ((s : D) → told s [] s) → (i s : Source D) (new : Standing) (left : List Marked) (d : D) (e : Seen) → i ≡ s → i.parser.waiting ≡ e ∷ new.waiting → left ≡ i.untaken
-      → StandsStill i.parser new → d ≡ i.device → SourceDrawn told s (Gave e ∷ []) (record { parser = new; untaken = left; device = d })
+  pub waited_turn : ((s : D) → answered s [] s) → (i s : Source D) (new : ParserView) (left : List Marked) (d : D) (e : Seen) → i ≡ s → i.parser.waiting ≡ e ∷ new.waiting → left ≡ i.untaken
+      → RepresentsSame i.parser new → d ≡ i.device → SourceDrawn answered s (Gave e ∷ []) (record { parser = new; untaken = left; device = d })
   waited_turn law i s new left d e p w u st h = from_inside i s (record { parser = new; untaken = left; device = d }) (Gave e ∷ []) p (
     [],
-    subst (λ (x : D). told i.device [] x) (sym h) (law i.device),
-    λ before stands undecided. (
+    subst (λ (x : D). answered i.device [] x) (sym h) (law i.device),
+    λ before represents undecided. (
       before,
-      st before stands,
+      st before represents,
       undecided,
       ([], [], at (record { parser = new; untaken = left; device = d }) before, refl, waited e w u refl refl refl, (refl, refl)),
     ),
   )
 
-  pub again_turn : ((s : D) → told s [] s) → (i s : Source D) (m : Standing) (ml : List Marked) (md : D) (t : Source D) (x : SourceAnswer) → i ≡ s → i.parser.waiting ≡ [] → i.untaken ≢ [] → ml ≡ i.untaken
-      → StandsStill i.parser m → t.device ≡ i.device → Hands (record { parser = m; untaken = ml; device = md }) x t → SourceDrawn told s (x ∷ []) t
+  pub again_turn : ((s : D) → answered s [] s) → (i s : Source D) (m : ParserView) (ml : List Marked) (md : D) (t : Source D) (x : SourceAnswer) → i ≡ s → i.parser.waiting ≡ [] → i.untaken ≢ [] → ml ≡ i.untaken
+      → RepresentsSame i.parser m → t.device ≡ i.device → Hands (record { parser = m; untaken = ml; device = md }) x t → SourceDrawn answered s (x ∷ []) t
   again_turn law i s m ml md t x p w u mu st d h = from_inside i s t (x ∷ []) p (
     [],
-    subst (λ (y : D). told i.device [] y) (sym d) (law i.device),
-    λ before stands undecided.
-        let f = h before (st before stands) undecided in
+    subst (λ (y : D). answered i.device [] y) (sym d) (law i.device),
+    λ before represents undecided.
+        let f = h before (st before represents) undecided in
         (f.0, f.2, f.3, ([], [], at t f.0, refl, again f.1 w u refl (subst (λ (l : List Marked). Takes before l f.1) mu f.4) f.5, (refl, refl))),
   )
 
-  pub fresh_turn : (i s : Source D) (m : Standing) (ml : List Marked) (md : D) (t : Source D) (bytes : List ℕ) (raw : Bool) (x : SourceAnswer) → i ≡ s → i.parser.waiting ≡ [] → i.untaken ≡ [] → bytes ≢ [] → ml ≡ told_bytes bytes raw
-      → StandsStill i.parser m → told i.device (Bytes bytes raw ∷ []) t.device → Hands (record { parser = m; untaken = ml; device = md }) x t → SourceDrawn told s (x ∷ []) t
+  pub fresh_turn : (i s : Source D) (m : ParserView) (ml : List Marked) (md : D) (t : Source D) (bytes : List ℕ) (raw : Bool) (x : SourceAnswer) → i ≡ s → i.parser.waiting ≡ [] → i.untaken ≡ [] → bytes ≢ [] → ml ≡ marked_bytes bytes raw
+      → RepresentsSame i.parser m → answered i.device (Bytes bytes raw ∷ []) t.device → Hands (record { parser = m; untaken = ml; device = md }) x t → SourceDrawn answered s (x ∷ []) t
   fresh_turn i s m ml md t bytes raw x p w u b mu st d h = from_inside i s t (x ∷ []) p (
     Bytes bytes raw ∷ [],
     d,
-    λ before stands undecided.
-        let f = h before (st before stands) undecided in
+    λ before represents undecided.
+        let f = h before (st before represents) undecided in
         (f.0, f.2, f.3, (Bytes bytes raw ∷ [], [], at t f.0, refl, fresh bytes raw f.1 w u b refl (subst (λ (l : List Marked). Takes before l f.1) mu f.4) f.5, (refl, refl))),
   )
 
@@ -88,17 +89,17 @@ taken_whole : (n : ℕ) (rest : List ℕ) (more raw : Bool) → n ≡ length res
 taken_whole n rest more raw h = ap (λ (l : List ℕ). marked l more raw) (drop_all n rest (omega arith))
 
 -- a front was taken, and then the first event given
-pub hands_next : {D : Type 0} (i s : Source D) (m new : Standing) (left : List Marked) (d : D) (n : ℕ) (rest : List ℕ) (more raw : Bool) (x : SourceAnswer) → i ≡ s
+pub hands_next : {D : Type 0} (i s : Source D) (m new : ParserView) (left : List Marked) (d : D) (n : ℕ) (rest : List ℕ) (more raw : Bool) (x : SourceAnswer) → i ≡ s
     → s.parser.waiting ≡ [] → i.untaken ≡ marked rest more raw → n ≤ length rest → left ≡ marked (drop n rest) more raw
-    → AdvancesOver i.parser m (take n (marked rest more raw)) → (EndsNoEvent i.parser (marked rest more raw) → n ≡ length rest) → StandsStill m new
+    → AdvancesOver i.parser m (take n (marked rest more raw)) → (EndsNoEvent i.parser (marked rest more raw) → n ≡ length rest) → RepresentsSame m new
     → ((after : List Marked) → GivesFirst m.waiting (record { waiting = m.waiting; untaken = left; undecided = after }) x (record { waiting = new.waiting; untaken = left; undecided = after }))
     → Hands s x (record { parser = new; untaken = left; device = d })
 hands_next {D} i s m new left d n rest more raw x e w u h v a whole st gives =
-    let done : Hands i x (record { parser = new; untaken = left; device = d }) = λ before stands undecided.
-    let adv = a before stands undecided in (
+    let done : Hands i x (record { parser = new; untaken = left; device = d }) = λ before represents undecided.
+    let adv = a before represents undecided in (
       adv.rest,
       record { waiting = m.waiting; untaken = left; undecided = adv.rest },
-      st adv.rest adv.stands,
+      st adv.rest adv.represents,
       adv.division.undecided,
       record {
         taken = take n (marked rest more raw);
@@ -106,7 +107,7 @@ hands_next {D} i s m new left d n rest more raw x e w u h v a whole st gives =
         cut = u ∙ marked_split n rest more raw h ∙ ap (λ (l : List Marked). take n (marked rest more raw) ++ l) (sym v);
         division = adv.division;
         waiting = adv.given ∙ ap (λ (l : List Seen). l ++ filter_map meaning_of adv.parts) (ap (λ (y : Source D). y.parser.waiting) e ∙ w);
-        quiet = λ q. v ∙ taken_whole n rest more raw (whole (before, q.0, q.1, stands, undecided, subst (λ (l : List Marked). Divides Whole (before ++ l) q.0 q.1) u q.2, q.3, q.4));
+        quiet = λ q. v ∙ taken_whole n rest more raw (whole (before, q.0, q.1, represents, undecided, subst (λ (l : List Marked). Divides Whole (before ++ l) q.0 q.1) u q.2, q.3, q.4));
       },
       gives adv.rest,
     ) in
@@ -140,10 +141,10 @@ without_some [] h = absurd (h refl)
 without_some (m ∷ ms) h = refl
 
 -- a buffer that was just told is told whole
-pub just_told : (n : ℕ) (buffer : List ℕ) (raw : Bool) → n ≤ length buffer → marked (take (n - 0) buffer) (n == 1024) raw ≡ told_bytes (take n buffer) raw
-just_told n buffer raw h =
+pub just_answered : (n : ℕ) (buffer : List ℕ) (raw : Bool) → n ≤ length buffer → marked (take (n - 0) buffer) (n == 1024) raw ≡ marked_bytes (take n buffer) raw
+just_answered n buffer raw h =
     let e : n - 0 ≡ n = omega arith in
     ap (λ (k : ℕ). marked (take k buffer) (n == 1024) raw) e ∙ ap (λ (k : ℕ). marked (take n buffer) (k == 1024) raw) (sym (length-take-le n buffer h))
 
-pub told_some : (n : ℕ) (buffer : List ℕ) → n ≤ length buffer → n ≢ 0 → take n buffer ≢ []
-told_some n buffer h k e = let l = ap length e in let m = length-take-le n buffer h in k (omega arith)
+pub answered_some : (n : ℕ) (buffer : List ℕ) → n ≤ length buffer → n ≢ 0 → take n buffer ≢ []
+answered_some n buffer h k e = let l = ap length e in let m = length-take-le n buffer h in k (omega arith)

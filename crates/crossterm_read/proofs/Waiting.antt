@@ -16,9 +16,10 @@ use Rattle.crossterm_read.specs.Device.{AsksEach, IsAtOnce}
 use Rattle.crossterm_read.specs.declared.read.reader.AtWake.{AtWake}
 use Rattle.crossterm_read.specs.declared.read.reader.AtWake.TheVariants.{Stops, GoesOn}
 use Rattle.crossterm_read.specs.Replies.{Replied, ToPoll, ToTake, Fault}
-use Rattle.crossterm_read.specs.Shelf.{ReaderState}
-use Rattle.crossterm_read.specs.Steps.{first_admitted, Asks, held_already, came, broke, tried, refused, End, Ready, Tried, Broke, Asked, ReadStep, RefusedOnlyWithoutRoom, TakeSays, end_of}
-use Rattle.crossterm_read.specs.Waiting.{AskedInTime, AsksInTime, EndsWoken, TimedPoll, TimedQuery, TimedKeyboard, WasLeft}
+use Rattle.crossterm_read.specs.Store.{ReaderState}
+use Rattle.crossterm_read.specs.Steps.{first_admitted, Asks, held_already, came, broke, tried, refused, End, Ready, Tried, Broke, ReadStep, RefusedOnlyWithoutRoom, TakeReplies}
+use Rattle.crossterm_read.specs.inside.Asking.{Asked, end_of, AskedInTime, AsksInTime}
+use Rattle.crossterm_read.specs.Waiting.{EndsWith, EndsWoken, TimedPoll, TimedQuery, TimedKeyboard, WasLeft}
 use Rattle.crossterm_read.proofs.Asking.{asks_more}
 use Rattle.crossterm_read.proofs.Ready.{ready_there}
 
@@ -78,22 +79,26 @@ asked_begun wake f tries held zs end h (refused n p l e) none = inr e
 pub kind_of : (k l : ErrorKind) → Broke k ≡ Broke l → k ≡ l
 kind_of k l e = cc
 
--- Where a wake-up broke asking it is the last answer.
-asked_woken : (f : Seen → Bool) (tries : ℕ) (held : List (Seen × ℕ)) (zs : List SourceAnswer) (kind : ErrorKind) → kind ≡ Interrupted → Asks Stops f tries held zs (Broke kind) → EndsWoken zs
-asked_woken f tries held zs kind w (held_already is z e) = absurd (not_ready kind e)
+-- Where a fault broke asking, and it wasn't that memory was refused, it is the last answer.
+pub asked_last : (wake : AtWake) (f : Seen → Bool) (tries : ℕ) (held : List (Seen × ℕ)) (zs : List SourceAnswer) (kind : ErrorKind) → kind ≢ OutOfMemory → Asks wake f tries held zs (Broke kind) → EndsWith kind zs
+asked_last wake f tries held zs kind n (held_already is z e) = absurd (not_ready kind e)
   where
     not_ready : (kind : ErrorKind) → Broke kind ≡ Ready → ⊥
     not_ready kind e = cc
-asked_woken f tries held zs kind w (came n ys x z p g l e) = absurd (not_ready kind e)
+asked_last wake f tries held zs kind n (came none ys x z p g l e) = absurd (not_ready kind e)
   where
     not_ready : (kind : ErrorKind) → Broke kind ≡ Ready → ⊥
     not_ready kind e = cc
-asked_woken f tries held zs kind w (broke n ys k z p o l e) = (ys, z ∙ ap (λ (x : ErrorKind). ys ++ Failed x ∷ []) (sym (kind_of kind k e) ∙ w))
-asked_woken f tries held zs kind w (tried n p l e) = absurd (not_tried kind e)
+asked_last wake f tries held zs kind n (broke none ys k z p o l e) = (ys, z ∙ ap (λ (x : ErrorKind). ys ++ Failed x ∷ []) (sym (kind_of kind k e)))
+asked_last wake f tries held zs kind n (tried none p l e) = absurd (not_tried kind e)
   where
     not_tried : (kind : ErrorKind) → Broke kind ≡ Tried → ⊥
     not_tried kind e = cc
-asked_woken f tries held zs kind w (refused n p l e) = absurd (memory_not (sym (kind_of kind OutOfMemory e) ∙ w))
+asked_last wake f tries held zs kind n (refused none p l e) = absurd (n (kind_of kind OutOfMemory e))
+
+-- Where a wake-up broke asking it is the last answer.
+asked_woken : (f : Seen → Bool) (tries : ℕ) (held : List (Seen × ℕ)) (zs : List SourceAnswer) (kind : ErrorKind) → kind ≡ Interrupted → Asks Stops f tries held zs (Broke kind) → EndsWoken zs
+asked_woken f tries held zs kind w a = subst (λ (k : ErrorKind). EndsWith k zs) w (asked_last Stops f tries held zs kind (λ e. memory_not (sym e ∙ w)) a)
   where
     memory_not : OutOfMemory ≡ Interrupted → ⊥
     memory_not e = cc
@@ -133,8 +138,8 @@ module _ {S : Type 0} (drawn : S → List SourceAnswer → S → Type 0) (wake :
     asks = a.3;
     memory = a.4;
     patient = p;
-    begun = asked_begun wake f tries s.shelf.held a.0 end h a.3;
-    once = λ z. let n = asked_count wake f tries s.shelf.held a.0 end a.3 in let m = o z in omega arith;
+    begun = asked_begun wake f tries s.store.held a.0 end h a.3;
+    once = λ z. let n = asked_count wake f tries s.store.held a.0 end a.3 in let m = o z in omega arith;
   }
 
   pub in_time_ready : (tries : ℕ) → 1 ≤ tries → (IsAtOnce limit → tries ≤ 1) → Asked drawn wake f tries s t Ready → AskedInTime drawn wake f limit start last s t Ready
@@ -181,7 +186,7 @@ module _ {S : Type 0} (drawn : S → List SourceAnswer → S → Type 0) (f : Se
     drawn_so = a.drawn_so;
     step = (Broke kind, a.asks, a.arrives, inl (w, refl));
     memory = λ k e. absurd (poll_not false k e);
-    patient = λ e. inl (asked_woken f a.tries s.shelf.held a.answers kind w a.asks);
+    patient = λ e. inl (asked_woken f a.tries s.store.held a.answers kind w a.asks);
     begun = λ n. begun_of (a.begun n);
     once = a.once;
   }
@@ -253,11 +258,11 @@ module _ {S : Type 0} (drawn : S → List SourceAnswer → S → Type 0) (f : Se
   unlimited r = absurd (subst (λ (o : Option Duration). Reaches o (last - start)) none r)
 
   -- Without a limit asking ends with an admitted event, which is held.
-  pub waited_there : (ready : Bool) → AskedInTime drawn GoesOn f limit start last s m (end_of (Ok ready)) → first_admitted f m.shelf.held ≡ None → ⊥
-  waited_there true a n = ready_there GoesOn f a.tries s.shelf m.shelf a.answers a.asks a.arrives n
+  pub waited_there : (ready : Bool) → AskedInTime drawn GoesOn f limit start last s m (end_of (Ok ready)) → first_admitted f m.store.held ≡ None → ⊥
+  waited_there true a n = ready_there GoesOn f a.tries s.store m.store a.answers a.asks a.arrives n
   waited_there false a n = unlimited (a.patient refl)
 
-  pub waited_read : (ready : Bool) (t : ReaderState S) (x : Seen × ℕ) → AskedInTime drawn GoesOn f limit start last s m (end_of (Ok ready)) → t.source ≡ m.source → TakeSays f m.shelf t.shelf (Some x)
-      → (tries : ℕ) × (zs : List SourceAnswer) × drawn s.source zs t.source × ReadStep tries f zs s.shelf t.shelf (ToTake (Some x)) × Unit {0}
-  waited_read true t x a e h = (a.tries, a.answers, subst (λ (y : S). drawn s.source a.answers y) (sym e) a.drawn_so, (Ready, m.shelf, a.asks, a.arrives, h), tt)
+  pub waited_read : (ready : Bool) (t : ReaderState S) (x : Seen × ℕ) → AskedInTime drawn GoesOn f limit start last s m (end_of (Ok ready)) → t.source ≡ m.source → TakeReplies f m.store t.store (Some x)
+      → (tries : ℕ) × (zs : List SourceAnswer) × drawn s.source zs t.source × ReadStep tries f zs s.store t.store (ToTake (Some x)) × Unit {0}
+  waited_read true t x a e h = (a.tries, a.answers, subst (λ (y : S). drawn s.source a.answers y) (sym e) a.drawn_so, (Ready, m.store, a.asks, a.arrives, h), tt)
   waited_read false t x a e h = absurd (unlimited (a.patient refl))

@@ -7,16 +7,16 @@ use Rattle.crossterm_types.specs.Admitting.{admitted, is_cursor_position}
 use Rattle.crossterm_types.specs.Seen.{Seen, seen, CursorPosition}
 use Rattle.crossterm_types.specs.declared.event.filter.AnyFilter.{AnyFilter}
 use Rattle.crossterm_read.specs.Answers.{SourceAnswer}
-use Rattle.crossterm_read.specs.Blocks.{Told, Happened}
-use Rattle.crossterm_read.specs.Device.{Word}
-use Rattle.crossterm_read.specs.Shelf.{Shelf, next_number}
+use Rattle.crossterm_read.specs.Outcomes.{Answered, Happened}
+use Rattle.crossterm_read.specs.Device.{DeviceAnswer}
+use Rattle.crossterm_read.specs.Store.{EventStore, next_number}
 use Rattle.crossterm_read.specs.Queries.{QueryStep, KeyboardStep}
 use Rattle.crossterm_read.specs.Replies.{Replied, ToPoll, ToTake, ToQuery, Fault, Said, Polled, Came, Faulted, flags_seen, shown}
 use Rattle.crossterm_read.specs.Steps.{PollStep, ReadStep, TakeStep}
-use Rattle.crossterm_read.specs.declared.read.trace.Call.{Call}
-use Rattle.crossterm_read.specs.declared.read.trace.Call.TheVariants as call
-use Rattle.crossterm_read.specs.declared.read.trace.Reply.{Reply}
-use Rattle.crossterm_read.specs.declared.read.trace.Reply.TheVariants as reply
+use Rattle.crossterm_read.specs.declared.read.call.Call.{Call}
+use Rattle.crossterm_read.specs.declared.read.call.Call.TheVariants as call
+use Rattle.crossterm_read.specs.declared.read.call.Reply.{Reply}
+use Rattle.crossterm_read.specs.declared.read.call.Reply.TheVariants as reply
 
 abbrev pub said : {A : Type 0} → Reply A → Said
 said (reply.Poll ready) = Polled ready
@@ -41,7 +41,7 @@ request (call.Position tries) = Position tries
 request (call.Keyboard tries) = Keyboard tries tries
 
 -- What is asked draws these answers, and is replied this.
-abbrev pub Step : Request → List SourceAnswer → Shelf → Shelf → Replied → Type 0
+abbrev pub Step : Request → List SourceAnswer → EventStore → EventStore → Replied → Type 0
 Step (Poll tries f) zs s t r = PollStep tries (admitted f) zs s t r
 Step (Read tries f) zs s t r = ReadStep tries (admitted f) zs s t r
 Step (Take f) zs s t r = TakeStep (admitted f) zs s t r
@@ -49,9 +49,9 @@ Step (Position tries) zs s t r = QueryStep is_cursor_position tries zs s t r
 Step (Keyboard tries again) zs s t r = KeyboardStep tries again zs s t r
 
 -- A run: calls, what each draws, and what each replies.
-abbrev pub Run : Shelf → List Call → List (List SourceAnswer) → List Replied → Shelf → Type 0
+abbrev pub Run : EventStore → List Call → List (List SourceAnswer) → List Replied → EventStore → Type 0
 Run s [] [] [] t = t ≡ s
-Run s (c ∷ cs) (zs ∷ zss) (r ∷ rs) t = (m : Shelf) × Step (request c) zs s m r × Run m cs zss rs t
+Run s (c ∷ cs) (zs ∷ zss) (r ∷ rs) t = (m : EventStore) × Step (request c) zs s m r × Run m cs zss rs t
 Run s [] (zs ∷ zss) rs t = ⊥
 Run s [] [] (r ∷ rs) t = ⊥
 Run s (c ∷ cs) [] rs t = ⊥
@@ -60,16 +60,16 @@ Run s (c ∷ cs) (zs ∷ zss) [] t = ⊥
 abbrev pub joined : List (List SourceAnswer) → List SourceAnswer
 joined zss = flat_map (λ zs. zs) zss
 
-abbrev pub empty : Shelf
+abbrev pub empty : EventStore
 empty = record { held = []; arrivals = 0 }
 
--- There are lists of answers, one a call, which joined are told by the words, and the calls' run over them gives replies that show these answers, and leaves
+-- There are lists of a source's answers, one a call, which joined come of the device's, and the calls' run over them gives replies that show these answers, and leaves
 -- these events.
-pub record Plays (words : List Word) (calls : List Call) (answers : List Said) (held : List Seen) : Type 0 where
+pub record Plays (device_answers : List DeviceAnswer) (calls : List Call) (answers : List Said) (held : List Seen) : Type 0 where
   pub drawn : List (List SourceAnswer)
   pub replies : List Replied
-  pub last : Shelf
-  pub told : Told words (joined drawn)
+  pub last : EventStore
+  pub answered : Answered device_answers (joined drawn)
   pub run : Run empty calls drawn replies last
   pub shows : answers ≡ map shown replies
   pub left : held ≡ map (λ h. h.0) last.held
@@ -97,13 +97,13 @@ IsWithin (x ∷ xs) (y ∷ ys) = ((x ≡ y) × IsWithin xs ys) ⊎ IsWithin (x �
 
 -- There are replies that show these answers: the events that they took and those that are held, each with its arrival number, are together, each once,
 -- the first ones of all that happens; those that are held stand in the order of arrival.
-pub record Accounts (words : List Word) (answers : List Said) (held : List Seen) : Type 0 where
+pub record Accounts (device_answers : List DeviceAnswer) (answers : List Said) (held : List Seen) : Type 0 where
   pub all : List Seen
   pub front : List Seen
   pub rest : List Seen
   pub replies : List Replied
   pub kept : List (Seen × ℕ)
-  pub happened : Happened words all
+  pub happened : Happened device_answers all
   pub first : all ≡ front ++ rest
   pub shows : answers ≡ map shown replies
   pub left : held ≡ map (λ h. h.0) kept

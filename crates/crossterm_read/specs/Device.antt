@@ -1,4 +1,4 @@
--- What a device tells.
+-- What a device answers.
 use Rattle.std.specs.Prelude.{◌≡◌, ◌⊎◌, ◌≤◌, ◌==◌, ℕ, Bool, List, [], ◌∷◌, ◌++◌, length, take, Option, Result, Ok, Err, IsSomeAnd, ⊤}
 use Rattle.std.specs.List.{AllByRecursion}
 use Rattle.std.specs.Duration.{as_nanos}
@@ -11,37 +11,37 @@ use Rattle.crossterm_parse.specs.Marked.{marked}
 use Rattle.crossterm_read.specs.declared.source.device.Answer.{Answer}
 use Rattle.crossterm_read.specs.declared.source.device.Answer.TheVariants as answer
 
--- A word is one answer of a device: some bytes and their mode, a new size, a wake-up, nothing yet, or a fault.
-pub data Word : Type 0 where
-  Bytes : List ℕ → Bool → Word
-  Resized : ℕ → ℕ → Word
-  Woken : Word
-  Idle : Word
-  Fault : ErrorKind → Word
+-- One answer of a device: some bytes and their mode, a new size, a wake-up, nothing yet, or a fault.
+pub data DeviceAnswer : Type 0 where
+  Bytes : List ℕ → Bool → DeviceAnswer
+  Resized : ℕ → ℕ → DeviceAnswer
+  Woken : DeviceAnswer
+  Idle : DeviceAnswer
+  Fault : ErrorKind → DeviceAnswer
 
--- The word of an answer, with what stands in the buffer then.
-abbrev pub word_of : Result Answer Error → List ℕ → Word
-word_of (Ok (answer.Bytes count raw)) buffer = Bytes (take count buffer) raw
-word_of (Ok (answer.Resize columns rows)) buffer = Resized columns rows
-word_of (Ok answer.Woken) buffer = Woken
-word_of (Ok answer.Idle) buffer = Idle
-word_of (Err e) buffer = Fault (error_kind e)
+-- The answer of a call, with what stands in the buffer then.
+abbrev pub device_answer : Result Answer Error → List ℕ → DeviceAnswer
+device_answer (Ok (answer.Bytes count raw)) buffer = Bytes (take count buffer) raw
+device_answer (Ok (answer.Resize columns rows)) buffer = Resized columns rows
+device_answer (Ok answer.Woken) buffer = Woken
+device_answer (Ok answer.Idle) buffer = Idle
+device_answer (Err e) buffer = Fault (error_kind e)
 
--- What a device tells: from which states to which some words lead. Where nothing is told nothing changes, and what is told in two runs is
--- told in one.
-pub record Telling (D : Type 0) : Type 1 where
-  pub told : D → List Word → D → Type 0
-  pub none : (s : D) → told s [] s
-  pub on : (s t u : D) (xs ys : List Word) → told s xs t → told t ys u → told s (xs ++ ys) u
+-- How a device answers: from which states to which some answers lead. Where nothing is answered nothing changes, and what is answered in two runs is
+-- answered in one.
+pub record Answering (D : Type 0) : Type 1 where
+  pub answered : D → List DeviceAnswer → D → Type 0
+  pub none : (s : D) → answered s [] s
+  pub on : (s t u : D) (xs ys : List DeviceAnswer) → answered s xs t → answered t ys u → answered s (xs ++ ys) u
 
--- Nothing is said of what it tells.
-abbrev pub anything : {D : Type 0} → Telling D
-anything = record { told = λ _ _ _. ⊤; none = λ _. tt; on = λ _ _ _ _ _ _ _. tt }
+-- Nothing is said of what it answers.
+abbrev pub anything : {D : Type 0} → Answering D
+anything = record { answered = λ _ _ _. ⊤; none = λ _. tt; on = λ _ _ _ _ _ _ _. tt }
 
--- What a device tells that hands on what another one within it tells.
-abbrev pub tells_within : {D E : Type 0} → (D → E) → Telling E → Telling D
-tells_within inner telling = record {
-  told = λ s words t. telling.told (inner s) words (inner t);
+-- How a device answers that hands on what another one within it answers.
+abbrev pub answering_within : {D E : Type 0} → (D → E) → Answering E → Answering D
+answering_within inner telling = record {
+  answered = λ s device_answers t. telling.answered (inner s) device_answers (inner t);
   none = λ s. telling.none (inner s);
   on = λ s t u. telling.on (inner s) (inner t) (inner u);
 }
@@ -69,6 +69,6 @@ CountWithin (answer.Resize columns rows) n = Unit {0}
 CountWithin answer.Woken n = Unit {0}
 CountWithin answer.Idle n = Unit {0}
 
--- The bytes of one word with their marks: more follow at once exactly where they filled the buffer.
-abbrev pub told_bytes : List ℕ → Bool → List Marked
-told_bytes bytes raw = marked bytes (length bytes == 1024) raw
+-- The bytes of one answer with their marks: more follow at once exactly where they filled the buffer.
+abbrev pub marked_bytes : List ℕ → Bool → List Marked
+marked_bytes bytes raw = marked bytes (length bytes == 1024) raw

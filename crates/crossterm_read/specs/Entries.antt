@@ -14,7 +14,7 @@ use Rattle.crossterm_read.specs.Calls.{Poll, Read, Position, Keyboard}
 use Rattle.crossterm_read.specs.Device.{AsksAtOnce}
 use Rattle.crossterm_read.specs.History.{Entry, Known, Extends}
 use Rattle.crossterm_read.specs.Replies.{Replied, Fault, Said, Came, keyboard_said, poll_reply, position_said, shown}
-use Rattle.crossterm_read.specs.Shelf.{ReaderState}
+use Rattle.crossterm_read.specs.Store.{ReaderState}
 use Rattle.crossterm_read.specs.Steps.{RefusedOnlyWithoutRoom}
 use Rattle.crossterm_read.specs.Waiting.{AsksForever, AsksWithin, TimedPoll, TimedQuery, TimedKeyboard}
 

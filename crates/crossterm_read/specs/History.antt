@@ -7,9 +7,8 @@ use Rattle.crossterm_types.specs.declared.event.filter.AnyFilter.{AnyFilter}
 use Rattle.crossterm_types.specs.declared.event.filter.AnyFilter.TheVariants as filter
 use Rattle.crossterm_read.specs.Answers.{SourceAnswer}
 use Rattle.crossterm_read.specs.Calls.{Request, Read, Take, Position, Keyboard, Step, IsWithin, taken}
-use Rattle.crossterm_read.specs.Numbers.{IsLow}
+use Rattle.crossterm_read.specs.Store.{IsLow, ReaderState, arrived, numbered_after}
 use Rattle.crossterm_read.specs.Replies.{Replied, ToPoll, ToTake, ToQuery, Fault}
-use Rattle.crossterm_read.specs.Shelf.{ReaderState, arrived, numbered_after}
 
 -- One call: whose it was, what was asked, what the source answered, and the reply.
 pub record Entry : Type 0 where
@@ -64,16 +63,16 @@ Differ (x ∷ xs) = AllByRecursion (λ y. x.1 ≢ y.1) xs × Differ xs
 
 -- All events of a history: those that were held when the reader was opened, and those that arrived since, each with its number.
 abbrev pub all_events : {S : Type 0} → ReaderState S → List Entry → List (Seen × ℕ)
-all_events o log = o.shelf.held ++ arrived o.shelf.arrivals (answers_of log)
+all_events o log = o.store.held ++ arrived o.store.arrivals (answers_of log)
 
 -- Of all events of a history each was taken once or is held, and what is held stands in the order of arrival. Until the numbers have come to the greatest
 -- u64, so while fewer than 2^64 - 1 events have arrived, no event that was taken has the number of another, and what one filter takes has rising numbers.
 pub record EachOnce {S : Type 0} (o : ReaderState S) (log : List Entry) (t : ReaderState S) : Type 0 where
-  pub once : IsPermutation (all_events o log) (taken_by log ++ t.shelf.held)
-  pub in_order : IsWithin t.shelf.held (all_events o log)
-  pub arrivals : t.shelf.arrivals ≡ numbered_after o.shelf.arrivals (answers_of log)
-  pub differ : IsLow t.shelf.arrivals → Differ (taken_by log)
-  pub rise : IsLow t.shelf.arrivals → RiseByFilter (takes_of log)
+  pub once : IsPermutation (all_events o log) (taken_by log ++ t.store.held)
+  pub in_order : IsWithin t.store.held (all_events o log)
+  pub arrivals : t.store.arrivals ≡ numbered_after o.store.arrivals (answers_of log)
+  pub differ : IsLow t.store.arrivals → Differ (taken_by log)
+  pub rise : IsLow t.store.arrivals → RiseByFilter (takes_of log)
 
 -- What a pass heard when it met another: the number of that one, what that one had seen, and what it had seen itself.
 pub record Meeting : Type 0 where
@@ -122,7 +121,7 @@ last_from n (e ∷ es) = last_from (last_of n e.reply) es
 module _ {S : Type 0} (drawn : S → List SourceAnswer → S → Type 0) where
   -- A call leads from one state of the reader to another, as one of a reader of one thread does.
   abbrev pub Makes : Entry → ReaderState S → ReaderState S → Type 0
-  Makes e s t = drawn s.source e.answers t.source × Step e.call e.answers s.shelf t.shelf e.reply
+  Makes e s t = drawn s.source e.answers t.source × Step e.call e.answers s.store t.store e.reply
 
   -- A legal history: each call follows from the state that the one before left, and the last leaves t.
   abbrev pub Runs : ReaderState S → List Entry → ReaderState S → Type 0
@@ -144,7 +143,7 @@ module _ {S : Type 0} (drawn : S → List SourceAnswer → S → Type 0) where
     pub makes : Makes call found left
     pub others : calls_by v.number between ≡ []
     pub after : w ≡ record v { seen = (v.seen ++ between) ++ call ∷ []; mine = v.mine ++ call ∷ [] }
-    pub fresh : numbered_after opening.shelf.arrivals (answers_of v.seen) ≤ found.shelf.arrivals
+    pub fresh : numbered_after opening.store.arrivals (answers_of v.seen) ≤ found.store.arrivals
     pub each_once : EachOnce opening w.seen left
 
   -- Two passes that met: the one sees one legal history that begins with all that it had seen, and with all that the other had seen.

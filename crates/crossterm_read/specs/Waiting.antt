@@ -10,12 +10,11 @@ use Rattle.crossterm_types.specs.Seen.{Seen}
 use Rattle.crossterm_types.specs.Timing.{Reaches, left_over}
 use Rattle.crossterm_types.specs.declared.event.timeout.PollTimeout.{PollTimeout}
 use Rattle.crossterm_read.specs.Answers.{SourceAnswer, Failed}
-use Rattle.crossterm_read.specs.Device.{AsksEach, AsksWith, IsAtOnce}
+use Rattle.crossterm_read.specs.Device.{AsksEach, IsAtOnce}
 use Rattle.crossterm_read.specs.Queries.{QueryStep, KeyboardStep}
 use Rattle.crossterm_read.specs.Replies.{Replied, ToPoll, Fault}
-use Rattle.crossterm_read.specs.Shelf.{ReaderState, Arrives}
-use Rattle.crossterm_read.specs.Steps.{Asks, BrokeWhere, End, Broke, Tried, PollStep, RefusedOnlyWithoutRoom, first_admitted}
-use Rattle.crossterm_read.specs.declared.read.reader.AtWake.{AtWake}
+use Rattle.crossterm_read.specs.Store.{ReaderState}
+use Rattle.crossterm_read.specs.Steps.{PollStep, RefusedOnlyWithoutRoom, first_admitted}
 
 -- The last answer is a fault of this kind.
 abbrev pub EndsWith : ErrorKind → List SourceAnswer → Type 0
@@ -24,10 +23,6 @@ EndsWith kind zs = (ys : List SourceAnswer) × (zs ≡ ys ++ Failed kind ∷ [])
 -- The last answer is a wake-up.
 abbrev pub EndsWoken : List SourceAnswer → Type 0
 EndsWoken zs = EndsWith Interrupted zs
-
--- The device was asked once at most, with what is left of the limit at this moment.
-abbrev pub AsksInTime : PollTimeout → ℕ → List (Option Duration) → List (Option Duration) → Type 0
-AsksInTime timeout now old new = (left : Option Duration) × (option_map as_nanos left ≡ left_over timeout now) × AsksWith left old new
 
 -- So much was left of the limit at some moment from its start on, and not after this one.
 abbrev pub WasLeft : PollTimeout → ℕ → Option Duration → Type 0
@@ -41,29 +36,16 @@ AsksWithin limit before after old new = (timeout : PollTimeout) × (timeout.limi
 abbrev pub AsksForever : List (Option Duration) → List (Option Duration) → Type 0
 AsksForever old new = AsksEach (λ limit. limit ≡ None) old new
 
--- Asking with a limit of time, to this moment. All tries, however many, are used only where the limit has passed. Where nothing admitted is held
--- the source answers at least once, or there is no memory. With limit zero it answers once at most.
-pub record AskedInTime {S : Type 0} (drawn : S → List SourceAnswer → S → Type 0) (wake : AtWake) (f : Seen → Bool) (limit : Option Duration) (start last : ℕ) (s t : ReaderState S) (end : End) : Type 0 where
-  pub tries : ℕ
-  pub answers : List SourceAnswer
-  pub drawn_so : drawn s.source answers t.source
-  pub arrives : Arrives s.shelf answers t.shelf
-  pub asks : Asks wake f tries s.shelf.held answers end
-  pub memory : BrokeWhere end (RefusedOnlyWithoutRoom s.room answers)
-  pub patient : end ≡ Tried → Reaches limit (last - start)
-  pub begun : first_admitted f s.shelf.held ≡ None → (answers ≢ []) ⊎ (end ≡ Broke OutOfMemory)
-  pub once : IsAtOnce limit → length answers ≤ 1
-
 -- A poll with a limit of time is a poll with some number of tries. Without a wake-up it is false only where the limit has passed since the moment
 -- before. Where nothing admitted is held the source answers at least once, or there is no room. With limit zero it answers once at most.
 pub record TimedPoll {S : Type 0} (drawn : S → List SourceAnswer → S → Type 0) (f : Seen → Bool) (limit : Option Duration) (before after : ℕ) (s t : ReaderState S) (r : Replied) : Type 0 where
   pub tries : ℕ
   pub answers : List SourceAnswer
   pub drawn_so : drawn s.source answers t.source
-  pub step : PollStep tries f answers s.shelf t.shelf r
+  pub step : PollStep tries f answers s.store t.store r
   pub memory : (kind : ErrorKind) → r ≡ Fault kind → RefusedOnlyWithoutRoom s.room answers kind
   pub patient : r ≡ ToPoll false → EndsWoken answers ⊎ Reaches limit (after - before)
-  pub begun : first_admitted f s.shelf.held ≡ None → (answers ≢ []) ⊎ (r ≡ Fault OutOfMemory)
+  pub begun : first_admitted f s.store.held ≡ None → (answers ≢ []) ⊎ (r ≡ Fault OutOfMemory)
   pub once : IsAtOnce limit → length answers ≤ 1
 
 -- A query with a limit of time is a query with some number of tries. It fails with Other, where the source neither woke nor failed so, only where the limit
@@ -72,10 +54,10 @@ pub record TimedQuery {S : Type 0} (drawn : S → List SourceAnswer → S → Ty
   pub tries : ℕ
   pub answers : List SourceAnswer
   pub drawn_so : drawn s.source answers t.source
-  pub step : QueryStep f tries answers s.shelf t.shelf r
+  pub step : QueryStep f tries answers s.store t.store r
   pub memory : (kind : ErrorKind) → r ≡ Fault kind → RefusedOnlyWithoutRoom s.room answers kind
   pub patient : r ≡ Fault Other → EndsWoken answers ⊎ EndsWith Other answers ⊎ Reaches limit (after - before)
-  pub begun : first_admitted f s.shelf.held ≡ None → (answers ≢ []) ⊎ (r ≡ Fault OutOfMemory)
+  pub begun : first_admitted f s.store.held ≡ None → (answers ≢ []) ⊎ (r ≡ Fault OutOfMemory)
 
 -- A query for the keyboard's flags, likewise: its second wait has some number of tries of its own.
 pub record TimedKeyboard {S : Type 0} (drawn : S → List SourceAnswer → S → Type 0) (limit : Option Duration) (before after : ℕ) (s t : ReaderState S) (r : Replied) : Type 0 where
@@ -83,7 +65,7 @@ pub record TimedKeyboard {S : Type 0} (drawn : S → List SourceAnswer → S →
   pub again : ℕ
   pub answers : List SourceAnswer
   pub drawn_so : drawn s.source answers t.source
-  pub step : KeyboardStep tries again answers s.shelf t.shelf r
+  pub step : KeyboardStep tries again answers s.store t.store r
   pub memory : (kind : ErrorKind) → r ≡ Fault kind → RefusedOnlyWithoutRoom s.room answers kind
   pub patient : r ≡ Fault Other → EndsWoken answers ⊎ EndsWith Other answers ⊎ Reaches limit (after - before)
-  pub begun : first_admitted is_flags_reply s.shelf.held ≡ None → (answers ≢ []) ⊎ (r ≡ Fault OutOfMemory)
+  pub begun : first_admitted is_flags_reply s.store.held ≡ None → (answers ≢ []) ⊎ (r ≡ Fault OutOfMemory)

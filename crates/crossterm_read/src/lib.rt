@@ -1,6 +1,6 @@
 //! From a device to the events that one thread reads, or many, or a task: crossterm's `event::source`, `event::read` and `event::stream`.
 //!
-//! A device tells bytes, resizes and wake-ups (`source::Device`): those of a script, of a reader (`source::ReadDevice`), or of what the
+//! A device answers with bytes, resizes and wake-ups (`source::Device`): those of a script, of a reader (`source::ReadDevice`), or of what the
 //! system can watch (`source::PolledDevice`). A source hands the bytes to the parser and gives events
 //! (`source::DeviceSource`). A reader holds the events in the order of their arrival until they are taken
 //! (`read::InternalEventReader`). Threads share a reader (`read::EventReader`), each with a `read::Pass`. A task that may not wait polls a
@@ -11,23 +11,32 @@
 //!
 //! The layers above use the steps of `InternalEventReader::{poll_within, read_within, take, position_within, keyboard_within}` over
 //! any `source::EventSource`, those of `poll` and `read`, which wait for a limit of time or without one, and
-//! the headline of `read::play`: what calls answer is a run over the answers of a source, which are told by the device's words.
+//! the headline of `read::play`: what calls answer is a run over the answers of a source, which come of those of its device.
 //! `laws::one_happening` says that the events of bytes are those of the only division of all bytes.
 //!
-//! | Definitions | Of |
-//! |---|---|
-//! | `specs/Device.antt`, `specs/Scripted.antt` | what a device tells, and what a script does |
-//! | `specs/Reading.antt`, `specs/Waking.antt` | what a device over a reader tells, and which wakers are alike |
-//! | `specs/Answers.antt`, `specs/Turns.antt` | what a source answers, one turn after another |
-//! | `specs/Blocks.antt` | what a device's words bring about, and what a source tells of it |
-//! | `specs/Shelf.antt`, `specs/Numbers.antt` | what a reader holds, and how arrivals are numbered |
-//! | `specs/Replies.antt`, `specs/Steps.antt`, `specs/Queries.antt` | what one call replies and does |
-//! | `specs/Waiting.antt` | what a call with a limit of time does |
-//! | `specs/Calls.antt` | runs of calls, and the account of all events |
-//! | `specs/History.antt`, `specs/Entries.antt` | the one legal history of a reader that threads share, and which call an entry is |
-//! | `specs/Seats.antt`, `specs/Shared.antt` | what a clause says of passes and of shares |
-//! | `specs/Streams.antt` | what a stream answers, and what its worker does |
-//! | `specs/Slot.antt` | the rule of the slot, which only proofs need |
+//! What to believe, in the order in which it reads (`specs/`), and where it is proved:
+//!
+//! | Definitions | Lines | Of | Contract |
+//! |---|---|---|---|
+//! | `Device` | 74 | what a device answers | `Device::answer` |
+//! | `Scripted` | 84 | what the acts of a script answer | `Device::answer` of `Script` |
+//! | `Reading` | 105 | what a device over a reader answers | `Device::answer` of `ReadDevice`, `PolledDevice`, `SocketDevice` |
+//! | `Waking` | 30 | which wakers are alike | `Waker`, `Device::waker` |
+//! | `Answers` | 30 | what a source answers | `EventSource::try_read` |
+//! | `Outcomes` | 102 | what comes of a device's answers, and the events that happen | `laws::one_happening` |
+//! | `Store` | 56 | what a reader holds | `InternalEventReader::{new, held}` |
+//! | `Replies` | 66 | what a call replies | |
+//! | `Steps` | 75 | what a poll, a read and a take do | `InternalEventReader::{poll_within, read_within, take}` |
+//! | `Queries` | 47 | what a query does | `InternalEventReader::{position_within, keyboard_within}` |
+//! | `Waiting` | 71 | calls with a limit of time | `InternalEventReader::{poll, read}` |
+//! | `Calls` | 111 | runs of calls, and the account of all events: the headline | `read::play` |
+//! | `History` | 169 | the one legal history of a reader that threads share | `EventReader`, `Pass` |
+//! | `Entries` | 83 | which call an entry of it is | `EventReader::{poll, read, poll_by, read_by, position_by, keyboard_by}` |
+//! | `Seats` | 19 | what a clause says of a pass | `EventReader::{new, share, meet, close}` |
+//! | `Shared` | 15 | what it says of a share | `EventReader::{new, share}` |
+//! | `Streams` | 32 | what a stream answers, and what its worker does | `EventStream::{poll_event, poll_next}` |
+//!
+//! What only proofs cite stands in `specs/inside/`.
 #![tactic(auto)]
 
 pub mod laws;

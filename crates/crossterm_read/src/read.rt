@@ -1,5 +1,6 @@
 //! Holds events until they are read.
 
+mod call;
 mod held;
 mod queries;
 mod reader;
@@ -7,8 +8,9 @@ mod shared;
 mod trace;
 mod waiting;
 
+pub use call::{Call, Reply};
 pub use held::Held;
 pub use reader::InternalEventReader;
 pub use shared::{EventReader, Pass};
-pub use trace::{Call, Reply, Trace, play};
+pub use trace::{Trace, play};
 pub(crate) use waiting::Still;

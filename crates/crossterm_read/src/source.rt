@@ -4,10 +4,10 @@ ghost use Rattle.std.specs.IoError.{error_kind};
 ghost use Rattle.std.specs.declared.io.ErrorKind.TheVariants.{OutOfMemory};
 ghost use Rattle.std.specs.declared.time.Duration.{Duration};
 ghost use Rattle.crossterm_parse.specs.Marked.{marked};
-ghost use Rattle.crossterm_parse.specs.Standing.{Stands};
+ghost use Rattle.crossterm_parse.specs.View.{Represents};
 ghost use Rattle.crossterm_read.specs.Answers.{SourceAnswer, answer_of, IsOwn};
 ghost use Rattle.crossterm_read.specs.Device.{AsksWith};
-ghost use Rattle.crossterm_read.specs.Turns.{Source, SourceDrawn, source_none, source_on, Hands};
+ghost use Rattle.crossterm_read.specs.inside.Turns.{Source, SourceDrawn, source_none, source_on, Hands};
 ghost use Rattle.crossterm_read.specs.declared.source.waker.Waker.{Waker};
 
 mod device;
@@ -105,7 +105,7 @@ impl<D: Device, A: Allocator + Clone> DeviceSource<D, A> {
     /// A source that has asked its device for nothing yet.
     pub fn new(alloc: A, device: D) -> Self
         ensures waiting { result.parser.waiting ≡ [] }
-        ensures stands { Stands result.parser [] }
+        ensures represents { Represents result.parser [] }
         ensures untaken { result.untaken ≡ [] }
         ensures device { result.device ≡ device }
     {
@@ -141,7 +141,7 @@ impl<D: Device, A: Allocator + Clone> DeviceSource<D, A> {
 }
 
 impl<D: Device, A: Allocator + Clone> EventSource<A> for DeviceSource<D, A> {
-    ghost drawn = { SourceDrawn D.tells.told };
+    ghost drawn = { SourceDrawn D.answering.answered };
 
     ghost failed = { λ s. D.failed s.device };
 
@@ -149,9 +149,9 @@ impl<D: Device, A: Allocator + Clone> EventSource<A> for DeviceSource<D, A> {
 
     ghost wakes = { λ s. D.wakes s.device };
 
-    ghost none_drawn = { source_none D.tells.told D.tells.none };
+    ghost none_drawn = { source_none D.answering.answered D.answering.none };
 
-    ghost drawn_on = { source_on D.tells.told D.tells.on };
+    ghost drawn_on = { source_on D.answering.answered D.answering.on };
 
     fn try_read(&mut self, limit: Option<Duration>) -> io::Result<Option<InternalEvent<A>>> {
         if let Some(event) = self.parser.next() {

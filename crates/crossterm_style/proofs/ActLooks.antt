@@ -13,11 +13,11 @@ use Rattle.crossterm_style.specs.Acts.{Act, after_act, after_acts, painted, pain
 use Rattle.crossterm_style.specs.Acts.Act.{Prints, Colors, Takes}
 use Rattle.crossterm_style.specs.Appearance.{ActsShow, ColorsShow, FitsAct, ShowsAs}
 use Rattle.crossterm_style.specs.Attributes.{code_of}
-use Rattle.crossterm_style.specs.Colors.{FitsColored, colored_text, ink_of}
+use Rattle.crossterm_style.specs.Colors.{FitsColored, colored_text, sgr_of}
 use Rattle.crossterm_style.specs.Looks.{Style, after_token, put, sgr, shown, shown_by, style_after}
 use Rattle.crossterm_style.specs.Looks.Place.{Foreground, Background, Underlining}
 use Rattle.crossterm_style.specs.Styles.{act_functions, told}
-use Rattle.crossterm_style.proofs.InkLooks.{ink_looks, ink_shade, inks_look, shade_of}
+use Rattle.crossterm_style.proofs.SgrLooks.{sgr_looks, sgr_shade, sgrs_look, shade_of}
 
 -- ---- tokens and acts in a row
 
@@ -65,9 +65,9 @@ attribute_looks a s = refl
 
 color_looks : (colors : ColorOutput) (c : Colored) (s : Style) → FitsColored c → sgr (colored_text colors c) s ≡ after_act colors (Colors c) s
 color_looks Disabled c s h = refl
-color_looks Enabled (ForegroundColor c) s h = ink_looks Foreground (ink_of c) s h ∙ ap (λ o. put Foreground o s) (shade_of c)
-color_looks Enabled (BackgroundColor c) s h = ink_looks Background (ink_of c) s h ∙ ap (λ o. put Background o s) (shade_of c)
-color_looks Enabled (UnderlineColor c) s h = ink_looks Underlining (ink_of c) s h ∙ ap (λ o. put Underlining o s) (shade_of c)
+color_looks Enabled (ForegroundColor c) s h = sgr_looks Foreground (sgr_of c) s h ∙ ap (λ o. put Foreground o s) (shade_of c)
+color_looks Enabled (BackgroundColor c) s h = sgr_looks Background (sgr_of c) s h ∙ ap (λ o. put Background o s) (shade_of c)
+color_looks Enabled (UnderlineColor c) s h = sgr_looks Underlining (sgr_of c) s h ∙ ap (λ o. put Underlining o s) (shade_of c)
 
 act_shown : (colors : ColorOutput) (a : Act) (s : Style) → shown (act_functions colors a) s ≡ painted_by a s
 act_shown colors (Prints cs) s = chars_shown cs s
@@ -98,7 +98,7 @@ acts_show colors (a ∷ acts) s h =
 both_look : (f b : Color) (s : Style) → FitsColored (ForegroundColor f) → FitsColored (BackgroundColor b)
     → sgr (colored_text Enabled (ForegroundColor f) ++ (59 ∷ colored_text Enabled (BackgroundColor b))) s ≡ put Background (shade b) (put Foreground (shade f) s)
 both_look f b s h k =
-    inks_look Foreground (ink_of f) Background (ink_of b) s h k ∙ ap (λ o. put Background o (put Foreground (ink_shade (ink_of f)) s)) (shade_of b) ∙ ap (λ o. put Background (shade b) (put Foreground o s)) (shade_of f)
+    sgrs_look Foreground (sgr_of f) Background (sgr_of b) s h k ∙ ap (λ o. put Background o (put Foreground (sgr_shade (sgr_of f)) s)) (shade_of b) ∙ ap (λ o. put Background (shade b) (put Foreground o s)) (shade_of f)
 
 pub colors_show : ColorsShow
 colors_show Disabled (Some f) (Some b) s h = (refl, refl)

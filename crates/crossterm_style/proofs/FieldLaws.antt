@@ -5,8 +5,8 @@ use Rattle.std.specs.List.{position_or_len, before_first, after_first}
 use Rattle.std.proofs.lemmas.List.Sums.{fails_before_first}
 use Rattle.std.proofs.lemmas.List.Splits.{length-slice_split, slice_split_none, slice_split_first}
 use Rattle.std.specs.Str.Parse.{digits_value, without_leading_plus}
-use Rattle.crossterm_style.specs.declared.types.ink.Ink.{Ink}
-use Rattle.crossterm_style.specs.declared.types.ink.Ink.TheVariants.{Own, Palette, Rgb}
+use Rattle.crossterm_style.specs.declared.types.sgr.SgrColor.{SgrColor}
+use Rattle.crossterm_style.specs.declared.types.sgr.SgrColor.TheVariants.{Own, Indexed, Rgb}
 use Rattle.crossterm_style.specs.Reading.{ReadsInk}
 use Rattle.crossterm_style.specs.Fields.{fields, fields_left, BeginsWith, BeginsWithNone, AreParts}
 
@@ -52,34 +52,34 @@ no_third fs l k n m first second none r g b p =
 -- ---- inks
 
 -- what follows an ink's form, by its number
-abbrev pub InkAfter : ℕ → List (List ℕ) → Ink → Type 0
-InkAfter form rest Own = ⊥
-InkAfter form rest (Palette n) = (form ≡ 5) × BeginsWith rest n []
-InkAfter form rest (Rgb r g b) = (form ≡ 2) × AreParts rest r g b
+abbrev pub SgrAfter : ℕ → List (List ℕ) → SgrColor → Type 0
+SgrAfter form rest Own = ⊥
+SgrAfter form rest (Indexed n) = (form ≡ 5) × BeginsWith rest n []
+SgrAfter form rest (Rgb r g b) = (form ≡ 2) × AreParts rest r g b
 
-pub ink_form : (fs : List (List ℕ)) (ink : Ink) → ReadsInk fs ink → (form : ℕ) × (rest : List (List ℕ)) × BeginsWith fs form rest × InkAfter form rest ink
-ink_form fs Own p = absurd p
-ink_form fs (Palette n) p = (5, p.1 ∷ [], (p.0, p.2, p.3), (refl, (p.1, refl, p.4)))
-ink_form fs (Rgb r g b) p =
+pub sgr_form : (fs : List (List ℕ)) (sgr : SgrColor) → ReadsInk fs sgr → (form : ℕ) × (rest : List (List ℕ)) × BeginsWith fs form rest × SgrAfter form rest sgr
+sgr_form fs Own p = absurd p
+sgr_form fs (Indexed n) p = (5, p.1 ∷ [], (p.0, p.2, p.3), (refl, (p.1, refl, p.4)))
+sgr_form fs (Rgb r g b) p =
     (2, p.1 ∷ p.2 ∷ p.3 ∷ [], (p.0, p.4, p.5), (refl, (p.2 ∷ p.3 ∷ [], p.3 ∷ [], (p.1, refl, p.6), (p.2, refl, p.7), (p.3, refl, p.8))))
 
-pub ink_after : (fs rest : List (List ℕ)) (form : ℕ) (ink : Ink) → BeginsWith fs form rest → ReadsInk fs ink → InkAfter form rest ink
-ink_after fs rest form ink first p =
-    let q = ink_form fs ink p in
+pub sgr_after : (fs rest : List (List ℕ)) (form : ℕ) (sgr : SgrColor) → BeginsWith fs form rest → ReadsInk fs sgr → SgrAfter form rest sgr
+sgr_after fs rest form sgr first p =
+    let q = sgr_form fs sgr p in
     let same = begins_once fs q.0 form q.1 rest q.2 first in
-    subst (λ l. InkAfter form l ink) same.1 (subst (λ n. InkAfter n q.1 ink) same.0 q.3)
+    subst (λ l. SgrAfter form l sgr) same.1 (subst (λ n. SgrAfter n q.1 sgr) same.0 q.3)
 
-pub no_palette : (form : ℕ) (rest : List (List ℕ)) → form ≡ 5 → ((n : ℕ) → BeginsWith rest n [] → ⊥) → (ink : Ink) → InkAfter form rest ink → ⊥
+pub no_palette : (form : ℕ) (rest : List (List ℕ)) → form ≡ 5 → ((n : ℕ) → BeginsWith rest n [] → ⊥) → (sgr : SgrColor) → SgrAfter form rest sgr → ⊥
 no_palette form rest e none Own p = p
-no_palette form rest e none (Palette n) p = none n p.1
+no_palette form rest e none (Indexed n) p = none n p.1
 no_palette form rest e none (Rgb r g b) p = absurd (omega (arith, p.0))
 
-pub no_rgb : (form : ℕ) (rest : List (List ℕ)) → form ≡ 2 → ((r g b : ℕ) → AreParts rest r g b → ⊥) → (ink : Ink) → InkAfter form rest ink → ⊥
+pub no_rgb : (form : ℕ) (rest : List (List ℕ)) → form ≡ 2 → ((r g b : ℕ) → AreParts rest r g b → ⊥) → (sgr : SgrColor) → SgrAfter form rest sgr → ⊥
 no_rgb form rest e none Own p = p
-no_rgb form rest e none (Palette n) p = absurd (omega (arith, p.0))
+no_rgb form rest e none (Indexed n) p = absurd (omega (arith, p.0))
 no_rgb form rest e none (Rgb r g b) p = none r g b p.1
 
-pub no_ink : (fs : List (List ℕ)) → BeginsWithNone fs → (ink : Ink) → ReadsInk fs ink → ⊥
-no_ink fs none ink p =
-    let q = ink_form fs ink p in
+pub no_ink : (fs : List (List ℕ)) → BeginsWithNone fs → (sgr : SgrColor) → ReadsInk fs sgr → ⊥
+no_ink fs none sgr p =
+    let q = sgr_form fs sgr p in
     none q.0 q.1 q.2

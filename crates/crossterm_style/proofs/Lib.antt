@@ -2,7 +2,7 @@ pub mod ActLooks
 pub mod CountLaws
 pub mod FieldLaws
 pub mod Fitting
-pub mod InkLooks
+pub mod SgrLooks
 pub mod Members
 pub mod NameLaws
 pub mod Orders

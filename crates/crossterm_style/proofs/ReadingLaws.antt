@@ -4,12 +4,12 @@ use Rattle.crossterm_style.specs.declared.types.color.Color.{Color}
 use Rattle.crossterm_style.specs.declared.types.color.Color.TheVariants.{Reset}
 use Rattle.crossterm_style.specs.declared.types.colored.Colored.{Colored}
 use Rattle.crossterm_style.specs.declared.types.colored.Colored.TheVariants.{ForegroundColor, BackgroundColor, UnderlineColor}
-use Rattle.crossterm_style.specs.declared.types.ink.Ink.{Ink}
-use Rattle.crossterm_style.specs.declared.types.ink.Ink.TheVariants.{Own, Palette, Rgb}
+use Rattle.crossterm_style.specs.declared.types.sgr.SgrColor.{SgrColor}
+use Rattle.crossterm_style.specs.declared.types.sgr.SgrColor.TheVariants.{Own, Indexed, Rgb}
 use Rattle.crossterm_style.specs.Colors.{color_of}
 use Rattle.crossterm_style.specs.Reading.{ReadsInk, ReadsColor, ReadsPlace, ReadsColored}
 use Rattle.crossterm_style.specs.Fields.{AreParts, BeginsWith, BeginsWithNone, OneColor, OneColored, Sets, SetsNone}
-use Rattle.crossterm_style.proofs.FieldLaws.{InkAfter, begins_once, ink_after, ink_form}
+use Rattle.crossterm_style.proofs.FieldLaws.{SgrAfter, begins_once, sgr_after, sgr_form}
 
 -- ---- a place and what follows its number
 
@@ -21,10 +21,10 @@ ColoredAfter n rest (ForegroundColor c) = PlaceAfter 38 39 n rest c
 ColoredAfter n rest (BackgroundColor c) = PlaceAfter 48 49 n rest c
 ColoredAfter n rest (UnderlineColor c) = PlaceAfter 58 59 n rest c
 
-place_number : (set reset : ℕ) (fs : List (List ℕ)) (ink : Ink) (c : Color) → ReadsPlace set reset fs ink → c ≡ color_of ink
+place_number : (set reset : ℕ) (fs : List (List ℕ)) (sgr : SgrColor) (c : Color) → ReadsPlace set reset fs sgr → c ≡ color_of sgr
     → (n : ℕ) × (rest : List (List ℕ)) × BeginsWith fs n rest × PlaceAfter set reset n rest c
 place_number set reset fs Own c p e = (reset, [], p, inl (refl, refl, e))
-place_number set reset fs (Palette n) c p e = (set, p.1, (p.0, p.2, p.3), inr (refl, (Palette n, p.4, e)))
+place_number set reset fs (Indexed n) c p e = (set, p.1, (p.0, p.2, p.3), inr (refl, (Indexed n, p.4, e)))
 place_number set reset fs (Rgb r g b) c p e = (set, p.1, (p.0, p.2, p.3), inr (refl, (Rgb r g b, p.4, e)))
 
 pub colored_number : (fs : List (List ℕ)) (c : Colored) → ReadsColored fs c
@@ -43,14 +43,14 @@ begins_as : (fs rest : List (List ℕ)) (n m : ℕ) → n ≡ m → BeginsWith f
 begins_as fs rest n m e first = subst (λ k. BeginsWith fs k rest) e first
 
 place_told : (set reset : ℕ) (fs rest : List (List ℕ)) (n : ℕ) (c : Color) → BeginsWith fs n rest → PlaceAfter set reset n rest c
-    → (ink : Ink) × ReadsPlace set reset fs ink × (c ≡ color_of ink)
+    → (sgr : SgrColor) × ReadsPlace set reset fs sgr × (c ≡ color_of sgr)
 place_told set reset fs rest n c first (inl p) =
     let begins = begins_as fs rest n reset p.0 first in
     (Own, (begins.0, begins.1 ∙ ap (λ l. begins.0 ∷ l) p.1, begins.2), p.2)
 place_told set reset fs rest n c first (inr (e, (Own, p, f))) = absurd p
-place_told set reset fs rest n c first (inr (e, (Palette k, p, f))) =
+place_told set reset fs rest n c first (inr (e, (Indexed k, p, f))) =
     let begins = begins_as fs rest n set e first in
-    (Palette k, (begins.0, rest, begins.1, begins.2, p), f)
+    (Indexed k, (begins.0, rest, begins.1, begins.2, p), f)
 place_told set reset fs rest n c first (inr (e, (Rgb r g b, p, f))) =
     let begins = begins_as fs rest n set e first in
     (Rgb r g b, (begins.0, rest, begins.1, begins.2, p), f)
@@ -62,17 +62,17 @@ colored_told fs rest n (UnderlineColor c) first p = place_told 58 59 fs rest n c
 
 -- ---- what is told, by what stands behind the number
 
--- An ink has a field.
-ink_there : (fs : List (List ℕ)) (ink : Ink) → ReadsInk fs ink → fs ≡ [] → ⊥
-ink_there fs ink p e =
-    let q = ink_form fs ink p in
+-- An SGR colour has a field.
+sgr_there : (fs : List (List ℕ)) (sgr : SgrColor) → ReadsInk fs sgr → fs ≡ [] → ⊥
+sgr_there fs sgr p e =
+    let q = sgr_form fs sgr p in
     let bad : fs ≡ q.2.0 ∷ q.1 = q.2.1 in cc
 
-no_place_by_ink : (set reset n : ℕ) (rest : List (List ℕ)) (c : Color) → rest ≢ [] → ((ink : Ink) → ReadsInk rest ink → ⊥) → PlaceAfter set reset n rest c → ⊥
+no_place_by_ink : (set reset n : ℕ) (rest : List (List ℕ)) (c : Color) → rest ≢ [] → ((sgr : SgrColor) → ReadsInk rest sgr → ⊥) → PlaceAfter set reset n rest c → ⊥
 no_place_by_ink set reset n rest c more none (inl p) = more p.1
 no_place_by_ink set reset n rest c more none (inr p) = none p.1.0 p.1.1
 
-no_colored_by_ink : (n : ℕ) (rest : List (List ℕ)) → rest ≢ [] → ((ink : Ink) → ReadsInk rest ink → ⊥) → (c : Colored) → ColoredAfter n rest c → ⊥
+no_colored_by_ink : (n : ℕ) (rest : List (List ℕ)) → rest ≢ [] → ((sgr : SgrColor) → ReadsInk rest sgr → ⊥) → (c : Colored) → ColoredAfter n rest c → ⊥
 no_colored_by_ink n rest more none (ForegroundColor c) p = no_place_by_ink 38 39 n rest c more none p
 no_colored_by_ink n rest more none (BackgroundColor c) p = no_place_by_ink 48 49 n rest c more none p
 no_colored_by_ink n rest more none (UnderlineColor c) p = no_place_by_ink 58 59 n rest c more none p
@@ -98,13 +98,13 @@ answers_none fs none c p =
     let q = colored_number fs c p in
     none q.0 q.1 q.2
 
-pub answers_no_ink : (fs rest : List (List ℕ)) (n : ℕ) → BeginsWith fs n rest → rest ≢ [] → ((ink : Ink) → ReadsInk rest ink → ⊥) → (c : Colored) → ReadsColored fs c → ⊥
+pub answers_no_ink : (fs rest : List (List ℕ)) (n : ℕ) → BeginsWith fs n rest → rest ≢ [] → ((sgr : SgrColor) → ReadsInk rest sgr → ⊥) → (c : Colored) → ReadsColored fs c → ⊥
 answers_no_ink fs rest n first more none c p = no_colored_by_ink n rest more none c (colored_after fs rest n c first p)
 
-pub answers_set : (fs rest : List (List ℕ)) (n : ℕ) (ink : Ink) (d : Color) (o : Option Colored) → BeginsWith fs n rest → ReadsInk rest ink → d ≡ color_of ink → MatchOption o (SetsNone n) (Sets n d)
+pub answers_set : (fs rest : List (List ℕ)) (n : ℕ) (sgr : SgrColor) (d : Color) (o : Option Colored) → BeginsWith fs n rest → ReadsInk rest sgr → d ≡ color_of sgr → MatchOption o (SetsNone n) (Sets n d)
     → MatchOption o ((c : Colored) → ReadsColored fs c → ⊥) (ReadsColored fs)
-answers_set fs rest n ink d None first r e p = λ c q. no_colored_set n rest (ink_there rest ink r) p c (colored_after fs rest n c first q)
-answers_set fs rest n ink d (Some c) first r e p = colored_told fs rest n c first (sets_after n rest d c (ink, r, e) p)
+answers_set fs rest n sgr d None first r e p = λ c q. no_colored_set n rest (sgr_there rest sgr r) p c (colored_after fs rest n c first q)
+answers_set fs rest n sgr d (Some c) first r e p = colored_told fs rest n c first (sets_after n rest d c (sgr, r, e) p)
 
 -- ---- one reading
 
@@ -115,19 +115,19 @@ parts_once fs r g b r' g' b' p q =
     let third = begins_once p.1 b' b [] [] (subst (λ l. BeginsWith l b' []) second.1 q.4) p.4 in
     (sym first.0, sym second.0, sym third.0)
 
-ink_after_once : (form : ℕ) (rest : List (List ℕ)) (i j : Ink) → InkAfter form rest i → InkAfter form rest j → i ≡ j
-ink_after_once form rest Own j p q = absurd p
-ink_after_once form rest (Palette n) Own p q = absurd q
-ink_after_once form rest (Palette n) (Palette m) p q = ap Palette (begins_once rest n m [] [] p.1 q.1).0
-ink_after_once form rest (Palette n) (Rgb r g b) p q = absurd (omega (arith, p.0, q.0))
-ink_after_once form rest (Rgb r g b) Own p q = absurd q
-ink_after_once form rest (Rgb r g b) (Palette n) p q = absurd (omega (arith, p.0, q.0))
-ink_after_once form rest (Rgb r g b) (Rgb r' g' b') p q = let same = parts_once rest r g b r' g' b' p.1 q.1 in cc
+sgr_after_once : (form : ℕ) (rest : List (List ℕ)) (i j : SgrColor) → SgrAfter form rest i → SgrAfter form rest j → i ≡ j
+sgr_after_once form rest Own j p q = absurd p
+sgr_after_once form rest (Indexed n) Own p q = absurd q
+sgr_after_once form rest (Indexed n) (Indexed m) p q = ap Indexed (begins_once rest n m [] [] p.1 q.1).0
+sgr_after_once form rest (Indexed n) (Rgb r g b) p q = absurd (omega (arith, p.0, q.0))
+sgr_after_once form rest (Rgb r g b) Own p q = absurd q
+sgr_after_once form rest (Rgb r g b) (Indexed n) p q = absurd (omega (arith, p.0, q.0))
+sgr_after_once form rest (Rgb r g b) (Rgb r' g' b') p q = let same = parts_once rest r g b r' g' b' p.1 q.1 in cc
 
 pub one_color : OneColor
 one_color fs c d p q =
-    let form = ink_form fs p.0 p.1 in
-    let same = ink_after_once form.0 form.1 p.0 q.0 form.3 (ink_after fs form.1 form.0 q.0 form.2 q.1) in
+    let form = sgr_form fs p.0 p.1 in
+    let same = sgr_after_once form.0 form.1 p.0 q.0 form.3 (sgr_after fs form.1 form.0 q.0 form.2 q.1) in
     p.2 ∙ ap color_of same ∙ sym q.2
 
 place_once : (set reset n : ℕ) (rest : List (List ℕ)) (c d : Color) → set ≢ reset → PlaceAfter set reset n rest c → PlaceAfter set reset n rest d → c ≡ d

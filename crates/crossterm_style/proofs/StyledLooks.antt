@@ -11,7 +11,7 @@ use Rattle.crossterm_style.specs.declared.types.colored.Colored.TheVariants.{For
 use Rattle.crossterm_style.specs.declared.content_style.ContentStyle.{ContentStyle}
 use Rattle.crossterm_style.specs.Acts.{Act, after_acts, attribute_acts, either_there, end_acts, reset_acts, shade, style_acts, styled_acts, where_there}
 use Rattle.crossterm_style.specs.Acts.Act.{Colors, Prints, Takes}
-use Rattle.crossterm_style.specs.Appearance.{DisabledMakesPlain, FitsAct, OneUnderline, PaletteHasNames, ResetComesFirst, StyledEndsPlain, UnderlineColorStays}
+use Rattle.crossterm_style.specs.Appearance.{DisabledMakesPlain, FitsAct, OneUnderline, IndexedHasNames, ResetComesFirst, StyledEndsPlain, UnderlineColorStays}
 use Rattle.crossterm_style.specs.Attributes.{members, of_list}
 use Rattle.crossterm_style.specs.Looks.{plain, put, style_after}
 use Rattle.crossterm_style.specs.Looks.Place.{Underlining}
@@ -98,8 +98,8 @@ styled_ends_plain s content h =
 
 -- ---- some looks
 
-pub palette_has_names : PaletteHasNames
-palette_has_names =
+pub indexed_has_names : IndexedHasNames
+indexed_has_names =
     let acts : List Act = (Colors (ForegroundColor (color.AnsiValue 9)) ∷ Prints (codes "a") ∷ []) in
     let fits : AllByRecursion FitsAct acts = (omega arith, (tt, tt)) in ((acts_show Enabled acts plain fits).0, refl)
 
@@ -122,4 +122,4 @@ underline_color_stays =
     let fits : AllByRecursion FitsAct acts = (omega arith, (tt, (tt, (tt, tt)))) in ((acts_show Enabled acts plain fits).0, refl)
 
 -- What is said of some looks.
-pub ruleset said = (palette_has_names, disabled_makes_plain, reset_comes_first, one_underline, underline_color_stays)
+pub ruleset said = (indexed_has_names, disabled_makes_plain, reset_comes_first, one_underline, underline_color_stays)

@@ -10,9 +10,9 @@ use Rattle.std.proofs.lemmas.Str.Parse.{without_leading_plus_none}
 use Rattle.crossterm_style.specs.declared.types.colored.Colored.{Colored}
 use Rattle.crossterm_style.specs.declared.types.colored.Colored.TheVariants.{ForegroundColor, BackgroundColor, UnderlineColor}
 use Rattle.crossterm_command.specs.declared.color_output.ColorOutput.TheVariants.{Enabled}
-use Rattle.crossterm_style.specs.declared.types.ink.Ink.{Ink}
-use Rattle.crossterm_style.specs.declared.types.ink.Ink.TheVariants.{Own, Palette, Rgb}
-use Rattle.crossterm_style.specs.Colors.{colored_text, ink_of, ink_text, named, FitsColored, FitsInk}
+use Rattle.crossterm_style.specs.declared.types.sgr.SgrColor.{SgrColor}
+use Rattle.crossterm_style.specs.declared.types.sgr.SgrColor.TheVariants.{Own, Indexed, Rgb}
+use Rattle.crossterm_style.specs.Colors.{colored_text, sgr_of, sgr_text, named, FitsColored, FitsSgr}
 use Rattle.crossterm_style.specs.Reading.{ReadsByte, ReadsPlace, ReadsColored}
 use Rattle.crossterm_style.specs.Fields.{IsColoredRead, TextIsReadBack, fields}
 use Rattle.crossterm_style.proofs.ReadingLaws.{one_colored}
@@ -66,9 +66,9 @@ parts_fields r g b hr hg hb =
 
 -- The text of an ink behind a place's number, where a semicolon behind that ends it as a field.
 place_reads : (set reset : ℕ) (x y : List ℕ) → ReadsByte x set → ReadsByte y reset → ((rest : List ℕ) → fields (x ++ (59 ∷ rest)) ≡ x ∷ fields rest) → fields y ≡ y ∷ []
-    → (ink : Ink) → FitsInk ink → ReadsPlace set reset (fields (ink_text x y ink)) ink
+    → (sgr : SgrColor) → FitsSgr sgr → ReadsPlace set reset (fields (sgr_text x y sgr)) sgr
 place_reads set reset x y sets resets cut whole Own h = (y, whole, resets)
-place_reads set reset x y sets resets cut whole (Palette n) h = (
+place_reads set reset x y sets resets cut whole (Indexed n) h = (
   x,
   (53 ∷ []) ∷ decimal n ∷ [],
   cut (53 ∷ 59 ∷ decimal n) ∙ ap (λ l. x ∷ (53 ∷ []) ∷ l) (one_field (decimal n) (byte_digits n h)),
@@ -86,11 +86,11 @@ place_reads set reset x y sets resets cut whole (Rgb r g b) h =
 
 text_reads : (c : Colored) → FitsColored c → ReadsColored (fields (colored_text Enabled c)) (named c)
 text_reads (ForegroundColor c) h =
-    (ink_of c, place_reads 38 39 (codes "38") (codes "39") ((omega arith, (omega arith, (omega arith, tt))), refl, omega arith) ((omega arith, (omega arith, (omega arith, tt))), refl, omega arith) (λ rest. refl) refl (ink_of c) h, refl)
+    (sgr_of c, place_reads 38 39 (codes "38") (codes "39") ((omega arith, (omega arith, (omega arith, tt))), refl, omega arith) ((omega arith, (omega arith, (omega arith, tt))), refl, omega arith) (λ rest. refl) refl (sgr_of c) h, refl)
 text_reads (BackgroundColor c) h =
-    (ink_of c, place_reads 48 49 (codes "48") (codes "49") ((omega arith, (omega arith, (omega arith, tt))), refl, omega arith) ((omega arith, (omega arith, (omega arith, tt))), refl, omega arith) (λ rest. refl) refl (ink_of c) h, refl)
+    (sgr_of c, place_reads 48 49 (codes "48") (codes "49") ((omega arith, (omega arith, (omega arith, tt))), refl, omega arith) ((omega arith, (omega arith, (omega arith, tt))), refl, omega arith) (λ rest. refl) refl (sgr_of c) h, refl)
 text_reads (UnderlineColor c) h =
-    (ink_of c, place_reads 58 59 (codes "58") (codes "59") ((omega arith, (omega arith, (omega arith, tt))), refl, omega arith) ((omega arith, (omega arith, (omega arith, tt))), refl, omega arith) (λ rest. refl) refl (ink_of c) h, refl)
+    (sgr_of c, place_reads 58 59 (codes "58") (codes "59") ((omega arith, (omega arith, (omega arith, tt))), refl, omega arith) ((omega arith, (omega arith, (omega arith, tt))), refl, omega arith) (λ rest. refl) refl (sgr_of c) h, refl)
 
 read_back : (c : Colored) (o : Option Colored) → FitsColored c → IsColoredRead (colored_text Enabled c) o → o ≡ Some (named c)
 read_back c None h p = absurd (p (named c) (text_reads c h))

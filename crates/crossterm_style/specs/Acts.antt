@@ -10,7 +10,7 @@ use Rattle.crossterm_style.specs.declared.types.colored.Colored.{Colored}
 use Rattle.crossterm_style.specs.declared.types.colored.Colored.TheVariants.{ForegroundColor, BackgroundColor, UnderlineColor}
 use Rattle.crossterm_style.specs.declared.content_style.ContentStyle.{ContentStyle}
 use Rattle.crossterm_style.specs.Attributes.{members}
-use Rattle.crossterm_style.specs.Colors.{palette_color}
+use Rattle.crossterm_style.specs.Colors.{indexed_color}
 use Rattle.crossterm_style.specs.Looks.{Style, plain, put}
 use Rattle.crossterm_style.specs.Looks.Blink.{Slow, Rapid}
 use Rattle.crossterm_style.specs.Looks.Place.{Foreground, Background, Underlining}
@@ -60,7 +60,7 @@ with_attribute attribute.NotOverLined s = record s { overlined = false }
 -- a colour as it looks: the terminal's own is none, and the first sixteen of the palette have names
 abbrev pub shade : Color → Option Color
 shade color.Reset = None
-shade (color.AnsiValue n) = Some (palette_color n)
+shade (color.AnsiValue n) = Some (indexed_color n)
 shade c = Some c
 
 abbrev pub with_color : Colored → Style → Style

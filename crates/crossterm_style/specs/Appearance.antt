@@ -12,7 +12,7 @@ use Rattle.crossterm_style.specs.declared.content_style.ContentStyle.{ContentSty
 use Rattle.crossterm_style.specs.Acts.{Act, after_acts, attribute_acts, painted, style_acts, styled_acts, where_there}
 use Rattle.crossterm_style.specs.Acts.Act.{Prints, Colors, Takes}
 use Rattle.crossterm_style.specs.Attributes.{of_list}
-use Rattle.crossterm_style.specs.Colors.{FitsColored, FitsInk, ink_of}
+use Rattle.crossterm_style.specs.Colors.{FitsColored, FitsSgr, sgr_of}
 use Rattle.crossterm_style.specs.Looks.{Style, plain, shown, style_after}
 use Rattle.crossterm_style.specs.Looks.Underline.{Curled}
 use Rattle.crossterm_style.specs.Styles.{colors_functions, no_style, told}
@@ -29,7 +29,7 @@ FitsAct a = ⊤
 -- the same of a colour that may be there
 abbrev pub FitsThere : Option Color → Type 0
 FitsThere None = ⊤
-FitsThere (Some c) = FitsInk (ink_of c)
+FitsThere (Some c) = FitsSgr (sgr_of c)
 
 -- From any style, what is told of acts shows as they paint.
 abbrev pub ActsShow : Type 0
@@ -55,8 +55,8 @@ abbrev pub Look : ColorOutput → List Act → List (ℕ × Style) → Type 0
 Look colors acts cells = (shown (told colors acts) plain ≡ cells) × (painted colors acts plain ≡ cells)
 
 -- The palette's colour 9 is Red.
-abbrev pub PaletteHasNames : Type 0
-PaletteHasNames = Look Enabled (Colors (ForegroundColor (color.AnsiValue 9)) ∷ Prints (codes "a") ∷ []) ((0x61, record plain { foreground = Some color.Red }) ∷ [])
+abbrev pub IndexedHasNames : Type 0
+IndexedHasNames = Look Enabled (Colors (ForegroundColor (color.AnsiValue 9)) ∷ Prints (codes "a") ∷ []) ((0x61, record plain { foreground = Some color.Red }) ∷ [])
 
 -- A colour that is set where colours aren't written makes all plain.
 abbrev pub DisabledMakesPlain : Type 0

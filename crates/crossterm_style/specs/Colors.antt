@@ -8,51 +8,51 @@ use Rattle.crossterm_style.specs.declared.types.color.Color.TheVariants as color
 use Rattle.crossterm_style.specs.declared.types.colored.Colored.{Colored}
 use Rattle.crossterm_style.specs.declared.types.colored.Colored.TheVariants.{ForegroundColor, BackgroundColor, UnderlineColor}
 use Rattle.crossterm_style.specs.declared.types.colors.Colors.{Colors}
-use Rattle.crossterm_style.specs.declared.types.ink.Ink.{Ink}
-use Rattle.crossterm_style.specs.declared.types.ink.Ink.TheVariants.{Own, Palette, Rgb}
+use Rattle.crossterm_style.specs.declared.types.sgr.SgrColor.{SgrColor}
+use Rattle.crossterm_style.specs.declared.types.sgr.SgrColor.TheVariants.{Own, Indexed, Rgb}
 
 -- ---- what is told
 
 -- what a terminal is told of a colour: the named ones are the first sixteen of its palette
-abbrev pub ink_of : Color → Ink
-ink_of color.Reset = Own
-ink_of color.Black = Palette 0
-ink_of color.DarkRed = Palette 1
-ink_of color.DarkGreen = Palette 2
-ink_of color.DarkYellow = Palette 3
-ink_of color.DarkBlue = Palette 4
-ink_of color.DarkMagenta = Palette 5
-ink_of color.DarkCyan = Palette 6
-ink_of color.Grey = Palette 7
-ink_of color.DarkGrey = Palette 8
-ink_of color.Red = Palette 9
-ink_of color.Green = Palette 10
-ink_of color.Yellow = Palette 11
-ink_of color.Blue = Palette 12
-ink_of color.Magenta = Palette 13
-ink_of color.Cyan = Palette 14
-ink_of color.White = Palette 15
-ink_of (color.Rgb r g b) = Rgb r g b
-ink_of (color.AnsiValue n) = Palette n
+abbrev pub sgr_of : Color → SgrColor
+sgr_of color.Reset = Own
+sgr_of color.Black = Indexed 0
+sgr_of color.DarkRed = Indexed 1
+sgr_of color.DarkGreen = Indexed 2
+sgr_of color.DarkYellow = Indexed 3
+sgr_of color.DarkBlue = Indexed 4
+sgr_of color.DarkMagenta = Indexed 5
+sgr_of color.DarkCyan = Indexed 6
+sgr_of color.Grey = Indexed 7
+sgr_of color.DarkGrey = Indexed 8
+sgr_of color.Red = Indexed 9
+sgr_of color.Green = Indexed 10
+sgr_of color.Yellow = Indexed 11
+sgr_of color.Blue = Indexed 12
+sgr_of color.Magenta = Indexed 13
+sgr_of color.Cyan = Indexed 14
+sgr_of color.White = Indexed 15
+sgr_of (color.Rgb r g b) = Rgb r g b
+sgr_of (color.AnsiValue n) = Indexed n
 
--- The SGR parameters of an ink, behind the number that sets the place it is for; the terminal's own has a number by itself.
-abbrev pub ink_text : List ℕ → List ℕ → Ink → List ℕ
-ink_text set reset Own = reset
-ink_text set reset (Palette n) = set ++ (codes ";5;" ++ decimal n)
-ink_text set reset (Rgb r g b) = set ++ (codes ";2;" ++ (decimal r ++ (codes ";" ++ (decimal g ++ (codes ";" ++ decimal b)))))
+-- The SGR parameters of an SGR colour, after the number that sets the place it is for; the terminal's own has a number by itself.
+abbrev pub sgr_text : List ℕ → List ℕ → SgrColor → List ℕ
+sgr_text set reset Own = reset
+sgr_text set reset (Indexed n) = set ++ (codes ";5;" ++ decimal n)
+sgr_text set reset (Rgb r g b) = set ++ (codes ";2;" ++ (decimal r ++ (codes ";" ++ (decimal g ++ (codes ";" ++ decimal b)))))
 
 -- the SGR parameters of a colour at its place; none where colours are not written
 abbrev pub colored_text : ColorOutput → Colored → List ℕ
 colored_text Disabled c = []
-colored_text Enabled (ForegroundColor c) = ink_text (codes "38") (codes "39") (ink_of c)
-colored_text Enabled (BackgroundColor c) = ink_text (codes "48") (codes "49") (ink_of c)
-colored_text Enabled (UnderlineColor c) = ink_text (codes "58") (codes "59") (ink_of c)
+colored_text Enabled (ForegroundColor c) = sgr_text (codes "38") (codes "39") (sgr_of c)
+colored_text Enabled (BackgroundColor c) = sgr_text (codes "48") (codes "49") (sgr_of c)
+colored_text Enabled (UnderlineColor c) = sgr_text (codes "58") (codes "59") (sgr_of c)
 
 -- ---- how it is read
 
 -- the palette's colour at a place: the named one among the first sixteen
-abbrev pub palette_color : ℕ → Color
-palette_color n =
+abbrev pub indexed_color : ℕ → Color
+indexed_color n =
     if n == 0 then color.Black else (
     if n == 1 then color.DarkRed else (
     if n == 2 then color.DarkGreen else (
@@ -71,29 +71,29 @@ palette_color n =
     if n == 15 then color.White else (
     color.AnsiValue n))))))))))))))))
 
--- the colour that an ink names: of the palette's first sixteen the named one
-abbrev pub color_of : Ink → Color
+-- the colour that an SGR colour names: of the palette's first sixteen the named one
+abbrev pub color_of : SgrColor → Color
 color_of Own = color.Reset
-color_of (Palette n) = palette_color n
+color_of (Indexed n) = indexed_color n
 color_of (Rgb r g b) = color.Rgb r g b
 
 -- a colour at its place, of the palette's first sixteen the named one
 abbrev pub named : Colored → Colored
-named (ForegroundColor c) = ForegroundColor (color_of (ink_of c))
-named (BackgroundColor c) = BackgroundColor (color_of (ink_of c))
-named (UnderlineColor c) = UnderlineColor (color_of (ink_of c))
+named (ForegroundColor c) = ForegroundColor (color_of (sgr_of c))
+named (BackgroundColor c) = BackgroundColor (color_of (sgr_of c))
+named (UnderlineColor c) = UnderlineColor (color_of (sgr_of c))
 
--- the numbers of an ink are bytes
-abbrev pub FitsInk : Ink → Type 0
-FitsInk Own = ⊤
-FitsInk (Palette n) = n < 256
-FitsInk (Rgb r g b) = (r < 256) × (g < 256) × (b < 256)
+-- the numbers of an SGR colour are bytes
+abbrev pub FitsSgr : SgrColor → Type 0
+FitsSgr Own = ⊤
+FitsSgr (Indexed n) = n < 256
+FitsSgr (Rgb r g b) = (r < 256) × (g < 256) × (b < 256)
 
 -- the numbers of a colour are bytes
 abbrev pub FitsColored : Colored → Type 0
-FitsColored (ForegroundColor c) = FitsInk (ink_of c)
-FitsColored (BackgroundColor c) = FitsInk (ink_of c)
-FitsColored (UnderlineColor c) = FitsInk (ink_of c)
+FitsColored (ForegroundColor c) = FitsSgr (sgr_of c)
+FitsColored (BackgroundColor c) = FitsSgr (sgr_of c)
+FitsColored (UnderlineColor c) = FitsSgr (sgr_of c)
 
 -- ---- a foreground and a background
 

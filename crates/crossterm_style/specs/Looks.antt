@@ -7,7 +7,7 @@ use Rattle.crossterm_command.specs.Tokens.{Token}
 use Rattle.crossterm_command.specs.Tokens.Token.{Char, Csi}
 use Rattle.crossterm_style.specs.declared.types.color.Color.{Color}
 use Rattle.crossterm_style.specs.declared.types.color.Color.TheVariants as color
-use Rattle.crossterm_style.specs.Colors.{palette_color}
+use Rattle.crossterm_style.specs.Colors.{indexed_color}
 
 -- ---- a style
 
@@ -159,7 +159,7 @@ rgb_at r ps = None
 
 -- the colour that parameters begin with, and how many it takes: `5;n`, or `2;r;g;b`
 abbrev pub color_at : List Parameter → Option (Color × ℕ)
-color_at (Number form ∷ Number n ∷ rest) = if form == 5 then Some (palette_color n, 2) else (if form == 2 then rgb_at n rest else None)
+color_at (Number form ∷ Number n ∷ rest) = if form == 5 then Some (indexed_color n, 2) else (if form == 2 then rgb_at n rest else None)
 color_at ps = None
 
 -- The parameters one after another, but for the first ones that a colour took. A place with no colour behind it ends the reading.

@@ -2,8 +2,8 @@
 use Rattle.std.specs.Prelude.{◌≡◌, ℕ, ◌<◌, List, [], ◌∷◌}
 use Rattle.std.specs.Str.Parse.{IsNumeral, digits_value, without_leading_plus}
 use Rattle.crossterm_style.specs.declared.types.color.Color.{Color}
-use Rattle.crossterm_style.specs.declared.types.ink.Ink.{Ink}
-use Rattle.crossterm_style.specs.declared.types.ink.Ink.TheVariants.{Own, Palette, Rgb}
+use Rattle.crossterm_style.specs.declared.types.sgr.SgrColor.{SgrColor}
+use Rattle.crossterm_style.specs.declared.types.sgr.SgrColor.TheVariants.{Own, Indexed, Rgb}
 use Rattle.crossterm_style.specs.declared.types.colored.Colored.{Colored}
 use Rattle.crossterm_style.specs.declared.types.colored.Colored.TheVariants.{ForegroundColor, BackgroundColor, UnderlineColor}
 use Rattle.crossterm_style.specs.Colors.{color_of}
@@ -12,25 +12,25 @@ use Rattle.crossterm_style.specs.Colors.{color_of}
 abbrev pub ReadsByte : List ℕ → ℕ → Type 0
 ReadsByte field n = IsNumeral 10 (without_leading_plus field) × (digits_value 10 (without_leading_plus field) ≡ n) × (n < 256)
 
--- Fields tell an ink: `5;n` one of the palette, `2;r;g;b` one by its parts, and no field follows.
-abbrev pub ReadsInk : List (List ℕ) → Ink → Type 0
+-- Fields tell an SGR colour: `5;n` an indexed one, `2;r;g;b` one by its parts, and no field follows.
+abbrev pub ReadsInk : List (List ℕ) → SgrColor → Type 0
 ReadsInk fields Own = ⊥
-ReadsInk fields (Palette n) = (form : List ℕ) × (value : List ℕ) × (fields ≡ form ∷ value ∷ []) × ReadsByte form 5 × ReadsByte value n
+ReadsInk fields (Indexed n) = (form : List ℕ) × (value : List ℕ) × (fields ≡ form ∷ value ∷ []) × ReadsByte form 5 × ReadsByte value n
 ReadsInk fields (Rgb r g b) = (form : List ℕ) × (red : List ℕ) × (green : List ℕ) × (blue : List ℕ)
     × (fields ≡ form ∷ red ∷ green ∷ blue ∷ []) × ReadsByte form 2 × ReadsByte red r × ReadsByte green g × ReadsByte blue b
 
--- Fields tell a colour, by its ink.
+-- Fields tell a colour, as SGR has it.
 abbrev pub ReadsColor : List (List ℕ) → Color → Type 0
-ReadsColor fields c = (ink : Ink) × ReadsInk fields ink × (c ≡ color_of ink)
+ReadsColor fields c = (sgr : SgrColor) × ReadsInk fields sgr × (c ≡ color_of sgr)
 
--- Fields tell the ink of a place: the number that sets it and the ink's fields, or the number that resets it alone.
-abbrev pub ReadsPlace : ℕ → ℕ → List (List ℕ) → Ink → Type 0
+-- Fields tell the colour of a place: the number that sets it and the colour's fields, or the number that resets it alone.
+abbrev pub ReadsPlace : ℕ → ℕ → List (List ℕ) → SgrColor → Type 0
 ReadsPlace set reset fields Own = (first : List ℕ) × (fields ≡ first ∷ []) × ReadsByte first reset
-ReadsPlace set reset fields (Palette n) = (first : List ℕ) × (rest : List (List ℕ)) × (fields ≡ first ∷ rest) × ReadsByte first set × ReadsInk rest (Palette n)
+ReadsPlace set reset fields (Indexed n) = (first : List ℕ) × (rest : List (List ℕ)) × (fields ≡ first ∷ rest) × ReadsByte first set × ReadsInk rest (Indexed n)
 ReadsPlace set reset fields (Rgb r g b) = (first : List ℕ) × (rest : List (List ℕ)) × (fields ≡ first ∷ rest) × ReadsByte first set × ReadsInk rest (Rgb r g b)
 
 -- Fields tell a colour at its place.
 abbrev pub ReadsColored : List (List ℕ) → Colored → Type 0
-ReadsColored fields (ForegroundColor c) = (ink : Ink) × ReadsPlace 38 39 fields ink × (c ≡ color_of ink)
-ReadsColored fields (BackgroundColor c) = (ink : Ink) × ReadsPlace 48 49 fields ink × (c ≡ color_of ink)
-ReadsColored fields (UnderlineColor c) = (ink : Ink) × ReadsPlace 58 59 fields ink × (c ≡ color_of ink)
+ReadsColored fields (ForegroundColor c) = (sgr : SgrColor) × ReadsPlace 38 39 fields sgr × (c ≡ color_of sgr)
+ReadsColored fields (BackgroundColor c) = (sgr : SgrColor) × ReadsPlace 48 49 fields sgr × (c ≡ color_of sgr)
+ReadsColored fields (UnderlineColor c) = (sgr : SgrColor) × ReadsPlace 58 59 fields sgr × (c ≡ color_of sgr)

@@ -2,9 +2,9 @@
 ghost use Rattle.std.specs.Prelude.{◌≡◌, ◌==◌, ℕ, ◌↔◌, [], ◌∷◌, Some, IsTrue, MatchOption};
 ghost use Rattle.crossterm_style.specs.Fields.{fields, fields_left, AreParts, BeginsWith, BeginsWithNone};
 ghost use Rattle.crossterm_style.specs.Reading.{ReadsInk};
-ghost use Rattle.crossterm_style.specs.declared.types.ink.Ink.{Ink};
+ghost use Rattle.crossterm_style.specs.declared.types.sgr.SgrColor.{SgrColor};
 
-use crate::Ink;
+use crate::SgrColor;
 
 /// The fields of a text, between semicolons, of which some were taken.
 #[derive(Clone, Copy)]
@@ -83,21 +83,21 @@ impl<'a> Fields<'a> {
         }
     }
 
-    /// The ink that the last fields tell.
-    pub(crate) fn ink(self) -> Option<Ink>
-        ensures { MatchOption result ((ink : Ink) → ReadsInk (fields_left self.entry.rest) ink → ⊥)
-            (λ ink. ReadsInk (fields_left self.entry.rest) ink) }
+    /// The colour that the last fields tell.
+    pub(crate) fn sgr(self) -> Option<SgrColor>
+        ensures { MatchOption result ((sgr : SgrColor) → ReadsInk (fields_left self.entry.rest) sgr → ⊥)
+            (λ sgr. ReadsInk (fields_left self.entry.rest) sgr) }
     {
         let Some((form, fields)) = self.byte() else {
             return None;
         };
         match form {
             5 => match fields.last_byte() {
-                Some(n) => Some(Ink::Palette(n)),
+                Some(n) => Some(SgrColor::Indexed(n)),
                 None => None,
             },
             2 => match fields.parts() {
-                Some((r, g, b)) => Some(Ink::Rgb(r, g, b)),
+                Some((r, g, b)) => Some(SgrColor::Rgb(r, g, b)),
                 None => None,
             },
             _ => None,

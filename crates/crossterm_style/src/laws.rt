@@ -6,7 +6,7 @@ ghost use Rattle.std.specs.List.{AllByRecursion, Contains};
 ghost use Rattle.crossterm_flags.specs.Orders.{ComparesBy};
 ghost use Rattle.crossterm_flags.specs.Variants.{rank_order};
 ghost use Rattle.crossterm_style.specs.Acts.{style_acts};
-ghost use Rattle.crossterm_style.specs.Appearance.{ActsShow, ColorsShow, DisabledMakesPlain, FitsAct, FitsThere, OneUnderline, PaletteHasNames, ResetComesFirst, StyledEndsPlain, UnderlineColorStays, colors_acts};
+ghost use Rattle.crossterm_style.specs.Appearance.{ActsShow, ColorsShow, DisabledMakesPlain, FitsAct, FitsThere, OneUnderline, IndexedHasNames, ResetComesFirst, StyledEndsPlain, UnderlineColorStays, colors_acts};
 ghost use Rattle.crossterm_style.specs.Attributes.{Makes, attributes, bit_of, differ, has, of_list};
 ghost use Rattle.crossterm_style.specs.declared.types.attribute.Attribute.{Attribute};
 ghost use Rattle.crossterm_style.specs.Colors.{FitsColored, LaterIsAssociative, LaterWins, NoColorsAreNeutral};
@@ -79,7 +79,7 @@ pub fn styled_ends_plain()
 /// stands alone; an underline's colour outlives its content.
 #[tactic(auto, using(crate::proofs::StyledLooks::said))]
 pub fn some_looks()
-    ensures palette { PaletteHasNames }
+    ensures indexed { IndexedHasNames }
     ensures disabled { DisabledMakesPlain }
     ensures reset { ResetComesFirst }
     ensures underline { OneUnderline }

@@ -1,4 +1,22 @@
 //! Colours, attributes and styled text: crossterm's `style`, but for `Stylize`.
+//!
+//! What to believe, in the order in which it reads (`specs/`), and where it is proved:
+//!
+//! | Definitions | Lines | Of | Contract |
+//! |---|---|---|---|
+//! | `Attributes` | 71 | names, parameters and bits of attributes, and sets of them | `Attribute`, `laws::{sets, sets_are_their_members}` |
+//! | `AttributeSet` | 6 | a set as a clause sees it | `Attributes` |
+//! | `Colors` | 134 | what terminals are told of colours, and how it reads | `Colored`, `Colors`, `laws` |
+//! | `ColorNames` | 45 | the names of colours | `Color::from_str` |
+//! | `Fields` | 73 | the fields of a text | `fields.rt` |
+//! | `Reading` | 36 | how SGR parameters read as colours | `Color::parse_ansi`, `Colored::parse_ansi` |
+//! | `Counts` | 20 | how many colours a terminal has | `available_color_count` |
+//! | `Ranks` | 45 | the declared orders | `laws::declared_orders` |
+//! | `Styles` | 52 | what a terminal is told by the commands of style | `Command::text` of each |
+//! | `Looks` | 203 | how a terminal shows what it is told | `laws::looks` |
+//! | `Acts` | 131 | what commands do to the look | `laws::some_looks` |
+//! | `Appearance` | 76 | what terminals are told shows as commands paint | `laws::{looks, styled_ends_plain}` |
+//! | `Values` | 150 | colours and attributes as JSON | `Serialize` and `Deserialize` of each |
 #![tactic(auto)]
 
 mod attributes;
@@ -23,5 +41,5 @@ pub use crossterm_command::ColorOutput;
 pub use crossterm_flags::ValueFault;
 pub use print::Print;
 pub use styled_content::StyledContent;
-pub(crate) use types::Ink;
+pub(crate) use types::SgrColor;
 pub use types::{Attribute, AttributeIter, Color, Colored, Colors, SGR};

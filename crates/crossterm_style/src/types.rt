@@ -5,7 +5,7 @@ mod attribute_iter;
 mod color;
 mod colored;
 mod colors;
-mod ink;
+mod sgr;
 
 pub use attribute::{Attribute, SGR};
 pub use attribute_iter::AttributeIter;
@@ -13,4 +13,4 @@ pub use color::Color;
 pub(crate) use color::{color_named, name_of};
 pub use colored::Colored;
 pub use colors::Colors;
-pub(crate) use ink::Ink;
+pub(crate) use sgr::SgrColor;

@@ -11,19 +11,19 @@ use Rattle.bstr.specs.Utf8.{lossy_chars}
 use Rattle.crossterm_types.specs.Seen.{Seen, Paste}
 use Rattle.crossterm_parse.specs.Marked.{bytes_of}
 use Rattle.crossterm_parse.specs.declared.marked.Marked.{Marked}
-use Rattle.crossterm_parse.specs.Deciding.{is_whole, is_decided, is_shape, is_character, begins, ends_character, ends_numbered, ends_paste, ends_digit, is_continuing, is_nil}
+use Rattle.crossterm_parse.specs.Grammar.{begins, Whole, paste_mark, paste_start, paste_end}
+use Rattle.crossterm_parse.specs.inside.Recognizer.{is_whole, is_decided, is_shape, is_character, ends_character, ends_numbered, ends_paste, ends_digit, is_continuing, is_nil}
 use Rattle.crossterm_parse.specs.Division.{Divides, IsUndecided}
-use Rattle.crossterm_parse.specs.Grammar.{Whole, paste_mark, paste_start, paste_end}
 use Rattle.crossterm_parse.specs.Meaning.{reply_meaning, csi_meaning, flags_reply, meaning, meaning_seen, meaning_of, seen_meaning}
-use Rattle.crossterm_parse.specs.Machine.{Kept, digits_after, readings_at}
+use Rattle.crossterm_parse.specs.inside.Automaton.{Kept, parameters_after, readings_at}
 use Rattle.crossterm_parse.specs.Numbered.{Readings, readings_of, numbered, sgr, last_of, front_of}
 use Rattle.crossterm_parse.specs.declared.meaning.Meaning.{Meaning}
 use Rattle.crossterm_parse.specs.declared.meaning.Meaning.TheVariants.{PrimaryDeviceAttributes}
-use Rattle.crossterm_parse.specs.declared.numbered.Digits.{Digits}
+use Rattle.crossterm_parse.specs.declared.numbered.Parameters.{Parameters}
 use Rattle.crossterm_parse.proofs.MachineLaws.{kept_more, kept_readings, last_at, front_at}
 use Rattle.crossterm_parse.proofs.DivisionLaws.{divide_whole, divide_open, nil_undecided}
 use Rattle.crossterm_parse.proofs.GrammarLaws.{digit_apart, bytes_of-append, true_whole, whole_true, nil_not_whole}
-use Rattle.crossterm_parse.proofs.StandingLaws.{meant}
+use Rattle.crossterm_parse.proofs.ViewLaws.{decided_is, meant}
 
 -- what was found of the first bytes
 pub record Found (bytes : List Marked) (part lengths : List ℕ) (events : List Seen) : Type 0 where
@@ -43,28 +43,6 @@ part_more rest part m e = ap (λ (bs : List ℕ). bs ++ m.byte ∷ []) e ∙ sym
 part_length : (ms : List Marked) → length (bytes_of ms) ≡ length ms
 part_length [] = refl
 part_length (m ∷ ms) = ap suc (part_length ms)
-
--- undecided bytes don't begin with an escape and a pause
-undecided_false : (n : Marked) (ns : List Marked) → IsUndecided Whole (n ∷ ns) → (n.byte == 27) && n.pause ≡ false
-undecided_false n ns h = elim (cases_Bool ((n.byte == 27) && n.pause)) [
-  | inl t ↦ absurd (h 1 (true_whole (n ∷ []) (rw t)))
-  | inr f ↦ f
-]
-
-lone_apart : (t p s : Bool) → (((t && false) && p) || s) ≡ s
-lone_apart true p s = refl
-lone_apart false p s = refl
-
--- the test of undecided bytes with one more is that of the marked bytes
-decided_is : (rest : List Marked) (m : Marked) → IsUndecided Whole rest → is_decided (bytes_of rest ++ m.byte ∷ []) m.pause ≡ is_whole (rest ++ m ∷ [])
-decided_is [] m h = go (m.byte == 27) m.pause (is_character (m.byte ∷ [])) where
-  go : (t p x : Bool) → (((t && true) && p) || cond t false x) ≡ cond (t && p) true (cond t false x)
-  go true true x = refl
-  go true false x = refl
-  go false true x = refl
-  go false false x = refl
-decided_is (n ∷ []) m h = rw (undecided_false n [] h) (lone_apart (n.byte == 27) m.pause (is_shape (n.byte ∷ m.byte ∷ [])))
-decided_is (n ∷ o ∷ ns) m h = rw (undecided_false n (o ∷ ns) h, bytes_of-append ns (m ∷ [])) (lone_apart (n.byte == 27) m.pause (is_shape (n.byte ∷ o.byte ∷ (bytes_of ns ++ m.byte ∷ []))))
 
 part_whole : (rest : List Marked) (part : List ℕ) (m : Marked) → IsUndecided Whole rest → part ≡ bytes_of rest → is_decided (part ++ m.byte ∷ []) m.pause ≡ is_whole (rest ++ m ∷ [])
 part_whole rest part m h e = rw e (decided_is rest m h)
@@ -123,12 +101,12 @@ ends_on n (b ∷ bs) l m h =
     ap (λ (xs : List ℕ). ends_character (n - 1) xs) (take_all (length (b ∷ bs) - 1) bs (omega arith)) ∙ sym (ends_further n b bs m ∙ rw h refl)
 
 -- one more byte of a numbered sequence
-pub number_next : (d new : Digits) (text : List ℕ) (i b : ℕ) → i < length text → b ≡ get_or text i 0 → new ≡ digits_after d b → Kept d (take i text) → Kept new (take (i + 1) text)
+pub number_next : (d new : Parameters) (text : List ℕ) (i b : ℕ) → i < length text → b ≡ get_or text i 0 → new ≡ parameters_after d b → Kept d (take i text) → Kept new (take (i + 1) text)
 number_next d new text i b l is e k =
     let longer : take (i + 1) text ≡ take i text ++ b ∷ [] = take_more text i 0 l ∙ ap (λ (c : ℕ). take i text ++ c ∷ []) (sym is) in
-    subst (λ (n : Digits). Kept n (take (i + 1) text)) (sym e) (subst (Kept (digits_after d b)) (sym longer) (kept_more d (take i text) b k))
+    subst (λ (n : Parameters). Kept n (take (i + 1) text)) (sym e) (subst (Kept (parameters_after d b)) (sym longer) (kept_more d (take i text) b k))
 
-pub number_over : (d : Digits) (text : List ℕ) (i : ℕ) → length text ≤ i → Kept d (take i text) → readings_at d ≡ readings_of text
+pub number_over : (d : Parameters) (text : List ℕ) (i : ℕ) → length text ≤ i → Kept d (take i text) → readings_at d ≡ readings_of text
 number_over d text i l k = kept_readings d text (subst (Kept d) (take_all i text l) k)
 
 -- what a reply means, by its last byte and its first

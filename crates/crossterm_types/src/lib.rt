@@ -3,6 +3,21 @@
 //! It stands on `crossterm_flags`. The layers above use that equality, order and hash of a `KeyEvent` are those of its normal form
 //! (`specs/Normal.antt`, `specs/Compared.antt`; its laws stand on `event::laws::normal_form_laws`), see events through
 //! `specs/Seen.antt`, and know exactly which events a filter admits (`specs/Admitting.antt`).
+//!
+//! What to believe, in the order in which it reads (`specs/`), and where it is proved:
+//!
+//! | Definitions | Lines | Of | Contract |
+//! |---|---|---|---|
+//! | `Seen` | 35 | events as a clause sees them | |
+//! | `Keys` | 18 | keys, and modifiers by their bits | `KeyEvent::new` and the like |
+//! | `Normal` | 26 | the normal form of a key | `event::laws::normal_form_laws` |
+//! | `Compared` | 50 | how keys compare and hash | `PartialEq`, `Ord` and `Hash` of `KeyEvent` |
+//! | `Variants` | 102 | the variants of enums by their names | |
+//! | `Ranks` | 97 | the declared orders | `event::laws::{declared_orders, declared_orders_of_events}` |
+//! | `Names` | 50 | the names that keys show as | `Display` of `KeyCode` and its like |
+//! | `Admitting` | 51 | which events a filter admits | `Filter::{eval, classes}` |
+//! | `Timing` | 22 | limits of time | `PollTimeout` |
+//! | `Values` | 169 | events as JSON | `Serialize` and `Deserialize` of each |
 #![tactic(auto)]
 
 pub mod event;

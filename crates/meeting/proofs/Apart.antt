@@ -8,7 +8,7 @@ use Rattle.crossterm_read.specs.Answers.{SourceAnswer}
 use Rattle.crossterm_read.specs.Calls.{taken}
 use Rattle.crossterm_read.specs.History.{Entry, Known, Differ, Extends, Meets, Sits, StartsWith, all_events, are_of, calls_by, taken_by}
 use Rattle.crossterm_read.specs.Replies.{Replied, Said, ToPoll, ToTake, ToQuery, Fault, shown}
-use Rattle.crossterm_read.specs.Shelf.{ReaderState}
+use Rattle.crossterm_read.specs.Store.{ReaderState}
 use Rattle.crossterm_read.proofs.Seating.{some_of, none_not, same_or_not, and_both}
 use Rattle.meeting.specs.Apart.{ReadApart}
 
@@ -139,8 +139,8 @@ module _ {S : Type 0} (drawn : S → List SourceAnswer → S → Type 0) where
             let passes : u.passes ≡ 2 = ap (λ (k : Known S). k.passes) m.kept ∙ ap (λ (k : Known S). k.passes) x.after ∙ two in
             let differ : v.number ≢ w.number = λ e. m.apart (number_v ∙ e ∙ sym number_w) in
             let both = by_two v.number w.number u.seen (omega arith) (omega arith) differ (subst (λ n. are_of n u.seen ≡ true) passes sits.of_passes) in
-            IsPermutation-trans (all_events m.opening u.seen) (taken_by u.seen ++ m.left.shelf.held) ((taken_by (calls_by v.number u.seen) ++ taken_by (calls_by w.number u.seen)) ++ m.left.shelf.held)
-            m.each_once.once (IsPermutation-append_left m.left.shelf.held (taken_by u.seen) (taken_by (calls_by v.number u.seen) ++ taken_by (calls_by w.number u.seen)) both);
+            IsPermutation-trans (all_events m.opening u.seen) (taken_by u.seen ++ m.left.store.held) ((taken_by (calls_by v.number u.seen) ++ taken_by (calls_by w.number u.seen)) ++ m.left.store.held)
+            m.each_once.once (IsPermutation-append_left m.left.store.held (taken_by u.seen) (taken_by (calls_by v.number u.seen) ++ taken_by (calls_by w.number u.seen)) both);
       }
     where
       begins : (log seen grown more : List Entry) → grown ≡ seen ++ more → StartsWith log grown → StartsWith log seen

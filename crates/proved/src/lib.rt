@@ -4,7 +4,7 @@
 ghost use Rattle.std.specs.Prelude.{◌≡◌, ◌++◌, ◌≢◌, IfErr, OnOk, [], codes};
 ghost use Rattle.std.specs.IoError.{error_kind};
 ghost use Rattle.std.specs.Io.KnownBytes.{Appends};
-ghost use Rattle.crossterm_parse.specs.Standing.{StandsStill};
+ghost use Rattle.crossterm_parse.specs.View.{RepresentsSame};
 ghost use Rattle.crossterm_command.specs.Tokens.{text_of};
 ghost use Rattle.crossterm_command.specs.Writing.{AppendsFront};
 ghost use Rattle.crossterm_style.specs.Styles.{color_functions};
@@ -55,7 +55,7 @@ pub fn say<W: Write>(w: &mut W, colors: ColorOutput, color: Color, text: &str) -
 /// How many events a parser gives. It has none afterwards, and stands for the same open sequence.
 pub fn count(parser: &mut Parser) -> usize
     ensures given { parser.new.waiting ≡ [] }
-    ensures stands { StandsStill parser.old parser.new }
+    ensures represents { RepresentsSame parser.old parser.new }
 {
     let mut count = 0usize;
     for _ in parser.events() {

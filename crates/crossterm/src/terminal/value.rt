@@ -3,12 +3,12 @@ ghost use Rattle.std.specs.Prelude.{◌≡◌, IfOk, Some};
 ghost use Rattle.serde_json.specs.Data.{string};
 ghost use Rattle.serde_json.specs.View.{view};
 ghost use Rattle.crossterm_flags.specs.Values.{Reads, Tells};
-ghost use Rattle.crossterm_flags.specs.Variants.{reads_variant, variant};
+ghost use Rattle.crossterm_flags.specs.Variants.{all, reads_variant, variant};
 ghost use Rattle.crossterm.specs.Values.{clears};
 
 use crate::terminal::ClearType;
 use crossterm_flags::value::{Named, read_named, shaped, tell_named};
-use crossterm_flags::{ValueFault, named_variants};
+use crossterm_flags::{ValueFault, named_variants, variants};
 use serde_json::Value;
 use std::alloc::Global;
 
@@ -23,6 +23,13 @@ impl Named for ClearType {
 }
 
 impl ClearType {
+    /// All of them, in declared order.
+    pub fn all<'a>() -> &'a [ClearType]
+        ensures { result.now ≡ all clears }
+    {
+        &variants!(ClearType: All Purge FromCursorDown FromCursorUp CurrentLine UntilNewLine)
+    }
+
     /// Its variant as a JSON text.
     ///
     /// # Errors

@@ -8,7 +8,6 @@ use crossterm::terminal::{
     EndSynchronizedUpdate, EnterAlternateScreen, LeaveAlternateScreen, ScrollDown, ScrollUp,
     SetSize,
 };
-use crossterm_flags::value::Named;
 
 /// Writes a command of the terminal.
 pub(super) fn write_terminal(command: &GelvanhCommand, slice: &mut [u8]) -> Answer

@@ -1,10 +1,10 @@
 //! Runs: bytes that are put in at once, with what comes of putting in each by itself. Where there is no room, and none can be made, a
 //! run takes fewer.
 ghost use Rattle.std.specs.Prelude.{◌≡◌, ◌+◌, ◌*◌, ◌≤◌, ◌<◌, [], length, take, IsTrue};
-ghost use Rattle.crossterm_parse.specs.Standing.{Gives, PutsAll};
+ghost use Rattle.crossterm_parse.specs.inside.Putting.{TakesFront, Gives, PutsAll};
 
 use super::Parser;
-use crate::meaning::{Meaning, letter_key, typed_key};
+use crate::meaning::{Meaning, ascii_key, typed_key};
 use crate::paste::Met;
 use crate::state::State;
 use crate::steps::Steps;
@@ -45,12 +45,9 @@ impl<A: Allocator + Clone> Parser<A> {
     /// Gives the events of the letters in front, and tells how many: as many as there is room for, which is made for one at least.
     fn give_letters<L: Ledger>(&mut self, bytes: &[u8], steps: &mut Steps<L>) -> usize
         requires { self.old.state ≡ State.Ground }
-        ensures within { result ≤ length bytes.now }
+        ensures front { TakesFront self.old self.new bytes.now result steps.old steps.new }
         ensures puts { PutsAll self.old self.new (take result bytes.now) }
         ensures state { self.new.state ≡ State.Ground }
-        ensures text { length self.new.text ≡ length self.old.text }
-        ensures room { self.old.room ≤ self.new.room + result }
-        ensures steps { steps.new ≡ steps.old + result }
     {
         if !self.has_room() {
             return 0;
@@ -58,7 +55,7 @@ impl<A: Allocator + Clone> Parser<A> {
         let most = bytes.len().min(self.room());
         let count = self.state.put_letters(&bytes[..most], steps);
         for letter in &bytes[..count] {
-            self.give_key(letter_key(*letter));
+            self.give_key(ascii_key(*letter));
         }
         count
     }
@@ -67,12 +64,9 @@ impl<A: Allocator + Clone> Parser<A> {
     #[inline(always)]
     fn give_utf8<L: Ledger>(&mut self, bytes: &[u8], steps: &mut Steps<L>) -> usize
         requires { self.old.state ≡ State.Ground }
-        ensures within { result ≤ length bytes.now }
+        ensures front { TakesFront self.old self.new bytes.now result steps.old steps.new }
         ensures puts { PutsAll self.old self.new (take result bytes.now) }
         ensures state { self.new.state ≡ State.Ground }
-        ensures text { length self.new.text ≡ length self.old.text }
-        ensures room { self.old.room ≤ self.new.room + result }
-        ensures steps { steps.new ≡ steps.old + result }
     {
         if self.room() == 0 {
             return 0;
@@ -118,12 +112,9 @@ impl<A: Allocator + Clone> Parser<A> {
     fn give_front<L: Ledger>(&mut self, bytes: &[u8], steps: &mut Steps<L>) -> usize
         requires ground { self.old.state ≡ State.Ground }
         requires some { 0 < length bytes.now }
-        ensures within { result ≤ length bytes.now }
+        ensures front { TakesFront self.old self.new bytes.now result steps.old steps.new }
         ensures puts { PutsAll self.old self.new (take result bytes.now) }
         ensures state { self.new.state ≡ State.Ground }
-        ensures text { length self.new.text ≡ length self.old.text }
-        ensures room { self.old.room ≤ self.new.room + result }
-        ensures steps { steps.new ≡ steps.old + result }
     {
         match bytes[0] {
             32..=126 => self.give_letters(bytes, steps),
@@ -135,11 +126,8 @@ impl<A: Allocator + Clone> Parser<A> {
     /// Gives the events of the letters and of the characters in UTF-8 in front, and tells how many bytes they have.
     fn give_text<L: Ledger>(&mut self, bytes: &[u8], steps: &mut Steps<L>) -> usize
         requires { self.old.state ≡ State.Ground }
-        ensures within { result ≤ length bytes.now }
+        ensures front { TakesFront self.old self.new bytes.now result steps.old steps.new }
         ensures puts { PutsAll self.old self.new (take result bytes.now) }
-        ensures text { length self.new.text ≡ length self.old.text }
-        ensures room { self.old.room ≤ self.new.room + result }
-        ensures steps { steps.new ≡ steps.old + result }
     {
         let mut place = 0;
         while place < bytes.len() {

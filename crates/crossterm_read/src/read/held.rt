@@ -4,9 +4,9 @@ ghost use Rattle.std.specs.Iterator.{YieldsFirstBy, item_count};
 ghost use Rattle.std.specs.Option.{option_map};
 ghost use Rattle.crossterm_types.specs.Seen.{Seen, seen};
 ghost use Rattle.crossterm_read.specs.Answers.{Gave};
-ghost use Rattle.crossterm_read.specs.Queues.{AreJoined, AreKept, behind, joined, member_kept, queues_of};
-ghost use Rattle.crossterm_read.specs.Shelf.{Arrives, Holding, kept};
-ghost use Rattle.crossterm_read.specs.Steps.{TakeSays, first_admitted};
+ghost use Rattle.crossterm_read.specs.inside.Queues.{AreJoined, AreKept, behind, joined, member_kept, queues_of};
+ghost use Rattle.crossterm_read.specs.Store.{Arrives, Holding, kept};
+ghost use Rattle.crossterm_read.specs.Steps.{TakeReplies, first_admitted};
 
 mod kind;
 mod queues;
@@ -70,7 +70,7 @@ pub(crate) struct HeldEvents<A: Allocator> {
 impl<A: Allocator> Model for HeldEvents<A> {
     ghost Value = { Holding };
 
-    ghost view = { λ h. record { shelf = record { held = map member_kept (joined (queues_of h.queues)); arrivals = h.arrivals }; room = h.limit - h.len } };
+    ghost view = { λ h. record { store = record { held = map member_kept (joined (queues_of h.queues)); arrivals = h.arrivals }; room = h.limit - h.len } };
 
     ghost invariant = { λ h. AreKept h.queues h.len h.limit h.next_order };
 }
@@ -78,7 +78,7 @@ impl<A: Allocator> Model for HeldEvents<A> {
 impl<A: Allocator + Clone> HeldEvents<A> {
     // Makes room for one event, of whichever kind.
     pub(crate) fn reserve(&mut self) -> Result<(), AllocError>
-        ensures shelf { self.new.shelf ≡ self.old.shelf }
+        ensures store { self.new.store ≡ self.old.store }
         ensures room { self.old.room ≤ self.new.room }
         ensures ok { IfOk result (λ _. 0 < self.new.room) }
         ensures err { IfErr result (λ _. (self.new ≡ self.old) × (self.old.room ≡ 0)) }
@@ -105,7 +105,7 @@ impl<A: Allocator + Clone> HeldEvents<A> {
 impl<A: Allocator> HeldEvents<A> {
     // Nothing is held yet, and there is no room yet.
     pub(crate) fn new(alloc: A) -> Self
-        ensures { result ≡ record { shelf = record { held = []; arrivals = 0 }; room = 0 } }
+        ensures { result ≡ record { store = record { held = []; arrivals = 0 }; room = 0 } }
     {
         HeldEvents {
             alloc,
@@ -120,7 +120,7 @@ impl<A: Allocator> HeldEvents<A> {
     // The event joins the others at their end. It takes room that is there.
     pub(crate) fn push_reserved(&mut self, event: InternalEvent<A>)
         requires { 0 < self.old.room }
-        ensures shelf { Arrives self.old.shelf (Gave (seen event) ∷ []) self.new.shelf }
+        ensures store { Arrives self.old.store (Gave (seen event) ∷ []) self.new.store }
         ensures room { self.new.room + 1 ≡ self.old.room }
     {
         match &mut self.queues {
@@ -141,7 +141,7 @@ impl<A: Allocator> HeldEvents<A> {
 
     // Whether an event is held that is admitted.
     pub(crate) fn holds<F: Filter>(&self, filter: &F) -> bool
-        ensures { result ≡ is_some (first_admitted (F.admits filter.now) self.now.shelf.held) }
+        ensures { result ≡ is_some (first_admitted (F.admits filter.now) self.now.store.held) }
     {
         match &self.queues {
             Some(queues) => queues.place(filter).is_some(),
@@ -151,8 +151,8 @@ impl<A: Allocator> HeldEvents<A> {
 
     // Takes the first event that is admitted, with its number. Its room stays.
     pub(crate) fn take<F: Filter>(&mut self, filter: &F) -> Option<(InternalEvent<A>, u64)>
-        ensures step { TakeSays (F.admits filter.now) self.old.shelf self.new.shelf (option_map kept result) }
-        ensures room { length self.new.shelf.held + self.new.room ≡ length self.old.shelf.held + self.old.room }
+        ensures step { TakeReplies (F.admits filter.now) self.old.store self.new.store (option_map kept result) }
+        ensures room { length self.new.store.held + self.new.room ≡ length self.old.store.held + self.old.room }
     {
         match &mut self.queues {
             Some(queues) => match queues.take(filter) {
@@ -168,14 +168,14 @@ impl<A: Allocator> HeldEvents<A> {
 
     // How many events arrived, as far as the numbers go.
     pub(crate) fn arrivals(&self) -> u64
-        ensures { result ≡ self.now.shelf.arrivals }
+        ensures { result ≡ self.now.store.arrivals }
     {
         self.arrivals
     }
 
     // The events, in the order of their arrival.
     pub(crate) fn iter(&self) -> Held<'_, A>
-        ensures { result ≡ map (λ h. h.0) self.now.shelf.held }
+        ensures { result ≡ map (λ h. h.0) self.now.store.held }
     {
         Held {
             queues: &self.queues,

@@ -9,9 +9,10 @@ ghost use Rattle.crossterm_types.specs.Seen.{CursorPosition, Seen, seen};
 ghost use Rattle.crossterm_read.specs.Answers.{SourceAnswer, IsOwn};
 ghost use Rattle.crossterm_read.specs.Device.{AsksAtOnce, AsksEach};
 ghost use Rattle.crossterm_read.specs.History.{last_of};
-ghost use Rattle.crossterm_read.specs.Queries.{KeyboardStep, LeftSays, QuerySays, QueryStep};
-ghost use Rattle.crossterm_read.specs.Replies.{Fault, Replied, ToPoll, ToQuery, flags_said, flags_seen, last_said, keyboard_said, poll_reply, position_said, read_reply, shown};
-ghost use Rattle.crossterm_read.specs.Shelf.{capacity, kept};
+ghost use Rattle.crossterm_read.specs.Queries.{KeyboardStep, LeftReplies, QueryReplies, QueryStep};
+ghost use Rattle.crossterm_read.specs.Replies.{Fault, Replied, ToPoll, ToQuery, flags_seen, keyboard_said, poll_reply, position_said, shown};
+ghost use Rattle.crossterm_read.specs.inside.Replies.{flags_said, last_said, read_reply};
+ghost use Rattle.crossterm_read.specs.Store.{capacity, kept};
 ghost use Rattle.crossterm_read.specs.Steps.{RefusedOnlyWithoutRoom, first_admitted};
 ghost use Rattle.crossterm_read.specs.Waiting.{TimedKeyboard, TimedQuery, WasLeft};
 
@@ -67,8 +68,8 @@ impl<S: EventSource<A>, A: Allocator + Clone> InternalEventReader<S, A> {
         ready: io::Result<bool>,
         filter: &F,
     ) -> io::Result<(InternalEvent<A>, u64)>
-        requires { poll_reply ready ≡ ToPoll true → first_admitted (F.admits filter.now) self.old.shelf.held ≢ None }
-        ensures says { QuerySays (F.admits filter.now) (poll_reply ready) self.old.shelf self.new.shelf (read_reply result) }
+        requires { poll_reply ready ≡ ToPoll true → first_admitted (F.admits filter.now) self.old.store.held ≢ None }
+        ensures delivers { QueryReplies (F.admits filter.now) (poll_reply ready) self.old.store self.new.store (read_reply result) }
         ensures room { capacity self.new ≡ capacity self.old }
         ensures source { self.new.source ≡ self.old.source }
         ensures admitted { IfOk result (λ x. F.admits filter.now (seen x.0) ≡ true) }
@@ -95,7 +96,7 @@ impl<S: EventSource<A>, A: Allocator + Clone> InternalEventReader<S, A> {
         filter: &F,
     ) -> io::Result<(InternalEvent<A>, u64)>
         ensures step { (zs : List SourceAnswer) × S.drawn self.old.source zs self.new.source
-            × QueryStep (F.admits filter.now) tries zs self.old.shelf self.new.shelf (read_reply result)
+            × QueryStep (F.admits filter.now) tries zs self.old.store self.new.store (read_reply result)
             × IfErr result (λ e. RefusedOnlyWithoutRoom self.old.room zs (error_kind e)) }
         ensures at_once { AsksAtOnce (S.asked self.old.source) (S.asked self.new.source) }
         ensures room { capacity self.old ≤ capacity self.new }
@@ -130,7 +131,7 @@ impl<S: EventSource<A>, A: Allocator + Clone> InternalEventReader<S, A> {
     /// It polls as `poll_within` does. The error is `Other` where that is false, and else that poll's.
     pub fn position_within(&mut self, tries: u32) -> io::Result<(u16, u16)>
         ensures step { (zs : List SourceAnswer) × (r : Replied) × S.drawn self.old.source zs self.new.source
-            × QueryStep is_cursor_position tries zs self.old.shelf self.new.shelf r × (position_said result ≡ shown r)
+            × QueryStep is_cursor_position tries zs self.old.store self.new.store r × (position_said result ≡ shown r)
             × IfErr result (λ e. RefusedOnlyWithoutRoom self.old.room zs (error_kind e)) }
         // The source is asked with limit zero alone, and so at once.
         ensures at_once { AsksAtOnce (S.asked self.old.source) (S.asked self.new.source) }
@@ -147,8 +148,8 @@ impl<S: EventSource<A>, A: Allocator + Clone> InternalEventReader<S, A> {
 
     // Takes the attributes that came after the flags.
     fn left_taken(&mut self, ready: io::Result<bool>) -> Option<(InternalEvent<A>, u64)>
-        requires { poll_reply ready ≡ ToPoll true → first_admitted is_attributes self.old.shelf.held ≢ None }
-        ensures says { (x : Seen × ℕ) → LeftSays (poll_reply ready) x self.old.shelf self.new.shelf (ToQuery x (option_map kept result)) }
+        requires { poll_reply ready ≡ ToPoll true → first_admitted is_attributes self.old.store.held ≢ None }
+        ensures delivers { (x : Seen × ℕ) → LeftReplies (poll_reply ready) x self.old.store self.new.store (ToQuery x (option_map kept result)) }
         ensures room { capacity self.new ≡ capacity self.old }
         ensures source { self.new.source ≡ self.old.source }
     {
@@ -170,7 +171,7 @@ impl<S: EventSource<A>, A: Allocator + Clone> InternalEventReader<S, A> {
     /// The error is `Other` where the first poll is false, and else that poll's.
     pub fn keyboard_within(&mut self, tries: u32) -> io::Result<Option<KeyboardEnhancementFlags>>
         ensures step { (zs : List SourceAnswer) × (r : Replied) × S.drawn self.old.source zs self.new.source
-            × KeyboardStep tries tries zs self.old.shelf self.new.shelf r × (keyboard_said result ≡ shown r)
+            × KeyboardStep tries tries zs self.old.store self.new.store r × (keyboard_said result ≡ shown r)
             × IfErr result (λ e. RefusedOnlyWithoutRoom self.old.room zs (error_kind e)) }
         // The source is asked with limit zero alone, and so at once.
         ensures at_once { AsksAtOnce (S.asked self.old.source) (S.asked self.new.source) }

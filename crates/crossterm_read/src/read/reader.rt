@@ -7,10 +7,12 @@ ghost use Rattle.std.specs.declared.io.ErrorKind.TheVariants.{Interrupted, OutOf
 ghost use Rattle.crossterm_types.specs.Seen.{Seen, seen};
 ghost use Rattle.crossterm_read.specs.Answers.{SourceAnswer, IsOwn};
 ghost use Rattle.crossterm_read.specs.Device.{AsksWith, AsksAtOnce};
-ghost use Rattle.crossterm_read.specs.Numbers.{IsOrderly};
-ghost use Rattle.crossterm_read.specs.Replies.{Replied, poll_reply, shown, try_reply, try_said};
-ghost use Rattle.crossterm_read.specs.Shelf.{ReaderState, capacity, kept};
-ghost use Rattle.crossterm_read.specs.Steps.{Asked, BreaksWhere, DrawsOne, IsRefused, MeetsNoFault, PollStep, ReadStep, RefusedOnlyWithoutRoom, TakeSays, end_of, first_admitted};
+ghost use Rattle.crossterm_read.specs.inside.Numbers.{IsOrderly};
+ghost use Rattle.crossterm_read.specs.Replies.{Replied, poll_reply, shown, try_said};
+ghost use Rattle.crossterm_read.specs.inside.Replies.{try_reply};
+ghost use Rattle.crossterm_read.specs.Store.{ReaderState, capacity, kept};
+ghost use Rattle.crossterm_read.specs.Steps.{PollStep, ReadStep, RefusedOnlyWithoutRoom, TakeReplies, first_admitted};
+ghost use Rattle.crossterm_read.specs.inside.Asking.{Asked, BreaksWhere, DrawsOne, IsRefused, MeetsNoFault, end_of};
 ghost use Rattle.crossterm_read.specs.declared.read.reader.AtWake.TheVariants.{Stops};
 
 use crate::read::Held;
@@ -45,9 +47,9 @@ pub struct InternalEventReader<S, A: Allocator = Global> {
 impl<S, A: Allocator> Model for InternalEventReader<S, A> {
     ghost Value = { ReaderState S };
 
-    ghost view = { λ r. record { shelf = r.held.shelf; room = r.held.room; source = r.source } };
+    ghost view = { λ r. record { store = r.held.store; room = r.held.room; source = r.source } };
 
-    ghost invariant = { λ r. IsOrderly r.held.shelf.held r.held.shelf.arrivals };
+    ghost invariant = { λ r. IsOrderly r.held.store.held r.held.store.arrivals };
 }
 
 // What a call does at a wake-up.
@@ -88,7 +90,7 @@ pub(crate) fn unnumbered<A: Allocator>(
 impl<S: EventSource<A>, A: Allocator> InternalEventReader<S, A> {
     /// A reader that holds nothing yet, and has no room yet.
     pub fn new(alloc: A, source: S) -> Self
-        ensures { result ≡ record { shelf = record { held = []; arrivals = 0 }; room = 0; source = source } }
+        ensures { result ≡ record { store = record { held = []; arrivals = 0 }; room = 0; source = source } }
     {
         InternalEventReader {
             held: HeldEvents::new(alloc),
@@ -106,21 +108,21 @@ impl<S: EventSource<A>, A: Allocator> InternalEventReader<S, A> {
 
     // How many events arrived, as far as the numbers go.
     pub(crate) fn arrivals(&self) -> u64
-        ensures { result ≡ self.now.shelf.arrivals }
+        ensures { result ≡ self.now.store.arrivals }
     {
         self.held.arrivals()
     }
 
     // Whether an event is held that is admitted.
     pub(crate) fn holds<F: Filter>(&self, filter: &F) -> bool
-        ensures { result ≡ is_some (first_admitted (F.admits filter.now) self.now.shelf.held) }
+        ensures { result ≡ is_some (first_admitted (F.admits filter.now) self.now.store.held) }
     {
         self.held.holds(filter)
     }
 
     /// Takes the first held event that the filter admits, and no other. The source isn't asked, and no memory is taken.
     pub fn take<F: Filter>(&mut self, filter: &F) -> Option<InternalEvent<A>>
-        ensures step { (x : Option (Seen × ℕ)) × TakeSays (F.admits filter.now) self.old.shelf self.new.shelf x
+        ensures step { (x : Option (Seen × ℕ)) × TakeReplies (F.admits filter.now) self.old.store self.new.store x
             × (option_map seen result ≡ option_map (λ e. e.0) x) }
         // An event that is given leaves room for one more.
         ensures room { capacity self.new ≡ capacity self.old }
@@ -131,7 +133,7 @@ impl<S: EventSource<A>, A: Allocator> InternalEventReader<S, A> {
 
     // Takes the first held event that the filter admits, with its number.
     pub(crate) fn take_numbered<F: Filter>(&mut self, filter: &F) -> Option<(InternalEvent<A>, u64)>
-        ensures step { TakeSays (F.admits filter.now) self.old.shelf self.new.shelf (option_map kept result) }
+        ensures step { TakeReplies (F.admits filter.now) self.old.store self.new.store (option_map kept result) }
         ensures room { capacity self.new ≡ capacity self.old }
         ensures source { self.new.source ≡ self.old.source }
     {
@@ -140,7 +142,7 @@ impl<S: EventSource<A>, A: Allocator> InternalEventReader<S, A> {
 
     /// The events that are held, in the order of their arrival.
     pub fn held(&self) -> Held<'_, A>
-        ensures { result ≡ map (λ h. h.0) self.now.shelf.held }
+        ensures { result ≡ map (λ h. h.0) self.now.store.held }
     {
         self.held.iter()
     }
@@ -221,7 +223,7 @@ impl<S: EventSource<A>, A: Allocator + Clone> InternalEventReader<S, A> {
     /// The error is `OutOfMemory` only where the source's was, or where there was no room left for an event and none could be made.
     pub fn poll_within<F: Filter>(&mut self, tries: u32, filter: &F) -> io::Result<bool>
         ensures step { (zs : List SourceAnswer) × S.drawn self.old.source zs self.new.source
-            × PollStep tries (F.admits filter.now) zs self.old.shelf self.new.shelf (poll_reply result)
+            × PollStep tries (F.admits filter.now) zs self.old.store self.new.store (poll_reply result)
             × IfErr result (λ e. RefusedOnlyWithoutRoom self.old.room zs (error_kind e)) }
         // The source is asked with limit zero alone, and so at once.
         ensures at_once { AsksAtOnce (S.asked self.old.source) (S.asked self.new.source) }
@@ -252,7 +254,7 @@ impl<S: EventSource<A>, A: Allocator + Clone> InternalEventReader<S, A> {
         filter: &F,
     ) -> io::Result<Option<InternalEvent<A>>>
         ensures step { (zs : List SourceAnswer) × (r : Replied) × S.drawn self.old.source zs self.new.source
-            × ReadStep tries (F.admits filter.now) zs self.old.shelf self.new.shelf r × (try_said result ≡ shown r)
+            × ReadStep tries (F.admits filter.now) zs self.old.store self.new.store r × (try_said result ≡ shown r)
             × IfErr result (λ e. RefusedOnlyWithoutRoom self.old.room zs (error_kind e)) }
         // The source is asked with limit zero alone, and so at once.
         ensures at_once { AsksAtOnce (S.asked self.old.source) (S.asked self.new.source) }
@@ -274,7 +276,7 @@ impl<S: EventSource<A>, A: Allocator + Clone> InternalEventReader<S, A> {
         filter: &F,
     ) -> io::Result<Option<(InternalEvent<A>, u64)>>
         ensures step { (zs : List SourceAnswer) × S.drawn self.old.source zs self.new.source
-            × ReadStep tries (F.admits filter.now) zs self.old.shelf self.new.shelf (try_reply result)
+            × ReadStep tries (F.admits filter.now) zs self.old.store self.new.store (try_reply result)
             × IfErr result (λ e. RefusedOnlyWithoutRoom self.old.room zs (error_kind e)) }
         ensures at_once { AsksAtOnce (S.asked self.old.source) (S.asked self.new.source) }
         ensures admitted { IfOk result (λ taken. IfSome taken (λ x. F.admits filter.now (seen x.0) ≡ true)) }

@@ -1,69 +1,18 @@
 //! Calls of a reader over a script.
-ghost use Rattle.std.specs.Prelude.{◌≡◌, List, map, IfOk, IfErr, true};
+ghost use Rattle.std.specs.Prelude.{◌≡◌, map, IfOk, IfErr, true};
 ghost use Rattle.std.specs.IoError.{error_kind};
 ghost use Rattle.std.specs.declared.io.ErrorKind.TheVariants.{OutOfMemory};
 ghost use Rattle.crossterm_types.specs.Seen.{seen};
-ghost use Rattle.crossterm_read.specs.Answers.{SourceAnswer};
-ghost use Rattle.crossterm_read.specs.Calls.{said, request, Step, Plays, Accounts};
-ghost use Rattle.crossterm_read.specs.Replies.{Replied, shown};
-ghost use Rattle.crossterm_read.specs.Scripted.{words};
+ghost use Rattle.crossterm_read.specs.Calls.{said, Plays, Accounts};
+ghost use Rattle.crossterm_read.specs.Scripted.{device_answers};
 
 use crate::read::InternalEventReader;
+use crate::read::call::{Call, Reply};
 use crate::source::{Act, DeviceSource, EventSource, Script};
-use crossterm_types::event::filter::{AnyFilter, Classes, Filter};
-use crossterm_types::event::{InternalEvent, KeyboardEnhancementFlags};
+use crossterm_types::event::InternalEvent;
+use crossterm_types::event::filter::{Classes, Filter};
 use std::alloc::{AllocError, Allocator, Global};
 use std::io;
-
-/// A call of a reader.
-#[derive(Clone, Copy, Debug)]
-pub enum Call {
-    /// `InternalEventReader::poll_within`.
-    Poll {
-        /// How often the source is asked at most.
-        tries: u32,
-        /// Which events are admitted.
-        filter: AnyFilter,
-    },
-    /// `InternalEventReader::read_within`.
-    Read {
-        /// How often the source is asked at most.
-        tries: u32,
-        /// Which events are admitted.
-        filter: AnyFilter,
-    },
-    /// `InternalEventReader::take`.
-    Take {
-        /// Which events are admitted.
-        filter: AnyFilter,
-    },
-    /// `InternalEventReader::position_within`.
-    Position {
-        /// How often the source is asked at most.
-        tries: u32,
-    },
-    /// `InternalEventReader::keyboard_within`.
-    Keyboard {
-        /// How often the source is asked at most, for the reply, and for the attributes after it.
-        tries: u32,
-    },
-}
-
-/// What a call answered.
-#[derive(Drop)]
-#[derive_where(Debug)]
-pub enum Reply<A: Allocator = Global> {
-    /// Whether an admitted event is held.
-    Poll(bool),
-    /// The event that was taken, where there was one.
-    Event(Option<InternalEvent<A>>),
-    /// The cursor's place: its column and row.
-    Position(u16, u16),
-    /// The flags of the keyboard protocol, where the terminal has it.
-    Keyboard(Option<KeyboardEnhancementFlags>),
-    /// A fault of this kind.
-    Fault(io::ErrorKind),
-}
 
 /// What came of all calls.
 #[derive(Drop)]
@@ -73,34 +22,6 @@ pub struct Trace<A: Allocator = Global> {
     pub replies: Vec<Reply<A>, A>,
     /// The events that are held after them, in the order of their arrival.
     pub held: Vec<InternalEvent<A>, A>,
-}
-
-impl<S: EventSource<A>, A: Allocator + Clone> InternalEventReader<S, A> {
-    // Makes one call.
-    fn call(&mut self, call: Call) -> Reply<A>
-        ensures { (zs : List SourceAnswer) × (r : Replied) × S.drawn self.old.source zs self.new.source
-            × Step (request call) zs self.old.shelf self.new.shelf r × (said result ≡ shown r) }
-    {
-        match call {
-            Call::Poll { tries, filter } => match self.poll_within(tries, &filter) {
-                Ok(ready) => Reply::Poll(ready),
-                Err(error) => Reply::Fault(error.kind()),
-            },
-            Call::Read { tries, filter } => match self.read_within(tries, &filter) {
-                Ok(event) => Reply::Event(event),
-                Err(error) => Reply::Fault(error.kind()),
-            },
-            Call::Take { filter } => Reply::Event(self.take(&filter)),
-            Call::Position { tries } => match self.position_within(tries) {
-                Ok((column, row)) => Reply::Position(column, row),
-                Err(error) => Reply::Fault(error.kind()),
-            },
-            Call::Keyboard { tries } => match self.keyboard_within(tries) {
-                Ok(flags) => Reply::Keyboard(flags),
-                Err(error) => Reply::Fault(error.kind()),
-            },
-        }
-    }
 }
 
 // Admits every event.
@@ -128,7 +49,7 @@ fn take_all<S: EventSource<A>, A: Allocator>(
     alloc: A,
     reader: &mut InternalEventReader<S, A>,
 ) -> Result<Vec<InternalEvent<A>, A>, AllocError>
-    ensures { IfOk result (λ events. map seen events.items ≡ map (λ h. h.0) reader.old.shelf.held) }
+    ensures { IfOk result (λ events. map seen events.items ≡ map (λ h. h.0) reader.old.store.held) }
 {
     let mut events = Vec::new(alloc);
     while let Some(event) = reader.take(&Every) {
@@ -146,9 +67,9 @@ pub fn play<A: Allocator + Clone>(
     calls: &[Call],
 ) -> io::Result<Trace<A>>
     // There are lists of a source's answers, one a call, which joined are told by the script, and the trace is the calls' run over them.
-    ensures run { IfOk result (λ trace. Plays (words script.items) calls.now (map said trace.replies.items) (map seen trace.held.items)) }
+    ensures run { IfOk result (λ trace. Plays (device_answers script.items) calls.now (map said trace.replies.items) (map seen trace.held.items)) }
     // So the events taken and those held are the first ones of all that happens by the script, each once.
-    ensures account { IfOk result (λ trace. Accounts (words script.items) (map said trace.replies.items) (map seen trace.held.items)) }
+    ensures account { IfOk result (λ trace. Accounts (device_answers script.items) (map said trace.replies.items) (map seen trace.held.items)) }
     ensures err { IfErr result (λ e. error_kind e ≡ OutOfMemory) }
 {
     let source = DeviceSource::new(alloc.clone()?, Script::new(script));

@@ -5,10 +5,12 @@ ghost use Rattle.std.specs.IoError.{error_kind};
 ghost use Rattle.crossterm_types.specs.Seen.{seen};
 ghost use Rattle.crossterm_read.specs.Answers.{SourceAnswer, IsOwn};
 ghost use Rattle.crossterm_read.specs.Device.{AsksEach};
-ghost use Rattle.crossterm_read.specs.Replies.{Replied, poll_reply, read_reply, read_said, shown};
-ghost use Rattle.crossterm_read.specs.Shelf.{capacity};
-ghost use Rattle.crossterm_read.specs.Steps.{BreaksWhere, DrawsOne, IsRefused, MeetsNoFault, ReadStep, RefusedOnlyWithoutRoom, end_of};
-ghost use Rattle.crossterm_read.specs.Waiting.{AskedInTime, AsksForever, AsksInTime, AsksWithin, TimedPoll, WasLeft};
+ghost use Rattle.crossterm_read.specs.Replies.{Replied, poll_reply, read_said, shown};
+ghost use Rattle.crossterm_read.specs.inside.Replies.{read_reply};
+ghost use Rattle.crossterm_read.specs.Store.{capacity};
+ghost use Rattle.crossterm_read.specs.Steps.{ReadStep, RefusedOnlyWithoutRoom};
+ghost use Rattle.crossterm_read.specs.inside.Asking.{BreaksWhere, DrawsOne, IsRefused, MeetsNoFault, end_of, AskedInTime, AsksInTime};
+ghost use Rattle.crossterm_read.specs.Waiting.{AsksForever, AsksWithin, TimedPoll, WasLeft};
 ghost use Rattle.crossterm_read.specs.declared.read.reader.AtWake.TheVariants.{Stops};
 
 use crate::read::InternalEventReader;
@@ -161,7 +163,7 @@ impl<S: EventSource<A>, A: Allocator + Clone> InternalEventReader<S, A> {
     /// It goes on after a wake-up. Every other fault is answered.
     pub fn read<F: Filter, R: Wait>(&mut self, rt: &R, filter: &F) -> io::Result<InternalEvent<A>>
         ensures step { (tries : ℕ) × (zs : List SourceAnswer) × (r : Replied) × S.drawn self.old.source zs self.new.source
-            × ReadStep tries (F.admits filter.now) zs self.old.shelf self.new.shelf r × (read_said result ≡ shown r)
+            × ReadStep tries (F.admits filter.now) zs self.old.store self.new.store r × (read_said result ≡ shown r)
             × IfErr result (λ e. RefusedOnlyWithoutRoom self.old.room zs (error_kind e)) }
         // The device is asked without a limit.
         ensures asked { AsksForever (S.asked self.old.source) (S.asked self.new.source) }
@@ -183,7 +185,7 @@ impl<S: EventSource<A>, A: Allocator + Clone> InternalEventReader<S, A> {
         filter: &F,
     ) -> io::Result<(InternalEvent<A>, u64)>
         ensures step { (tries : ℕ) × (zs : List SourceAnswer) × S.drawn self.old.source zs self.new.source
-            × ReadStep tries (F.admits filter.now) zs self.old.shelf self.new.shelf (read_reply result)
+            × ReadStep tries (F.admits filter.now) zs self.old.store self.new.store (read_reply result)
             × IfErr result (λ e. RefusedOnlyWithoutRoom self.old.room zs (error_kind e)) }
         ensures asked { AsksForever (S.asked self.old.source) (S.asked self.new.source) }
         ensures admitted { IfOk result (λ x. F.admits filter.now (seen x.0) ≡ true) }

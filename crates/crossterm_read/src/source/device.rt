@@ -3,7 +3,7 @@ ghost use Rattle.std.specs.Prelude.{◌≡◌, ◌≤◌, ◌<◌, ℕ, List, []
 ghost use Rattle.std.specs.IoError.{error_kind};
 ghost use Rattle.std.specs.declared.io.ErrorKind.TheVariants.{OutOfMemory};
 ghost use Rattle.std.specs.declared.time.Duration.{Duration};
-ghost use Rattle.crossterm_read.specs.Device.{Telling, anything, word_of, CountWithin, AsksWith};
+ghost use Rattle.crossterm_read.specs.Device.{Answering, anything, device_answer, CountWithin, AsksWith};
 ghost use Rattle.crossterm_read.specs.declared.source.waker.Waker.{Waker};
 
 use crate::source::Waker;
@@ -57,7 +57,7 @@ pub enum Answer {
 /// ```
 pub trait Device: Drop {
     /// What the device tells, of which there are two laws: nothing, if it doesn't say more.
-    ghost tells: { Telling Self } = { anything };
+    ghost answering: { Answering Self } = { anything };
 
     /// How often the device failed: never, if it doesn't say more.
     ghost failed: { Self → ℕ } = { λ _. 0 };
@@ -75,7 +75,7 @@ pub trait Device: Drop {
     fn answer(&mut self, buf: &mut [u8], limit: Option<Duration>) -> io::Result<Answer>
         requires { length buf.now ≡ 1024 }
         // What it answers is told.
-        ensures told { tells.told self.old (word_of result buf.new ∷ []) self.new }
+        ensures answered { answering.answered self.old (device_answer result buf.new ∷ []) self.new }
         ensures count { IfOk result (λ a. CountWithin a (length buf.new)) }
         // It was asked with this limit, and with no other.
         ensures asked { AsksWith limit (asked self.old) (asked self.new) }

@@ -1,7 +1,7 @@
 //! A device over a descriptor that the system can watch.
 ghost use Rattle.std.specs.Prelude.{◌≡◌, List, [], ◌∷◌, length, IfOk};
-ghost use Rattle.crossterm_read.specs.Device.{CountWithin, word_of};
-ghost use Rattle.crossterm_read.specs.Reading.{ReadingTells, reading_telling};
+ghost use Rattle.crossterm_read.specs.Device.{CountWithin, device_answer};
+ghost use Rattle.crossterm_read.specs.Reading.{ReadingAnswers, reading_answering};
 ghost use Rattle.crossterm_read.specs.Waking.{WakesAs};
 ghost use Rattle.crossterm_read.specs.declared.source.waker.Kind.TheVariants.{Mio};
 
@@ -120,7 +120,7 @@ impl<R: Read + AsRawFd + Drop, A: Allocator + Clone> PolledDevice<R, A> {
     // Answers once, and counts no failure.
     fn try_answer(&mut self, buf: &mut [u8], limit: Option<Duration>) -> io::Result<Answer>
         requires { length buf.now ≡ 1024 }
-        ensures told { ReadingTells (R.remaining self.old.input) (word_of result buf.new ∷ []) (R.remaining self.new.input) }
+        ensures answered { ReadingAnswers (R.remaining self.old.input) (device_answer result buf.new ∷ []) (R.remaining self.new.input) }
         ensures count { IfOk result (λ a. CountWithin a (length buf.new)) }
         ensures failures { self.new.failures ≡ self.old.failures }
     {
@@ -142,7 +142,7 @@ impl<R: Read + AsRawFd + Drop, A: Allocator + Clone> PolledDevice<R, A> {
 
 impl<R: Read + AsRawFd + Drop, A: Allocator + Clone> Device for PolledDevice<R, A> {
     // What it tells are its reader's next bytes, wherever the reader says what it gives.
-    ghost tells = { reading_telling (λ s. R.remaining s.input) };
+    ghost answering = { reading_answering (λ s. R.remaining s.input) };
 
     ghost failed = { λ s. s.failures };
 

@@ -1,7 +1,7 @@
 //! A device over a reader.
 ghost use Rattle.std.specs.Prelude.{◌≡◌, List, [], ◌∷◌, length, IfOk, IsOkAnd};
-ghost use Rattle.crossterm_read.specs.Device.{CountWithin, word_of};
-ghost use Rattle.crossterm_read.specs.Reading.{ReadingTells, reading_telling};
+ghost use Rattle.crossterm_read.specs.Device.{CountWithin, device_answer};
+ghost use Rattle.crossterm_read.specs.Reading.{ReadingAnswers, reading_answering};
 ghost use Rattle.crossterm_read.specs.Waking.{IsSure};
 
 use crate::source::failures::answer_at;
@@ -36,14 +36,14 @@ impl<R: Read + Drop, A: Allocator> ReadDevice<R, A> {
 }
 
 /// Reads once, and answers with what came, and the mode that the flag says then.
-#[tactic(auto, using(crate::proofs::Reading::read_tells))]
+#[tactic(auto, using(crate::proofs::Reading::read_answers))]
 pub(crate) fn read_once<R: Read + Drop, A: Allocator + Clone>(
     input: &mut R,
     buf: &mut [u8],
     raw: &RawFlag<A>,
 ) -> io::Result<Answer>
     requires { length buf.now ≡ 1024 }
-    ensures told { ReadingTells (R.remaining input.old) (word_of result buf.new ∷ []) (R.remaining input.new) }
+    ensures answered { ReadingAnswers (R.remaining input.old) (device_answer result buf.new ∷ []) (R.remaining input.new) }
     ensures count { IfOk result (λ a. CountWithin a (length buf.new)) }
 {
     let count = input.read(buf)?;
@@ -53,7 +53,7 @@ pub(crate) fn read_once<R: Read + Drop, A: Allocator + Clone>(
 
 impl<R: Read + Drop, A: Allocator + Clone> Device for ReadDevice<R, A> {
     // What it tells are its reader's next bytes, wherever the reader says what it gives.
-    ghost tells = { reading_telling (λ s. R.remaining s.input) };
+    ghost answering = { reading_answering (λ s. R.remaining s.input) };
 
     ghost failed = { λ s. s.failures };
 

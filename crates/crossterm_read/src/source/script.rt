@@ -1,6 +1,6 @@
 //! A device in memory.
 ghost use Rattle.std.specs.Prelude.{◌≡◌, ◌≤◌, drop, take, min, length, IsOkAnd};
-ghost use Rattle.crossterm_read.specs.Scripted.{words, words_from, ScriptLeft, script_telling};
+ghost use Rattle.crossterm_read.specs.Scripted.{device_answers, device_answers_from, ScriptLeft, script_answering};
 ghost use Rattle.crossterm_read.specs.Waking.{IsSure};
 
 use crate::source::{Answer, Device, Waker};
@@ -44,7 +44,7 @@ pub struct Script<A: Allocator = Global> {
 impl<A: Allocator> Model for Script<A> {
     ghost Value = { ScriptLeft };
 
-    ghost view = { λ s. record { left = words_from (drop s.next s.acts.items) s.at; failed = s.failures } };
+    ghost view = { λ s. record { left = device_answers_from (drop s.next s.acts.items) s.at; failed = s.failures } };
 
     ghost invariant = { λ s. s.failures ≤ s.next };
 }
@@ -52,7 +52,7 @@ impl<A: Allocator> Model for Script<A> {
 impl<A: Allocator> Script<A> {
     /// A device that tells these acts in order.
     pub fn new(acts: Vec<Act<A>, A>) -> Self
-        ensures { result ≡ record { left = words acts.items; failed = 0 } }
+        ensures { result ≡ record { left = device_answers acts.items; failed = 0 } }
     {
         Script {
             acts,
@@ -68,7 +68,7 @@ fn tell(bytes: &[u8], buf: &mut [u8]) -> usize
     requires { length buf.now ≡ 1024 }
     ensures count { result ≡ min 1024 (length bytes.now) }
     ensures within { result ≤ length buf.new }
-    ensures told { take result buf.new ≡ take 1024 bytes.now }
+    ensures answered { take result buf.new ≡ take 1024 bytes.now }
 {
     let count = bytes.len().min(1024);
     buf[..count].copy_from_slice(&bytes[..count]);
@@ -76,7 +76,7 @@ fn tell(bytes: &[u8], buf: &mut [u8]) -> usize
 }
 
 impl<A: Allocator> Device for Script<A> {
-    ghost tells = { script_telling };
+    ghost answering = { script_answering };
 
     ghost failed = { λ s. s.failed };
 

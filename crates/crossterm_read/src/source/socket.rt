@@ -1,6 +1,6 @@
 //! A device over a socket.
 ghost use Rattle.std.specs.Prelude.{◌≡◌, IfOk};
-ghost use Rattle.crossterm_read.specs.Device.{tells_within};
+ghost use Rattle.crossterm_read.specs.Device.{answering_within};
 
 use crate::source::{Answer, Device, PolledDevice, RawFlag, Waker};
 use mio::net::TcpStream;
@@ -36,7 +36,7 @@ impl<A: Allocator> SocketDevice<A> {
 }
 
 impl<A: Allocator + Clone> Device for SocketDevice<A> {
-    ghost tells = { tells_within (λ s. s.polled) ⟦<PolledDevice<TcpStream, A> as Device>⟧.tells };
+    ghost answering = { answering_within (λ s. s.polled) ⟦<PolledDevice<TcpStream, A> as Device>⟧.answering };
 
     ghost failed = { λ s. ⟦<PolledDevice<TcpStream, A> as Device>⟧.failed s.polled };
 

@@ -45,8 +45,8 @@ impl Color {
     pub fn parse_ansi(text: &str) -> Option<Color>
         ensures { IsColorRead text.now result }
     {
-        match Fields::of(text).ink() {
-            Some(ink) => Some(ink.color()),
+        match Fields::of(text).sgr() {
+            Some(sgr) => Some(sgr.color()),
             None => None,
         }
     }

@@ -10,7 +10,7 @@ ghost use Rattle.crossterm_style.specs.Colors.{colored_text};
 ghost use Rattle.crossterm_style.specs.Fields.{IsColoredRead, Resets, ResetsNone, Sets, SetsNone};
 
 use crate::fields::Fields;
-use crate::{Color, ColorOutput, Ink};
+use crate::{Color, ColorOutput, SgrColor};
 use arrayvec::ArrayString;
 use std::alloc::Allocator;
 use std::string::String;
@@ -44,8 +44,8 @@ impl Colored {
         if fields.is_empty() {
             return Colored::reset_by(number);
         }
-        match fields.ink() {
-            Some(ink) => Colored::set_by(number, ink.color()),
+        match fields.sgr() {
+            Some(sgr) => Colored::set_by(number, sgr.color()),
             None => None,
         }
     }
@@ -104,9 +104,9 @@ impl Colored {
             return;
         }
         match self {
-            Colored::ForegroundColor(color) => Ink::of(color).push_to(text, "38", "39"),
-            Colored::BackgroundColor(color) => Ink::of(color).push_to(text, "48", "49"),
-            Colored::UnderlineColor(color) => Ink::of(color).push_to(text, "58", "59"),
+            Colored::ForegroundColor(color) => SgrColor::of(color).push_to(text, "38", "39"),
+            Colored::BackgroundColor(color) => SgrColor::of(color).push_to(text, "48", "49"),
+            Colored::UnderlineColor(color) => SgrColor::of(color).push_to(text, "58", "59"),
         }
     }
 }

@@ -1,14 +1,14 @@
 //! What whole sequences mean, by their complete bytes.
 ghost use Rattle.std.specs.Prelude.{◌≡◌};
-ghost use Rattle.crossterm_parse.specs.Machine.{readings_at};
-ghost use Rattle.crossterm_parse.specs.Meaning.{character_meaning, coded_meaning, reply_meaning, csi_meaning, escape_meaning, meaning};
+ghost use Rattle.crossterm_parse.specs.inside.Automaton.{readings_at};
+ghost use Rattle.crossterm_parse.specs.Meaning.{character_meaning, x10_meaning, reply_meaning, csi_meaning, escape_meaning, meaning};
 ghost use Rattle.crossterm_parse.specs.Numbered.{numbered, readings_of, sgr};
 
 use crossterm_parse::meaning::{
-    Meaning, meaning_after_bracket, meaning_after_csi, meaning_after_ss3, meaning_of_byte,
-    meaning_of_character, meaning_of_codes, meaning_of_flags, plus_alt, pressed_alone,
+    Meaning, meaning_after_csi, meaning_after_ss3, meaning_of_byte, meaning_of_character,
+    meaning_of_flags, meaning_of_linux_key, meaning_of_x10, plus_alt, pressed_alone,
 };
-use crossterm_parse::numbered::Digits;
+use crossterm_parse::numbered::Parameters;
 use crossterm_types::event::KeyCode;
 
 /// What a byte by itself or a character means.
@@ -23,14 +23,14 @@ fn meaning_of_text(bytes: &[u8], raw: bool) -> Option<Meaning>
 }
 
 /// What is kept of these bytes of a sequence.
-fn read_digits(text: &[u8]) -> Digits
+fn read_digits(text: &[u8]) -> Parameters
     ensures { readings_at result ≡ readings_of text.now }
 {
-    let mut digits = Digits::empty();
+    let mut parameters = Parameters::empty();
     for byte in text {
-        digits.read(*byte);
+        parameters.read(*byte);
     }
-    digits
+    parameters
 }
 
 /// What a numbered sequence means, from the first digit on.
@@ -55,10 +55,10 @@ fn meaning_of_report(bytes: &[u8]) -> Option<Meaning>
 
 /// What a report of the mouse in three bytes means.
 fn meaning_of_three(bytes: &[u8]) -> Option<Meaning>
-    ensures { result ≡ coded_meaning bytes.now }
+    ensures { result ≡ x10_meaning bytes.now }
 {
     match bytes {
-        [code, column, row, ..] => meaning_of_codes(*code, *column, *row),
+        [code, column, row, ..] => meaning_of_x10(*code, *column, *row),
         _ => None,
     }
 }
@@ -82,7 +82,7 @@ fn meaning_of_csi(bytes: &[u8], raw: bool) -> Option<Meaning>
 {
     match bytes {
         [] => None,
-        [b'[', rest @ ..] => meaning_after_bracket(*rest.first()?),
+        [b'[', rest @ ..] => meaning_of_linux_key(*rest.first()?),
         [b'M', rest @ ..] => meaning_of_three(rest),
         [b'<', rest @ ..] => meaning_of_report(rest),
         [b'?', rest @ ..] => meaning_of_reply(rest),

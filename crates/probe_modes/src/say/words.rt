@@ -22,7 +22,6 @@ use crossterm::terminal::{
     EndSynchronizedUpdate, EnterAlternateScreen, LeaveAlternateScreen, ScrollDown, ScrollUp,
     SetSize, SetTitle,
 };
-use crossterm_flags::value::Named;
 use std::alloc::Allocator;
 
 /// A command of the cursor, of the terminal or of style without arguments.

@@ -31,7 +31,7 @@ pub fn position_within<S: EventSource<A>, A: Allocator + Clone>(
     tries: u32,
 ) -> io::Result<(u16, u16)>
     ensures step { (zs : List SourceAnswer) × (r : Replied) × S.drawn reader.old.source zs reader.new.source
-        × QueryStep is_cursor_position tries zs reader.old.shelf reader.new.shelf r × (position_said result ≡ shown r) }
+        × QueryStep is_cursor_position tries zs reader.old.store reader.new.store r × (position_said result ≡ shown r) }
     ensures at_once { AsksAtOnce (S.asked reader.old.source) (S.asked reader.new.source) }
     ensures rise { S.failed reader.old.source ≤ S.failed reader.new.source }
 {
@@ -68,7 +68,7 @@ pub fn position<
 ) -> io::Result<(u16, u16)>
     requires { IsPassOf reader.now pass.old }
     ensures pass { IsPassOf reader.now pass.new }
-    ensures query { InRawMode D.stands D.failed term.old term.new ((W.contents out.new ≡ W.contents out.old) × (knows pass.new ≡ knows pass.old))
+    ensures query { InRawMode D.represents D.failed term.old term.new ((W.contents out.new ≡ W.contents out.old) × (knows pass.new ≡ knows pass.old))
         (Queries (W.contents out.old) (W.contents out.new) position_query (knows pass.new ≡ knows pass.old) (λ r. InTwoSeconds (λ limit. AsksPosition S.drawn S.asked limit (C.told clock.old) (C.told clock.new) (knows pass.old) (knows pass.new) r))) result }
     ensures later { C.told clock.old ≤ C.told clock.new }
 {

@@ -1,12 +1,12 @@
 use Rattle.std.proofs.Common.{◌++◌, ◌+◌, ℕ, true, false, List, [], inl, inr, take, refl, sym, ap, ◌∙◌, subst, arith}
 use Rattle.std.proofs.lemmas.Bool.{false≢true}
 use Rattle.std.proofs.lemmas.List.{append-nil}
-use Rattle.crossterm_parse.specs.Machine.{is_paste}
+use Rattle.crossterm_parse.specs.inside.Automaton.{is_paste}
 use Rattle.crossterm_parse.specs.Marked.{marked}
-use Rattle.crossterm_parse.specs.Standing.{AdvancesOver}
+use Rattle.crossterm_parse.specs.View.{AdvancesOver}
 use Rattle.crossterm_parse.specs.declared.state.State.{State}
-use Rattle.crossterm_parse.proofs.StandingLaws.{advance_none}
-use Rattle.crossterm_c.specs.Feeding.{after_paste, standing}
+use Rattle.crossterm_parse.proofs.ViewLaws.{advance_none}
+use Rattle.crossterm_c.specs.Feeding.{after_paste, view_of}
 use Rattle.crossterm_c.proofs.PastingLaws.{paste_closes, paste_goes_on, paste_more, skipped}
 use Rattle.crossterm_c.proofs.feed.feed_paste.Goals as goal
 
@@ -15,7 +15,7 @@ loop-place-init g c = record {
   within = omega arith;
   pasting = c.requires;
   pastes = λ more raw kept waiting.
-      subst (λ (bs : List ℕ). AdvancesOver (standing c.args.state.now kept waiting) (standing c.args.state.now bs waiting) []) (sym (append-nil kept)) (advance_none (standing c.args.state.now kept waiting));
+      subst (λ (bs : List ℕ). AdvancesOver (view_of c.args.state.now kept waiting) (view_of c.args.state.now bs waiting) []) (sym (append-nil kept)) (advance_none (view_of c.args.state.now kept waiting));
 }
 
 pub returns-then-place-piece-clause-pastes : goal.returns-then-place-piece-clause-pastes
@@ -32,7 +32,7 @@ returns-in-Whole g c = elim c.in-Whole.is [
         let over = paste_closes c.args.state.now c.loop-place.state kept waiting c.args.piece.now more raw _ _ (omega arith) refl c.loop-place.invariant.pasting (c.put.ensures.closed closed raw)
         (skipped c.args.state.now c.loop-place.state kept waiting c.args.piece.now more raw c.loop-place.place c.skip_text-place.result (omega (arith, c.skip_text-place.ensures.within))
         (λ before. c.skip_text-place.ensures.puts before waiting) (c.loop-place.invariant.pastes more raw kept waiting)) in
-        subst (λ (s : State). AdvancesOver (standing c.args.state.now kept waiting)
+        subst (λ (s : State). AdvancesOver (view_of c.args.state.now kept waiting)
         (after_paste s (kept ++ take (c.loop-place.place + c.skip_text-place.result + 1) c.args.piece.now) waiting true)
         (take (c.loop-place.place + c.skip_text-place.result + 1) (marked c.args.piece.now more raw))) (sym c.end.ensures) over;
     all = inr refl;

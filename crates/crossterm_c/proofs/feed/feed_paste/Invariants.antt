@@ -1,9 +1,9 @@
 use Rattle.std.proofs.Common.{◌≡◌, ◌≤◌, ◌-◌, ◌++◌, ℕ, Bool, true, List, take, length}
 use Rattle.crossterm_types.specs.Seen.{Seen}
-use Rattle.crossterm_parse.specs.Machine.{is_paste}
+use Rattle.crossterm_parse.specs.inside.Automaton.{is_paste}
 use Rattle.crossterm_parse.specs.Marked.{marked}
-use Rattle.crossterm_parse.specs.Standing.{AdvancesOver}
-use Rattle.crossterm_c.specs.Feeding.{standing}
+use Rattle.crossterm_parse.specs.View.{AdvancesOver}
+use Rattle.crossterm_c.specs.Feeding.{view_of}
 use Rattle.crossterm_c.proofs.feed.feed_paste.Given as goal
 
 -- the bytes before this one were taken, and the paste is open still
@@ -12,7 +12,7 @@ invariant-loop-place g l = record {
   within : l.place ≤ length l.piece;
   pasting : is_paste l.state ≡ true;
   pastes : (more raw : Bool) (kept : List ℕ) (waiting : List Seen) →
-      AdvancesOver (standing l.initial.state kept waiting) (standing l.state (kept ++ take l.place l.piece) waiting) (take l.place (marked l.piece more raw));
+      AdvancesOver (view_of l.initial.state kept waiting) (view_of l.state (kept ++ take l.place l.piece) waiting) (take l.place (marked l.piece more raw));
 }
 
 abbrev pub decreases-loop-place : goal.decreases-loop-place

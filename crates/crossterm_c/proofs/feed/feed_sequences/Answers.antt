@@ -1,5 +1,5 @@
 use Rattle.std.proofs.Common.{◌∙◌, refl, arith}
-use Rattle.crossterm_parse.proofs.StandingLaws.{advance_more, advance_none}
+use Rattle.crossterm_parse.proofs.ViewLaws.{advance_more, advance_none}
 use Rattle.crossterm_parse.proofs.RunLaws.{advance_rest}
 use Rattle.crossterm_c.specs.Feeding.{filled}
 use Rattle.crossterm_c.proofs.feed.feed_sequences.Goals as goal

@@ -1,5 +1,5 @@
 use Rattle.std.proofs.Common.{◌≡◌, ◌≤◌, ◌-◌, false, take, length}
-use Rattle.crossterm_parse.specs.Machine.{is_paste}
+use Rattle.crossterm_parse.specs.inside.Automaton.{is_paste}
 use Rattle.crossterm_parse.specs.Marked.{marked}
 use Rattle.crossterm_c.specs.Feeding.{FillsOver}
 use Rattle.crossterm_c.proofs.feed.feed_sequences.Given as goal

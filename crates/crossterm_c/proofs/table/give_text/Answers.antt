@@ -1,5 +1,5 @@
 use Rattle.std.proofs.Common.{ℕ, ◌∙◌, ◌-◌, arith, subst, drop, take, length}
-use Rattle.crossterm_parse.specs.Standing.{PutsAll}
+use Rattle.crossterm_parse.specs.inside.Putting.{PutsAll}
 use Rattle.crossterm_parse.proofs.RunLaws.{puts_on, puts_still}
 use Rattle.crossterm_c.specs.Feeding.{filled}
 use Rattle.crossterm_c.proofs.table.give_text.Goals as goal

@@ -1,6 +1,6 @@
 //! The kinds of events that a reader holds, and places in their queues.
 ghost use Rattle.std.specs.Prelude.{◌≡◌, ◌+◌, ◌-◌, ◌^◌, ◌<◌, if◌then◌else◌};
-ghost use Rattle.crossterm_read.specs.Kinds.{has, kind_of, place_of, same_kind};
+ghost use Rattle.crossterm_read.specs.inside.Kinds.{has, kind_of, place_of, same_kind};
 
 use crossterm_types::event::InternalEvent;
 use crossterm_types::event::filter::Classes;

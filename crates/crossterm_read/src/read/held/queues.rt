@@ -3,8 +3,8 @@ ghost use Rattle.std.specs.Prelude.{◌≡◌, ℕ, ◌+◌, ◌<◌, ◌≤◌,
 ghost use Rattle.std.specs.List.{AllByRecursion};
 ghost use Rattle.std.specs.VecDeque.{deque_len, deque_capacity};
 ghost use Rattle.crossterm_types.specs.Seen.{seen};
-ghost use Rattle.crossterm_read.specs.Kinds.{has, kind_of, place_of, same_kind};
-ghost use Rattle.crossterm_read.specs.Queues.{AreJoined, Finds, HaveRoom, IsEarliest, Joins, SameQueues, Takes, all_kinds, behind, earlier_of, joined, member_kept, numbered_anew, queue_of};
+ghost use Rattle.crossterm_read.specs.inside.Kinds.{has, kind_of, place_of, same_kind};
+ghost use Rattle.crossterm_read.specs.inside.Queues.{AreJoined, Finds, HaveRoom, IsEarliest, Joins, SameQueues, Takes, all_kinds, behind, earlier_of, joined, member_kept, numbered_anew, queue_of};
 
 use super::kind::{Kind, Place, Places};
 use crossterm_types::event::InternalEvent;

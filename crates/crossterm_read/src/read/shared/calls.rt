@@ -4,7 +4,8 @@ ghost use Rattle.crossterm_types.specs.Admitting.{admitted, is_event};
 ghost use Rattle.crossterm_types.specs.Seen.{seen};
 ghost use Rattle.crossterm_types.specs.declared.event.filter.AnyFilter.TheVariants as filters;
 ghost use Rattle.crossterm_read.specs.Entries.{Polls, Reads};
-ghost use Rattle.crossterm_read.specs.Replies.{event_said, event_seen, last_said, read_reply, read_said, shown};
+ghost use Rattle.crossterm_read.specs.Replies.{event_said, event_seen, read_said, shown};
+ghost use Rattle.crossterm_read.specs.inside.Replies.{last_said, read_reply};
 ghost use Rattle.crossterm_read.specs.Seats.{knows};
 ghost use Rattle.crossterm_read.specs.Shared.{IsPassOf};
 

@@ -1,7 +1,8 @@
 //! The query of a shared reader for the keyboard's flags.
 ghost use Rattle.std.specs.Prelude.{◌≡◌, ◌≤◌};
 ghost use Rattle.crossterm_read.specs.Entries.{AsksKeyboard};
-ghost use Rattle.crossterm_read.specs.Replies.{flags_said, keyboard_said};
+ghost use Rattle.crossterm_read.specs.Replies.{keyboard_said};
+ghost use Rattle.crossterm_read.specs.inside.Replies.{flags_said};
 ghost use Rattle.crossterm_read.specs.Seats.{knows};
 ghost use Rattle.crossterm_read.specs.Shared.{IsPassOf};
 

@@ -3,7 +3,8 @@ ghost use Rattle.std.specs.Prelude.{◌≡◌, ◌≤◌, IfOk, true};
 ghost use Rattle.crossterm_types.specs.Admitting.{is_cursor_position};
 ghost use Rattle.crossterm_types.specs.Seen.{seen};
 ghost use Rattle.crossterm_read.specs.Entries.{AsksPosition};
-ghost use Rattle.crossterm_read.specs.Replies.{position_said, read_reply, shown};
+ghost use Rattle.crossterm_read.specs.Replies.{position_said, shown};
+ghost use Rattle.crossterm_read.specs.inside.Replies.{read_reply};
 ghost use Rattle.crossterm_read.specs.Seats.{knows};
 ghost use Rattle.crossterm_read.specs.Shared.{IsPassOf};
 

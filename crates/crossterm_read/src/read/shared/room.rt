@@ -8,8 +8,8 @@ ghost use Rattle.crossbeam_queue.specs.Passes.{IsSamePass, ruled_capacity, view}
 ghost use Rattle.crossterm_types.specs.Timing.{HasElapsed};
 ghost use Rattle.crossterm_read.specs.History.{opened};
 ghost use Rattle.crossterm_read.specs.Seats.{IsSeatOf, knows, number};
-ghost use Rattle.crossterm_read.specs.Shelf.{ReaderState};
-ghost use Rattle.crossterm_read.specs.Slot.{Brings, Learnt, Put, Taken, first_of, one_less, one_more, taught};
+ghost use Rattle.crossterm_read.specs.Store.{ReaderState};
+ghost use Rattle.crossterm_read.specs.inside.Slot.{Produces, Learnt, Put, Taken, first_of, one_less, one_more, taught};
 
 use crate::read::InternalEventReader;
 use crate::read::shared::pass::Pass;
@@ -206,7 +206,7 @@ impl<S: EventSource<A>, A: Allocator> Room<S, A> {
         _about: &T,
     )
         requires seat { queue.IsPassOf self.now.slot seat.old }
-        requires brings { Brings S.drawn M.made (view seat.old) reader }
+        requires produces { Produces S.drawn M.made (view seat.old) reader }
         ensures seat { IsSamePass seat.old seat.new }
         ensures put { Put S.drawn M.made (view seat.old) reader (view seat.new) }
     {

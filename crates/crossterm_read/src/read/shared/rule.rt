@@ -1,7 +1,7 @@
 //! The rule of the slot, and what each step on it tells.
 ghost use Rattle.std.specs.Prelude.{◌≡◌, ℕ, List, [], ⊤};
 ghost use Rattle.crossterm_read.specs.History.{Entry};
-ghost use Rattle.crossterm_read.specs.Slot.{Kept, Learnt, Put, Taken, first_of, newcomer, one_less, one_more, taught};
+ghost use Rattle.crossterm_read.specs.inside.Slot.{Kept, Learnt, Put, Taken, first_of, newcomer, one_less, one_more, taught};
 
 use crate::read::InternalEventReader;
 use crate::read::shared::view::View;

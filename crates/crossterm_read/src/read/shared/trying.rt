@@ -4,7 +4,8 @@ ghost use Rattle.crossterm_types.specs.Admitting.{is_event};
 ghost use Rattle.crossterm_types.specs.Seen.{seen};
 ghost use Rattle.crossterm_types.specs.declared.event.filter.AnyFilter.TheVariants as filters;
 ghost use Rattle.crossterm_read.specs.Entries.{Tries};
-ghost use Rattle.crossterm_read.specs.Replies.{event_tried, last_tried, shown, try_reply};
+ghost use Rattle.crossterm_read.specs.Replies.{shown};
+ghost use Rattle.crossterm_read.specs.inside.Replies.{event_tried, last_tried, try_reply};
 ghost use Rattle.crossterm_read.specs.Seats.{knows};
 ghost use Rattle.crossterm_read.specs.Shared.{IsPassOf};
 

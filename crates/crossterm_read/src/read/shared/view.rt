@@ -7,7 +7,7 @@ pub struct View<S>(PhantomData<S>);
 
 impl<S> Model for View<S> {
     ghost use Rattle.crossterm_read.specs.History.{Known};
-    ghost use Rattle.crossterm_read.specs.Slot.{newcomer};
+    ghost use Rattle.crossterm_read.specs.inside.Slot.{newcomer};
 
     ghost Value = { Known S };
 

@@ -1,6 +1,6 @@
 use Rattle.std.proofs.lemmas.Bool.{false≢true}
 use Rattle.std.proofs.Common.{arith, ap, refl, sym, ◌∙◌, is_ok}
-use Rattle.crossterm_parse.proofs.StandingLaws.{advance_more, advance_none, byte_quiet, byte_free, takes_steps}
+use Rattle.crossterm_parse.proofs.ViewLaws.{advance_more, advance_none, byte_quiet, byte_free, takes_steps}
 use Rattle.crossterm_parse.proofs.RunLaws.{advance_rest, advance_still}
 use Rattle.crossterm_parse.proofs.parse.Parser.advance.Goals as goal
 

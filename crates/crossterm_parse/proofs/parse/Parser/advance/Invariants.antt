@@ -1,6 +1,6 @@
 use Rattle.std.proofs.Common.{◌≤◌, ◌+◌, ◌-◌, ◌*◌, take, length}
 use Rattle.crossterm_parse.specs.Marked.{marked}
-use Rattle.crossterm_parse.specs.Standing.{AdvancesOver}
+use Rattle.crossterm_parse.specs.View.{AdvancesOver}
 use Rattle.crossterm_parse.proofs.parse.Parser.advance.Given as goal
 
 -- the bytes before this one were taken

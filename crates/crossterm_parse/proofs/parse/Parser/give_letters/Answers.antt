@@ -1,15 +1,15 @@
 use Rattle.std.proofs.Common.{ℕ, List, ◌∙◌, sym, ap, subst, arith, take, length}
 use Rattle.std.proofs.lemmas.List.{take_all, take_more}
 use Rattle.std.specs.List.{AllByRecursion}
-use Rattle.crossterm_parse.specs.Machine.{IsLetter}
-use Rattle.crossterm_parse.specs.Standing.{Gives, PutsAll}
+use Rattle.crossterm_parse.specs.inside.Automaton.{IsLetter}
+use Rattle.crossterm_parse.specs.inside.Putting.{Gives, PutsAll}
 use Rattle.crossterm_parse.specs.declared.meaning.Meaning.{Meaning}
 use Rattle.crossterm_parse.proofs.RunLaws.{take_less, letter_at, letter_puts, puts_after, puts_more}
 use Rattle.crossterm_parse.proofs.parse.Parser.give_letters.Goals as goal
 
 pub loop-letter-preserved : goal.loop-letter-preserved
 loop-letter-preserved g c =
-    let gives = subst (λ (m : Meaning). Gives c.loop-letter.self c.give_key.new.self m) c.letter_key.ensures c.give_key.ensures.gives in
+    let gives = subst (λ (m : Meaning). Gives c.loop-letter.self c.give_key.new.self m) c.ascii_key.ensures c.give_key.ensures.gives in
     let is = letter_at (take c.put_letters-count.result c.args.bytes.now) c.loop-letter.letter-index
     (subst (AllByRecursion IsLetter) (take_less c.put_letters-count.result c.min-most.result c.args.bytes.now c.put_letters-count.ensures.within) c.put_letters-count.ensures.letters) c.loop-letter-test.true in
     record {

@@ -1,5 +1,5 @@
 use Rattle.std.proofs.Common.{◌≡◌, ◌≤◌, ◌+◌, take, length}
-use Rattle.crossterm_parse.specs.Standing.{PutsAll}
+use Rattle.crossterm_parse.specs.inside.Putting.{PutsAll}
 use Rattle.crossterm_parse.specs.declared.state.State.TheVariants.{Ground}
 use Rattle.crossterm_parse.proofs.parse.Parser.give_letters.Given as goal
 

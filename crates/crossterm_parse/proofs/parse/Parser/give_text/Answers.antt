@@ -1,16 +1,16 @@
 use Rattle.std.proofs.Common.{ℕ, ◌∙◌, ◌-◌, arith, subst, drop, take, length}
-use Rattle.crossterm_parse.specs.Standing.{PutsAll}
+use Rattle.crossterm_parse.specs.inside.Putting.{PutsAll}
 use Rattle.crossterm_parse.proofs.RunLaws.{puts_on, puts_still}
 use Rattle.crossterm_parse.proofs.parse.Parser.give_text.Goals as goal
 
 pub loop-place-preserved : goal.loop-place-preserved
 loop-place-preserved g c = record {
-  within = omega (arith, c.give_front-count.ensures.within);
+  within = omega (arith, c.give_front-count.ensures.front.within);
   puts = puts_on c.args.self.now c.loop-place.self c.give_front-count.new.self c.args.bytes.now c.loop-place.place c.give_front-count.result c.loop-place.invariant.puts c.give_front-count.ensures.puts;
   state = c.give_front-count.ensures.state;
-  text = c.give_front-count.ensures.text ∙ c.loop-place.invariant.text;
-  room = omega (arith, c.give_front-count.ensures.room, c.loop-place.invariant.room);
-  steps = omega (arith, c.give_front-count.ensures.steps, c.loop-place.invariant.steps);
+  text = c.give_front-count.ensures.front.text ∙ c.loop-place.invariant.text;
+  room = omega (arith, c.give_front-count.ensures.front.room, c.loop-place.invariant.room);
+  steps = omega (arith, c.give_front-count.ensures.front.steps, c.loop-place.invariant.steps);
 }
 
 pub returns-then-count-eq0-clause-puts : goal.returns-then-count-eq0-clause-puts

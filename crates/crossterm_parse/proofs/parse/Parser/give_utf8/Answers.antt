@@ -1,5 +1,5 @@
 use Rattle.std.proofs.Common.{subst}
-use Rattle.crossterm_parse.specs.Standing.{Gives}
+use Rattle.crossterm_parse.specs.inside.Putting.{Gives}
 use Rattle.crossterm_parse.specs.declared.meaning.Meaning.{Meaning}
 use Rattle.crossterm_parse.proofs.RunLaws.{character_puts}
 use Rattle.crossterm_parse.proofs.parse.Parser.give_utf8.Goals as goal

@@ -1,6 +1,6 @@
 use Rattle.std.proofs.Common.{rules, ◌≡◌, true, sym, ◌∙◌}
 use Rattle.std.proofs.lemmas.Bool.{false≢true}
-use Rattle.crossterm_parse.specs.Machine.{is_paste}
+use Rattle.crossterm_parse.specs.inside.Automaton.{is_paste}
 use Rattle.crossterm_parse.proofs.RunLaws.{puts_paste}
 use Rattle.crossterm_parse.proofs.parse.Parser.put.Goals as goal
 

@@ -1,13 +1,13 @@
 use Rattle.std.proofs.Common.{◌≡◌, ◌+◌, List, [], take, map, sym, ap, subst, ◌∙◌, arith}
 use Rattle.std.proofs.lemmas.List.{take_all}
-use Rattle.crossterm_read.specs.Blocks.{Told}
-use Rattle.crossterm_read.specs.Device.{Word}
+use Rattle.crossterm_read.specs.Outcomes.{Answered}
+use Rattle.crossterm_read.specs.Device.{DeviceAnswer}
 use Rattle.crossterm_read.specs.Scripted.{ScriptLeft, ScriptTells, script_none, script_on}
-use Rattle.crossterm_read.specs.Turns.{Source, SourceDrawn, source_none, source_on}
-use Rattle.crossterm_read.proofs.Spelling.{script_told}
-use Rattle.crossterm_read.specs.declared.read.trace.Call.{Call}
-use Rattle.crossterm_read.specs.declared.read.trace.Reply.{Reply}
-use Rattle.crossterm_read.specs.Shelf.{ReaderState}
+use Rattle.crossterm_read.specs.inside.Turns.{Source, SourceDrawn, source_none, source_on}
+use Rattle.crossterm_read.proofs.Spelling.{script_answered}
+use Rattle.crossterm_read.specs.declared.read.call.Call.{Call}
+use Rattle.crossterm_read.specs.declared.read.call.Reply.{Reply}
+use Rattle.crossterm_read.specs.Store.{ReaderState}
 use Rattle.crossterm_read.specs.Calls.{said, joined, empty, Run}
 use Rattle.crossterm_read.proofs.Accounting.{accounts}
 use Rattle.crossterm_read.proofs.Runs.{Played, played_none, played_more}
@@ -27,16 +27,16 @@ pub returns-clause-run : goal.returns-clause-run
 returns-clause-run g c =
     let source = c.new-source.result in
     let all : take c.loop-call.call-index c.args.calls.now ≡ c.args.calls.now = take_all c.loop-call.call-index c.args.calls.now (omega arith) in
-    let p : Played (SourceDrawn ScriptTells) (record { shelf = empty; room = 0; source = source }) (take c.loop-call.call-index c.args.calls.now) (map said c.loop-call.replies.items) c.loop-call.reader =
+    let p : Played (SourceDrawn ScriptTells) (record { store = empty; room = 0; source = source }) (take c.loop-call.call-index c.args.calls.now) (map said c.loop-call.replies.items) c.loop-call.reader =
     subst (λ (y : ReaderState (Source ScriptLeft)). Played (SourceDrawn ScriptTells) y (take c.loop-call.call-index c.args.calls.now) (map said c.loop-call.replies.items) c.loop-call.reader) c.new-reader.ensures c.loop-call.invariant in
-    let told = script_told source c.loop-call.reader.source (joined p.answers) c.new-source.ensures.waiting c.new-source.ensures.stands c.new-source.ensures.untaken p.drawn_so in
+    let answered = script_answered source c.loop-call.reader.source (joined p.answers) c.new-source.ensures.waiting c.new-source.ensures.represents c.new-source.ensures.untaken p.drawn_so in
     record {
       drawn = p.answers;
       replies = p.replies;
       shows = p.said_so;
-      last = c.loop-call.reader.shelf;
-      told = subst (λ (l : List Word). Told l (joined p.answers)) (ap (λ (d : ScriptLeft). d.left) (c.new-source.ensures.device ∙ c.new.ensures)) told;
-      run = subst (λ (l : List Call). Run empty l p.answers p.replies c.loop-call.reader.shelf) all p.run;
+      last = c.loop-call.reader.store;
+      answered = subst (λ (l : List DeviceAnswer). Answered l (joined p.answers)) (ap (λ (d : ScriptLeft). d.left) (c.new-source.ensures.device ∙ c.new.ensures)) answered;
+      run = subst (λ (l : List Call). Run empty l p.answers p.replies c.loop-call.reader.store) all p.run;
       left = c.in_ok-held.ensures;
     }
 

@@ -2,7 +2,7 @@ use Rattle.std.proofs.Common.{◌≡◌, ◌≤◌, ◌<◌, ◌+◌, ◌-◌, L
 use Rattle.std.proofs.lemmas.List.{length-take-le}
 use Rattle.crossterm_parse.specs.Marked.{marked}
 use Rattle.crossterm_read.specs.Answers.{Failed}
-use Rattle.crossterm_read.specs.Turns.{without_event}
+use Rattle.crossterm_read.specs.inside.Turns.{without_event}
 use Rattle.crossterm_read.proofs.Turning.{hands_next, gives_some, gives_none, left_after, none_left, some_left, without_some}
 use Rattle.crossterm_read.proofs.source.DeviceSource.hand.Goals as goal
 
@@ -22,18 +22,18 @@ end_above from n end buffer f h t ne =
 pub returns-in-Some-clause-hands : goal.returns-in-Some-clause-hands
 returns-in-Some-clause-hands g c =
     hands_next _ _ c.feed-taken.new.self c.next.new.self _ c.self.inside.device c.feed-taken.result _ _ _ _ c.self.view_is c.requires refl c.feed-taken.ensures.taken
-    (after_front _ _ _ _ _ _ (omega arith) (omega arith) c.feed-taken.ensures.taken) c.feed-taken.ensures.divided c.feed-taken.ensures.quiet c.next.ensures.stands
+    (after_front _ _ _ _ _ _ (omega arith) (omega arith) c.feed-taken.ensures.taken) c.feed-taken.ensures.divided c.feed-taken.ensures.quiet c.next.ensures.represents
     (λ after. gives_some c.feed-taken.new.self.waiting c.next.new.self.waiting _ _ after c.in-Some.ensures.some)
 
 pub returns-then-self-clause-hands : goal.returns-then-self-clause-hands
 returns-then-self-clause-hands g c =
     hands_next _ _ c.feed-taken.new.self c.next.new.self _ c.self.inside.device c.feed-taken.result _ _ _ _ c.self.view_is c.requires refl c.feed-taken.ensures.taken
-    (after_front _ _ _ _ _ _ (omega arith) (omega arith) c.feed-taken.ensures.taken) c.feed-taken.ensures.divided c.feed-taken.ensures.quiet c.next.ensures.stands
+    (after_front _ _ _ _ _ _ (omega arith) (omega arith) c.feed-taken.ensures.taken) c.feed-taken.ensures.divided c.feed-taken.ensures.quiet c.next.ensures.represents
     (λ after. gives_none c.feed-taken.new.self.waiting c.next.new.self.waiting _ _ after c.in_default.ensures.none.0 c.in_default.ensures.none.1 (sym (ap without_event (none_left _ _ _ _ _ c.if-self.true))))
 
 pub returns-clause-hands : goal.returns-clause-hands
 returns-clause-hands g c =
     hands_next _ _ c.feed-taken.new.self c.next.new.self _ c.self.inside.device c.feed-taken.result _ _ _ _ c.self.view_is c.requires refl c.feed-taken.ensures.taken
-    (after_front _ _ _ _ _ _ (omega arith) (omega arith) c.feed-taken.ensures.taken) c.feed-taken.ensures.divided c.feed-taken.ensures.quiet c.next.ensures.stands
+    (after_front _ _ _ _ _ _ (omega arith) (omega arith) c.feed-taken.ensures.taken) c.feed-taken.ensures.divided c.feed-taken.ensures.quiet c.next.ensures.represents
     (λ after. gives_none c.feed-taken.new.self.waiting c.next.new.self.waiting _ _ after c.in_default.ensures.none.0 c.in_default.ensures.none.1
     (ap Failed c.from.ensures ∙ sym (without_some _ (some_left (c.self.inside.from + c.feed-taken.result) c.self.inside.end c.self.inside.buffer _ _ (end_above _ _ _ _ (omega arith) (omega arith) c.feed-taken.ensures.taken c.if-self.false) (omega arith)))))

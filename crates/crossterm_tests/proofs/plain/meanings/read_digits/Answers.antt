@@ -3,7 +3,7 @@ use Rattle.crossterm_tests.proofs.PlainLaws.{number_next, number_over}
 use Rattle.crossterm_tests.proofs.plain.meanings.read_digits.Goals as goal
 
 pub loop-byte-preserved : goal.loop-byte-preserved
-loop-byte-preserved c = number_next c.loop-byte.digits c.read.new.self c.args.text.now c.loop-byte.byte-index _ (omega arith) refl c.read.ensures c.loop-byte.invariant
+loop-byte-preserved c = number_next c.loop-byte.parameters c.read.new.self c.args.text.now c.loop-byte.byte-index _ (omega arith) refl c.read.ensures c.loop-byte.invariant
 
 pub returns : goal.returns
-returns c = number_over c.loop-byte.digits c.args.text.now c.loop-byte.byte-index (omega arith) c.loop-byte.invariant
+returns c = number_over c.loop-byte.parameters c.args.text.now c.loop-byte.byte-index (omega arith) c.loop-byte.invariant

@@ -1,8 +1,8 @@
 use Rattle.std.proofs.Common.{◌∙◌, Some, ap, map, subst, sym, arith}
-use Rattle.crossterm_read.specs.Queues.{AreKept, joined, member_kept, queue_of, queues_of}
-use Rattle.crossterm_read.specs.Shelf.{Holding}
+use Rattle.crossterm_read.specs.inside.Queues.{AreKept, joined, member_kept, queue_of, queues_of}
+use Rattle.crossterm_read.specs.Store.{Holding}
 use Rattle.crossterm_read.proofs.Joining.{part_fits}
-use Rattle.crossterm_read.proofs.Shelving.{kept_same, same_held}
+use Rattle.crossterm_read.proofs.Storing.{kept_same, same_held}
 use Rattle.crossterm_read.proofs.read.held.HeldEvents.reserve.Goals.{in-Some-1, in-None-1}
 use Rattle.crossterm_read.proofs.read.held.HeldEvents.reserve.Goals as goal
 
@@ -44,33 +44,33 @@ invariant_of-self-in_ok-self-inside-in-None-2 g c =
     kept_same h.queues (Some c.reserve_beyond-in-None.new.self) h.len h.limit c.in_ok-self-inside-in-None.field-0 h.next_order c.self.invariant
     (λ k. c.in_ok-self-inside-in-None.ensures.same k ∙ c.in_ok-queues-in-None.ensures k ∙ ap (λ o. queues_of o k) (sym c.in-None.is)) (omega arith) room.1
 
-pub returns-in-Err-clause-shelf : goal.returns-in-Err-clause-shelf
-returns-in-Err-clause-shelf g c =
-    let held = same_held (Some c.in-Some.queues) (Some c.reserve_beyond.new.self) c.in-Err.ensures.same ∙ ap (λ o. map member_kept (joined (queues_of o))) (sym c.in-Some.is) ∙ ap (λ s. s.shelf.held) c.self.view_is in
-    let arrivals = ap (λ s. s.shelf.arrivals) c.self.view_is in
+pub returns-in-Err-clause-store : goal.returns-in-Err-clause-store
+returns-in-Err-clause-store g c =
+    let held = same_held (Some c.in-Some.queues) (Some c.reserve_beyond.new.self) c.in-Err.ensures.same ∙ ap (λ o. map member_kept (joined (queues_of o))) (sym c.in-Some.is) ∙ ap (λ s. s.store.held) c.self.view_is in
+    let arrivals = ap (λ s. s.store.arrivals) c.self.view_is in
     λ i. record { held = held i; arrivals = arrivals i }
 
 pub returns-in-Err-clause-err : goal.returns-in-Err-clause-err
 returns-in-Err-clause-err g c =
-    let shelf = returns-in-Err-clause-shelf g c in
+    let store = returns-in-Err-clause-store g c in
     let room = ap (λ s. s.room) c.self.view_is in
     let full = c.if-self.false in
-    ((λ i. record { shelf = shelf i; room = room i }), omega arith)
+    ((λ i. record { store = store i; room = room i }), omega arith)
 
-pub returns-in-Ok-clause-shelf : goal.returns-in-Ok-clause-shelf
-returns-in-Ok-clause-shelf g c =
-    let held = same_held (Some c.in-Some.queues) (Some c.reserve_beyond.new.self) c.in-Ok.ensures.same ∙ ap (λ o. map member_kept (joined (queues_of o))) (sym c.in-Some.is) ∙ ap (λ s. s.shelf.held) c.self.view_is in
-    let arrivals = ap (λ s. s.shelf.arrivals) c.self.view_is in
+pub returns-in-Ok-clause-store : goal.returns-in-Ok-clause-store
+returns-in-Ok-clause-store g c =
+    let held = same_held (Some c.in-Some.queues) (Some c.reserve_beyond.new.self) c.in-Ok.ensures.same ∙ ap (λ o. map member_kept (joined (queues_of o))) (sym c.in-Some.is) ∙ ap (λ s. s.store.held) c.self.view_is in
+    let arrivals = ap (λ s. s.store.arrivals) c.self.view_is in
     λ i. record { held = held i; arrivals = arrivals i }
 
-pub returns-in_ok-self-inside-in-None-clause-shelf : goal.returns-in_ok-self-inside-in-None-clause-shelf
-returns-in_ok-self-inside-in-None-clause-shelf g c =
+pub returns-in_ok-self-inside-in-None-clause-store : goal.returns-in_ok-self-inside-in-None-clause-store
+returns-in_ok-self-inside-in-None-clause-store g c =
     let held = same_held c.self.inside.queues (Some c.reserve_beyond-in-None.new.self)
-    (λ k. c.in_ok-self-inside-in-None.ensures.same k ∙ c.in_ok-queues-in-None.ensures k ∙ ap (λ o. queues_of o k) (sym c.in-None.is)) ∙ ap (λ s. s.shelf.held) c.self.view_is in
-    let arrivals = ap (λ s. s.shelf.arrivals) c.self.view_is in
+    (λ k. c.in_ok-self-inside-in-None.ensures.same k ∙ c.in_ok-queues-in-None.ensures k ∙ ap (λ o. queues_of o k) (sym c.in-None.is)) ∙ ap (λ s. s.store.held) c.self.view_is in
+    let arrivals = ap (λ s. s.store.arrivals) c.self.view_is in
     elim c.match-self-2.branch [
-      | in-Some-1 w ↦ ap (λ (s : Holding). s.shelf) w.self-is ∙ (λ i. record { held = held i; arrivals = arrivals i })
-      | in-None-1 w ↦ ap (λ (s : Holding). s.shelf) w.self-is ∙ (λ i. record { held = held i; arrivals = arrivals i })
+      | in-Some-1 w ↦ ap (λ (s : Holding). s.store) w.self-is ∙ (λ i. record { held = held i; arrivals = arrivals i })
+      | in-None-1 w ↦ ap (λ (s : Holding). s.store) w.self-is ∙ (λ i. record { held = held i; arrivals = arrivals i })
     ]
 
 pub returns-in_ok-self-inside-in-None-clause-ok : goal.returns-in_ok-self-inside-in-None-clause-ok

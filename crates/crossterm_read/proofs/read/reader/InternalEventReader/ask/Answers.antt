@@ -1,7 +1,7 @@
 use Rattle.std.proofs.Common.{◌≡◌, ℕ, arith, refl, sym, ap, subst, ◌∙◌}
 use Rattle.crossterm_read.proofs.Asking.{Asking, none_of, asking_none, asking_came, asking_nothing, asked_held, asked_came, asked_broke, asked_refused, asked_tried, asks_none, asks_more}
 use Rattle.crossterm_read.specs.Device.{IsAtOnce}
-use Rattle.crossterm_read.specs.Shelf.{ReaderState}
+use Rattle.crossterm_read.specs.Store.{ReaderState}
 use Rattle.crossterm_read.proofs.read.reader.InternalEventReader.ask.Goals.{in-Came+else-admitted, in-Nothing}
 use Rattle.crossterm_read.proofs.read.reader.InternalEventReader.ask.Goals as goal
 

@@ -2,7 +2,7 @@ use Rattle.std.proofs.Common.{◌≡◌, ◌≤◌}
 use Rattle.crossterm_read.proofs.Asking.{Asking}
 use Rattle.crossterm_read.specs.Device.{AsksAtOnce}
 use Rattle.crossterm_read.specs.declared.read.reader.AtWake.TheVariants.{Stops}
-use Rattle.crossterm_read.specs.Shelf.{capacity}
+use Rattle.crossterm_read.specs.Store.{capacity}
 use Rattle.crossterm_read.proofs.read.reader.InternalEventReader.ask.Given as goal
 
 abbrev pub invariant-loop-i : goal.invariant-loop-i

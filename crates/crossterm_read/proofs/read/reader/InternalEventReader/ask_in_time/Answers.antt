@@ -1,7 +1,7 @@
 use Rattle.std.proofs.Common.{◌+◌, ℕ, arith, refl, sym, ap, subst, ◌∙◌}
 use mathlib.Core.Bool.{true≢false}
 use Rattle.crossterm_types.specs.Timing.{HasElapsed}
-use Rattle.crossterm_read.specs.Shelf.{ReaderState}
+use Rattle.crossterm_read.specs.Store.{ReaderState}
 use Rattle.crossterm_read.proofs.Asking.{Asking, none_of, asking_none, asking_came, asking_nothing, asked_held, asked_came, asked_broke, asked_refused, asked_tried, asks_none}
 use Rattle.crossterm_read.proofs.Waiting.{in_time, in_time_ready, in_time_broke, limits_more, lasts}
 use Rattle.crossterm_read.proofs.read.reader.InternalEventReader.ask_in_time.Goals.{in-Came+else-admitted, in-Nothing}

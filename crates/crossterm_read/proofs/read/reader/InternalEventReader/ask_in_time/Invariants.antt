@@ -1,7 +1,7 @@
 use Rattle.std.proofs.Common.{◌≡◌, ◌≤◌, ℕ}
 use Rattle.crossterm_read.specs.declared.read.reader.AtWake.TheVariants.{Stops}
 use Rattle.crossterm_read.specs.Device.{AsksEach, IsAtOnce}
-use Rattle.crossterm_read.specs.Shelf.{capacity}
+use Rattle.crossterm_read.specs.Store.{capacity}
 use Rattle.crossterm_read.specs.Waiting.{WasLeft}
 use Rattle.crossterm_read.proofs.Asking.{Asking}
 use Rattle.crossterm_read.proofs.read.reader.InternalEventReader.ask_in_time.Given as goal

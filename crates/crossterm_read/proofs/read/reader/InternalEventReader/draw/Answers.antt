@@ -5,16 +5,16 @@ use Rattle.crossterm_types.specs.Seen.{seen}
 use Rattle.crossterm_read.specs.Answers.{Gave, Nothing, Failed}
 use Rattle.crossterm_read.specs.declared.read.reader.AtWake.TheVariants.{Stops, GoesOn}
 use Rattle.crossterm_read.specs.declared.read.reader.Once.TheVariants as once
-use Rattle.crossterm_read.specs.Shelf.{Shelf, Holding, ReaderState, Arrives}
-use Rattle.crossterm_read.specs.Numbers.{IsOrderly}
+use Rattle.crossterm_read.specs.Store.{EventStore, Holding, ReaderState, Arrives}
+use Rattle.crossterm_read.specs.inside.Numbers.{IsOrderly}
 use Rattle.crossterm_read.proofs.Asking.{draws_from}
 use Rattle.crossterm_read.proofs.Numbers.{orderly_arrives}
 use Rattle.crossterm_read.proofs.read.reader.InternalEventReader.draw.Goals.{in-GoesOn+else-is_woken, in-Stops}
 use Rattle.crossterm_read.proofs.read.reader.InternalEventReader.draw.Goals as goal
 
--- the shelf after an answer without an event
-same : (s t : Shelf) → t ≡ s → (t.held ≡ s.held ++ []) × (t.arrivals ≡ s.arrivals)
-same s t e = (ap (λ (y : Shelf). y.held) e ∙ sym (append-nil s.held), ap (λ (y : Shelf). y.arrivals) e)
+-- the store after an answer without an event
+same : (s t : EventStore) → t ≡ s → (t.held ≡ s.held ++ []) × (t.arrivals ≡ s.arrivals)
+same s t e = (ap (λ (y : EventStore). y.held) e ∙ sym (append-nil s.held), ap (λ (y : EventStore). y.arrivals) e)
 
 stops_not : Stops ≡ GoesOn → ⊥
 stops_not e = absurd (cc)
@@ -23,45 +23,45 @@ pub returns-in-Ok-Some-clause-one : goal.returns-in-Ok-Some-clause-one
 returns-in-Ok-Some-clause-one g c =
     let d = rw c.in-Ok-Some.field-0-is at c.in-Ok-Some.ensures in
     let admitted = rw c.in-Ok-Some.field-0-is at c.eval-admitted.ensures in
-    let pushed = rw c.in-Ok-Some.field-0-is at c.push_reserved.ensures.shelf in
-    let arrives = subst (λ (s : Shelf). Arrives s (Gave (seen c.in-Ok-Some.event) ∷ []) c.push_reserved.new.self.shelf) c.reserve.ensures.shelf pushed in
+    let pushed = rw c.in-Ok-Some.field-0-is at c.push_reserved.ensures.store in
+    let arrives = subst (λ (s : EventStore). Arrives s (Gave (seen c.in-Ok-Some.event) ∷ []) c.push_reserved.new.self.store) c.reserve.ensures.store pushed in
     draws_from g.S.EventSource.drawn g.met.S.EventSource.drawn_on c.args.at_wake (g.F.Filter.admits c.args.filter.now) _ c.args.self.now
-    (record { shelf = c.push_reserved.new.self.shelf; room = c.push_reserved.new.self.room; source = c.try_read.new.self })
+    (record { store = c.push_reserved.new.self.store; room = c.push_reserved.new.self.room; source = c.try_read.new.self })
     (once.Came c.eval-admitted.result) c.self.view_is (seen c.in-Ok-Some.event, d.drawn, arrives, admitted)
 
 pub returns-then-is_woken-clause-one : goal.returns-then-is_woken-clause-one
 returns-then-is_woken-clause-one g c =
-    let e = same c.self.inside.held.shelf c.reserve.new.self.shelf c.reserve.ensures.shelf in
+    let e = same c.self.inside.held.store c.reserve.new.self.store c.reserve.ensures.store in
     draws_from g.S.EventSource.drawn g.met.S.EventSource.drawn_on c.args.at_wake (g.F.Filter.admits c.args.filter.now) _ c.args.self.now
-    (record { shelf = c.reserve.new.self.shelf; room = c.reserve.new.self.room; source = c.try_read.new.self })
+    (record { store = c.reserve.new.self.store; room = c.reserve.new.self.room; source = c.try_read.new.self })
     once.Nothing c.self.view_is
     (Failed (error_kind c.in-Err-try_read.error), c.in-Err-try_read.ensures.drawn, record { held = e.0; arrivals = e.1 }, (c.in-GoesOn.is, c.if-is_woken.ensures.yes))
 
 pub returns-in-Err-clause-one : goal.returns-in-Err-clause-one
 returns-in-Err-clause-one g c =
-    let reader : Holding → ReaderState g.row.S.Denot = λ h. record { shelf = h.shelf; room = h.room; source = c.self.inside.source } in
+    let reader : Holding → ReaderState g.row.S.Denot = λ h. record { store = h.store; room = h.room; source = c.self.inside.source } in
     ap reader c.in-Err.ensures.err.0 ∙ c.self.view_is
 
 pub returns-in-Ok-None-clause-one : goal.returns-in-Ok-None-clause-one
 returns-in-Ok-None-clause-one g c =
     let d = rw c.in-Ok-None.field-0-is at c.in-Ok-None.ensures in
-    let e = same c.self.inside.held.shelf c.reserve.new.self.shelf c.reserve.ensures.shelf in
+    let e = same c.self.inside.held.store c.reserve.new.self.store c.reserve.ensures.store in
     draws_from g.S.EventSource.drawn g.met.S.EventSource.drawn_on c.args.at_wake (g.F.Filter.admits c.args.filter.now) _ c.args.self.now
-    (record { shelf = c.reserve.new.self.shelf; room = c.reserve.new.self.room; source = c.try_read.new.self })
+    (record { store = c.reserve.new.self.store; room = c.reserve.new.self.room; source = c.try_read.new.self })
     once.Nothing c.self.view_is (Nothing, d.drawn, record { held = e.0; arrivals = e.1 }, tt)
 
 pub returns-after-at_wake-clause-one : goal.returns-after-at_wake-clause-one
 returns-after-at_wake-clause-one g c =
-    let e = same c.self.inside.held.shelf c.reserve.new.self.shelf c.reserve.ensures.shelf in
+    let e = same c.self.inside.held.store c.reserve.new.self.store c.reserve.ensures.store in
     let other : c.args.at_wake ≡ GoesOn → error_kind c.in-Err-try_read.error ≢ Interrupted = λ goes. elim c.match-at_wake.branch [
       | in-GoesOn+else-is_woken w ↦ w.if-is_woken.ensures.no
       | in-Stops w ↦ absurd (stops_not (sym w.in-Stops.is ∙ goes))
     ] in
     draws_from g.S.EventSource.drawn g.met.S.EventSource.drawn_on c.args.at_wake (g.F.Filter.admits c.args.filter.now) _ c.args.self.now
-    (record { shelf = c.reserve.new.self.shelf; room = c.reserve.new.self.room; source = c.try_read.new.self })
+    (record { store = c.reserve.new.self.store; room = c.reserve.new.self.room; source = c.try_read.new.self })
     (once.Broke c.in-Err-try_read.error) c.self.view_is (c.in-Err-try_read.ensures.drawn, record { held = e.0; arrivals = e.1 }, other)
 
 pub invariant_of-self-in-Ok-Some : goal.invariant_of-self-in-Ok-Some
 invariant_of-self-in-Ok-Some g c =
-    let before = subst (λ (s : Shelf). IsOrderly s.held s.arrivals) (sym c.reserve.ensures.shelf) c.self.invariant in
-    orderly_arrives c.reserve.new.self.shelf c.push_reserved.new.self.shelf _ before c.push_reserved.ensures.shelf
+    let before = subst (λ (s : EventStore). IsOrderly s.held s.arrivals) (sym c.reserve.ensures.store) c.self.invariant in
+    orderly_arrives c.reserve.new.self.store c.push_reserved.new.self.store _ before c.push_reserved.ensures.store

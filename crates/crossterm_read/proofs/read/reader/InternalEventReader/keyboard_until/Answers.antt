@@ -3,7 +3,7 @@ use Rattle.std.specs.Option.{option_map}
 use Rattle.std.specs.IoError.{error_kind}
 use Rattle.crossterm_types.specs.Seen.{Seen}
 use Rattle.crossterm_types.specs.Admitting.{is_attributes}
-use Rattle.crossterm_read.specs.Shelf.{kept}
+use Rattle.crossterm_read.specs.Store.{kept}
 use Rattle.crossterm_read.specs.Replies.{Came, ToTake, ToQuery, Fault}
 use Rattle.crossterm_read.specs.Queries.{AfterReply}
 use Rattle.crossterm_read.proofs.Querying.{polled_there, keyboard_alone, keyboard_flags, last_query}
@@ -18,7 +18,7 @@ returns-in-Some-clause-step g c =
     let y = option_map kept c.left_taken-left.result in (
       ToQuery x y,
       keyboard_flags g.S.EventSource.drawn g.met.S.EventSource.drawn_on _ _ _ _ _ _ c.args.self.now c.query_until.new.self c.poll-ready.new.self c.left_taken-left.new.self x y _ _
-          c.in-Some.ensures c.in-Ok.ensures.step c.poll-ready.ensures.step (c.left_taken-left.ensures.says x) c.left_taken-left.ensures.source,
+          c.in-Some.ensures c.in-Ok.ensures.step c.poll-ready.ensures.step (c.left_taken-left.ensures.delivers x) c.left_taken-left.ensures.source,
       ap (λ (z : Seen). Came (Some z)) (sym c.in-Some.ensures),
       λ n. last_query n x.0 x.1 y _ c.number_of.ensures,
     )
@@ -28,7 +28,7 @@ returns-in-Ok-clause-step g c =
     let x = kept (c.in-Ok.event, c.in-Ok.number) in
     let m = c.query_until.new.self in (
       ToTake (Some x),
-      keyboard_alone g.S.EventSource.drawn _ _ _ c.args.self.now m (ToTake (Some x)) c.in-Ok.ensures.step (subst (λ (z : Seen). AfterReply 0 [] z x m.shelf m.shelf (ToTake (Some x))) (sym c.in-None.ensures) (refl, refl, refl)),
+      keyboard_alone g.S.EventSource.drawn _ _ _ c.args.self.now m (ToTake (Some x)) c.in-Ok.ensures.step (subst (λ (z : Seen). AfterReply 0 [] z x m.store m.store (ToTake (Some x))) (sym c.in-None.ensures) (refl, refl, refl)),
       ap (λ (z : Seen). Came (Some z)) (sym c.in-None.ensures),
       λ n. refl,
     )

@@ -9,7 +9,7 @@ reply_taken-requires g c said none = let e = c.poll_until-ready.ensures.step in 
 
 pub returns-clause-step : goal.returns-clause-step
 returns-clause-step g c =
-    timed_query g.S.EventSource.drawn (g.F.Filter.admits c.args.filter.now) _ _ _ c.args.self.now c.poll_until-ready.new.self c.reply_taken.new.self _ _ c.poll_until-ready.ensures.step c.reply_taken.ensures.says c.reply_taken.ensures.source
+    timed_query g.S.EventSource.drawn (g.F.Filter.admits c.args.filter.now) _ _ _ c.args.self.now c.poll_until-ready.new.self c.reply_taken.new.self _ _ c.poll_until-ready.ensures.step c.reply_taken.ensures.delivers c.reply_taken.ensures.source
 
 pub returns-clause-limits : goal.returns-clause-limits
 returns-clause-limits g c =

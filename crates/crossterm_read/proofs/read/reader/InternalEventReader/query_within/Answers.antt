@@ -17,7 +17,7 @@ returns-clause-step g c =
     let e = c.poll_within-ready.ensures.step in (
       e.0,
       subst (λ (x : g.row.S.Denot). g.S.EventSource.drawn c.args.self.now.source e.0 x) (sym c.reply_taken.ensures.source) e.1,
-      (c.poll_within-ready.new.self.shelf, _, e.2, c.reply_taken.ensures.says),
+      (c.poll_within-ready.new.self.store, _, e.2, c.reply_taken.ensures.delivers),
       query_fault (λ kind. RefusedOnlyWithoutRoom c.args.self.now.room e.0 kind) (λ o. other_not _ o) c.poll_within-ready.result e.3 c.reply_taken.result c.reply_taken.ensures.fault,
     )
 

@@ -16,7 +16,7 @@ returns-in-Some-clause-step g c =
 pub returns-in-Err-clause-step : goal.returns-in-Err-clause-step
 returns-in-Err-clause-step g c =
     let a = c.in-Err.ensures.asked in
-    (a.tries, a.answers, a.drawn_so, (Broke (error_kind c.in-Err.error), c.ask_in_time.new.self.shelf, a.asks, a.arrives, (refl, refl)), a.memory)
+    (a.tries, a.answers, a.drawn_so, (Broke (error_kind c.in-Err.error), c.ask_in_time.new.self.store, a.asks, a.arrives, (refl, refl)), a.memory)
 
 pub returns-in-Err-clause-asked : goal.returns-in-Err-clause-asked
 returns-in-Err-clause-asked g c = limits_none c.new-timeout.result c.new-timeout.ensures.limit _ _ _ c.ask_in_time.ensures.limits
@@ -27,4 +27,4 @@ returns-in-Some-clause-asked g c =
     (limits_none c.new-timeout.result c.new-timeout.ensures.limit _ _ _ c.ask_in_time.ensures.limits)
 
 pub returns-in-Some-clause-admitted : goal.returns-in-Some-clause-admitted
-returns-in-Some-clause-admitted g c = taken_admitted (g.F.Filter.admits c.args.filter.now) c.ask_in_time.new.self.shelf c.take_numbered.new.self.shelf _ c.in-Some.ensures.step
+returns-in-Some-clause-admitted g c = taken_admitted (g.F.Filter.admits c.args.filter.now) c.ask_in_time.new.self.store c.take_numbered.new.self.store _ c.in-Some.ensures.step

@@ -3,49 +3,49 @@ use Rattle.std.proofs.lemmas.List.{take_rest}
 use Rattle.std.specs.declared.io.ErrorKind.{ErrorKind}
 use Rattle.crossterm_read.specs.Device.{Resized, Woken, Idle, Fault}
 use Rattle.crossterm_read.specs.declared.source.script.Act.{Act}
-use Rattle.crossterm_read.specs.Scripted.{Tells, words, words_from}
-use Rattle.crossterm_read.proofs.Cutting.{words_at, piece_step, drop_told, act_told, piece_over, end_told}
+use Rattle.crossterm_read.specs.Scripted.{AnswersWith, device_answers, device_answers_from}
+use Rattle.crossterm_read.proofs.Cutting.{words_at, piece_step, drop_answered, act_answered, piece_over, end_answered}
 use Rattle.crossterm_read.proofs.source.script.ScriptDevice.answer.Goals.{in-Piece+else-self-len, in_default}
 use Rattle.crossterm_read.proofs.source.script.ScriptDevice.answer.Goals as goal
 
-pub returns-then-self-len-clause-told : goal.returns-then-self-len-clause-told
-returns-then-self-len-clause-told g c =
+pub returns-then-self-len-clause-answered : goal.returns-then-self-len-clause-answered
+returns-then-self-len-clause-answered g c =
     let acts = c.loop-self.self-inside.acts.items in
     let next = c.loop-self.self-inside.next in
     let at = c.loop-self.self-inside.at in
-    let same = λ (n : ℕ). words_at acts next n c.index-act.result.now (omega arith) c.index-act.ensures ∙ ap (λ (a : Act g.row.A.Denot). words_from (a ∷ drop (next + 1) acts) n) c.in-Piece.is in
+    let same = λ (n : ℕ). words_at acts next n c.index-act.result.now (omega arith) c.index-act.ensures ∙ ap (λ (a : Act g.row.A.Denot). device_answers_from (a ∷ drop (next + 1) acts) n) c.in-Piece.is in
     let bytes = c.in-Piece.bytes.items in
     let rest : take (length c.deref.result.now - at) (drop at c.deref.result.now) ≡ drop at bytes = take_rest c.deref.result.now at ∙ ap (λ (l : List ℕ). drop at l) c.deref.ensures.value in (
-      piece_step (drop at c.in-Piece.bytes.items) (drop (at + c.tell-count.result) c.in-Piece.bytes.items) _ c.in-Piece.raw (words (drop (next + 1) acts)) _ _
-          (omega (arith, length-drop at bytes)) (drop_told bytes at c.tell-count.result (c.tell-count.ensures.count ∙ ap (λ (l : List ℕ). min 1024 (length l)) rest))
-          (c.tell-count.ensures.told ∙ ap (λ (l : List ℕ). take 1024 l) rest) (sym (same at) ∙ c.loop-self.invariant.left) (sym (same (at + c.tell-count.result))),
+      piece_step (drop at c.in-Piece.bytes.items) (drop (at + c.tell-count.result) c.in-Piece.bytes.items) _ c.in-Piece.raw (device_answers (drop (next + 1) acts)) _ _
+          (omega (arith, length-drop at bytes)) (drop_answered bytes at c.tell-count.result (c.tell-count.ensures.count ∙ ap (λ (l : List ℕ). min 1024 (length l)) rest))
+          (c.tell-count.ensures.answered ∙ ap (λ (l : List ℕ). take 1024 l) rest) (sym (same at) ∙ c.loop-self.invariant.left) (sym (same (at + c.tell-count.result))),
       omega arith,
     )
 
-pub returns-in-Resize-clause-told : goal.returns-in-Resize-clause-told
-returns-in-Resize-clause-told g c =
+pub returns-in-Resize-clause-answered : goal.returns-in-Resize-clause-answered
+returns-in-Resize-clause-answered g c =
     let self = c.loop-self.self-inside in
-    let one = ap (λ (a : Act g.row.A.Denot). words_from (a ∷ drop (self.next + 1) self.acts.items) self.at) c.in-Resize.is in
-    (act_told self.acts.items self.next self.at c.index-act.result.now (Resized c.in-Resize.columns c.in-Resize.rows) _ (omega arith) c.index-act.ensures one c.loop-self.invariant.left, omega arith)
+    let one = ap (λ (a : Act g.row.A.Denot). device_answers_from (a ∷ drop (self.next + 1) self.acts.items) self.at) c.in-Resize.is in
+    (act_answered self.acts.items self.next self.at c.index-act.result.now (Resized c.in-Resize.columns c.in-Resize.rows) _ (omega arith) c.index-act.ensures one c.loop-self.invariant.left, omega arith)
 
-pub returns-in-Woken-clause-told : goal.returns-in-Woken-clause-told
-returns-in-Woken-clause-told g c =
+pub returns-in-Woken-clause-answered : goal.returns-in-Woken-clause-answered
+returns-in-Woken-clause-answered g c =
     let self = c.loop-self.self-inside in
-    let one = ap (λ (a : Act g.row.A.Denot). words_from (a ∷ drop (self.next + 1) self.acts.items) self.at) c.in-Woken.is in
-    (act_told self.acts.items self.next self.at c.index-act.result.now (Woken) _ (omega arith) c.index-act.ensures one c.loop-self.invariant.left, omega arith)
+    let one = ap (λ (a : Act g.row.A.Denot). device_answers_from (a ∷ drop (self.next + 1) self.acts.items) self.at) c.in-Woken.is in
+    (act_answered self.acts.items self.next self.at c.index-act.result.now (Woken) _ (omega arith) c.index-act.ensures one c.loop-self.invariant.left, omega arith)
 
-pub returns-in-Idle-clause-told : goal.returns-in-Idle-clause-told
-returns-in-Idle-clause-told g c =
+pub returns-in-Idle-clause-answered : goal.returns-in-Idle-clause-answered
+returns-in-Idle-clause-answered g c =
     let self = c.loop-self.self-inside in
-    let one = ap (λ (a : Act g.row.A.Denot). words_from (a ∷ drop (self.next + 1) self.acts.items) self.at) c.in-Idle.is in
-    (act_told self.acts.items self.next self.at c.index-act.result.now (Idle) _ (omega arith) c.index-act.ensures one c.loop-self.invariant.left, omega arith)
+    let one = ap (λ (a : Act g.row.A.Denot). device_answers_from (a ∷ drop (self.next + 1) self.acts.items) self.at) c.in-Idle.is in
+    (act_answered self.acts.items self.next self.at c.index-act.result.now (Idle) _ (omega arith) c.index-act.ensures one c.loop-self.invariant.left, omega arith)
 
-pub returns-in-Fault-clause-told : goal.returns-in-Fault-clause-told
-returns-in-Fault-clause-told g c =
+pub returns-in-Fault-clause-answered : goal.returns-in-Fault-clause-answered
+returns-in-Fault-clause-answered g c =
     let self = c.loop-self.self-inside in
-    let one = ap (λ (a : Act g.row.A.Denot). words_from (a ∷ drop (self.next + 1) self.acts.items) self.at) c.in-Fault.is in
-    let told = act_told self.acts.items self.next self.at c.index-act.result.now (Fault c.in-Fault.kind) _ (omega arith) c.index-act.ensures one c.loop-self.invariant.left in
-    (subst (λ (kind : ErrorKind). Tells c.args.self.now.left (Fault kind ∷ []) (words_from (drop (self.next + 1) self.acts.items) 0)) (sym c.from.ensures) told, omega arith)
+    let one = ap (λ (a : Act g.row.A.Denot). device_answers_from (a ∷ drop (self.next + 1) self.acts.items) self.at) c.in-Fault.is in
+    let answered = act_answered self.acts.items self.next self.at c.index-act.result.now (Fault c.in-Fault.kind) _ (omega arith) c.index-act.ensures one c.loop-self.invariant.left in
+    (subst (λ (kind : ErrorKind). AnswersWith c.args.self.now.left (Fault kind ∷ []) (device_answers_from (drop (self.next + 1) self.acts.items) 0)) (sym c.from.ensures) answered, omega arith)
 
 pub loop-self-preserved : goal.loop-self-preserved
 loop-self-preserved g c =
@@ -59,5 +59,5 @@ loop-self-preserved g c =
       within = omega arith;
     }
 
-pub returns-clause-told : goal.returns-clause-told
-returns-clause-told g c = (end_told c.loop-self.self-inside.acts.items c.loop-self.self-inside.next c.loop-self.self-inside.at _ (omega arith) c.loop-self.invariant.left, omega arith)
+pub returns-clause-answered : goal.returns-clause-answered
+returns-clause-answered g c = (end_answered c.loop-self.self-inside.acts.items c.loop-self.self-inside.next c.loop-self.self-inside.at _ (omega arith) c.loop-self.invariant.left, omega arith)

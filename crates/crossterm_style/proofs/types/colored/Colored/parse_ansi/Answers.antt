@@ -6,9 +6,9 @@ use Rattle.crossterm_style.proofs.types.colored.Colored.parse_ansi.Goals as goal
 pub returns-in_default : goal.returns-in_default
 returns-in_default c = answers_none _ (rw c.of.ensures at c.in_default.ensures)
 
-pub returns-in-Some-ink : goal.returns-in-Some-ink
-returns-in-Some-ink c =
-    answers_set _ _ _ _ _ _ (rw c.of.ensures at c.in-Some.ensures) c.in-Some-ink.ensures c.color.ensures c.set_by.ensures
+pub returns-in-Some-sgr : goal.returns-in-Some-sgr
+returns-in-Some-sgr c =
+    answers_set _ _ _ _ _ _ (rw c.of.ensures at c.in-Some.ensures) c.in-Some-sgr.ensures c.color.ensures c.set_by.ensures
 
 pub returns-in-None : goal.returns-in-None
 returns-in-None c =

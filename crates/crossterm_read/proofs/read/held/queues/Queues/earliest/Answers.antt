@@ -1,6 +1,6 @@
 use Rattle.std.proofs.Common.{[], ◌∷◌, subst, sym}
-use Rattle.crossterm_read.specs.Kinds.{has}
-use Rattle.crossterm_read.specs.Queues.{IsEarliest, all_kinds, behind, queue_of}
+use Rattle.crossterm_read.specs.inside.Kinds.{has}
+use Rattle.crossterm_read.specs.inside.Queues.{IsEarliest, all_kinds, behind, queue_of}
 use Rattle.crossterm_read.specs.declared.read.held.kind.Kind.TheVariants.{Event, Cursor, Flags, Attributes}
 use Rattle.crossterm_read.proofs.Joining.{earliest_of_both}
 use Rattle.crossterm_read.proofs.read.held.queues.Queues.earliest.Goals as goal

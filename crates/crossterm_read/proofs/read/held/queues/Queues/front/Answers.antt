@@ -1,5 +1,5 @@
 use Rattle.std.proofs.Common.{rules, ◌≡◌, ◌∷◌, ◌∙◌, refl, true, suc, drop, subst, sym, arith}
-use Rattle.crossterm_read.specs.Queues.{NotBefore, behind, queue_of}
+use Rattle.crossterm_read.specs.inside.Queues.{NotBefore, behind, queue_of}
 use Rattle.crossterm_read.proofs.Joining.{drop_at}
 use Rattle.crossterm_read.proofs.read.held.queues.Queues.front.Goals as goal
 

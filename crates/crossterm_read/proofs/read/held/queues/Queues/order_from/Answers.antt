@@ -1,6 +1,6 @@
 use Rattle.std.proofs.Common.{◌<◌, ◌∙◌, ap, map, subst, sym, arith}
 use Rattle.std.specs.List.{AllByRecursion}
-use Rattle.crossterm_read.specs.Queues.{joined, member_kept, numbered_anew, queue_of}
+use Rattle.crossterm_read.specs.inside.Queues.{joined, member_kept, numbered_anew, queue_of}
 use Rattle.crossterm_read.proofs.Joining.{are_joined, below_anew, joined_is, same_kept}
 use Rattle.crossterm_read.proofs.read.held.queues.Queues.order_from.Goals as goal
 

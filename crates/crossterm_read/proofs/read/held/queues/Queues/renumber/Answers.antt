@@ -1,7 +1,7 @@
 use Rattle.std.proofs.Common.{◌≡◌, ℕ, cond, get_or, sym, subst, ◌∙◌, ap}
 use Rattle.std.specs.List.{slice_set}
-use Rattle.crossterm_read.specs.Kinds.{place_of, same_kind}
-use Rattle.crossterm_read.specs.Queues.{joined, queue_of}
+use Rattle.crossterm_read.specs.inside.Kinds.{place_of, same_kind}
+use Rattle.crossterm_read.specs.inside.Queues.{joined, queue_of}
 use Rattle.crossterm_read.proofs.Joining.{fewer_left, front_there, renumber_keeps, renumbered_all, renumbered_on}
 use Rattle.crossterm_read.proofs.read.held.queues.Queues.renumber.Goals as goal
 

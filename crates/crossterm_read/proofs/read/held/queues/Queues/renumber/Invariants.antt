@@ -1,5 +1,5 @@
 use Rattle.std.proofs.Common.{ℕ}
-use Rattle.crossterm_read.specs.Queues.{HaveRoom, joined, queue_of}
+use Rattle.crossterm_read.specs.inside.Queues.{HaveRoom, joined, queue_of}
 use Rattle.crossterm_read.proofs.Joining.{Renumbered, left}
 use Rattle.crossterm_read.proofs.read.held.queues.Queues.renumber.Given as goal
 

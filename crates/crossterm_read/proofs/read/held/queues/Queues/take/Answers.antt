@@ -1,5 +1,5 @@
 use Rattle.crossterm_types.specs.Seen.{seen}
-use Rattle.crossterm_read.specs.Queues.{queue_of}
+use Rattle.crossterm_read.specs.inside.Queues.{queue_of}
 use Rattle.crossterm_read.proofs.Joining.{taken_out}
 use Rattle.crossterm_read.proofs.read.held.queues.Queues.take.Goals as goal
 

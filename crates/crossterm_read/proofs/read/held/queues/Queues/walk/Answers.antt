@@ -1,7 +1,7 @@
 use Rattle.std.proofs.Common.{refl, sym, ◌∙◌}
 use Rattle.crossterm_types.specs.Seen.{seen}
-use Rattle.crossterm_read.specs.Kinds.{place_of}
-use Rattle.crossterm_read.specs.Queues.{queue_of}
+use Rattle.crossterm_read.specs.inside.Kinds.{place_of}
+use Rattle.crossterm_read.specs.inside.Queues.{queue_of}
 use Rattle.crossterm_read.proofs.Joining.{drop_more, fewer_left, walked_all, walked_found, walked_on}
 use Rattle.crossterm_read.proofs.read.held.queues.Queues.walk.Goals as goal
 

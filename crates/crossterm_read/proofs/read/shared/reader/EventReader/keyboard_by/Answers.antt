@@ -4,7 +4,7 @@ use Rattle.std.specs.declared.time.Duration.{Duration}
 use Rattle.crossbeam_queue.specs.Passes.{view}
 use Rattle.crossterm_read.specs.Calls.{Keyboard}
 use Rattle.crossterm_read.specs.Waiting.{TimedKeyboard}
-use Rattle.crossterm_read.proofs.Sharing.{some_there, brings, extends, extends_at, keyboard_longer, sits_taken, sits_put, last_after}
+use Rattle.crossterm_read.proofs.Sharing.{some_there, produces, extends, extends_at, keyboard_longer, sits_taken, sits_put, last_after}
 use Rattle.crossterm_read.proofs.read.shared.reader.EventReader.keyboard_by.Goals as goal
 
 pub take_within-requires-clause-opened : goal.take_within-requires-clause-opened
@@ -13,13 +13,13 @@ take_within-requires-clause-opened g c = some_there _ c.args.pass.now.sits.opene
 pub keyboard_until-taken-requires : goal.keyboard_until-taken-requires
 keyboard_until-taken-requires g c = let start = ap as_nanos c.new-timeout.ensures.start ∙ c.now-start.ensures.told in omega (arith, c.take_within.ensures.later)
 
-pub put-requires-clause-brings : goal.put-requires-clause-brings
-put-requires-clause-brings g c =
+pub put-requires-clause-produces : goal.put-requires-clause-produces
+put-requires-clause-produces g c =
     let drawn = g.S.EventSource.drawn in
     let s = c.keyboard_until-taken.ensures.step in
     let timed = subst (λ (limit : Option Duration). TimedKeyboard drawn limit (as_nanos c.new-timeout.result.start) (g.C.Clock.told c.keyboard_until-taken.new.clock) c.in-Some.reader c.keyboard_until-taken.new.self s.0) c.new-timeout.ensures.limit s.1 in
     let p = subst (λ n. TimedKeyboard drawn (Some c.args.limit) n (g.C.Clock.told c.keyboard_until-taken.new.clock) c.in-Some.reader c.keyboard_until-taken.new.self s.0) (ap as_nanos c.new-timeout.ensures.start) timed in
-    brings drawn _ _ _ c.in-Some.reader c.keyboard_until-taken.new.self c.in-Some.ensures.taken (Keyboard p.tries p.again) p.answers s.0
+    produces drawn _ _ _ c.in-Some.reader c.keyboard_until-taken.new.self c.in-Some.ensures.taken (Keyboard p.tries p.again) p.answers s.0
     (record { timed = p; call = refl; answers = refl; reply = refl }, s.2, s.3) p.drawn_so p.step
 
 pub invariant_of-pass-2 : goal.invariant_of-pass-2

@@ -2,7 +2,8 @@ use Rattle.std.proofs.Common.{◌≡◌, ℕ, Option, Some}
 use Rattle.std.specs.Duration.{as_nanos}
 use Rattle.crossterm_read.specs.Entries.{IsKeyboard}
 use Rattle.crossterm_read.specs.History.{last_of}
-use Rattle.crossterm_read.specs.Replies.{flags_said, last_said, shown}
+use Rattle.crossterm_read.specs.Replies.{shown}
+use Rattle.crossterm_read.specs.inside.Replies.{flags_said, last_said}
 use Rattle.crossterm_read.proofs.read.shared.reader.EventReader.keyboard_by.Given as goal
 
 abbrev pub ghosts-put : goal.ghosts-put

@@ -1,7 +1,7 @@
 use Rattle.std.proofs.Common.{◌≡◌, sym, ap, subst, ◌∙◌, All}
 use Rattle.crossterm_read.specs.History.{opened}
 use Rattle.crossterm_read.specs.Seats.{IsSeatOf, knows, number}
-use Rattle.crossterm_read.specs.Slot.{first_of}
+use Rattle.crossterm_read.specs.inside.Slot.{first_of}
 use Rattle.crossterm_read.specs.declared.read.shared.room.Room.{Room}
 use Rattle.crossterm_read.proofs.read.shared.reader.EventReader.new.Goals as goal
 

@@ -6,7 +6,7 @@ use Rattle.crossterm_types.specs.Admitting.{admitted}
 use Rattle.crossterm_read.specs.Calls.{Poll}
 use Rattle.crossterm_read.specs.Replies.{poll_reply}
 use Rattle.crossterm_read.specs.Waiting.{TimedPoll}
-use Rattle.crossterm_read.proofs.Sharing.{some_there, brings, extends, extends_as, poll_longer, sits_taken, sits_put, last_after, last_poll}
+use Rattle.crossterm_read.proofs.Sharing.{some_there, produces, extends, extends_as, poll_longer, sits_taken, sits_put, last_after, last_poll}
 use Rattle.crossterm_read.proofs.read.shared.reader.EventReader.poll_by.Goals as goal
 
 pub take_within-requires-clause-opened : goal.take_within-requires-clause-opened
@@ -15,14 +15,14 @@ take_within-requires-clause-opened g c = some_there _ c.args.pass.now.sits.opene
 pub poll_until-result-requires : goal.poll_until-result-requires
 poll_until-result-requires g c = let start = ap as_nanos c.new-timeout.ensures.start ∙ c.now-start.ensures.told in omega (arith, c.take_within.ensures.later)
 
-pub put-requires-clause-brings : goal.put-requires-clause-brings
-put-requires-clause-brings g c =
+pub put-requires-clause-produces : goal.put-requires-clause-produces
+put-requires-clause-produces g c =
     let drawn = g.S.EventSource.drawn in
     let start = ap as_nanos c.new-timeout.ensures.start in
     let timed = subst (λ (limit : Option Duration). TimedPoll drawn (admitted c.args.filter) limit (as_nanos c.new-timeout.result.start) (g.C.Clock.told c.poll_until-result.new.clock) c.in-Some.reader c.poll_until-result.new.self (poll_reply c.poll_until-result.result))
     c.new-timeout.ensures.limit c.poll_until-result.ensures.step in
     let p = subst (λ n. TimedPoll drawn (admitted c.args.filter) c.args.limit n (g.C.Clock.told c.poll_until-result.new.clock) c.in-Some.reader c.poll_until-result.new.self (poll_reply c.poll_until-result.result)) start timed in
-    brings drawn _ _ _ c.in-Some.reader c.poll_until-result.new.self c.in-Some.ensures.taken (Poll p.tries c.args.filter) p.answers (poll_reply c.poll_until-result.result)
+    produces drawn _ _ _ c.in-Some.reader c.poll_until-result.new.self c.in-Some.ensures.taken (Poll p.tries c.args.filter) p.answers (poll_reply c.poll_until-result.result)
     (record { timed = p; call = refl; answers = refl; reply = refl; limits = (c.new-timeout.result, c.new-timeout.ensures.limit, omega (arith, start), c.poll_until-result.ensures.limits) }) p.drawn_so p.step
 
 pub invariant_of-pass-2 : goal.invariant_of-pass-2

@@ -4,9 +4,9 @@ use Rattle.std.specs.declared.time.Duration.{Duration}
 use Rattle.crossbeam_queue.specs.Passes.{view}
 use Rattle.crossterm_types.specs.Admitting.{is_cursor_position}
 use Rattle.crossterm_read.specs.Calls.{Position}
-use Rattle.crossterm_read.specs.Replies.{read_reply}
+use Rattle.crossterm_read.specs.inside.Replies.{read_reply}
 use Rattle.crossterm_read.specs.Waiting.{TimedQuery}
-use Rattle.crossterm_read.proofs.Sharing.{some_there, brings, extends, extends_as, position_longer, sits_taken, sits_put, last_after, last_read}
+use Rattle.crossterm_read.proofs.Sharing.{some_there, produces, extends, extends_as, position_longer, sits_taken, sits_put, last_after, last_read}
 use Rattle.crossterm_read.proofs.read.shared.reader.EventReader.position_by.Goals as goal
 
 pub take_within-requires-clause-opened : goal.take_within-requires-clause-opened
@@ -15,14 +15,14 @@ take_within-requires-clause-opened g c = some_there _ c.args.pass.now.sits.opene
 pub query_until-taken-requires : goal.query_until-taken-requires
 query_until-taken-requires g c = let start = ap as_nanos c.new-timeout.ensures.start ∙ c.now-start.ensures.told in omega (arith, c.take_within.ensures.later)
 
-pub put-requires-clause-brings : goal.put-requires-clause-brings
-put-requires-clause-brings g c =
+pub put-requires-clause-produces : goal.put-requires-clause-produces
+put-requires-clause-produces g c =
     let drawn = g.S.EventSource.drawn in
     let start = ap as_nanos c.new-timeout.ensures.start in
     let timed = subst (λ (limit : Option Duration). TimedQuery drawn is_cursor_position limit (as_nanos c.new-timeout.result.start) (g.C.Clock.told c.query_until-taken.new.clock) c.in-Some.reader c.query_until-taken.new.self (read_reply c.query_until-taken.result))
     c.new-timeout.ensures.limit c.query_until-taken.ensures.step in
     let p = subst (λ n. TimedQuery drawn is_cursor_position (Some c.args.limit) n (g.C.Clock.told c.query_until-taken.new.clock) c.in-Some.reader c.query_until-taken.new.self (read_reply c.query_until-taken.result)) start timed in
-    brings drawn _ _ _ c.in-Some.reader c.query_until-taken.new.self c.in-Some.ensures.taken (Position p.tries) p.answers (read_reply c.query_until-taken.result)
+    produces drawn _ _ _ c.in-Some.reader c.query_until-taken.new.self c.in-Some.ensures.taken (Position p.tries) p.answers (read_reply c.query_until-taken.result)
     (record { timed = p; call = refl; answers = refl; reply = refl; limits = (c.new-timeout.result, c.new-timeout.ensures.limit, omega (arith, start), c.query_until-taken.ensures.limits) }) p.drawn_so p.step
 
 pub invariant_of-pass-2 : goal.invariant_of-pass-2

@@ -1,7 +1,7 @@
 use Rattle.std.proofs.Common.{Some}
 use Rattle.std.specs.Duration.{as_nanos}
 use Rattle.crossterm_read.specs.Entries.{IsPosition}
-use Rattle.crossterm_read.specs.Replies.{read_reply}
+use Rattle.crossterm_read.specs.inside.Replies.{read_reply}
 use Rattle.crossterm_read.proofs.read.shared.reader.EventReader.position_by.Given as goal
 
 abbrev pub ghosts-put : goal.ghosts-put

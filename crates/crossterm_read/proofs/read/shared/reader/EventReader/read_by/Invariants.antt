@@ -1,5 +1,5 @@
 use Rattle.crossterm_read.specs.Entries.{IsRead}
-use Rattle.crossterm_read.specs.Replies.{read_reply}
+use Rattle.crossterm_read.specs.inside.Replies.{read_reply}
 use Rattle.crossterm_read.proofs.read.shared.reader.EventReader.read_by.Given as goal
 
 abbrev pub ghosts-put : goal.ghosts-put

@@ -2,7 +2,7 @@ use Rattle.std.proofs.Common.{sym, ap, ◌∙◌, subst}
 use Rattle.crossbeam_queue.specs.Passes.{view}
 use Rattle.crossbeam_queue.specs.Fifo.{Merges}
 use Rattle.crossterm_read.specs.History.{Known}
-use Rattle.crossterm_read.specs.Slot.{Kept, Learnt, taught}
+use Rattle.crossterm_read.specs.inside.Slot.{Kept, Learnt, taught}
 use Rattle.crossterm_read.proofs.Moves.{meets, learns}
 use Rattle.crossterm_read.proofs.read.shared.room.Room.meet.Goals as goal
 

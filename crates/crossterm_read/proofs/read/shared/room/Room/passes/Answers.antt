@@ -3,10 +3,10 @@ use Rattle.std.specs.List.{range_with_len}
 use Rattle.std.proofs.lemmas.List.{map-append}
 use Rattle.std.proofs.lemmas.List.Elements.{All-cons, All-push}
 use Rattle.crossbeam_queue.specs.Passes.{view}
-use Rattle.crossterm_read.specs.Shelf.{ReaderState}
+use Rattle.crossterm_read.specs.Store.{ReaderState}
 use Rattle.crossterm_read.specs.History.{Known, opened}
 use Rattle.crossterm_read.specs.Seats.{IsSeatOf, knows, number}
-use Rattle.crossterm_read.specs.Slot.{first_of, one_less, one_more}
+use Rattle.crossterm_read.specs.inside.Slot.{first_of, one_less, one_more}
 use Rattle.crossterm_read.specs.declared.read.shared.pass.Pass.{Pass}
 use Rattle.crossterm_read.proofs.Sharing.{sits_first, range_more, made_knows}
 use Rattle.crossterm_read.proofs.read.shared.room.Room.passes.Goals as goal

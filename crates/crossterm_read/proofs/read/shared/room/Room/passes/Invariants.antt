@@ -2,8 +2,8 @@ use Rattle.std.proofs.Common.{◌≡◌, ◌-◌, All, map}
 use Rattle.std.specs.List.{range_with_len}
 use Rattle.crossbeam_queue.specs.Passes.{view}
 use Rattle.crossbeam_queue.specs.Passes as queue
-use Rattle.crossterm_read.specs.Shelf.{ReaderState}
-use Rattle.crossterm_read.specs.Slot.{first_of}
+use Rattle.crossterm_read.specs.Store.{ReaderState}
+use Rattle.crossterm_read.specs.inside.Slot.{first_of}
 use Rattle.crossterm_read.specs.History.{opened}
 use Rattle.crossterm_read.specs.Seats.{IsSeatOf, knows, number}
 use Rattle.crossterm_read.proofs.read.shared.room.Room.passes.Given as goal

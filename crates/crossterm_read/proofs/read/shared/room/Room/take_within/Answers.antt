@@ -1,7 +1,7 @@
 use Rattle.std.proofs.Common.{ap, subst, ◌∙◌}
 use Rattle.crossbeam_queue.specs.Passes.{view}
 use Rattle.crossterm_read.specs.History.{Known}
-use Rattle.crossterm_read.specs.Slot.{Taken}
+use Rattle.crossterm_read.specs.inside.Slot.{Taken}
 use Rattle.crossterm_read.proofs.Moves.{takes_as}
 use Rattle.crossterm_read.proofs.read.shared.room.Room.take_within.Goals as goal
 

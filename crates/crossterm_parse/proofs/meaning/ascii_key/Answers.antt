@@ -4,9 +4,9 @@ use Rattle.crossterm_types.specs.declared.event.key.KeyEvent.{KeyEvent}
 use Rattle.crossterm_types.specs.declared.event.key.KeyCode.TheVariants.{Char}
 use Rattle.crossterm_parse.specs.Meaning.{pressed_with}
 use Rattle.crossterm_parse.specs.declared.meaning.Meaning.TheVariants.{Key}
-use Rattle.crossterm_parse.proofs.Letters.{is_uppercase-ascii}
-use Rattle.crossterm_parse.proofs.meaning.letter_key.Goals as goal
-use Rattle.crossterm_parse.proofs.meaning.letter_key.Goals.{then-is_capital, else-is_capital}
+use Rattle.crossterm_parse.proofs.Ascii.{is_uppercase-ascii}
+use Rattle.crossterm_parse.proofs.meaning.ascii_key.Goals as goal
+use Rattle.crossterm_parse.proofs.meaning.ascii_key.Goals.{then-is_capital, else-is_capital}
 
 pub returns : goal.returns
 returns c =

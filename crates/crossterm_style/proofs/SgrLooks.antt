@@ -7,10 +7,10 @@ use Rattle.std.proofs.lemmas.Bool.Decides.{nat_tests}
 use Rattle.std.proofs.lemmas.Fmt.{decimal_is_IsNumeral}
 use Rattle.crossterm_style.specs.declared.types.color.Color.{Color}
 use Rattle.crossterm_style.specs.declared.types.color.Color.TheVariants as color
-use Rattle.crossterm_style.specs.declared.types.ink.Ink.{Ink}
-use Rattle.crossterm_style.specs.declared.types.ink.Ink.TheVariants.{Own, Palette, Rgb}
+use Rattle.crossterm_style.specs.declared.types.sgr.SgrColor.{SgrColor}
+use Rattle.crossterm_style.specs.declared.types.sgr.SgrColor.TheVariants.{Own, Indexed, Rgb}
 use Rattle.crossterm_style.specs.Acts.{shade}
-use Rattle.crossterm_style.specs.Colors.{FitsInk, ink_of, ink_text, palette_color}
+use Rattle.crossterm_style.specs.Colors.{FitsSgr, sgr_of, sgr_text, indexed_color}
 use Rattle.crossterm_style.specs.Looks.{Parameter, Place, Style, are_private, by_parameters, is_digit, number, number_or_other, parameter, parameter_of, parameters, put, sgr}
 use Rattle.crossterm_style.specs.Looks.Parameter.{Number}
 use Rattle.crossterm_style.specs.Looks.Place.{Foreground, Background, Underlining}
@@ -71,10 +71,10 @@ resetting Foreground = 39
 resetting Background = 49
 resetting Underlining = 59
 
-abbrev ink_parameters : Place → Ink → List Parameter
-ink_parameters p Own = Number (resetting p) ∷ []
-ink_parameters p (Palette n) = Number (setting p) ∷ Number 5 ∷ Number n ∷ []
-ink_parameters p (Rgb r g b) = Number (setting p) ∷ Number 2 ∷ Number r ∷ Number g ∷ Number b ∷ []
+abbrev sgr_parameters : Place → SgrColor → List Parameter
+sgr_parameters p Own = Number (resetting p) ∷ []
+sgr_parameters p (Indexed n) = Number (setting p) ∷ Number 5 ∷ Number n ∷ []
+sgr_parameters p (Rgb r g b) = Number (setting p) ∷ Number 2 ∷ Number r ∷ Number g ∷ Number b ∷ []
 
 own_read : (p : Place) → parameters (resets p) ≡ Number (resetting p) ∷ []
 own_read Foreground = refl
@@ -84,18 +84,18 @@ own_first : (p : Place) (rest : List ℕ) → parameters (resets p ++ (59 ∷ re
 own_first Foreground rest = refl
 own_first p rest = refl
 
-palette_front : (p : Place) (rest : List ℕ) → parameters (sets p ++ (codes ";5;" ++ rest)) ≡ Number (setting p) ∷ Number 5 ∷ parameters rest
-palette_front Foreground rest = refl
-palette_front p rest = refl
+indexed_front : (p : Place) (rest : List ℕ) → parameters (sets p ++ (codes ";5;" ++ rest)) ≡ Number (setting p) ∷ Number 5 ∷ parameters rest
+indexed_front Foreground rest = refl
+indexed_front p rest = refl
 
 rgb_front : (p : Place) (rest : List ℕ) → parameters (sets p ++ (codes ";2;" ++ rest)) ≡ Number (setting p) ∷ Number 2 ∷ parameters rest
 rgb_front Foreground rest = refl
 rgb_front p rest = refl
 
-ink_read : (p : Place) (i : Ink) → FitsInk i → parameters (ink_text (sets p) (resets p) i) ≡ ink_parameters p i
-ink_read p Own h = own_read p
-ink_read p (Palette n) h = palette_front p (decimal n) ∙ ap (λ l. Number (setting p) ∷ Number 5 ∷ l) (last_number n h)
-ink_read p (Rgb r g b) h =
+sgr_read : (p : Place) (i : SgrColor) → FitsSgr i → parameters (sgr_text (sets p) (resets p) i) ≡ sgr_parameters p i
+sgr_read p Own h = own_read p
+sgr_read p (Indexed n) h = indexed_front p (decimal n) ∙ ap (λ l. Number (setting p) ∷ Number 5 ∷ l) (last_number n h)
+sgr_read p (Rgb r g b) h =
     rgb_front p _ ∙ ap (λ l. Number (setting p) ∷ Number 2 ∷ l) (next_number r _ h.0 ∙ ap (λ l. Number r ∷ l) (next_number g _ h.1 ∙ ap (λ l. Number g ∷ l) (last_number b h.2)))
 
 parts_first : (r g b : ℕ) (rest : List ℕ) → r < 256 → g < 256 → b < 256
@@ -106,12 +106,12 @@ parts_first r g b rest hr hg hb =
     ∙ next_number r _ hr ∙ ap (λ l. Number r ∷ l) (next_number g _ hg ∙ ap (λ l. Number g ∷ l) (next_number b rest hb))
 
 -- an ink before others
-ink_first : (p : Place) (i : Ink) (rest : List ℕ) → FitsInk i → parameters (ink_text (sets p) (resets p) i ++ (59 ∷ rest)) ≡ ink_parameters p i ++ parameters rest
-ink_first p Own rest h = own_first p rest
-ink_first p (Palette n) rest h =
-    ap parameters (append_assoc (sets p) (codes ";5;" ++ decimal n) (59 ∷ rest)) ∙ palette_front p (decimal n ++ (59 ∷ rest))
+sgr_first : (p : Place) (i : SgrColor) (rest : List ℕ) → FitsSgr i → parameters (sgr_text (sets p) (resets p) i ++ (59 ∷ rest)) ≡ sgr_parameters p i ++ parameters rest
+sgr_first p Own rest h = own_first p rest
+sgr_first p (Indexed n) rest h =
+    ap parameters (append_assoc (sets p) (codes ";5;" ++ decimal n) (59 ∷ rest)) ∙ indexed_front p (decimal n ++ (59 ∷ rest))
     ∙ ap (λ l. Number (setting p) ∷ Number 5 ∷ l) (next_number n rest h)
-ink_first p (Rgb r g b) rest h =
+sgr_first p (Rgb r g b) rest h =
     let parts = decimal r ++ (codes ";" ++ (decimal g ++ (codes ";" ++ decimal b))) in
     ap parameters (append_assoc (sets p) (codes ";2;" ++ parts) (59 ∷ rest)) ∙ rgb_front p (parts ++ (59 ∷ rest))
     ∙ ap (λ l. Number (setting p) ∷ Number 2 ∷ l) (parts_first r g b rest h.0 h.1 h.2)
@@ -119,12 +119,12 @@ ink_first p (Rgb r g b) rest h =
 -- ---- what they do
 
 -- the colour of an ink
-abbrev pub ink_shade : Ink → Option Color
-ink_shade Own = None
-ink_shade (Palette n) = Some (palette_color n)
-ink_shade (Rgb r g b) = Some (color.Rgb r g b)
+abbrev pub sgr_shade : SgrColor → Option Color
+sgr_shade Own = None
+sgr_shade (Indexed n) = Some (indexed_color n)
+sgr_shade (Rgb r g b) = Some (color.Rgb r g b)
 
-pub shade_of : (c : Color) → ink_shade (ink_of c) ≡ shade c
+pub shade_of : (c : Color) → sgr_shade (sgr_of c) ≡ shade c
 shade_of color.Reset = refl
 shade_of c = refl
 
@@ -132,25 +132,25 @@ own_puts : (p : Place) (ps : List Parameter) (s : Style) → by_parameters (Numb
 own_puts Foreground ps s = refl
 own_puts p ps s = refl
 
-palette_puts : (p : Place) (n : ℕ) (ps : List Parameter) (s : Style) → by_parameters (Number (setting p) ∷ Number 5 ∷ Number n ∷ ps) 0 s ≡ by_parameters ps 0 (put p (Some (palette_color n)) s)
-palette_puts Foreground n ps s = refl
-palette_puts p n ps s = refl
+indexed_puts : (p : Place) (n : ℕ) (ps : List Parameter) (s : Style) → by_parameters (Number (setting p) ∷ Number 5 ∷ Number n ∷ ps) 0 s ≡ by_parameters ps 0 (put p (Some (indexed_color n)) s)
+indexed_puts Foreground n ps s = refl
+indexed_puts p n ps s = refl
 
 rgb_puts : (p : Place) (r g b : ℕ) (ps : List Parameter) (s : Style)
     → by_parameters (Number (setting p) ∷ Number 2 ∷ Number r ∷ Number g ∷ Number b ∷ ps) 0 s ≡ by_parameters ps 0 (put p (Some (color.Rgb r g b)) s)
 rgb_puts Foreground r g b ps s = refl
 rgb_puts p r g b ps s = refl
 
-ink_puts : (p : Place) (i : Ink) (ps : List Parameter) (s : Style) → by_parameters (ink_parameters p i ++ ps) 0 s ≡ by_parameters ps 0 (put p (ink_shade i) s)
-ink_puts p Own ps s = own_puts p ps s
-ink_puts p (Palette n) ps s = palette_puts p n ps s
-ink_puts p (Rgb r g b) ps s = rgb_puts p r g b ps s
+sgr_puts : (p : Place) (i : SgrColor) (ps : List Parameter) (s : Style) → by_parameters (sgr_parameters p i ++ ps) 0 s ≡ by_parameters ps 0 (put p (sgr_shade i) s)
+sgr_puts p Own ps s = own_puts p ps s
+sgr_puts p (Indexed n) ps s = indexed_puts p n ps s
+sgr_puts p (Rgb r g b) ps s = rgb_puts p r g b ps s
 
 -- the same where nothing follows
-ink_sets : (p : Place) (i : Ink) (s : Style) → FitsInk i → by_parameters (parameters (ink_text (sets p) (resets p) i)) 0 s ≡ put p (ink_shade i) s
-ink_sets p Own s h = ap (λ ps. by_parameters ps 0 s) (ink_read p Own h) ∙ ink_puts p Own [] s
-ink_sets p (Palette n) s h = ap (λ ps. by_parameters ps 0 s) (ink_read p (Palette n) h) ∙ ink_puts p (Palette n) [] s
-ink_sets p (Rgb r g b) s h = ap (λ ps. by_parameters ps 0 s) (ink_read p (Rgb r g b) h) ∙ ink_puts p (Rgb r g b) [] s
+sgr_sets : (p : Place) (i : SgrColor) (s : Style) → FitsSgr i → by_parameters (parameters (sgr_text (sets p) (resets p) i)) 0 s ≡ put p (sgr_shade i) s
+sgr_sets p Own s h = ap (λ ps. by_parameters ps 0 s) (sgr_read p Own h) ∙ sgr_puts p Own [] s
+sgr_sets p (Indexed n) s h = ap (λ ps. by_parameters ps 0 s) (sgr_read p (Indexed n) h) ∙ sgr_puts p (Indexed n) [] s
+sgr_sets p (Rgb r g b) s h = ap (λ ps. by_parameters ps 0 s) (sgr_read p (Rgb r g b) h) ∙ sgr_puts p (Rgb r g b) [] s
 
 -- SGR's parameters aren't private
 public_resets : (p : Place) (rest : List ℕ) → are_private (resets p ++ rest) ≡ false
@@ -161,22 +161,22 @@ public_sets : (p : Place) (rest : List ℕ) → are_private (sets p ++ rest) ≡
 public_sets Foreground rest = refl
 public_sets p rest = refl
 
-public_ink : (p : Place) (i : Ink) (rest : List ℕ) → are_private (ink_text (sets p) (resets p) i ++ rest) ≡ false
+public_ink : (p : Place) (i : SgrColor) (rest : List ℕ) → are_private (sgr_text (sets p) (resets p) i ++ rest) ≡ false
 public_ink p Own rest = public_resets p rest
-public_ink p (Palette n) rest = ap are_private (append_assoc (sets p) (codes ";5;" ++ decimal n) rest) ∙ public_sets p ((codes ";5;" ++ decimal n) ++ rest)
+public_ink p (Indexed n) rest = ap are_private (append_assoc (sets p) (codes ";5;" ++ decimal n) rest) ∙ public_sets p ((codes ";5;" ++ decimal n) ++ rest)
 public_ink p (Rgb r g b) rest =
     let parts = codes ";2;" ++ (decimal r ++ (codes ";" ++ (decimal g ++ (codes ";" ++ decimal b)))) in
     ap are_private (append_assoc (sets p) parts rest) ∙ public_sets p (parts ++ rest)
 
-pub ink_looks : (p : Place) (i : Ink) (s : Style) → FitsInk i → sgr (ink_text (sets p) (resets p) i) s ≡ put p (ink_shade i) s
-ink_looks p i s h =
-    let text = ink_text (sets p) (resets p) i in
+pub sgr_looks : (p : Place) (i : SgrColor) (s : Style) → FitsSgr i → sgr (sgr_text (sets p) (resets p) i) s ≡ put p (sgr_shade i) s
+sgr_looks p i s h =
+    let text = sgr_text (sets p) (resets p) i in
     let public : are_private text ≡ false = ap are_private (sym (append-nil text)) ∙ public_ink p i [] in
-    rw public (ink_sets p i s h)
+    rw public (sgr_sets p i s h)
 
 -- an ink, and after a semicolon another
-pub inks_look : (p : Place) (i : Ink) (q : Place) (j : Ink) (s : Style) → FitsInk i → FitsInk j
-    → sgr (ink_text (sets p) (resets p) i ++ (codes ";" ++ ink_text (sets q) (resets q) j)) s ≡ put q (ink_shade j) (put p (ink_shade i) s)
-inks_look p i q j s h k =
-    let rest = ink_text (sets q) (resets q) j in
-    rw (public_ink p i (59 ∷ rest)) (ap (λ ps. by_parameters ps 0 s) (ink_first p i rest h) ∙ ink_puts p i (parameters rest) s ∙ ink_sets q j (put p (ink_shade i) s) k)
+pub sgrs_look : (p : Place) (i : SgrColor) (q : Place) (j : SgrColor) (s : Style) → FitsSgr i → FitsSgr j
+    → sgr (sgr_text (sets p) (resets p) i ++ (codes ";" ++ sgr_text (sets q) (resets q) j)) s ≡ put q (sgr_shade j) (put p (sgr_shade i) s)
+sgrs_look p i q j s h k =
+    let rest = sgr_text (sets q) (resets q) j in
+    rw (public_ink p i (59 ∷ rest)) (ap (λ ps. by_parameters ps 0 s) (sgr_first p i rest h) ∙ sgr_puts p i (parameters rest) s ∙ sgr_sets q j (put p (sgr_shade i) s) k)

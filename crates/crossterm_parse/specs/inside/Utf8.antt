@@ -2,7 +2,7 @@
 use Rattle.std.specs.Prelude.{◌≡◌, ℕ, nat_lt, nat_le, if◌then◌else◌, true, ◌&&◌, ◌≤◌, List, ◌++◌}
 use Rattle.std.specs.Str.{IsUtf8}
 use Rattle.bstr.specs.Utf8.{second, continues}
-use Rattle.crossterm_parse.specs.Characters.{begun_bytes}
+use Rattle.crossterm_parse.specs.inside.Characters.{begun_bytes}
 use Rattle.crossterm_parse.specs.declared.character.Begun.{Begun}
 use Rattle.crossterm_parse.specs.declared.character.Begun.TheVariants.{One, Two, Three}
 use Rattle.crossterm_parse.specs.declared.utf8.Validity.{Validity}

@@ -4,8 +4,8 @@ use mathlib.Core.Option.{some}
 use lib.ListN.{get_elem?}
 use Rattle.crossterm_read.specs.Answers.{SourceAnswer}
 use Rattle.crossterm_read.specs.History.{Entry, Known, Meeting, StartsWith, Makes, Runs, are_of, calls_by}
-use Rattle.crossterm_read.specs.Numbers.{IsOrderly}
-use Rattle.crossterm_read.specs.Shelf.{ReaderState}
+use Rattle.crossterm_read.specs.inside.Numbers.{IsOrderly}
+use Rattle.crossterm_read.specs.Store.{ReaderState}
 
 -- Before a reader is put in there is one pass, which knows nothing.
 abbrev pub newcomer : {S : Type 0} → Known S
@@ -66,8 +66,8 @@ module _ {S : Type 0} (drawn : S → List SourceAnswer → S → Type 0) where
     pub passes : ℕ
     pub log : List Entry
     pub now : ReaderState S
-    pub orderly : IsOrderly opening.shelf.held opening.shelf.arrivals
-    pub fits : opening.shelf.arrivals < 2 ^ 64
+    pub orderly : IsOrderly opening.store.held opening.store.arrivals
+    pub fits : opening.store.arrivals < 2 ^ 64
     pub runs : Runs drawn opening log now
     pub whole : (by : ℕ) × (v : Known S) × (get_elem? views by ≡ some v) × (v.seen ≡ log)
     pub place : Place items views now
@@ -84,15 +84,15 @@ module _ {S : Type 0} (drawn : S → List SourceAnswer → S → Type 0) where
     pub opening : ReaderState S
     pub between : List Entry
     pub opened : v.opening ≡ Some opening
-    pub orderly : IsOrderly opening.shelf.held opening.shelf.arrivals
-    pub fits : opening.shelf.arrivals < 2 ^ 64
+    pub orderly : IsOrderly opening.store.held opening.store.arrivals
+    pub fits : opening.store.arrivals < 2 ^ 64
     pub runs : Runs drawn opening (v.seen ++ between) x
     pub others : calls_by v.number between ≡ []
     pub callers : are_of v.passes (v.seen ++ between) ≡ true
     pub after : w ≡ record v { seen = v.seen ++ between; has = true }
 
   -- What a put asks: the pass has the reader, and one such call led from the state that the history left to that of the reader.
-  pub record Brings (made : ReaderState S → Entry → ReaderState S → Type 0) (v : Known S) (x : ReaderState S) : Type 0 where
+  pub record Produces (made : ReaderState S → Entry → ReaderState S → Type 0) (v : Known S) (x : ReaderState S) : Type 0 where
     pub opening : ReaderState S
     pub found : ReaderState S
     pub call : Entry
@@ -105,14 +105,14 @@ module _ {S : Type 0} (drawn : S → List SourceAnswer → S → Type 0) where
 
   -- What a put tells: the call is the last of the history, and of its pass.
   abbrev pub Put : (ReaderState S → Entry → ReaderState S → Type 0) → Known S → ReaderState S → Known S → Type 0
-  Put made v x w = (b : Brings made v x) × (w ≡ record v { seen = v.seen ++ b.call ∷ []; mine = v.mine ++ b.call ∷ []; has = false })
+  Put made v x w = (b : Produces made v x) × (w ≡ record v { seen = v.seen ++ b.call ∷ []; mine = v.mine ++ b.call ∷ []; has = false })
 
   -- What a pass learns that met another.
   pub record Learnt (v : Known S) : Type 0 where
     pub opening : ReaderState S
     pub left : ReaderState S
     pub opened : v.opening ≡ Some opening
-    pub orderly : IsOrderly opening.shelf.held opening.shelf.arrivals
+    pub orderly : IsOrderly opening.store.held opening.store.arrivals
     pub runs : Runs drawn opening v.seen left
     pub mine : calls_by v.number v.seen ≡ v.mine
     pub callers : are_of v.passes v.seen ≡ true

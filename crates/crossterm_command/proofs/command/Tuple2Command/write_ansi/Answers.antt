@@ -1,5 +1,5 @@
 use Rattle.crossterm_command.proofs.Texts.{ok_both}
-use Rattle.crossterm_command.proofs.ansi.Tuple2Command.write_ansi.Goals as goal
+use Rattle.crossterm_command.proofs.command.Tuple2Command.write_ansi.Goals as goal
 
 pub returns-clause-ok : goal.returns-clause-ok
 returns-clause-ok g c =

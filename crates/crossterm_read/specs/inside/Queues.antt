@@ -3,7 +3,7 @@ use Rattle.std.specs.Prelude.{◌≡◌, ℕ, ◌+◌, ◌<◌, ◌≤◌, Bool,
 use Rattle.std.specs.VecDeque.{deque_capacity}
 use Rattle.std.specs.List.{AllByRecursion, filter}
 use Rattle.crossterm_types.specs.Seen.{Seen, seen}
-use Rattle.crossterm_read.specs.Kinds.{kind_of, place_of, same_kind}
+use Rattle.crossterm_read.specs.inside.Kinds.{kind_of, place_of, same_kind}
 use Rattle.crossterm_read.specs.declared.read.held.kind.Kind.{Kind}
 use Rattle.crossterm_read.specs.declared.read.held.kind.Kind.TheVariants.{Event, Cursor, Flags, Attributes}
 use Rattle.crossterm_read.specs.declared.read.held.kind.Place.{Place}
@@ -82,7 +82,7 @@ module _ {A : Type 0} where
       × AllByRecursion (λ kind. wanted kind ≡ true → NotBefore f.member.now.order (q kind)) kinds
 
   -- The first member of all that passes, and its place in its queue.
-  pub record StandsAt (passes : Member A → Bool) (q : Kind → List (Member A)) (place : Place) : Type 0 where
+  pub record IsFirstAt (passes : Member A → Bool) (q : Kind → List (Member A)) (place : Place) : Type 0 where
     pub before : List (Member A)
     pub member : Member A
     pub after : List (Member A)
@@ -94,7 +94,7 @@ module _ {A : Type 0} where
 
   abbrev pub Finds : (Member A → Bool) → (Kind → List (Member A)) → Option Place → Type 0
   Finds passes q None = AllByRecursion (λ m. passes m ≡ false) (joined q)
-  Finds passes q (Some place) = StandsAt passes q place
+  Finds passes q (Some place) = IsFirstAt passes q place
 
   -- The first member that passes is taken out, where there is one, and no other.
   pub record TakesOne (passes : Member A → Bool) (old new : Kind → List (Member A)) (m : Member A) : Type 0 where

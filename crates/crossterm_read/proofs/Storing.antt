@@ -7,9 +7,9 @@ use Rattle.std.proofs.lemmas.Simd.{map-map}
 use Rattle.std.specs.List.{AllByRecursion, position, position_or_len, remove}
 use Rattle.crossterm_types.specs.Seen.{Seen, seen}
 use Rattle.crossterm_read.specs.Answers.{Gave}
-use Rattle.crossterm_read.specs.Queues.{AreJoined, AreKept, Finds, HaveRoom, HaveRoomFor, Joins, TakesOne, behind, joined, member_kept, queue_of, queues_of}
-use Rattle.crossterm_read.specs.Shelf.{Arrives, Shelf, next_number}
-use Rattle.crossterm_read.specs.Steps.{TakeSays, first_admitted}
+use Rattle.crossterm_read.specs.inside.Queues.{AreJoined, AreKept, Finds, HaveRoom, HaveRoomFor, Joins, TakesOne, behind, joined, member_kept, queue_of, queues_of}
+use Rattle.crossterm_read.specs.Store.{Arrives, EventStore, next_number}
+use Rattle.crossterm_read.specs.Steps.{TakeReplies, first_admitted}
 use Rattle.crossterm_read.specs.declared.read.held.kind.Kind.{Kind}
 use Rattle.crossterm_read.specs.declared.read.held.kind.Place.{Place}
 use Rattle.crossterm_read.specs.declared.read.held.queues.Member.{Member}
@@ -54,9 +54,9 @@ module _ {A : Type 0} where
     found_is q (Some place) held h s = sym (ap is_some (first_there s.before s.after s.member held (h ∙ ap (λ l. map member_kept l) s.order) s.first s.admitted))
 
     -- What a take leaves.
-    pub taken_says : (q p : Kind → List (Member A)) (m : Member A) (s t : Shelf) → s.held ≡ map member_kept (joined q) → t.held ≡ map member_kept (joined p) → t.arrivals ≡ s.arrivals
-        → TakesOne (λ x. f (seen x.event)) q p m → TakeSays f s t (Some (member_kept m))
-    taken_says q p m s t h k n o =
+    pub taken_replies : (q p : Kind → List (Member A)) (m : Member A) (s t : EventStore) → s.held ≡ map member_kept (joined q) → t.held ≡ map member_kept (joined p) → t.arrivals ≡ s.arrivals
+        → TakesOne (λ x. f (seen x.event)) q p m → TakeReplies f s t (Some (member_kept m))
+    taken_replies q p m s t h k n o =
         let held : s.held ≡ map member_kept (o.before ++ m ∷ o.after) = h ∙ ap (λ l. map member_kept l) o.order in
         let there : get_or s.held (length o.before) (member_kept m) ≡ member_kept m =
         ap (λ l. get_or l (length o.before) (member_kept m)) held ∙ get_map member_kept (o.before ++ m ∷ o.after) (length o.before) m (get_here o.before o.after m m) in
@@ -65,8 +65,8 @@ module _ {A : Type 0} where
         ∙ ap (λ l. remove l (length o.before)) (sym held) in
         (length o.before, first_there o.before o.after m s.held held o.first o.admitted, there, λ i. record { held = gone i; arrivals = n i })
 
-    pub untaken_says : (q : Kind → List (Member A)) (s t : Shelf) → s.held ≡ map member_kept (joined q) → t ≡ s → AllByRecursion (λ x. f (seen x.event) ≡ false) (joined q) → TakeSays f s t None
-    untaken_says q s t h e a = (first_nowhere (joined q) s.held h a, e)
+    pub untaken_delivers : (q : Kind → List (Member A)) (s t : EventStore) → s.held ≡ map member_kept (joined q) → t ≡ s → AllByRecursion (λ x. f (seen x.event) ≡ false) (joined q) → TakeReplies f s t None
+    untaken_delivers q s t h e a = (first_nowhere (joined q) s.held h a, e)
 
   pub taken_length : (passes : Member A → Bool) (q p : Kind → List (Member A)) (m : Member A) → TakesOne passes q p m → length (joined p) + 1 ≡ length (joined q)
   taken_length passes q p m o =
@@ -117,9 +117,9 @@ module _ {A : Type 0} where
         room = r;
       }
 
-  pub pushed_says : (q p : Kind → List (Member A)) (m : Member A) (s t : Shelf) → s.held ≡ map member_kept (joined q) → t.held ≡ map member_kept (joined p) → m.arrival ≡ s.arrivals → t.arrivals ≡ next_number s.arrivals
+  pub pushed_delivers : (q p : Kind → List (Member A)) (m : Member A) (s t : EventStore) → s.held ≡ map member_kept (joined q) → t.held ≡ map member_kept (joined p) → m.arrival ≡ s.arrivals → t.arrivals ≡ next_number s.arrivals
       → Joins (joined q ++ m ∷ []) p → Arrives s (Gave (seen m.event) ∷ []) t
-  pushed_says q p m s t h k a n o = record {
+  pushed_delivers q p m s t h k a n o = record {
     held = k ∙ ap (λ l. map member_kept l) (joined_is (joined q ++ m ∷ []) p o) ∙ map-append member_kept (joined q) (m ∷ []) ∙ (λ i. sym h i ++ (seen m.event, a i) ∷ []);
     arrivals = n;
   }

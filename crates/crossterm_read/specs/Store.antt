@@ -1,28 +1,28 @@
 -- A reader as its callers see it.
-use Rattle.std.specs.Prelude.{◌≡◌, ℕ, ◌+◌, ◌-◌, ◌^◌, min, List, [], ◌∷◌, ◌++◌, length}
+use Rattle.std.specs.Prelude.{◌≡◌, ℕ, ◌+◌, ◌-◌, ◌^◌, min, List, [], ◌∷◌, ◌++◌, length, ◌<◌}
 use Rattle.crossterm_types.specs.Seen.{Seen, seen}
 use Rattle.crossterm_types.specs.declared.event.InternalEvent.{InternalEvent}
 use Rattle.crossterm_read.specs.Answers.{SourceAnswer, Gave, Nothing, Failed}
 
 -- The held events, each with its arrival number, and the number of the next one. An arrival number tells how many events arrived before.
-pub record Shelf : Type 0 where
+pub record EventStore : Type 0 where
   pub held : List (Seen × ℕ)
   pub arrivals : ℕ
 
 -- What a reader holds, and for how many more events there is room without memory.
 pub record Holding : Type 0 where
-  pub shelf : Shelf
+  pub store : EventStore
   pub room : ℕ
 
 -- A reader: what it holds, for how many more events it has room without memory, and its source.
 pub record ReaderState (S : Type 0) : Type 0 where
-  pub shelf : Shelf
+  pub store : EventStore
   pub room : ℕ
   pub source : S
 
 -- How many events it holds at most without memory: those that it holds, and those for which it has room.
 abbrev pub capacity : {S : Type 0} → ReaderState S → ℕ
-capacity s = length s.shelf.held + s.room
+capacity s = length s.store.held + s.room
 
 -- A held event as a clause sees it.
 abbrev pub kept : {A : Type 0} → InternalEvent A × ℕ → Seen × ℕ
@@ -47,6 +47,10 @@ numbered_after n (Nothing ∷ zs) = numbered_after n zs
 numbered_after n (Failed kind ∷ zs) = numbered_after n zs
 
 -- Each event that is given joins the held ones at their end.
-pub record Arrives (s : Shelf) (zs : List SourceAnswer) (t : Shelf) : Type 0 where
+pub record Arrives (s : EventStore) (zs : List SourceAnswer) (t : EventStore) : Type 0 where
   pub held : t.held ≡ s.held ++ arrived s.arrivals zs
   pub arrivals : t.arrivals ≡ numbered_after s.arrivals zs
+
+-- A number that isn't the greatest u64 yet.
+abbrev pub IsLow : ℕ → Type 0
+IsLow n = n < 2 ^ 64 - 1

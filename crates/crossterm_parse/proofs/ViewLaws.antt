@@ -1,4 +1,4 @@
--- What one more byte, and one more piece, do to what a parser stands for.
+-- What one more byte, and one more piece, do to what a parser represents.
 use Rattle.std.proofs.Common.{◌≡◌, ◌==◌, ◌<◌, ℕ, ◌+◌, Bool, true, false, not, cond, ◌&&◌, ◌||◌, List, [], ◌∷◌, ◌++◌, length, take, get_or, zero, suc, refl, ap, sym, ◌∙◌, subst, arith, append_assoc, Option, Some, None, option_to_list, drop, inl, inr, ◌⊎◌, ◌-◌, ◌*◌, ◌≤◌, length-drop}
 use Rattle.std.proofs.lemmas.List.{append-nil, take_more, append_cancel_left, take-append-drop, take-append-le, length_push}
 use Rattle.std.proofs.lemmas.Bool.{false≢true, cases_Bool}
@@ -8,24 +8,24 @@ use Rattle.std.specs.List.{filter_map, flat_map, cons_option, AllByRecursion}
 use Rattle.std.specs.Option.{option_map}
 use Rattle.crossterm_types.specs.Seen.{Seen}
 use Rattle.crossterm_parse.specs.Marked.{Marked, bytes_of, last_raw, marked}
-use Rattle.crossterm_parse.specs.Deciding.{begins, is_character, is_shape, is_whole, is_decided}
+use Rattle.crossterm_parse.specs.Grammar.{begins, paste_mark, paste_start}
+use Rattle.crossterm_parse.specs.inside.Recognizer.{is_character, is_shape, is_whole, is_decided}
 use Rattle.crossterm_parse.specs.Division.{Divides, IsUndecided}
 use Rattle.crossterm_parse.specs.Grammar as grammar
-use Rattle.crossterm_parse.specs.Grammar.{paste_mark, paste_start}
 use Rattle.crossterm_parse.specs.Meaning.{meaning, meaning_seen, meaning_of, seen_meaning, paste_text, pasted}
-use Rattle.crossterm_parse.specs.Machine.{state_after, state_left, text_left, events_left, codes_bytes, is_paste, IsOpening, StandsFor, IsRight, prefixed}
-use Rattle.crossterm_parse.specs.Characters.{begun_bytes}
-use Rattle.crossterm_parse.specs.Standing.{Standing, Stands, kept_text, AdvancesOver, EndsNoEvent, OpensNoPaste, paste_length, TakesSteps}
+use Rattle.crossterm_parse.specs.inside.Automaton.{state_after, state_left, text_left, events_left, x10_bytes, is_paste, IsOpening, StateRepresents, IsRight, prefixed, kept_text}
+use Rattle.crossterm_parse.specs.inside.Characters.{begun_bytes}
+use Rattle.crossterm_parse.specs.View.{ParserView, Represents, AdvancesOver, EndsNoEvent, OpensNoPaste, paste_length, TakesSteps}
 use Rattle.crossterm_parse.specs.declared.character.Begun.{Begun}
 use Rattle.crossterm_parse.specs.declared.character.Begun.TheVariants.{One, Two, Three}
 use Rattle.crossterm_parse.specs.declared.meaning.Meaning.{Meaning}
-use Rattle.crossterm_parse.specs.declared.mouse.Codes.{Codes}
+use Rattle.crossterm_parse.specs.declared.mouse.X10Report.{X10Report}
 use Rattle.crossterm_parse.specs.declared.paste.Opening.{Opening}
 use Rattle.crossterm_parse.specs.declared.paste.Opening.TheVariants as opening
 use Rattle.crossterm_parse.specs.declared.state.State.{State}
-use Rattle.crossterm_parse.specs.declared.state.State.TheVariants.{Ground, Escape, Ss3, Csi, Bracket, Coded, Sgr, Private, Reply, Numbered, Paste, Utf8}
-use Rattle.crossterm_parse.specs.Step.{Step, Open, Whole, Closed}
-use Rattle.crossterm_parse.proofs.DivisionLaws.{divide_join, divide_whole, divide_open, some_division, one_division, two_fronts, not_front}
+use Rattle.crossterm_parse.specs.declared.state.State.TheVariants.{Ground, Escape, Ss3, Csi, LinuxKey, X10, Sgr, Private, Reply, Numbered, Paste, Utf8}
+use Rattle.crossterm_parse.specs.inside.Step.{Step, Open, Whole, Closed}
+use Rattle.crossterm_parse.proofs.DivisionLaws.{divide_join, divide_whole, divide_open, some_division, unique_division, two_fronts, not_front}
 use Rattle.crossterm_parse.proofs.PasteLaws.{third_apart, begins_start, begins_is, begins_from}
 use Rattle.crossterm_parse.proofs.GrammarLaws.{bytes_of-append, bytes_of_nil, whole_true, true_whole, nil_not_whole, whole_closes, whole_or_not}
 use Rattle.crossterm_parse.proofs.MachineLaws.{state_right}
@@ -36,14 +36,14 @@ last_raw-push (n ∷ []) m = refl
 last_raw-push (n ∷ o ∷ ms) m = last_raw-push (o ∷ ms) m
 
 -- undecided bytes don't begin with an escape and a pause
-undecided_false : (n : Marked) (ns : List Marked) → IsUndecided grammar.Whole (n ∷ ns) → (n.byte == 27) && n.pause ≡ false
+pub undecided_false : (n : Marked) (ns : List Marked) → IsUndecided grammar.Whole (n ∷ ns) → (n.byte == 27) && n.pause ≡ false
 undecided_false n ns h = elim (cases_Bool ((n.byte == 27) && n.pause)) [
   | inl t ↦ absurd (h 1 (true_whole (n ∷ []) (rw t)))
   | inr f ↦ f
 ]
 
 -- the test of the parser's bytes is that of the marked bytes
-decided_is : (before : List Marked) (m : Marked) → IsUndecided grammar.Whole before → is_decided (bytes_of before ++ m.byte ∷ []) m.pause ≡ is_whole (before ++ m ∷ [])
+pub decided_is : (before : List Marked) (m : Marked) → IsUndecided grammar.Whole before → is_decided (bytes_of before ++ m.byte ∷ []) m.pause ≡ is_whole (before ++ m ∷ [])
 decided_is [] m h = go (m.byte == 27) m.pause (is_character (m.byte ∷ [])) where
   go : (t p x : Bool) → (((t && true) && p) || cond t false x) ≡ cond (t && p) true (cond t false x)
   go true true x = refl
@@ -83,16 +83,16 @@ opening_begins opening.Zero text h = rw h
 opening_begins opening.Zeros text h = rw h
 opening_begins opening.Not text h = rw append-nil at (h [])
 
-codes_begin : (c : Codes) → begins paste_start (27 ∷ 91 ∷ 77 ∷ codes_bytes c) ≡ false
-codes_begin c = third_apart 77 (codes_bytes c) refl
+x10_begins : (c : X10Report) → begins paste_start (27 ∷ 91 ∷ 77 ∷ x10_bytes c) ≡ false
+x10_begins c = third_apart 77 (x10_bytes c) refl
 
-paste_begins : (state : State) (bytes : List ℕ) → StandsFor state bytes → begins paste_start bytes ≡ is_paste state
+paste_begins : (state : State) (bytes : List ℕ) → StateRepresents state bytes → begins paste_start bytes ≡ is_paste state
 paste_begins Ground bytes h = rw h
 paste_begins Escape bytes h = rw h
 paste_begins Ss3 bytes h = rw h
 paste_begins Csi bytes h = rw h
-paste_begins Bracket bytes h = rw h
-paste_begins (Coded c) bytes h = rw h (codes_begin c)
+paste_begins LinuxKey bytes h = rw h
+paste_begins (X10 c) bytes h = rw h (x10_begins c)
 paste_begins (Sgr d) bytes h = rw h.is (third_apart 60 h.more refl)
 paste_begins Private bytes h = rw h
 paste_begins (Reply first) bytes h = rw h.is (third_apart 63 (first ∷ h.more) refl)
@@ -141,14 +141,14 @@ text_over true text bytes b h l e = absurd (false≢true (sym l ∙ begins_on by
 text_over false text bytes b h l e = e
 
 -- one byte that completes a sequence
-advance_whole : (old new : Standing) (m : Marked) (event : Option Seen)
-    → ((before : List Marked) → Stands old before
+advance_whole : (old new : ParserView) (m : Marked) (event : Option Seen)
+    → ((before : List Marked) → Represents old before
     → (is_decided (bytes_of before ++ m.byte ∷ []) m.pause ≡ true) × (event ≡ meaning_seen m.raw (bytes_of before ++ m.byte ∷ [])) × (new.text ≡ []))
     → new.state ≡ Ground
     → new.waiting ≡ old.waiting ++ option_to_list event
     → AdvancesOver old new (m ∷ [])
-advance_whole old new m event right cleared waiting before stands undecided =
-    let r = right before stands in
+advance_whole old new m event right cleared waiting before represents undecided =
+    let r = right before represents in
     let bytes : bytes_of before ++ m.byte ∷ [] ≡ bytes_of (before ++ m ∷ []) = sym (bytes_of-append before (m ∷ [])) in
     let w : grammar.Whole (before ++ m ∷ []) = true_whole _ (sym (decided_is before m undecided) ∙ r.0) in
     record {
@@ -156,25 +156,25 @@ advance_whole old new m event right cleared waiting before stands undecided =
       rest = [];
       division = divide_whole grammar.Whole nil_not_whole before [] before m (record { joined = refl; whole = tt; undecided = undecided }) w;
       given = waiting ∙ ap (λ (events : List Seen). old.waiting ++ events) (ap (λ (e : Option Seen). option_to_list e) r.1 ∙ meant _ before m bytes);
-      stands = rw cleared (refl, r.2);
+      represents = rw cleared (refl, r.2);
     }
 
 -- one byte that completes nothing
-advance_open : (old new : Standing) (m : Marked) (state : State)
-    → ((before : List Marked) → Stands old before
-    → (is_decided (bytes_of before ++ m.byte ∷ []) m.pause ≡ false) × StandsFor state (bytes_of before ++ m.byte ∷ []) × (new.text ≡ kept_text state (bytes_of before ++ m.byte ∷ [])))
+advance_open : (old new : ParserView) (m : Marked) (state : State)
+    → ((before : List Marked) → Represents old before
+    → (is_decided (bytes_of before ++ m.byte ∷ []) m.pause ≡ false) × StateRepresents state (bytes_of before ++ m.byte ∷ []) × (new.text ≡ kept_text state (bytes_of before ++ m.byte ∷ [])))
     → new.state ≡ state
     → new.waiting ≡ old.waiting
     → AdvancesOver old new (m ∷ [])
-advance_open old new m state right grown waiting before stands undecided =
-    let r = right before stands in
+advance_open old new m state right grown waiting before represents undecided =
+    let r = right before represents in
     let open_still : grammar.Whole (before ++ m ∷ []) → ⊥ = λ (w : grammar.Whole (before ++ m ∷ [])). false≢true (sym r.0 ∙ decided_is before m undecided ∙ whole_true _ w) in
     record {
       parts = [];
       rest = before ++ m ∷ [];
       division = divide_open grammar.Whole before [] before m (record { joined = refl; whole = tt; undecided = undecided }) open_still;
       given = waiting ∙ sym (append-nil old.waiting);
-      stands = rw (grown, bytes_of-append) (r.1, r.2);
+      represents = rw (grown, bytes_of-append) (r.1, r.2);
     }
 
 plain_seen : (raw : Bool) (bytes : List ℕ) (event : Option Meaning) → event ≡ meaning raw bytes → begins paste_start bytes ≡ false → option_map seen_meaning event ≡ meaning_seen raw bytes
@@ -196,28 +196,28 @@ undecided_start : (bytes : List ℕ) (pause : Bool) → begins paste_start bytes
 undecided_start bytes pause h e = rw (begins_is paste_start bytes h, ← e) refl
 
 -- one byte
-pub advance_byte : (old new : Standing) (m : Marked)
+pub advance_byte : (old new : ParserView) (m : Marked)
     → new.state ≡ state_left (state_after old.state m.byte m.raw m.pause)
     → new.text ≡ text_left (state_after old.state m.byte m.raw m.pause) old.state old.text m.byte
     → new.waiting ≡ old.waiting ++ events_left (state_after old.state m.byte m.raw m.pause) old.text
     → AdvancesOver old new (m ∷ [])
-advance_byte old new m state text waiting = go (state_after old.state m.byte m.raw m.pause) state text waiting (λ before stands. state_right old.state (bytes_of before) m.byte m.raw m.pause stands.0) where
+advance_byte old new m state text waiting = go (state_after old.state m.byte m.raw m.pause) state text waiting (λ before represents. state_right old.state (bytes_of before) m.byte m.raw m.pause represents.0) where
   go : (step : Step) → new.state ≡ state_left step → new.text ≡ text_left step old.state old.text m.byte → new.waiting ≡ old.waiting ++ events_left step old.text
-      → ((before : List Marked) → Stands old before → IsRight step (bytes_of before ++ m.byte ∷ []) m.raw m.pause)
+      → ((before : List Marked) → Represents old before → IsRight step (bytes_of before ++ m.byte ∷ []) m.raw m.pause)
       → AdvancesOver old new (m ∷ [])
-  go (Open next) s t w right = advance_open old new m next (λ before stands. let r = right before stands in (
+  go (Open next) s t w right = advance_open old new m next (λ before represents. let r = right before represents in (
     r.0,
     r.1,
-    t ∙ text_kept (is_paste old.state) (is_paste next) old.text (bytes_of before) m.byte (paste_begins old.state (bytes_of before) stands.0) (paste_begins next (bytes_of before ++ m.byte ∷ []) r.1) stands.1,
+    t ∙ text_kept (is_paste old.state) (is_paste next) old.text (bytes_of before) m.byte (paste_begins old.state (bytes_of before) represents.0) (paste_begins next (bytes_of before ++ m.byte ∷ []) r.1) represents.1,
   )) s (w ∙ append-nil old.waiting)
-  go (Whole event) s t w right = advance_whole old new m (option_map seen_meaning event) (λ before stands. let r = right before stands in (
+  go (Whole event) s t w right = advance_whole old new m (option_map seen_meaning event) (λ before represents. let r = right before represents in (
     r.0,
     plain_seen m.raw (bytes_of before ++ m.byte ∷ []) event r.1 r.2,
-    t ∙ text_over (is_paste old.state) old.text (bytes_of before) m.byte (paste_begins old.state (bytes_of before) stands.0) r.2 stands.1,
+    t ∙ text_over (is_paste old.state) old.text (bytes_of before) m.byte (paste_begins old.state (bytes_of before) represents.0) r.2 represents.1,
   )) s w
-  go Closed s t w right = advance_whole old new m (Some (pasted (take (length old.text - 5) old.text))) (λ before stands. let r = right before stands in (
+  go Closed s t w right = advance_whole old new m (Some (pasted (take (length old.text - 5) old.text))) (λ before represents. let r = right before represents in (
     r.0,
-    closed_seen m.raw (bytes_of before ++ m.byte ∷ []) (take (length old.text - 5) old.text) r.1 (closed_in (is_paste old.state) before r.1 (paste_begins old.state (bytes_of before) stands.0) stands.1 r.0),
+    closed_seen m.raw (bytes_of before ++ m.byte ∷ []) (take (length old.text - 5) old.text) r.1 (closed_in (is_paste old.state) before r.1 (paste_begins old.state (bytes_of before) represents.0) represents.1 r.0),
     t,
   )) s w where
     closed_in : (s : Bool) (before : List Marked) → begins paste_start (bytes_of before ++ m.byte ∷ []) ≡ true → begins paste_start (bytes_of before) ≡ s → old.text ≡ cond s (drop 6 (bytes_of before)) []
@@ -226,26 +226,26 @@ advance_byte old new m state text waiting = go (state_after old.state m.byte m.r
     closed_in false before opens began e whole = absurd (false≢true (sym (undecided_start (bytes_of before ++ m.byte ∷ []) m.pause opens (opened_empty (bytes_of before) m.byte began opens)) ∙ whole))
 
 -- one piece after another
-pub advance_join : (old mid new : Standing) (taken more : List Marked) → AdvancesOver old mid taken → AdvancesOver mid new more → AdvancesOver old new (taken ++ more)
-advance_join old mid new taken more first second before stands undecided =
-    let a = first before stands undecided in
-    let b = second a.rest a.stands a.division.undecided in
+pub advance_join : (old mid new : ParserView) (taken more : List Marked) → AdvancesOver old mid taken → AdvancesOver mid new more → AdvancesOver old new (taken ++ more)
+advance_join old mid new taken more first second before represents undecided =
+    let a = first before represents undecided in
+    let b = second a.rest a.represents a.division.undecided in
     record {
       parts = a.parts ++ b.parts;
       rest = b.rest;
       division = rw (← append_assoc before taken more) (divide_join grammar.Whole (before ++ taken) more a.parts b.parts a.rest b.rest a.division b.division);
       given = rw (filter_map-append, b.given, a.given) (append_assoc old.waiting _ _);
-      stands = b.stands;
+      represents = b.represents;
     }
 
 -- nothing is taken
-pub advance_none : (old : Standing) → AdvancesOver old old []
-advance_none old before stands undecided = record {
+pub advance_none : (old : ParserView) → AdvancesOver old old []
+advance_none old before represents undecided = record {
   parts = [];
   rest = before;
   division = record { joined = append-nil before; whole = tt; undecided = undecided };
   given = sym (append-nil old.waiting);
-  stands = stands;
+  represents = represents;
 }
 
 and_true_right : (b : Bool) → b ≡ b && true
@@ -280,7 +280,7 @@ length-marked (b ∷ []) more raw = refl
 length-marked (b ∷ c ∷ bs) more raw = ap suc (length-marked (c ∷ bs) more raw)
 
 -- one more byte of a piece
-pub advance_more : (old mid new : Standing) (piece : List ℕ) (more raw : Bool) (i b : ℕ) (pause : Bool) → i < length piece
+pub advance_more : (old mid new : ParserView) (piece : List ℕ) (more raw : Bool) (i b : ℕ) (pause : Bool) → i < length piece
     → b ≡ get_or piece i 0 → pause ≡ not more && (i + 1 == length piece)
     → new.state ≡ state_left (state_after mid.state b raw pause)
     → new.text ≡ text_left (state_after mid.state b raw pause) mid.state mid.text b
@@ -304,14 +304,14 @@ begun_not_nil false (One a) e = cc
 begun_not_nil false (Two a b) e = cc
 begun_not_nil false (Three a b c) e = cc
 
--- whether no sequence is open, against what the state stands for
-pub ground_only : (state : State) (before : List Marked) → StandsFor state (bytes_of before) → (state ≡ Ground → before ≡ []) × (before ≡ [] → state ≡ Ground)
+-- whether no sequence is open, against what the state represents
+pub ground_only : (state : State) (before : List Marked) → StateRepresents state (bytes_of before) → (state ≡ Ground → before ≡ []) × (before ≡ [] → state ≡ Ground)
 ground_only Ground before h = (λ _. bytes_of_nil before h, λ _. refl)
 ground_only Escape before h = (λ e. cc, λ e. absurd (not_bytes before _ _ h e))
 ground_only Ss3 before h = (λ e. cc, λ e. absurd (not_bytes before _ _ h e))
 ground_only Csi before h = (λ e. cc, λ e. absurd (not_bytes before _ _ h e))
-ground_only Bracket before h = (λ e. cc, λ e. absurd (not_bytes before _ _ h e))
-ground_only (Coded c) before h = (λ e. cc, λ e. absurd (not_bytes before _ _ h e))
+ground_only LinuxKey before h = (λ e. cc, λ e. absurd (not_bytes before _ _ h e))
+ground_only (X10 c) before h = (λ e. cc, λ e. absurd (not_bytes before _ _ h e))
 ground_only (Sgr d) before h = (λ e. cc, λ e. absurd (not_bytes before _ _ h.is e))
 ground_only Private before h = (λ e. cc, λ e. absurd (not_bytes before _ _ h e))
 ground_only (Reply first) before h = (λ e. cc, λ e. absurd (not_bytes before _ _ h.is e))
@@ -331,9 +331,9 @@ nil_right [] ys e = e
 nil_right (x ∷ xs) ys e = cc
 
 -- what is left of the bytes after a front of them
-record Left (old mid : Standing) (taken more : List Marked) : Type 0 where
+record Left (old mid : ParserView) (taken more : List Marked) : Type 0 where
   rest : List Marked
-  stands : Stands mid rest
+  represents : Represents mid rest
   undecided : IsUndecided grammar.Whole rest
   others : List (List Marked)
   last : List Marked
@@ -342,16 +342,16 @@ record Left (old mid : Standing) (taken more : List Marked) : Type 0 where
   no_paste : begins paste_start (bytes_of last) ≡ false
   same : mid.waiting ≡ old.waiting
 
-left_of : (old mid : Standing) (taken more : List Marked) → EndsNoEvent old (taken ++ more) → AdvancesOver old mid taken → Left old mid taken more
+left_of : (old mid : ParserView) (taken more : List Marked) → EndsNoEvent old (taken ++ more) → AdvancesOver old mid taken → Left old mid taken more
 left_of old mid taken more q first =
     let a = first q.0 q.3 q.4 in
     let later = some_division grammar.Whole nil_not_whole whole_or_not (a.rest ++ more) in
     let all = divide_join grammar.Whole (q.0 ++ taken) more a.parts later.0 a.rest later.1 a.division later.2 in
-    let same = one_division grammar.Whole nil_not_whole whole_closes (q.0 ++ (taken ++ more)) q.1 (a.parts ++ later.0) q.2 later.1 q.5 (rw (← append_assoc q.0 taken more) all) in
+    let same = unique_division grammar.Whole nil_not_whole whole_closes (q.0 ++ (taken ++ more)) q.1 (a.parts ++ later.0) q.2 later.1 q.5 (rw (← append_assoc q.0 taken more) all) in
     let none : filter_map meaning_of a.parts ++ filter_map meaning_of later.0 ≡ [] = sym (filter_map-append meaning_of a.parts later.0) ∙ ap (λ (parts : List (List Marked)). filter_map meaning_of parts) (sym same.0) ∙ q.6 in
     record {
       rest = a.rest;
-      stands = a.stands;
+      represents = a.represents;
       undecided = a.division.undecided;
       others = later.0;
       last = later.1;
@@ -399,7 +399,7 @@ paste_left rest more (p ∷ ps) last e u d none h = elim (two_fronts rest p more
   | inr w ↦ not_front grammar.Whole p w.0 rest w.1 d.whole.0 u
 ]
 
-not_pasting : (mid : Standing) (rest more : List Marked) (others : List (List Marked)) (last : List Marked) → Stands mid rest → IsUndecided grammar.Whole rest
+not_pasting : (mid : ParserView) (rest more : List Marked) (others : List (List Marked)) (last : List Marked) → Represents mid rest → IsUndecided grammar.Whole rest
     → Divides grammar.Whole (rest ++ more) others last → NoneFirst others → begins paste_start (bytes_of last) ≡ false → is_paste mid.state ≡ false
 not_pasting mid rest more others last s u d none h = elim (cases_Bool (is_paste mid.state)) [
   | inl t ↦ absurd (paste_left rest more others last (paste_begins mid.state (bytes_of rest) s.0 ∙ t) u d none h)
@@ -407,7 +407,7 @@ not_pasting mid rest more others last s u d none h = elim (cases_Bool (is_paste 
 ]
 
 -- a byte of a piece that ends no event gives none, and stands in no paste
-pub byte_quiet : (old mid : Standing) (piece : List ℕ) (more raw : Bool) (i b : ℕ) (pause : Bool) → i < length piece
+pub byte_quiet : (old mid : ParserView) (piece : List ℕ) (more raw : Bool) (i b : ℕ) (pause : Bool) → i < length piece
     → b ≡ get_or piece i 0 → pause ≡ not more && (i + 1 == length piece)
     → AdvancesOver old mid (take i (marked piece more raw))
     → EndsNoEvent old (marked piece more raw)
@@ -415,16 +415,16 @@ pub byte_quiet : (old mid : Standing) (piece : List ℕ) (more raw : Bool) (i b 
 byte_quiet old mid piece more raw i b pause l is_byte is_pause before q =
     let ms = marked piece more raw in
     let step = state_after mid.state b raw pause in
-    let new : Standing = record { waiting = mid.waiting ++ events_left step mid.text; state = state_left step; text = text_left step mid.state mid.text b; room = 0 } in
+    let new : ParserView = record { waiting = mid.waiting ++ events_left step mid.text; state = state_left step; text = text_left step mid.state mid.text b; room = 0 } in
     let next = advance_more old mid new piece more raw i b pause l is_byte is_pause refl refl refl before in
     let at_i = left_of old mid (take i ms) (drop i ms) (subst (EndsNoEvent old) (sym (take-append-drop i ms)) q) before in
     let at_next = left_of old new (take (i + 1) ms) (drop (i + 1) ms) (subst (EndsNoEvent old) (sym (take-append-drop (i + 1) ms)) q) next in (
-      not_pasting mid at_i.rest (drop i ms) at_i.others at_i.last at_i.stands at_i.undecided at_i.division (quiet_first at_i.others at_i.none) at_i.no_paste,
+      not_pasting mid at_i.rest (drop i ms) at_i.others at_i.last at_i.represents at_i.undecided at_i.division (quiet_first at_i.others at_i.none) at_i.no_paste,
       nothing_more mid.waiting (events_left step mid.text) (at_next.same ∙ sym at_i.same),
     )
 
 -- a byte of a piece that opens no paste stands in none
-pub byte_free : (old mid : Standing) (ms : List Marked) (i : ℕ) → AdvancesOver old mid (take i ms) → OpensNoPaste old ms → is_paste mid.state ≡ false
+pub byte_free : (old mid : ParserView) (ms : List Marked) (i : ℕ) → AdvancesOver old mid (take i ms) → OpensNoPaste old ms → is_paste mid.state ≡ false
 byte_free old mid ms i first q =
     let taken = take i ms in
     let more = drop i ms in
@@ -432,20 +432,20 @@ byte_free old mid ms i first q =
     let later = some_division grammar.Whole nil_not_whole whole_or_not (a.rest ++ more) in
     let all = divide_join grammar.Whole (q.0 ++ taken) more a.parts later.0 a.rest later.1 a.division later.2 in
     let whole : Divides grammar.Whole (q.0 ++ (taken ++ more)) q.1 q.2 = subst (λ (xs : List Marked). Divides grammar.Whole (q.0 ++ xs) q.1 q.2) (sym (take-append-drop i ms)) q.5 in
-    let same = one_division grammar.Whole nil_not_whole whole_closes (q.0 ++ (taken ++ more)) q.1 (a.parts ++ later.0) q.2 later.1 whole (rw (← append_assoc q.0 taken more) all) in
+    let same = unique_division grammar.Whole nil_not_whole whole_closes (q.0 ++ (taken ++ more)) q.1 (a.parts ++ later.0) q.2 later.1 whole (rw (← append_assoc q.0 taken more) all) in
     let free = all_right (λ part. begins paste_start (bytes_of part) ≡ false) a.parts later.0 (subst (AllByRecursion (λ part. begins paste_start (bytes_of part) ≡ false)) same.0 q.6) in
-    not_pasting mid a.rest more later.0 later.1 a.stands a.division.undecided later.2 (free_first later.0 free) (ap (λ (xs : List Marked). begins paste_start (bytes_of xs)) (sym same.1) ∙ q.7)
+    not_pasting mid a.rest more later.0 later.1 a.represents a.division.undecided later.2 (free_first later.0 free) (ap (λ (xs : List Marked). begins paste_start (bytes_of xs)) (sym same.1) ∙ q.7)
 
 -- the text of a parser is as long as the paste that its bytes open
 text_length : (s : Bool) (bytes text : List ℕ) → begins paste_start bytes ≡ s → text ≡ cond s (drop 6 bytes) [] → cond s (length bytes - 6) 0 ≡ length text
 text_length true bytes text h e = sym (ap length e ∙ length-drop 6 bytes)
 text_length false bytes text h e = sym (ap length e)
 
-pub paste_length_is : (parser : Standing) (before : List Marked) → Stands parser before → paste_length (bytes_of before) ≡ length parser.text
+pub paste_length_is : (parser : ParserView) (before : List Marked) → Represents parser before → paste_length (bytes_of before) ≡ length parser.text
 paste_length_is parser before h =
     let began = paste_begins parser.state (bytes_of before) h.0 in
     rw began (text_length (is_paste parser.state) (bytes_of before) parser.text began h.1)
 
 -- the steps of the bytes of a piece
-pub takes_steps : (old new : Standing) (s t n : ℕ) → t + length new.text ≤ s + length old.text + 2 * n → TakesSteps old new s t n
-takes_steps old new s t n h before rest stands still = rw (paste_length_is old before stands, paste_length_is new rest still) h
+pub takes_steps : (old new : ParserView) (s t n : ℕ) → t + length new.text ≤ s + length old.text + 2 * n → TakesSteps old new s t n
+takes_steps old new s t n h before rest represents still = rw (paste_length_is old before represents, paste_length_is new rest still) h

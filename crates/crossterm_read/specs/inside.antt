@@ -1,0 +1,7 @@
+pub mod Asking
+pub mod Kinds
+pub mod Numbers
+pub mod Queues
+pub mod Replies
+pub mod Slot
+pub mod Turns

@@ -1,0 +1,102 @@
+-- What a source answers, turn by turn, by what its device answers.
+use Rattle.std.specs.Prelude.{◌≡◌, ◌≢◌, ℕ, Bool, false, List, [], ◌∷◌, ◌++◌, refl}
+use Rattle.std.specs.List.{filter_map}
+use Rattle.std.specs.declared.io.ErrorKind.TheVariants.{OutOfMemory}
+use Rattle.std.proofs.Common.{subst, sym, ap, ◌∙◌, append_assoc}
+use Rattle.crossterm_types.specs.Seen.{Seen}
+use Rattle.crossterm_parse.specs.declared.marked.Marked.{Marked}
+use Rattle.crossterm_parse.specs.Grammar.{begins, Whole, paste_start}
+use Rattle.crossterm_parse.specs.Marked.{bytes_of}
+use Rattle.crossterm_parse.specs.Meaning.{meaning_of}
+use Rattle.crossterm_parse.specs.Division.{Divides, IsUndecided}
+use Rattle.crossterm_parse.specs.View.{ParserView, Represents}
+use Rattle.crossterm_read.specs.Answers.{SourceAnswer, Gave, Nothing, Failed}
+use Rattle.crossterm_read.specs.Device.{DeviceAnswer, Bytes, marked_bytes}
+use Rattle.crossterm_read.specs.Outcomes.{IsAnsweredBy}
+
+-- Where a source stands: the events that wait, the bytes that weren't taken yet, and those of no whole sequence that were.
+pub record At : Type 0 where
+  pub waiting : List Seen
+  pub untaken : List Marked
+  pub undecided : List Marked
+
+-- After undecided bytes these end no event, and no paste is open after them.
+abbrev pub EndNoEvent : List Marked → List Marked → Type 0
+EndNoEvent undecided bytes = (parts : List (List Marked)) × (rest : List Marked) × Divides Whole (undecided ++ bytes) parts rest
+    × (filter_map meaning_of parts ≡ []) × (begins paste_start (bytes_of rest) ≡ false)
+
+-- Of some bytes the parser takes a front, where it represented undecided ones. Those that end no event it takes whole.
+pub record Takes (undecided bytes : List Marked) (mid : At) : Type 0 where
+  pub taken : List Marked
+  pub parts : List (List Marked)
+  pub cut : bytes ≡ taken ++ mid.untaken
+  pub division : Divides Whole (undecided ++ taken) parts mid.undecided
+  pub waiting : mid.waiting ≡ filter_map meaning_of parts
+  pub quiet : EndNoEvent undecided bytes → mid.untaken ≡ []
+
+-- What is answered where no event came: nothing where all bytes were taken, and else that memory was refused.
+abbrev pub without_event : List Marked → SourceAnswer
+without_event [] = Nothing
+without_event (m ∷ ms) = Failed OutOfMemory
+
+-- The first event that waits is given.
+abbrev pub GivesFirst : List Seen → At → SourceAnswer → At → Type 0
+GivesFirst (e ∷ es) mid x q = (x ≡ Gave e) × (q ≡ record mid { waiting = es })
+GivesFirst [] mid x q = (x ≡ without_event mid.untaken) × (q ≡ mid)
+
+-- One answer, with those that the device was asked for: an event that waited, else untaken bytes again, else one new answer of the device.
+pub data Turn (p : At) (ws : List DeviceAnswer) (x : SourceAnswer) (q : At) : Type 0 where
+  waited : (e : Seen) → p.waiting ≡ e ∷ q.waiting → q.untaken ≡ p.untaken → q.undecided ≡ p.undecided → ws ≡ [] → x ≡ Gave e → Turn p ws x q
+  again : (mid : At) → p.waiting ≡ [] → p.untaken ≢ [] → ws ≡ [] → Takes p.undecided p.untaken mid → GivesFirst mid.waiting mid x q → Turn p ws x q
+  fresh : (bytes : List ℕ) (raw : Bool) (mid : At) → p.waiting ≡ [] → p.untaken ≡ [] → bytes ≢ [] → ws ≡ Bytes bytes raw ∷ []
+      → Takes p.undecided (marked_bytes bytes raw) mid → GivesFirst mid.waiting mid x q → Turn p ws x q
+  other : (w : DeviceAnswer) → p.waiting ≡ [] → p.untaken ≡ [] → ws ≡ w ∷ [] → IsAnsweredBy w x → q ≡ p → Turn p ws x q
+
+-- Answers one after another.
+abbrev pub Turns : At → List DeviceAnswer → List SourceAnswer → At → Type 0
+Turns p ws [] q = (ws ≡ []) × (q ≡ p)
+Turns p ws (x ∷ xs) q = (us : List DeviceAnswer) × (vs : List DeviceAnswer) × (m : At) × (ws ≡ us ++ vs) × Turn p us x m × Turns m vs xs q
+
+-- A source as its callers see it.
+pub record Source (D : Type 0) : Type 0 where
+  pub parser : ParserView
+  pub untaken : List Marked
+  pub device : D
+
+abbrev pub at : {D : Type 0} → Source D → List Marked → At
+at s before = record { waiting = s.parser.waiting; untaken = s.untaken; undecided = before }
+
+-- For these answers of the device, whatever undecided bytes the parser represented.
+abbrev pub DrawnFor : {D : Type 0} → Source D → List DeviceAnswer → List SourceAnswer → Source D → Type 0
+DrawnFor s ws xs t = (before : List Marked) → Represents s.parser before → IsUndecided Whole before
+    → (after : List Marked) × Represents t.parser after × IsUndecided Whole after × Turns (at s before) ws xs (at t after)
+
+-- The device gave some answers, for which these were given.
+abbrev pub SourceDrawn : {D : Type 0} → (D → List DeviceAnswer → D → Type 0) → Source D → List SourceAnswer → Source D → Type 0
+SourceDrawn answered s xs t = (ws : List DeviceAnswer) × answered s.device ws t.device × DrawnFor s ws xs t
+
+-- The parser took some of the untaken bytes, whatever undecided ones it represented, and the first event was given.
+abbrev pub Hands : {D : Type 0} → Source D → SourceAnswer → Source D → Type 0
+Hands s x t = (before : List Marked) → Represents s.parser before → IsUndecided Whole before
+    → (after : List Marked) × (mid : At) × Represents t.parser after × IsUndecided Whole after × Takes before s.untaken mid × GivesFirst mid.waiting mid x (at t after)
+
+turns_on : (p q r : At) (us vs : List DeviceAnswer) (xs ys : List SourceAnswer) → Turns p us xs q → Turns q vs ys r → Turns p (us ++ vs) (xs ++ ys) r
+turns_on p q r us vs [] ys d e = subst (λ (ws : List DeviceAnswer). Turns p (ws ++ vs) ys r) (sym d.0) (subst (λ (m : At). Turns m vs ys r) d.1 e)
+turns_on p q r us vs (x ∷ xs) ys d e =
+    (d.0, d.1 ++ vs, d.2, ap (λ (l : List DeviceAnswer). l ++ vs) d.3 ∙ append_assoc d.0 d.1 vs, d.4, turns_on d.2 q r d.1 vs xs ys d.5 e)
+
+-- The two laws of what was drawn from a source, by those of its device.
+pub source_none : {D : Type 0} (answered : D → List DeviceAnswer → D → Type 0) → ((s : D) → answered s [] s) → (s : Source D) → SourceDrawn answered s [] s
+source_none answered law s = ([], law s.device, λ before represents undecided. (before, represents, undecided, (refl, refl)))
+
+pub source_on : {D : Type 0} (answered : D → List DeviceAnswer → D → Type 0)
+    → ((s t u : D) (xs ys : List DeviceAnswer) → answered s xs t → answered t ys u → answered s (xs ++ ys) u)
+    → (s t u : Source D) (xs ys : List SourceAnswer) → SourceDrawn answered s xs t → SourceDrawn answered t ys u → SourceDrawn answered s (xs ++ ys) u
+source_on answered law s t u xs ys d e = (
+  d.0 ++ e.0,
+  law s.device t.device u.device d.0 e.0 d.1 e.1,
+  λ before represents undecided.
+      let f = d.2 before represents undecided in
+      let g = e.2 f.0 f.1 f.2 in
+      (g.0, g.1, g.2, turns_on (at s before) (at t f.0) (at u g.0) d.0 e.0 xs ys f.3 g.3),
+)
