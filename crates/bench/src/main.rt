@@ -12,7 +12,7 @@ use bench_modes::mode::Mode;
 use std::process::ExitCode;
 use std::{env, io};
 
-/// The words of the command line behind the program's name.
+/// The words of the command line after the program's name.
 fn words(rt: &HostRuntime) -> Result<Vec<String>, Fault> {
     let mut words = match env::args(rt) {
         Ok(words) => words,

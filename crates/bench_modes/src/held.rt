@@ -13,7 +13,7 @@ use std::rt::Clock;
 /// A reply that tells the cursor's place.
 const REPLY: &[u8] = b"\x1b[1;1R";
 
-/// So many replies, and letters without end behind them.
+/// So many replies, and letters without end after them.
 #[derive(Drop)]
 struct Typed {
     replies: u32,

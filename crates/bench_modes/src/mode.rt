@@ -25,7 +25,7 @@ pub enum Mode {
 }
 
 impl Mode {
-    /// The mode of some words: those of the command line behind the program's name.
+    /// The mode of some words: those of the command line after the program's name.
     pub fn read(words: &[String]) -> Result<Mode, Fault> {
         let mode = match words {
             [] => Some(Mode::Count),

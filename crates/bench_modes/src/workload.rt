@@ -44,7 +44,7 @@ const KEYS: [&str; 12] = [
     "\x1bOS",
 ];
 
-/// Puts parts behind some bytes, in turn and again, while the next one fits below an end.
+/// Puts parts after some bytes, in turn and again, while the next one fits below an end.
 fn fill<A: Allocator>(
     bytes: &mut Vec<u8, A>,
     end: usize,
@@ -61,7 +61,7 @@ fn fill<A: Allocator>(
     Ok(())
 }
 
-/// Puts a front, parts as many as fit, and a back behind some bytes, where front and back fit below an end.
+/// Puts a front, parts as many as fit, and a back after some bytes, where front and back fit below an end.
 fn enclose<A: Allocator>(
     bytes: &mut Vec<u8, A>,
     end: usize,
@@ -76,7 +76,7 @@ fn enclose<A: Allocator>(
     Ok(())
 }
 
-/// Puts reports of a moving mouse behind some bytes, while the next one fits below an end.
+/// Puts reports of a moving mouse after some bytes, while the next one fits below an end.
 fn moves<A: Allocator + Clone>(bytes: &mut Vec<u8, A>, end: usize) -> Result<(), AllocError> {
     let alloc = bytes.allocator().clone()?;
     for place in 0..end {

@@ -28,7 +28,7 @@ use Rattle.crossterm.proofs.StyleReadings.{Formed, attribute_formed, attributes_
 by_formed : (n : ℕ) (final : String) → is_final (letter final) ≡ true → Formed (by n final)
 by_formed n final f = control_formed (decimal n) final (decimal_is_parameters n) f
 
--- two numbers behind a front
+-- two numbers after a front
 two_formed : (front : List ℕ) (m n : ℕ) → all_parameters front ≡ true → AllByRecursion IsParameter (front ++ (decimal m ++ (codes ";" ++ decimal n)))
 two_formed front m n e =
     let rest = decimal m ++ (codes ";" ++ decimal n) in

@@ -25,8 +25,8 @@ Queries old new text no_call called q = (AppendsFront old new text × no_call ×
 
 -- A query is made in raw mode, which is switched on before and off after where it isn't on. Where a switch is refused that is the answer: before the query
 -- nothing else is done, and after it the terminal stays raw.
-pub data InRawMode {D M X : Type 0} (represents : D → M) (failed : D → ℕ) (old new : Modes D M) (nothing : Type 0) (queried : Result X Error → Type 0) (result : Result X Error) : Type 0 where
-  raw_already : IsTrue (is_some old.prior) → new ≡ old → queried result → InRawMode represents failed old new nothing queried result
-  not_on : old.prior ≡ None → new.prior ≡ None → nothing → IsErr result → Refuses (failed old.device) (failed new.device) → InRawMode represents failed old new nothing queried result
-  not_off : old.prior ≡ None → new.prior ≡ Some (represents old.device) → (q : Result X Error) → queried q → IsErr result → Refuses (failed old.device) (failed new.device) → InRawMode represents failed old new nothing queried result
-  on_and_off : old.prior ≡ None → new.prior ≡ None → represents new.device ≡ represents old.device → queried result → InRawMode represents failed old new nothing queried result
+pub data InRawMode {D M X : Type 0} (stands : D → M) (failed : D → ℕ) (old new : Modes D M) (nothing : Type 0) (queried : Result X Error → Type 0) (result : Result X Error) : Type 0 where
+  raw_already : IsTrue (is_some old.prior) → new ≡ old → queried result → InRawMode stands failed old new nothing queried result
+  not_on : old.prior ≡ None → new.prior ≡ None → nothing → IsErr result → Refuses (failed old.device) (failed new.device) → InRawMode stands failed old new nothing queried result
+  not_off : old.prior ≡ None → new.prior ≡ Some (stands old.device) → (q : Result X Error) → queried q → IsErr result → Refuses (failed old.device) (failed new.device) → InRawMode stands failed old new nothing queried result
+  on_and_off : old.prior ≡ None → new.prior ≡ None → stands new.device ≡ stands old.device → queried result → InRawMode stands failed old new nothing queried result

@@ -1,6 +1,6 @@
 //! Sequences as literals, and several commands at once.
 
-/// A literal control sequence: `ESC [` and the parts behind it (ECMA-48, 5.4).
+/// A literal control sequence: `ESC [` and the parts after it (ECMA-48, 5.4).
 #[macro_export]
 macro_rules! csi {
     ($($part:expr),*) => {
@@ -8,7 +8,7 @@ macro_rules! csi {
     };
 }
 
-/// A literal operating system command: `ESC ]`, the parts behind it, and `ESC \` (ECMA-48, 8.3.89).
+/// A literal operating system command: `ESC ]`, the parts after it, and `ESC \` (ECMA-48, 8.3.89).
 #[macro_export]
 macro_rules! osc {
     ($($part:expr),*) => {

@@ -1,6 +1,6 @@
 -- Commands as numbers, and their texts. The numbers are those of `bindings/c/gelvanh.h`: a command's kind is its place in the list of all,
 -- an enum's variant its place in declared order.
-use Rattle.std.specs.Prelude.{◌≡◌, ◌<◌, ◌==◌, ℕ, ◌+◌, nat_le, nat_lt, if◌then◌else◌, ⊤, Bool, List, [], ◌∷◌, ◌++◌, length, take, drop, report, slice_get, Option, Some, None}
+use Rattle.std.specs.Prelude.{◌≡◌, ◌<◌, ◌==◌, ℕ, ◌+◌, nat_le, nat_lt, if◌then◌else◌, ⊤, Bool, List, [], ◌∷◌, ◌++◌, length, take, drop, codes, slice_get, Option, Some, None}
 use Rattle.std.specs.Str.{IsUtf8}
 use Rattle.std.specs.Int.RustNames.{bit_and}
 use Rattle.std.specs.List.{filter}
@@ -136,7 +136,7 @@ event_text c =
     if c.kind == 31 then Some (text_of (set "2004")) else
     if c.kind == 32 then Some (text_of (reset "2004")) else
     if c.kind == 33 then (if nat_le c.first 255 then Some (text_of (push_flags c.first)) else None) else
-    if c.kind == 34 then Some (text_of (control (report "<1") "u")) else
+    if c.kind == 34 then Some (text_of (control (codes "<1") "u")) else
     None
 
 abbrev colors_by : Option (Option Color) → Option (Option Color) → Option Colors
@@ -178,7 +178,7 @@ printed colors c text = printed_by colors (style_at c) text
 
 -- A copy of some bytes to the places of some letters: one operating system command.
 abbrev pub copied : List ℕ → List ℕ → List Token
-copied content places = Osc (report "52;" ++ (places ++ (report ";" ++ encode_of standard content))) St ∷ []
+copied content places = Osc (codes "52;" ++ (places ++ (codes ";" ++ encode_of standard content))) St ∷ []
 
 -- What comes of a text that is to be written into a slice: it stands in front of it, and the rest is as it was; or it doesn't fit, and
 -- nothing was written. Its length is told in both. Where a command fails by itself nothing is known.

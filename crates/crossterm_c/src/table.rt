@@ -11,7 +11,7 @@ use crossterm_parse::state::{Progress, State};
 use crossterm_parse::steps::Steps;
 use std::sync::ledger::Ledger;
 
-/// Puts an event behind those that were given.
+/// Puts an event after those that were given.
 #[inline(always)]
 pub(crate) fn give(events: &mut [GelvanhEvent], given: &mut usize, event: GelvanhEvent)
     requires { given.old < length events.old }

@@ -12,7 +12,7 @@
 //! | `Controls` | 28 | control sequences by parameters and a letter | |
 //! | `Writing` | 37 | what a writer's bytes grow by | `write_text`, `write_command`, `queue`, `execute` and the like |
 //! | `Faults` | 20 | why a command was stopped, and what was written | `CommandFault`, `send_command` |
-//! | `Environment` | 8 | values of environment variables | `ColorOutput::from_env` |
+//! | `Environment` | 8 | values of environment variables | `ColorOutput::from_no_color` |
 #![tactic(auto)]
 
 mod color_output;

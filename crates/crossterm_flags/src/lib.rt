@@ -16,7 +16,7 @@
 //! | `Names` | 17 | the text of a key's modifiers | `Display` of `KeyModifiers` |
 //! | `Variants` | 58 | an enum's variants by one table of names | |
 //! | `Orders` | 8 | what a type's comparisons answer | `laws` of the crates above |
-//! | `Values` | 66 | values as JSON | `Serialize` and `Deserialize` of each |
+//! | `Values` | 66 | values as JSON | `to_value` and `from_value` of each |
 #![tactic(auto)]
 
 mod enhancement;

@@ -139,7 +139,7 @@ drop_less (x ∷ xs) zero y ys e = ap (λ l. drop 1 l) e
 drop_less (x ∷ xs) (suc n) y ys e = drop_less xs n y ys e
 
 module _ {A : Type 0} where
-  -- A member below all others goes first, and one above the first goes behind it.
+  -- A member below all others goes first, and one above the first goes after it.
   put_first : (m : Member A) (xs : List (Member A)) → AllByRecursion (λ x. m.order < x.order) xs → put_in m xs ≡ m ∷ xs
   put_first m [] a = refl
   put_first m (x ∷ xs) a = ap (λ (b : Bool). cond b (m ∷ x ∷ xs) (x ∷ put_in m xs)) (lt-ltb m.order x.order a.0)
@@ -382,7 +382,7 @@ module _ {A : Type 0} where
     parts = λ k. part_behind k kind (place_of at k) (q k) after m (same_kind k kind) is refl (j.parts k) ∙ ap (λ (n : ℕ). drop n (q k)) (sym (places k));
   }
 
-  -- what is left behind the earliest member
+  -- what is left after the earliest member
   pub left_of : (q : Kind → List (Member A)) (at to : Places) (f : Front A) → AreJoined (behind q at) → IsEarliest (behind q at) (has all_classes) all_kinds (Some f)
       → ((k : Kind) → place_of to k ≡ cond (same_kind k f.kind) (place_of at k + 1) (place_of at k))
       → (after : List (Member A)) × (joined (behind q at) ≡ f.member.now ∷ after) × Joins after (behind q to)
@@ -549,7 +549,7 @@ module _ {A : Type 0} where
           w.count ∙ ap length (sym all),
         )
 
-  -- How many members stand at the places and behind them.
+  -- How many members stand at the places and after them.
   abbrev pub left : (Kind → List (Member A)) → Places → ℕ
   left q at = (length (q Event) - place_of at Event) + (length (q Cursor) - place_of at Cursor) + (length (q Flags) - place_of at Flags) + (length (q Attributes) - place_of at Attributes)
 

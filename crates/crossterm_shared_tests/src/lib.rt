@@ -2,7 +2,7 @@
 //! event comes to one pass alone.
 //!
 //! They stand here, in a crate of their own, since a crate with tests is proved twice. Each ends by itself within seconds: devices have
-//! an end of input behind a number of turns, and each turn is a nap of a millisecond.
+//! an end of input after a number of turns, and each turn is a nap of a millisecond.
 #![tactic(auto)]
 
 #[cfg(test)]

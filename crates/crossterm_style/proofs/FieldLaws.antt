@@ -49,9 +49,9 @@ no_third fs l k n m first second none r g b p =
     let then = begins_once l m g k p.1 second (subst (λ x. BeginsWith x g p.1) (sym same.1) p.3) in
     none b (subst (λ x. BeginsWith x b []) (sym then.1) p.4)
 
--- ---- inks
+-- ---- SGR colours
 
--- what follows an ink's form, by its number
+-- what follows the form of an SGR colour, by its number
 abbrev pub SgrAfter : ℕ → List (List ℕ) → SgrColor → Type 0
 SgrAfter form rest Own = ⊥
 SgrAfter form rest (Indexed n) = (form ≡ 5) × BeginsWith rest n []

@@ -1,4 +1,4 @@
--- The SGR parameters of an ink at a place put it there.
+-- The SGR parameters of a colour at a place put it there.
 use Rattle.std.proofs.Common.{◌≡◌, ℕ, ◌<◌, ◌==◌, nat_lt, true, false, List, [], ◌∷◌, ◌++◌, Option, Some, None, append_assoc, append-nil, arith, ap, refl, sym, ◌∙◌, codes, map}
 use Rattle.std.specs.Fmt.{decimal}
 use Rattle.std.specs.List.{AllByRecursion, list_all, slice_split}
@@ -49,7 +49,7 @@ last_number n h = ap (map parameter) (one_field (decimal n) (byte_digits n h)) �
 next_number : (n : ℕ) (rest : List ℕ) → n < 256 → parameters (decimal n ++ (59 ∷ rest)) ≡ Number n ∷ parameters rest
 next_number n rest h = ap (map parameter) (next_field (decimal n) rest (byte_digits n h)) ∙ ap (λ p. p ∷ parameters rest) (parameter_read n h)
 
--- ---- inks among parameters
+-- ---- colours among parameters
 
 abbrev pub sets : Place → List ℕ
 sets Foreground = codes "38"
@@ -105,7 +105,7 @@ parts_first r g b rest hr hg hb =
     ap parameters (append_assoc (decimal r) (59 ∷ (decimal g ++ (59 ∷ decimal b))) tail ∙ ap (λ l. decimal r ++ (59 ∷ l)) (append_assoc (decimal g) (59 ∷ decimal b) tail))
     ∙ next_number r _ hr ∙ ap (λ l. Number r ∷ l) (next_number g _ hg ∙ ap (λ l. Number g ∷ l) (next_number b rest hb))
 
--- an ink before others
+-- a colour before others
 sgr_first : (p : Place) (i : SgrColor) (rest : List ℕ) → FitsSgr i → parameters (sgr_text (sets p) (resets p) i ++ (59 ∷ rest)) ≡ sgr_parameters p i ++ parameters rest
 sgr_first p Own rest h = own_first p rest
 sgr_first p (Indexed n) rest h =
@@ -118,7 +118,7 @@ sgr_first p (Rgb r g b) rest h =
 
 -- ---- what they do
 
--- the colour of an ink
+-- the colour that SGR parameters name
 abbrev pub sgr_shade : SgrColor → Option Color
 sgr_shade Own = None
 sgr_shade (Indexed n) = Some (indexed_color n)
@@ -174,7 +174,7 @@ sgr_looks p i s h =
     let public : are_private text ≡ false = ap are_private (sym (append-nil text)) ∙ public_ink p i [] in
     rw public (sgr_sets p i s h)
 
--- an ink, and after a semicolon another
+-- a colour, and after a semicolon another
 pub sgrs_look : (p : Place) (i : SgrColor) (q : Place) (j : SgrColor) (s : Style) → FitsSgr i → FitsSgr j
     → sgr (sgr_text (sets p) (resets p) i ++ (codes ";" ++ sgr_text (sets q) (resets q) j)) s ≡ put q (sgr_shade j) (put p (sgr_shade i) s)
 sgrs_look p i q j s h k =

@@ -62,9 +62,9 @@ parts_fields : (r g b : ℕ) → r < 256 → g < 256 → b < 256
 parts_fields r g b hr hg hb =
     next_field (decimal r) _ (byte_digits r hr) ∙ ap (λ l. decimal r ∷ l) (next_field (decimal g) _ (byte_digits g hg) ∙ ap (λ l. decimal g ∷ l) (one_field (decimal b) (byte_digits b hb)))
 
--- ---- inks
+-- ---- SGR colours
 
--- The text of an ink behind a place's number, where a semicolon behind that ends it as a field.
+-- The text of an SGR colour after a place's number, where a semicolon after that ends it as a field.
 place_reads : (set reset : ℕ) (x y : List ℕ) → ReadsByte x set → ReadsByte y reset → ((rest : List ℕ) → fields (x ++ (59 ∷ rest)) ≡ x ∷ fields rest) → fields y ≡ y ∷ []
     → (sgr : SgrColor) → FitsSgr sgr → ReadsPlace set reset (fields (sgr_text x y sgr)) sgr
 place_reads set reset x y sets resets cut whole Own h = (y, whole, resets)

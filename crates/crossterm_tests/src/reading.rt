@@ -46,7 +46,7 @@ fn is_some_char(event: Option<InternalEvent>, c: char) -> bool {
     }
 }
 
-/// Whether this character is held first, and so many events behind it.
+/// Whether this character is held first, and so many events after it.
 fn holds(reader: &Reader, c: char, more: usize) -> bool {
     let mut held = reader.held();
     match held.next() {
@@ -160,7 +160,7 @@ static KEY_BEHIND_REPLIES: [Part; 2] = [
     Part::Text(b"k", 1, false),
 ];
 
-/// Whether the one key is taken from behind the replies, and no event is evaluated.
+/// Whether the one key that comes after the replies is taken, and no event is evaluated.
 fn takes_unasked(reader: &mut Reader) -> bool {
     let filter = Counting {
         asked: Cell::new(0),

@@ -17,7 +17,7 @@
 //! | `Names` | 50 | the names that keys show as | `Display` of `KeyCode` and its like |
 //! | `Admitting` | 51 | which events a filter admits | `Filter::{eval, classes}` |
 //! | `Timing` | 22 | limits of time | `PollTimeout` |
-//! | `Values` | 169 | events as JSON | `Serialize` and `Deserialize` of each |
+//! | `Values` | 169 | events as JSON | `to_value` and `from_value` of each |
 #![tactic(auto)]
 
 pub mod event;

@@ -10,7 +10,7 @@ pub const LIMIT: usize = 1_048_576;
 
 const ABOVE_LIMIT: u64 = LIMIT as u64 + 1;
 
-/// Puts all input behind some bytes, or as far as one byte above the limit.
+/// Puts all input after some bytes, or as far as one byte above the limit.
 fn read_bytes<A: Allocator, R: Read>(bytes: &mut Vec<u8, A>, reader: &mut R) -> Result<(), Fault> {
     match reader.by_ref().take(ABOVE_LIMIT).read_to_end(bytes) {
         Ok(_) => Ok(()),
@@ -28,7 +28,7 @@ pub fn read_text<A: Allocator, R: Read>(alloc: A, reader: &mut R) -> Result<Stri
     String::from_utf8(bytes).ok().ok_or(Fault::NotUtf8)
 }
 
-/// A line's first word, and what follows the blank behind it.
+/// A line's first word, and what follows the blank after it.
 pub fn divided(line: &str) -> (&str, Option<&str>) {
     match line.split_once(' ') {
         Some((word, rest)) => (word, Some(rest)),

@@ -112,7 +112,7 @@ fn keyboard<A: Allocator>(rest: &str) -> Option<Statement<A>> {
     Some(Statement::Call(Call::Keyboard { tries }))
 }
 
-/// What a word and the words behind it say.
+/// What a word and the words after it say.
 fn read_with_rest<A: Allocator>(word: PlainWord, rest: &str) -> Option<Statement<A>> {
     match word {
         PlainWord::Resize => resize(rest),

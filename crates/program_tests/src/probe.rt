@@ -37,7 +37,7 @@ pub fn run<R: Read, W: Write>(
     }
 }
 
-/// What comes of an input: what is written, and behind it the line of the fault, which has no end.
+/// What comes of an input: what is written, and after it the line of the fault, which has no end.
 pub fn answer(mode: Mode, alloc: Global, input: &[u8]) -> Result<Vec<u8>, AllocError> {
     let mut output = Vec::new(alloc);
     let mut reader = input;
@@ -257,7 +257,7 @@ fn lines_that_say_nothing_are_named(rt: HostRuntime) {
 /// Parts of a text, each so many times.
 type Parts = &'static [(&'static str, u32)];
 
-/// Puts a part behind a text, again and again.
+/// Puts a part after a text, again and again.
 fn repeat(text: &mut Vec<u8>, part: &str, times: u32) -> Result<(), AllocError> {
     for _ in 0..times {
         text.extend_from_slice(part.as_bytes())?;

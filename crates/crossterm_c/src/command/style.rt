@@ -77,7 +77,10 @@ pub(super) fn write_style(command: &GelvanhCommand, colors: ColorOutput, slice: 
             slice,
         ),
         38 => write_some(colors_of(command).map(SetColors), colors, slice),
-        39 => write_some(attribute_of(command.first).map(SetAttribute), colors, slice),
+        39 => match attribute_of(command.first) {
+            Some(attribute) => write(&SetAttribute(attribute), colors, slice),
+            None => Answer::nothing(),
+        },
         40 => write_some(
             attributes_of(command.attributes).map(SetAttributes),
             colors,

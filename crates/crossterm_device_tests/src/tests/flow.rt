@@ -32,7 +32,7 @@ fn byte_at(place: usize) -> u8 {
     (place % 251) as u8
 }
 
-/// Fills a piece with the bytes that stand from this place on, and tells the place behind it.
+/// Fills a piece with the bytes that stand from this place on, and tells the place after it.
 fn fill(piece: &mut [u8], from: usize) -> usize {
     let mut at = from;
     for byte in piece {

@@ -33,7 +33,7 @@ module _ {A : Type 0} where
   abbrev pub of_kind : Kind → List (Member A) → List (Member A)
   of_kind kind ms = filter (λ m. same_kind kind (kind_of m.event)) ms
 
-  -- What stands behind these places, and at them.
+  -- What stands after these places, and at them.
   abbrev pub behind : (Kind → List (Member A)) → Places → Kind → List (Member A)
   behind q at kind = drop (place_of at kind) (q kind)
 
@@ -51,7 +51,7 @@ module _ {A : Type 0} where
   abbrev pub joined : (Kind → List (Member A)) → List (Member A)
   joined q = in_order (q Event ++ (q Cursor ++ (q Flags ++ q Attributes)))
 
-  -- The order number of each is below those of all behind it.
+  -- The order number of each is below those of all after it.
   abbrev pub Ascends : List (Member A) → Type 0
   Ascends [] = Unit {0}
   Ascends (m ∷ ms) = AllByRecursion (λ x. m.order < x.order) ms × Ascends ms

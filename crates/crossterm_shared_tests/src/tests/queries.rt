@@ -69,7 +69,7 @@ fn is_first(flags: io::Result<Option<KeyboardEnhancementFlags>>) -> bool {
     matches!(flags, Ok(Some(flags)) if flags.bits() == 1)
 }
 
-/// Whether flags are told and the attributes behind them are taken, and attributes alone are no flags.
+/// Whether flags are told and the attributes after them are taken, and attributes alone are no flags.
 fn is_flagged<R: Wait>(rt: &R, alloc: Global) -> io::Result<bool> {
     let reader = telling(alloc, b"\x1b[?1u\x1b[?62c\x1b[?62c")?;
     let mut seat = alone(rt, alloc, reader)?;
@@ -115,7 +115,7 @@ fn wake_ups_and_faults_end_queries(rt: HostRuntime) -> io::Result<()> {
     Ok(())
 }
 
-/// A reader over a script that is idle for long behind this text.
+/// A reader over a script that is idle for long after this text.
 fn then_idle(alloc: Global, bytes: &[u8]) -> Result<Reader<Script>, AllocError> {
     let mut acts = Vec::new(alloc);
     acts.push(text(alloc, bytes)?)?;

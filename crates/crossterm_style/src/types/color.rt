@@ -38,7 +38,7 @@ pub enum Color {
 }
 
 impl Color {
-    /// Reads the SGR parameters that tell a colour (ECMA-48, 8.3.117; xterm's control sequences), behind the number that sets its place:
+    /// Reads the SGR parameters that tell a colour (ECMA-48, 8.3.117; xterm's control sequences), after the number that sets its place:
     /// `5;9` is `Red`, `5;16` is `AnsiValue(16)`, `2;1;2;3` is `Rgb { r: 1, g: 2, b: 3 }`.
     ///
     /// A number is below 256, may begin with zeros, and a plus may stand before it.

@@ -70,7 +70,7 @@ impl SgrColor {
         }
     }
 
-    /// Pushes its SGR parameters, behind the number that sets the place it is for; the terminal's own has a number by itself.
+    /// Pushes its SGR parameters, after the number that sets the place it is for; the terminal's own has a number by itself.
     pub(crate) fn push_to<const N: usize>(self, text: &mut ArrayString<N>, set: &str, reset: &str)
         requires room { array_string_len text.old + 16 ≤ N }
         requires set { length set.now ≤ 2 }

@@ -15,7 +15,7 @@ fn part(word: &str) -> Result<u8, Wrong> {
     number(word).ok_or(Wrong::Argument)
 }
 
-/// What stands before and behind a mark.
+/// What stands before and after a mark.
 fn cut(words: &str, mark: char) -> Result<(&str, &str), Wrong> {
     words.split_once(mark).ok_or(Wrong::Argument)
 }
@@ -94,7 +94,7 @@ fn content_style(words: &str) -> Result<ContentStyle, Wrong> {
     })
 }
 
-/// A style, and a text behind it.
+/// A style, and a text after it.
 fn styled_content<A: Allocator + Clone>(
     alloc: &A,
     words: &str,

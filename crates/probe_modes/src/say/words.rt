@@ -183,7 +183,7 @@ fn with_arguments<A: Allocator + Clone>(
     textual(alloc, word, argument)
 }
 
-/// A command by its name and what follows the blank behind it.
+/// A command by its name and what follows the blank after it.
 pub fn command<A: Allocator + Clone>(
     alloc: &A,
     word: &str,

@@ -7,7 +7,7 @@ use std::alloc::{AllocError, Global};
 use std::io::{self, ErrorKind, Write};
 use std::process::Abort;
 
-/// A case to a line, which is its name: lines, and what comes of them, where `^[` is ESC and `^G` the bell. A second blank before the arrow is the input's. Where nothing is behind the arrow, nothing is written.
+/// A case to a line, which is its name: lines, and what comes of them, where `^[` is ESC and `^G` the bell. A second blank before the arrow is the input's. Where nothing is after the arrow, nothing is written.
 const LINES: &str = "\
 MoveTo 0 0 -> ^[[1;1H
 MoveTo 2 1 -> ^[[2;3H

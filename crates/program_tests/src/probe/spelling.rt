@@ -17,7 +17,7 @@ pub fn spelled(alloc: Global, text: &str) -> Result<String, AllocError> {
     Ok(digits)
 }
 
-/// Puts an act of bytes behind lines.
+/// Puts an act of bytes after lines.
 fn push_act(alloc: Global, lines: &mut String, word: &str, text: &str) -> Result<(), AllocError> {
     lines.push_str(word)?;
     lines.push(' ')?;

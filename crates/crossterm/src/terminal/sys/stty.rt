@@ -147,7 +147,7 @@ impl<R: Read + Drop, W: Write + Drop> SttyDevice<R, W> {
 impl<R: Read + Drop, W: Write + Drop> ModeDevice for SttyDevice<R, W> {
     type Mode = SttyMode;
 
-    ghost represents = { λ s. s.mode };
+    ghost stands = { λ s. s.mode };
 
     ghost sized = { AsksSize R.remaining W.contents };
 

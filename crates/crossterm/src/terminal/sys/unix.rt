@@ -30,7 +30,7 @@ pub trait ModeDevice: Drop {
     type Mode: Drop;
 
     /// The mode that stands.
-    ghost represents: { Self → Self.Mode };
+    ghost stands: { Self → Self.Mode };
 
     /// From one state to another, its size was told, or wasn't.
     ghost sized: { Self → Option WindowSize → Self → Type 0 };
@@ -40,7 +40,7 @@ pub trait ModeDevice: Drop {
 
     /// The mode that stands.
     fn mode(&mut self) -> io::Result<Self::Mode>
-        ensures mode { IfOk result (λ mode. mode ≡ represents self.old) }
+        ensures mode { IfOk result (λ mode. mode ≡ stands self.old) }
         ensures rise { failed self.old ≤ failed self.new }
         ensures err { OnErr result (Refuses (failed self.old) (failed self.new)) };
 
@@ -51,7 +51,7 @@ pub trait ModeDevice: Drop {
 
     /// Sets a mode.
     fn set_mode(&mut self, mode: &Self::Mode) -> io::Result<()>
-        ensures mode { OnOk result (represents self.new ≡ mode.now) }
+        ensures mode { OnOk result (stands self.new ≡ mode.now) }
         ensures rise { failed self.old ≤ failed self.new }
         ensures err { OnErr result (Refuses (failed self.old) (failed self.new)) };
 
@@ -111,7 +111,7 @@ impl<D: ModeDevice, A: Allocator + Clone> Terminal<D, A> {
     /// Switches raw mode on, and keeps the mode that stood before. Where it is on already nothing is done.
     pub fn enable_raw_mode(&mut self) -> io::Result<()>
         ensures already { IsTrue (is_some self.old.prior) → IsOk result × (self.new ≡ self.old) }
-        ensures ok { OnOk result (self.old.prior ≡ None → self.new.prior ≡ Some (D.represents self.old.device)) }
+        ensures ok { OnOk result (self.old.prior ≡ None → self.new.prior ≡ Some (D.stands self.old.device)) }
         ensures refused { OnErr result (self.new.prior ≡ None) }
         ensures rise { D.failed self.old.device ≤ D.failed self.new.device }
         ensures err { OnErr result (Refuses (D.failed self.old.device) (D.failed self.new.device)) }
@@ -130,7 +130,7 @@ impl<D: ModeDevice, A: Allocator + Clone> Terminal<D, A> {
     pub fn disable_raw_mode(&mut self) -> io::Result<()>
         ensures already { self.old.prior ≡ None → IsOk result × (self.new ≡ self.old) }
         ensures prior { OnOk result (self.new.prior ≡ None) }
-        ensures ok { OnOk result (IsTrue (is_some self.old.prior) → Some (D.represents self.new.device) ≡ self.old.prior) }
+        ensures ok { OnOk result (IsTrue (is_some self.old.prior) → Some (D.stands self.new.device) ≡ self.old.prior) }
         ensures refused { OnErr result (self.new.prior ≡ self.old.prior) }
         ensures rise { D.failed self.old.device ≤ D.failed self.new.device }
         ensures err { OnErr result (Refuses (D.failed self.old.device) (D.failed self.new.device)) }
@@ -207,7 +207,7 @@ pub fn supports_keyboard_enhancement<
     requires { IsPassOf reader.now pass.old }
     ensures pass { IsPassOf reader.now pass.new }
     ensures query { (flags : Result (Option KeyboardEnhancementFlags) Error) × (result_map_both is_some (λ e. e) flags ≡ result)
-        × InRawMode D.represents D.failed term.old term.new ((W.contents out.new ≡ W.contents out.old) × (knows pass.new ≡ knows pass.old))
+        × InRawMode D.stands D.failed term.old term.new ((W.contents out.new ≡ W.contents out.old) × (knows pass.new ≡ knows pass.old))
         (Queries (W.contents out.old) (W.contents out.new) keyboard_query (knows pass.new ≡ knows pass.old) (λ r. InTwoSeconds (λ limit. AsksKeyboard S.drawn limit (C.told clock.old) (C.told clock.new) (knows pass.old) (knows pass.new) r))) flags }
     ensures later { C.told clock.old ≤ C.told clock.new }
 {
@@ -244,7 +244,7 @@ pub fn query_keyboard_enhancement_flags<
 ) -> io::Result<Option<KeyboardEnhancementFlags>>
     requires { IsPassOf reader.now pass.old }
     ensures pass { IsPassOf reader.now pass.new }
-    ensures query { InRawMode D.represents D.failed term.old term.new ((W.contents out.new ≡ W.contents out.old) × (knows pass.new ≡ knows pass.old))
+    ensures query { InRawMode D.stands D.failed term.old term.new ((W.contents out.new ≡ W.contents out.old) × (knows pass.new ≡ knows pass.old))
         (Queries (W.contents out.old) (W.contents out.new) keyboard_query (knows pass.new ≡ knows pass.old) (λ r. InTwoSeconds (λ limit. AsksKeyboard S.drawn limit (C.told clock.old) (C.told clock.new) (knows pass.old) (knows pass.new) r))) result }
     ensures later { C.told clock.old ≤ C.told clock.new }
 {

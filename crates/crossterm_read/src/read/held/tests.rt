@@ -23,7 +23,7 @@ fn hold(held: &mut HeldEvents<Global>, event: InternalEvent) -> Result<(), Alloc
     Ok(())
 }
 
-// Five events of two kinds, of which the third is the first one behind the greatest number.
+// Five events of two kinds, of which the third is the first one after the greatest number.
 fn hold_five(held: &mut HeldEvents<Global>) -> Result<(), AllocError> {
     hold(held, InternalEvent::CursorPosition(1, 1))?;
     hold(held, InternalEvent::Event(Event::FocusGained))?;
