@@ -214,20 +214,22 @@ fn letter(letter: u8) -> Option<Color> {
     }
 }
 
-/// Colours, colours set after them, and what they are together.
-static AFTER: [(&[u8; 2], &[u8; 2], &[u8; 2]); 12] = [
-    (b"--", b"--", b"--"),
-    (b"--", b"b-", b"b-"),
-    (b"--", b"-g", b"-g"),
-    (b"--", b"wg", b"wg"),
-    (b"-b", b"wg", b"wg"),
-    (b"b-", b"wg", b"wg"),
-    (b"bw", b"wg", b"wg"),
-    (b"bw", b"-g", b"bg"),
-    (b"bg", b"w-", b"wg"),
-    (b"bg", b"--", b"bg"),
-    (b"-g", b"--", b"-g"),
-    (b"b-", b"--", b"b-"),
+/// Colours, with colours set after them and what they are together then.
+static AFTER: [(&[u8; 2], &[(&[u8; 2], &[u8; 2])]); 6] = [
+    (
+        b"--",
+        &[
+            (b"--", b"--"),
+            (b"b-", b"b-"),
+            (b"-g", b"-g"),
+            (b"wg", b"wg"),
+        ],
+    ),
+    (b"-b", &[(b"wg", b"wg")]),
+    (b"b-", &[(b"wg", b"wg"), (b"--", b"b-")]),
+    (b"bw", &[(b"wg", b"wg"), (b"-g", b"bg")]),
+    (b"bg", &[(b"w-", b"wg"), (b"--", b"bg")]),
+    (b"-g", &[(b"--", b"-g")]),
 ];
 
 /// Whether colours of these letters are those of the last ones, where the second are set after the first.
@@ -247,8 +249,10 @@ fn has_its_side(color: Color) -> bool {
 
 #[test]
 fn later_colors_win(rt: HostRuntime) {
-    for (first, second, both) in &AFTER {
-        expect!(rt; win(first, second, both));
+    for (first, later) in &AFTER {
+        for (second, both) in *later {
+            expect!(rt; win(first, second, both));
+        }
     }
     expect!(rt; Colors::new(Color::White, Color::Grey) == pair(b"wg"));
     expect!(rt; has_its_side(Color::Grey));
