@@ -1,7 +1,15 @@
 //! The names of all keys, as crossterm's own tests have them.
 
 use crate::prints;
-use crossterm_types::event::{KeyCode, MediaKeyCode, ModifierKeyCode};
+use crossterm_types::event::KeyCode::{self, Media, Modifier};
+use crossterm_types::event::MediaKeyCode::{
+    FastForward, LowerVolume, MuteVolume, Pause, Play, PlayPause, RaiseVolume, Record, Reverse,
+    Rewind, Stop, TrackNext, TrackPrevious,
+};
+use crossterm_types::event::ModifierKeyCode::{
+    IsoLevel3Shift, IsoLevel5Shift, LeftAlt, LeftControl, LeftHyper, LeftMeta, LeftShift,
+    LeftSuper, RightAlt, RightControl, RightHyper, RightMeta, RightShift, RightSuper,
+};
 use expectations::expect;
 use std::alloc::Global;
 
@@ -37,61 +45,40 @@ static NAMES: [(KeyCode, &str); 57] = [
     (KeyCode::Pause, "Pause"),
     (KeyCode::Menu, "Menu"),
     (KeyCode::KeypadBegin, "Begin"),
-    (KeyCode::Media(MediaKeyCode::Play), "Play"),
-    (KeyCode::Media(MediaKeyCode::Pause), "Pause"),
-    (KeyCode::Media(MediaKeyCode::PlayPause), "Play/Pause"),
-    (KeyCode::Media(MediaKeyCode::Reverse), "Reverse"),
-    (KeyCode::Media(MediaKeyCode::Stop), "Stop"),
-    (KeyCode::Media(MediaKeyCode::FastForward), "Fast Forward"),
-    (KeyCode::Media(MediaKeyCode::Rewind), "Rewind"),
-    (KeyCode::Media(MediaKeyCode::TrackNext), "Next Track"),
-    (
-        KeyCode::Media(MediaKeyCode::TrackPrevious),
-        "Previous Track",
-    ),
-    (KeyCode::Media(MediaKeyCode::Record), "Record"),
-    (KeyCode::Media(MediaKeyCode::LowerVolume), "Lower Volume"),
-    (KeyCode::Media(MediaKeyCode::RaiseVolume), "Raise Volume"),
-    (KeyCode::Media(MediaKeyCode::MuteVolume), "Mute Volume"),
-    (KeyCode::Modifier(ModifierKeyCode::LeftShift), "Left Shift"),
-    (KeyCode::Modifier(ModifierKeyCode::LeftControl), "Left Ctrl"),
-    (KeyCode::Modifier(ModifierKeyCode::LeftAlt), "Left Alt"),
-    (KeyCode::Modifier(ModifierKeyCode::LeftSuper), "Left Super"),
-    (KeyCode::Modifier(ModifierKeyCode::LeftHyper), "Left Hyper"),
-    (KeyCode::Modifier(ModifierKeyCode::LeftMeta), "Left Meta"),
-    (
-        KeyCode::Modifier(ModifierKeyCode::RightShift),
-        "Right Shift",
-    ),
-    (
-        KeyCode::Modifier(ModifierKeyCode::RightControl),
-        "Right Ctrl",
-    ),
-    (KeyCode::Modifier(ModifierKeyCode::RightAlt), "Right Alt"),
-    (
-        KeyCode::Modifier(ModifierKeyCode::RightSuper),
-        "Right Super",
-    ),
-    (
-        KeyCode::Modifier(ModifierKeyCode::RightHyper),
-        "Right Hyper",
-    ),
-    (KeyCode::Modifier(ModifierKeyCode::RightMeta), "Right Meta"),
-    (
-        KeyCode::Modifier(ModifierKeyCode::IsoLevel3Shift),
-        "Iso Level 3 Shift",
-    ),
-    (
-        KeyCode::Modifier(ModifierKeyCode::IsoLevel5Shift),
-        "Iso Level 5 Shift",
-    ),
+    (Media(Play), "Play"),
+    (Media(Pause), "Pause"),
+    (Media(PlayPause), "Play/Pause"),
+    (Media(Reverse), "Reverse"),
+    (Media(Stop), "Stop"),
+    (Media(FastForward), "Fast Forward"),
+    (Media(Rewind), "Rewind"),
+    (Media(TrackNext), "Next Track"),
+    (Media(TrackPrevious), "Previous Track"),
+    (Media(Record), "Record"),
+    (Media(LowerVolume), "Lower Volume"),
+    (Media(RaiseVolume), "Raise Volume"),
+    (Media(MuteVolume), "Mute Volume"),
+    (Modifier(LeftShift), "Left Shift"),
+    (Modifier(LeftControl), "Left Ctrl"),
+    (Modifier(LeftAlt), "Left Alt"),
+    (Modifier(LeftSuper), "Left Super"),
+    (Modifier(LeftHyper), "Left Hyper"),
+    (Modifier(LeftMeta), "Left Meta"),
+    (Modifier(RightShift), "Right Shift"),
+    (Modifier(RightControl), "Right Ctrl"),
+    (Modifier(RightAlt), "Right Alt"),
+    (Modifier(RightSuper), "Right Super"),
+    (Modifier(RightHyper), "Right Hyper"),
+    (Modifier(RightMeta), "Right Meta"),
+    (Modifier(IsoLevel3Shift), "Iso Level 3 Shift"),
+    (Modifier(IsoLevel5Shift), "Iso Level 5 Shift"),
 ];
 
 /// Whether a key's name is this, and the media or modifier key's in it.
 fn has_name(alloc: Global, code: &KeyCode, name: &str) -> bool {
     let alone = match code {
-        KeyCode::Media(media) => prints(alloc, media, name),
-        KeyCode::Modifier(modifier) => prints(alloc, modifier, name),
+        Media(media) => prints(alloc, media, name),
+        Modifier(modifier) => prints(alloc, modifier, name),
         _ => true,
     };
     alone && prints(alloc, code, name)
