@@ -97,3 +97,18 @@ pub fn socket<R: Net + Clock>(rt: &R, alloc: Global) -> io::Result<(SocketDevice
     let (far, near) = connection(rt)?;
     Ok((SocketDevice::new(rt, alloc, near, cooked(alloc)?)?, far))
 }
+
+/// Expects something of a device over a pipe, of one over a connection, and of a socket's, each with the end that feeds it:
+/// `expect_of_each!(rt; wakes)`.
+#[macro_export]
+macro_rules! expect_of_each {
+    ($rt:expr; $holds:expr) => {
+        $crate::expect_of_each!($rt; $holds, piped, connected, socket)
+    };
+    ($rt:expr; $holds:expr, $($made:ident),*) => {
+        $({
+            let (mut device, far) = $crate::tests::ends::$made(&$rt, $rt.alloc())?;
+            expectations::expect!($rt; $holds(&$rt, &mut device, far)?, stringify!($made));
+        })*
+    };
+}

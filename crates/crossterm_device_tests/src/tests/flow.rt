@@ -1,16 +1,11 @@
 //! Much, from another thread, and a wake-up amid it.
 
+use crate::expect_of_each;
 use crate::tests::answers::long;
-use crate::tests::ends::{connected, piped, socket};
 use crossterm_read::source::{Answer, Device, Waker};
-use expectations::expect;
-use std::alloc::Global;
-use std::fs::Files;
 use std::io::{self, Write};
-use std::net::Net;
 use std::thread;
 use std::thread::Threads;
-use std::time::Clock;
 
 // How many bytes go through.
 const MUCH: usize = 1_000_000;
@@ -127,25 +122,8 @@ fn flows<D: Device, W: Write + Send + Drop, R: Threads>(
     Ok(wrote && is_all(came))
 }
 
-fn pipes<R: Net + Files + Threads>(rt: &R, alloc: Global) -> io::Result<bool> {
-    let (mut device, far) = piped(rt, alloc)?;
-    flows(rt, &mut device, far)
-}
-
-fn connections<R: Net + Threads + Clock>(rt: &R, alloc: Global) -> io::Result<bool> {
-    let (mut device, far) = connected(rt, alloc)?;
-    flows(rt, &mut device, far)
-}
-
-fn sockets<R: Net + Threads + Clock>(rt: &R, alloc: Global) -> io::Result<bool> {
-    let (mut device, far) = socket(rt, alloc)?;
-    flows(rt, &mut device, far)
-}
-
 #[test]
 fn much_comes_through(rt: HostRuntime) -> io::Result<()> {
-    expect!(rt; pipes(&rt, rt.alloc())?);
-    expect!(rt; connections(&rt, rt.alloc())?);
-    expect!(rt; sockets(&rt, rt.alloc())?);
+    expect_of_each!(rt; flows);
     Ok(())
 }

@@ -1,7 +1,8 @@
 //! What comes at once, and what is waited for.
 
+use crate::expect_of_each;
 use crate::tests::answers::{NOW, is_idle, long, tells, tells_many, waits_out};
-use crate::tests::ends::{connected, piped, socket};
+use crate::tests::ends::piped;
 use crate::tests::readers::is_key;
 use crossterm_read::source::{Device, DeviceSource, EventSource};
 use crossterm_types::event::KeyCode;
@@ -50,15 +51,6 @@ fn keeps_limits<D: Device, W: Write, R: Clock>(
     Ok(before && came && after && burst && waits_out(rt, device, 50)?)
 }
 
-/// Whether all of this holds of a device.
-fn waits_and_tells<D: Device, W: Write, R: Clock>(
-    rt: &R,
-    device: &mut D,
-    far: &mut W,
-) -> io::Result<bool> {
-    Ok(tells_what_came(device, far)? && tells_each(device, far)? && keeps_limits(rt, device, far)?)
-}
-
 /// Whether what came before the end is told, and then the end for good, at once.
 fn tells_the_end<D: Device, W: Write + Drop>(device: &mut D, far: W) -> io::Result<bool> {
     let mut far = far;
@@ -68,26 +60,22 @@ fn tells_the_end<D: Device, W: Write + Drop>(device: &mut D, far: W) -> io::Resu
     Ok(rest && tells(device, None, b"") && tells(device, None, b"") && device.failures() == 0)
 }
 
-fn pipes<R: Net + Files + Clock>(rt: &R, alloc: Global) -> io::Result<bool> {
-    let (mut device, mut far) = piped(rt, alloc)?;
-    Ok(waits_and_tells(rt, &mut device, &mut far)? && tells_the_end(&mut device, far)?)
-}
-
-fn connections<R: Net + Clock>(rt: &R, alloc: Global) -> io::Result<bool> {
-    let (mut device, mut far) = connected(rt, alloc)?;
-    Ok(waits_and_tells(rt, &mut device, &mut far)? && tells_the_end(&mut device, far)?)
-}
-
-fn sockets<R: Net + Clock>(rt: &R, alloc: Global) -> io::Result<bool> {
-    let (mut device, mut far) = socket(rt, alloc)?;
-    Ok(waits_and_tells(rt, &mut device, &mut far)? && tells_the_end(&mut device, far)?)
+/// Whether bytes come at once, limits are waited out, and the end is told.
+fn waits_and_tells<D: Device, W: Write + Drop, R: Clock>(
+    rt: &R,
+    device: &mut D,
+    far: W,
+) -> io::Result<bool> {
+    let mut far = far;
+    let waits = tells_what_came(device, &mut far)?
+        && tells_each(device, &mut far)?
+        && keeps_limits(rt, device, &mut far)?;
+    Ok(waits && tells_the_end(device, far)?)
 }
 
 #[test]
 fn pipes_connections_and_sockets_are_told(rt: HostRuntime) -> io::Result<()> {
-    expect!(rt; pipes(&rt, rt.alloc())?);
-    expect!(rt; connections(&rt, rt.alloc())?);
-    expect!(rt; sockets(&rt, rt.alloc())?);
+    expect_of_each!(rt; waits_and_tells);
     Ok(())
 }
 

@@ -1,7 +1,8 @@
 //! Wakers.
 
+use crate::expect_of_each;
 use crate::tests::answers::{NOW, is_idle, is_woken, tells_many, waits_out};
-use crate::tests::ends::{connected, piped, socket};
+use crate::tests::ends::piped;
 use crossterm_read::source::{Device, DeviceSource, EventSource, Waker};
 use expectations::expect;
 use std::alloc::Global;
@@ -45,36 +46,20 @@ fn is_woken_from_afar<D: Device + Send, R: Threads + Clock + Sync>(
     Ok(wakes && woken && waits_out(rt, device, 30)?)
 }
 
-/// Whether all of this holds of a device.
-fn wakes<D: Device + Send, W: Write, R: Threads + Clock + Sync>(
+/// Whether its wakers wake a device, here and from another thread.
+fn wakes<D: Device + Send, W: Write + Drop, R: Threads + Clock + Sync>(
     rt: &R,
     device: &mut D,
-    far: &mut W,
+    far: W,
 ) -> io::Result<bool> {
+    let mut far = far;
     let waker = device.waker()?;
-    Ok(is_woken_once(device, far)? && is_woken_from_afar(rt, device, &waker)?)
-}
-
-fn pipes<R: Net + Files + Threads + Clock + Sync>(rt: &R, alloc: Global) -> io::Result<bool> {
-    let (mut device, mut far) = piped(rt, alloc)?;
-    wakes(rt, &mut device, &mut far)
-}
-
-fn connections<R: Net + Threads + Clock + Sync>(rt: &R, alloc: Global) -> io::Result<bool> {
-    let (mut device, mut far) = connected(rt, alloc)?;
-    wakes(rt, &mut device, &mut far)
-}
-
-fn sockets<R: Net + Threads + Clock + Sync>(rt: &R, alloc: Global) -> io::Result<bool> {
-    let (mut device, mut far) = socket(rt, alloc)?;
-    wakes(rt, &mut device, &mut far)
+    Ok(is_woken_once(device, &mut far)? && is_woken_from_afar(rt, device, &waker)?)
 }
 
 #[test]
 fn pipes_connections_and_sockets_are_woken(rt: HostRuntime) -> io::Result<()> {
-    expect!(rt; pipes(&rt, rt.alloc())?);
-    expect!(rt; connections(&rt, rt.alloc())?);
-    expect!(rt; sockets(&rt, rt.alloc())?);
+    expect_of_each!(rt; wakes);
     Ok(())
 }
 
