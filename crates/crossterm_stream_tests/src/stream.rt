@@ -50,6 +50,16 @@ where
     stream_by(rt, alloc, &shared, &mut passes)
 }
 
+/// A stream over a device that has a letter once its gate is open.
+fn gated<R>(rt: R, alloc: Global) -> io::Result<(Arc<Gate>, Over<Gated<R>, R>)>
+where
+    R: Threads + Wait + Copy + Send + Drop + 'static,
+{
+    let gate = Arc::new(alloc, Gate::new())?;
+    let stream = stream_of(rt, alloc, Gated::new(rt, alloc, &gate)?)?;
+    Ok((gate, stream))
+}
+
 /// What a stream answers to a task.
 #[derive(Clone, Copy, PartialEq)]
 enum Answer {
@@ -90,8 +100,7 @@ fn wakes_the_newest<R>(rt: R, alloc: Global) -> io::Result<bool>
 where
     R: Threads + Wait + RandomSource + AllocGlobal + Copy + Send + Drop + 'static,
 {
-    let gate = Arc::new(alloc, Gate::new())?;
-    let mut stream = stream_of(rt, alloc, Gated::new(rt, alloc, &gate)?)?;
+    let (gate, mut stream) = gated(rt, alloc)?;
     let first = MockTask::new(&rt)?;
     let second = MockTask::new(&rt)?;
     let wait = poll(&first, &mut stream) == Answer::Pending
@@ -141,17 +150,21 @@ fn a_fault_is_given_once(rt: HostRuntime) -> io::Result<()> {
     Ok(())
 }
 
+/// Whether the worker of a stream ends with it, and the reader with the worker.
+fn ends_with<R: Wait + Drop>(rt: &R, gate: &Gate, stream: Over<Gated<R>, R>) -> bool {
+    drop(stream);
+    gate.await_drop(rt)
+}
+
 /// Whether the worker of a stream that is dropped while it polls ends, and the reader with it.
 fn ends_its_worker<R>(rt: R, alloc: Global) -> io::Result<bool>
 where
     R: Threads + Wait + RandomSource + AllocGlobal + Copy + Send + Drop + 'static,
 {
-    let gate = Arc::new(alloc, Gate::new())?;
-    let mut stream = stream_of(rt, alloc, Gated::new(rt, alloc, &gate)?)?;
+    let (gate, mut stream) = gated(rt, alloc)?;
     let task = MockTask::new(&rt)?;
     let polls = poll(&task, &mut stream) == Answer::Pending && gate.await_endless_question(&rt);
-    drop(stream);
-    Ok(polls && gate.await_drop(&rt))
+    Ok(polls && ends_with(&rt, &gate, stream))
 }
 
 #[test]
@@ -165,9 +178,8 @@ fn ends_an_idle_worker<R>(rt: R, alloc: Global) -> io::Result<bool>
 where
     R: Threads + Wait + Copy + Send + Drop + 'static,
 {
-    let gate = Arc::new(alloc, Gate::new())?;
-    drop(stream_of(rt, alloc, Gated::new(rt, alloc, &gate)?)?);
-    Ok(gate.await_drop(&rt))
+    let (gate, stream) = gated(rt, alloc)?;
+    Ok(ends_with(&rt, &gate, stream))
 }
 
 #[test]
@@ -176,27 +188,21 @@ fn a_stream_that_is_never_polled_ends_its_worker(rt: HostRuntime) -> io::Result<
     Ok(())
 }
 
-/// What a stream gives next, before the turns are over.
-fn next<D: Device, R: Wait + Drop>(rt: &R, task: &MockTask, stream: &mut Over<D, R>) -> Answer {
-    for _ in 0..TURNS {
-        match outcome(task.poll(&mut stream.next())) {
-            Answer::Pending => nap(rt),
-            other => return other,
-        }
-    }
-    Answer::Pending
+/// One poll of the future of a stream's next event by this task.
+fn poll_of_next<D: Device, R: Wait + Drop>(task: &MockTask, stream: &mut Over<D, R>) -> Answer {
+    outcome(task.poll(&mut stream.next()))
 }
 
-/// Whether the next event of a stream is one that comes to its worker.
+/// Whether the future of the next event waits, and has the letter once its task is woken.
 fn gives_the_next<R>(rt: R, alloc: Global) -> io::Result<bool>
 where
     R: Threads + Wait + RandomSource + AllocGlobal + Copy + Send + Drop + 'static,
 {
-    let gate = Arc::new(alloc, Gate::new())?;
-    gate.open();
-    let mut stream = stream_of(rt, alloc, Gated::new(rt, alloc, &gate)?)?;
+    let (gate, mut stream) = gated(rt, alloc)?;
     let task = MockTask::new(&rt)?;
-    Ok(next(&rt, &task, &mut stream) == Answer::Letter('a'))
+    let waits = poll_of_next(&task, &mut stream) == Answer::Pending;
+    gate.open();
+    Ok(waits && is_woken(&rt, &task) && poll_of_next(&task, &mut stream) == Answer::Letter('a'))
 }
 
 #[test]
