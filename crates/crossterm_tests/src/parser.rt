@@ -1,5 +1,6 @@
 //! The parser beside the slow program of the definitions, and its calls at a concrete type.
 
+use crate::parser::Coming::{Joined, Paused, Raw};
 use crate::plain::{Divided, divide};
 use crossterm_parse::marked::Marked;
 use crossterm_parse::parse::Parser;
@@ -7,15 +8,26 @@ use crossterm_types::event::{Event, InternalEvent, KeyCode, KeyEvent, KeyModifie
 use expectations::expect;
 use std::alloc::{AllocError, Global};
 
-/// What a device told at once: bytes, whether more follow at once, and the mode.
-type Piece<'a> = (&'a [u8], bool, bool);
+/// How bytes come.
+#[derive(Clone, Copy)]
+enum Coming {
+    /// With a pause after them.
+    Paused,
+    /// With more after them at once.
+    Joined,
+    /// In raw mode, with a pause after them.
+    Raw,
+}
+
+/// What a device told at once.
+type Piece<'a> = (&'a [u8], Coming);
 
 fn mark(all: &mut Vec<Marked>, piece: &Piece<'_>) -> Result<(), AllocError> {
     for (i, byte) in piece.0.iter().enumerate() {
         all.push(Marked {
             byte: *byte,
-            raw: piece.2,
-            pause: !piece.1 && i + 1 == piece.0.len(),
+            raw: matches!(piece.1, Raw),
+            pause: !matches!(piece.1, Joined) && i + 1 == piece.0.len(),
         })?;
     }
     Ok(())
@@ -46,7 +58,7 @@ fn events_of(alloc: Global, parser: &mut Parser) -> Result<Vec<InternalEvent>, A
 fn at_once(alloc: Global, pieces: &[Piece<'_>]) -> Result<Vec<InternalEvent>, AllocError> {
     let mut parser = Parser::new(alloc);
     for piece in pieces {
-        parser.feed(piece.0, piece.1, piece.2);
+        parser.feed(piece.0, matches!(piece.1, Joined), matches!(piece.1, Raw));
     }
     events_of(alloc, &mut parser)
 }
@@ -98,139 +110,91 @@ fn does_agree(alloc: Global, pieces: &[Piece<'_>]) -> bool {
     matches!(agrees(alloc, pieces), Ok(true))
 }
 
-/// Pieces, each list with a name.
-static CASES: [(&str, &[Piece<'static>]); 24] = [
-    (
-        "keys",
-        &[(
-            b"\x1b[1;2:3A\x1b[3;65~\x1b[97:65;2u\x1b[57399;129u",
-            false,
-            false,
-        )],
-    ),
+/// Bytes that come at once with nothing after them, each with a name.
+static AT_ONCE: [(&str, &[u8]); 12] = [
+    ("keys", b"\x1b[1;2:3A\x1b[3;65~\x1b[97:65;2u\x1b[57399;129u"),
     (
         "replies",
-        &[(
-            b"\x1b[[A\x1b[?1u\x1b[?c\x1b[?uu\x1b[20;10R\x1b[0;5R",
-            false,
-            false,
-        )],
+        b"\x1b[[A\x1b[?1u\x1b[?c\x1b[?uu\x1b[20;10R\x1b[0;5R",
     ),
     (
         "characters in numbers",
-        &[(
-            b"\x1b[1;1;\xc3A\x1b[1;1;\xc3\xa9A\x1b[1;\xff~a",
-            false,
-            false,
-        )],
+        b"\x1b[1;1;\xc3A\x1b[1;1;\xc3\xa9A\x1b[1;\xff~a",
     ),
-    (
-        "numbers in pieces",
-        &[
-            (b"\x1b[10", false, false),
-            (b"u\x1b[10", false, true),
-            (b"u\x1b[?1", false, false),
-        ],
-    ),
-    (
-        "two Esc keys",
-        &[(b"\x1b", false, false), (b"\x1b", false, false)],
-    ),
-    ("two ESC at once", &[(b"\x1b\x1b", false, false)]),
-    (
-        "ESC and more",
-        &[(b"\x1b", true, false), (b"[A", false, false)],
-    ),
-    (
-        "ESC and ESC",
-        &[(b"\x1b", true, false), (b"\x1b", false, false)],
-    ),
-    ("no number", &[(b"\x1b[;A", false, false)]),
-    ("after ESC O", &[(b"\x1bOP\x1bOA\x1bO\x1b", false, false)]),
-    (
-        "after ESC [",
-        &[(b"\x1b[Z\x1b[I\x1b[O\x1b[\x1b", false, false)],
-    ),
-    ("line feeds", &[(b"\n", false, true), (b"\n", false, false)]),
-    (
-        "single bytes",
-        &[(b"\x00\x01\x1a\x1c\x1f\x7f\x80\xbf\xf8\xff", false, false)],
-    ),
+    ("two ESC at once", b"\x1b\x1b"),
+    ("no number", b"\x1b[;A"),
+    ("after ESC O", b"\x1bOP\x1bOA\x1bO\x1b"),
+    ("after ESC [", b"\x1b[Z\x1b[I\x1b[O\x1b[\x1b"),
+    ("single bytes", b"\x00\x01\x1a\x1c\x1f\x7f\x80\xbf\xf8\xff"),
     (
         "whole and broken",
-        &[(
-            b"\xc3\x89\xc0A\xed\xa0\x80\xe2\x82\xac\xf0\x9f\x98\x80",
-            false,
-            false,
-        )],
+        b"\xc3\x89\xc0A\xed\xa0\x80\xe2\x82\xac\xf0\x9f\x98\x80",
     ),
-    (
-        "in two pieces",
-        &[(b"\xc3", false, false), (b"\x89", false, false)],
-    ),
-    (
-        "broken by others",
-        &[
-            (b"\xf0\x9f", true, false),
-            (b"a\xe2", false, false),
-            (b"\x1b[A", false, false),
-        ],
-    ),
-    (
-        "after ESC",
-        &[(b"\x1b\xc3\xa9\x1b\xc0a\x1ba\x1b\x7f\x1b\x00", false, false)],
-    ),
-    (
-        "broken after ESC",
-        &[(b"\x1b\xe2\x82", false, false), (b"\x1b", false, false)],
-    ),
-    ("no byte", &[(b"", false, false), (b"aZ~ @", false, false)]),
-    (
-        "one byte each",
-        &[
-            (b"\x1b", false, true),
-            (b"[", false, true),
-            (b"A", false, true),
-        ],
-    ),
+    ("after ESC", b"\x1b\xc3\xa9\x1b\xc0a\x1ba\x1b\x7f\x1b\x00"),
     (
         "reports of the mouse",
-        &[(
-            b"\x1b[<0;20;10M\x1b[<0;1;1m\x1b[<0;0;1M\x1b[<0;1;1;\xffM\x1b[M !!\x1b[32;30;40M\x1b[M\x1b",
-            false,
-            false,
-        )],
-    ),
-    (
-        "reports in pieces",
-        &[
-            (b"\x1b[<35;", true, false),
-            (b"5;6Ma\x1b[M\x1b", false, false),
-            (b"[!\x1b[<", false, true),
-        ],
+        b"\x1b[<0;20;10M\x1b[<0;1;1m\x1b[<0;0;1M\x1b[<0;1;1;\xffM\x1b[M !!\x1b[32;30;40M\x1b[M\x1b",
     ),
     (
         "pastes",
-        &[(
-            b"\x1b[200~hi\x1b[201~\x1b[200~\xff\x1b[201\x1b[201~\x1b[200~\x1b[201~a\x1b[0200~b",
-            false,
-            false,
-        )],
+        b"\x1b[200~hi\x1b[201~\x1b[200~\xff\x1b[201\x1b[201~\x1b[200~\x1b[201~a\x1b[0200~b",
+    ),
+];
+
+/// Pieces, each list with a name.
+static IN_PIECES: [(&str, &[Piece<'static>]); 12] = [
+    (
+        "numbers in pieces",
+        &[
+            (b"\x1b[10", Paused),
+            (b"u\x1b[10", Raw),
+            (b"u\x1b[?1", Paused),
+        ],
+    ),
+    ("two Esc keys", &[(b"\x1b", Paused), (b"\x1b", Paused)]),
+    ("ESC and more", &[(b"\x1b", Joined), (b"[A", Paused)]),
+    ("ESC and ESC", &[(b"\x1b", Joined), (b"\x1b", Paused)]),
+    ("line feeds", &[(b"\n", Raw), (b"\n", Paused)]),
+    ("in two pieces", &[(b"\xc3", Paused), (b"\x89", Paused)]),
+    (
+        "broken by others",
+        &[
+            (b"\xf0\x9f", Joined),
+            (b"a\xe2", Paused),
+            (b"\x1b[A", Paused),
+        ],
+    ),
+    (
+        "broken after ESC",
+        &[(b"\x1b\xe2\x82", Paused), (b"\x1b", Paused)],
+    ),
+    ("no byte", &[(b"", Paused), (b"aZ~ @", Paused)]),
+    ("one byte each", &[(b"\x1b", Raw), (b"[", Raw), (b"A", Raw)]),
+    (
+        "reports in pieces",
+        &[
+            (b"\x1b[<35;", Joined),
+            (b"5;6Ma\x1b[M\x1b", Paused),
+            (b"[!\x1b[<", Raw),
+        ],
     ),
     (
         "pastes in pieces",
         &[
-            (b"\x1b[200", false, false),
-            (b"~a\x1b", false, false),
-            (b"[A\x1b[20", false, true),
-            (b"1~b\x1b[200~c\x1b[201", false, false),
+            (b"\x1b[200", Paused),
+            (b"~a\x1b", Paused),
+            (b"[A\x1b[20", Raw),
+            (b"1~b\x1b[200~c\x1b[201", Paused),
         ],
     ),
 ];
 
 #[test]
 fn pieces_are_divided_as_defined(rt: HostRuntime) {
-    for (name, pieces) in &CASES {
+    for (name, bytes) in &AT_ONCE {
+        expect!(rt; does_agree(rt.alloc(), &[(*bytes, Paused)]), name);
+    }
+    for (name, pieces) in &IN_PIECES {
         expect!(rt; does_agree(rt.alloc(), pieces), name);
     }
 }

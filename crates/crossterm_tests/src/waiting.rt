@@ -3,8 +3,8 @@
 use crate::scripts::{Part, count_of, source_of};
 use crossterm_read::read::InternalEventReader;
 use crossterm_read::source::{Answer, Device, DeviceSource, EventSource, Script, Waker};
+use crossterm_test_devices::Ticking;
 use crossterm_types::event::filter::EventFilter;
-use crossterm_types::event::timeout::Clock;
 use crossterm_types::event::{Event, InternalEvent};
 use expectations::expect;
 use std::alloc::{AllocError, Global};
@@ -68,31 +68,6 @@ impl Device for Expecting {
     }
 }
 
-/// A clock that goes on by 30 ms each time.
-#[derive(Drop)]
-struct Steady {
-    millis: u32,
-}
-
-impl Clock for Steady {
-    ghost use Rattle.std.specs.Prelude.{◌*◌};
-
-    ghost told = { λ clock. clock.millis * 1000000 };
-
-    fn now(&mut self) -> Duration {
-        self.millis = self.millis.saturating_add(30);
-        self.last()
-    }
-
-    fn last(&self) -> Duration {
-        Duration::from_millis(u64::from(self.millis))
-    }
-}
-
-fn clock() -> Steady {
-    Steady { millis: 0 }
-}
-
 type Reader<D> = InternalEventReader<DeviceSource<D>>;
 
 fn reader_of<D: Device>(alloc: Global, device: D) -> Reader<D> {
@@ -110,7 +85,7 @@ fn polls<S: EventSource<Global>, R: Wait>(
     limit: Option<Duration>,
     want: bool,
 ) -> bool {
-    matches!(reader.poll(rt, limit, &mut clock(), &EventFilter), Ok(ready) if ready == want)
+    matches!(reader.poll(rt, limit, &mut Ticking::new(), &EventFilter), Ok(ready) if ready == want)
 }
 
 static IDLE_AND_LETTER: [Part; 2] = [Part::Idle, Part::Text(b"a", 1, false)];
@@ -124,15 +99,15 @@ fn no_time_asks_once(rt: HostRuntime) -> Result<(), AllocError> {
     Ok(())
 }
 
-/// What is left of 100 ms, where the clock goes on by 30 ms each time that it is looked at.
-static LEFT: [Option<u64>; 2] = [Some(70), Some(10)];
+/// What is left of 4 ms, where the clock goes on by 1 ms each time that it is looked at.
+static LEFT: [Option<u64>; 2] = [Some(3), Some(1)];
 
 static ENDLESS: [Option<u64>; 2] = [None, None];
 
 /// Whether each question has what is left of the limit, and none after it has passed.
 fn waits_so_long<R: Wait>(rt: &R, alloc: Global) -> bool {
     let mut reader = reader_of(alloc, Expecting::new(&LEFT));
-    polls(rt, &mut reader, Some(Duration::from_millis(100)), false)
+    polls(rt, &mut reader, Some(Duration::from_millis(4)), false)
 }
 
 /// Whether each question is without a limit, to the first event.
