@@ -41,21 +41,22 @@ fn answer(rt: &HostRuntime, line: &str) -> Result<Vec<u8>, AllocError> {
     Ok(output)
 }
 
-/// A case to a line: words of a command line, and what is printed. For what is made, that is what it is counted as.
+/// A case to a line: words of a command line, and what is printed. For what is made, that is what it is counted as. `USAGE` and
+/// `ALONE` stand for the texts below.
 const LINES: &str = "\
 frame -> bytes 390984 commands 40000
-make letters 100 -> bytes 100 keys 100 mouse 0 pastes 0 focus 0 resizes 0 replies 0
-make utf8 100 -> bytes 100 keys 37 mouse 0 pastes 0 focus 0 resizes 0 replies 0
-make utf8 1 -> bytes 1 keys 1 mouse 0 pastes 0 focus 0 resizes 0 replies 0
-make keys 100 -> bytes 100 keys 21 mouse 0 pastes 0 focus 0 resizes 0 replies 0
-make keys 2 -> bytes 2 keys 2 mouse 0 pastes 0 focus 0 resizes 0 replies 0
+make letters 100 -> bytes 100 keys 100 ALONE
+make utf8 100 -> bytes 100 keys 37 ALONE
+make utf8 1 -> bytes 1 keys 1 ALONE
+make keys 100 -> bytes 100 keys 21 ALONE
+make keys 2 -> bytes 2 keys 2 ALONE
 make mouse 100 -> bytes 100 keys 10 mouse 9 pastes 0 focus 0 resizes 0 replies 0
 make paste 100 -> bytes 100 keys 4 mouse 0 pastes 1 focus 0 resizes 0 replies 0
 make paste 12 -> bytes 12 keys 0 mouse 0 pastes 1 focus 0 resizes 0 replies 0
-make paste 11 -> bytes 11 keys 11 mouse 0 pastes 0 focus 0 resizes 0 replies 0
-make hostile 5000 -> bytes 5000 keys 1 mouse 0 pastes 0 focus 0 resizes 0 replies 0
-make hostile 3 -> bytes 3 keys 3 mouse 0 pastes 0 focus 0 resizes 0 replies 0
-make keys 0 -> bytes 0 keys 0 mouse 0 pastes 0 focus 0 resizes 0 replies 0
+make paste 11 -> bytes 11 keys 11 ALONE
+make hostile 5000 -> bytes 5000 keys 1 ALONE
+make hostile 3 -> bytes 3 keys 3 ALONE
+make keys 0 -> bytes 0 keys 0 ALONE
 make keys -> USAGE
 make keys -1 -> USAGE
 make other 100 -> USAGE
@@ -68,15 +69,22 @@ count -> USAGE";
 const USAGE: &str =
     "bench: usage: bench [frame] [--time] | bench held REPLIES | bench make letters|utf8|keys|mouse|paste|hostile BYTES";
 
+/// What is counted where nothing but keys came.
+const ALONE: &str = "mouse 0 pastes 0 focus 0 resizes 0 replies 0";
+
+/// Whether this is printed for a line, as the table writes it.
+fn is_answer(rt: &HostRuntime, line: &str, want: &str) -> Result<bool, AllocError> {
+    let want = want.replace(rt.alloc(), "USAGE", USAGE)?;
+    let want = want.replace(rt.alloc(), "ALONE", ALONE)?;
+    let output = answer(rt, line)?;
+    Ok(output.as_slice().strip_suffix(b"\n") == Some(want.as_bytes()))
+}
+
 /// Whether a case is as it says.
 fn holds(rt: &HostRuntime, case: &str) -> bool {
-    let Some((line, want)) = case.split_once(" -> ") else {
-        return false;
-    };
-    let want = if want == "USAGE" { USAGE } else { want };
-    match answer(rt, line) {
-        Ok(output) => output.as_slice().strip_suffix(b"\n") == Some(want.as_bytes()),
-        Err(_) => false,
+    match case.split_once(" -> ") {
+        Some((line, want)) => is_answer(rt, line, want).unwrap_or(false),
+        None => false,
     }
 }
 
