@@ -19,6 +19,8 @@
 //! | `Stty` | 28 | a helper that runs `stty` | `SttyDevice` |
 //! | `Asking` | 32 | queries, and raw mode around them | `cursor::position`, `terminal::query_keyboard_enhancement_flags` |
 //! | `Values` | 14 | what is cleared, as JSON and in its order | `ClearType`; `laws::declared_order` |
+//!
+//! A function's proof stands in `proofs/` at the function's path; where there is no file, the prover found it by itself.
 #![tactic(auto)]
 
 pub mod clipboard;

@@ -15,6 +15,8 @@
 //! | `Text` | 18 | the text of a paste, piece by piece | `gelvanh_paste_text` |
 //! | `Command` | 206 | commands as numbers, and their texts | `gelvanh_command`, `gelvanh_print` and the like |
 //! | `Outlet` | 9 | a slice that takes what fits | the same |
+//!
+//! A function's proof stands in `proofs/` at the function's path; where there is no file, the prover found it by itself.
 #![tactic(auto)]
 
 mod color;

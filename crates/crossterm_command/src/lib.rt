@@ -13,6 +13,8 @@
 //! | `Writing` | 37 | what a writer's bytes grow by | `write_text`, `write_command`, `queue`, `execute` and the like |
 //! | `Faults` | 20 | why a command was stopped, and what was written | `CommandFault`, `send_command` |
 //! | `Environment` | 8 | values of environment variables | `ColorOutput::from_no_color` |
+//!
+//! A function's proof stands in `proofs/` at the function's path; where there is no file, the prover found it by itself.
 #![tactic(auto)]
 
 mod color_output;

@@ -17,6 +17,8 @@
 //! | `Variants` | 58 | an enum's variants by one table of names | |
 //! | `Orders` | 8 | what a type's comparisons answer | `laws` of the crates above |
 //! | `Values` | 66 | values as JSON | `to_value` and `from_value` of each |
+//!
+//! A function's proof stands in `proofs/` at the function's path; where there is no file, the prover found it by itself.
 #![tactic(auto)]
 
 mod enhancement;

@@ -42,7 +42,8 @@
 //! | `View` | 96 | a parser as its callers see it, and what it makes of a piece | `Parser::advance`; `laws::{cuttings, two_steps_a_byte, a_step_a_byte}` |
 //! | `Giving` | 27 | its events, one after another | `Parser::{next, events}` |
 //!
-//! What only proofs cite stands in `specs/inside/`.
+//! What only proofs and private clauses cite stands in `specs/inside/`. A function's proof stands in `proofs/` at the function's path;
+//! where there is no file, the prover found it by itself.
 #![tactic(auto)]
 
 pub mod character;

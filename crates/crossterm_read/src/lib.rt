@@ -36,7 +36,8 @@
 //! | `Shared` | 15 | what it says of a share | `EventReader::{new, share}` |
 //! | `Streams` | 32 | what a stream answers, and what its worker does | `EventStream::{poll_event, poll_next}` |
 //!
-//! What only proofs cite stands in `specs/inside/`.
+//! What only proofs and private clauses cite stands in `specs/inside/`. A function's proof stands in `proofs/` at the function's path;
+//! where there is no file, the prover found it by itself.
 #![tactic(auto)]
 
 pub mod laws;

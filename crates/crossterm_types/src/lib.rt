@@ -18,6 +18,8 @@
 //! | `Admitting` | 51 | which events a filter admits | `Filter::{eval, classes}` |
 //! | `Timing` | 22 | limits of time | `PollTimeout` |
 //! | `Values` | 169 | events as JSON | `to_value` and `from_value` of each |
+//!
+//! A function's proof stands in `proofs/` at the function's path; where there is no file, the prover found it by itself.
 #![tactic(auto)]
 
 pub mod event;
