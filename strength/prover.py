@@ -45,22 +45,27 @@ def texts_of(folder):
     return found
 
 
-def check(crate, texts, flags):
-    """What a check of a copy of the crate says, with these texts as its files."""
-    with tempfile.TemporaryDirectory(prefix="strength-") as room:
+def check(crate, texts, flags, kept=""):
+    """What a check of a copy of the crate says, with these texts as its files, and the processor seconds that it took. What was read and
+    found before is taken from the folder `kept`, where one is named, and left there."""
+    with tempfile.TemporaryDirectory(prefix="strength-") as room, tempfile.TemporaryFile() as said:
         for path, text in texts.items():
             os.makedirs(os.path.dirname(f"{room}/{path}"), exist_ok=True)
             with open(f"{room}/{path}", "w", encoding="utf-8") as it:
                 it.write(text)
         words = [kit().RATTLE, "check", *crate.words(["--jobs", "1"], keeps=False), *flags]
-        how = {"cwd": room, "stdin": subprocess.DEVNULL, "stdout": subprocess.PIPE, "stderr": subprocess.STDOUT}
-        return subprocess.run(words, text=True, errors="replace", **how).stdout
+        words += ["--incremental", kept] if kept else []
+        process = subprocess.Popen(words, cwd=room, stdin=subprocess.DEVNULL, stdout=said, stderr=subprocess.STDOUT)
+        _, status, used = os.wait4(process.pid, 0)
+        process.returncode = os.waitstatus_to_exitcode(status)
+        said.seek(0)
+        return said.read().decode(errors="replace"), used.ru_utime + used.ru_stime
 
 
-def check_only(crate, texts, names):
-    """What a check of these functions says, and of no other's proof."""
+def check_only(crate, texts, names, kept=""):
+    """What a check of these functions says, and of no other's proof, and the processor seconds that it took."""
     flags = [it for name in names for it in ("--only", name)]
-    return check(crate, texts, flags or ["--only", ""])
+    return check(crate, texts, flags or ["--only", ""], kept)
 
 
 def faults(answer, crate):

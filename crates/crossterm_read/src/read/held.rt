@@ -10,8 +10,6 @@ ghost use Rattle.crossterm_read.specs.Steps.{TakeReplies, first_admitted};
 
 mod kind;
 mod queues;
-#[cfg(test)]
-mod tests;
 
 use self::kind::Places;
 use self::queues::{ALL, Member, Queues};

@@ -1,5 +1,0 @@
-use Rattle.crossterm_tests.proofs.pastes.counts_anew.Given as goal
-
--- the ledger is the new one
-abbrev pub ghosts-counts : goal.ghosts-counts
-ghosts-counts a = record { name = a.blank.name; parts = a.blank.parts }

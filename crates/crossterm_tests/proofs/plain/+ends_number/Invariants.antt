@@ -1,5 +1,0 @@
-use Rattle.std.proofs.Common.{length}
-use Rattle.crossterm_tests.proofs.plain.+ends_number.Given as goal
-
-abbrev pub decreases-ends_number : goal.decreases-ends_number
-decreases-ends_number l = length l.bytes.now

@@ -1,4 +1,0 @@
-use Rattle.crossterm_tests.proofs.plain.+ends_text.Given as goal
-
-abbrev pub decreases-ends_text : goal.decreases-ends_text
-decreases-ends_text l = l.further

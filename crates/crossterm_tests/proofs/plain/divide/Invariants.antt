@@ -1,8 +1,0 @@
-use Rattle.std.proofs.Common.{take, map}
-use Rattle.crossterm_types.specs.Seen.{seen}
-use Rattle.crossterm_tests.proofs.PlainLaws.{Found}
-use Rattle.crossterm_tests.proofs.plain.divide.Given as goal
-
--- the bytes before this one are divided
-abbrev pub invariant-loop-marked : goal.invariant-loop-marked
-invariant-loop-marked g l = Found (take l.marked-index l.bytes) l.part.items l.lengths.items (map seen l.events.items)

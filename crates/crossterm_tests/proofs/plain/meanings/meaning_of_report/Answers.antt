@@ -1,7 +1,0 @@
-use Rattle.std.proofs.Common.{◌∙◌}
-use Rattle.crossterm_parse.specs.Numbered.{sgr_by}
-use Rattle.crossterm_tests.proofs.PlainLaws.{read_at}
-use Rattle.crossterm_tests.proofs.plain.meanings.meaning_of_report.Goals as goal
-
-pub returns-in-len1-up : goal.returns-in-len1-up
-returns-in-len1-up c = c.sgr.ensures ∙ read_at sgr_by c.args.bytes.now _ c.in-len1-up.len_at_least c.read_digits.ensures

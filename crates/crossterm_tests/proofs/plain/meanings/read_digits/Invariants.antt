@@ -1,7 +1,0 @@
-use Rattle.std.proofs.Common.{take}
-use Rattle.crossterm_parse.specs.inside.Automaton.{Kept}
-use Rattle.crossterm_tests.proofs.plain.meanings.read_digits.Given as goal
-
--- the bytes before this one are read
-abbrev pub invariant-loop-byte : goal.invariant-loop-byte
-invariant-loop-byte l = Kept l.parameters (take l.byte-index l.text)

@@ -1,0 +1,236 @@
+//! The parser beside the slow program of the definitions, and its calls at a concrete type.
+
+use crate::parser::Coming::{Joined, Paused, Raw};
+use crate::plain::{Divided, divide};
+use crossterm_parse::marked::Marked;
+use crossterm_parse::parse::Parser;
+use crossterm_types::event::{Event, InternalEvent, KeyCode, KeyEvent, KeyModifiers};
+use std::alloc::{AllocError, Global};
+use test_expect::expect;
+
+/// How bytes come.
+#[derive(Clone, Copy)]
+enum Coming {
+    /// With a pause after them.
+    Paused,
+    /// With more after them at once.
+    Joined,
+    /// In raw mode, with a pause after them.
+    Raw,
+}
+
+/// What a device told at once.
+type Piece<'a> = (&'a [u8], Coming);
+
+fn mark(all: &mut Vec<Marked>, piece: &Piece<'_>) -> Result<(), AllocError> {
+    for (i, byte) in piece.0.iter().enumerate() {
+        all.push(Marked {
+            byte: *byte,
+            raw: matches!(piece.1, Raw),
+            pause: !matches!(piece.1, Joined) && i + 1 == piece.0.len(),
+        })?;
+    }
+    Ok(())
+}
+
+/// The marked bytes of the pieces.
+fn marks_of(alloc: Global, pieces: &[Piece<'_>]) -> Result<Vec<Marked>, AllocError> {
+    let mut bytes = Vec::new(alloc);
+    for piece in pieces {
+        mark(&mut bytes, piece)?;
+    }
+    Ok(bytes)
+}
+
+/// The events not yet given, which are 64 at most.
+fn events_of(alloc: Global, parser: &mut Parser) -> Result<Vec<InternalEvent>, AllocError> {
+    let mut events = Vec::new(alloc);
+    for _ in 0..64 {
+        match parser.next() {
+            Some(event) => events.push(event)?,
+            None => return Ok(events),
+        }
+    }
+    Ok(events)
+}
+
+/// The events of the pieces.
+fn at_once(alloc: Global, pieces: &[Piece<'_>]) -> Result<Vec<InternalEvent>, AllocError> {
+    let mut parser = Parser::new(alloc);
+    for piece in pieces {
+        parser.feed(piece.0, matches!(piece.1, Joined), matches!(piece.1, Raw));
+    }
+    events_of(alloc, &mut parser)
+}
+
+/// Hands one byte in, and says whether the parser is between two sequences then.
+fn ends_with(parser: &mut Parser, marked: &Marked) -> bool {
+    parser.feed(&[marked.byte], !marked.pause, marked.raw);
+    !parser.is_undecided()
+}
+
+/// Whether the parser, given the bytes one by one, is between two sequences exactly where they have these lengths.
+fn is_divided(parser: &mut Parser, bytes: &[Marked], lengths: &[usize]) -> bool {
+    let mut lengths = lengths.iter();
+    let mut length = lengths.next();
+    let mut open: usize = 0;
+    let mut agrees = true;
+    for marked in bytes {
+        let is_between = ends_with(parser, marked);
+        open = open.saturating_add(1);
+        let ends = matches!(length, Some(end) if *end == open);
+        agrees = agrees && is_between == ends;
+        if ends {
+            open = 0;
+            length = lengths.next();
+        }
+    }
+    agrees
+}
+
+/// Whether the parser divides the bytes one by one as defined, and gives the events of their parts.
+fn agrees_singly(alloc: Global, bytes: &[Marked], divided: &Divided) -> Result<bool, AllocError> {
+    let mut parser = Parser::new(alloc);
+    let agrees = is_divided(&mut parser, bytes, &divided.lengths);
+    let events = events_of(alloc, &mut parser)?;
+    Ok(agrees && events == divided.events)
+}
+
+/// Whether the parser divides the bytes of the pieces as defined, and gives the events of their parts for the pieces and for single bytes.
+fn agrees(alloc: Global, pieces: &[Piece<'_>]) -> Result<bool, AllocError> {
+    let bytes = marks_of(alloc, pieces)?;
+    let divided = divide(alloc, &bytes)?;
+    let singly = agrees_singly(alloc, &bytes, &divided)?;
+    let together = at_once(alloc, pieces)?;
+    Ok(singly && together == divided.events)
+}
+
+/// The same, and that memory was there.
+fn does_agree(alloc: Global, pieces: &[Piece<'_>]) -> bool {
+    matches!(agrees(alloc, pieces), Ok(true))
+}
+
+/// Bytes that come at once with nothing after them, each with a name.
+static AT_ONCE: [(&str, &[u8]); 12] = [
+    ("keys", b"\x1b[1;2:3A\x1b[3;65~\x1b[97:65;2u\x1b[57399;129u"),
+    (
+        "replies",
+        b"\x1b[[A\x1b[?1u\x1b[?c\x1b[?uu\x1b[20;10R\x1b[0;5R",
+    ),
+    (
+        "characters in numbers",
+        b"\x1b[1;1;\xc3A\x1b[1;1;\xc3\xa9A\x1b[1;\xff~a",
+    ),
+    ("two ESC at once", b"\x1b\x1b"),
+    ("no number", b"\x1b[;A"),
+    ("after ESC O", b"\x1bOP\x1bOA\x1bO\x1b"),
+    ("after ESC [", b"\x1b[Z\x1b[I\x1b[O\x1b[\x1b"),
+    ("single bytes", b"\x00\x01\x1a\x1c\x1f\x7f\x80\xbf\xf8\xff"),
+    (
+        "whole and broken",
+        b"\xc3\x89\xc0A\xed\xa0\x80\xe2\x82\xac\xf0\x9f\x98\x80",
+    ),
+    ("after ESC", b"\x1b\xc3\xa9\x1b\xc0a\x1ba\x1b\x7f\x1b\x00"),
+    (
+        "reports of the mouse",
+        b"\x1b[<0;20;10M\x1b[<0;1;1m\x1b[<0;0;1M\x1b[<0;1;1;\xffM\x1b[M !!\x1b[32;30;40M\x1b[M\x1b",
+    ),
+    (
+        "pastes",
+        b"\x1b[200~hi\x1b[201~\x1b[200~\xff\x1b[201\x1b[201~\x1b[200~\x1b[201~a\x1b[0200~b",
+    ),
+];
+
+/// Pieces, each list with a name.
+static IN_PIECES: [(&str, &[Piece<'static>]); 12] = [
+    (
+        "numbers in pieces",
+        &[
+            (b"\x1b[10", Paused),
+            (b"u\x1b[10", Raw),
+            (b"u\x1b[?1", Paused),
+        ],
+    ),
+    ("two Esc keys", &[(b"\x1b", Paused), (b"\x1b", Paused)]),
+    ("ESC and more", &[(b"\x1b", Joined), (b"[A", Paused)]),
+    ("ESC and ESC", &[(b"\x1b", Joined), (b"\x1b", Paused)]),
+    ("line feeds", &[(b"\n", Raw), (b"\n", Paused)]),
+    ("in two pieces", &[(b"\xc3", Paused), (b"\x89", Paused)]),
+    (
+        "broken by others",
+        &[
+            (b"\xf0\x9f", Joined),
+            (b"a\xe2", Paused),
+            (b"\x1b[A", Paused),
+        ],
+    ),
+    (
+        "broken after ESC",
+        &[(b"\x1b\xe2\x82", Paused), (b"\x1b", Paused)],
+    ),
+    ("no byte", &[(b"", Paused), (b"aZ~ @", Paused)]),
+    ("one byte each", &[(b"\x1b", Raw), (b"[", Raw), (b"A", Raw)]),
+    (
+        "reports in pieces",
+        &[
+            (b"\x1b[<35;", Joined),
+            (b"5;6Ma\x1b[M\x1b", Paused),
+            (b"[!\x1b[<", Raw),
+        ],
+    ),
+    (
+        "pastes in pieces",
+        &[
+            (b"\x1b[200", Paused),
+            (b"~a\x1b", Paused),
+            (b"[A\x1b[20", Raw),
+            (b"1~b\x1b[200~c\x1b[201", Paused),
+        ],
+    ),
+];
+
+#[test]
+fn pieces_are_divided_as_defined(rt: HostRuntime) {
+    for (name, bytes) in &AT_ONCE {
+        expect!(rt; does_agree(rt.alloc(), &[(*bytes, Paused)]), name);
+    }
+    for (name, pieces) in &IN_PIECES {
+        expect!(rt; does_agree(rt.alloc(), pieces), name);
+    }
+}
+
+/// Whether so many of these bytes are taken.
+fn takes(parser: &mut Parser, bytes: &[u8], count: usize) -> bool {
+    parser.feed(bytes, false, false) == count
+}
+
+/// Whether the key comes next.
+fn gives(parser: &mut Parser, code: KeyCode) -> bool {
+    match parser.next() {
+        Some(InternalEvent::Event(Event::Key(key))) => {
+            key == KeyEvent::new(code, KeyModifiers::NONE)
+        }
+        _ => false,
+    }
+}
+
+/// Whether a letter and the beginning of a sequence are taken, and the letter is given.
+fn takes_a_letter(parser: &mut Parser) -> bool {
+    let taken = takes(parser, b"a\x1b[", 3) && parser.is_undecided();
+    taken && gives(parser, KeyCode::Char('a')) && parser.next().is_none()
+}
+
+/// Whether the rest of the sequence is taken, and its key is given.
+fn takes_the_rest(parser: &mut Parser) -> bool {
+    let taken = takes(parser, b"A", 1) && gives(parser, KeyCode::Up);
+    taken && !parser.is_undecided()
+}
+
+#[test]
+fn each_call_once(rt: HostRuntime) {
+    let mut parser: Parser<Global> = Parser::new(rt.alloc());
+    expect!(rt; parser.reserve(3).is_ok());
+    expect!(rt; !parser.is_undecided());
+    expect!(rt; takes_a_letter(&mut parser));
+    expect!(rt; takes_the_rest(&mut parser));
+}

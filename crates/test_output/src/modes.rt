@@ -1,0 +1,126 @@
+//! Raw mode on and off over a device of modes, and sizes.
+
+ghost use Rattle.std.specs.Prelude.{◌≡◌, None, OnOk};
+
+use crate::noted::{Call, Noted, SIZE, terminal_by};
+use crossterm::event::source::RawFlag;
+use crossterm::terminal::{ModeDevice, Terminal, tput_value};
+use std::alloc::Global;
+use std::io::{self, ErrorKind};
+use std::sync::atomic::AtomicU32;
+use test_expect::expect;
+
+/// A terminal over a device of modes, and its flag once more.
+fn terminal_of(
+    alloc: Global,
+    calls: &AtomicU32,
+    refused: Option<Call>,
+) -> io::Result<(Terminal<Noted<'_>>, RawFlag)> {
+    let flag = RawFlag::new(alloc)?;
+    let shared = flag.share()?;
+    Ok((terminal_by(flag, calls, refused), shared))
+}
+
+/// Whether raw mode is on, by the terminal and by the flag.
+fn is_raw(terminal: &Terminal<Noted<'_>>, flag: &RawFlag) -> bool {
+    matches!(terminal.is_raw_mode_enabled(), Ok(true)) && flag.get()
+}
+
+/// Whether raw mode is off, by both.
+fn is_cooked(terminal: &Terminal<Noted<'_>>, flag: &RawFlag) -> bool {
+    matches!(terminal.is_raw_mode_enabled(), Ok(false)) && !flag.get()
+}
+
+fn is_denied<T: Drop>(answer: io::Result<T>) -> bool {
+    matches!(answer, Err(error) if error.kind() == ErrorKind::PermissionDenied)
+}
+
+/// Raw mode on and off. Where it wasn't on, both leave the mode that stood before.
+fn raw_and_back<D: ModeDevice>(terminal: &mut Terminal<D>) -> io::Result<()>
+    ensures { OnOk result (terminal.old.prior ≡ None → D.stands terminal.new.device ≡ D.stands terminal.old.device) }
+{
+    terminal.enable_raw_mode()?;
+    terminal.disable_raw_mode()
+}
+
+/// Whether raw mode is on once however often it is switched on, and off in the same way.
+fn switches(terminal: &mut Terminal<Noted<'_>>, flag: &RawFlag) -> bool {
+    let off = is_cooked(terminal, flag) && terminal.disable_raw_mode().is_ok();
+    let on = terminal.enable_raw_mode().is_ok() && is_raw(terminal, flag);
+    let twice = terminal.enable_raw_mode().is_ok() && is_raw(terminal, flag);
+    let back = terminal.disable_raw_mode().is_ok() && is_cooked(terminal, flag);
+    off && on && twice && back
+}
+
+#[test]
+fn raw_mode_is_switched_on_and_off(rt: HostRuntime) -> io::Result<()> {
+    let calls = AtomicU32::new(0);
+    let (mut terminal, flag) = terminal_of(rt.alloc(), &calls, None)?;
+    expect!(rt; switches(&mut terminal, &flag));
+    raw_and_back(&mut terminal)?;
+    expect!(rt; is_cooked(&terminal, &flag));
+    Ok(())
+}
+
+/// Whether a device that refuses to tell its mode, or to set the raw one, leaves raw mode off.
+fn stays_cooked(alloc: Global, refused: Call) -> io::Result<bool> {
+    let calls = AtomicU32::new(0);
+    let (mut terminal, flag) = terminal_of(alloc, &calls, Some(refused))?;
+    let denied = is_denied(terminal.enable_raw_mode());
+    Ok(denied && is_cooked(&terminal, &flag))
+}
+
+/// Whether a device that refuses to set the mode that stood before leaves raw mode on, each time.
+fn stays_raw(alloc: Global) -> io::Result<bool> {
+    let calls = AtomicU32::new(0);
+    let (mut terminal, flag) = terminal_of(alloc, &calls, Some(Call::SetMode))?;
+    let on = terminal.enable_raw_mode().is_ok();
+    let once = is_denied(terminal.disable_raw_mode()) && is_raw(&terminal, &flag);
+    let twice = is_denied(terminal.disable_raw_mode()) && is_raw(&terminal, &flag);
+    Ok(on && once && twice)
+}
+
+#[test]
+fn refused_switches_leave_the_mode_as_it_was(rt: HostRuntime) -> io::Result<()> {
+    expect!(rt; stays_cooked(rt.alloc(), Call::Mode)?);
+    expect!(rt; stays_cooked(rt.alloc(), Call::SetRaw)?);
+    expect!(rt; stays_raw(rt.alloc())?);
+    Ok(())
+}
+
+/// Whether the window's size is told, and both texts of `tput` where it isn't.
+fn tells_sizes(alloc: Global) -> io::Result<bool> {
+    let calls = AtomicU32::new(0);
+    let (mut told, _flag) = terminal_of(alloc, &calls, None)?;
+    let (mut untold, _flag) = terminal_of(alloc, &calls, Some(Call::WindowSize))?;
+    let window = matches!(told.window_size(), Ok(size) if size == SIZE);
+    let size = matches!(told.size(b"132", b"50"), Ok((80, 24)));
+    let tput = matches!(untold.size(b"132\n", b"50\n"), Ok((132, 50)));
+    let neither = is_denied(untold.size(b"132\n", b"")) && is_denied(untold.size(b"0", b"50"));
+    Ok(window && size && tput && neither && is_denied(untold.window_size()))
+}
+
+#[test]
+fn sizes_are_told_by_the_window_or_by_tput(rt: HostRuntime) -> io::Result<()> {
+    expect!(rt; tells_sizes(rt.alloc())?);
+    Ok(())
+}
+
+/// What `tput` wrote, and the number that it tells.
+static TPUT: [(&[u8], Option<u16>); 8] = [
+    (b"80\n", Some(80)),
+    (b"1a2", Some(12)),
+    (b"70000", None),
+    (b"", None),
+    (b"0", None),
+    (b"\x1b[1m", Some(1)),
+    (b"0065535", Some(65535)),
+    (b"99999999999999999999999", None),
+];
+
+#[test]
+fn tput_tells_numbers(rt: HostRuntime) {
+    for (text, want) in TPUT {
+        expect!(rt; tput_value(text) == want, "what tput wrote");
+    }
+}

@@ -1,0 +1,67 @@
+//! Modes and sizes by a helper that runs `stty`: what it is asked, and what comes of its answers.
+
+use crossterm::event::source::RawFlag;
+use crossterm::terminal::{ModeDevice, SttyDevice, SttyMode, Terminal, WindowSize};
+use std::alloc::Global;
+use std::io::{self, ErrorKind};
+use test_expect::expect;
+
+/// Raw mode on and off again, and the size, by these answers.
+fn use_all(alloc: Global, answers: &[u8], requests: &mut Vec<u8>) -> io::Result<(u16, u16)> {
+    let mut term = Terminal::new(SttyDevice::new(answers, requests)?, RawFlag::new(alloc)?);
+    term.enable_raw_mode()?;
+    term.disable_raw_mode()?;
+    let WindowSize { rows, columns, .. } = term.window_size()?;
+    Ok((columns, rows))
+}
+
+#[test]
+fn a_helper_is_asked_by_lines(rt: HostRuntime) {
+    let mut requests = Vec::new(rt.alloc());
+    let answers = b"500:5:bf\n0:4:b0\n500:5:bf\n24\n80\n";
+    let size = use_all(rt.alloc(), answers, &mut requests);
+    expect!(rt; size.is_ok_and(|size| size == (80, 24)));
+    expect!(rt; requests.as_slice() == b"mode\nraw\nset 500:5:bf\nsize\n".as_slice());
+}
+
+/// The kind of the fault that these answers lead to.
+fn fault(alloc: Global, answers: &[u8]) -> Option<ErrorKind> {
+    let mut requests = Vec::new(alloc);
+    match use_all(alloc, answers, &mut requests) {
+        Ok(_) => None,
+        Err(error) => Some(error.kind()),
+    }
+}
+
+#[test]
+fn refusals_are_told(rt: HostRuntime) {
+    let alloc = rt.alloc();
+    let rows: [(&[u8], ErrorKind); 9] = [
+        (b"", ErrorKind::UnexpectedEof),
+        (b"500:5", ErrorKind::UnexpectedEof),
+        (b"failed\n", ErrorKind::Other),
+        (b"\n", ErrorKind::Other),
+        (b"5\xc3\xa9\n", ErrorKind::InvalidData),
+        (b"5\nfailed\n", ErrorKind::Other),
+        (b"5\n0\nfailed\n", ErrorKind::Other),
+        (b"5\n0\n6\n", ErrorKind::Other),
+        (b"5\n0\n5\n24\n0\n", ErrorKind::Other),
+    ];
+    for (answers, kind) in rows {
+        expect!(rt; fault(alloc, answers) == Some(kind));
+    }
+}
+
+/// A line of this many bytes, as the first answer.
+fn of_length(alloc: Global, count: usize) -> io::Result<SttyMode> {
+    let mut answers = Vec::from_elem(alloc, b'7', count)?;
+    answers.push(b'\n')?;
+    SttyDevice::new(answers.as_slice(), Vec::new(alloc))?.mode()
+}
+
+#[test]
+fn a_line_has_255_bytes_at_most(rt: HostRuntime) {
+    expect!(rt; of_length(rt.alloc(), 255).is_ok_and(|mode| mode.text.len() == 255));
+    let longer = of_length(rt.alloc(), 256);
+    expect!(rt; longer.is_err_and(|error| error.kind() == ErrorKind::InvalidData));
+}
