@@ -21,8 +21,8 @@ all_states = bits_of states
 
 -- the enhancements of kitty's keyboard protocol
 abbrev pub enhancements : List Row
-enhancements = (codes "DISAMBIGUATE_ESCAPE_CODES", 1) ∷ (codes "REPORT_EVENT_TYPES", 2) ∷ (codes "REPORT_ALTERNATE_KEYS", 4) ∷ (codes "REPORT_ALL_KEYS_AS_ESCAPE_CODES", 8) ∷ []
+enhancements = (codes "DISAMBIGUATE_ESCAPE_CODES", 1) ∷ (codes "REPORT_EVENT_TYPES", 2) ∷ (codes "REPORT_ALTERNATE_KEYS", 4) ∷ (codes "REPORT_ALL_KEYS_AS_ESCAPE_CODES", 8) ∷ (codes "REPORT_ASSOCIATED_TEXT", 16) ∷ []
 
--- all of them: 15
+-- all of them: 31
 abbrev pub all_enhancements : ℕ
 all_enhancements = bits_of enhancements

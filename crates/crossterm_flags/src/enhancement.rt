@@ -32,6 +32,9 @@ impl KeyboardEnhancementFlags {
         8,
     );
 
+    /// The text that a key gives comes beside it, where every key comes as `CSI u`.
+    pub const REPORT_ASSOCIATED_TEXT: KeyboardEnhancementFlags = KeyboardEnhancementFlags(16);
+
     const FLAGS: &'static [Flag<KeyboardEnhancementFlags>] = &[
         Flag {
             name: "DISAMBIGUATE_ESCAPE_CODES",
@@ -48,6 +51,10 @@ impl KeyboardEnhancementFlags {
         Flag {
             name: "REPORT_ALL_KEYS_AS_ESCAPE_CODES",
             value: KeyboardEnhancementFlags::REPORT_ALL_KEYS_AS_ESCAPE_CODES,
+        },
+        Flag {
+            name: "REPORT_ASSOCIATED_TEXT",
+            value: KeyboardEnhancementFlags::REPORT_ASSOCIATED_TEXT,
         },
     ];
 
