@@ -10,6 +10,8 @@ use Rattle.crossterm_parse.specs.declared.character.Begun.TheVariants.{One, Two,
 use Rattle.crossterm_parse.specs.declared.meaning.Meaning.TheVariants.{PrimaryDeviceAttributes}
 use Rattle.crossterm_parse.specs.declared.mouse.X10Report.{X10Report}
 use Rattle.crossterm_parse.specs.declared.mouse.X10Report.TheVariants as x10
+use Rattle.crossterm_parse.specs.declared.number.Number.{Number}
+use Rattle.crossterm_parse.specs.declared.number.Number.TheVariants.{Empty}
 use Rattle.crossterm_parse.specs.declared.numbered.Parameters.{Parameters}
 use Rattle.crossterm_parse.specs.declared.paste.Met.{Met}
 use Rattle.crossterm_parse.specs.declared.paste.Met.TheVariants as met
@@ -25,9 +27,12 @@ use Rattle.crossterm_parse.specs.inside.Recognizer.{ends_paste, ends_digit, is_f
 use Rattle.crossterm_parse.specs.Fields.{cut}
 use Rattle.crossterm_parse.specs.inside.Automaton.{grown, step_of, parameters_after, empty_parameters, readings_at, state_after, prefixed, IsBegun, OpenReply, OpenMouse, OpenPaste, OpenNumber, IsOpening, Kept, opens_with, opens_after, number_ends, met_bytes, met_anew, met_after, x10_after, x10_bytes, StateRepresents, IsRight}
 use Rattle.crossterm_parse.specs.Meaning.{meaning, with_alt, decoded_character, flags_reply}
+use Rattle.crossterm_parse.specs.inside.Numbers.{reading}
+use Rattle.crossterm_parse.specs.Number.{number}
 use Rattle.crossterm_parse.specs.Numbered.{Readings, readings_of, numbered_by, numbered, sgr_by, front_of, last_of}
 use Rattle.crossterm_parse.proofs.DivisionLaws.{all_push}
 use Rattle.crossterm_parse.proofs.FieldsLaws.{empty_reads, text_more, numbers_of}
+use Rattle.crossterm_parse.proofs.NumberLaws.{tracks_more, tracks_reading}
 use Rattle.crossterm_parse.proofs.PasteLaws.{and_false, third_apart, begins_start}
 use Rattle.crossterm_parse.proofs.EndLaws.{ended, not_ended}
 use Rattle.crossterm_parse.proofs.GrammarLaws.{digit_apart, true_within, not_within, final_tells, is_one_of, reply_tells, mouse_tells, not_reply_end, not_mouse_end, within_true}
@@ -310,24 +315,35 @@ csi_right bytes b raw pause e = rw e (
 private_right : (bytes : List ℕ) (b : ℕ) (raw pause : Bool) → bytes ≡ 27 ∷ 91 ∷ 63 ∷ [] → IsRight (state_after Private b raw pause) (bytes ++ b ∷ []) raw pause
 private_right bytes b raw pause e = rw e (cond_both (b == 99) _ _ (λ (s : Step). IsRight s (27 ∷ 91 ∷ 63 ∷ b ∷ []) raw pause)
     (λ t. (rw t refl, rw t refl, refl))
-    (λ t. (rw t refl, record { more = []; is = refl; no_end = (let n = t in grind (arith, nat_tests), tt) })))
+    (λ t. (rw t refl, record { first = b; more = []; is = refl; no_end = (let n = t in grind (arith, nat_tests), tt); tracks = tracks_more [] Empty b refl })))
 
 decided_reply : (first : ℕ) (bs : List ℕ) (pause : Bool) → (first == 99) ≡ false → is_decided (27 ∷ 91 ∷ 63 ∷ first ∷ bs) pause ≡ ends_reply bs
 decided_reply first bs pause h = rw h refl
 
-meaning_reply : (raw : Bool) (first : ℕ) (w : List ℕ) (b : ℕ) → meaning raw (27 ∷ 91 ∷ 63 ∷ first ∷ (w ++ b ∷ [])) ≡ Some (cond (b == 99) PrimaryDeviceAttributes (flags_reply first))
-meaning_reply raw first w b = ap (λ (l : ℕ). Some (cond (l == 99) PrimaryDeviceAttributes (flags_reply first))) (last_of-push first w b)
+-- what its first byte, more and the last one mean
+meaning_reply : (raw : Bool) (first : ℕ) (w : List ℕ) (b : ℕ)
+    → meaning raw (27 ∷ 91 ∷ 63 ∷ first ∷ (w ++ b ∷ [])) ≡ cond (b == 99) (Some PrimaryDeviceAttributes) (flags_reply (number (first ∷ w)))
+meaning_reply raw first w b =
+    ap (λ (l : ℕ). cond (l == 99) (Some PrimaryDeviceAttributes) (flags_reply (number (front_of (first ∷ (w ++ b ∷ [])))))) (last_of-push first w b)
+    ∙ ap (λ (text : List ℕ). cond (b == 99) (Some PrimaryDeviceAttributes) (flags_reply (number text))) (front_of-push first w b)
 
-reply_right : (first : ℕ) (bytes : List ℕ) (b : ℕ) (raw pause : Bool) → OpenReply first bytes → IsRight (state_after (Reply first) b raw pause) (bytes ++ b ∷ []) raw pause
-reply_right first bytes b raw pause o =
-    let apart : (first == 99) ≡ false = (let n = o.no_end.0 in grind (arith, nat_tests)) in
-    rw o.is (cond_both (b == 99) _ _ (λ (s : Step). IsRight s (27 ∷ 91 ∷ 63 ∷ first ∷ (o.more ++ b ∷ [])) raw pause)
-    (λ t. (decided_reply first (o.more ++ b ∷ []) pause apart ∙ ended EndsNoReply is_reply_end reply_tells o.more b o.no_end.1 (is_one_of b 99 117 (inl (eqb-true b 99 t))), sym (meaning_reply raw first o.more b ∙ rw t refl), third_apart 63 (first ∷ (o.more ++ b ∷ [])) refl))
-    (λ t. cond_both (b == 117) _ _ (λ (s : Step). IsRight s (27 ∷ 91 ∷ 63 ∷ first ∷ (o.more ++ b ∷ [])) raw pause)
-    (λ u. (decided_reply first (o.more ++ b ∷ []) pause apart ∙ ended EndsNoReply is_reply_end reply_tells o.more b o.no_end.1 (is_one_of b 99 117 (inr (eqb-true b 117 u))), sym (meaning_reply raw first o.more b ∙ rw t refl), third_apart 63 (first ∷ (o.more ++ b ∷ [])) refl))
+reply_right : (n : Number) (bytes : List ℕ) (b : ℕ) (raw pause : Bool) → OpenReply n bytes → IsRight (state_after (Reply n) b raw pause) (bytes ++ b ∷ []) raw pause
+reply_right n bytes b raw pause o =
+    let apart : (o.first == 99) ≡ false = (let m = o.no_end.0 in grind (arith, nat_tests)) in
+    let told : flags_reply (reading n) ≡ flags_reply (number (o.first ∷ o.more)) = ap flags_reply (tracks_reading (o.first ∷ o.more) n o.tracks) in
+    rw o.is (cond_both (b == 99) _ _ (λ (s : Step). IsRight s (27 ∷ 91 ∷ 63 ∷ o.first ∷ (o.more ++ b ∷ [])) raw pause)
+    (λ t. (decided_reply o.first (o.more ++ b ∷ []) pause apart ∙ ended EndsNoReply is_reply_end reply_tells o.more b o.no_end.1 (is_one_of b 99 117 (inl (eqb-true b 99 t))), sym (meaning_reply raw o.first o.more b ∙ rw t refl), third_apart 63 (o.first ∷ (o.more ++ b ∷ [])) refl))
+    (λ t. cond_both (b == 117) _ _ (λ (s : Step). IsRight s (27 ∷ 91 ∷ 63 ∷ o.first ∷ (o.more ++ b ∷ [])) raw pause)
+    (λ u. (decided_reply o.first (o.more ++ b ∷ []) pause apart ∙ ended EndsNoReply is_reply_end reply_tells o.more b o.no_end.1 (is_one_of b 99 117 (inr (eqb-true b 117 u))), told ∙ sym (meaning_reply raw o.first o.more b ∙ rw t refl), third_apart 63 (o.first ∷ (o.more ++ b ∷ [])) refl))
     (λ u. (
-      decided_reply first (o.more ++ b ∷ []) pause apart ∙ not_ended EndsNoReply is_reply_end reply_tells o.more b o.no_end.1 (rw (t, u) refl),
-      record { more = o.more ++ b ∷ []; is = refl; no_end = (o.no_end.0, all_push EndsNoReply o.more b o.no_end.1 (not_reply_end b (rw (t, u) refl))) },
+      decided_reply o.first (o.more ++ b ∷ []) pause apart ∙ not_ended EndsNoReply is_reply_end reply_tells o.more b o.no_end.1 (rw (t, u) refl),
+      record {
+        first = o.first;
+        more = o.more ++ b ∷ [];
+        is = refl;
+        no_end = (o.no_end.0, all_push EndsNoReply o.more b o.no_end.1 (not_reply_end b (rw (t, u) refl)));
+        tracks = tracks_more (o.first ∷ o.more) n b o.tracks;
+      },
     ))))
 
 -- a paste's text, as far as its end goes
@@ -451,7 +467,7 @@ state_right LinuxKey bytes b raw pause e = rw e (refl, refl, refl)
 state_right (X10 c) bytes b raw pause e = x10_right c bytes b raw pause e
 state_right (Sgr d) bytes b raw pause e = mouse_right d bytes b raw pause e
 state_right Private bytes b raw pause e = private_right bytes b raw pause e
-state_right (Reply first) bytes b raw pause e = reply_right first bytes b raw pause e
+state_right (Reply n) bytes b raw pause e = reply_right n bytes b raw pause e
 state_right (Numbered d p) bytes b raw pause e = number_right d p bytes b raw pause e
 state_right (Paste m) bytes b raw pause e = paste_right m bytes b raw pause e
 state_right (Utf8 c) bytes b raw pause e = begun_right c.escaped c.begun bytes b raw pause e.0 e.1

@@ -96,7 +96,7 @@ paste_after LinuxKey b raw other pause still h = absurd (false≢true h)
 paste_after (X10 c) b raw other pause still h = absurd (false≢true h)
 paste_after (Sgr d) b raw other pause still h = absurd (false≢true h)
 paste_after Private b raw other pause still h = absurd (false≢true h)
-paste_after (Reply f) b raw other pause still h = absurd (false≢true h)
+paste_after (Reply n) b raw other pause still h = absurd (false≢true h)
 paste_after (Numbered d o) b raw other pause still h = absurd (false≢true h)
 paste_after (Utf8 c) b raw other pause still h = absurd (false≢true h)
 

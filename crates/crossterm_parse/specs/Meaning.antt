@@ -14,7 +14,8 @@ use Rattle.crossterm_parse.specs.Bytes.{DEL, ESC, is_digit}
 use Rattle.crossterm_parse.specs.Grammar.{begins, paste_start}
 use Rattle.crossterm_parse.specs.Letters.{letter_key}
 use Rattle.crossterm_parse.specs.Marked.{Marked, bytes_of, last_raw}
-use Rattle.crossterm_parse.specs.Numbered.{numbered, sgr, x10_by, last_of}
+use Rattle.crossterm_parse.specs.Number.{at_most, number}
+use Rattle.crossterm_parse.specs.Numbered.{numbered, sgr, x10_by, front_of, last_of}
 use Rattle.crossterm_parse.specs.declared.meaning.Meaning.{Meaning}
 use Rattle.crossterm_parse.specs.declared.meaning.Meaning.TheVariants.{Key, Mouse, FocusGained, FocusLost, CursorPosition, KeyboardEnhancementFlags, PrimaryDeviceAttributes}
 
@@ -87,14 +88,19 @@ abbrev pub x10_meaning : List ℕ → Option Meaning
 x10_meaning (a ∷ b ∷ c ∷ bs) = x10_by a b c
 x10_meaning _ = None
 
--- The flags of a reply: the low four bits of the byte after `?`.
-abbrev pub flags_reply : ℕ → Meaning
-flags_reply b = KeyboardEnhancementFlags (record { 0 = bit_and b 15 })
+-- The flags of a number: its low five bits.
+abbrev pub flags_of : ℕ → Meaning
+flags_of n = KeyboardEnhancementFlags (record { 0 = bit_and n 31 })
 
--- A reply, from the byte after `?` to its end: `c` for the terminal's attributes, `u` for the flags of the keyboard protocol.
+-- What a reply tells of the flags, whose text is that number or none: those of a number of at most 8 bits, and else nothing.
+abbrev pub flags_reply : Option ℕ → Option Meaning
+flags_reply n = option_map flags_of (at_most 255 n)
+
+-- A reply, from the byte after `?` to its end: `c` for the terminal's attributes, `u` for the flags of the keyboard protocol, which the whole text
+-- before it tells (kitty).
 abbrev pub reply_meaning : List ℕ → Option Meaning
 reply_meaning [] = None
-reply_meaning (b ∷ bs) = Some (if last_of (b ∷ bs) == byte "c" then PrimaryDeviceAttributes else flags_reply b)
+reply_meaning (b ∷ bs) = if last_of (b ∷ bs) == byte "c" then Some PrimaryDeviceAttributes else flags_reply (number (front_of (b ∷ bs)))
 
 abbrev pub csi_meaning : Bool → List ℕ → Option Meaning
 csi_meaning raw [] = None

@@ -38,7 +38,7 @@
 //! | `Bits` | 7 | bits of a mask | |
 //! | `Mouse` | 65 | what the mouse did | `mouse.rt` |
 //! | `Numbered` | 138 | what a numbered sequence means | `numbered.rt` |
-//! | `Meaning` | 143 | what any whole sequence means | `meaning.rt` |
+//! | `Meaning` | 149 | what any whole sequence means | `meaning.rt` |
 //! | `View` | 96 | a parser as its callers see it, and what it makes of a piece | `Parser::advance`; `laws::{cuttings, two_steps_a_byte, a_step_a_byte}` |
 //! | `Giving` | 27 | its events, one after another | `Parser::{next, events}` |
 //!

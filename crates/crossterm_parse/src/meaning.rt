@@ -3,10 +3,12 @@ ghost use Rattle.std.specs.Prelude.{◌≡◌, ◌≤◌, ◌<◌, ◌&&◌, nat
 ghost use Rattle.bstr.specs.Utf8.{decoded};
 ghost use Rattle.crossterm_parse.specs.Mouse.{less};
 ghost use Rattle.crossterm_parse.specs.Numbered.{x10_by};
+ghost use Rattle.crossterm_parse.specs.inside.Numbers.{reading};
 ghost use Rattle.crossterm_parse.specs.Meaning.{pressed_with, typed, single, decoded_character, letter_meaning, after_ss3, after_csi, linux_key, flags_reply, with_alt};
 
 use crate::letters::letter_key;
 use crate::mouse::{byte_less, report};
+use crate::number::Number;
 use bstr::decode_utf8;
 use crossterm_types::event::{
     Event, InternalEvent, KeyCode, KeyEvent, KeyModifiers, KeyboardEnhancementFlags, MouseEvent,
@@ -208,11 +210,16 @@ pub fn meaning_of_linux_key(byte: u8) -> Option<Meaning>
     }
 }
 
-/// The flags that a reply tells by the byte after `?`.
-pub fn meaning_of_flags(byte: u8) -> Meaning
-    ensures { result ≡ flags_reply byte }
+/// The flags that a reply tells by the number that its text is: none where that isn't one of 8 bits.
+pub fn meaning_of_flags(number: Number) -> Option<Meaning>
+    ensures { result ≡ flags_reply (reading number) }
 {
-    Meaning::KeyboardEnhancementFlags(KeyboardEnhancementFlags::from_bits_retain(byte & 15))
+    match number.byte() {
+        Some(bits) => Some(Meaning::KeyboardEnhancementFlags(
+            KeyboardEnhancementFlags::from_bits_retain(bits & 31),
+        )),
+        None => None,
+    }
 }
 
 /// What the bytes of a character mean: that character, or nothing where they are none.

@@ -13,6 +13,7 @@ use crate::meaning::{
     meaning_of_linux_key, plus_alt, pressed_alone,
 };
 use crate::mouse::X10Report;
+use crate::number::Number;
 use crate::numbered::{Parameters, is_final_byte, is_mouse_final};
 use crate::paste::{Met, Opening};
 use crate::steps::Steps;
@@ -39,8 +40,8 @@ pub enum State {
     Sgr(Parameters),
     /// `ESC [ ?`.
     Private,
-    /// `ESC [ ?` and more, with the byte after `?`.
-    Reply(u8),
+    /// `ESC [ ?` and more, with the number that the text after `?` is so far.
+    Reply(Number),
     /// `ESC [`, a digit and more.
     Numbered(Parameters, Opening),
     /// `ESC[200~` and a text, which stands elsewhere.
@@ -109,6 +110,20 @@ fn read_report(parameters: &mut Parameters, byte: u8) -> bool
         return false;
     }
     parameters.read(byte);
+    true
+}
+
+/// Reads a byte with which a reply goes on, and tells whether it does.
+#[inline(always)]
+fn read_reply(number: &mut Number, byte: u8) -> bool
+    ensures { Reads (State.Reply number.old) (State.Reply number.new) byte result }
+{
+    if matches!(byte, b'c' | b'u') {
+        return false;
+    }
+    if !matches!(number, Number::Bad) {
+        number.read(byte);
+    }
     true
 }
 
@@ -196,7 +211,7 @@ impl State {
             State::X10(report) => report.put(byte),
             State::Sgr(parameters) => read_report(parameters, byte),
             State::Private => self.reply(byte),
-            State::Reply(_) => byte != b'c' && byte != b'u',
+            State::Reply(number) => read_reply(number, byte),
             State::Numbered(parameters, opening) => {
                 read_number(parameters, opening, byte) || self.open_paste(byte)
             }
@@ -278,7 +293,7 @@ impl State {
         if byte == b'c' {
             return false;
         }
-        *self = State::Reply(byte);
+        *self = State::Reply(Number::Empty.put(byte));
         true
     }
 
@@ -314,8 +329,8 @@ impl State {
             State::X10(report) => report.meaning(byte),
             State::Sgr(parameters) => parameters.sgr(byte),
             State::Private => Some(Meaning::PrimaryDeviceAttributes),
-            State::Reply(first) => match byte {
-                b'u' => Some(meaning_of_flags(*first)),
+            State::Reply(number) => match byte {
+                b'u' => meaning_of_flags(*number),
                 _ => Some(Meaning::PrimaryDeviceAttributes),
             },
             State::Numbered(parameters, _) => parameters.meaning(byte, raw),

@@ -13,7 +13,7 @@ use Rattle.crossterm_parse.specs.inside.Recognizer.{is_decided, ends_paste, is_f
 use Rattle.crossterm_parse.specs.Fields.{cut}
 use Rattle.crossterm_parse.specs.inside.Fields.{empty_fields, fields_after, whole_of, ReadsFields}
 use Rattle.crossterm_parse.specs.Meaning.{pressed_with, single, with_alt, after_ss3, after_csi, linux_key, flags_reply, decoded_character, meaning, seen_meaning, pasted}
-use Rattle.crossterm_parse.specs.inside.Numbers.{reading}
+use Rattle.crossterm_parse.specs.inside.Numbers.{Tracks, number_after, reading}
 use Rattle.crossterm_parse.specs.Numbered.{Readings, numbered_by, sgr_by, x10_by, last_of}
 use Rattle.crossterm_parse.specs.inside.Utf8.{utf8_after, TracksUtf8}
 use Rattle.crossterm_parse.specs.declared.character.Begun.{Begun}
@@ -23,6 +23,8 @@ use Rattle.crossterm_parse.specs.declared.meaning.Meaning.{Meaning}
 use Rattle.crossterm_parse.specs.declared.meaning.Meaning.TheVariants.{PrimaryDeviceAttributes}
 use Rattle.crossterm_parse.specs.declared.mouse.X10Report.{X10Report}
 use Rattle.crossterm_parse.specs.declared.mouse.X10Report.TheVariants as x10
+use Rattle.crossterm_parse.specs.declared.number.Number.{Number}
+use Rattle.crossterm_parse.specs.declared.number.Number.TheVariants.{Empty}
 use Rattle.crossterm_parse.specs.declared.numbered.Parameters.{Parameters}
 use Rattle.crossterm_parse.specs.declared.paste.Met.{Met}
 use Rattle.crossterm_parse.specs.declared.paste.Met.TheVariants as met
@@ -143,11 +145,11 @@ state_after Csi b raw pause =
 state_after LinuxKey b raw pause = Whole (linux_key b)
 state_after (X10 c) b raw pause = x10_after c b
 state_after (Sgr d) b raw pause = if is_mouse_end b then Whole (sgr_by b (readings_at d)) else Open (Sgr (parameters_after d b))
-state_after Private b raw pause = if b == byte "c" then Whole (Some PrimaryDeviceAttributes) else Open (Reply b)
-state_after (Reply first) b raw pause =
+state_after Private b raw pause = if b == byte "c" then Whole (Some PrimaryDeviceAttributes) else Open (Reply (number_after Empty b))
+state_after (Reply n) b raw pause =
     if b == byte "c" then Whole (Some PrimaryDeviceAttributes) else
-    if b == byte "u" then Whole (Some (flags_reply first)) else
-    Open (Reply first)
+    if b == byte "u" then Whole (flags_reply (reading n)) else
+    Open (Reply (number_after n b))
 state_after (Numbered d o) b raw pause = if is_final b then number_ends o d raw b else Open (Numbered (parameters_after d b) (opens_after o b))
 state_after (Paste m) b raw pause = met_after m b
 state_after (Utf8 c) b raw pause = step_of c.escaped (grown c.escaped c.begun b)
@@ -172,7 +174,7 @@ meaning_with LinuxKey b raw = linux_key b
 meaning_with (X10 c) b raw = x10_meaning_with c b
 meaning_with (Sgr d) b raw = sgr_by b (readings_at d)
 meaning_with Private b raw = Some PrimaryDeviceAttributes
-meaning_with (Reply first) b raw = if b == byte "u" then Some (flags_reply first) else Some PrimaryDeviceAttributes
+meaning_with (Reply n) b raw = if b == byte "u" then flags_reply (reading n) else Some PrimaryDeviceAttributes
 meaning_with (Numbered d o) b raw = numbered_by raw b (readings_at d)
 meaning_with (Paste m) b raw = None
 meaning_with (Utf8 c) b raw = character_meaning c b
@@ -213,11 +215,13 @@ IsBegun (One a) = IsLead a
 IsBegun (Two a b) = IsLead a × IsContinuing b × (0 < further_after a)
 IsBegun (Three a b c) = IsLead a × IsContinuing b × IsContinuing c × (1 < further_after a)
 
--- A reply that is open: its first byte after `?`, and what came after it.
-pub record OpenReply (first : ℕ) (bytes : List ℕ) : Type 0 where
+-- A reply that is open: its first byte after `?`, what came after it, and the number that all of these are, or none.
+pub record OpenReply (n : Number) (bytes : List ℕ) : Type 0 where
+  pub first : ℕ
   pub more : List ℕ
   pub is : bytes ≡ ESC ∷ byte "[" ∷ byte "?" ∷ first ∷ more
   pub no_end : HasNoEnd (first ∷ more)
+  pub tracks : Tracks (first ∷ more) n
 
 -- What is kept of a text tells of it.
 pub record Kept (d : Parameters) (text : List ℕ) : Type 0 where
@@ -267,7 +271,7 @@ StateRepresents LinuxKey bytes = bytes ≡ ESC ∷ byte "[" ∷ byte "[" ∷ []
 StateRepresents (X10 c) bytes = bytes ≡ ESC ∷ byte "[" ∷ byte "M" ∷ x10_bytes c
 StateRepresents (Sgr d) bytes = OpenMouse d bytes
 StateRepresents Private bytes = bytes ≡ ESC ∷ byte "[" ∷ byte "?" ∷ []
-StateRepresents (Reply first) bytes = OpenReply first bytes
+StateRepresents (Reply n) bytes = OpenReply n bytes
 StateRepresents (Numbered d o) bytes = OpenNumber d o bytes
 StateRepresents (Paste m) bytes = OpenPaste m bytes
 StateRepresents (Utf8 c) bytes = (bytes ≡ prefixed c.escaped (begun_bytes c.begun)) × IsBegun c.begun

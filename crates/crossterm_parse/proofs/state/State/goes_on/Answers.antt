@@ -16,3 +16,10 @@ returns-else-read_number-clause-no c ends raw =
     let here = c.in-Numbered.is in
     let is : c.args.self.now ≡ Numbered c.read_number.new.parameters c.read_number.new.opening = cc in
     ap (λ (s : State). state_after s c.args.byte raw c.args.pause) is ∙ c.open_paste.ensures.no ends raw c.args.pause ∙ ap (λ (s : State). Whole (meaning_with s c.args.byte raw)) (sym is)
+
+pub returns-in-Reply-clause-yes : goal.returns-in-Reply-clause-yes
+returns-in-Reply-clause-yes c goes raw = ap (λ (s : State). state_after s c.args.byte raw c.args.pause) c.in-Reply.is ∙ c.read_reply.ensures.yes goes raw c.args.pause
+
+pub returns-in-Reply-clause-no : goal.returns-in-Reply-clause-no
+returns-in-Reply-clause-no c ends raw = ap (λ (s : State). state_after s c.args.byte raw c.args.pause) c.in-Reply.is ∙ c.read_reply.ensures.no ends raw c.args.pause
+    ∙ ap (λ (s : State). Whole (meaning_with s c.args.byte raw)) (sym c.in-Reply.is)
