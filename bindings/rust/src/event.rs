@@ -79,6 +79,7 @@ bits! {
         REPORT_EVENT_TYPES = 2,
         REPORT_ALTERNATE_KEYS = 4,
         REPORT_ALL_KEYS_AS_ESCAPE_CODES = 8,
+        REPORT_ASSOCIATED_TEXT = 16,
     }
 }
 

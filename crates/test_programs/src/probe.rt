@@ -93,6 +93,7 @@ piece a^[[20;10R / position 1 -> fault Other / held key Char:61 0 Press 0
 piece ^[[?1u / keyboard 1 -> flags 1
 piece ^[[?1u^[[?62c / keyboard 3 -> flags 1
 piece ^[[?62c / keyboard 3 -> unsupported
+piece ^[[?256u^[[?62c / keyboard 3 -> unsupported
 piece ^[[20;10R / piece ^[[1;1R / position 2 / position 1 -> cursor 9 19 / cursor 0 0
 piece ^[[20;10R / piece ^[[1;1R / read event 2 / position 0 / position 0 -> none / cursor 9 19 / cursor 0 0
 piece a / wake / piece ^[[20;10R / position 9 / position 9 -> fault Other / cursor 9 19 / held key Char:61 0 Press 0
@@ -104,8 +105,13 @@ piece a^[[20;10Rb / read cursor 1 / read event 1 / read event 1 -> none / key Ch
 piece abc^[[20;10R / read flags 4 / poll cursor 0 / take cursor / take event / take event / take event -> none / true / cursor 9 19 / key Char:61 0 Press 0 / key Char:62 0 Press 0 / key Char:63 0 Press 0
 piece a / fault / piece b^[[20;10R / read cursor 9 / read cursor 9 / read event 0 / read event 0 -> fault Other / cursor 9 19 / key Char:61 0 Press 0 / key Char:62 0 Press 0
 piece ^[[?u / piece c / read attributes 2 -> attributes
-piece ^[[?15u / read flags 1 -> flags 1
-piece ^[[?uu / read flags 1 -> flags 5
+piece ^[[?15u / read flags 1 -> flags 15
+piece ^[[?31u / read flags 1 -> flags 31
+piece ^[[?255u / read flags 1 -> flags 31
+piece ^[[?256u / read flags 1 -> none
+piece ^[[?1;2u / read flags 1 -> none
+piece ^[[?uu / read flags 1 -> none
+piece ^[[?+016u / read flags 1 -> flags 16
 piece ^[[0;5R / read cursor 1 -> none
 piece ^[[20;10R / read cursor 1 -> cursor 9 19
 piece ^[[+3~ / read event 1 / read event 1 -> key Char:33 0 Press 0 / key Char:7e 0 Press 0
@@ -168,7 +174,7 @@ piece ^[[200~a / piece ^[ / resize 80 24 / piece [201~b / read event 9 / read ev
 piece ^[[1;1;{c3 a9}A / read event 1 -> key Up 0 Press 0";
 
 /// How many scripts there are.
-const CASES: usize = 103;
+const CASES: usize = 109;
 
 /// Lines that are refused, and what is said of them. A second blank before the arrow is the line's.
 const FAULTY: &str = "\

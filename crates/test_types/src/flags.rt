@@ -110,7 +110,7 @@ macro_rules! assigned {
 fn have_bits() -> bool {
     has_bits!(KeyModifiers, 63)
         && has_bits!(KeyEventState, 7)
-        && has_bits!(KeyboardEnhancementFlags, 15)
+        && has_bits!(KeyboardEnhancementFlags, 31)
 }
 
 fn know_bits() -> bool {
@@ -138,11 +138,12 @@ static STATES: [KeyEventState; 3] = [
     KeyEventState::NUM_LOCK,
 ];
 
-static ENHANCEMENTS: [KeyboardEnhancementFlags; 4] = [
+static ENHANCEMENTS: [KeyboardEnhancementFlags; 5] = [
     KeyboardEnhancementFlags::DISAMBIGUATE_ESCAPE_CODES,
     KeyboardEnhancementFlags::REPORT_EVENT_TYPES,
     KeyboardEnhancementFlags::REPORT_ALTERNATE_KEYS,
     KeyboardEnhancementFlags::REPORT_ALL_KEYS_AS_ESCAPE_CODES,
+    KeyboardEnhancementFlags::REPORT_ASSOCIATED_TEXT,
 ];
 
 #[test]
@@ -260,6 +261,8 @@ fn iter_gives_each_part(rt: HostRuntime) {
     expect!(rt; modifier_parts(65) == [Some(1), Some(64), None, None, None]);
     expect!(rt; state_parts(134) == [Some(2), Some(4), Some(128), None, None]);
     expect!(rt; enhancement_parts(9) == [Some(1), Some(8), None, None, None]);
+    expect!(rt; enhancement_parts(80) == [Some(16), Some(64), None, None, None]);
+    expect!(rt; enhancement_parts(31) == [Some(1), Some(2), Some(4), Some(8), Some(16)]);
     expect!(rt; modifier_parts(KeyModifiers::NONE.bits()) == [None; 5]);
 }
 
@@ -283,7 +286,7 @@ fn modifiers_print_their_names(rt: HostRuntime) {
 /// A set's bits, and what Debug shows of each type for them.
 type Shown = (u8, &'static str, &'static str, &'static str);
 
-static SHOWN: [Shown; 4] = [
+static SHOWN: [Shown; 5] = [
     (
         0,
         "KeyModifiers(0x0)",
@@ -295,6 +298,12 @@ static SHOWN: [Shown; 4] = [
         "KeyModifiers(SHIFT | CONTROL)",
         "KeyEventState(KEYPAD | CAPS_LOCK)",
         "KeyboardEnhancementFlags(DISAMBIGUATE_ESCAPE_CODES | REPORT_EVENT_TYPES)",
+    ),
+    (
+        24,
+        "KeyModifiers(SUPER | HYPER)",
+        "KeyEventState(0x18)",
+        "KeyboardEnhancementFlags(REPORT_ALL_KEYS_AS_ESCAPE_CODES | REPORT_ASSOCIATED_TEXT)",
     ),
     (
         65,

@@ -193,7 +193,7 @@ fn parts_are_carried(rt: HostRuntime) {
     expect!(rt; carried!(alloc; MouseEventKind, MouseEventKind::Drag(MouseButton::Right)));
     expect!(rt; carried_flags!(KeyModifiers, 255));
     expect!(rt; carried_flags!(KeyEventState, 128));
-    expect!(rt; carried_flags!(KeyboardEnhancementFlags, 31));
+    expect!(rt; carried_flags!(KeyboardEnhancementFlags, 63));
     expect!(rt; matches!(KeyModifiers::from_value(&Value::from(256u16)), Err(ValueFault::Shape)));
 }
 
