@@ -59,7 +59,7 @@ paste_goes_on LinuxKey new b raw pause h e = cc
 paste_goes_on (X10 c) new b raw pause h e = cc
 paste_goes_on (Sgr d) new b raw pause h e = cc
 paste_goes_on Private new b raw pause h e = cc
-paste_goes_on (Reply f) new b raw pause h e = cc
+paste_goes_on (Reply n) new b raw pause h e = cc
 paste_goes_on (Numbered d o) new b raw pause h e = cc
 paste_goes_on (Utf8 c) new b raw pause h e = cc
 

@@ -81,7 +81,7 @@ state_at numbers =
     if numbers.kind == 5 then state.X10 (x10_at numbers.begun) else
     if numbers.kind == 6 then state.Sgr (parameters_at numbers) else
     if numbers.kind == 7 then state.Private else
-    if numbers.kind == 8 then state.Reply numbers.last else
+    if numbers.kind == 8 then state.Reply (number_at numbers.one) else
     if numbers.kind == 9 then state.Numbered (parameters_at numbers) (opening_at numbers.opening) else
     if numbers.kind == 10 then state.Paste (met_at numbers.opening) else
     if numbers.kind == 11 then state.Utf8 (record { escaped = not (numbers.escaped == 0); begun = begun_at numbers.begun }) else

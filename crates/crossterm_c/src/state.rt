@@ -47,7 +47,7 @@ pub struct GelvanhState {
     pub part_two: u8,
     /// The field that is being read.
     pub place: u8,
-    /// The last byte of a numbered sequence, or the first of a reply.
+    /// The last byte of a numbered sequence.
     pub last: u8,
     /// Whether the bytes of a numbered sequence are UTF-8.
     pub validity: u8,
@@ -57,7 +57,7 @@ pub struct GelvanhState {
     pub escaped: u8,
     /// The bytes of a character so far, or those of a report of the mouse.
     pub begun: GelvanhBytes,
-    /// The first field's first part.
+    /// The first field's first part, or the text of a reply.
     pub one: GelvanhNumber,
     /// The first field's second part.
     pub one_more: GelvanhNumber,
@@ -316,9 +316,9 @@ pub fn flatten(state: &State) -> GelvanhState
         }
         State::Sgr(parameters) => flat_parameters(6, parameters, 0),
         State::Private => empty(7),
-        State::Reply(first) => {
+        State::Reply(number) => {
             let mut flat = empty(8);
-            flat.last = *first;
+            flat.one = flat_number(*number);
             flat
         }
         State::Numbered(parameters, opening) => flat_parameters(
@@ -356,7 +356,7 @@ pub fn state_of(flat: &GelvanhState) -> State
         }),
         6 => State::Sgr(parameters_of(flat)),
         7 => State::Private,
-        8 => State::Reply(flat.last),
+        8 => State::Reply(number_of(flat.one)),
         9 => State::Numbered(parameters_of(flat), opening_of(flat.opening)),
         10 => State::Paste(met_of(flat.opening)),
         11 => State::Utf8(Character {

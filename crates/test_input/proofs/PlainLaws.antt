@@ -16,10 +16,14 @@ use Rattle.crossterm_parse.specs.inside.Recognizer.{is_whole, is_decided, is_sha
 use Rattle.crossterm_parse.specs.Division.{Divides, IsUndecided}
 use Rattle.crossterm_parse.specs.Meaning.{reply_meaning, csi_meaning, flags_reply, meaning, meaning_seen, meaning_of, seen_meaning}
 use Rattle.crossterm_parse.specs.inside.Automaton.{Kept, parameters_after, readings_at}
+use Rattle.crossterm_parse.specs.inside.Numbers.{Tracks, number_after, reading}
+use Rattle.crossterm_parse.specs.Number.{number}
 use Rattle.crossterm_parse.specs.Numbered.{Readings, readings_of, numbered, sgr, last_of, front_of}
 use Rattle.crossterm_parse.specs.declared.meaning.Meaning.{Meaning}
 use Rattle.crossterm_parse.specs.declared.meaning.Meaning.TheVariants.{PrimaryDeviceAttributes}
+use Rattle.crossterm_parse.specs.declared.number.Number.{Number}
 use Rattle.crossterm_parse.specs.declared.numbered.Parameters.{Parameters}
+use Rattle.crossterm_parse.proofs.NumberLaws.{tracks_more, tracks_reading}
 use Rattle.crossterm_parse.proofs.MachineLaws.{kept_more, kept_readings, last_at, front_at}
 use Rattle.crossterm_parse.proofs.DivisionLaws.{divide_whole, divide_open, nil_undecided}
 use Rattle.crossterm_parse.proofs.GrammarLaws.{digit_apart, bytes_of-append, true_whole, whole_true, nil_not_whole}
@@ -109,10 +113,22 @@ number_next d new text i b l is e k =
 pub number_over : (d : Parameters) (text : List ℕ) (i : ℕ) → length text ≤ i → Kept d (take i text) → readings_at d ≡ readings_of text
 number_over d text i l k = kept_readings d text (subst (Kept d) (take_all i text l) k)
 
--- what a reply means, by its last byte and its first
-pub reply_at : (bytes : List ℕ) → 0 < length bytes → reply_meaning bytes ≡ Some (cond (get_or bytes (length bytes - 1) 0 == 99) PrimaryDeviceAttributes (flags_reply (get_or bytes 0 0)))
+-- one more byte of a number
+pub digit_next : (n : Number) (text : List ℕ) (i b : ℕ) → i < length text → b ≡ get_or text i 0 → Tracks (take i text) n → Tracks (take (i + 1) text) (number_after n b)
+digit_next n text i b l is h =
+    let longer : take (i + 1) text ≡ take i text ++ b ∷ [] = take_more text i 0 l ∙ ap (λ (c : ℕ). take i text ++ c ∷ []) (sym is) in
+    subst (λ (bs : List ℕ). Tracks bs (number_after n b)) (sym longer) (tracks_more (take i text) n b h)
+
+pub digits_over : (n : Number) (text : List ℕ) (i : ℕ) → length text ≤ i → Tracks (take i text) n → reading n ≡ number text
+digits_over n text i l h = tracks_reading text n (subst (λ (bs : List ℕ). Tracks bs n) (take_all i text l) h)
+
+-- what a reply means, by its last byte and what stands before it
+pub reply_at : (bytes : List ℕ) → 1 ≤ length bytes
+    → reply_meaning bytes ≡ cond (get_or bytes (length bytes - 1) 0 == 99) (Some PrimaryDeviceAttributes) (flags_reply (number (take (length bytes - 1) bytes)))
 reply_at [] h = absurd (omega arith)
-reply_at (b ∷ bs) h = ap (λ (l : ℕ). Some (cond (l == 99) PrimaryDeviceAttributes (flags_reply b))) (last_at (b ∷ bs) h)
+reply_at (b ∷ bs) h =
+    ap (λ (l : ℕ). cond (l == 99) (Some PrimaryDeviceAttributes) (flags_reply (number (front_of (b ∷ bs))))) (last_at (b ∷ bs) h)
+    ∙ ap (λ (text : List ℕ). cond (get_or (b ∷ bs) (length (b ∷ bs) - 1) 0 == 99) (Some PrimaryDeviceAttributes) (flags_reply (number text))) (front_at (b ∷ bs))
 
 -- what is read before the last byte, and that byte
 pub read_at : (means : ℕ → Readings → Option Meaning) (bytes : List ℕ) (r : Readings) → 1 ≤ length bytes → r ≡ readings_of (take (length bytes - 1) bytes)

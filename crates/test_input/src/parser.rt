@@ -115,7 +115,7 @@ static AT_ONCE: [(&str, &[u8]); 12] = [
     ("keys", b"\x1b[1;2:3A\x1b[3;65~\x1b[97:65;2u\x1b[57399;129u"),
     (
         "replies",
-        b"\x1b[[A\x1b[?1u\x1b[?c\x1b[?uu\x1b[20;10R\x1b[0;5R",
+        b"\x1b[[A\x1b[?1u\x1b[?c\x1b[?uu\x1b[20;10R\x1b[0;5R\x1b[?+016u\x1b[?256u\x1b[?1;2u\x1b[?62;4c",
     ),
     (
         "characters in numbers",

@@ -142,13 +142,14 @@ fn greatest_block(heap: &LocalHeap) -> usize {
 }
 
 /// The fronts of sequences that needn't end, and the byte that goes on with each.
-static ENDLESS: [(&[u8], u8); 6] = [
+static ENDLESS: [(&[u8], u8); 7] = [
     (b"\x1b[", b'0'),
     (b"\x1b[1;2", b'5'),
     (b"\x1b[1", b';'),
     (b"\x1b[<", b'0'),
     (b"\x1b[<0;1;1", b';'),
     (b"\x1b[?", b'1'),
+    (b"\x1b[?1", b';'),
 ];
 
 /// Whether so long a sequence is taken, and all of the heap stays free while it is open.

@@ -1,13 +1,16 @@
 //! What whole sequences mean, by their complete bytes.
 ghost use Rattle.std.specs.Prelude.{◌≡◌};
 ghost use Rattle.crossterm_parse.specs.inside.Automaton.{readings_at};
+ghost use Rattle.crossterm_parse.specs.inside.Numbers.{reading};
 ghost use Rattle.crossterm_parse.specs.Meaning.{character_meaning, x10_meaning, reply_meaning, csi_meaning, escape_meaning, meaning};
+ghost use Rattle.crossterm_parse.specs.Number.{number};
 ghost use Rattle.crossterm_parse.specs.Numbered.{numbered, readings_of, sgr};
 
 use crossterm_parse::meaning::{
     Meaning, meaning_after_csi, meaning_after_ss3, meaning_of_byte, meaning_of_character,
     meaning_of_flags, meaning_of_linux_key, meaning_of_x10, plus_alt, pressed_alone,
 };
+use crossterm_parse::number::Number;
 use crossterm_parse::numbered::Parameters;
 use crossterm_types::event::KeyCode;
 
@@ -31,6 +34,17 @@ fn read_digits(text: &[u8]) -> Parameters
         parameters.read(*byte);
     }
     parameters
+}
+
+/// The number that a text is, or none.
+fn read_number(text: &[u8]) -> Number
+    ensures { reading result ≡ number text.now }
+{
+    let mut read = Number::Empty;
+    for byte in text {
+        read = read.put(*byte);
+    }
+    read
 }
 
 /// What a numbered sequence means, from the first digit on.
@@ -67,13 +81,11 @@ fn meaning_of_three(bytes: &[u8]) -> Option<Meaning>
 fn meaning_of_reply(bytes: &[u8]) -> Option<Meaning>
     ensures { result ≡ reply_meaning bytes.now }
 {
-    if bytes.is_empty() {
-        return None;
+    match bytes {
+        [] => None,
+        [.., b'c'] => Some(Meaning::PrimaryDeviceAttributes),
+        [text @ .., _] => meaning_of_flags(read_number(text)),
     }
-    if bytes[bytes.len() - 1] == b'c' {
-        return Some(Meaning::PrimaryDeviceAttributes);
-    }
-    Some(meaning_of_flags(bytes[0]))
 }
 
 /// What is meant by what stands after `ESC [`.
