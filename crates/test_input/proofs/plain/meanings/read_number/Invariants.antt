@@ -1,6 +1,6 @@
 use Rattle.std.proofs.Common.{take}
 use Rattle.crossterm_parse.specs.inside.Numbers.{Tracks}
-use Rattle.crossterm_tests.proofs.plain.meanings.read_number.Given as goal
+use Rattle.test_input.proofs.plain.meanings.read_number.Given as goal
 
 -- the bytes before this one are read
 abbrev pub invariant-loop-byte : goal.invariant-loop-byte
