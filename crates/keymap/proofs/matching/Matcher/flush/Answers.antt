@@ -1,0 +1,16 @@
+use Rattle.std.proofs.Common.{◌≡◌, [], ◌∷◌, ◌++◌, map, refl, ap, ◌∙◌, subst}
+use Rattle.keymap.specs.Bindings.{bound_of}
+use Rattle.keymap.specs.Cut.{cut}
+use Rattle.keymap.specs.Matching.{Matching, IsFlushed}
+use Rattle.keymap.specs.Told.{told}
+use Rattle.keymap.specs.inside.Giving.{state_of}
+use Rattle.keymap.proofs.Giving.{flushed}
+use Rattle.keymap.proofs.matching.Matcher.flush.Goals as goal
+
+pub returns-clause-ok : goal.returns-clause-ok
+returns-clause-ok g c =
+    let bound = bound_of c.self.inside.keymap in
+    let old = state_of c.self.inside.keymap c.self.inside.passes c.self.inside.undecided c.self.inside.waiting.items in
+    let new = state_of c.self.inside.keymap c.self.inside.passes c.give_all.new.keys c.give_all.new.waiting.items in
+    subst (λ (m : Matching). IsFlushed m new) c.self.view_is
+    (flushed old new refl refl (c.give_all.ensures.waiting ∙ ap (λ items. map told items ++ cut bound c.self.inside.undecided) c.reserve.ensures.items) c.give_all.ensures.keys)

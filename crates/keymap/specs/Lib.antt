@@ -1,0 +1,11 @@
+pub mod Chords
+pub mod Told
+pub mod Cut
+pub mod Bindings
+pub mod Matching
+pub mod Runs
+pub mod Taking
+pub mod Stepping
+pub mod Rows
+pub mod Deciding
+pub mod inside

@@ -1,0 +1,50 @@
+//! Key bindings above a shared reader: lists of chords are bound to actions, and keys as they come are cut into the longest bound lists.
+//!
+//! A chord is a key with its modifiers. Keys are fed to a `Matcher`, which gives an outcome as soon as it is decided: the action of a bound
+//! list, or a key that begins none. `Matcher::step` reads the keys from a `crossterm_read::read::EventReader`.
+//!
+//! ```
+//! let mut keymap = Keymap::new(alloc);
+//! let go = keymap.bind(&[KeyEvent::from(KeyCode::Char('g'))], "go")?;
+//! let mut matcher = Matcher::new(alloc, keymap);
+//! matcher.feed(KeyEvent::from(KeyCode::Char('g')))?;
+//! assert_eq!(matcher.next(), Some(Outcome::Action(go)));
+//! ```
+//!
+//! It stands on `crossterm_types`, for keys and their equality, and on `crossterm_read`, for a reader that threads share, by their public
+//! contracts alone.
+//!
+//! What to believe, in the order in which it reads (`specs/`), and where it is proved:
+//!
+//! | Definitions | Of | Contract |
+//! |---|---|---|
+//! | `Told` | outcomes as a clause sees them | |
+//! | `Chords` | chords, and which bound lists some keys begin with | |
+//! | `Cut` | the cut of keys by bound lists, and what of it is given | |
+//! | `Deciding` | what is given is exactly what no further key can change | `laws::given` |
+//! | `Bindings` | what a keymap binds, and what it refuses | `Keymap` |
+//! | `Matching` | a matcher, and what it is fed | `Matcher::{new, passing, feed, flush, next}` |
+//! | `Runs` | any run of feeding, flushing and taking | `laws::runs` |
+//! | `Taking` | what becomes of an event | `Matcher::step` |
+//! | `Stepping` | a step over a reader | `Matcher::step` |
+//! | `Rows` | some keys, and what they are cut into | `rows::some_cuts` |
+//!
+//! A function's proof stands in `proofs/` at the function's path; where there is no file, the prover found it by itself.
+#![tactic(auto)]
+
+mod bindings;
+mod chords;
+mod fault;
+mod inside;
+pub mod laws;
+mod matching;
+mod outcome;
+pub mod rows;
+mod stepping;
+mod taking;
+mod undecided;
+
+pub use bindings::Keymap;
+pub use fault::KeymapFault;
+pub use matching::Matcher;
+pub use outcome::Outcome;

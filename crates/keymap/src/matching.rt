@@ -1,0 +1,256 @@
+//! Keys become outcomes as soon as these are decided.
+ghost use Rattle.std.specs.Prelude.{◌≡◌, ◌<◌, ◌≤◌, ◌+◌, ℕ, true, false, [], ◌∷◌, ◌++◌, List, length, map, drop, IfErr, OnOk, OnErr};
+ghost use Rattle.std.specs.Option.{option_map};
+ghost use Rattle.std.specs.VecDeque.{deque_len, deque_capacity};
+ghost use Rattle.keymap.specs.Bindings.{bound_of, AreShort};
+ghost use Rattle.keymap.specs.Chords.{longest};
+ghost use Rattle.keymap.specs.Cut.{cut, given, left, told_of, more_of};
+ghost use Rattle.keymap.specs.Matching.{IsFed, IsFlushed, StandsFor, TakesFirst};
+ghost use Rattle.keymap.specs.Told.{told};
+ghost use Rattle.keymap.specs.inside.Giving.{after_first, told_first};
+ghost use Rattle.keymap.specs.declared.fault.KeymapFault.TheVariants.{Memory};
+
+use crate::bindings::Keymap;
+use crate::fault::KeymapFault;
+use crate::inside::Match;
+use crate::outcome::Outcome;
+use crate::undecided::{LIMIT, Undecided};
+use crossterm_types::event::KeyEvent;
+use std::alloc::{Allocator, Global};
+use std::collections::VecDeque;
+use std::marker::Model;
+
+/// Cuts keys into bound lists as they come, and gives each outcome as soon as it is decided.
+///
+/// It keeps at most 7 undecided keys, for which it takes no memory. Its bindings stay as they are.
+///
+/// A program that reads the terminal by `step` wants `Matcher::passing`: there a key that is let go breaks no sequence of keys.
+///
+/// ```
+/// let mut matcher = Matcher::passing(alloc, keymap);
+/// matcher.feed(KeyEvent::from(KeyCode::Char('g')))?;
+/// match matcher.next() {
+///     Some(Outcome::Action(number)) => run(matcher.keymap().action(number)),
+///     Some(Outcome::Key(key)) => insert(key),
+///     Some(Outcome::Event(_)) | None => {}
+/// }
+/// ```
+#[derive(Drop)]
+pub struct Matcher<A: Allocator = Global> {
+    pub(crate) keymap: Keymap<A>,
+    pub(crate) passes: bool,
+    pub(crate) undecided: Undecided,
+    pub(crate) waiting: VecDeque<Outcome<A>, A>,
+}
+
+impl<A: Allocator> Model for Matcher<A> {
+    ghost use Rattle.std.specs.Prelude.{map, length, ◌<◌};
+    ghost use Rattle.keymap.specs.Matching.{Matching};
+    ghost use Rattle.keymap.specs.Told.{told};
+
+    ghost Value = { Matching };
+
+    ghost view = { λ m. record { keymap = m.keymap; passes = m.passes; undecided = m.undecided; waiting = map told m.waiting.items } };
+
+    ghost invariant = { λ m. length m.undecided < 8 };
+}
+
+// The first of some keys.
+#[tactic(auto, using(crate::proofs::Giving::first_and_rest))]
+fn first_of(keys: &[KeyEvent]) -> KeyEvent
+    requires { 0 < length keys.now }
+    ensures { keys.now ≡ result ∷ drop 1 keys.now }
+{
+    keys[0]
+}
+
+// What stands where a list is matched or not.
+fn outcome_of<A: Allocator>(key: KeyEvent, found: Option<Match>) -> Outcome<A>
+    ensures { told result ≡ told_of key found }
+{
+    match found {
+        Some(found) => Outcome::Action(found.number),
+        None => Outcome::Key(key),
+    }
+}
+
+// How many keys belong to a place: one where no list is matched.
+fn count_of(found: Option<Match>) -> usize
+    ensures { result ≡ more_of found + 1 }
+{
+    match found {
+        Some(found) => found.count.max(1),
+        None => 1,
+    }
+}
+
+// Gives what stands at the first place, and goes past it.
+fn give_first<A: Allocator>(
+    keymap: &Keymap<A>,
+    keys: &mut Undecided,
+    waiting: &mut VecDeque<Outcome<A>, A>,
+)
+    requires some { 0 < length keys.old }
+    requires room { deque_len waiting.old < deque_capacity waiting.old }
+    ensures waiting { map told waiting.new.items ≡ map told waiting.old.items ++ told_first (bound_of keymap.now) keys.old }
+    ensures keys { keys.new ≡ after_first (bound_of keymap.now) keys.old }
+    ensures fewer { length keys.new < length keys.old }
+    ensures len { deque_len waiting.new ≡ deque_len waiting.old + 1 }
+    ensures capacity { deque_capacity waiting.new ≡ deque_capacity waiting.old }
+{
+    let remaining = keys.as_slice();
+    let key = first_of(remaining);
+    let found = keymap.longest(remaining);
+    waiting.push_back_reserved(outcome_of(key, found));
+    keys.go_past(count_of(found));
+}
+
+// Gives what is decided, and keeps the other keys.
+pub(crate) fn give_decided<A: Allocator>(
+    keymap: &Keymap<A>,
+    keys: &mut Undecided,
+    waiting: &mut VecDeque<Outcome<A>, A>,
+)
+    requires { deque_len waiting.old + length keys.old ≤ deque_capacity waiting.old }
+    ensures waiting { map told waiting.new.items ≡ map told waiting.old.items ++ given (bound_of keymap.now) keys.old }
+    ensures keys { keys.new ≡ left (bound_of keymap.now) keys.old }
+    ensures short { length keys.new < 8 }
+    ensures capacity { deque_capacity waiting.new ≡ deque_capacity waiting.old }
+{
+    while !keys.is_empty() {
+        if keymap.is_begun(keys.as_slice()) {
+            return;
+        }
+        give_first(keymap, keys, waiting);
+    }
+}
+
+// Gives all.
+pub(crate) fn give_all<A: Allocator>(
+    keymap: &Keymap<A>,
+    keys: &mut Undecided,
+    waiting: &mut VecDeque<Outcome<A>, A>,
+)
+    requires { deque_len waiting.old + length keys.old ≤ deque_capacity waiting.old }
+    ensures waiting { map told waiting.new.items ≡ map told waiting.old.items ++ cut (bound_of keymap.now) keys.old }
+    ensures keys { keys.new ≡ [] }
+    ensures room { deque_len waiting.new ≤ deque_len waiting.old + length keys.old }
+    ensures capacity { deque_capacity waiting.new ≡ deque_capacity waiting.old }
+{
+    while !keys.is_empty() {
+        give_first(keymap, keys, waiting);
+    }
+}
+
+impl<A: Allocator> Matcher<A> {
+    // A matcher that was fed nothing, and passes releases and modifier keys on or not.
+    fn with(alloc: A, keymap: Keymap<A>, passes: bool) -> Self
+        ensures { result ≡ record { keymap = keymap; passes = passes; undecided = []; waiting = [] } }
+    {
+        Matcher {
+            keymap,
+            passes,
+            undecided: Undecided::new(),
+            waiting: VecDeque::new(alloc),
+        }
+    }
+
+    /// A matcher that was fed nothing.
+    ///
+    /// In its `step` each event but a press flushes. So where a terminal reports releases (`REPORT_EVENT_TYPES`), no list of two chords can
+    /// match: the release of the first key flushes. And where it reports all keys (`REPORT_ALL_KEYS_AS_ESCAPE_CODES`), a press of Shift alone
+    /// breaks a sequence of keys. `passing` makes a matcher without these two.
+    ///
+    /// ```
+    /// let mut matcher = Matcher::new(alloc, keymap);
+    /// ```
+    pub fn new(alloc: A, keymap: Keymap<A>) -> Self
+        ensures { result ≡ record { keymap = keymap; passes = false; undecided = []; waiting = [] } }
+    {
+        Matcher::with(alloc, keymap, false)
+    }
+
+    /// A matcher that was fed nothing, and that passes releases and modifier keys on: in its `step` a key that is let go, and a modifier key
+    /// that is pressed alone, stands as `Outcome::Event` without a flush. The keys before it wait as they did.
+    ///
+    /// A list that binds a modifier key itself never matches in its `step`. `feed` is the same for both matchers.
+    ///
+    /// ```
+    /// let mut matcher = Matcher::passing(alloc, keymap);
+    /// ```
+    pub fn passing(alloc: A, keymap: Keymap<A>) -> Self
+        ensures { result ≡ record { keymap = keymap; passes = true; undecided = []; waiting = [] } }
+    {
+        Matcher::with(alloc, keymap, true)
+    }
+
+    /// The bindings.
+    ///
+    /// ```
+    /// let action = matcher.keymap().action(0);
+    /// ```
+    pub fn keymap(&self) -> &Keymap<A>
+        ensures { result.now ≡ self.now.keymap }
+    {
+        &self.keymap
+    }
+
+    /// Takes the first outcome that waits, or gives `None` where there is none. This takes no memory.
+    ///
+    /// ```
+    /// while let Some(outcome) = matcher.next() {
+    ///     show(outcome);
+    /// }
+    /// ```
+    pub fn next(&mut self) -> Option<Outcome<A>>
+        ensures { TakesFirst self.old (option_map told result) self.new }
+    {
+        self.waiting.pop_front()
+    }
+
+    /// Takes one more key, and gives what is decided by it. Fewer than eight keys are undecided then.
+    ///
+    /// After some keys since the last flush the outcomes are those at the places of their cut before the first undecided one. The key's kind
+    /// doesn't count: a release that is fed matches as a press does.
+    ///
+    /// # Errors
+    /// `Memory` where memory was refused. Then nothing has changed.
+    ///
+    /// ```
+    /// matcher.feed(KeyEvent::new(KeyCode::Char('x'), KeyModifiers::CONTROL))?;
+    /// ```
+    pub fn feed(&mut self, key: KeyEvent) -> Result<(), KeymapFault>
+        ensures ok { OnOk result (IsFed self.old key self.new) }
+        ensures err { OnErr result (self.new ≡ self.old) }
+        ensures fault { IfErr result (λ fault. fault ≡ Memory) }
+    {
+        match self.waiting.reserve(LIMIT) {
+            Ok(()) => {}
+            Err(_) => return Err(KeymapFault::Memory),
+        }
+        self.undecided.push(key);
+        give_decided(&self.keymap, &mut self.undecided, &mut self.waiting);
+        Ok(())
+    }
+
+    /// Gives the rest of the cut of the keys since the last flush. The matching begins anew.
+    ///
+    /// # Errors
+    /// `Memory` where memory was refused. Then nothing has changed.
+    ///
+    /// ```
+    /// matcher.flush()?;
+    /// ```
+    pub fn flush(&mut self) -> Result<(), KeymapFault>
+        ensures ok { OnOk result (IsFlushed self.old self.new) }
+        ensures err { OnErr result (self.new ≡ self.old) }
+        ensures fault { IfErr result (λ fault. fault ≡ Memory) }
+    {
+        match self.waiting.reserve(LIMIT) {
+            Ok(()) => {}
+            Err(_) => return Err(KeymapFault::Memory),
+        }
+        give_all(&self.keymap, &mut self.undecided, &mut self.waiting);
+        Ok(())
+    }
+}

@@ -1,0 +1,78 @@
+//! A matcher over a reader that threads share.
+ghost use Rattle.std.specs.Prelude.{◌≤◌};
+ghost use Rattle.crossterm_read.specs.Seats.{knows};
+ghost use Rattle.crossterm_read.specs.Shared.{IsPassOf};
+ghost use Rattle.keymap.specs.Stepping.{Steps, step_answer};
+
+use crate::matching::Matcher;
+use crate::outcome::Outcome;
+use crate::taking::{flush, pop, take_event};
+use crate::undecided::LIMIT;
+use crossterm_read::read::{EventReader, Pass};
+use crossterm_read::source::EventSource;
+use crossterm_types::event::filter::AnyFilter;
+use crossterm_types::event::timeout::Clock;
+use std::alloc::Allocator;
+use std::io;
+use std::sync::Wait;
+use std::time::Duration;
+
+impl<A: Allocator + Clone> Matcher<A> {
+    /// Gives an outcome that waits. Else it polls the reader with the limit: where an event is there it reads one, and where none came within the
+    /// limit it flushes. Then it gives the first outcome, or `None`.
+    ///
+    /// A key that isn't let go is fed. Any other event flushes, and then stands as an outcome of its own; a matcher made by `passing` passes
+    /// releases and modifier keys on without a flush. The read waits where another pass took the event before. With no limit the poll waits.
+    ///
+    /// # Errors
+    /// Those of the poll and of the read, which change nothing in the matcher, and `OutOfMemory` where there was no room for what may come.
+    /// Then nothing was asked.
+    ///
+    /// ```
+    /// let outcome = matcher.step(&rt, &reader, &mut pass, Some(Duration::from_millis(500)), &mut clock)?;
+    /// ```
+    pub fn step<S: EventSource<A>, C: Clock, R: Wait>(
+        &mut self,
+        rt: &R,
+        reader: &EventReader<S, A>,
+        pass: &mut Pass<S, A>,
+        limit: Option<Duration>,
+        clock: &mut C,
+    ) -> io::Result<Option<Outcome<A>>>
+        requires { IsPassOf reader.now pass.old }
+        ensures pass { IsPassOf reader.now pass.new }
+        ensures step { Steps S.drawn S.asked limit (C.told clock.old) (C.told clock.new) self.old (knows pass.old) self.new (knows pass.new) (step_answer result) }
+        ensures later { C.told clock.old ≤ C.told clock.new }
+    {
+        match pop(&mut self.waiting) {
+            Some(outcome) => return Ok(Some(outcome)),
+            None => {}
+        }
+        match self.waiting.reserve(LIMIT + 1) {
+            Ok(()) => {}
+            Err(_) => return Err(io::Error::from(io::ErrorKind::OutOfMemory)),
+        }
+        match reader.poll_by(rt, pass, limit, clock, AnyFilter::Event) {
+            Ok(true) => match reader.read(rt, pass) {
+                Ok(event) => {
+                    take_event(
+                        &self.keymap,
+                        self.passes,
+                        &mut self.undecided,
+                        &mut self.waiting,
+                        event,
+                    );
+                    let came = pop(&mut self.waiting);
+                    Ok(came)
+                }
+                Err(error) => Err(error),
+            },
+            Ok(false) => {
+                flush(&self.keymap, &mut self.undecided, &mut self.waiting);
+                let left = pop(&mut self.waiting);
+                Ok(left)
+            }
+            Err(error) => Err(error),
+        }
+    }
+}
