@@ -38,13 +38,7 @@ fn way_of_key(passes: bool, key: &KeyEvent) -> Way
                 Way::Feed(*key)
             }
         }
-        KeyEventKind::Release => {
-            if passes {
-                Way::Pass
-            } else {
-                Way::Follow
-            }
-        }
+        KeyEventKind::Release => { if passes { Way::Pass } else { Way::Follow } }
     }
 }
 

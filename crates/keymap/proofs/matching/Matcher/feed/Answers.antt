@@ -14,6 +14,6 @@ returns-clause-ok g c =
     let new = state_of c.self.inside.keymap c.self.inside.passes c.give_decided.new.keys c.give_decided.new.waiting.items in
     subst (λ (m : Matching). IsFed m c.args.key new) c.self.view_is
     (fed old new c.args.key refl refl c.give_decided.ensures.short
-        (c.give_decided.ensures.waiting ∙ ap (λ items. map told items ++ given bound c.push.new.self) c.reserve.ensures.items
-            ∙ ap (λ keys. map told c.self.inside.waiting.items ++ given bound keys) c.push.ensures)
-        (c.give_decided.ensures.keys ∙ ap (left bound) c.push.ensures))
+    (c.give_decided.ensures.waiting ∙ ap (λ items. map told items ++ given bound c.push.new.self) c.reserve.ensures.items
+    ∙ ap (λ keys. map told c.self.inside.waiting.items ++ given bound keys) c.push.ensures)
+    (c.give_decided.ensures.keys ∙ ap (left bound) c.push.ensures))

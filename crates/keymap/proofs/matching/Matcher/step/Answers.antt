@@ -18,7 +18,7 @@ returns-in-Some-clause-step g c =
     let new = state_of c.self.inside.keymap c.self.inside.passes c.self.inside.undecided c.pop.new.waiting.items in
     subst (λ (m : Matching). Steps g.S.EventSource.drawn g.S.EventSource.asked c.args.limit (g.C.Clock.told c.args.clock.now) (g.C.Clock.told c.args.clock.now) m (knows c.args.pass.now) new (knows c.args.pass.now) (Gave (Some (told c.in-Some.outcome)))) c.self.view_is
     (waited (told c.in-Some.outcome)
-        (takes c.self.inside.keymap c.self.inside.passes c.self.inside.undecided (map told c.self.inside.waiting.items) (map told c.pop.new.waiting.items) (Some (told c.in-Some.outcome)) c.in-Some.ensures.first) refl refl)
+    (takes c.self.inside.keymap c.self.inside.passes c.self.inside.undecided (map told c.self.inside.waiting.items) (map told c.pop.new.waiting.items) (Some (told c.in-Some.outcome)) c.in-Some.ensures.first) refl refl)
 
 pub returns-in-Err-read-clause-step : goal.returns-in-Err-read-clause-step
 returns-in-Err-read-clause-step g c =
@@ -50,7 +50,7 @@ returns-in-Ok-read-clause-step g c =
     let polled = subst (λ (ready : Bool). Polls g.S.EventSource.drawn g.S.EventSource.asked filters.Event c.args.limit (g.C.Clock.told c.args.clock.now) (g.C.Clock.told c.poll_by.new.clock) (knows c.args.pass.now) (knows c.poll_by.new.pass) (Ok ready)) c.in-Ok-true.field-0-test c.in-Ok-true.ensures.call in
     subst (λ (m : Matching). Steps g.S.EventSource.drawn g.S.EventSource.asked c.args.limit (g.C.Clock.told c.args.clock.now) (g.C.Clock.told c.poll_by.new.clock) m (knows c.args.pass.now) new (knows c.read.new.pass) (Gave (option_map told c.pop-came.result))) c.self.view_is
     (came none.0 (knows c.poll_by.new.pass) polled (seen_event c.in-Ok-read.event) c.in-Ok-read.ensures.call taken (subst (λ (m : Matching). TakesEvent m (seen_event c.in-Ok-read.event) taken) same c.take_event.ensures.taken)
-        (option_map told c.pop-came.result) (takes c.self.inside.keymap c.self.inside.passes c.take_event.new.keys (map told c.take_event.new.waiting.items) (map told c.pop-came.new.waiting.items) (option_map told c.pop-came.result) c.pop-came.ensures.first) refl)
+    (option_map told c.pop-came.result) (takes c.self.inside.keymap c.self.inside.passes c.take_event.new.keys (map told c.take_event.new.waiting.items) (map told c.pop-came.new.waiting.items) (option_map told c.pop-came.result) c.pop-came.ensures.first) refl)
 
 pub returns-in-Ok-false-clause-step : goal.returns-in-Ok-false-clause-step
 returns-in-Ok-false-clause-step g c =
@@ -63,4 +63,4 @@ returns-in-Ok-false-clause-step g c =
     let polled = subst (λ (ready : Bool). Polls g.S.EventSource.drawn g.S.EventSource.asked filters.Event c.args.limit (g.C.Clock.told c.args.clock.now) (g.C.Clock.told c.poll_by.new.clock) (knows c.args.pass.now) (knows c.poll_by.new.pass) (Ok ready)) c.in-Ok-false.field-0-test c.in-Ok-false.ensures.call in
     subst (λ (m : Matching). Steps g.S.EventSource.drawn g.S.EventSource.asked c.args.limit (g.C.Clock.told c.args.clock.now) (g.C.Clock.told c.poll_by.new.clock) m (knows c.args.pass.now) new (knows c.poll_by.new.pass) (Gave (option_map told c.pop-left.result))) c.self.view_is
     (idle none.0 polled flushed (subst (λ (m : Matching). IsFlushed m flushed) same (c.flush.ensures.flushed c.self.inside.passes)) (option_map told c.pop-left.result)
-        (takes c.self.inside.keymap c.self.inside.passes c.flush.new.keys (map told c.flush.new.waiting.items) (map told c.pop-left.new.waiting.items) (option_map told c.pop-left.result) c.pop-left.ensures.first) refl)
+    (takes c.self.inside.keymap c.self.inside.passes c.flush.new.keys (map told c.flush.new.waiting.items) (map told c.pop-left.new.waiting.items) (option_map told c.pop-left.result) c.pop-left.ensures.first) refl)

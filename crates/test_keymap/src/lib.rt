@@ -1,0 +1,7 @@
+//! Tests of key bindings from outside, by rows: lists that are bound, letters that are typed, and what comes of them.
+//!
+//! They stand in a crate of their own, since a crate with tests is proved twice.
+#![tactic(auto)]
+
+#[cfg(test)]
+mod rows;
