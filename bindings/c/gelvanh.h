@@ -96,7 +96,7 @@ bool gelvanh_is_pasting(const struct gelvanh_state *state);
 
 /* Writes the text of a paste's bytes (without the six of its end), with U+FFFD for each maximal part that isn't UTF-8, as far as there is
  * room for whole characters. It tells how many bytes were read: the text of the others is still missing. `written` is how many bytes
- * were written. With room for three times the bytes all are read. */
+ * were written. With room for three times the bytes and four more all are read. */
 size_t gelvanh_paste_text(const uint8_t *bytes, size_t length, uint8_t *text, size_t room, size_t *written);
 
 /* A colour: 0 none, 1 the terminal's own, 2 to 17 by name, 18 by its parts, 19 by its place in the palette, which is r. */

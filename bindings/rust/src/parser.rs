@@ -63,8 +63,8 @@ impl Parser {
     /// The text of the paste that is over, whose bytes are not kept any longer.
     fn paste(&mut self) -> String {
         let end = self.kept.len().saturating_sub(6);
-        // The archive's reading writes at most three bytes for one.
-        let mut text = vec![0; 3 * end];
+        // The archive's reading writes at most three bytes for one, and may stop where fewer than four are left.
+        let mut text = vec![0; 3 * end + 4];
         let (_, written) = raw::paste_text(&self.kept[..end], &mut text);
         self.kept.clear();
         text.truncate(written);
