@@ -1,12 +1,12 @@
 -- What is given place by place is what is given of all.
-use Rattle.std.proofs.Common.{◌≡◌, ℕ, zero, suc, ◌+◌, ◌-◌, ◌<◌, ◌≤◌, Bool, true, false, List, [], ◌∷◌, ◌++◌, Option, length, map, take, drop, slice_index_or, add-one, append_assoc, refl, sym, ap, ◌∙◌, subst, arith}
+use Rattle.std.proofs.Common.{◌≡◌, ℕ, zero, suc, ◌+◌, ◌-◌, ◌<◌, ◌≤◌, true, false, List, [], ◌∷◌, ◌++◌, Option, length, take, drop, slice_index_or, add-one, refl, sym, ap, ◌∙◌, subst, arith}
 use Rattle.std.proofs.lemmas.List.{length-drop, append-nil, take-append-le, drop-take}
 use Rattle.crossterm_types.specs.declared.event.key.KeyEvent.{KeyEvent}
 use Rattle.std.specs.List.{AllByRecursion}
 use Rattle.keymap.specs.Bindings.{AreShort, Binding, bound_of}
 use Rattle.keymap.specs.Chords.{Bound, longest, is_begun}
 use Rattle.keymap.specs.Cut.{cut, given, left, told_of, more_of}
-use Rattle.keymap.specs.Matching.{Matching, IsFed, IsFlushed, StandsFor}
+use Rattle.keymap.specs.Matching.{Matching, IsFed, IsFlushed}
 use Rattle.keymap.specs.Told.{Told}
 use Rattle.keymap.specs.declared.inside.Match.{Match}
 use Rattle.keymap.specs.inside.Giving.{after_first, told_first}

@@ -1,10 +1,10 @@
 -- What a step does to a matcher.
-use Rattle.std.proofs.Common.{◌≡◌, Bool, List, [], ◌∷◌, ◌++◌, Option, Some, None, refl, sym, ap, ◌∙◌}
+use Rattle.std.proofs.Common.{◌≡◌, Bool, List, [], ◌∷◌, ◌++◌, Option, Some, None, refl, sym, ◌∙◌}
 use Rattle.crossterm_types.specs.Seen.{Seen}
 use Rattle.crossterm_types.specs.declared.event.key.KeyEvent.{KeyEvent}
 use Rattle.keymap.specs.Bindings.{Binding, bound_of}
 use Rattle.keymap.specs.Cut.{cut}
-use Rattle.keymap.specs.Matching.{Matching, IsFlushed, TakesFirst}
+use Rattle.keymap.specs.Matching.{Matching, TakesFirst}
 use Rattle.keymap.specs.Taking.{IsFollowed}
 use Rattle.keymap.specs.Told.{Told, Event}
 use Rattle.keymap.specs.inside.Giving.{TakesFirstOf}

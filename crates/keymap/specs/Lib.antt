@@ -8,4 +8,5 @@ pub mod Taking
 pub mod Stepping
 pub mod Rows
 pub mod Deciding
+pub mod Parts
 pub mod inside

@@ -1,5 +1,5 @@
 -- A step of a matcher over a reader that threads share.
-use Rattle.std.specs.Prelude.{◌≡◌, ℕ, true, false, List, [], Option, Some, None, Result, Ok, Err}
+use Rattle.std.specs.Prelude.{◌≡◌, ℕ, true, false, List, [], Option, Some, Result, Ok, Err}
 use Rattle.std.specs.IoError.{error_kind}
 use Rattle.std.specs.Option.{option_map}
 use Rattle.std.specs.declared.io.Error.{Error}

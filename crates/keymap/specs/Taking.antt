@@ -1,5 +1,5 @@
 -- What becomes of an event that a matcher takes.
-use Rattle.std.specs.Prelude.{◌≡◌, ◌&&◌, Bool, true, false, cond, List, [], ◌∷◌, ◌++◌}
+use Rattle.std.specs.Prelude.{◌≡◌, ◌&&◌, Bool, true, false, cond, [], ◌∷◌, ◌++◌}
 use Rattle.crossterm_types.specs.Seen.{Seen}
 use Rattle.crossterm_types.specs.Seen as seen
 use Rattle.crossterm_types.specs.declared.event.key.KeyCode.{KeyCode}

@@ -21,6 +21,7 @@
 //! | `Told` | outcomes as a clause sees them | |
 //! | `Chords` | chords, and which bound lists some keys begin with | |
 //! | `Cut` | the cut of keys by bound lists, and what of it is given | |
+//! | `Parts` | what makes a cut the only one | `laws::unique_cut` |
 //! | `Deciding` | what is given is exactly what no further key can change | `laws::given` |
 //! | `Bindings` | what a keymap binds, and what it refuses | `Keymap` |
 //! | `Matching` | a matcher, and what it is fed | `Matcher::{new, passing, feed, flush, next}` |

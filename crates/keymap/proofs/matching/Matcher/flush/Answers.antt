@@ -1,4 +1,4 @@
-use Rattle.std.proofs.Common.{◌≡◌, [], ◌∷◌, ◌++◌, map, refl, ap, ◌∙◌, subst}
+use Rattle.std.proofs.Common.{◌++◌, map, refl, ap, ◌∙◌, subst}
 use Rattle.keymap.specs.Bindings.{bound_of}
 use Rattle.keymap.specs.Cut.{cut}
 use Rattle.keymap.specs.Matching.{Matching, IsFlushed}

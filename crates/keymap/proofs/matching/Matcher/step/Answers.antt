@@ -1,4 +1,4 @@
-use Rattle.std.proofs.Common.{◌≡◌, ℕ, Bool, true, false, [], map, Option, Some, None, Result, Ok, Err, refl, sym, ap, ◌∙◌, subst}
+use Rattle.std.proofs.Common.{◌≡◌, Bool, map, Some, Ok, refl, sym, ap, ◌∙◌, subst}
 use Rattle.std.specs.IoError.{error_kind}
 use Rattle.std.specs.Option.{option_map}
 use Rattle.crossterm_types.specs.Seen.{seen_event}
@@ -6,7 +6,7 @@ use Rattle.crossterm_types.specs.declared.event.filter.AnyFilter.TheVariants as 
 use Rattle.crossterm_read.specs.Entries.{Polls}
 use Rattle.crossterm_read.specs.Seats.{knows}
 use Rattle.keymap.specs.Matching.{Matching, IsFlushed}
-use Rattle.keymap.specs.Stepping.{Steps, StepAnswer, Gave, Failed, waited, unpolled, idle, unread, came}
+use Rattle.keymap.specs.Stepping.{Steps, Gave, Failed, waited, unpolled, idle, unread, came}
 use Rattle.keymap.specs.Taking.{TakesEvent}
 use Rattle.keymap.specs.Told.{told}
 use Rattle.keymap.specs.inside.Giving.{state_of}

@@ -1,0 +1,52 @@
+-- What makes a cut the only one: its parts.
+use Rattle.std.specs.Prelude.{◌≡◌, ◌<◌, ◌≤◌, ℕ, true, false, List, [], ◌∷◌, ◌++◌, length, map, Some}
+use Rattle.std.specs.List.{flat_map, slice_get}
+use Rattle.crossterm_types.specs.declared.event.key.KeyEvent.{KeyEvent}
+use Rattle.keymap.specs.Chords.{Bound, is_front}
+use Rattle.keymap.specs.Cut.{cut}
+use Rattle.keymap.specs.Told.{Told, Action, Key, Event}
+
+-- A part of some keys, and the outcome that stands for it.
+pub record Part : Type 0 where
+  pub keys : List KeyEvent
+  pub outcome : Told
+
+abbrev pub joined : List Part → List KeyEvent
+joined parts = flat_map (λ part. part.keys) parts
+
+-- The list with this number has so many chords, and is the longest that the keys begin with. Of those that are as long it is the first.
+pub record IsLongest (bound : Bound) (keys : List KeyEvent) (number count : ℕ) : Type 0 where
+  pub chords : List KeyEvent
+  pub is_bound : slice_get bound number ≡ Some chords
+  pub counts : count ≡ length chords
+  pub begins : is_front chords keys ≡ true
+  pub none_longer : (i : ℕ) (other : List KeyEvent) → slice_get bound i ≡ Some other → is_front other keys ≡ true → length other ≤ count
+  pub is_first : (i : ℕ) (other : List KeyEvent) → slice_get bound i ≡ Some other → is_front other keys ≡ true → i < number → length other < count
+
+-- The keys begin with no bound list.
+abbrev pub IsUnbound : Bound → List KeyEvent → Type 0
+IsUnbound bound keys = (i : ℕ) (chords : List KeyEvent) → slice_get bound i ≡ Some chords → is_front chords keys ≡ false
+
+-- An outcome stands for a part before the keys that follow: the longest bound list that all of these begin with has the part's length. Where there
+-- is none, the part is one key.
+abbrev pub IsOutcomeOf : Bound → Told → List KeyEvent → List KeyEvent → Type 0
+IsOutcomeOf bound (Action number) part rest = IsLongest bound (part ++ rest) number (length part)
+IsOutcomeOf bound (Key key) part rest = (part ≡ key ∷ []) × IsUnbound bound (part ++ rest)
+IsOutcomeOf bound (Event _) part rest = ⊥
+
+-- Each outcome stands for its part before the parts that follow.
+abbrev pub AreRight : Bound → List Part → Type 0
+AreRight bound [] = Unit {0}
+AreRight bound (part ∷ parts) = IsOutcomeOf bound part.outcome part.keys (joined parts) × AreRight bound parts
+
+-- The keys are cut into these outcomes: there are parts of which they are joined, each with its outcome.
+pub record IsCutInto (bound : Bound) (keys : List KeyEvent) (outcomes : List Told) : Type 0 where
+  pub parts : List Part
+  pub keys_are : keys ≡ joined parts
+  pub outcomes_are : outcomes ≡ map (λ part. part.outcome) parts
+  pub right : AreRight bound parts
+
+-- Some keys are cut into their cut, and into nothing else.
+pub record IsOnlyCut (bound : Bound) (keys : List KeyEvent) : Type 0 where
+  pub is_cut : IsCutInto bound keys (cut bound keys)
+  pub is_only : (outcomes : List Told) → IsCutInto bound keys outcomes → outcomes ≡ cut bound keys
