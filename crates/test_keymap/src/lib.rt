@@ -4,4 +4,10 @@
 #![tactic(auto)]
 
 #[cfg(test)]
+mod growth;
+#[cfg(test)]
+mod random;
+#[cfg(test)]
 mod rows;
+#[cfg(test)]
+mod steps;

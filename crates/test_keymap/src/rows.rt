@@ -22,7 +22,7 @@ static ROWS: [(&[&str], &str, &str); 12] = [
 ];
 
 /// How an outcome is shown.
-fn sign_of(outcome: Outcome) -> char {
+pub fn sign_of(outcome: Outcome) -> char {
     match outcome {
         Outcome::Action(0) => '0',
         Outcome::Action(1) => '1',
@@ -42,7 +42,7 @@ fn chords_of(alloc: Global, letters: &str) -> Option<Vec<KeyEvent>> {
 }
 
 /// A matcher of some lists.
-fn matcher_of(alloc: Global, lists: &[&str]) -> Option<Matcher> {
+pub fn matcher_of(alloc: Global, lists: &[&str]) -> Option<Matcher> {
     let mut keymap = Keymap::new(alloc);
     for list in lists.iter() {
         let chords = chords_of(alloc, list)?;
