@@ -45,6 +45,7 @@ later_longest cs bound keys i count below l = record {
     none : (j : ℕ) (other : List KeyEvent) → slice_get (cs ∷ bound) j ≡ Some other → is_front other keys ≡ true → length other ≤ count
     none zero other at f = (let same : cs ≡ other = cc in let b = below (ap (λ x. is_front x keys) same ∙ f) in let e = ap length same in omega arith)
     none (suc j) other at f = l.none_longer j other at f
+
     before : (j : ℕ) (other : List KeyEvent) → slice_get (cs ∷ bound) j ≡ Some other → is_front other keys ≡ true → j < suc i → length other < count
     before zero other at f h = (let same : cs ≡ other = cc in let b = below (ap (λ x. is_front x keys) same ∙ f) in let e = ap length same in omega arith)
     before (suc j) other at f h = l.is_first j other at f (omega (arith, h))
@@ -73,12 +74,12 @@ found_front n cs bound keys None f h = record {
 }
 found_front n cs bound keys (Some m) f h =
     elim (nat_lt (length cs) m.count) as (λ t. nat_lt (length cs) m.count ≡ t → Found n (cs ∷ bound) keys (cond t (Some m) (Some (record { number = n; count = length cs })))) [
-      true ↦ λ t.
-        let l : length cs < m.count = grind (arith, nat_tests) in
-        record { place = suc h.place; number = omega (arith, h.number); longest = later_longest cs bound keys h.place m.count (λ _. l) h.longest }
-    | false ↦ λ t.
-        let l : m.count ≤ length cs = grind (arith, nat_tests) in
-        record { place = 0; number = omega arith; longest = here_longest cs bound keys f (λ i other at g. omega (arith, h.longest.none_longer i other at g, l)) }
+      | true ↦ λ t.
+          let l : length cs < m.count = grind (arith, nat_tests) in
+          record { place = suc h.place; number = omega (arith, h.number); longest = later_longest cs bound keys h.place m.count (λ _. l) h.longest }
+      | false ↦ λ t.
+          let l : m.count ≤ length cs = grind (arith, nat_tests) in
+          record { place = 0; number = omega arith; longest = here_longest cs bound keys f (λ i other at g. omega (arith, h.longest.none_longer i other at g, l)) }
     ] refl
 
 found_other : (n : ℕ) (cs : List KeyEvent) (bound : Bound) (keys : List KeyEvent) (r : Option Match) → is_front cs keys ≡ false → Found (suc n) bound keys r → Found n (cs ∷ bound) keys r
@@ -91,8 +92,8 @@ found n [] keys = λ i chords at. absurd (cc)
 found n (cs ∷ bound) keys =
     let r = longest_from (suc n) bound keys in
     elim (is_front cs keys) as (λ t. is_front cs keys ≡ t → Found n (cs ∷ bound) keys (longer (cond t (Some (record { number = n; count = length cs })) None) r)) [
-      true ↦ λ f. found_front n cs bound keys r f (found (suc n) bound keys)
-    | false ↦ λ f. found_other n cs bound keys r f (found (suc n) bound keys)
+      | true ↦ λ f. found_front n cs bound keys r f (found (suc n) bound keys)
+      | false ↦ λ f. found_other n cs bound keys r f (found (suc n) bound keys)
     ] refl
 
 -- There is one longest list.
@@ -103,10 +104,10 @@ one_count bound keys a b c d l r =
 not_before : (bound : Bound) (keys : List KeyEvent) (a b c d : ℕ) → IsLongest bound keys a c → IsLongest bound keys b d → b ≤ a
 not_before bound keys a b c d l r =
     elim (nat_lt a b) as (λ t. nat_lt a b ≡ t → b ≤ a) [
-      true ↦ λ t.
-        let less : a < b = grind (arith, nat_tests) in
-        absurd (omega (arith, one_count bound keys a b c d l r, l.counts, r.is_first a l.chords l.is_bound l.begins less))
-    | false ↦ λ t. grind (arith, nat_tests)
+      | true ↦ λ t.
+          let less : a < b = grind (arith, nat_tests) in
+          absurd (omega (arith, one_count bound keys a b c d l r, l.counts, r.is_first a l.chords l.is_bound l.begins less))
+      | false ↦ λ t. grind (arith, nat_tests)
     ] refl
 
 one_number : (bound : Bound) (keys : List KeyEvent) (a b c d : ℕ) → IsLongest bound keys a c → IsLongest bound keys b d → a ≡ b
@@ -156,7 +157,7 @@ cut_part bound s (Action number) (k ∷ ks) rest h =
     let m = longest_is bound (k ∷ (ks ++ rest)) number (suc (length ks)) h (longest bound (k ∷ (ks ++ rest))) (found 0 bound (k ∷ (ks ++ rest))) in
     let one : suc (length ks) - 1 ≡ length ks = omega arith in
     (first bound k (ks ++ rest)).is_cut ∙ ap (λ m. told_of k m ∷ cut bound (drop (more_of m) (ks ++ rest))) m
-        ∙ ap (λ n. Action number ∷ cut bound (drop n (ks ++ rest))) one ∙ ap (λ l. Action number ∷ cut bound l) (dropped ks rest)
+    ∙ ap (λ n. Action number ∷ cut bound (drop n (ks ++ rest))) one ∙ ap (λ l. Action number ∷ cut bound l) (dropped ks rest)
 cut_part bound s (Key key) part rest h =
     let m = unbound_is bound (key ∷ rest) (subst (λ (l : List KeyEvent). IsUnbound bound (l ++ rest)) h.0 h.1) (longest bound (key ∷ rest)) (found 0 bound (key ∷ rest)) in
     ap (λ l. cut bound (l ++ rest)) h.0 ∙ (first bound key rest).is_cut ∙ ap (λ m. told_of key m ∷ cut bound (drop (more_of m) rest)) m

@@ -52,9 +52,7 @@ fn first_place(lists: &[&str], rest: &[u8]) -> (char, usize) {
 
 /// Whether a list is longer than these letters and begins with them.
 fn is_undecided(lists: &[&str], rest: &[u8]) -> bool {
-    lists
-        .iter()
-        .any(|list| rest.len() < list.len() && list.as_bytes().starts_with(rest))
+    lists.iter().any(|list| rest.len() < list.len() && list.as_bytes().starts_with(rest))
 }
 
 /// The letters after so many.
