@@ -1,10 +1,10 @@
 //! Bindings and matchers whose memory is refused.
 
 use crossterm_types::event::{KeyCode, KeyEvent};
-use expectations::expect;
 use keymap::{Keymap, KeymapFault, Matcher, Outcome};
 use linked_list_allocator::LocalHeap;
 use std::alloc::{AllocError, Global};
+use test_expect::expect;
 
 /// What came of a call, or of several.
 #[derive(Clone, Copy)]

@@ -2,9 +2,9 @@
 
 use crate::rows::{matcher_of, sign_of};
 use crossterm_types::event::{KeyCode, KeyEvent};
-use expectations::expect;
 use keymap::{Matcher, Outcome};
 use std::alloc::{AllocError, Global};
+use test_expect::expect;
 
 /// How many inputs are tried for each row.
 const INPUTS: u32 = 10_000;

@@ -1,15 +1,15 @@
 //! Steps over a reader that threads share.
 
 use crossterm_read::source::{DeviceSource, Script};
-use crossterm_test_devices::{Reader, Seat, Still, script_of, text, two};
 use crossterm_types::event::{KeyCode, KeyEvent};
-use expectations::expect;
 use keymap::{Keymap, Matcher, Outcome};
 use std::alloc::{AllocError, Global};
 use std::sync::Wait;
 use std::thread::Threads;
 use std::time::Duration;
 use std::{io, thread};
+use test_expect::expect;
+use test_support::{Reader, Seat, Still, script_of, text, two};
 
 /// How many letters the script has.
 const LETTERS: usize = 1000;
