@@ -83,7 +83,9 @@ fn main(rt: HostRuntime) -> io::Result<()> {
     let mut words = env::args(&rt)?;
     let _program = words.next();
     let Some(first) = words.next() else {
-        eprintln!(rt; "usage: terminal/with_terminal crates/example_paint/out/example_paint, or paint serve PORT")?;
+        eprintln!(rt;
+            "usage: terminal/with_terminal crates/example_paint/out/example_paint, or paint serve PORT"
+        )?;
         return Err(io::Error::from(ErrorKind::InvalidInput));
     };
     match words.next() {
