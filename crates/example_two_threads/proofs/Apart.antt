@@ -10,7 +10,7 @@ use Rattle.crossterm_read.specs.History.{Entry, Known, Differ, Extends, Meets, S
 use Rattle.crossterm_read.specs.Replies.{Replied, Said, ToPoll, ToTake, ToQuery, Fault, shown}
 use Rattle.crossterm_read.specs.Store.{ReaderState}
 use Rattle.crossterm_read.proofs.Seating.{some_of, none_not, same_or_not, and_both}
-use Rattle.meeting.specs.Apart.{ReadApart}
+use Rattle.example_two_threads.specs.Apart.{ReadApart}
 
 there : (xs ys : List Entry) (e : Entry) → slice_get (xs ++ e ∷ ys) (length xs) ≡ Some e
 there [] ys e = refl

@@ -13,7 +13,7 @@ ghost use Rattle.crossterm_read.specs.History.{Known};
 ghost use Rattle.crossterm_read.specs.Replies.{Said, read_said};
 ghost use Rattle.crossterm_read.specs.Seats.{knows};
 ghost use Rattle.crossterm_read.specs.Shared.{IsPassOf};
-ghost use Rattle.meeting.specs.Apart.{ReadApart};
+ghost use Rattle.example_two_threads.specs.Apart.{ReadApart};
 
 use crossterm_read::read::{EventReader, Pass};
 use crossterm_read::source::EventSource;

@@ -1,6 +1,6 @@
 use Rattle.crossterm_read.specs.Seats.{knows}
-use Rattle.meeting.proofs.Apart.{apart}
-use Rattle.meeting.proofs.two_threads.Goals as goal
+use Rattle.example_two_threads.proofs.Apart.{apart}
+use Rattle.example_two_threads.proofs.two_threads.Goals as goal
 
 pub returns : goal.returns
 returns g c =

@@ -1,7 +1,7 @@
 use Rattle.std.proofs.Common.{refl, inl, inr}
 use Rattle.crossterm_read.specs.Replies.{read_said}
 use Rattle.crossterm_read.specs.Seats.{knows}
-use Rattle.meeting.proofs.Client.next_within.Goals as goal
+use Rattle.example_two_threads.proofs.Client.next_within.Goals as goal
 
 pub returns-in-Ok : goal.returns-in-Ok
 returns-in-Ok g c = record { calls = (knows c.poll_by.new.pass, c.poll_by.result, c.poll_by.ensures.call, inr (read_said c.read_by.result, c.read_by.ensures.call)) }
