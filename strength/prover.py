@@ -76,7 +76,8 @@ def faults(answer, crate):
         if opened:
             pending.append(f"{opened[1]}: {opened[2]}")
         elif proof and not SAYS_LITTLE.search(proof[2]):
-            found[proof[1].replace("/", "::")].append(proof[2])
+            # The folder of a recursive function has a + before its name.
+            found[proof[1].replace("/+", "/").replace("/", "::")].append(proof[2])
         elif function:
             # A function's open goals stand right above its line.
             found[function[1].removeprefix(f"{crate}::")] += pending

@@ -12,7 +12,7 @@ static size_t kept_length, kept_room;
 static void keep(const uint8_t *bytes, size_t length) {
     if (kept_length + length > kept_room) {
         kept_room = 2 * (kept_length + length);
-        kept = realloc(kept, kept_room);
+        kept = (uint8_t *)realloc(kept, kept_room);
         if (kept == NULL)
             exit(1);
     }
@@ -54,15 +54,15 @@ static void print_event(const struct gelvanh_event *e) {
     }
 }
 
-static void feed(struct gelvanh_state *state, const uint8_t *piece, size_t length, bool more) {
+static void feed(struct gelvanh_state *state, const uint8_t *piece, size_t length, gelvanh_bool more) {
     struct gelvanh_event events[64];
     while (length > 0) {
-        size_t count;
-        bool pasting = gelvanh_is_pasting(state);
-        size_t taken = gelvanh_feed(state, piece, length, more, true, events, 64, &count);
+        size_t count, i;
+        gelvanh_bool pasting = gelvanh_is_pasting(state);
+        size_t taken = gelvanh_feed(state, piece, length, more, 1, events, 64, &count);
         if (pasting)
             keep(piece, taken);
-        for (size_t i = 0; i < count; i++)
+        for (i = 0; i < count; i++)
             print_event(&events[i]);
         piece += taken;
         length -= taken;
@@ -70,7 +70,7 @@ static void feed(struct gelvanh_state *state, const uint8_t *piece, size_t lengt
 }
 
 int main(void) {
-    struct gelvanh_state state = {0};
+    static struct gelvanh_state state; /* all zeros */
     uint8_t buffer[1024];
     ssize_t n;
     while ((n = read(0, buffer, sizeof buffer)) > 0)

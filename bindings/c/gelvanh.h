@@ -5,16 +5,26 @@
 #ifndef GELVANH_H
 #define GELVANH_H
 
-#include <assert.h>
-#include <stdbool.h>
+/* The version of this header and of the archive that it goes with.
+ *
+ * Before 1.0.0 the second number changes wherever a program has to be compiled again: a struct, a number or a call is another. From 1.0.0
+ * on the first does. Otherwise numbers for new kinds, keys and commands may follow the last: a program passes over those it doesn't know. */
+#define GELVANH_VERSION "0.2.0"
+#define GELVANH_VERSION_MAJOR 0
+#define GELVANH_VERSION_MINOR 2
+#define GELVANH_VERSION_PATCH 0
+
 #include <stddef.h>
 #include <stdint.h>
 
 #ifdef __cplusplus
 extern "C" {
-#define GELVANH_CHECK(test) static_assert(test, #test)
+typedef bool gelvanh_bool;
+#elif defined(__STDC_VERSION__) && __STDC_VERSION__ >= 199901L
+#include <stdbool.h>
+typedef bool gelvanh_bool;
 #else
-#define GELVANH_CHECK(test) _Static_assert(test, #test)
+typedef unsigned char gelvanh_bool; /* a byte of 0 or 1, as bool is since C99 */
 #endif
 
 struct gelvanh_number {
@@ -85,18 +95,18 @@ struct gelvanh_event {
  *
  * `more` says that bytes of the same answer of the terminal follow at once, so that ESC at the end is no Esc key yet. `raw` is the mode
  * that the bytes came in: there a line feed is Ctrl-J, and Enter otherwise. */
-size_t gelvanh_feed(struct gelvanh_state *state, const uint8_t *piece, size_t length, bool more, bool raw,
+size_t gelvanh_feed(struct gelvanh_state *state, const uint8_t *piece, size_t length, gelvanh_bool more, gelvanh_bool raw,
                     struct gelvanh_event *events, size_t room, size_t *count);
 
 /* Whether bytes were taken that are no whole sequence yet. */
-bool gelvanh_is_undecided(const struct gelvanh_state *state);
+gelvanh_bool gelvanh_is_undecided(const struct gelvanh_state *state);
 
 /* Whether a paste is open, whose bytes the caller keeps. */
-bool gelvanh_is_pasting(const struct gelvanh_state *state);
+gelvanh_bool gelvanh_is_pasting(const struct gelvanh_state *state);
 
-/* Writes the text of a paste's bytes (without the six of its end), with U+FFFD for each maximal part that isn't UTF-8, as far as there is
- * room for whole characters. It tells how many bytes were read: the text of the others is still missing. `written` is how many bytes
- * were written. With room for three times the bytes and four more all are read. */
+/* Writes the text of a paste's bytes (without the six of its end), with U+FFFD for each maximal part that isn't UTF-8, as far as the
+ * next character has room. It tells how many bytes were read: the text of the others is still missing. `written` is how many bytes
+ * were written. With room for three times the bytes all are read. */
 size_t gelvanh_paste_text(const uint8_t *bytes, size_t length, uint8_t *text, size_t room, size_t *written);
 
 /* A colour: 0 none, 1 the terminal's own, 2 to 17 by name, 18 by its parts, 19 by its place in the palette, which is r. */
@@ -171,36 +181,40 @@ enum gelvanh_outcome {
     GELVANH_WRITTEN,      /* its text was written; `length` is how many bytes it has */
     GELVANH_TOO_SMALL,    /* it has more bytes than there is room, as `length` tells; nothing was written */
     GELVANH_NAMES_NOTHING,/* the numbers name no command, or the text isn't UTF-8; nothing was written */
-    GELVANH_FAILED        /* the command failed by itself, which none is known to */
+    GELVANH_FAILED        /* the command failed by itself, which none is known to: `length` is 0, and the slice may hold anything */
 };
 
 /* Writes a command that has no text of its own. `colors` is false where colours aren't to be written, as with NO_COLOR. */
-uint32_t gelvanh_command(const struct gelvanh_command *command, bool colors, uint8_t *slice, size_t room, size_t *length);
+uint32_t gelvanh_command(const struct gelvanh_command *command, gelvanh_bool colors, uint8_t *slice, size_t room, size_t *length);
 
 /* The four that have one. Texts, titles and places are UTF-8; the places of a copy are letters, `c` the clipboard, `p` the selection. */
 uint32_t gelvanh_print(const uint8_t *text, size_t text_length, uint8_t *slice, size_t room, size_t *length);
 uint32_t gelvanh_set_title(const uint8_t *title, size_t title_length, uint8_t *slice, size_t room, size_t *length);
-uint32_t gelvanh_print_styled(const struct gelvanh_command *style, const uint8_t *text, size_t text_length, bool colors,
+uint32_t gelvanh_print_styled(const struct gelvanh_command *style, const uint8_t *text, size_t text_length, gelvanh_bool colors,
                               uint8_t *slice, size_t room, size_t *length);
 uint32_t gelvanh_copy_to_clipboard(const uint8_t *content, size_t content_length, const uint8_t *places, size_t places_length,
                                    uint8_t *slice, size_t room, size_t *length);
 
-/* The numbers that the proved crate's tests fix too. */
-GELVANH_CHECK(sizeof(struct gelvanh_state) == 52);
-GELVANH_CHECK(offsetof(struct gelvanh_state, begun) == 8);
-GELVANH_CHECK(offsetof(struct gelvanh_state, one) == 12);
-GELVANH_CHECK(offsetof(struct gelvanh_state, three) == 44);
-GELVANH_CHECK(sizeof(struct gelvanh_event) == 16);
-GELVANH_CHECK(offsetof(struct gelvanh_event, value) == 4);
-GELVANH_CHECK(offsetof(struct gelvanh_event, column) == 8);
-GELVANH_CHECK(offsetof(struct gelvanh_event, modifiers) == 12);
-GELVANH_CHECK(offsetof(struct gelvanh_event, flags) == 15);
-GELVANH_CHECK(sizeof(struct gelvanh_color) == 4);
-GELVANH_CHECK(sizeof(struct gelvanh_command) == 24);
-GELVANH_CHECK(offsetof(struct gelvanh_command, attributes) == 4);
-GELVANH_CHECK(offsetof(struct gelvanh_command, foreground) == 12);
-GELVANH_CHECK(offsetof(struct gelvanh_command, underline) == 20);
-GELVANH_CHECK(GELVANH_PRINT == 45);
+/* The sizes are fixed by the proved crate's tests too; that its fields stand at these places is tried by bindings/try/run. An array of
+ * negative size is an error in C89 and C++98 too. */
+#define GELVANH_CHECK(name, test) typedef char gelvanh_check_##name[(test) ? 1 : -1]
+GELVANH_CHECK(state, sizeof(struct gelvanh_state) == 52);
+GELVANH_CHECK(state_begun, offsetof(struct gelvanh_state, begun) == 8);
+GELVANH_CHECK(state_one, offsetof(struct gelvanh_state, one) == 12);
+GELVANH_CHECK(state_three, offsetof(struct gelvanh_state, three) == 44);
+GELVANH_CHECK(event, sizeof(struct gelvanh_event) == 16);
+GELVANH_CHECK(event_value, offsetof(struct gelvanh_event, value) == 4);
+GELVANH_CHECK(event_column, offsetof(struct gelvanh_event, column) == 8);
+GELVANH_CHECK(event_modifiers, offsetof(struct gelvanh_event, modifiers) == 12);
+GELVANH_CHECK(event_flags, offsetof(struct gelvanh_event, flags) == 15);
+GELVANH_CHECK(color, sizeof(struct gelvanh_color) == 4);
+GELVANH_CHECK(command, sizeof(struct gelvanh_command) == 24);
+GELVANH_CHECK(command_attributes, offsetof(struct gelvanh_command, attributes) == 4);
+GELVANH_CHECK(command_foreground, offsetof(struct gelvanh_command, foreground) == 12);
+GELVANH_CHECK(command_underline, offsetof(struct gelvanh_command, underline) == 20);
+GELVANH_CHECK(commands, GELVANH_PRINT == 45);
+GELVANH_CHECK(bool, sizeof(gelvanh_bool) == 1);
+#undef GELVANH_CHECK
 
 #ifdef __cplusplus
 }

@@ -1,75 +1,12 @@
 //! Commands, and how their bytes get to a writer.
 #![allow(missing_docs)]
 
-use crate::event::KeyboardEnhancementFlags;
+use crate::attribute::{Attribute, Attributes};
+use crate::color::Color;
+use crate::key::KeyboardEnhancementFlags;
 use crate::raw;
+use std::fmt::{self, Display};
 use std::io;
-
-#[derive(Clone, Copy, Debug, PartialEq, Eq, Hash)]
-pub enum Color {
-    Reset,
-    Black,
-    DarkGrey,
-    Red,
-    DarkRed,
-    Green,
-    DarkGreen,
-    Yellow,
-    DarkYellow,
-    Blue,
-    DarkBlue,
-    Magenta,
-    DarkMagenta,
-    Cyan,
-    DarkCyan,
-    White,
-    Grey,
-    Rgb { r: u8, g: u8, b: u8 },
-    AnsiValue(u8),
-}
-
-#[derive(Clone, Copy, Debug, PartialEq, Eq, Hash)]
-pub enum Attribute {
-    Reset,
-    Bold,
-    Dim,
-    Italic,
-    Underlined,
-    DoubleUnderlined,
-    Undercurled,
-    Underdotted,
-    Underdashed,
-    SlowBlink,
-    RapidBlink,
-    Reverse,
-    Hidden,
-    CrossedOut,
-    Fraktur,
-    NoBold,
-    NormalIntensity,
-    NoItalic,
-    NoUnderline,
-    NoBlink,
-    NoReverse,
-    NoHidden,
-    NotCrossedOut,
-    Framed,
-    Encircled,
-    OverLined,
-    NotFramedOrEncircled,
-    NotOverLined,
-}
-
-/// A set of attributes.
-#[derive(Clone, Copy, Debug, Default, PartialEq, Eq, Hash)]
-pub struct Attributes(u32);
-
-impl Attributes {
-    /// The set with an attribute.
-    pub const fn with(self, attribute: Attribute) -> Attributes {
-        Attributes(self.0 | 2 << attribute as u32)
-    }
-}
 
 /// How a text looks.
 #[derive(Clone, Copy, Debug, Default, PartialEq, Eq, Hash)]
@@ -80,16 +17,25 @@ pub struct Style {
     pub attributes: Attributes,
 }
 
-#[derive(Clone, Copy, Debug, PartialEq, Eq, Hash)]
+/// What of the screen is cleared.
+#[derive(Clone, Copy, Debug, PartialEq, Eq, PartialOrd, Ord, Hash)]
+#[cfg_attr(feature = "serde", derive(serde::Serialize, serde::Deserialize))]
 pub enum ClearType {
+    /// All cells.
     All,
+    /// The lines above the screen that can be scrolled to.
     Purge,
+    /// From the cursor to the end.
     FromCursorDown,
+    /// From the beginning to the cursor.
     FromCursorUp,
+    /// The cursor's line.
     CurrentLine,
+    /// From the cursor to the end of its line.
     UntilNewLine,
 }
 
+/// The cursor's shape.
 #[derive(Clone, Copy, Debug, PartialEq, Eq, Hash)]
 pub enum CursorStyle {
     DefaultUserShape,
@@ -190,7 +136,7 @@ fn there(there: Option<Color>) -> raw::Color {
 fn style(style: &Style) -> raw::Command {
     raw::Command {
         kind: 41,
-        attributes: style.attributes.0,
+        attributes: style.attributes.bits(),
         foreground: there(style.foreground),
         background: there(style.background),
         underline: there(style.underline),
@@ -244,7 +190,7 @@ fn numbers(command: &Command) -> raw::Command {
         Command::SetUnderlineColor(c) => raw::Command { underline: color(c), ..of(37, 0) },
         Command::SetColors(f, b) => raw::Command { foreground: there(f), background: there(b), ..of(38, 0) },
         Command::SetAttribute(attribute) => of(39, attribute as u16),
-        Command::SetAttributes(attributes) => raw::Command { attributes: attributes.0, ..of(40, 0) },
+        Command::SetAttributes(attributes) => raw::Command { attributes: attributes.bits(), ..of(40, 0) },
         Command::SetStyle(ref s) => style(s),
         Command::SetTitle(_) => of(24, 0),
         Command::PrintStyledContent(..) => of(42, 0),
@@ -269,14 +215,71 @@ pub fn put_command(slice: &mut [u8], command: &Command, colors: bool) -> Option<
     (told < 2).then_some(length)
 }
 
+/// The bytes of a command, on the stack where they are few.
+struct Bytes {
+    short: [u8; 64],
+    long: Vec<u8>,
+    length: usize,
+}
+
+impl Bytes {
+    #[inline]
+    fn of(command: &Command, colors: bool) -> Option<Bytes> {
+        let mut bytes = Bytes { short: [0; 64], long: Vec::new(), length: 0 };
+        bytes.length = put_command(&mut bytes.short, command, colors)?;
+        if bytes.length > bytes.short.len() {
+            bytes.long = vec![0; bytes.length];
+            put_command(&mut bytes.long, command, colors)?;
+        }
+        Some(bytes)
+    }
+
+    #[inline]
+    fn as_slice(&self) -> &[u8] {
+        self.short.get(..self.length).unwrap_or(&self.long)
+    }
+}
+
+/// Writes a command as text.
+///
+/// ```
+/// use gelvanh::{write_text, Command};
+///
+/// let mut text = String::new();
+/// write_text(&mut text, &Command::MoveTo(65535, 0), true)?;
+/// assert_eq!(text, "\x1b[1;65536H");
+/// # Ok::<(), std::fmt::Error>(())
+/// ```
+#[inline]
+pub fn write_text<W: fmt::Write + ?Sized>(writer: &mut W, command: &Command, colors: bool) -> fmt::Result {
+    let bytes = Bytes::of(command, colors).ok_or(fmt::Error)?;
+    writer.write_str(std::str::from_utf8(bytes.as_slice()).map_err(|_| fmt::Error)?)
+}
+
+/// The parameters of a command that ends with `m`, as `38;5;9` of a red text.
+pub fn parameters(command: &Command) -> String {
+    let mut text = String::new();
+    // A text has room for all, so only a command that isn't there could fail.
+    let _ = write_text(&mut text, command, true);
+    text.trim_start_matches("\x1b[").trim_end_matches('m').to_string()
+}
+
+impl Attribute {
+    /// The attribute's parameter in a sequence: `1` of bold, `4:3` of undercurled.
+    pub fn sgr(self) -> String {
+        parameters(&Command::SetAttribute(self))
+    }
+}
+
+/// The sequence that sets the attribute.
+impl Display for Attribute {
+    fn fmt(&self, f: &mut fmt::Formatter<'_>) -> fmt::Result {
+        write_text(f, &Command::SetAttribute(*self), true)
+    }
+}
+
 /// Writes a command on a writer.
 pub fn write_command<W: io::Write + ?Sized>(writer: &mut W, command: &Command, colors: bool) -> io::Result<()> {
-    let mut short = [0; 64];
-    let told = put_command(&mut short, command, colors).ok_or(io::ErrorKind::InvalidInput)?;
-    if let Some(bytes) = short.get(..told) {
-        return writer.write_all(bytes);
-    }
-    let mut long = vec![0; told];
-    put_command(&mut long, command, colors).ok_or(io::ErrorKind::InvalidInput)?;
-    writer.write_all(&long)
+    let bytes = Bytes::of(command, colors).ok_or(io::ErrorKind::InvalidInput)?;
+    writer.write_all(bytes.as_slice())
 }

@@ -8,8 +8,7 @@
 //! let mut parser = Parser::default();
 //! // The bytes of one answer of the terminal; no more follow at once, and it is in raw mode.
 //! let mut events = parser.feed(b"\x1b[A\x1b[200~two\xFF\x1b[201~", false, true);
-//! let Some(InternalEvent::Event(Event::Key(up))) = events.next() else { panic!() };
-//! assert_eq!(up.code, KeyCode::Up);
+//! assert_eq!(events.next(), Some(InternalEvent::Event(Event::Key(KeyCode::Up.into()))));
 //! assert_eq!(events.next(), Some(InternalEvent::Event(Event::Paste("two\u{FFFD}".into()))));
 //! assert_eq!(events.next(), None);
 //! ```
@@ -32,21 +31,30 @@
 #![deny(unsafe_code)]
 #![warn(missing_docs)]
 
+mod attribute;
+mod color;
 mod command;
+mod decode;
 mod event;
+mod flags;
+mod key;
 mod parser;
 #[allow(unsafe_code)]
 mod raw;
+#[cfg(feature = "serde")]
+mod texts;
+mod variants;
 
-pub use command::{put_command, write_command, Attribute, Attributes, ClearType, Color, Command, CursorStyle, Style};
-pub use event::{
-    Event, InternalEvent, KeyCode, KeyEvent, KeyEventKind, KeyEventState, KeyModifiers, KeyboardEnhancementFlags, MediaKeyCode,
-    ModifierKeyCode, MouseButton, MouseEvent, MouseEventKind,
-};
+pub use attribute::{Attribute, Attributes};
+pub use color::Color;
+pub use command::{parameters, put_command, write_command, write_text, ClearType, Command, CursorStyle, Style};
+pub use event::{Event, InternalEvent, MouseButton, MouseEvent, MouseEventKind};
+pub use flags::{FlagIter, FlagNames};
+pub use key::{KeyCode, KeyEvent, KeyEventKind, KeyEventState, KeyModifiers, KeyboardEnhancementFlags, MediaKeyCode, ModifierKeyCode};
 pub use parser::{Events, Parser};
 
 /// The events before they are given a shape, as numbers.
 pub mod flat {
-    pub use crate::parser::FlatParser;
+    pub use crate::parser::{FlatEvents, FlatParser};
     pub use crate::raw::Event;
 }

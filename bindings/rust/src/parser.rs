@@ -1,6 +1,6 @@
 //! From bytes to events.
 
-use crate::event::{Event, InternalEvent};
+use crate::event::InternalEvent;
 use crate::raw;
 
 const ROOM: usize = 64;
@@ -35,6 +35,7 @@ impl FlatParser {
 /// A parser that has seen some bytes.
 pub struct Parser {
     flat: FlatParser,
+    /// The bytes of an open paste, or of the one whose event was given last.
     kept: Vec<u8>,
     events: [raw::Event; ROOM],
 }
@@ -46,13 +47,33 @@ impl Default for Parser {
 }
 
 impl Parser {
-    /// The events of some bytes, in order. `more` says that bytes of the same answer of the terminal follow at once, so that ESC at the
-    /// end is no Esc key yet; `raw` is the mode that the bytes came in.
+    /// The events of some bytes, in order, as numbers: `to_event` makes an event of those that are asked for.
     ///
-    /// All bytes are taken even where not all events are: those are lost then.
+    /// `more` says that bytes of the same answer of the terminal follow at once, so that ESC at the end is no Esc key yet; `raw` is the
+    /// mode that the bytes came in. All bytes are taken even where not all events are: those are lost then.
+    ///
+    /// ```
+    /// use gelvanh::{InternalEvent, Parser};
+    ///
+    /// let mut parser = Parser::default();
+    /// let mut letters = 0;
+    /// let mut last = None;
+    /// for event in parser.flat(b"ab\x1b[A", false, true) {
+    ///     letters += usize::from(event.code == 15);
+    ///     last = event.to_event();
+    /// }
+    /// assert_eq!(letters, 2);
+    /// assert!(matches!(last, Some(InternalEvent::Event(_))));
+    /// ```
+    #[inline]
+    pub fn flat<'a>(&'a mut self, piece: &'a [u8], more: bool, raw: bool) -> FlatEvents<'a> {
+        FlatEvents { parser: self, piece, more, raw, next: 0, count: 0 }
+    }
+
+    /// The events of some bytes, in order, each made when it is asked for: `flat`'s, in their shape.
     #[inline]
     pub fn feed<'a>(&'a mut self, piece: &'a [u8], more: bool, raw: bool) -> Events<'a> {
-        Events { parser: self, piece, more, raw, next: 0, count: 0 }
+        Events(self.flat(piece, more, raw))
     }
 
     /// Whether bytes were taken that are no whole sequence yet.
@@ -60,20 +81,20 @@ impl Parser {
         self.flat.is_undecided()
     }
 
-    /// The text of the paste that is over, whose bytes are not kept any longer.
-    fn paste(&mut self) -> String {
+    /// The text of the paste that is over.
+    #[cold]
+    fn paste_text(&self) -> String {
         let end = self.kept.len().saturating_sub(6);
-        // The archive's reading writes at most three bytes for one, and may stop where fewer than four are left.
-        let mut text = vec![0; 3 * end + 4];
+        // The archive writes at most three bytes for one, and stops only where the next character has no room.
+        let mut text = vec![0; 3 * end];
         let (_, written) = raw::paste_text(&self.kept[..end], &mut text);
-        self.kept.clear();
         text.truncate(written);
         String::from_utf8(text).unwrap_or_default()
     }
 }
 
-/// The events of some bytes.
-pub struct Events<'a> {
+/// The events of some bytes, as numbers.
+pub struct FlatEvents<'a> {
     parser: &'a mut Parser,
     piece: &'a [u8],
     more: bool,
@@ -82,20 +103,59 @@ pub struct Events<'a> {
     count: usize,
 }
 
-impl Events<'_> {
-    /// Takes more bytes.
-    fn take(&mut self) {
-        let pasting = self.parser.flat.is_pasting();
-        let (taken, count) = self.parser.flat.feed(self.piece, self.more, self.raw, &mut self.parser.events);
+impl FlatEvents<'_> {
+    /// The text of the paste, where the event that was given last is a paste's.
+    pub fn paste_text(&self) -> Option<String> {
+        let is_paste = self.next == 1 && self.parser.events[0].is_paste();
+        is_paste.then(|| self.parser.paste_text())
+    }
+
+    /// Takes more bytes, and tells whether there were any.
+    #[inline(never)]
+    fn take(&mut self) -> bool {
+        if self.piece.is_empty() {
+            return false;
+        }
+        let parser = &mut *self.parser;
+        let pasting = parser.flat.is_pasting();
+        let (taken, count) = parser.flat.feed(self.piece, self.more, self.raw, &mut parser.events);
         let (front, rest) = self.piece.split_at(taken);
         if pasting {
-            self.parser.kept.extend_from_slice(front);
+            parser.kept.extend_from_slice(front);
+        } else if parser.flat.is_pasting() {
+            parser.kept.clear();
         }
         self.piece = rest;
         self.next = 0;
         self.count = count;
+        true
     }
 }
+
+impl Iterator for FlatEvents<'_> {
+    type Item = raw::Event;
+
+    #[inline]
+    fn next(&mut self) -> Option<raw::Event> {
+        while self.next >= self.count {
+            if !self.take() {
+                return None;
+            }
+        }
+        let event = self.parser.events[self.next % ROOM];
+        self.next += 1;
+        Some(event)
+    }
+}
+
+impl Drop for FlatEvents<'_> {
+    fn drop(&mut self) {
+        while self.take() {}
+    }
+}
+
+/// The events of some bytes.
+pub struct Events<'a>(FlatEvents<'a>);
 
 impl Iterator for Events<'_> {
     type Item = InternalEvent;
@@ -103,26 +163,14 @@ impl Iterator for Events<'_> {
     #[inline]
     fn next(&mut self) -> Option<InternalEvent> {
         loop {
-            while self.next < self.count {
-                let event = &self.parser.events[self.next];
-                self.next += 1;
-                if event.kind == 5 {
-                    return Some(InternalEvent::Event(Event::Paste(self.parser.paste())));
-                }
-                if let Some(event) = InternalEvent::of(event) {
-                    return Some(event);
-                }
+            if let Some(event) = self.0.next()?.to_event() {
+                return Some(event);
             }
-            if self.piece.is_empty() {
-                return None;
+            // A paste's event alone has no numbers that tell all of it.
+            #[cfg(feature = "bracketed-paste")]
+            if let Some(text) = self.0.paste_text() {
+                return Some(InternalEvent::Event(crate::Event::Paste(text)));
             }
-            self.take();
         }
-    }
-}
-
-impl Drop for Events<'_> {
-    fn drop(&mut self) {
-        while self.next().is_some() {}
     }
 }

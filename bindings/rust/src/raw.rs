@@ -63,9 +63,8 @@ pub struct Command {
 const _: () = {
     assert!(size_of::<State>() == 52 && align_of::<State>() == 4);
     assert!(size_of::<Event>() == 16 && align_of::<Event>() == 4);
-    assert!(std::mem::offset_of!(Event, value) == 4 && std::mem::offset_of!(Event, modifiers) == 12);
     assert!(size_of::<Color>() == 4);
-    assert!(size_of::<Command>() == 24 && std::mem::offset_of!(Command, foreground) == 12);
+    assert!(size_of::<Command>() == 24 && align_of::<Command>() == 4);
 };
 
 use std::mem::{align_of, size_of};

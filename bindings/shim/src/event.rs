@@ -1,108 +1,81 @@
-//! Events of standard input, and the commands that turn reports on and off.
+//! Events: keys, the mouse, pastes, the focus, resizes.
+//!
+//! ```no_run
+//! use crossterm::event::{self, Event, KeyCode};
+//! use crossterm::terminal::{disable_raw_mode, enable_raw_mode};
+//!
+//! enable_raw_mode()?;
+//! while let Ok(event) = event::read() {
+//!     print!("{event:?}\r\n");
+//!     if event == Event::Key(KeyCode::Esc.into()) {
+//!         break;
+//!     }
+//! }
+//! disable_raw_mode()?;
+//! # Ok::<(), std::io::Error>(())
+//! ```
 
-use crate::system;
-use gelvanh::{Command, InternalEvent, Parser};
+pub(crate) mod query;
+mod reader;
+mod source;
+#[cfg(feature = "event-stream")]
+mod stream;
+
+use crate::macros::commands;
+use gelvanh::Command as Proved;
+use std::io;
+use std::time::{Duration, Instant};
+
 pub use gelvanh::{
     Event, KeyCode, KeyEvent, KeyEventKind, KeyEventState, KeyModifiers, KeyboardEnhancementFlags, MediaKeyCode, ModifierKeyCode,
     MouseButton, MouseEvent, MouseEventKind,
 };
-use std::collections::VecDeque;
-use std::io::{self, Write};
-use std::sync::{Mutex, PoisonError};
-use std::time::{Duration, Instant};
+#[cfg(feature = "event-stream")]
+pub use stream::EventStream;
 
-crate::commands! {
-    EnableMouseCapture => Command::EnableMouseCapture;
-    DisableMouseCapture => Command::DisableMouseCapture;
-    EnableFocusChange => Command::EnableFocusChange;
-    DisableFocusChange => Command::DisableFocusChange;
-    EnableBracketedPaste => Command::EnableBracketedPaste;
-    DisableBracketedPaste => Command::DisableBracketedPaste;
-    PushKeyboardEnhancementFlags(flags: KeyboardEnhancementFlags) => Command::PushKeyboardEnhancementFlags(flags);
-    PopKeyboardEnhancementFlags => Command::PopKeyboardEnhancementFlags;
+commands! {
+    /// Lets the mouse be told as events.
+    EnableMouseCapture => Proved::EnableMouseCapture;
+    /// Ends that.
+    DisableMouseCapture => Proved::DisableMouseCapture;
+    /// Lets the focus be told as events.
+    EnableFocusChange => Proved::EnableFocusChange;
+    /// Ends that.
+    DisableFocusChange => Proved::DisableFocusChange;
+    /// Lets kitty's keyboard protocol be spoken with these flags, until they are popped.
+    PushKeyboardEnhancementFlags(flags: KeyboardEnhancementFlags) => Proved::PushKeyboardEnhancementFlags(flags);
+    /// Ends that.
+    PopKeyboardEnhancementFlags => Proved::PopKeyboardEnhancementFlags;
 }
 
-#[derive(Default)]
-struct Reader {
-    parser: Parser,
-    waiting: VecDeque<InternalEvent>,
+#[cfg(feature = "bracketed-paste")]
+commands! {
+    /// Lets a text that is pasted come as one event.
+    EnableBracketedPaste => Proved::EnableBracketedPaste;
+    /// Ends that.
+    DisableBracketedPaste => Proved::DisableBracketedPaste;
 }
 
-static READER: Mutex<Option<Reader>> = Mutex::new(None);
-
-impl Reader {
-    /// The first event of a kind, and what waits for it at most until the limit; with no limit it waits on.
-    fn take<T>(&mut self, limit: Option<Instant>, of: impl Fn(&InternalEvent) -> Option<T>) -> io::Result<Option<T>> {
-        loop {
-            if let Some((place, found)) = self.waiting.iter().enumerate().find_map(|(i, event)| Some((i, of(event)?))) {
-                self.waiting.remove(place);
-                return Ok(Some(found));
-            }
-            if !self.fill(limit)? {
-                return Ok(None);
-            }
-        }
-    }
-
-    /// Reads what comes until the limit, and tells whether anything did.
-    fn fill(&mut self, limit: Option<Instant>) -> io::Result<bool> {
-        let left = limit.map(|limit| limit.saturating_duration_since(Instant::now()));
-        if !system::wait_for_input(left)? {
-            return Ok(false);
-        }
-        let mut buffer = [0; 1024];
-        let n = system::read_input(&mut buffer)?;
-        if n == 0 {
-            return Err(io::ErrorKind::UnexpectedEof.into());
-        }
-        let more = n == buffer.len();
-        self.waiting.extend(self.parser.feed(&buffer[..n], more, system::is_raw()));
-        Ok(true)
-    }
+/// Whether an event is there, for which it waits so long at most: `read` gives it at once then, where no other thread takes it.
+///
+/// Another thread's `read` keeps none from waiting, and any time is allowed, `Duration::MAX` too. The error is `UnexpectedEof` at the end
+/// of input, or the system's.
+pub fn poll(timeout: Duration) -> io::Result<bool> {
+    let limit = Instant::now().checked_add(timeout);
+    let told = reader::wait(limit, |state| state.has_event().then_some(()))?;
+    Ok(told.is_some())
 }
 
-fn with_reader<T>(f: impl FnOnce(&mut Reader) -> T) -> T {
-    let mut reader = READER.lock().unwrap_or_else(PoisonError::into_inner);
-    f(reader.get_or_insert_with(Reader::default))
-}
-
-fn user_event(event: &InternalEvent) -> Option<Event> {
-    match event {
-        InternalEvent::Event(event) => Some(event.clone()),
-        _ => None,
-    }
-}
-
-/// Whether an event comes within some time.
-pub fn poll(timeout: Duration) -> crate::Result<bool> {
-    let limit = Instant::now() + timeout;
-    with_reader(|reader| {
-        while !reader.waiting.iter().any(|event| user_event(event).is_some()) {
-            if !reader.fill(Some(limit))? {
-                return Ok(false);
-            }
-        }
-        Ok(true)
-    })
-}
-
-/// The next event, for which it waits.
-pub fn read() -> crate::Result<Event> {
+/// The next event, for which it waits. The error is `UnexpectedEof` at the end of input, or the system's.
+pub fn read() -> io::Result<Event> {
     loop {
-        if let Some(event) = with_reader(|reader| reader.take(None, user_event))? {
+        if let Some(event) = reader::wait(None, reader::State::take_event)? {
             return Ok(event);
         }
     }
 }
 
-pub(crate) fn ask_position() -> io::Result<(u16, u16)> {
-    let mut out = io::stdout();
-    out.write_all(b"\x1b[6n")?;
-    out.flush()?;
-    let limit = Instant::now() + Duration::from_secs(2);
-    let place = |event: &InternalEvent| match *event {
-        InternalEvent::CursorPosition(column, row) => Some((column, row)),
-        _ => None,
-    };
-    with_reader(|reader| reader.take(Some(limit), place))?.ok_or_else(|| io::ErrorKind::TimedOut.into())
+/// The next event, if one is there now: it doesn't wait.
+pub fn try_read() -> Option<Event> {
+    reader::wait(Some(Instant::now()), reader::State::take_event).ok().flatten()
 }

@@ -1,69 +1,41 @@
-//! Under crossterm 0.25's names, as far as a toolkit needs them, Gelvanh's proved parser and commands.
+//! crossterm 0.29's names on Linux, over Gelvanh's proved parser and commands.
 //!
-//! A program that knows crossterm takes it by `[patch.crates-io] crossterm = { path = ".../bindings/shim" }`. The terminal itself, its modes
-//! and its size, are the system's calls, in `system`.
+//! A program that depends on crossterm 0.29 runs on them with one more line in its `Cargo.toml`:
+//!
+//! ```toml
+//! [patch.crates-io]
+//! crossterm = { path = ".../bindings/shim" }
+//! ```
+//!
+//! Events are the proved parser's, and the bytes of commands are the proved commands'. This crate's part is ordinary Rust: the terminal's
+//! modes and size, the wait for its bytes, and the names. How it differs from crossterm is told in `bindings/README.md`.
+//!
+//! ```
+//! use crossterm::{cursor::MoveTo, queue, style::{Print, Stylize}};
+//!
+//! let mut out = Vec::new();
+//! queue!(out, MoveTo(2, 0), Print("plain "), Print("red".red()))?;
+//! assert_eq!(out, b"\x1b[1;3Hplain \x1b[38;5;9mred\x1b[39m");
+//! # Ok::<(), std::io::Error>(())
+//! ```
+#![deny(unsafe_code)]
+#![warn(missing_docs)]
 
+#[cfg(not(target_os = "linux"))]
+compile_error!("the proved archive is built for Linux alone");
+
+mod command;
+mod macros;
+#[allow(unsafe_code)]
+mod system;
+
+#[cfg(feature = "osc52")]
+pub mod clipboard;
 pub mod cursor;
+#[cfg(feature = "events")]
 pub mod event;
 pub mod style;
-mod system;
 pub mod terminal;
+pub mod tty;
 
-use std::io;
-
-pub type Result<T> = io::Result<T>;
-pub type ErrorKind = io::Error;
-
-/// A command that can be written.
-pub trait Command {
-    fn put(&self, writer: &mut dyn io::Write) -> Result<()>;
-}
-
-/// Whether colours are written: not where `NO_COLOR` is set and not empty.
-fn colors() -> bool {
-    use std::sync::OnceLock;
-    static COLORS: OnceLock<bool> = OnceLock::new();
-    *COLORS.get_or_init(|| std::env::var("NO_COLOR").map_or(true, |value| value.is_empty()))
-}
-
-fn write(writer: &mut dyn io::Write, command: gelvanh::Command) -> Result<()> {
-    gelvanh::write_command(writer, &command, colors())
-}
-
-/// Commands under crossterm's names, by those of `gelvanh`.
-macro_rules! commands {
-    ($($name:ident $(($($field:ident: $of:ty),*))? => $command:expr;)*) => {$(
-        #[derive(Clone, Copy, Debug, PartialEq, Eq)]
-        pub struct $name $(($(pub $of),*))?;
-
-        impl $crate::Command for $name {
-            fn put(&self, writer: &mut dyn std::io::Write) -> $crate::Result<()> {
-                $(let $name($($field),*) = *self;)?
-                $crate::write(writer, $command)
-            }
-        }
-    )*};
-}
-use commands;
-
-/// Writes commands.
-#[macro_export]
-macro_rules! queue {
-    ($writer:expr $(, $command:expr)* $(,)?) => {
-        (|| -> $crate::Result<()> {
-            $($crate::Command::put(&$command, &mut $writer)?;)*
-            Ok(())
-        })()
-    };
-}
-
-/// Writes commands, and flushes.
-#[macro_export]
-macro_rules! execute {
-    ($writer:expr $(, $command:expr)* $(,)?) => {
-        (|| -> $crate::Result<()> {
-            $($crate::Command::put(&$command, &mut $writer)?;)*
-            std::io::Write::flush(&mut $writer)
-        })()
-    };
-}
+pub use command::{Command, ExecutableCommand, QueueableCommand, SynchronizedUpdate};

@@ -1,31 +1,37 @@
 //! The system's calls, on Linux: all `unsafe` of this crate.
 
+use std::fs::{File, OpenOptions};
 use std::io;
+use std::os::unix::io::{AsRawFd, RawFd};
 use std::sync::{Mutex, PoisonError};
-use std::time::Duration;
+
+#[cfg(feature = "events")]
+mod signal;
+#[cfg(feature = "events")]
+mod wait;
+
+#[cfg(feature = "event-stream")]
+pub use signal::wake;
+#[cfg(feature = "events")]
+pub use signal::{resize_pipe, was_resized};
+#[cfg(feature = "events")]
+pub use wait::{read_some, wait_for};
 
 /// `struct termios`, which these calls alone look into; it has 60 bytes on Linux.
 #[derive(Clone, Copy)]
 #[repr(C, align(8))]
 struct Termios([u8; 128]);
 
-#[repr(C)]
-struct PollFd {
-    fd: i32,
-    events: i16,
-    revents: i16,
-}
-
 const TIOCGWINSZ: u64 = 0x5413;
-const POLLIN: i16 = 1;
+const STDIN: RawFd = 0;
+const STDOUT: RawFd = 1;
 
 extern "C" {
+    fn isatty(fd: i32) -> i32;
     fn tcgetattr(fd: i32, termios: *mut Termios) -> i32;
     fn tcsetattr(fd: i32, actions: i32, termios: *const Termios) -> i32;
     fn cfmakeraw(termios: *mut Termios);
     fn ioctl(fd: i32, request: u64, ...) -> i32;
-    fn poll(fds: *mut PollFd, count: u64, milliseconds: i32) -> i32;
-    fn read(fd: i32, buffer: *mut u8, length: usize) -> isize;
 }
 
 /// The mode before raw mode, where it is on.
@@ -38,6 +44,53 @@ fn check(answer: i32) -> io::Result<()> {
     Ok(())
 }
 
+/// Whether a descriptor is a terminal.
+pub fn is_terminal(fd: RawFd) -> bool {
+    // SAFETY: any number may be asked.
+    unsafe { isatty(fd) == 1 }
+}
+
+/// The terminal that keys come from.
+pub enum Terminal {
+    /// Standard input is one.
+    Stdin,
+    /// It isn't, so `/dev/tty` was opened.
+    Opened(File),
+}
+
+impl Terminal {
+    /// Standard input, or `/dev/tty` where that is no terminal.
+    pub fn open() -> io::Result<Terminal> {
+        if is_terminal(STDIN) {
+            return Ok(Terminal::Stdin);
+        }
+        OpenOptions::new().read(true).write(true).open("/dev/tty").map(Terminal::Opened)
+    }
+}
+
+impl AsRawFd for Terminal {
+    fn as_raw_fd(&self) -> RawFd {
+        match self {
+            Terminal::Stdin => STDIN,
+            Terminal::Opened(file) => file.as_raw_fd(),
+        }
+    }
+}
+
+/// Writes a query to standard output, or to `/dev/tty` where that is no terminal.
+#[cfg(feature = "events")]
+pub fn send(query: &[u8]) -> io::Result<()> {
+    use std::io::Write;
+    if !is_terminal(STDOUT) {
+        if let Ok(mut file) = OpenOptions::new().write(true).open("/dev/tty") {
+            return file.write_all(query);
+        }
+    }
+    let mut out = io::stdout();
+    out.write_all(query)?;
+    out.flush()
+}
+
 pub fn is_raw() -> bool {
     BEFORE.lock().unwrap_or_else(PoisonError::into_inner).is_some()
 }
@@ -47,12 +100,13 @@ pub fn enable_raw_mode() -> io::Result<()> {
     if before.is_some() {
         return Ok(());
     }
+    let terminal = Terminal::open()?;
     let mut termios = Termios([0; 128]);
     // SAFETY: the pointers are to a termios with room to spare.
-    check(unsafe { tcgetattr(0, &mut termios) })?;
+    check(unsafe { tcgetattr(terminal.as_raw_fd(), &mut termios) })?;
     let kept = termios;
     unsafe { cfmakeraw(&mut termios) };
-    check(unsafe { tcsetattr(0, 0, &termios) })?;
+    check(unsafe { tcsetattr(terminal.as_raw_fd(), 0, &termios) })?;
     *before = Some(kept);
     Ok(())
 }
@@ -60,36 +114,20 @@ pub fn enable_raw_mode() -> io::Result<()> {
 pub fn disable_raw_mode() -> io::Result<()> {
     let mut before = BEFORE.lock().unwrap_or_else(PoisonError::into_inner);
     if let Some(termios) = *before {
+        let terminal = Terminal::open()?;
         // SAFETY: as above.
-        check(unsafe { tcsetattr(0, 0, &termios) })?;
+        check(unsafe { tcsetattr(terminal.as_raw_fd(), 0, &termios) })?;
         *before = None;
     }
     Ok(())
 }
 
-/// Columns and rows.
-pub fn size() -> io::Result<(u16, u16)> {
+/// Rows, columns, and pixels across and down: of `/dev/tty`, or of standard output.
+pub fn window_size() -> io::Result<[u16; 4]> {
+    let opened = File::open("/dev/tty").ok();
+    let fd = opened.as_ref().map_or(STDOUT, AsRawFd::as_raw_fd);
     let mut size = [0u16; 4];
     // SAFETY: a `struct winsize` is four 16-bit numbers.
-    check(unsafe { ioctl(1, TIOCGWINSZ, size.as_mut_ptr()) })?;
-    Ok((size[1], size[0]))
-}
-
-/// Whether standard input has bytes within some time; with none it waits on.
-pub fn wait_for_input(time: Option<Duration>) -> io::Result<bool> {
-    let milliseconds = time.map_or(-1, |time| i32::try_from(time.as_millis()).unwrap_or(i32::MAX));
-    let mut fd = PollFd { fd: 0, events: POLLIN, revents: 0 };
-    // SAFETY: one `struct pollfd`.
-    let count = unsafe { poll(&mut fd, 1, milliseconds) };
-    match check(count) {
-        Ok(()) => Ok(count > 0),
-        Err(e) if e.kind() == io::ErrorKind::Interrupted => Ok(false),
-        Err(e) => Err(e),
-    }
-}
-
-pub fn read_input(buffer: &mut [u8]) -> io::Result<usize> {
-    // SAFETY: the buffer's own length.
-    let n = unsafe { read(0, buffer.as_mut_ptr(), buffer.len()) };
-    usize::try_from(n).map_err(|_| io::Error::last_os_error())
+    check(unsafe { ioctl(fd, TIOCGWINSZ, size.as_mut_ptr()) })?;
+    Ok(size)
 }

@@ -1,16 +1,96 @@
-//! Commands of the terminal, its mode and its size.
+//! The terminal: its modes, its size, and its screen.
 
-pub use crate::system::{disable_raw_mode, enable_raw_mode, size};
+use crate::macros::{commands, shown};
+use crate::{system, Command};
+use gelvanh::Command as Proved;
+use std::{fmt, io, process};
+
+#[cfg(feature = "events")]
+pub use crate::event::query::supports_keyboard_enhancement;
 pub use gelvanh::ClearType;
-use gelvanh::Command;
 
-crate::commands! {
-    EnterAlternateScreen => Command::EnterAlternateScreen;
-    LeaveAlternateScreen => Command::LeaveAlternateScreen;
-    EnableLineWrap => Command::EnableLineWrap;
-    DisableLineWrap => Command::DisableLineWrap;
-    Clear(cleared: ClearType) => Command::Clear(cleared);
-    ScrollUp(rows: u16) => Command::ScrollUp(rows);
-    ScrollDown(rows: u16) => Command::ScrollDown(rows);
-    SetSize(columns: u16, rows: u16) => Command::SetSize(columns, rows);
+/// Whether raw mode was turned on by `enable_raw_mode`, and not off again.
+pub fn is_raw_mode_enabled() -> io::Result<bool> {
+    Ok(system::is_raw())
 }
+
+/// Turns raw mode on: bytes come as they are typed, they aren't shown, and Ctrl-C is a key. In raw mode already, it does nothing.
+///
+/// The terminal is standard input, or `/dev/tty` where that isn't one.
+pub fn enable_raw_mode() -> io::Result<()> {
+    system::enable_raw_mode()
+}
+
+/// Turns back to the mode before raw mode. Not in raw mode, it does nothing.
+pub fn disable_raw_mode() -> io::Result<()> {
+    system::disable_raw_mode()
+}
+
+/// The window's columns and rows: of `/dev/tty`, or of standard output, or as `tput` tells them.
+pub fn size() -> io::Result<(u16, u16)> {
+    match window_size() {
+        Ok(size) => Ok((size.columns, size.rows)),
+        Err(error) => tput_number("cols").zip(tput_number("lines")).ok_or(error),
+    }
+}
+
+/// The number that `tput` prints, but 0.
+fn tput_number(name: &str) -> Option<u16> {
+    let output = process::Command::new("tput").arg(name).output().ok()?;
+    let number: u16 = std::str::from_utf8(&output.stdout).ok()?.trim().parse().ok()?;
+    Some(number).filter(|number| *number > 0)
+}
+
+/// The window's size.
+#[derive(Debug)]
+pub struct WindowSize {
+    /// In characters, from top to bottom.
+    pub rows: u16,
+    /// In characters, from left to right.
+    pub columns: u16,
+    /// In pixels; 0 where the terminal doesn't tell.
+    pub width: u16,
+    /// In pixels; 0 where the terminal doesn't tell.
+    pub height: u16,
+}
+
+/// The window's size, in characters and in pixels: of `/dev/tty`, or of standard output.
+pub fn window_size() -> io::Result<WindowSize> {
+    let [rows, columns, width, height] = system::window_size()?;
+    Ok(WindowSize { rows, columns, width, height })
+}
+
+commands! {
+    /// Lets a line that is too long be cut off.
+    DisableLineWrap => Proved::DisableLineWrap;
+    /// Lets a line that is too long go on in the next.
+    EnableLineWrap => Proved::EnableLineWrap;
+    /// Turns to the other screen, which can't be scrolled.
+    EnterAlternateScreen => Proved::EnterAlternateScreen;
+    /// Turns back to the first screen.
+    LeaveAlternateScreen => Proved::LeaveAlternateScreen;
+    /// Scrolls so many lines up; with 0 it writes nothing.
+    ScrollUp(lines: u16) => Proved::ScrollUp(lines);
+    /// Scrolls so many lines down; with 0 it writes nothing.
+    ScrollDown(lines: u16) => Proved::ScrollDown(lines);
+    /// Clears a part of the screen.
+    Clear(part: ClearType) => Proved::Clear(part);
+    /// Asks for a window of so many columns and rows.
+    SetSize(columns: u16, rows: u16) => Proved::SetSize(columns, rows);
+    /// Lets the terminal keep what it shows, until the update ends.
+    BeginSynchronizedUpdate => Proved::BeginSynchronizedUpdate;
+    /// Lets the terminal show all changes of the update.
+    EndSynchronizedUpdate => Proved::EndSynchronizedUpdate;
+}
+
+/// Gives the window a title, which is the value as `{}` shows it.
+#[derive(Clone, Copy, Debug, PartialEq, Eq)]
+pub struct SetTitle<T>(pub T);
+
+impl<T: fmt::Display> Command for SetTitle<T> {
+    fn write_ansi(&self, f: &mut impl fmt::Write) -> fmt::Result {
+        crate::command::write_proved(f, &Proved::SetTitle(&self.0.to_string()))
+    }
+}
+
+shown!(SetTitle<T>);

@@ -4,7 +4,8 @@
 //! `bench frame` writes the commands of one frame into memory, and prints how many bytes and commands they are. With `--time` each does
 //! so again and again for about a second, and prints the least time. `bench make NAME BYTES` writes an input of a kind:
 //! `letters`, `utf8`, `keys`, `mouse`, `paste` or `hostile`. `bench held REPLIES` prints the least time in which a key comes and is taken while so
-//! many replies are held. Its code stands on `crossterm` alone, by its public calls.
+//! many replies are held. `bench keys BINDINGS` prints the least time that a key takes which is fed to a matcher of so many bound lists. Its code stands
+//! on `crossterm` and `keymap`, by their public calls.
 #![tactic(auto)]
 
 use bench_modes::fault::Fault;

@@ -8,7 +8,7 @@ use thiserror::Error;
 #[derive(Debug, Clone, Copy, Error)]
 pub enum Fault {
     /// The command line is none of the program's.
-    #[error("bench: usage: bench [frame] [--time] | bench held REPLIES | bench make letters|utf8|keys|mouse|paste|hostile BYTES")]
+    #[error("bench: usage: bench [frame] [--time] | bench held REPLIES | bench keys BINDINGS | bench make letters|utf8|keys|mouse|paste|hostile BYTES")]
     Usage,
     #[error("bench: out of memory")]
     OutOfMemory,

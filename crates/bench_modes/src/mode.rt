@@ -2,7 +2,7 @@
 
 use crate::fault::Fault;
 use crate::workload::Workload;
-use crate::{frame, held, input};
+use crate::{frame, held, input, keys};
 use std::alloc::Allocator;
 use std::io::{Read, Write};
 use std::rt::Clock;
@@ -20,6 +20,8 @@ pub enum Mode {
     TimeFrame,
     /// Times a key behind so many held replies.
     TimeHeld(u32),
+    /// Times a key where so many lists are bound.
+    TimeKeys(u32),
     /// Writes so many bytes of a workload.
     Make(Workload, usize),
 }
@@ -52,6 +54,7 @@ impl Mode {
         match (first, second) {
             ("frame", "--time") => Some(Mode::TimeFrame),
             ("held", count) => Some(Mode::TimeHeld(count.parse().ok()?)),
+            ("keys", count) => Some(Mode::TimeKeys(count.parse().ok()?)),
             _ => None,
         }
     }
@@ -74,6 +77,7 @@ impl Mode {
             Mode::Frame => frame::count(alloc, writer),
             Mode::TimeFrame => frame::time(clock, alloc, writer),
             Mode::TimeHeld(replies) => held::time(clock, alloc, replies, writer),
+            Mode::TimeKeys(count) => keys::time(clock, alloc, count, writer),
             Mode::Make(workload, count) => workload.write(alloc, count, writer),
         }
     }

@@ -1,6 +1,8 @@
 -- What is asked of a helper that runs `stty`, and what it answers: lines.
-use Rattle.std.specs.Prelude.{◌≡◌, ℕ, List, ◌++◌, Option, Some, None, codes, ⊤}
+use Rattle.std.specs.Prelude.{◌≡◌, ◌≢◌, ◌⊎◌, ℕ, List, [], ◌++◌, Option, Some, Ok, Err, codes}
 use Rattle.std.specs.Io.KnownBytes.{Appends, Consumes}
+use Rattle.crossterm_command.specs.Writing.{AppendsFront}
+use Rattle.crossterm.specs.Modes.{ModeCall, Tells, SetsRaw, Sets, Sizes}
 use Rattle.crossterm.specs.Sizes.{both, size_in}
 use Rattle.crossterm.specs.declared.terminal.size.WindowSize.{WindowSize}
 use Rattle.crossterm.specs.declared.terminal.sys.stty.SttyMode.{SttyMode}
@@ -21,8 +23,36 @@ abbrev pub Asks : {R W : Type 0} → (R → Option (List ℕ)) → (W → Option
 Asks remaining contents request answer s t =
     Appends (contents s.requests) (contents t.requests) (line request) × Consumes (remaining s.answers) (remaining t.answers) answer
 
+-- A mode as a helper tells it: neither nothing, nor the word for a refusal.
+abbrev pub IsMode : List ℕ → Type 0
+IsMode text = (text ≢ []) × (text ≢ codes "failed")
+
+-- A request was written, and a mode was read for it: it's the one that stands.
+abbrev pub AsksMode : {R W : Type 0} → (R → Option (List ℕ)) → (W → Option (List ℕ)) → List ℕ → Stty R W → Stty R W → Type 0
+AsksMode remaining contents request s t = Asks remaining contents request (line t.mode.text.bytes) s t × IsMode t.mode.text.bytes
+
+-- A beginning of a request was written, or all of it, and nothing was told that counts: the mode before stands.
+abbrev pub Unanswered : {R W : Type 0} → (W → Option (List ℕ)) → List ℕ → Stty R W → Stty R W → Type 0
+Unanswered contents request s t = AppendsFront (contents s.requests) (contents t.requests) (line request) × (t.mode ≡ s.mode)
+
 -- A size was asked for, and is that of the two lines that answered: rows, and columns. Pixels aren't told.
-abbrev pub AsksSize : {R W : Type 0} → (R → Option (List ℕ)) → (W → Option (List ℕ)) → Stty R W → Option WindowSize → Stty R W → Type 0
-AsksSize remaining contents s None t = ⊤
-AsksSize remaining contents s (Some size) t = (rows : List ℕ) × (columns : List ℕ) × Asks remaining contents (codes "size") (line rows ++ line columns) s t
+abbrev pub AsksSize : {R W : Type 0} → (R → Option (List ℕ)) → (W → Option (List ℕ)) → Stty R W → WindowSize → Stty R W → Type 0
+AsksSize remaining contents s size t = (rows : List ℕ) × (columns : List ℕ) × Asks remaining contents (codes "size") (line rows ++ line columns) s t
     × (both (size_in columns) (size_in rows) ≡ Some (size.columns, size.rows)) × (size.width ≡ 0) × (size.height ≡ 0)
+
+-- The request for a mode.
+abbrev pub set_request : SttyMode → List ℕ
+set_request mode = codes "set " ++ mode.text.bytes
+
+-- A call, by what is asked of the helper and read from it. The mode that stands isn't asked for. A mode that is to be set and another that is told for it
+-- are a refusal, and the other one stands.
+abbrev pub stty_answered : {R W : Type 0} → (R → Option (List ℕ)) → (W → Option (List ℕ)) → Stty R W → ModeCall SttyMode → Stty R W → Type 0
+stty_answered remaining contents s (Tells (Ok mode)) t = (mode ≡ s.mode) × (t ≡ s)
+stty_answered remaining contents s (Tells (Err e)) t = ⊥
+stty_answered remaining contents s (SetsRaw mode (Ok _)) t = AsksMode remaining contents (codes "raw") s t
+stty_answered remaining contents s (SetsRaw mode (Err e)) t = Unanswered contents (codes "raw") s t
+stty_answered remaining contents s (Sets mode (Ok _)) t = AsksMode remaining contents (set_request mode) s t × (t.mode ≡ mode)
+stty_answered remaining contents s (Sets mode (Err e)) t =
+    Unanswered contents (set_request mode) s t ⊎ (AsksMode remaining contents (set_request mode) s t × (t.mode.text.bytes ≢ mode.text.bytes))
+stty_answered remaining contents s (Sizes (Ok size)) t = AsksSize remaining contents s size t × (t.mode ≡ s.mode)
+stty_answered remaining contents s (Sizes (Err e)) t = Unanswered contents (codes "size") s t

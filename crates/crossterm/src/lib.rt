@@ -14,10 +14,10 @@
 //! | `Functions` | 77 | the same of all commands, by their fields | `write_commands`, `queue_all` |
 //! | `Painted` | 32 | what they do to the look | `write_commands`, `queue_all` (`shown`) |
 //! | `Updates` | 17 | an update that a terminal shows at once | `SynchronizedUpdate::sync_update` |
-//! | `Modes` | 18 | a terminal's modes and its size | `Terminal::{enable_raw_mode, disable_raw_mode, window_size, size}` |
+//! | `Modes` | 71 | a terminal's modes and its size | `Terminal::{enable_raw_mode, disable_raw_mode, window_size, size}` |
 //! | `Sizes` | 31 | sizes as `tput` writes them | `tput_value` |
-//! | `Stty` | 28 | a helper that runs `stty` | `SttyDevice` |
-//! | `Asking` | 32 | queries, and raw mode around them | `cursor::position`, `terminal::query_keyboard_enhancement_flags` |
+//! | `Stty` | 58 | a helper that runs `stty` | `SttyDevice` |
+//! | `Asking` | 36 | queries, and raw mode around them | `cursor::position`, `terminal::query_keyboard_enhancement_flags` |
 //! | `Values` | 14 | what is cleared, as JSON and in its order | `ClearType`; `laws::declared_order` |
 //!
 //! A function's proof stands in `proofs/` at the function's path; where there is no file, the prover found it by itself.

@@ -14,7 +14,7 @@ use Rattle.crossterm_parse.specs.declared.paste.Met.TheVariants as met
 use Rattle.crossterm_parse.specs.declared.state.State.{State}
 use Rattle.crossterm_parse.specs.declared.state.State.TheVariants.{Ground, Escape, Ss3, Csi, LinuxKey, X10, Sgr, Private, Reply, Numbered, Paste, Utf8}
 use Rattle.crossterm_parse.proofs.ViewLaws.{advance_more}
-use Rattle.crossterm_parse.proofs.RunLaws.{advance_rest, puts_paste}
+use Rattle.crossterm_parse.proofs.RunLaws.{advance_rest, all_on, puts_paste}
 use Rattle.crossterm_c.specs.Feeding.{after_paste, view_of}
 
 -- the bytes of a piece up to a place, and more of what is left
@@ -30,7 +30,7 @@ skipped old mid kept waiting piece more raw i n l puts before =
     let rest = take n (take (length piece - i) (drop i piece)) in
     let whole : (kept ++ take i piece) ++ rest ≡ kept ++ take (i + n) piece = append_assoc kept (take i piece) rest ∙ ap (λ (bs : List ℕ). kept ++ bs) (taken_on piece i n) in
     subst (λ (bs : List ℕ). AdvancesOver (view_of old kept waiting) (view_of mid bs waiting) (take (i + n) (marked piece more raw))) whole
-    (advance_rest n (view_of old kept waiting) (view_of mid (kept ++ take i piece) waiting) (view_of mid ((kept ++ take i piece) ++ rest) waiting) piece more raw i l (puts (kept ++ take i piece)) before)
+    (advance_rest n (view_of old kept waiting) (view_of mid (kept ++ take i piece) waiting) (view_of mid ((kept ++ take i piece) ++ rest) waiting) piece more raw i l (all_on _ _ _ (puts (kept ++ take i piece))) before)
 
 left_anew : (t : Bool) (m : Met) (b : ℕ) → is_paste (state_left (if t then Open (Paste m) else met_anew b)) ≡ true
 left_anew true m b = refl

@@ -8,7 +8,7 @@ use Rattle.std.proofs.lemmas.List.{drop-drop, take_at}
 use Rattle.bstr.specs.Utf8.{Decoded, decoded, good, or_replacement}
 use Rattle.bstr.proofs.lemmas.PieceLemmas.{lossy_chars-step}
 use Rattle.bstr.proofs.lemmas.SoundLemmas.{SpellsChar-decoded}
-use Rattle.crossterm_c.specs.Text.{Begins, text_of}
+use Rattle.crossterm_c.specs.Text.{Begins, next_text, text_of}
 
 pub ascii_more : (bs : List ℕ) (b : ℕ) → AllByRecursion (λ x. x < 128) bs → b < 128 → AllByRecursion (λ x. x < 128) (bs ++ b ∷ [])
 ascii_more [] b all is = (is, tt)
@@ -18,22 +18,25 @@ text_step : (bs : List ℕ) → 0 < length bs → text_of bs ≡ encode_utf8 (or
 text_step bs some = ap encode_utf8_all (lossy_chars-step bs some)
 
 -- a character, whose bytes are its own
-pub begins_char : (bs : List ℕ) (c : ℕ) → 0 < length bs → (decoded bs).char ≡ Some c → Begins bs (take (decoded bs).size bs) (decoded bs).size
-begins_char bs c some is =
+pub next_char : (bs : List ℕ) (c : ℕ) → (decoded bs).char ≡ Some c → take (decoded bs).size bs ≡ next_text bs
+next_char bs c is =
     let spelt = SpellsChar-decoded bs c is in
     let n = (decoded bs).size in
-    let front : take n bs ≡ encode_utf8 c = ap (λ (xs : List ℕ). take n xs) spelt.bytes ∙ take_at (encode_utf8 c) (drop n bs) n spelt.width in
-    text_step bs some ∙ ap (λ (o : Option ℕ). encode_utf8 (or_replacement o) ++ text_of (drop n bs)) is ∙ ap (λ (xs : List ℕ). xs ++ text_of (drop n bs)) (sym front)
+    ap (λ (xs : List ℕ). take n xs) spelt.bytes ∙ take_at (encode_utf8 c) (drop n bs) n spelt.width ∙ ap (λ (o : Option ℕ). encode_utf8 (or_replacement o)) (sym is)
+
+pub begins_char : (bs : List ℕ) (c : ℕ) → 0 < length bs → (decoded bs).char ≡ Some c → Begins bs (take (decoded bs).size bs) (decoded bs).size
+begins_char bs c some is = text_step bs some ∙ ap (λ (xs : List ℕ). xs ++ text_of (drop (decoded bs).size bs)) (sym (next_char bs c is))
 
 replaced : encode_utf8 0xFFFD ≡ 239 ∷ 191 ∷ 189 ∷ []
 unfolding encode_utf8
 replaced = refl
 
 -- a part that is none
+pub next_none : (bs : List ℕ) → (decoded bs).char ≡ None → 239 ∷ 191 ∷ 189 ∷ [] ≡ next_text bs
+next_none bs is = sym replaced ∙ ap (λ (o : Option ℕ). encode_utf8 (or_replacement o)) (sym is)
+
 pub begins_none : (bs : List ℕ) → 0 < length bs → (decoded bs).char ≡ None → Begins bs (239 ∷ 191 ∷ 189 ∷ []) (decoded bs).size
-begins_none bs some is =
-    let rest = text_of (drop (decoded bs).size bs) in
-    text_step bs some ∙ ap (λ (o : Option ℕ). encode_utf8 (or_replacement o) ++ rest) is ∙ ap (λ (xs : List ℕ). xs ++ rest) replaced
+begins_none bs some is = text_step bs some ∙ ap (λ (xs : List ℕ). xs ++ text_of (drop (decoded bs).size bs)) (sym (next_none bs is))
 
 one_byte : (b : ℕ) → b < 128 → encode_utf8 b ≡ b ∷ []
 unfolding encode_utf8

@@ -181,12 +181,12 @@ abbrev pub copied : List ℕ → List ℕ → List Token
 copied content places = Osc (codes "52;" ++ (places ++ (codes ";" ++ encode_of standard content))) St ∷ []
 
 -- What comes of a text that is to be written into a slice: it stands in front of it, and the rest is as it was; or it doesn't fit, and
--- nothing was written. Its length is told in both. Where a command fails by itself nothing is known.
+-- nothing was written. Its length is told in both. Where a command fails by itself no length is told, and the slice may hold anything.
 abbrev pub Answers : List ℕ → List ℕ → List ℕ → ℕ → Outcome → Type 0
 Answers text old new n Written = (n ≡ length text) × (take n new ≡ text) × (drop n new ≡ drop n old)
 Answers text old new n TooSmall = (n ≡ length text) × (length old < n) × (new ≡ old)
 Answers text old new n NamesNothing = ⊥
-Answers text old new n Failed = ⊤
+Answers text old new n Failed = n ≡ 0
 
 -- The same of numbers that may name nothing: exactly then nothing was written, and no length is told.
 abbrev pub AnswersTo : Option (List ℕ) → List ℕ → List ℕ → ℕ → Outcome → Type 0
@@ -201,6 +201,13 @@ AnswersText utf8 text old new n outcome = (IsUtf8 utf8 → AnswersTo text old ne
 abbrev pub output_of : Bool → ColorOutput
 output_of colors = if colors then Enabled else Disabled
 
--- The outcome of a number.
-abbrev pub outcome_at : ℕ → Outcome
-outcome_at n = if n == 0 then Written else if n == 1 then TooSmall else if n == 2 then NamesNothing else Failed
+-- The outcome of a number: its place in declared order.
+abbrev pub outcome_at : ℕ → Option Outcome
+outcome_at n = slice_get (Written ∷ TooSmall ∷ NamesNothing ∷ Failed ∷ []) n
+
+-- It's none that a command failed by itself.
+abbrev pub HasNotFailed : Outcome → Type 0
+HasNotFailed Written = ⊤
+HasNotFailed TooSmall = ⊤
+HasNotFailed NamesNothing = ⊤
+HasNotFailed Failed = ⊥

@@ -1,11 +1,11 @@
--- Events as numbers, and what they tell. The numbers are those of `bindings/c/gelvanh.h`.
-use Rattle.std.specs.Prelude.{ℕ, ◌==◌, ◌-◌, if◌then◌else◌, List, [], ◌∷◌, length, take, get_or}
+-- Events as numbers, and what they tell. The numbers are those of `bindings/c/gelvanh.h`: any others are no event.
+use Rattle.std.specs.Prelude.{ℕ, ◌==◌, ◌-◌, ◌&&◌, ◌||◌, nat_lt, if◌then◌else◌, Bool, List, [], ◌∷◌, length, take, slice_get, Option, Some, None}
+use Rattle.std.specs.Option.{option_map}
 use Rattle.crossterm_types.specs.Keys.{modifiers_of}
 use Rattle.crossterm_types.specs.Seen.{Seen}
 use Rattle.crossterm_types.specs.Seen as seen
 use Rattle.crossterm_types.specs.declared.event.key.KeyCode.{KeyCode}
 use Rattle.crossterm_types.specs.declared.event.key.KeyCode.TheVariants as code
-use Rattle.crossterm_types.specs.declared.event.key.KeyEvent.{KeyEvent}
 use Rattle.crossterm_types.specs.declared.event.key.KeyEventKind.{KeyEventKind}
 use Rattle.crossterm_types.specs.declared.event.key.KeyEventKind.TheVariants as kind
 use Rattle.crossterm_types.specs.declared.event.key.MediaKeyCode.{MediaKeyCode}
@@ -14,7 +14,6 @@ use Rattle.crossterm_types.specs.declared.event.key.ModifierKeyCode.{ModifierKey
 use Rattle.crossterm_types.specs.declared.event.key.ModifierKeyCode.TheVariants as modifier
 use Rattle.crossterm_types.specs.declared.event.mouse.MouseButton.{MouseButton}
 use Rattle.crossterm_types.specs.declared.event.mouse.MouseButton.TheVariants as button
-use Rattle.crossterm_types.specs.declared.event.mouse.MouseEvent.{MouseEvent}
 use Rattle.crossterm_types.specs.declared.event.mouse.MouseEventKind.{MouseEventKind}
 use Rattle.crossterm_types.specs.declared.event.mouse.MouseEventKind.TheVariants as mouse
 use Rattle.crossterm_parse.specs.Meaning.{pasted}
@@ -26,9 +25,6 @@ media_keys =
     media.Play ∷ media.Pause ∷ media.PlayPause ∷ media.Reverse ∷ media.Stop ∷ media.FastForward ∷ media.Rewind ∷
     media.TrackNext ∷ media.TrackPrevious ∷ media.Record ∷ media.LowerVolume ∷ media.RaiseVolume ∷ media.MuteVolume ∷ []
 
-abbrev pub media_at : ℕ → MediaKeyCode
-media_at n = get_or media_keys n media.MuteVolume
-
 -- A modifier key, in declared order.
 abbrev pub modifier_keys : List ModifierKeyCode
 modifier_keys =
@@ -36,51 +32,88 @@ modifier_keys =
     modifier.RightShift ∷ modifier.RightControl ∷ modifier.RightAlt ∷ modifier.RightSuper ∷ modifier.RightHyper ∷ modifier.RightMeta ∷
     modifier.IsoLevel3Shift ∷ modifier.IsoLevel5Shift ∷ []
 
-abbrev pub modifier_at : ℕ → ModifierKeyCode
-modifier_at n = get_or modifier_keys n modifier.IsoLevel5Shift
-
--- A key, in declared order, with its number or its character.
+-- A key, in declared order, with its number or its character. After these come the keys of a media keyboard and the modifier keys.
 abbrev pub keys_with : ℕ → List KeyCode
 keys_with value =
     code.Backspace ∷ code.Enter ∷ code.Left ∷ code.Right ∷ code.Up ∷ code.Down ∷ code.Home ∷ code.End ∷ code.PageUp ∷ code.PageDown ∷
     code.Tab ∷ code.BackTab ∷ code.Delete ∷ code.Insert ∷ code.F value ∷ code.Char value ∷ code.Null ∷ code.Esc ∷ code.CapsLock ∷
-    code.ScrollLock ∷ code.NumLock ∷ code.PrintScreen ∷ code.Pause ∷ code.Menu ∷ code.KeypadBegin ∷ code.Media (media_at value) ∷
-    code.Modifier (modifier_at value) ∷ []
+    code.ScrollLock ∷ code.NumLock ∷ code.PrintScreen ∷ code.Pause ∷ code.Menu ∷ code.KeypadBegin ∷ []
 
-abbrev pub code_at : ℕ → ℕ → KeyCode
-code_at n value = get_or (keys_with value) n (code.Modifier (modifier_at value))
+-- The key of two numbers. The second one is 0 where the key has neither a number, nor a character, nor a place.
+abbrev pub code_at : ℕ → ℕ → Option KeyCode
+code_at n value =
+    if n == 25 then option_map code.Media (slice_get media_keys value) else
+    if n == 26 then option_map code.Modifier (slice_get modifier_keys value) else
+    if value == 0 || (n == 14 || n == 15) then slice_get (keys_with value) n else
+    None
 
 -- Whether a key was pressed, held or let go.
-abbrev pub press_at : ℕ → KeyEventKind
-press_at n = get_or (kind.Press ∷ kind.Repeat ∷ kind.Release ∷ []) n kind.Release
+abbrev pub press_at : ℕ → Option KeyEventKind
+press_at n = slice_get (kind.Press ∷ kind.Repeat ∷ kind.Release ∷ []) n
 
 -- A button of the mouse, in declared order.
-abbrev pub button_at : ℕ → MouseButton
-button_at n = get_or (button.Left ∷ button.Right ∷ button.Middle ∷ []) n button.Middle
+abbrev pub button_at : ℕ → Option MouseButton
+button_at n = slice_get (button.Left ∷ button.Right ∷ button.Middle ∷ []) n
 
--- What the mouse did, in declared order, with its button.
-abbrev pub acts_with : MouseButton → List MouseEventKind
-acts_with which =
-    mouse.Down which ∷ mouse.Up which ∷ mouse.Drag which ∷ mouse.Moved ∷
-    mouse.ScrollDown ∷ mouse.ScrollUp ∷ mouse.ScrollLeft ∷ mouse.ScrollRight ∷ []
+-- What the mouse did with a button, in declared order, and after it what it did without one.
+abbrev with_button : ℕ → Option MouseButton → Option MouseEventKind
+with_button n (Some which) = slice_get (mouse.Down which ∷ mouse.Up which ∷ mouse.Drag which ∷ []) n
+with_button n None = None
 
-abbrev pub done_at : ℕ → ℕ → MouseEventKind
-done_at n which = get_or (acts_with (button_at which)) n mouse.ScrollRight
+abbrev pub without_button : List MouseEventKind
+without_button = mouse.Moved ∷ mouse.ScrollDown ∷ mouse.ScrollUp ∷ mouse.ScrollLeft ∷ mouse.ScrollRight ∷ []
 
-abbrev pub key_at : GelvanhEvent → KeyEvent
-key_at e = record { code = code_at e.code e.value; modifiers = modifiers_of e.modifiers; kind = press_at e.press; state = record { 0 = e.state } }
+-- What the mouse did, of two numbers. The second one is 0 where it was no button.
+abbrev pub done_at : ℕ → ℕ → Option MouseEventKind
+done_at n value = if nat_lt n 3 then with_button n (button_at value) else if value == 0 then slice_get without_button (n - 3) else None
 
-abbrev pub mouse_at : GelvanhEvent → MouseEvent
-mouse_at e = record { kind = done_at e.code e.value; column = e.column; row = e.row; modifiers = modifiers_of e.modifiers }
+-- The key event of the numbers, by its key and by whether that was pressed, held or let go.
+abbrev key_by : GelvanhEvent → Option KeyCode → Option KeyEventKind → Option Seen
+key_by e (Some which) (Some press) = Some (seen.Key (record { code = which; modifiers = modifiers_of e.modifiers; kind = press; state = record { 0 = e.state } }))
+key_by e (Some which) None = None
+key_by e None press = None
 
--- The event that the numbers tell. A paste has its text with the caller, who kept the bytes of it, six of which are its end.
+-- The mouse event of the numbers, by what the mouse did.
+abbrev mouse_by : GelvanhEvent → Option MouseEventKind → Option Seen
+mouse_by e (Some done) = Some (seen.Mouse (record { kind = done; column = e.column; row = e.row; modifiers = modifiers_of e.modifiers }))
+mouse_by e None = None
+
+-- Numbers that are 0 in an event whose kind doesn't name them.
+abbrev no_code : GelvanhEvent → Bool
+no_code e = e.code == 0 && (e.value == 0 && e.modifiers == 0)
+
+abbrev no_press : GelvanhEvent → Bool
+no_press e = e.press == 0 && e.state == 0
+
+abbrev no_place : GelvanhEvent → Bool
+no_place e = e.column == 0 && e.row == 0
+
+abbrev no_flags : GelvanhEvent → Bool
+no_flags e = e.flags == 0
+
+abbrev is_bare : GelvanhEvent → Bool
+is_bare e = no_code e && (no_press e && (no_place e && no_flags e))
+
+abbrev only : Bool → Option Seen → Option Seen
+only is told = if is then told else None
+
+-- The event that the numbers tell, where they are an event's. A paste has its text with the caller, who kept the bytes of it, six of which are its end.
+abbrev pub told_by : List ℕ → GelvanhEvent → Option Seen
+told_by kept e =
+    if e.kind == 1 then only (is_bare e) (Some seen.FocusGained) else
+    if e.kind == 2 then only (is_bare e) (Some seen.FocusLost) else
+    if e.kind == 3 then only (no_place e && no_flags e) (key_by e (code_at e.code e.value) (press_at e.press)) else
+    if e.kind == 4 then only (no_press e && no_flags e) (mouse_by e (done_at e.code e.value)) else
+    if e.kind == 5 then only (is_bare e) (Some (pasted (take (length kept - 6) kept))) else
+    if e.kind == 6 then only (no_code e && (no_press e && no_flags e)) (Some (seen.CursorPosition e.column e.row)) else
+    if e.kind == 7 then only (no_code e && (no_press e && no_place e)) (Some (seen.KeyboardFlags (record { 0 = e.flags }))) else
+    if e.kind == 8 then only (is_bare e) (Some seen.PrimaryDeviceAttributes) else
+    None
+
+-- The same, where numbers that are no event's are taken for a resize. No bytes mean a resize, so these numbers are never given.
+abbrev or_resize : Option Seen → Seen
+or_resize (Some told) = told
+or_resize None = seen.Resize 0 0
+
 abbrev pub event_at : List ℕ → GelvanhEvent → Seen
-event_at kept e =
-    if e.kind == 1 then seen.FocusGained else
-    if e.kind == 2 then seen.FocusLost else
-    if e.kind == 3 then seen.Key (key_at e) else
-    if e.kind == 4 then seen.Mouse (mouse_at e) else
-    if e.kind == 5 then pasted (take (length kept - 6) kept) else
-    if e.kind == 6 then seen.CursorPosition e.column e.row else
-    if e.kind == 7 then seen.KeyboardFlags (record { 0 = e.flags }) else
-    seen.PrimaryDeviceAttributes
+event_at kept e = or_resize (told_by kept e)

@@ -1,6 +1,7 @@
 -- The text of a paste, piece by piece.
 use Rattle.std.specs.Prelude.{◌≡◌, ◌≤◌, ◌<◌, ◌+◌, ◌⊎◌, ℕ, List, ◌++◌, encode_utf8_all, length, take, drop}
-use Rattle.bstr.specs.Utf8.{lossy_chars}
+use Rattle.std.specs.Char.{encode_utf8}
+use Rattle.bstr.specs.Utf8.{decoded, lossy_chars, or_replacement}
 
 -- The text of some bytes, with U+FFFD for each maximal part that isn't UTF-8.
 abbrev pub text_of : List ℕ → List ℕ
@@ -10,9 +11,13 @@ text_of bytes = encode_utf8_all (lossy_chars bytes)
 abbrev pub Begins : List ℕ → List ℕ → ℕ → Type 0
 Begins bytes front place = text_of bytes ≡ front ++ text_of (drop place bytes)
 
--- So many bytes were read, and so many of their text written into a slice: all, or as many as it has room for in whole characters.
+-- The character in front of some bytes, as it's written: U+FFFD for a part that isn't UTF-8.
+abbrev pub next_text : List ℕ → List ℕ
+next_text bytes = encode_utf8 (or_replacement (decoded bytes).char)
+
+-- So many bytes were read, and so many of their text written into a slice: all, or as far as the next character has room.
 pub record Writes (bytes slice : List ℕ) (count read : ℕ) : Type 0 where
   pub within : read ≤ length bytes
   pub fits : count ≤ length slice
   pub text : Begins bytes (take count slice) read
-  pub whole : (read ≡ length bytes) ⊎ (length slice < count + 4)
+  pub whole : (read ≡ length bytes) ⊎ (length slice < count + length (next_text (drop read bytes)))

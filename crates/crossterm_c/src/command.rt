@@ -1,5 +1,5 @@
 //! Commands as numbers.
-ghost use Rattle.std.specs.Prelude.{◌≡◌};
+ghost use Rattle.std.specs.Prelude.{◌≡◌, IsSomeAnd};
 ghost use Rattle.crossterm_c.specs.Command.{AnswersTo, command_text, outcome_at, output_of};
 
 mod cursor;
@@ -62,7 +62,8 @@ fn write_any(command: &GelvanhCommand, colors: ColorOutput, slice: &mut [u8]) ->
 /// Writes a command that has no text of its own into a slice.
 ///
 /// It answers 0 where the text was written, and `length` is how many bytes it has; 1 where it has more bytes than the slice, and nothing
-/// was written; 2 where the numbers name no command, and nothing was written; 3 where the command failed by itself, which none is known to.
+/// was written; 2 where the numbers name no command, and nothing was written; 3 where the command failed by itself, which none is known to:
+/// then the slice may hold anything, and `length` is 0 as with 2.
 /// `colors` is false where colours aren't to be written, as with `NO_COLOR`.
 #[unsafe(no_mangle)]
 pub extern "C" fn gelvanh_command(
@@ -71,7 +72,7 @@ pub extern "C" fn gelvanh_command(
     slice: &mut [u8],
     length: &mut usize,
 ) -> u32
-    ensures { AnswersTo (command_text (output_of colors) command.now) slice.old slice.new length.new (outcome_at result) }
+    ensures { IsSomeAnd (outcome_at result) (λ outcome. AnswersTo (command_text (output_of colors) command.now) slice.old slice.new length.new outcome) }
 {
     write_any(command, output_of(colors), slice).tell(length)
 }

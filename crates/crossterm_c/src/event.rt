@@ -1,5 +1,5 @@
 //! Events as numbers.
-ghost use Rattle.std.specs.Prelude.{◌≡◌, ◌-◌, ℕ, List, length, take};
+ghost use Rattle.std.specs.Prelude.{◌≡◌, ◌-◌, ℕ, List, Some, length, take};
 ghost use Rattle.crossterm_types.specs.Seen.{Key, Mouse};
 ghost use Rattle.crossterm_parse.specs.Meaning.{pasted, seen_meaning};
 ghost use Rattle.crossterm_c.specs.Event.{code_at, done_at, event_at};
@@ -58,7 +58,7 @@ pub(crate) fn paste_end() -> GelvanhEvent
 
 /// The place of a key, and its number or its character.
 fn code_and_value(code: KeyCode) -> (u16, u32)
-    ensures { code_at result.0 result.1 ≡ code }
+    ensures { code_at result.0 result.1 ≡ Some code }
 {
     match code {
         KeyCode::Backspace => (0, 0),
@@ -93,7 +93,7 @@ fn code_and_value(code: KeyCode) -> (u16, u32)
 
 /// The place of what the mouse did, and its button.
 fn done_by_mouse(kind: MouseEventKind) -> (u16, u32)
-    ensures { done_at result.0 result.1 ≡ kind }
+    ensures { done_at result.0 result.1 ≡ Some kind }
 {
     match kind {
         MouseEventKind::Down(which) => (0, which as u32),

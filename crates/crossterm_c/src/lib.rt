@@ -10,10 +10,10 @@
 //! | Definitions | Lines | Of | Contract |
 //! |---|---|---|---|
 //! | `State` | 88 | the state of an open sequence as numbers | `gelvanh_is_undecided`, `gelvanh_is_pasting` |
-//! | `Event` | 86 | events as numbers | `gelvanh_feed` |
+//! | `Event` | 119 | events as numbers | `gelvanh_feed` |
 //! | `Feeding` | 54 | what a call does that takes bytes | `gelvanh_feed` |
-//! | `Text` | 18 | the text of a paste, piece by piece | `gelvanh_paste_text` |
-//! | `Command` | 206 | commands as numbers, and their texts | `gelvanh_command`, `gelvanh_print` and the like |
+//! | `Text` | 23 | the text of a paste, piece by piece | `gelvanh_paste_text` |
+//! | `Command` | 213 | commands as numbers, and their texts | `gelvanh_command`, `gelvanh_print` and the like |
 //! | `Outlet` | 9 | a slice that takes what fits | the same |
 //!
 //! A function's proof stands in `proofs/` at the function's path; where there is no file, the prover found it by itself.

@@ -1,7 +1,7 @@
 //! Commands into a caller's slice.
 ghost use Rattle.std.specs.Prelude.{◌≡◌, ◌≤◌, ◌+◌, ℕ, List, length, IfSome, IfNone, IfOk, OnOk, Some, None};
 ghost use Rattle.std.specs.Fmt.{WritesText};
-ghost use Rattle.crossterm_c.specs.Command.{Answers, outcome_at};
+ghost use Rattle.crossterm_c.specs.Command.{Answers, HasNotFailed, outcome_at};
 ghost use Rattle.crossterm_c.specs.Outlet.{Puts};
 
 use arrayvec::ArrayString;
@@ -25,7 +25,7 @@ pub(crate) enum Outcome {
 impl Outcome {
     /// Its number.
     pub(crate) fn number(self) -> u32
-        ensures { outcome_at result ≡ self }
+        ensures { outcome_at result ≡ Some self }
     {
         match self {
             Outcome::Written => 0,
@@ -54,10 +54,20 @@ impl Answer {
         }
     }
 
+    /// A command that failed by itself.
+    fn failed() -> Answer
+        ensures { result ≡ record { outcome = Outcome.Failed; length = 0 } }
+    {
+        Answer {
+            outcome: Outcome::Failed,
+            length: 0,
+        }
+    }
+
     /// The outcome's number for the caller, and the length.
     pub(crate) fn tell(self, length: &mut usize) -> u32
         ensures length { length.new ≡ self.length }
-        ensures outcome { outcome_at result ≡ self.outcome }
+        ensures outcome { outcome_at result ≡ Some self.outcome }
     {
         *length = self.length;
         self.outcome.number()
@@ -111,7 +121,8 @@ fn fill<C: Command>(command: &C, colors: ColorOutput, slice: &mut [u8]) -> Resul
 
 /// Writes a text.
 pub(crate) fn put(text: &str, slice: &mut [u8]) -> Answer
-    ensures { Answers text.now slice.old slice.new result.length result.outcome }
+    ensures text { Answers text.now slice.old slice.new result.length result.outcome }
+    ensures runs { HasNotFailed result.outcome }
 {
     let length = text.len();
     if text.len() > slice.len() {
@@ -133,10 +144,7 @@ fn write_long<C: Command>(command: &C, colors: ColorOutput, slice: &mut [u8]) ->
     ensures { IfSome (C.text command.now colors) (λ text. Answers text slice.old slice.new result.length result.outcome) }
 {
     let Ok(length) = fill(command, colors, &mut []) else {
-        return Answer {
-            outcome: Outcome::Failed,
-            length: 0,
-        };
+        return Answer::failed();
     };
     if length > slice.len() {
         return Answer {
@@ -144,11 +152,13 @@ fn write_long<C: Command>(command: &C, colors: ColorOutput, slice: &mut [u8]) ->
             length,
         };
     }
-    let outcome = match fill(command, colors, slice) {
-        Ok(_) => Outcome::Written,
-        Err(fmt::Error) => Outcome::Failed,
-    };
-    Answer { outcome, length }
+    match fill(command, colors, slice) {
+        Ok(_) => Answer {
+            outcome: Outcome::Written,
+            length,
+        },
+        Err(fmt::Error) => Answer::failed(),
+    }
 }
 
 /// Writes a command: at once where its text is short.

@@ -63,7 +63,7 @@ pub extern "C" fn gelvanh_is_pasting(state: &GelvanhState) -> bool
     state_of(state).is_paste()
 }
 
-/// Writes the text of a paste's bytes, with U+FFFD for each maximal part that isn't UTF-8, as far as there is room for whole characters.
+/// Writes the text of a paste's bytes, with U+FFFD for each maximal part that isn't UTF-8, as far as the next character has room.
 ///
 /// It tells how many bytes were read: where they aren't all, the text of the others is still missing. `written` is how many bytes of the
 /// slice were written.

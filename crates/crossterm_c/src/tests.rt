@@ -97,6 +97,21 @@ fn a_paste_stops_at_its_start_and_at_its_end(rt: HostRuntime) {
     assert_eq!(rt; events[0], plain(5));
 }
 
+/// The parameters by their places in the header.
+#[test]
+fn more_and_raw_are_told_apart(rt: HostRuntime) {
+    let mut state = GelvanhState::default();
+    let mut events = [plain(0); 2];
+    let mut count = 0;
+    // More follows at once: ESC is no Esc key yet.
+    let taken = gelvanh_feed(&mut state, b"\x1b", true, false, &mut events, &mut count);
+    assert_eq!(rt; (taken, count, gelvanh_is_undecided(&state)), (1, 0, true));
+    let mut state = GelvanhState::default();
+    // A line feed is Ctrl-J in raw mode alone.
+    let taken = gelvanh_feed(&mut state, b"\n", false, true, &mut events, &mut count);
+    assert_eq!(rt; (taken, count, events[0]), (1, 1, character('j', 2)));
+}
+
 #[test]
 fn a_pastes_text_is_written_as_far_as_there_is_room(rt: HostRuntime) {
     let mut text = [0u8; 5];
@@ -108,6 +123,12 @@ fn a_pastes_text_is_written_as_far_as_there_is_room(rt: HostRuntime) {
     let read = gelvanh_paste_text(&bytes[3..], &mut text, &mut written);
     assert_eq!(rt; (read, written), (3, 3));
     assert!(rt; text.starts_with("üc".as_bytes()));
+    // The slice is filled to its end, and its last byte has no room for two.
+    let mut short = [0u8; 2];
+    let read = gelvanh_paste_text(b"abc", &mut short, &mut written);
+    assert_eq!(rt; (read, written, short), (2, 2, *b"ab"));
+    let read = gelvanh_paste_text("aüb".as_bytes(), &mut short, &mut written);
+    assert_eq!(rt; (read, written), (1, 1));
 }
 
 #[test]

@@ -2,7 +2,7 @@
 ghost use Rattle.std.specs.Prelude.{◌≡◌, ◌⊎◌, ◌≤◌, ◌<◌, ◌+◌, ◌++◌, length, take, drop};
 ghost use Rattle.std.specs.List.{AllByRecursion};
 ghost use Rattle.bstr.specs.Utf8.{decoded};
-ghost use Rattle.crossterm_c.specs.Text.{Begins, Writes};
+ghost use Rattle.crossterm_c.specs.Text.{Begins, Writes, next_text};
 
 use bstr::decode_utf8;
 
@@ -27,7 +27,6 @@ fn character_of(bytes: &[u8]) -> (Option<char>, usize)
     requires { 0 < length bytes.now }
     ensures decoded { (result.0 ≡ (decoded bytes.now).char) × (result.1 ≡ (decoded bytes.now).size) }
     ensures some { 0 < result.1 }
-    ensures few { result.1 ≤ 4 }
     ensures within { result.1 ≤ length bytes.now }
 {
     decode_utf8(bytes)
@@ -39,7 +38,7 @@ fn front_of<'a>(bytes: &'a [u8], room: usize) -> (&'a [u8], usize)
     ensures some { 0 < result.1 }
     ensures within { result.1 ≤ length bytes.now }
     ensures text { Begins bytes.now result.0.now result.1 }
-    ensures short { (length result.0.now ≤ room) ⊎ (length result.0.now ≤ 4) }
+    ensures short { (length result.0.now ≤ room) ⊎ (result.0.now ≡ next_text bytes.now) }
 {
     let count = ascii_in(&bytes[..bytes.len().min(room)]);
     if count > 0 {
@@ -51,8 +50,8 @@ fn front_of<'a>(bytes: &'a [u8], room: usize) -> (&'a [u8], usize)
     }
 }
 
-/// Writes the text of some bytes, as far as there is room for whole characters. It tells how many bytes were read; `written` is how many
-/// were written.
+/// Writes the text of some bytes, as far as the next character has room. It tells how many bytes were read; `written` is how many were
+/// written.
 pub(crate) fn write_text(bytes: &[u8], text: &mut [u8], written: &mut usize) -> usize
     ensures { Writes bytes.now text.new written.new result }
 {

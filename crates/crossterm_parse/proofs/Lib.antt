@@ -11,3 +11,4 @@ pub mod PasteLaws
 pub mod RunLaws
 pub mod ViewLaws
 pub mod Utf8Laws
+pub mod UppercaseTrie

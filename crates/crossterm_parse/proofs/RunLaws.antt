@@ -10,10 +10,10 @@ use Rattle.bstr.proofs.lemmas.PieceLemmas.{by-shape}
 use Rattle.crossterm_parse.specs.inside.Recognizer.{is_lead, is_continuing, further_after}
 use Rattle.crossterm_parse.specs.Meaning.{typed, decoded_character}
 use Rattle.memchr.specs.Find.{Nowhere, Passes, is_byte}
-use Rattle.crossterm_parse.specs.inside.Automaton.{IsCharacterOf, IsLetter, state_after, state_left, text_left, events_left, is_paste, Opens, StateRepresents, kept_text}
+use Rattle.crossterm_parse.specs.inside.Automaton.{IsCharacterOf, IsLetter, state_after, state_left, text_left, events_left, is_paste, Opens, OpensWith, StateRepresents, kept_text}
 use Rattle.crossterm_parse.specs.Marked.{Marked, bytes_of, marked}
 use Rattle.crossterm_parse.specs.View.{ParserView, Represents, AdvancesOver}
-use Rattle.crossterm_parse.specs.inside.Putting.{Gives, PutsAll, PutsByte}
+use Rattle.crossterm_parse.specs.inside.Putting.{Gives, PutsAll, PutsByte, PutsOn}
 use Rattle.crossterm_parse.specs.declared.paste.Met.TheVariants as met
 use Rattle.crossterm_parse.specs.declared.state.State.{State}
 use Rattle.crossterm_parse.specs.declared.state.State.TheVariants.{Ground, Escape, Ss3, Csi, LinuxKey, X10, Sgr, Private, Reply, Numbered, Paste, Utf8}
@@ -68,6 +68,24 @@ puts_on old mid new bs i n all more =
     let left : length (drop i bs) ≤ length bs - i = omega (arith, length-drop i bs) in
     subst (PutsAll old new) (take_join i n bs)
     (puts_join old mid new (take i bs) (take n (drop i bs)) all (subst (λ (cs : List ℕ). PutsAll mid new (take n cs)) (take_all (length bs - i) (drop i bs) left) more))
+
+-- bytes after which pauses may stand are bytes after which none need to
+pub all_on : (bs : List ℕ) (old new : ParserView) → PutsAll old new bs → PutsOn old new bs
+all_on [] old new all = all
+all_on (b ∷ bs) old new all = (all.0, (λ raw pause last. all.1 raw pause), all_on bs all.0 new all.2)
+
+on_join : (bs cs : List ℕ) (old mid new : ParserView) → PutsAll old mid bs → PutsOn mid new cs → PutsOn old new (bs ++ cs)
+on_join [] [] old mid new same on = (on.0 ∙ same.0, on.1 ∙ same.1, on.2 ∙ same.2)
+on_join [] (c ∷ cs) old mid new same on = (on.0, (λ raw pause last. same_start old mid on.0 c raw pause same (on.1 raw pause last)), on.2)
+on_join (b ∷ bs) cs old mid new all on = (all.0, (λ raw pause last. all.1 raw pause), on_join bs cs all.0 mid new all.2 on)
+
+-- more bytes of what is left
+pub on_after : (old mid new : ParserView) (bs : List ℕ) (i n : ℕ) → PutsAll old mid (take i bs) → PutsOn mid new (take n (take (length bs - i) (drop i bs)))
+    → PutsOn old new (take (i + n) bs)
+on_after old mid new bs i n all more =
+    let left : length (drop i bs) ≤ length bs - i = omega (arith, length-drop i bs) in
+    subst (PutsOn old new) (take_join i n bs)
+    (on_join (take i bs) (take n (drop i bs)) old mid new all (subst (λ (cs : List ℕ). PutsOn mid new (take n cs)) (take_all (length bs - i) (drop i bs) left) more))
 
 plain_byte : (old : ParserView) (b : ℕ) (raw pause : Bool) → b == 27 ≡ false → old.state ≡ Paste met.Nothing
     → PutsByte old (record { waiting = old.waiting; state = old.state; text = old.text ++ b ∷ []; room = old.room }) b raw pause
@@ -129,28 +147,34 @@ advance_still old mid new taken same over before represents undecided =
     let a = over before represents undecided in
     record { parts = a.parts; rest = a.rest; division = a.division; given = same.2 ∙ a.given; represents = still mid new a.rest same a.represents }
 
+last_byte : (piece : List ℕ) (quiet : Bool) (i n : ℕ) → i + suc n ≤ length piece → i + 1 == length piece ≡ true → length (take n (drop (i + 1) piece)) ≡ 0
+last_byte piece quiet i n l last =
+    let end : i + 1 ≡ length piece = grind (arith, nat_tests) in
+    let none : n ≡ 0 = omega (arith, l, end) in
+    ap (λ (m : ℕ). length (take m (drop (i + 1) piece))) none
+
 -- a run
-pub advance_run : (n : ℕ) (old mid new : ParserView) (piece : List ℕ) (more raw : Bool) (i : ℕ) → i + n ≤ length piece → PutsAll mid new (take n (drop i piece))
+pub advance_run : (n : ℕ) (old mid new : ParserView) (piece : List ℕ) (more raw : Bool) (i : ℕ) → i + n ≤ length piece → PutsOn mid new (take n (drop i piece))
     → AdvancesOver old mid (take i (marked piece more raw)) → AdvancesOver old new (take (i + n) (marked piece more raw))
 advance_run zero old mid new piece more raw i l all before =
     let none : i ≡ i + 0 = omega arith in
     subst (λ (j : ℕ). AdvancesOver old new (take j (marked piece more raw))) none (advance_still old mid new (take i (marked piece more raw)) all before)
 advance_run (suc n) old mid new piece more raw i l all before =
     let lt : i < length piece = omega (arith, l) in
-    let front : PutsAll mid new (get_or piece i 0 ∷ take n (drop (i + 1) piece)) = subst (PutsAll mid new) (ap (λ (bs : List ℕ). take (suc n) bs) (drop_more piece i 0 lt)) all in
+    let front : PutsOn mid new (get_or piece i 0 ∷ take n (drop (i + 1) piece)) = subst (PutsOn mid new) (ap (λ (bs : List ℕ). take (suc n) bs) (drop_more piece i 0 lt)) all in
     let pause : Bool = not more && (i + 1 == length piece) in
-    let one = front.1 raw pause in
+    let one = front.1 raw pause (λ p. last_byte piece (not more) i n l (and_parts (not more) (i + 1 == length piece) p).1) in
     let next = advance_more old mid front.0 piece more raw i (get_or piece i 0) pause lt refl refl one.0 one.1 one.2 before in
     let on : i + 1 + n ≡ i + suc n = omega arith in
     subst (λ (j : ℕ). AdvancesOver old new (take j (marked piece more raw))) on (advance_run n old front.0 new piece more raw (i + 1) (omega (arith, l)) front.2 next)
 
 -- a run over what is left of the piece
 pub advance_rest : (n : ℕ) (old mid new : ParserView) (piece : List ℕ) (more raw : Bool) (i : ℕ) → i + n ≤ length piece
-    → PutsAll mid new (take n (take (length piece - i) (drop i piece)))
+    → PutsOn mid new (take n (take (length piece - i) (drop i piece)))
     → AdvancesOver old mid (take i (marked piece more raw)) → AdvancesOver old new (take (i + n) (marked piece more raw))
 advance_rest n old mid new piece more raw i l all before =
     let left : length (drop i piece) ≤ length piece - i = omega (arith, length-drop i piece) in
-    advance_run n old mid new piece more raw i l (subst (λ (bs : List ℕ). PutsAll mid new (take n bs)) (take_all (length piece - i) (drop i piece) left) all) before
+    advance_run n old mid new piece more raw i l (subst (λ (bs : List ℕ). PutsOn mid new (take n bs)) (take_all (length piece - i) (drop i piece) left) all) before
 
 -- one more byte with which a sequence goes on
 pub opens_more : (old mid new : State) (bs : List ℕ) (b : ℕ) → Opens old mid bs → ((raw pause : Bool) → state_after mid b raw pause ≡ Open new) → is_paste new ≡ false
@@ -170,6 +194,65 @@ opens_puts (b ∷ bs) old new opens text waiting =
       sym (ap (λ (s : Step). old.waiting ++ events_left s old.text) (opens.1 raw pause) ∙ append-nil old.waiting),
     ) in
     (mid, puts, opens_puts bs mid new opens.3 text waiting)
+
+opens_join : (bs cs : List ℕ) (old mid new : State) → Opens old mid bs → Opens mid new cs → Opens old new (bs ++ cs)
+opens_join [] cs old mid new same more = subst (λ (s : State). Opens s new cs) same more
+opens_join (b ∷ bs) cs old mid new all more = (all.0, all.1, all.2, opens_join bs cs all.0 mid new all.3 more)
+
+-- ESC and a byte that stands with it
+escape_byte : (old : ParserView) (b : ℕ) (bs : List ℕ) (raw pause : Bool) → (pause ≡ true → length (b ∷ bs) ≡ 0) → old.state ≡ Ground
+    → PutsByte old (record { waiting = old.waiting; state = Escape; text = old.text; room = old.room }) 27 raw pause
+escape_byte old b bs raw true last ground = absurd (omega (arith, last refl))
+escape_byte old b bs raw false last ground =
+    let step : state_after old.state 27 raw false ≡ Open Escape = ap (λ (s : State). state_after s 27 raw false) ground in (
+      ap (λ (s : Step). state_left s) (sym step),
+      sym (ap (λ (s : Step). text_left s old.state old.text 27) step),
+      sym (ap (λ (s : Step). old.waiting ++ events_left s old.text) step ∙ append-nil old.waiting),
+    )
+
+escape_on : (old new : ParserView) (b : ℕ) (bs : List ℕ) → old.state ≡ Ground → Opens Escape new.state (b ∷ bs) → new.text ≡ old.text → new.waiting ≡ old.waiting
+    → PutsOn old new (27 ∷ b ∷ bs)
+escape_on old new b bs ground opens text waiting =
+    let mid : ParserView = record { waiting = old.waiting; state = Escape; text = old.text; room = old.room } in (
+      mid,
+      (λ raw pause last. escape_byte old b bs raw pause last ground),
+      all_on (b ∷ bs) mid new (opens_puts (b ∷ bs) mid new opens text waiting),
+    )
+
+-- a sequence that opens, or nothing
+pub opened_on : (n : ℕ) (old new : ParserView) (bs : List ℕ) → old.state ≡ Ground → (n ≡ 0 → new.state ≡ Ground) → (0 < n → OpensWith new.state (take n bs))
+    → new.text ≡ old.text → new.waiting ≡ old.waiting → PutsOn old new (take n bs)
+opened_on zero old new bs ground none some text waiting = (none refl ∙ sym ground, text, waiting)
+opened_on (suc n) old new bs ground none some text waiting =
+    let opens = some (omega arith) in
+    subst (PutsOn old new) (sym opens.2) (escape_on old new opens.0 opens.1 ground opens.3 text waiting)
+
+first_bytes : (bs : List ℕ) → 3 ≤ length bs → bs ≡ slice_index bs 0 ∷ slice_index bs 1 ∷ slice_index bs 2 ∷ drop 3 bs
+first_bytes bs l =
+    drop_more bs 0 0 (omega (arith, l))
+    ∙ ap (λ t. slice_index bs 0 ∷ t) (drop_more bs 1 0 (omega (arith, l)))
+    ∙ ap (λ t. slice_index bs 0 ∷ slice_index bs 1 ∷ t) (drop_more bs 2 0 (omega (arith, l)))
+
+pub opens_two : (new : State) (bs : List ℕ) → 3 ≤ length bs → slice_index bs 0 ≡ 27 → Opens Escape new (slice_index bs 1 ∷ []) → OpensWith new (take 2 bs)
+opens_two new bs l first opens = (
+  slice_index bs 1,
+  [],
+  ap (λ (cs : List ℕ). take 2 cs) (first_bytes bs l) ∙ ap (λ (b : ℕ). b ∷ slice_index bs 1 ∷ []) first,
+  opens,
+)
+
+pub opens_three : (mid new : State) (bs : List ℕ) (n : ℕ) → 3 ≤ length bs → slice_index bs 0 ≡ 27 → Opens Escape mid (slice_index bs 1 ∷ slice_index bs 2 ∷ [])
+    → Opens mid new (take n (take (length bs - 3) (drop 3 bs))) → OpensWith new (take (3 + n) bs)
+opens_three mid new bs n l first opens more =
+    let left : length (drop 3 bs) ≤ length bs - 3 = omega (arith, length-drop 3 bs) in
+    let on : 3 + n ≡ suc (suc (suc n)) = omega arith in
+    let rest = take n (drop 3 bs) in (
+      slice_index bs 1,
+      slice_index bs 2 ∷ rest,
+      ap (λ (m : ℕ). take m bs) on ∙ ap (λ (cs : List ℕ). take (suc (suc (suc n))) cs) (first_bytes bs l) ∙ ap (λ (b : ℕ). b ∷ slice_index bs 1 ∷ slice_index bs 2 ∷ rest) first,
+      opens_join (slice_index bs 1 ∷ slice_index bs 2 ∷ []) rest Escape mid new opens
+          (subst (λ (cs : List ℕ). Opens mid new (take n cs)) (take_all (length bs - 3) (drop 3 bs) left) more),
+    )
 
 -- letters
 letter_after : (b : ℕ) → IsLetter b → (raw pause : Bool) → state_after Ground b raw pause ≡ Whole (Some (typed b))

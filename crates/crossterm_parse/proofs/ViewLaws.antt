@@ -1,6 +1,6 @@
 -- What one more byte, and one more piece, do to what a parser represents.
 use Rattle.std.proofs.Common.{◌≡◌, ◌==◌, ◌<◌, ℕ, ◌+◌, Bool, true, false, not, cond, ◌&&◌, ◌||◌, List, [], ◌∷◌, ◌++◌, length, take, get_or, zero, suc, refl, ap, sym, ◌∙◌, subst, arith, append_assoc, Option, Some, None, option_to_list, drop, inl, inr, ◌⊎◌, ◌-◌, ◌*◌, ◌≤◌, length-drop}
-use Rattle.std.proofs.lemmas.List.{append-nil, take_more, append_cancel_left, take-append-drop, take-append-le, length_push}
+use Rattle.std.proofs.lemmas.List.{append-nil, drop_more, take_more, append_cancel_left, take-append-drop, take-append-le, length_push}
 use Rattle.std.proofs.lemmas.Bool.{false≢true, cases_Bool}
 use Rattle.std.proofs.lemmas.Bool.Decides.{nat_tests}
 use Rattle.std.proofs.lemmas.List.Elements.{filter_map-append}
@@ -422,6 +422,23 @@ byte_quiet old mid piece more raw i b pause l is_byte is_pause before q =
       not_pasting mid at_i.rest (drop i ms) at_i.others at_i.last at_i.represents at_i.undecided at_i.division (quiet_first at_i.others at_i.none) at_i.no_paste,
       nothing_more mid.waiting (events_left step mid.text) (at_next.same ∙ sym at_i.same),
     )
+
+twice_not : (p : Bool) → p ≡ not (not p) && true
+twice_not true = refl
+twice_not false = refl
+
+-- a byte at some place of a piece that ends no event from there on
+pub byte_rests : (mid : ParserView) (piece : List ℕ) (more raw : Bool) (i b : ℕ) (pause : Bool) → i < length piece
+    → b ≡ get_or piece i 0 → pause ≡ not more && (i + 1 == length piece)
+    → EndsNoEvent mid (take 1 (drop i (marked piece more raw)))
+    → (is_paste mid.state ≡ false) × (events_left (state_after mid.state b raw pause) mid.text ≡ [])
+byte_rests mid piece more raw i b pause l is_byte is_pause q =
+    let ms = marked piece more raw in
+    let m : Marked = at b raw pause in
+    let read : get_or ms i m ≡ m = get_or-marked piece more raw i m l ∙ rw (is_byte, is_pause) refl in
+    let one : take 1 (drop i ms) ≡ m ∷ [] = ap (λ (xs : List Marked). take 1 xs) (drop_more ms i m (omega (arith, length-marked piece more raw))) ∙ ap (λ (n : Marked). n ∷ []) read in
+    let same : m ∷ [] ≡ marked (b ∷ []) (not pause) raw = ap (λ (p : Bool). at b raw p ∷ []) (twice_not pause ∙ sym (and_true_right (not (not pause)))) in
+    byte_quiet mid mid (b ∷ []) (not pause) raw 0 b pause (omega arith) refl (twice_not pause) (advance_none mid) (subst (EndsNoEvent mid) (one ∙ same) q)
 
 -- a byte of a piece that opens no paste stands in none
 pub byte_free : (old mid : ParserView) (ms : List Marked) (i : ℕ) → AdvancesOver old mid (take i ms) → OpensNoPaste old ms → is_paste mid.state ≡ false

@@ -61,4 +61,6 @@ pub mod parse;
 pub mod paste;
 pub mod state;
 pub mod steps;
+mod uppercase;
+mod uppercase_table;
 pub mod utf8;

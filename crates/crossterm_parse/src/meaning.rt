@@ -9,12 +9,12 @@ ghost use Rattle.crossterm_parse.specs.Meaning.{pressed_with, typed, single, dec
 use crate::letters::letter_key;
 use crate::mouse::{byte_less, report};
 use crate::number::Number;
+use crate::uppercase::is_uppercase;
 use bstr::decode_utf8;
 use crossterm_types::event::{
     Event, InternalEvent, KeyCode, KeyEvent, KeyModifiers, KeyboardEnhancementFlags, MouseEvent,
 };
 use std::alloc::Allocator;
-use unicode::properties::is_uppercase;
 
 /// What a sequence means that has no text of its own.
 #[derive(Clone, Copy)]

@@ -1,5 +1,5 @@
 //! The parser: bytes are handed in as they come, and events are given as their sequences end.
-ghost use Rattle.std.specs.Prelude.{◌≡◌, ◌≢◌, ◌↔◌, ◌==◌, ◌&&◌, not, ◌+◌, ◌-◌, ◌*◌, ◌≤◌, ◌<◌, false, true, [], ◌∷◌, ◌++◌, Bool, List, length, map, take, option_to_list, None, IsOk, is_ok, IsTrue, IfNone, IfSome, IfOk, IfErr, OnOk, OnErr};
+ghost use Rattle.std.specs.Prelude.{◌≡◌, ◌≢◌, ◌↔◌, ◌==◌, ◌&&◌, not, ◌+◌, ◌-◌, ◌*◌, ◌≤◌, ◌<◌, false, true, [], ◌∷◌, ◌++◌, Bool, List, length, map, take, drop, option_to_list, None, IsOk, is_ok, IsTrue, IfNone, IfSome, IfOk, IfErr, OnOk, OnErr};
 ghost use Rattle.std.specs.List.{AllByRecursion};
 ghost use Rattle.std.specs.IoError.{error_kind};
 ghost use Rattle.std.specs.Option.{option_map};
@@ -11,8 +11,8 @@ ghost use Rattle.std.specs.declared.io.ErrorKind.TheVariants.{OutOfMemory};
 ghost use Rattle.crossterm_types.specs.Seen.{seen};
 ghost use Rattle.crossterm_parse.specs.inside.Automaton.{text_of, meaning_with, state_after, text_left, events_left, is_paste};
 ghost use Rattle.crossterm_parse.specs.Meaning.{decoded_character, seen_meaning, pasted, typed};
-ghost use Rattle.crossterm_parse.specs.Marked.{Marked, marked};
-ghost use Rattle.crossterm_parse.specs.View.{ParserView, Represents, RepresentsSame, AdvancesOver, EndsNoEvent, OpensNoPaste, TakesSteps};
+ghost use Rattle.crossterm_parse.specs.Marked.{Marked, bytes_of, marked};
+ghost use Rattle.crossterm_parse.specs.View.{ParserView, Represents, RepresentsSame, AdvancesOver, EndsNoEvent, OpensNoPaste, TakesSteps, paste_length};
 ghost use Rattle.crossterm_parse.specs.inside.Putting.{Puts, PutsByte, StaysAsItWas};
 
 use crate::meaning::{Meaning, ascii_key, typed_key};
@@ -83,6 +83,7 @@ fn advance_uncounted<L: Ledger, A: Allocator + Clone>(
     ensures divided { AdvancesOver parser.old parser.new (take result (marked piece.now more raw)) }
     ensures quiet { EndsNoEvent parser.old (marked piece.now more raw) → result ≡ length piece.now }
     ensures reserved { length piece.now ≤ parser.old.room → OpensNoPaste parser.old (marked piece.now more raw) → result ≡ length piece.now }
+    ensures stops { result < length piece.now → ¬ EndsNoEvent parser.new (take 1 (drop result (marked piece.now more raw))) }
     ensures room { parser.old.room ≤ parser.new.room + result }
 {
     let mut steps: Steps<L> = Steps::new(blank);
@@ -108,7 +109,9 @@ impl<A: Allocator + Clone> Parser<A> {
     pub fn reserve(&mut self, count: usize) -> io::Result<()>
         ensures ok { OnOk result (count ≤ self.new.room) }
         ensures err { IfErr result (λ e. error_kind e ≡ OutOfMemory) }
+        ensures full { OnErr result (self.old.room < count) }
         ensures waiting { self.new.waiting ≡ self.old.waiting }
+        ensures same { (self.new.state ≡ self.old.state) × (self.new.text ≡ self.old.text) }
         ensures represents { RepresentsSame self.old self.new }
         ensures room { self.old.room ≤ self.new.room }
     {
@@ -317,6 +320,8 @@ impl<A: Allocator + Clone> Parser<A> {
         ensures quiet { EndsNoEvent self.old (marked piece.now more raw) → result ≡ length piece.now }
         // Where there is room, neither does a piece that opens no paste.
         ensures reserved { length piece.now ≤ self.old.room → OpensNoPaste self.old (marked piece.now more raw) → result ≡ length piece.now }
+        // It stops only at a byte that ends an event, or is of a paste.
+        ensures stops { result < length piece.now → ¬ EndsNoEvent self.new (take 1 (drop result (marked piece.now more raw))) }
         ensures room { self.old.room ≤ self.new.room + result }
         // Where all are taken, the steps and the open paste's length are at most its length before and twice the bytes.
         ensures steps { result ≡ length piece.now → TakesSteps self.old self.new steps.old steps.new result }
@@ -345,6 +350,7 @@ impl<A: Allocator + Clone> Parser<A> {
         ensures divided { AdvancesOver self.old self.new (take result (marked piece.now more raw)) }
         ensures quiet { EndsNoEvent self.old (marked piece.now more raw) → result ≡ length piece.now }
         ensures reserved { length piece.now ≤ self.old.room → OpensNoPaste self.old (marked piece.now more raw) → result ≡ length piece.now }
+        ensures stops { result < length piece.now → ¬ EndsNoEvent self.new (take 1 (drop result (marked piece.now more raw))) }
         ensures room { self.old.room ≤ self.new.room + result }
     {
         advance_uncounted::<Brand, A>(self, piece, more, raw, Blank::new(1))
@@ -365,5 +371,23 @@ impl<A: Allocator + Clone> Parser<A> {
         ensures { (before : List Marked) → Represents self.now before → (IsTrue result ↔ (before ≢ [])) }
     {
         !matches!(self.state, State::Ground)
+    }
+
+    /// How many bytes of the open paste came after its start, `ESC [ 200 ~`: 0 if no paste is open. This takes no memory.
+    ///
+    /// The text of a paste is kept until its end comes. So a program that serves others bounds the memory of each of them by this.
+    ///
+    /// ```
+    /// if parser.paste_len() > 1 << 20 {
+    ///     return Err(io::Error::from(ErrorKind::InvalidData));
+    /// }
+    /// ```
+    pub fn paste_len(&self) -> usize
+        ensures { (before : List Marked) → Represents self.now before → result ≡ paste_length (bytes_of before) }
+    {
+        match &self.paste {
+            Some(text) => text.len(),
+            None => 0,
+        }
     }
 }

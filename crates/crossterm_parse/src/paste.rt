@@ -123,6 +123,13 @@ impl<A: Allocator + Clone> PasteText<A> {
         }
     }
 
+    /// How many bytes it has.
+    pub fn len(&self) -> usize
+        ensures { result ≡ length self.now }
+    {
+        self.bytes.len()
+    }
+
     /// Joins a byte at the end. Where memory is refused, nothing has changed.
     pub fn push(&mut self, byte: u8) -> Result<(), AllocError>
         ensures ok { OnOk result (self.new ≡ self.old ++ byte ∷ []) }

@@ -1,8 +1,9 @@
 //! The state of an open sequence, of a fixed size.
-ghost use Rattle.std.specs.Prelude.{◌≡◌, ◌≢◌, ◌+◌, ◌≤◌, Bool, true, false, length, take, IfNone, IfSome, IsTrue, IsFalse};
+ghost use Rattle.std.specs.Prelude.{◌≡◌, ◌≢◌, ◌+◌, ◌<◌, ◌≤◌, ◌∷◌, [], Bool, true, false, length, take, IfNone, IfSome, IsTrue, IsFalse};
 ghost use Rattle.std.specs.List.{AllByRecursion};
-ghost use Rattle.crossterm_parse.specs.inside.Automaton.{Reads, IsCharacterOf, IsLetter, Opens, is_paste, meaning_with, state_after};
+ghost use Rattle.crossterm_parse.specs.inside.Automaton.{Reads, IsCharacterOf, IsLetter, Opens, OpensWith, is_paste, meaning_with, state_after};
 ghost use Rattle.crossterm_parse.specs.inside.Step.{Open, Whole, Closed};
+ghost use Rattle.crossterm_parse.specs.declared.state.State.TheVariants.{Escape};
 ghost use Rattle.crossterm_parse.specs.inside.Recognizer.{is_final, is_mouse_end};
 ghost use Rattle.crossterm_parse.specs.declared.paste.Opening.{Opening};
 ghost use Rattle.crossterm_parse.specs.declared.numbered.Parameters.{Parameters};
@@ -268,9 +269,12 @@ impl State {
     }
 
     /// A byte after `ESC [`: the mode and a pause change nothing.
+    #[inline(always)]
     fn introduce(&mut self, byte: u8) -> bool
         requires { self.old ≡ State.Csi }
-        ensures { Reads self.old self.new byte result }
+        ensures reads { Reads self.old self.new byte result }
+        ensures outside { is_paste self.new ≡ false }
+        ensures same { IsFalse result → self.new ≡ self.old }
     {
         match byte {
             b'[' => *self = State::LinuxKey,
@@ -373,6 +377,50 @@ impl State {
             }
             _ => None,
         }
+    }
+
+    /// Opens a sequence by the two bytes after ESC, and tells how many bytes it has then, three or two, or none where it isn't opened.
+    #[inline(always)]
+    fn open_front(&mut self, second: u8, third: u8) -> usize
+        requires { self.old ≡ State.Ground }
+        ensures none { result ≡ 0 → self.new ≡ State.Ground }
+        ensures few { 0 < result → 2 ≤ result }
+        ensures two { result ≡ 2 → Opens Escape self.new (second ∷ []) }
+        ensures three { result ≡ 3 → Opens Escape self.new (second ∷ third ∷ []) }
+        ensures most { result ≤ 3 }
+    {
+        match second {
+            b'O' => {
+                *self = State::Ss3;
+                2
+            }
+            b'[' => {
+                *self = State::Csi;
+                if self.introduce(third) { 3 } else { 2 }
+            }
+            _ => 0,
+        }
+    }
+
+    /// Puts the front of a sequence after ESC into the ground state, with the numbers that it has, and tells how many bytes: none where
+    /// no such sequence is in front, or fewer than three bytes.
+    #[inline(always)]
+    pub fn open<L: Ledger>(&mut self, bytes: &[u8], steps: &mut Steps<L>) -> usize
+        requires { self.old ≡ State.Ground }
+        ensures within { result ≤ length bytes.now }
+        ensures none { result ≡ 0 → self.new ≡ State.Ground }
+        ensures opens { 0 < result → OpensWith self.new (take result bytes.now) }
+        ensures steps { steps.new ≡ steps.old + result }
+    {
+        if bytes.len() < 3 || bytes[0] != 27 {
+            return 0;
+        }
+        let count = self.open_front(bytes[1], bytes[2]);
+        steps.count(count as u64);
+        if count < 3 {
+            return count;
+        }
+        3 + self.put_numbers(&bytes[3..], steps)
     }
 
     /// Puts the bytes in front with which the numbers of a sequence go on, and tells how many.

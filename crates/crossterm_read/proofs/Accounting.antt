@@ -9,13 +9,14 @@ use Rattle.crossterm_types.specs.Seen.{Seen}
 use Rattle.crossterm_types.specs.Seen as event
 use Rattle.crossterm_read.specs.Answers.{SourceAnswer, Gave, Nothing, Failed, gave}
 use Rattle.crossterm_read.specs.Device.{DeviceAnswer}
+use Rattle.crossterm_read.specs.Outcomes.{Answered}
 use Rattle.crossterm_read.proofs.Happening.{answered_front}
 use Rattle.crossterm_read.specs.declared.read.call.Call.{Call}
 use Rattle.crossterm_read.specs.Store.{EventStore, arrived, numbered_after, next_number, Arrives}
-use Rattle.crossterm_read.specs.Steps.{TakeReplies, ReadReplies, PollReplies, End, Ready, Tried, Broke, TakeStep, PollStep}
+use Rattle.crossterm_read.specs.Steps.{Patience, TakeReplies, ReadReplies, PollReplies, End, Ready, Tried, Broke, TakeStep, PollStep}
 use Rattle.crossterm_read.specs.Queries.{QueryReplies, QueryStep, AfterReply, LeftReplies, FlagsReplies, KeyboardStep}
 use Rattle.crossterm_read.specs.Replies.{Said, Replied, ToPoll, ToTake, ToQuery, Fault}
-use Rattle.crossterm_read.specs.Calls.{Step, Request, Poll, Read, Take, Position, Keyboard, request, Run, joined, empty, taken, numbered, IsWithin, Accounts, Plays}
+use Rattle.crossterm_read.specs.Calls.{Step, Request, Poll, Read, Take, Position, Keyboard, request, Run, joined, empty, taken, numbered, IsAccounted, IsWithin, Accounts, Plays}
 use Rattle.crossterm_types.specs.Admitting.{admitted, is_cursor_position, is_flags_reply, is_attributes}
 use Rattle.crossterm_read.proofs.Asking.{arrived-append, numbered_after-append}
 
@@ -109,7 +110,7 @@ take_step f zs all done s t (ToQuery x y) a h = absurd h
 take_step f zs all done s t (Fault kind) a h = absurd h
 
 -- what a poll, and then what is said of it, do to what came
-poll_account : (f : Seen → Bool) (tries : ℕ) (zs : List SourceAnswer) (all done : List (Seen × ℕ)) (s t : EventStore) (r : Replied) → Account all done s → PollStep tries f zs s t r
+poll_account : (f : Seen → Bool) (tries : Patience) (zs : List SourceAnswer) (all done : List (Seen × ℕ)) (s t : EventStore) (r : Replied) → Account all done s → PollStep tries f zs s t r
     → Account (all ++ arrived s.arrivals zs) done t × (t.arrivals ≡ numbered_after s.arrivals zs)
 poll_account f tries zs all done s t r a h = (arrives_account all done s t zs a h.2, h.2.arrivals)
 
@@ -120,7 +121,7 @@ query_account f all done (ToTake x) m t r a h = absurd h
 query_account f all done (ToQuery x y) m t r a h = absurd h
 query_account f all done (Fault kind) m t r a h = subst (λ (y : Replied). Taken all done t (taken (y ∷ [])) m.arrivals) (sym h.1) (none_taken all done m t h.0 a)
 
-asked_account : (f : Seen → Bool) (tries : ℕ) (zs : List SourceAnswer) (all done : List (Seen × ℕ)) (s t : EventStore) (r : Replied) → Account all done s → QueryStep f tries zs s t r
+asked_account : (f : Seen → Bool) (tries : Patience) (zs : List SourceAnswer) (all done : List (Seen × ℕ)) (s t : EventStore) (r : Replied) → Account all done s → QueryStep f tries zs s t r
     → Taken (all ++ arrived s.arrivals zs) done t (taken (r ∷ [])) (numbered_after s.arrivals zs)
 asked_account f tries zs all done s t r a h =
     let p = poll_account f tries zs all done s h.0 h.1 a h.2 in
@@ -152,7 +153,7 @@ nothing_after zs all done s t q r k h =
     let b = subst (λ l. Taken l done t (taken (q ∷ [])) s.arrivals) (sym (append-nil all)) a in
     subst (λ (l : List SourceAnswer). AfterTaken l all done s t (taken (r ∷ []))) (sym h.0) (subst (λ (y : Replied). Taken (all ++ []) done t (taken (y ∷ [])) s.arrivals) (sym h.2) b)
 
-after_account : (again : ℕ) (zs : List SourceAnswer) (y : Seen) (x : Seen × ℕ) (all done : List (Seen × ℕ)) (s t : EventStore) (r : Replied) → Taken all done s (x ∷ []) s.arrivals → AfterReply again zs y x s t r
+after_account : (again : Patience) (zs : List SourceAnswer) (y : Seen) (x : Seen × ℕ) (all done : List (Seen × ℕ)) (s t : EventStore) (r : Replied) → Taken all done s (x ∷ []) s.arrivals → AfterReply again zs y x s t r
     → AfterTaken zs all done s t (taken (r ∷ []))
 after_account again zs (event.KeyboardFlags flags) x all done s t r k h =
     let p = poll_account is_attributes again zs all (done ++ x ∷ []) s h.0 h.1 k.0 h.2 in
@@ -166,14 +167,14 @@ after_account again zs (event.Resize c l) x all done s t r k h = nothing_after z
 after_account again zs (event.CursorPosition c l) x all done s t r k h = nothing_after zs all done s t (ToTake (Some x)) r k h
 after_account again zs event.PrimaryDeviceAttributes x all done s t r k h = nothing_after zs all done s t (ToTake (Some x)) r k h
 
-flags_account : (again : ℕ) (zs : List SourceAnswer) (q : Replied) (all done : List (Seen × ℕ)) (s t : EventStore) (r : Replied) → Taken all done s (taken (q ∷ [])) s.arrivals → FlagsReplies again zs q s t r → AfterTaken zs all done s t (taken (r ∷ []))
+flags_account : (again : Patience) (zs : List SourceAnswer) (q : Replied) (all done : List (Seen × ℕ)) (s t : EventStore) (r : Replied) → Taken all done s (taken (q ∷ [])) s.arrivals → FlagsReplies again zs q s t r → AfterTaken zs all done s t (taken (r ∷ []))
 flags_account again zs (ToTake (Some x)) all done s t r k h = after_account again zs x.0 x all done s t r k h
 flags_account again zs (ToTake None) all done s t r k h = absurd h
 flags_account again zs (ToPoll b) all done s t r k h = absurd h
 flags_account again zs (ToQuery x y) all done s t r k h = absurd h
 flags_account again zs (Fault kind) all done s t r k h = nothing_after zs all done s t (Fault kind) r k h
 
-keyboard_account : (tries again : ℕ) (zs : List SourceAnswer) (all done : List (Seen × ℕ)) (s t : EventStore) (r : Replied) → Account all done s → KeyboardStep tries again zs s t r
+keyboard_account : (tries again : Patience) (zs : List SourceAnswer) (all done : List (Seen × ℕ)) (s t : EventStore) (r : Replied) → Account all done s → KeyboardStep tries again zs s t r
     → Taken (all ++ arrived s.arrivals zs) done t (taken (r ∷ [])) (numbered_after s.arrivals zs)
 keyboard_account tries again zs all done s t r a h =
     let xs = h.0 in
@@ -238,22 +239,29 @@ arrived_gave n (Gave x ∷ zs) = ap (λ l. (x, n) ∷ l) (arrived_gave (next_num
 arrived_gave n (Nothing ∷ zs) = arrived_gave n zs
 arrived_gave n (Failed kind ∷ zs) = arrived_gave n zs
 
+-- What is taken and held where these answers came from the beginning on.
+pub accounted : (device_answers : List DeviceAnswer) (answers : List SourceAnswer) (done : List (Seen × ℕ)) (t : EventStore) → Answered device_answers answers → Account (arrived 0 answers) done t
+    → IsAccounted device_answers done t.held
+accounted device_answers answers done t told k =
+    let f = answered_front device_answers answers told in
+    let numbers = arrived_gave 0 answers in
+    record {
+      all = f.0;
+      front = gave answers;
+      rest = f.1;
+      happened = f.2;
+      first = f.3;
+      once = subst (λ l. IsPermutation l (done ++ t.held)) numbers k.once;
+      in_order = subst (λ l. IsWithin t.held l) numbers k.within;
+    }
+
 pub accounts : (device_answers : List DeviceAnswer) (calls : List Call) (said : List Said) (held : List Seen) → Plays device_answers calls said held → Accounts device_answers said held
 accounts device_answers calls said held p =
     let start : Account [] [] empty = record { once = IsPermutation-refl []; within = tt } in
-    let k = run_account calls p.drawn p.replies [] [] empty p.last start p.run in
-    let f = answered_front device_answers (joined p.drawn) p.answered in
-    let numbers = arrived_gave 0 (joined p.drawn) in
     record {
-      all = f.0;
-      front = gave (joined p.drawn);
-      rest = f.1;
       replies = p.replies;
       kept = p.last.held;
-      happened = f.2;
-      first = f.3;
       shows = p.shows;
       left = p.left;
-      once = subst (λ l. IsPermutation l (taken p.replies ++ p.last.held)) numbers k.once;
-      in_order = subst (λ l. IsWithin p.last.held l) numbers k.within;
+      accounted = accounted device_answers (joined p.drawn) (taken p.replies) p.last p.answered (run_account calls p.drawn p.replies [] [] empty p.last start p.run);
     }

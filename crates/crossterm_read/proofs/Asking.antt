@@ -1,5 +1,5 @@
 -- Asking a source again and again.
-use Rattle.std.proofs.Common.{◌≡◌, ◌≢◌, ◌<◌, ◌≤◌, ℕ, suc, ◌+◌, Bool, true, false, List, [], ◌∷◌, ◌++◌, length, Option, None, Some, Result, Ok, Err, inl, inr, refl, sym, ap, subst, ◌∙◌, arith, append_assoc, append-nil, length-append}
+use Rattle.std.proofs.Common.{◌≡◌, ◌≢◌, ◌≤◌, ℕ, suc, ◌+◌, Bool, true, false, List, [], ◌∷◌, ◌++◌, length, Option, None, Some, Result, Ok, Err, inl, inr, refl, sym, ap, subst, ◌∙◌, arith, append_assoc, append-nil, length-append}
 use mathlib.Core.Bool.{true≢false}
 use Rattle.std.specs.Prelude.{is_some, IfErr}
 use Rattle.std.specs.declared.io.Error.{Error}
@@ -16,7 +16,7 @@ use Rattle.crossterm_read.specs.declared.read.reader.AtWake.TheVariants.{Stops, 
 use Rattle.crossterm_read.specs.declared.read.reader.Once.{Once}
 use Rattle.crossterm_read.specs.declared.read.reader.Once.TheVariants as once
 use Rattle.crossterm_read.specs.Store.{EventStore, ReaderState, arrived, numbered_after, next_number, Arrives, capacity}
-use Rattle.crossterm_read.specs.Steps.{first_admitted, Passes, held_already, came, broke, tried, refused, Ready, Tried, Broke, PollStep, RefusedOnlyWithoutRoom}
+use Rattle.crossterm_read.specs.Steps.{Patience, Allows, IsSpent, first_admitted, Passes, Ready, Tried, Broke, PollStep, RefusedOnlyWithoutRoom}
 use Rattle.crossterm_read.specs.inside.Asking.{Asked, DrawsOne, end_of}
 use Rattle.crossterm_read.specs.Replies.{poll_reply}
 
@@ -105,32 +105,36 @@ module _ {S : Type 0} (drawn : S → List SourceAnswer → S → Type 0) (on : (
     none = a.none;
   }
 
-  pub asked_held : ((s : S) → drawn s [] s) → (s : ReaderState S) (tries : ℕ) → is_some (first_admitted f s.store.held) ≡ true → Asked drawn wake f tries s s Ready
-  asked_held law s tries h = ([], law s.source, arrives_none s.store, held_already h refl refl, tt)
+  one_more : (s t : ReaderState S) (i : ℕ) (z : SourceAnswer) (a : Asking s t i) → length (a.answers ++ z ∷ []) ≡ i + 1
+  one_more s t i z a = length-append a.answers (z ∷ []) ∙ ap (λ (k : ℕ). k + 1) a.count
 
-  pub asked_tried : (s t : ReaderState S) (tries : ℕ) → Asking s t tries → Asked drawn wake f tries s t Tried
-  asked_tried s t tries a = (a.answers, a.drawn_so, a.arrives, tried a.none a.passes a.count refl, tt)
+  pub asked_held : ((s : S) → drawn s [] s) → (s : ReaderState S) (patience : Patience) → is_some (first_admitted f s.store.held) ≡ true → Asked drawn wake f patience s s Ready
+  asked_held law s patience h = ([], law s.source, arrives_none s.store, inl (h, refl), tt)
 
-  pub asked_refused : (s t : ReaderState S) (i tries : ℕ) (kind : ErrorKind) → Asking s t i → i < tries → kind ≡ OutOfMemory → capacity s ≤ capacity t → t.room ≡ 0 → Asked drawn wake f tries s t (Broke kind)
-  asked_refused s t i tries kind a h e r n = (a.answers, a.drawn_so, a.arrives, refused a.none a.passes (let c = a.count in omega arith) (ap Broke e), λ k. inr (came_to_room s t a.answers a.arrives r n))
+  pub asked_tried : (s t : ReaderState S) (i : ℕ) (patience : Patience) → Asking s t i → IsSpent patience i → Asked drawn wake f patience s t Tried
+  asked_tried s t i patience a h = (a.answers, a.drawn_so, a.arrives, (a.none, a.passes, subst (IsSpent patience) (sym a.count) h), tt)
 
-  pub asked_came : (s m t : ReaderState S) (i tries : ℕ) (x : Seen) → Asking s m i → i < tries → drawn m.source (Gave x ∷ []) t.source → Arrives m.store (Gave x ∷ []) t.store → f x ≡ true
-      → Asked drawn wake f tries s t Ready
-  asked_came s m t i tries x a h d r y = (
+  pub asked_refused : (s t : ReaderState S) (i : ℕ) (patience : Patience) (kind : ErrorKind) → Asking s t i → Allows patience (i + 1) → kind ≡ OutOfMemory → capacity s ≤ capacity t → t.room ≡ 0 → Asked drawn wake f patience s t (Broke kind)
+  asked_refused s t i patience kind a h e r n =
+      (a.answers, a.drawn_so, a.arrives, (a.none, inr (e, a.passes, subst (λ (k : ℕ). Allows patience (k + 1)) (sym a.count) h)), λ k. inr (came_to_room s t a.answers a.arrives r n))
+
+  pub asked_came : (s m t : ReaderState S) (i : ℕ) (patience : Patience) (x : Seen) → Asking s m i → Allows patience (i + 1) → drawn m.source (Gave x ∷ []) t.source → Arrives m.store (Gave x ∷ []) t.store → f x ≡ true
+      → Asked drawn wake f patience s t Ready
+  asked_came s m t i patience x a h d r y = (
     a.answers ++ Gave x ∷ [],
     on s.source m.source t.source a.answers (Gave x ∷ []) a.drawn_so d,
     arrives_more s.store m.store t.store a.answers (Gave x ∷ []) a.arrives r,
-    came a.none a.answers x refl a.passes y (let c = a.count in let l = length-append a.answers (Gave x ∷ []) in omega arith) refl,
+    inr (a.none, record { before = a.answers; event = x; all = refl; passed = a.passes; admitted = y }, subst (Allows patience) (sym (one_more s m i (Gave x) a)) h),
     tt,
   )
 
-  pub asked_broke : (s m t : ReaderState S) (i tries : ℕ) (kind : ErrorKind) → Asking s m i → i < tries → drawn m.source (Failed kind ∷ []) t.source → Arrives m.store (Failed kind ∷ []) t.store
-      → (wake ≡ GoesOn → kind ≢ Interrupted) → Asked drawn wake f tries s t (Broke kind)
-  asked_broke s m t i tries kind a h d r y = (
+  pub asked_broke : (s m t : ReaderState S) (i : ℕ) (patience : Patience) (kind : ErrorKind) → Asking s m i → Allows patience (i + 1) → drawn m.source (Failed kind ∷ []) t.source → Arrives m.store (Failed kind ∷ []) t.store
+      → (wake ≡ GoesOn → kind ≢ Interrupted) → Asked drawn wake f patience s t (Broke kind)
+  asked_broke s m t i patience kind a h d r y = (
     a.answers ++ Failed kind ∷ [],
     on s.source m.source t.source a.answers (Failed kind ∷ []) a.drawn_so d,
     arrives_more s.store m.store t.store a.answers (Failed kind ∷ []) a.arrives r,
-    broke a.none a.answers kind refl a.passes y (let c = a.count in let l = length-append a.answers (Failed kind ∷ []) in omega arith) refl,
+    (a.none, inl (record { before = a.answers; all = refl; passed = a.passes; stops = y }, subst (Allows patience) (sym (one_more s m i (Failed kind) a)) h)),
     λ e. inl (a.answers, ap (λ (k : ErrorKind). a.answers ++ Failed k ∷ []) e),
   )
 
@@ -143,17 +147,17 @@ module _ {S : Type 0} (drawn : S → List SourceAnswer → S → Type 0) (on : (
   pub asking_nothing : (s m t : ReaderState S) (i : ℕ) → Asking s m i → DrawsOne drawn wake f m t once.Nothing → Asking s t (i + 1)
   asking_nothing s m t i a d = asking_more s m t i d.0 a d.1 d.2 d.3
 
-module _ {S : Type 0} (drawn : S → List SourceAnswer → S → Type 0) (f : Seen → Bool) (tries : ℕ) (s t : ReaderState S) where
+module _ {S : Type 0} (drawn : S → List SourceAnswer → S → Type 0) (f : Seen → Bool) (patience : Patience) (s t : ReaderState S) where
   -- a poll that says this
   abbrev pub Polls : Result Bool Error → Type 0
-  Polls r = (zs : List SourceAnswer) × drawn s.source zs t.source × PollStep tries f zs s.store t.store (poll_reply r) × IfErr r (λ e. RefusedOnlyWithoutRoom s.room zs (error_kind e))
+  Polls r = (zs : List SourceAnswer) × drawn s.source zs t.source × PollStep patience f zs s.store t.store (poll_reply r) × IfErr r (λ e. RefusedOnlyWithoutRoom s.room zs (error_kind e))
 
-  pub poll_ok : (b : Bool) → Asked drawn Stops f tries s t (end_of (Ok b)) → Polls (Ok b)
+  pub poll_ok : (b : Bool) → Asked drawn Stops f patience s t (end_of (Ok b)) → Polls (Ok b)
   poll_ok true a = (a.0, a.1, (Ready, a.3, a.2, refl), tt)
   poll_ok false a = (a.0, a.1, (Tried, a.3, a.2, refl), tt)
 
-  pub poll_woken : (kind : ErrorKind) → kind ≡ Interrupted → Asked drawn Stops f tries s t (Broke kind) → Polls (Ok false)
+  pub poll_woken : (kind : ErrorKind) → kind ≡ Interrupted → Asked drawn Stops f patience s t (Broke kind) → Polls (Ok false)
   poll_woken kind h a = (a.0, a.1, (Broke kind, a.3, a.2, inl (h, refl)), tt)
 
-  pub poll_fault : (e : Error) → error_kind e ≢ Interrupted → Asked drawn Stops f tries s t (Broke (error_kind e)) → Polls (Err e)
+  pub poll_fault : (e : Error) → error_kind e ≢ Interrupted → Asked drawn Stops f patience s t (Broke (error_kind e)) → Polls (Err e)
   poll_fault e h a = (a.0, a.1, (Broke (error_kind e), a.3, a.2, inr (h, refl)), a.4)

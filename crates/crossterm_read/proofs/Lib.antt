@@ -1,5 +1,6 @@
 pub mod Accounting
 pub mod Asking
+pub mod Counting
 pub mod Cutting
 pub mod EachOnce
 pub mod Happening
@@ -7,12 +8,14 @@ pub mod Histories
 pub mod Joining
 pub mod Mapped
 pub mod Moves
+pub mod Newest
 pub mod Numbers
 pub mod Querying
 pub mod Reading
 pub mod Ready
 pub mod Rising
 pub mod Runs
+pub mod Scripts
 pub mod Seating
 pub mod Sharing
 pub mod Storing

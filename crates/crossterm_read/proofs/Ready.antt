@@ -1,16 +1,14 @@
 -- Where asking ended with an admitted event, one is held.
-use Rattle.std.proofs.Common.{◌≡◌, ◌<◌, ℕ, suc, ◌+◌, Bool, true, false, not, cond, nat_lt, List, [], ◌∷◌, ◌++◌, length, None, Some, sym, ap, ◌∙◌, arith, append_assoc, append-nil}
+use Rattle.std.proofs.Common.{◌≡◌, ◌<◌, ℕ, suc, ◌+◌, Bool, true, false, not, cond, nat_lt, List, [], ◌∷◌, ◌++◌, length, None, Some, inl, inr, sym, ap, ◌∙◌, arith, append_assoc, append-nil}
 use mathlib.Core.Bool.{true≢false}
 use Rattle.std.specs.Prelude.{is_some}
 use Rattle.std.specs.List.{prefix_len}
-use Rattle.std.specs.declared.io.ErrorKind.{ErrorKind}
-use Rattle.std.specs.declared.io.ErrorKind.TheVariants.{OutOfMemory}
 use Rattle.std.proofs.lemmas.Bool.Decides.{nat_tests}
 use Rattle.crossterm_types.specs.Seen.{Seen}
 use Rattle.crossterm_read.specs.Answers.{SourceAnswer, Gave}
 use Rattle.crossterm_read.specs.declared.read.reader.AtWake.{AtWake}
 use Rattle.crossterm_read.specs.Store.{EventStore, Arrives, arrived, numbered_after}
-use Rattle.crossterm_read.specs.Steps.{first_admitted, Asks, held_already, came, broke, tried, refused, Ready, Tried, Broke}
+use Rattle.crossterm_read.specs.Steps.{Patience, Finds, first_admitted, Asks, Ready}
 use Rattle.crossterm_read.proofs.Asking.{arrived-append}
 
 -- Where the last one is admitted there is a first.
@@ -30,23 +28,13 @@ last_admitted f xs x n e none =
     some_not e = absurd (cc)
 
 -- So it is after asking that found one.
-pub ready_there : (wake : AtWake) (f : Seen → Bool) (tries : ℕ) (s m : EventStore) (zs : List SourceAnswer) → Asks wake f tries s.held zs Ready → Arrives s zs m → first_admitted f m.held ≡ None → ⊥
-ready_there wake f tries s m zs (held_already h z e) a none =
-    let same : m.held ≡ s.held = a.held ∙ ap (λ (l : List SourceAnswer). s.held ++ arrived s.arrivals l) z ∙ append-nil s.held in
-    true≢false (sym h ∙ ap is_some (sym (ap (first_admitted f) same) ∙ none))
-ready_there wake f tries s m zs (came n ys x z p good l e) a none =
-    let last : m.held ≡ (s.held ++ arrived s.arrivals ys) ++ (x, numbered_after s.arrivals ys) ∷ [] = a.held ∙ ap (λ (l : List SourceAnswer). s.held ++ arrived s.arrivals l) z ∙ ap (λ l. s.held ++ l) (arrived-append s.arrivals ys (Gave x ∷ []))
-    ∙ sym (append_assoc s.held (arrived s.arrivals ys) ((x, numbered_after s.arrivals ys) ∷ [])) in
-    last_admitted f (s.held ++ arrived s.arrivals ys) x (numbered_after s.arrivals ys) good (sym (ap (first_admitted f) last) ∙ none)
-ready_there wake f tries s m zs (broke n ys kind z p o l e) a none = ready_not e
-  where
-    ready_not : {kind : ErrorKind} → Ready ≡ Broke kind → ⊥
-    ready_not e = absurd (cc)
-ready_there wake f tries s m zs (tried n p l e) a none = ready_not e
-  where
-    ready_not : Ready ≡ Tried → ⊥
-    ready_not e = absurd (cc)
-ready_there wake f tries s m zs (refused n p l e) a none = ready_not e
-  where
-    ready_not : Ready ≡ Broke OutOfMemory → ⊥
-    ready_not e = absurd (cc)
+pub ready_there : (wake : AtWake) (f : Seen → Bool) (patience : Patience) (s m : EventStore) (zs : List SourceAnswer) → Asks wake f patience s.held zs Ready → Arrives s zs m → first_admitted f m.held ≡ None → ⊥
+ready_there wake f patience s m zs (inl h) a none =
+    let same : m.held ≡ s.held = a.held ∙ ap (λ (l : List SourceAnswer). s.held ++ arrived s.arrivals l) h.1 ∙ append-nil s.held in
+    true≢false (sym h.0 ∙ ap is_some (sym (ap (first_admitted f) same) ∙ none))
+ready_there wake f patience s m zs (inr h) a none =
+    let it : Finds wake f zs = h.1 in
+    let last : m.held ≡ (s.held ++ arrived s.arrivals it.before) ++ (it.event, numbered_after s.arrivals it.before) ∷ [] =
+    a.held ∙ ap (λ (l : List SourceAnswer). s.held ++ arrived s.arrivals l) it.all ∙ ap (λ l. s.held ++ l) (arrived-append s.arrivals it.before (Gave it.event ∷ []))
+    ∙ sym (append_assoc s.held (arrived s.arrivals it.before) ((it.event, numbered_after s.arrivals it.before) ∷ [])) in
+    last_admitted f (s.held ++ arrived s.arrivals it.before) it.event (numbered_after s.arrivals it.before) it.admitted (sym (ap (first_admitted f) last) ∙ none)

@@ -4,24 +4,24 @@ use Rattle.std.specs.Prelude.{is_some, IfSome, IfNone, IfErr, IfOk}
 use Rattle.std.specs.List.{range_with_len}
 use Rattle.std.specs.declared.io.Error.{Error}
 use Rattle.crossterm_read.specs.Answers.{SourceAnswer}
-use Rattle.crossterm_read.specs.Store.{ReaderState}
+use Rattle.crossterm_read.specs.Store.{ReaderState, capacity}
 use Rattle.crossterm_read.specs.History.{Entry, Known, Sits, Runs, Extends, EachOnce, opened, Meets, Closes, calls_by, last_of, last_from}
 use Rattle.crossterm_read.specs.inside.Numbers.{IsOrderly}
 use Rattle.crossterm_read.specs.Calls.{Request, Step}
-use Rattle.crossterm_read.specs.Entries.{IsPoll, IsPosition, IsKeyboard}
-use Rattle.crossterm_read.specs.Replies.{Replied, Fault, ToTake, Came, Faulted, poll_reply, read_said, shown}
-use Rattle.crossterm_read.specs.inside.Replies.{read_reply, try_reply, last_said, last_tried}
-use Rattle.crossterm_types.specs.Admitting.{admitted, is_cursor_position}
+use Rattle.crossterm_read.specs.Entries.{InTime, IsCall, IsKeyboard}
+use Rattle.crossterm_read.specs.Replies.{Replied, Fault, ToPoll, ToTake, Came, Faulted, poll_reply, read_said, shown}
+use Rattle.crossterm_read.specs.inside.Replies.{flags_said, read_reply, try_reply, last_said, last_tried}
+use Rattle.crossterm_flags.specs.declared.enhancement.KeyboardEnhancementFlags.{KeyboardEnhancementFlags}
 use Rattle.crossterm_types.specs.Seen.{Seen, seen}
-use Rattle.crossterm_types.specs.declared.event.filter.AnyFilter.{AnyFilter}
 use Rattle.std.specs.declared.time.Duration.{Duration}
 use Rattle.crossterm_types.specs.declared.event.InternalEvent.{InternalEvent}
 use Rattle.std.specs.IoError.{error_kind}
 use Rattle.std.specs.declared.io.ErrorKind.{ErrorKind}
-use Rattle.crossterm_read.proofs.Waiting.{fault_of, timed_longer, query_longer, board_longer}
+use Rattle.crossterm_read.specs.Steps.{Patience}
+use Rattle.crossterm_read.specs.Waiting.{AsksWithin}
 use Rattle.crossterm_read.specs.inside.Slot.{Taken, Put, Produces, Learnt, first_of, one_more, taught}
 use Rattle.crossterm_read.proofs.EachOnce.{each_once}
-use Rattle.crossterm_read.proofs.Histories.{runs_snoc, not_fewer}
+use Rattle.crossterm_read.proofs.Histories.{runs_room, runs_snoc, not_fewer}
 use Rattle.crossterm_read.proofs.Seating.{off, some_of, calls_by-append, calls_by-mine, are_snoc}
 
 -- What stands there.
@@ -69,8 +69,8 @@ module _ {S : Type 0} (drawn : S → List SourceAnswer → S → Type 0) where
 
   -- What a put asks, after a take and one call.
   pub produces : (made : ReaderState S → Entry → ReaderState S → Type 0) (v u : Known S) (x y : ReaderState S) → Taken drawn v x u → (call : Request) (answers : List SourceAnswer) (r : Replied)
-      → made x (record { by = u.number; call = call; answers = answers; reply = r }) y → drawn x.source answers y.source → Step call answers x.store y.store r → Produces drawn made u y
-  produces made v u x y t call answers r such d step = subst (λ (k : Known S). k.number ≡ u.number → Produces drawn made k y) (sym t.after) of_taken refl
+      → made x (record { by = u.number; call = call; answers = answers; reply = r }) y → drawn x.source answers y.source → Step call answers x.store y.store r → capacity x ≤ capacity y → Produces drawn made u y
+  produces made v u x y t call answers r such d step room = subst (λ (k : Known S). k.number ≡ u.number → Produces drawn made k y) (sym t.after) of_taken refl
     where
       of_taken : v.number ≡ u.number → Produces drawn made (record v { seen = v.seen ++ t.between; has = true }) y
       of_taken same = record {
@@ -82,7 +82,7 @@ module _ {S : Type 0} (drawn : S → List SourceAnswer → S → Type 0) where
         opened = t.opened;
         has = refl;
         runs = t.runs;
-        makes = (d, step);
+        makes = (d, step, room);
       }
 
   -- A take, and then a put.
@@ -111,6 +111,7 @@ module _ {S : Type 0} (drawn : S → List SourceAnswer → S → Type 0) where
             others = t.others;
             after = after;
             fresh = not_fewer drawn b.opening b.found v.seen t.between (subst (λ (o : ReaderState S). o.store.arrivals < 2 ^ 64) same t.fits) b.runs;
+            room = runs_room drawn b.opening b.found (v.seen ++ t.between) b.runs;
             each_once = subst (λ (k : Known S). EachOnce b.opening k.seen y) (sym after) (each_once drawn b.opening y log orderly ran);
           }
 
@@ -130,41 +131,41 @@ module _ {S : Type 0} (drawn : S → List SourceAnswer → S → Type 0) where
     others = x.others;
     after = x.after;
     fresh = x.fresh;
+    room = x.room;
     each_once = x.each_once;
   }
 
   pub extends_as : (made such : ReaderState S → Entry → ReaderState S → Type 0) → ((o : ReaderState S) (e : Entry) (t : ReaderState S) → made o e t → such o e t) → (v w : Known S) → Extends drawn made v w → Extends drawn such v w
   extends_as made such so v w x = extends_at made such v w x (so x.found x.call x.left x.such)
 
-  -- A poll in time from a moment on is one from an earlier one on.
-  pub poll_longer : (asked : S → List (Option Duration)) (f : AnyFilter) (limit : Option Duration) (before start last : ℕ) (r : Replied) → before ≤ start
-      → (o : ReaderState S) (e : Entry) (t : ReaderState S) → IsPoll drawn asked f limit start last r o e t → IsPoll drawn asked f limit before last r o e t
-  poll_longer asked f limit before start last r h o e t p = record {
-    timed = timed_longer drawn (admitted f) limit before start last o t r h p.timed;
-    call = p.call;
-    answers = p.answers;
+  -- A call in time from a moment on is one in time from an earlier one on.
+  pub call_longer : (asked : S → List (Option Duration)) (request : Patience → Request) (limit : Option Duration) (before start last : ℕ) (l m : List (Option Duration) → List (Option Duration) → Type 0)
+      → ((x y : List (Option Duration)) → l x y → m x y) → (r : Replied) → before ≤ start
+      → (o : ReaderState S) (e : Entry) (t : ReaderState S) → IsCall asked (InTime request limit start last) l r o e t → IsCall asked (InTime request limit before last) m r o e t
+  call_longer asked request limit before start last l m f r h o e t p = record {
+    call = let c = p.call in let low = c.1 in (c.0, omega arith, c.2);
     reply = p.reply;
-    limits = let l = p.limits in let low = l.2 in (l.0, l.1, omega arith, l.3);
+    limits_so = f (asked o.source) (asked t.source) p.limits_so;
+    memory = p.memory;
   }
 
-  -- So are queries.
-  pub position_longer : (asked : S → List (Option Duration)) (limit : Option Duration) (before start last : ℕ) (r : Replied) → before ≤ start
-      → (o : ReaderState S) (e : Entry) (t : ReaderState S) → IsPosition drawn asked limit start last r o e t → IsPosition drawn asked limit before last r o e t
-  position_longer asked limit before start last r h o e t p = record {
-    timed = query_longer drawn is_cursor_position limit before start last o t r h p.timed;
-    call = p.call;
-    answers = p.answers;
-    reply = p.reply;
-    limits = let l = p.limits in let low = l.2 in (l.0, l.1, omega arith, l.3);
-  }
+  pub limits_longer : (limit : Option Duration) (before start last : ℕ) → before ≤ start → (x y : List (Option Duration)) → AsksWithin limit start last x y → AsksWithin limit before last x y
+  limits_longer limit before start last h x y l = let low = l.2 in (l.0, l.1, omega arith, l.3)
 
-  pub keyboard_longer : (limit : Option Duration) (before start last : ℕ) (r : Replied) → before ≤ start → (o : ReaderState S) (e : Entry) (t : ReaderState S) → IsKeyboard drawn limit start last r o e t → IsKeyboard drawn limit before last r o e t
-  keyboard_longer limit before start last r h o e t p = record {
-    timed = board_longer drawn limit before start last o t r h p.timed;
-    call = p.call;
-    answers = p.answers;
-    reply = p.reply;
-  }
+  pub keyboard_longer : (asked : S → List (Option Duration)) (limit : Option Duration) (before start last : ℕ) (r : Replied) → before ≤ start
+      → (o : ReaderState S) (e : Entry) (t : ReaderState S) → IsKeyboard asked limit start last r o e t → IsKeyboard asked limit before last r o e t
+  keyboard_longer asked limit before start last r h o e t p =
+      let from = p.1 in (
+        p.0,
+        omega arith,
+        p.2,
+        record {
+          call = let c = p.3.call in let low = c.2 in (c.0, c.1, omega arith, c.3, c.4);
+          reply = p.3.reply;
+          limits_so = let l = p.3.limits_so in (l.0, limits_longer limit before start p.0 h (asked o.source) l.0 l.1, l.2);
+          memory = p.3.memory;
+        },
+      )
 
   -- A take for good.
   pub closes : (v w : Known S) (x : ReaderState S) → Taken drawn v x w → Closes drawn v x w
@@ -185,6 +186,10 @@ module _ {S : Type 0} (drawn : S → List SourceAnswer → S → Type 0) where
   pub closed_sits : (r : Option (ReaderState S)) (v w : Known S) → Sits v → IfSome r (λ x. Taken drawn v x w) → IfNone r (w ≡ v) → Sits w
   closed_sits (Some x) v w sits t same = sits_taken v w x sits t
   closed_sits None v w sits t same = subst Sits (sym same) sits
+
+  pub closed_none : (P : Type 0) (r : Option (ReaderState S)) (v w : Known S) → P → v.has ≡ false → IfNone r (w ≡ v) → IfNone r ((w ≡ v) × (P × (w.has ≡ false)))
+  closed_none P (Some x) v w there idle same = tt
+  closed_none P None v w there idle same = (same, (there, ap (λ (k : Known S). k.has) same ∙ idle))
 
   pub closed_last : (r : Option (ReaderState S)) (last : Option ℕ) (v w : Known S) → last ≡ last_from None v.mine → IfSome r (λ x. Taken drawn v x w) → IfNone r (w ≡ v) → last ≡ last_from None w.mine
   closed_last (Some x) last v w before t same = before ∙ ap (λ k. last_from None k.mine) (sym t.after)
@@ -228,6 +233,27 @@ pub last_after : {S : Type 0} (drawn : S → List SourceAnswer → S → Type 0)
 last_after drawn made r v u w x y last t p is before =
     ap (λ (n : Option ℕ). last_of n r) (before ∙ ap (λ k. last_from None k.mine) (sym t.after)) ∙ ap (last_of (last_from None u.mine)) (sym is) ∙ sym (last_from-push None u.mine p.0.call)
     ∙ ap (λ k. last_from None k.mine) (sym p.1)
+
+-- What holds of a fault holds of it in the reply.
+fault_of : (k l : ErrorKind) → Fault k ≡ Fault l → k ≡ l
+fault_of k l e = cc
+
+pub poll_memory : (r : Result Bool Error) (P : ErrorKind → Type 0) → IfErr r (λ e. P (error_kind e)) → (kind : ErrorKind) → poll_reply r ≡ Fault kind → P kind
+poll_memory (Ok b) P h kind e = absurd (poll_not e)
+  where
+    poll_not : ToPoll b ≡ Fault kind → ⊥
+    poll_not e = absurd (cc)
+poll_memory (Err x) P h kind e = subst P (fault_of (error_kind x) kind e) h
+
+pub flags_memory : (r : Result (Option KeyboardEnhancementFlags × ℕ) Error) (q : Replied) (P : ErrorKind → Type 0) → flags_said r ≡ shown q → IfErr r (λ e. P (error_kind e)) → (kind : ErrorKind) → q ≡ Fault kind → P kind
+flags_memory (Ok x) q P s h kind e = absurd (came_not (s ∙ ap shown e))
+  where
+    came_not : {x : Option Seen} → Came x ≡ Faulted kind → ⊥
+    came_not e = absurd (cc)
+flags_memory (Err x) q P s h kind e = subst P (faulted (error_kind x) kind (s ∙ ap shown e)) h
+  where
+    faulted : (k l : ErrorKind) → Faulted k ≡ Faulted l → k ≡ l
+    faulted k l e = cc
 
 -- What a read's number says, and its memory.
 pub last_read : {A : Type 0} (n : Option ℕ) (r : Result (InternalEvent A × ℕ) Error) → last_of n (read_reply r) ≡ last_said n r

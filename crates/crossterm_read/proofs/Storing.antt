@@ -27,13 +27,13 @@ prefix_whole : {X : Type 0} (p : X → Bool) (xs : List X) → AllByRecursion (�
 prefix_whole p [] a = refl
 prefix_whole p (x ∷ xs) a = ap (λ (b : Bool). cond (not b) (1 + position_or_len p xs) 0) a.0 ∙ ap (λ (n : ℕ). 1 + n) (prefix_whole p xs a.1) ∙ omega arith
 
-position_there : {X : Type 0} (p : X → Bool) (xs ys : List X) (y : X) → AllByRecursion (λ x. p x ≡ false) xs → p y ≡ true → position p (xs ++ y ∷ ys) ≡ Some (length xs)
+pub position_there : {X : Type 0} (p : X → Bool) (xs ys : List X) (y : X) → AllByRecursion (λ x. p x ≡ false) xs → p y ≡ true → position p (xs ++ y ∷ ys) ≡ Some (length xs)
 position_there p xs ys y a e =
     let long = length-append xs (y ∷ ys) in
     ap (λ (n : ℕ). cond (nat_lt n (length (xs ++ y ∷ ys))) (Some n) None) (prefix_there p xs ys y a e)
     ∙ ap (λ (b : Bool). cond b (Some (length xs)) None) (lt-ltb (length xs) (length (xs ++ y ∷ ys)) (omega arith))
 
-position_nowhere : {X : Type 0} (p : X → Bool) (xs : List X) → AllByRecursion (λ x. p x ≡ false) xs → position p xs ≡ None
+pub position_nowhere : {X : Type 0} (p : X → Bool) (xs : List X) → AllByRecursion (λ x. p x ≡ false) xs → position p xs ≡ None
 position_nowhere p xs a =
     ap (λ (n : ℕ). cond (nat_lt n (length xs)) (Some n) None) (prefix_whole p xs a)
     ∙ ap (λ (b : Bool). cond b (Some (length xs)) None) (le-ltb (length xs) (length xs) (omega arith))

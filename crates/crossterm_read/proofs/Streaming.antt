@@ -53,8 +53,8 @@ module _ {S : Type 0} (drawn : S → List SourceAnswer → S → Type 0) (asked 
   nothing_given (inr h) = inr h.1
 
 module _ {S : Type 0} (drawn : S → List SourceAnswer → S → Type 0) (asked : S → List (Option Duration)) where
-  one_more : (v u w : Known S) (rs : List Replied) (r : Replied) → PollsOn drawn asked v rs u → Extends drawn (IsPoll drawn asked filters.Event None 0 0 r) u w → PollsOn drawn asked v (rs ++ r ∷ []) w
-  one_more v u w [] r h x = (w, subst (λ k. Extends drawn (IsPoll drawn asked filters.Event None 0 0 r) k w) h x, refl)
+  one_more : (v u w : Known S) (rs : List Replied) (r : Replied) → PollsOn drawn asked v rs u → Extends drawn (IsPoll asked filters.Event None 0 0 r) u w → PollsOn drawn asked v (rs ++ r ∷ []) w
+  one_more v u w [] r h x = (w, subst (λ k. Extends drawn (IsPoll asked filters.Event None 0 0 r) k w) h x, refl)
   one_more v u w (q ∷ rs) r h x = (h.0, h.1, one_more h.0 u w rs r h.2 x)
 
   -- One poll more. It has no limit, so that it had the reader.

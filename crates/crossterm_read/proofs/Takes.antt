@@ -14,7 +14,7 @@ use Rattle.crossterm_read.specs.Store.{IsLow, EventStore, ReaderState, Arrives}
 use Rattle.crossterm_read.specs.inside.Numbers.{IsOrderly}
 use Rattle.crossterm_read.specs.Queries.{QueryReplies, QueryStep, AfterReply, LeftReplies, FlagsReplies}
 use Rattle.crossterm_read.specs.Replies.{Replied, ToPoll, ToTake, ToQuery, Fault}
-use Rattle.crossterm_read.specs.Steps.{End, Ready, Tried, Broke, ReadReplies, TakeStep}
+use Rattle.crossterm_read.specs.Steps.{Patience, End, Ready, Tried, Broke, ReadReplies, TakeStep}
 use Rattle.crossterm_read.proofs.Rising.{Does, none_does, take_does, both_do, does_rise}
 
 -- events arrive, and then this is done
@@ -28,7 +28,7 @@ StepDoes c s t r = Does s (took c r) t
 then_same : (c : Request) (s m t : EventStore) (q r : Replied) → StepDoes c s m q → t ≡ m → r ≡ q → StepDoes c s t r
 then_same c s m t q r d e h = subst (λ (y : Replied). StepDoes c s t y) (sym h) (subst (λ (y : EventStore). StepDoes c s y q) (sym e) d)
 
-read_replies : (tries : ℕ) (f : AnyFilter) (end : End) (m t : EventStore) (r : Replied) → ReadReplies (admitted f) end m t r → StepDoes (Read tries f) m t r
+read_replies : (tries : Patience) (f : AnyFilter) (end : End) (m t : EventStore) (r : Replied) → ReadReplies (admitted f) end m t r → StepDoes (Read tries f) m t r
 read_replies tries f Ready m t (ToTake (Some x)) h = take_does f m t x h
 read_replies tries f Ready m t (ToTake None) h = then_same (Read tries f) m m t (ToTake None) (ToTake None) (none_does m) h.1 refl
 read_replies tries f Ready m t (ToPoll b) h = absurd h
@@ -56,11 +56,11 @@ query_replies f c one none (ToTake x) m t r h = absurd h
 query_replies f c one none (ToQuery x y) m t r h = absurd h
 query_replies f c one none (Fault kind) m t r h = query_fails c kind (none kind) m t r h
 
-query_does : (f : AnyFilter) (c : Request) → ((x : Seen × ℕ) → took c (ToTake (Some x)) ≡ (f, x.1) ∷ []) → ((kind : ErrorKind) → took c (Fault kind) ≡ []) → (tries : ℕ) (zs : List SourceAnswer) (s t : EventStore) (r : Replied)
+query_does : (f : AnyFilter) (c : Request) → ((x : Seen × ℕ) → took c (ToTake (Some x)) ≡ (f, x.1) ∷ []) → ((kind : ErrorKind) → took c (Fault kind) ≡ []) → (tries : Patience) (zs : List SourceAnswer) (s t : EventStore) (r : Replied)
     → QueryStep (admitted f) tries zs s t r → StepDoes c s t r
 query_does f c one none tries zs s t r h = draw_does zs s h.0 t (took c r) h.2.2 (query_replies f c one none h.1 h.0 t r h.3)
 
-module _ (tries again : ℕ) where
+module _ (tries again : Patience) where
   abbrev KeyboardDoes : EventStore → EventStore → Replied → Type 0
   KeyboardDoes s t r = StepDoes (Keyboard tries again) s t r
 

@@ -1,26 +1,23 @@
--- Asking with a limit of time.
-use Rattle.std.proofs.Common.{◌≡◌, ◌≢◌, ◌⊎◌, ◌≤◌, ◌-◌, ℕ, Bool, true, false, List, [], ◌∷◌, ◌++◌, length, Option, None, Some, Ok, inl, inr, ⊎_elim, refl, sym, ap, subst, ◌∙◌, arith, length-append}
-use mathlib.Core.Bool.{true≢false}
-use Rattle.std.specs.Prelude.{is_some}
+-- Asking within a limit of time.
+use Rattle.std.proofs.Common.{◌≡◌, ◌≤◌, ◌-◌, ℕ, Bool, true, false, List, [], ◌∷◌, ◌++◌, Option, None, Some, Ok, refl, sym, ap, subst, inl, inr, ◌∙◌, arith, append-nil, append_assoc}
 use Rattle.std.specs.Duration.{as_nanos}
 use Rattle.std.specs.List.{AllByRecursion}
 use Rattle.std.specs.Option.{option_map}
 use Rattle.std.specs.declared.io.ErrorKind.{ErrorKind}
-use Rattle.std.specs.declared.io.ErrorKind.TheVariants.{OutOfMemory, Interrupted}
 use Rattle.std.specs.declared.time.Duration.{Duration}
 use Rattle.crossterm_types.specs.Seen.{Seen}
-use Rattle.crossterm_types.specs.Timing.{Reaches, HasElapsed}
+use Rattle.crossterm_types.specs.Timing.{Reaches, HasElapsed, left_over}
 use Rattle.crossterm_types.specs.declared.event.timeout.PollTimeout.{PollTimeout}
-use Rattle.crossterm_read.specs.Answers.{SourceAnswer, Failed}
-use Rattle.crossterm_read.specs.Device.{AsksEach, IsAtOnce}
+use Rattle.crossterm_read.specs.Answers.{SourceAnswer}
+use Rattle.crossterm_read.specs.Device.{AsksEach, AsksWith, IsAtOnce}
 use Rattle.crossterm_read.specs.declared.read.reader.AtWake.{AtWake}
 use Rattle.crossterm_read.specs.declared.read.reader.AtWake.TheVariants.{Stops, GoesOn}
-use Rattle.crossterm_read.specs.Replies.{Replied, ToPoll, ToTake, Fault}
-use Rattle.crossterm_read.specs.Store.{ReaderState}
-use Rattle.crossterm_read.specs.Steps.{first_admitted, Asks, held_already, came, broke, tried, refused, End, Ready, Tried, Broke, ReadStep, RefusedOnlyWithoutRoom, TakeReplies}
-use Rattle.crossterm_read.specs.inside.Asking.{Asked, end_of, AskedInTime, AsksInTime}
-use Rattle.crossterm_read.specs.Waiting.{EndsWith, EndsWoken, TimedPoll, TimedQuery, TimedKeyboard, WasLeft}
-use Rattle.crossterm_read.proofs.Asking.{asks_more}
+use Rattle.crossterm_read.specs.Replies.{Replied, ToTake, Fault}
+use Rattle.crossterm_read.specs.Store.{EventStore, ReaderState}
+use Rattle.crossterm_read.specs.Steps.{Within, first_admitted, Asks, End, Ready, Tried, Broke, PollStep, ReadStep, RefusedOnlyWithoutRoom, TakeReplies}
+use Rattle.crossterm_read.specs.inside.Asking.{Asked, end_of, AsksInTime}
+use Rattle.crossterm_read.specs.Waiting.{AsksLeft, OnlyLastIsAtOnce, WasLeft}
+use Rattle.crossterm_read.proofs.Asking.{all_push, asks_more}
 use Rattle.crossterm_read.proofs.Ready.{ready_there}
 
 -- What holds of each, made another.
@@ -28,11 +25,64 @@ pub all_map : {X : Type 0} (P Q : X → Type 0) (xs : List X) → ((x : X) → P
 all_map P Q [] f a = tt
 all_map P Q (x ∷ xs) f a = (f x a.0, all_map P Q xs f a.1)
 
+-- What was left of the limit, and something was.
+abbrev pub WasSomeLeft : PollTimeout → ℕ → Option Duration → Type 0
+WasSomeLeft timeout last left = WasLeft timeout last left × (IsAtOnce left → ⊥)
+
+some_later : (timeout : PollTimeout) (a b : ℕ) → a ≤ b → (left : Option Duration) → WasSomeLeft timeout a left → WasSomeLeft timeout b left
+some_later timeout a b e left w = let low = w.0.2 in ((w.0.0, w.0.1, omega arith, w.0.3), w.1)
+
+last_at_once : (limits : List (Option Duration)) (limit : Option Duration) → AllByRecursion (λ l. IsAtOnce l → ⊥) limits → OnlyLastIsAtOnce (limits ++ limit ∷ [])
+last_at_once [] limit a = (λ more. absurd (more refl), tt)
+last_at_once (l ∷ ls) limit a = (λ more. a.0, last_at_once ls limit a.1)
+
+none_at_once : (limits : List (Option Duration)) → AllByRecursion (λ l. IsAtOnce l → ⊥) limits → OnlyLastIsAtOnce limits
+none_at_once [] a = tt
+none_at_once (l ∷ ls) a = (λ more. a.0, none_at_once ls a.1)
+
+pub left_none : (timeout : PollTimeout) (last : ℕ) (l : List (Option Duration)) → AsksLeft timeout last l l
+left_none timeout last l = ([], sym (append-nil l), tt, tt)
+
 -- One more is asked, with what is left at a later moment.
-pub limits_more : (timeout : PollTimeout) (a now b : ℕ) (l m k : List (Option Duration)) → a ≤ b → as_nanos timeout.start ≤ now → now ≤ b → AsksEach (WasLeft timeout a) l m → AsksInTime timeout now m k → AsksEach (WasLeft timeout b) l k
-limits_more timeout a now b l m k e f g h i =
-    let later : AsksEach (WasLeft timeout b) l m = (h.0, h.1, all_map (WasLeft timeout a) (WasLeft timeout b) h.0 (λ left w. let low = w.2 in (w.0, w.1, omega arith, w.3)) h.2) in
-    asks_more (WasLeft timeout b) l m k i.0 later (now, f, g, i.1) i.2
+pub limits_more : (timeout : PollTimeout) (a now b : ℕ) (l m k : List (Option Duration)) → a ≤ b → as_nanos timeout.start ≤ now → now ≤ b → AsksEach (WasSomeLeft timeout a) l m → AsksInTime timeout now m k → AsksLeft timeout b l k
+limits_more timeout a now b l m k e f g h i = by_question i.2
+  where
+    were : AllByRecursion (WasLeft timeout b) h.0
+    were = all_map (WasSomeLeft timeout a) (WasLeft timeout b) h.0 (λ left w. (some_later timeout a b e left w).0) h.2
+
+    lasted : AllByRecursion (λ l. IsAtOnce l → ⊥) h.0
+    lasted = all_map (WasSomeLeft timeout a) (λ l. IsAtOnce l → ⊥) h.0 (λ left w. w.1) h.2
+
+    by_question : AsksWith i.0 m k → AsksLeft timeout b l k
+    by_question (inl n) = (h.0, n ∙ h.1, were, none_at_once h.0 lasted)
+    by_question (inr n) = (
+      h.0 ++ i.0 ∷ [],
+      n ∙ ap (λ (x : List (Option Duration)). x ++ i.0 ∷ []) h.1 ∙ append_assoc l h.0 (i.0 ∷ []),
+      all_push (WasLeft timeout b) h.0 i.0 were (now, f, g, i.1),
+      last_at_once h.0 i.0 lasted,
+    )
+
+-- Something was left at a moment where the limit hasn't passed at a later one.
+some_left : (timeout : PollTimeout) (now later : ℕ) (left : Option Duration) → now ≤ later → (HasElapsed timeout later → ⊥) → option_map as_nanos left ≡ left_over timeout now → IsAtOnce left → ⊥
+some_left timeout now later None g n e z = absurd z
+some_left timeout now later (Some d) g n e z = by_limit timeout.limit n e
+  where
+    some_of : (m n : ℕ) → Some m ≡ Some n → m ≡ n
+    some_of m n e = cc
+
+    some_not : (n : ℕ) → Some n ≡ None → ⊥
+    some_not n e = absurd (cc)
+
+    by_limit : (limit : Option Duration) → (Reaches limit (later - as_nanos timeout.start) → ⊥) → Some (as_nanos d) ≡ option_map (λ (l : Duration). as_nanos l - (now - as_nanos timeout.start)) limit → ⊥
+    by_limit None n e = some_not _ e
+    by_limit (Some l) n e = let same = some_of _ _ e in n (omega arith)
+
+-- One more is asked, and the limit hasn't passed yet.
+pub some_more : (timeout : PollTimeout) (a now b : ℕ) (l m k : List (Option Duration)) → a ≤ b → as_nanos timeout.start ≤ now → now ≤ b → (HasElapsed timeout b → ⊥) → AsksEach (WasSomeLeft timeout a) l m → AsksInTime timeout now m k
+    → AsksEach (WasSomeLeft timeout b) l k
+some_more timeout a now b l m k e f g lasting h i =
+    let later : AsksEach (WasSomeLeft timeout b) l m = (h.0, h.1, all_map (WasSomeLeft timeout a) (WasSomeLeft timeout b) h.0 (some_later timeout a b e) h.2) in
+    asks_more (WasSomeLeft timeout b) l m k i.0 later ((now, f, g, i.1), some_left timeout now b i.0 g lasting i.1) i.2
 
 -- Without a limit nothing is left over.
 none_left : (timeout : PollTimeout) → timeout.limit ≡ None → (last : ℕ) (left : Option Duration) → WasLeft timeout last left → left ≡ None
@@ -42,7 +92,7 @@ none_left timeout e last (Some d) w = absurd (some_not _ (w.3 ∙ ap (λ (o : Op
     some_not : (n : ℕ) → Some n ≡ None → ⊥
     some_not n e = absurd (cc)
 
-pub limits_none : (timeout : PollTimeout) → timeout.limit ≡ None → (last : ℕ) (l m : List (Option Duration)) → AsksEach (WasLeft timeout last) l m → AsksEach (λ limit. limit ≡ None) l m
+pub limits_none : (timeout : PollTimeout) → timeout.limit ≡ None → (last : ℕ) (l m : List (Option Duration)) → AsksLeft timeout last l m → AsksEach (λ limit. limit ≡ None) l m
 limits_none timeout e last l m h = (h.0, h.1, all_map (WasLeft timeout last) (λ limit. limit ≡ None) h.0 (λ left w. none_left timeout e last left w) h.2)
 
 pub reaches_later : (limit : Option Duration) (m n : ℕ) → m ≤ n → Reaches limit m → Reaches limit n
@@ -57,212 +107,29 @@ lasts timeout now h z = by_limit timeout.limit h z
     by_limit None h z = absurd z
     by_limit (Some d) h z = h (omega arith)
 
-not_nil : {X : Type 0} (ys : List X) (x : X) → ys ++ x ∷ [] ≢ []
-not_nil ys x e = let l = ap length e in let k = length-append ys (x ∷ []) in omega arith
+-- What was asked within a limit was asked within it at any later moment.
+pub asks_longer : (wake : AtWake) (f : Seen → Bool) (limit : Option Duration) (m n : ℕ) → m ≤ n → (held : List (Seen × ℕ)) (zs : List SourceAnswer) (end : End) → Asks wake f (Within limit m) held zs end → Asks wake f (Within limit n) held zs end
+asks_longer wake f limit m n h held zs Ready a = a
+asks_longer wake f limit m n h held zs Tried a = (a.0, a.1, record { begun = a.2.begun; once = a.2.once; passed = reaches_later limit m n h a.2.passed })
+asks_longer wake f limit m n h held zs (Broke kind) a = a
 
--- No more is answered than there are tries.
-asked_count : (wake : AtWake) (f : Seen → Bool) (tries : ℕ) (held : List (Seen × ℕ)) (zs : List SourceAnswer) (end : End) → Asks wake f tries held zs end → length zs ≤ tries
-asked_count wake f tries held zs end (held_already h z e) = let l = ap length z in omega arith
-asked_count wake f tries held zs end (came n ys x z p g l e) = l
-asked_count wake f tries held zs end (broke n ys kind z p o l e) = l
-asked_count wake f tries held zs end (tried n p l e) = omega arith
-asked_count wake f tries held zs end (refused n p l e) = omega arith
+pub poll_longer : (f : Seen → Bool) (limit : Option Duration) (m n : ℕ) → m ≤ n → (zs : List SourceAnswer) (s t : EventStore) (r : Replied) → PollStep (Within limit m) f zs s t r → PollStep (Within limit n) f zs s t r
+poll_longer f limit m n h zs s t r p = (p.0, asks_longer Stops f limit m n h s.held zs p.0 p.1, p.2, p.3)
 
--- With a try the source answers, where nothing admitted is held and there is room.
-asked_begun : (wake : AtWake) (f : Seen → Bool) (tries : ℕ) (held : List (Seen × ℕ)) (zs : List SourceAnswer) (end : End) → 1 ≤ tries → Asks wake f tries held zs end → first_admitted f held ≡ None → (zs ≢ []) ⊎ (end ≡ Broke OutOfMemory)
-asked_begun wake f tries held zs end h (held_already is z e) none = absurd (true≢false (sym is ∙ ap is_some none))
-asked_begun wake f tries held zs end h (came n ys x z p g l e) none = inl (λ y. not_nil ys _ (sym z ∙ y))
-asked_begun wake f tries held zs end h (broke n ys kind z p o l e) none = inl (λ y. not_nil ys _ (sym z ∙ y))
-asked_begun wake f tries held zs end h (tried n p l e) none = inl (λ y. let k = ap length y in omega arith)
-asked_begun wake f tries held zs end h (refused n p l e) none = inr e
-
-pub kind_of : (k l : ErrorKind) → Broke k ≡ Broke l → k ≡ l
-kind_of k l e = cc
-
--- Where a fault broke asking, and it wasn't that memory was refused, it is the last answer.
-pub asked_last : (wake : AtWake) (f : Seen → Bool) (tries : ℕ) (held : List (Seen × ℕ)) (zs : List SourceAnswer) (kind : ErrorKind) → kind ≢ OutOfMemory → Asks wake f tries held zs (Broke kind) → EndsWith kind zs
-asked_last wake f tries held zs kind n (held_already is z e) = absurd (not_ready kind e)
-  where
-    not_ready : (kind : ErrorKind) → Broke kind ≡ Ready → ⊥
-    not_ready kind e = cc
-asked_last wake f tries held zs kind n (came none ys x z p g l e) = absurd (not_ready kind e)
-  where
-    not_ready : (kind : ErrorKind) → Broke kind ≡ Ready → ⊥
-    not_ready kind e = cc
-asked_last wake f tries held zs kind n (broke none ys k z p o l e) = (ys, z ∙ ap (λ (x : ErrorKind). ys ++ Failed x ∷ []) (sym (kind_of kind k e)))
-asked_last wake f tries held zs kind n (tried none p l e) = absurd (not_tried kind e)
-  where
-    not_tried : (kind : ErrorKind) → Broke kind ≡ Tried → ⊥
-    not_tried kind e = cc
-asked_last wake f tries held zs kind n (refused none p l e) = absurd (n (kind_of kind OutOfMemory e))
-
--- Where a wake-up broke asking it is the last answer.
-asked_woken : (f : Seen → Bool) (tries : ℕ) (held : List (Seen × ℕ)) (zs : List SourceAnswer) (kind : ErrorKind) → kind ≡ Interrupted → Asks Stops f tries held zs (Broke kind) → EndsWoken zs
-asked_woken f tries held zs kind w a = subst (λ (k : ErrorKind). EndsWith k zs) w (asked_last Stops f tries held zs kind (λ e. memory_not (sym e ∙ w)) a)
-  where
-    memory_not : OutOfMemory ≡ Interrupted → ⊥
-    memory_not e = cc
-
-ready_not : (kind : ErrorKind) → Ready ≡ Broke kind → ⊥
-ready_not kind e = cc
-
-tried_not : (kind : ErrorKind) → Tried ≡ Broke kind → ⊥
-tried_not kind e = cc
-
-not_tried : Ready ≡ Tried → ⊥
-not_tried e = cc
-
-broke_not : (kind : ErrorKind) → Broke kind ≡ Tried → ⊥
-broke_not kind e = cc
-
-not_false : ToPoll true ≡ ToPoll false → ⊥
-not_false e = cc
-
-poll_not : (b : Bool) (kind : ErrorKind) → ToPoll b ≡ Fault kind → ⊥
-poll_not b kind e = cc
-
-fault_not : (kind : ErrorKind) → Fault kind ≡ ToPoll false → ⊥
-fault_not kind e = cc
-
-pub fault_of : (k l : ErrorKind) → Fault k ≡ Fault l → k ≡ l
-fault_of k l e = cc
-
-module _ {S : Type 0} (drawn : S → List SourceAnswer → S → Type 0) (wake : AtWake) (f : Seen → Bool) (limit : Option Duration) (start last : ℕ) (s t : ReaderState S) where
-  -- Asking with some tries is asking in time.
-  pub in_time : (end : End) (tries : ℕ) → 1 ≤ tries → (IsAtOnce limit → tries ≤ 1) → (end ≡ Tried → Reaches limit (last - start)) → Asked drawn wake f tries s t end → AskedInTime drawn wake f limit start last s t end
-  in_time end tries h o p a = record {
-    tries = tries;
-    answers = a.0;
-    drawn_so = a.1;
-    arrives = a.2;
-    asks = a.3;
-    memory = a.4;
-    patient = p;
-    begun = asked_begun wake f tries s.store.held a.0 end h a.3;
-    once = λ z. let n = asked_count wake f tries s.store.held a.0 end a.3 in let m = o z in omega arith;
-  }
-
-  pub in_time_ready : (tries : ℕ) → 1 ≤ tries → (IsAtOnce limit → tries ≤ 1) → Asked drawn wake f tries s t Ready → AskedInTime drawn wake f limit start last s t Ready
-  in_time_ready tries h o a = in_time Ready tries h o (λ e. absurd (not_tried e)) a
-
-  pub in_time_broke : (kind : ErrorKind) (tries : ℕ) → 1 ≤ tries → (IsAtOnce limit → tries ≤ 1) → Asked drawn wake f tries s t (Broke kind) → AskedInTime drawn wake f limit start last s t (Broke kind)
-  in_time_broke kind tries h o a = in_time (Broke kind) tries h o (λ e. absurd (broke_not kind e)) a
-
-module _ {S : Type 0} (drawn : S → List SourceAnswer → S → Type 0) (f : Seen → Bool) (limit : Option Duration) (before start last : ℕ) (s t : ReaderState S) where
-  pub timed_ok : (b : Bool) → before ≤ start → AskedInTime drawn Stops f limit start last s t (end_of (Ok b)) → TimedPoll drawn f limit before last s t (ToPoll b)
-  timed_ok true h a = record {
-    tries = a.tries;
-    answers = a.answers;
-    drawn_so = a.drawn_so;
-    step = (Ready, a.asks, a.arrives, refl);
-    memory = λ kind e. absurd (poll_not true kind e);
-    patient = λ e. absurd (not_false e);
-    begun = λ n. begun_of (a.begun n);
-    once = a.once;
-  }
-    where
-      begun_of : (a.answers ≢ []) ⊎ (Ready ≡ Broke OutOfMemory) → (a.answers ≢ []) ⊎ (ToPoll true ≡ Fault OutOfMemory)
-      begun_of (inl x) = inl x
-      begun_of (inr e) = absurd (ready_not OutOfMemory e)
-  timed_ok false h a = record {
-    tries = a.tries;
-    answers = a.answers;
-    drawn_so = a.drawn_so;
-    step = (Tried, a.asks, a.arrives, refl);
-    memory = λ kind e. absurd (poll_not false kind e);
-    patient = λ e. inr (reaches_later limit (last - start) (last - before) (omega arith) (a.patient refl));
-    begun = λ n. begun_of (a.begun n);
-    once = a.once;
-  }
-    where
-      begun_of : (a.answers ≢ []) ⊎ (Tried ≡ Broke OutOfMemory) → (a.answers ≢ []) ⊎ (ToPoll false ≡ Fault OutOfMemory)
-      begun_of (inl x) = inl x
-      begun_of (inr e) = absurd (tried_not OutOfMemory e)
-
-  pub timed_woken : (kind : ErrorKind) → kind ≡ Interrupted → AskedInTime drawn Stops f limit start last s t (Broke kind) → TimedPoll drawn f limit before last s t (ToPoll false)
-  timed_woken kind w a = record {
-    tries = a.tries;
-    answers = a.answers;
-    drawn_so = a.drawn_so;
-    step = (Broke kind, a.asks, a.arrives, inl (w, refl));
-    memory = λ k e. absurd (poll_not false k e);
-    patient = λ e. inl (asked_woken f a.tries s.store.held a.answers kind w a.asks);
-    begun = λ n. begun_of (a.begun n);
-    once = a.once;
-  }
-    where
-      memory_not : OutOfMemory ≡ Interrupted → ⊥
-      memory_not e = cc
-
-      begun_of : (a.answers ≢ []) ⊎ (Broke kind ≡ Broke OutOfMemory) → (a.answers ≢ []) ⊎ (ToPoll false ≡ Fault OutOfMemory)
-      begun_of (inl x) = inl x
-      begun_of (inr e) = absurd (memory_not (sym (kind_of kind OutOfMemory e) ∙ w))
-
-  pub timed_fault : (kind : ErrorKind) → kind ≢ Interrupted → AskedInTime drawn Stops f limit start last s t (Broke kind) → TimedPoll drawn f limit before last s t (Fault kind)
-  timed_fault kind w a = record {
-    tries = a.tries;
-    answers = a.answers;
-    drawn_so = a.drawn_so;
-    step = (Broke kind, a.asks, a.arrives, inr (w, refl));
-    memory = λ k e. subst (λ (x : ErrorKind). RefusedOnlyWithoutRoom s.room a.answers x) (fault_of kind k e) a.memory;
-    patient = λ e. absurd (fault_not kind e);
-    begun = λ n. begun_of (a.begun n);
-    once = a.once;
-  }
-    where
-      begun_of : (a.answers ≢ []) ⊎ (Broke kind ≡ Broke OutOfMemory) → (a.answers ≢ []) ⊎ (Fault kind ≡ Fault OutOfMemory)
-      begun_of (inl x) = inl x
-      begun_of (inr e) = inr (ap Fault (kind_of kind OutOfMemory e))
-
-module _ {S : Type 0} (drawn : S → List SourceAnswer → S → Type 0) (f : Seen → Bool) (limit : Option Duration) (before start last : ℕ) (s t : ReaderState S) where
-  -- A poll in time from a moment on is one in time from an earlier one on.
-  abbrev pub timed_longer : (r : Replied) → before ≤ start → TimedPoll drawn f limit start last s t r → TimedPoll drawn f limit before last s t r
-  timed_longer r h p = record {
-    tries = p.tries;
-    answers = p.answers;
-    drawn_so = p.drawn_so;
-    step = p.step;
-    memory = p.memory;
-    patient = λ e. ⊎_elim (λ w. inl w) (λ q. inr (reaches_later limit (last - start) (last - before) (omega arith) q)) (p.patient e);
-    begun = p.begun;
-    once = p.once;
-  }
-
-module _ {S : Type 0} (drawn : S → List SourceAnswer → S → Type 0) where
-  -- So is a query.
-  abbrev pub query_longer : (f : Seen → Bool) (limit : Option Duration) (before start last : ℕ) (s t : ReaderState S) (r : Replied) → before ≤ start → TimedQuery drawn f limit start last s t r → TimedQuery drawn f limit before last s t r
-  query_longer f limit before start last s t r h p = record {
-    tries = p.tries;
-    answers = p.answers;
-    drawn_so = p.drawn_so;
-    step = p.step;
-    memory = p.memory;
-    patient = λ e. ⊎_elim (λ w. inl w) (λ o. inr (⊎_elim (λ w. inl w) (λ q. inr (reaches_later limit (last - start) (last - before) (omega arith) q)) o)) (p.patient e);
-    begun = p.begun;
-  }
-
-  abbrev pub board_longer : (limit : Option Duration) (before start last : ℕ) (s t : ReaderState S) (r : Replied) → before ≤ start → TimedKeyboard drawn limit start last s t r → TimedKeyboard drawn limit before last s t r
-  board_longer limit before start last s t r h p = record {
-    tries = p.tries;
-    again = p.again;
-    answers = p.answers;
-    drawn_so = p.drawn_so;
-    step = p.step;
-    memory = p.memory;
-    patient = λ e. ⊎_elim (λ w. inl w) (λ o. inr (⊎_elim (λ w. inl w) (λ q. inr (reaches_later limit (last - start) (last - before) (omega arith) q)) o)) (p.patient e);
-    begun = p.begun;
-  }
-
-module _ {S : Type 0} (drawn : S → List SourceAnswer → S → Type 0) (f : Seen → Bool) (limit : Option Duration) (none : limit ≡ None) (start last : ℕ) (s m : ReaderState S) where
-  unlimited : Reaches limit (last - start) → ⊥
-  unlimited r = absurd (subst (λ (o : Option Duration). Reaches o (last - start)) none r)
+module _ {S : Type 0} (drawn : S → List SourceAnswer → S → Type 0) (f : Seen → Bool) (limit : Option Duration) (none : limit ≡ None) (past : ℕ) (s m : ReaderState S) where
+  unlimited : Reaches limit past → ⊥
+  unlimited r = absurd (subst (λ (o : Option Duration). Reaches o past) none r)
 
   -- Without a limit asking ends with an admitted event, which is held.
-  pub waited_there : (ready : Bool) → AskedInTime drawn GoesOn f limit start last s m (end_of (Ok ready)) → first_admitted f m.store.held ≡ None → ⊥
-  waited_there true a n = ready_there GoesOn f a.tries s.store m.store a.answers a.asks a.arrives n
-  waited_there false a n = unlimited (a.patient refl)
+  pub waited_there : (ready : Bool) → Asked drawn GoesOn f (Within limit past) s m (end_of (Ok ready)) → first_admitted f m.store.held ≡ None → ⊥
+  waited_there true a n = ready_there GoesOn f (Within limit past) s.store m.store a.0 a.3 a.2 n
+  waited_there false a n = unlimited a.3.2.passed
 
-  pub waited_read : (ready : Bool) (t : ReaderState S) (x : Seen × ℕ) → AskedInTime drawn GoesOn f limit start last s m (end_of (Ok ready)) → t.source ≡ m.source → TakeReplies f m.store t.store (Some x)
-      → (tries : ℕ) × (zs : List SourceAnswer) × drawn s.source zs t.source × ReadStep tries f zs s.store t.store (ToTake (Some x)) × Unit {0}
-  waited_read true t x a e h = (a.tries, a.answers, subst (λ (y : S). drawn s.source a.answers y) (sym e) a.drawn_so, (Ready, m.store, a.asks, a.arrives, h), tt)
-  waited_read false t x a e h = absurd (unlimited (a.patient refl))
+  pub waited_read : (ready : Bool) (t : ReaderState S) (x : Seen × ℕ) → Asked drawn GoesOn f (Within limit past) s m (end_of (Ok ready)) → t.source ≡ m.source → TakeReplies f m.store t.store (Some x)
+      → (past : ℕ) × (zs : List SourceAnswer) × drawn s.source zs t.source × ReadStep (Within None past) f zs s.store t.store (ToTake (Some x)) × Unit {0}
+  waited_read true t x a e h = (past, a.0, subst (λ (y : S). drawn s.source a.0 y) (sym e) a.1, (Ready, m.store, subst (λ (o : Option Duration). Asks GoesOn f (Within o past) s.store.held a.0 Ready) none a.3, a.2, h), tt)
+  waited_read false t x a e h = absurd (unlimited a.3.2.passed)
+
+  pub waited_fault : (kind : ErrorKind) → Asked drawn GoesOn f (Within limit past) s m (Broke kind)
+      → (past : ℕ) × (zs : List SourceAnswer) × drawn s.source zs m.source × ReadStep (Within None past) f zs s.store m.store (Fault kind) × RefusedOnlyWithoutRoom s.room zs kind
+  waited_fault kind a = (past, a.0, a.1, (Broke kind, m.store, subst (λ (o : Option Duration). Asks GoesOn f (Within o past) s.store.held a.0 (Broke kind)) none a.3, a.2, (refl, refl)), a.4)

@@ -12,7 +12,7 @@ use Rattle.crossterm_read.specs.Device.{DeviceAnswer}
 use Rattle.crossterm_read.specs.Store.{EventStore, next_number}
 use Rattle.crossterm_read.specs.Queries.{QueryStep, KeyboardStep}
 use Rattle.crossterm_read.specs.Replies.{Replied, ToPoll, ToTake, ToQuery, Fault, Said, Polled, Came, Faulted, flags_seen, shown}
-use Rattle.crossterm_read.specs.Steps.{PollStep, ReadStep, TakeStep}
+use Rattle.crossterm_read.specs.Steps.{Patience, UpTo, PollStep, ReadStep, TakeStep}
 use Rattle.crossterm_read.specs.declared.read.call.Call.{Call}
 use Rattle.crossterm_read.specs.declared.read.call.Call.TheVariants as call
 use Rattle.crossterm_read.specs.declared.read.call.Reply.{Reply}
@@ -25,28 +25,40 @@ said (reply.Position column row) = Came (Some (CursorPosition column row))
 said (reply.Keyboard flags) = Came (Some (flags_seen flags))
 said (reply.Fault kind) = Faulted kind
 
--- What is asked of a reader, with the tries that it has. A query for the keyboard's flags has tries for its second poll too.
+-- What is asked of a reader, and how long. A query for the keyboard's flags says so of its second poll too.
 pub data Request : Type 0 where
-  Poll : ℕ → AnyFilter → Request
-  Read : ℕ → AnyFilter → Request
+  Poll : Patience → AnyFilter → Request
+  Read : Patience → AnyFilter → Request
   Take : AnyFilter → Request
-  Position : ℕ → Request
-  Keyboard : ℕ → ℕ → Request
+  Position : Patience → Request
+  Keyboard : Patience → Patience → Request
 
 abbrev pub request : Call → Request
-request (call.Poll tries f) = Poll tries f
-request (call.Read tries f) = Read tries f
+request (call.Poll tries f) = Poll (UpTo tries) f
+request (call.Read tries f) = Read (UpTo tries) f
 request (call.Take f) = Take f
-request (call.Position tries) = Position tries
-request (call.Keyboard tries) = Keyboard tries tries
+request (call.Position tries) = Position (UpTo tries)
+request (call.Keyboard tries) = Keyboard (UpTo tries) (UpTo tries)
 
 -- What is asked draws these answers, and is replied this.
 abbrev pub Step : Request → List SourceAnswer → EventStore → EventStore → Replied → Type 0
-Step (Poll tries f) zs s t r = PollStep tries (admitted f) zs s t r
-Step (Read tries f) zs s t r = ReadStep tries (admitted f) zs s t r
+Step (Poll patience f) zs s t r = PollStep patience (admitted f) zs s t r
+Step (Read patience f) zs s t r = ReadStep patience (admitted f) zs s t r
 Step (Take f) zs s t r = TakeStep (admitted f) zs s t r
-Step (Position tries) zs s t r = QueryStep is_cursor_position tries zs s t r
-Step (Keyboard tries again) zs s t r = KeyboardStep tries again zs s t r
+Step (Position patience) zs s t r = QueryStep is_cursor_position patience zs s t r
+Step (Keyboard patience again) zs s t r = KeyboardStep patience again zs s t r
+
+-- The same is asked, so many times at most in the place of how long.
+abbrev pub SameInTries : Request → Request → Type 0
+SameInTries (Poll patience f) c = (tries : ℕ) × (c ≡ Poll (UpTo tries) f)
+SameInTries (Read patience f) c = (tries : ℕ) × (c ≡ Read (UpTo tries) f)
+SameInTries (Take f) c = c ≡ Take f
+SameInTries (Position patience) c = (tries : ℕ) × (c ≡ Position (UpTo tries))
+SameInTries (Keyboard patience again) c = (tries : ℕ) × (more : ℕ) × (c ≡ Keyboard (UpTo tries) (UpTo more))
+
+-- A step within a limit of time is one with some number of tries.
+abbrev pub CountsTries : Type 0
+CountsTries = (c : Request) (zs : List SourceAnswer) (s t : EventStore) (r : Replied) → Step c zs s t r → (d : Request) × SameInTries c d × Step d zs s t r
 
 -- A run: calls, what each draws, and what each replies.
 abbrev pub Run : EventStore → List Call → List (List SourceAnswer) → List Replied → EventStore → Type 0
@@ -95,17 +107,21 @@ IsWithin [] ys = Unit {0}
 IsWithin (x ∷ xs) [] = ⊥
 IsWithin (x ∷ xs) (y ∷ ys) = ((x ≡ y) × IsWithin xs ys) ⊎ IsWithin (x ∷ xs) ys
 
--- There are replies that show these answers: the events that they took and those that are held, each with its arrival number, are together, each once,
--- the first ones of all that happens; those that are held stand in the order of arrival.
-pub record Accounts (device_answers : List DeviceAnswer) (answers : List Said) (held : List Seen) : Type 0 where
+-- The events that were taken and those that are held, each with its arrival number, are together, each once, the first ones of all that happens; those that
+-- are held stand in the order of arrival.
+pub record IsAccounted (device_answers : List DeviceAnswer) (taken_so held : List (Seen × ℕ)) : Type 0 where
   pub all : List Seen
   pub front : List Seen
   pub rest : List Seen
-  pub replies : List Replied
-  pub kept : List (Seen × ℕ)
   pub happened : Happened device_answers all
   pub first : all ≡ front ++ rest
+  pub once : IsPermutation (numbered 0 front) (taken_so ++ held)
+  pub in_order : IsWithin held (numbered 0 front)
+
+-- There are replies that show these answers, and what they took and what is held is accounted for.
+pub record Accounts (device_answers : List DeviceAnswer) (answers : List Said) (held : List Seen) : Type 0 where
+  pub replies : List Replied
+  pub kept : List (Seen × ℕ)
   pub shows : answers ≡ map shown replies
   pub left : held ≡ map (λ h. h.0) kept
-  pub once : IsPermutation (numbered 0 front) (taken replies ++ kept)
-  pub in_order : IsWithin kept (numbered 0 front)
+  pub accounted : IsAccounted device_answers (taken replies) kept

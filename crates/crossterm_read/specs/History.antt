@@ -7,7 +7,7 @@ use Rattle.crossterm_types.specs.declared.event.filter.AnyFilter.{AnyFilter}
 use Rattle.crossterm_types.specs.declared.event.filter.AnyFilter.TheVariants as filter
 use Rattle.crossterm_read.specs.Answers.{SourceAnswer}
 use Rattle.crossterm_read.specs.Calls.{Request, Read, Take, Position, Keyboard, Step, IsWithin, taken}
-use Rattle.crossterm_read.specs.Store.{IsLow, ReaderState, arrived, numbered_after}
+use Rattle.crossterm_read.specs.Store.{IsLow, ReaderState, arrived, capacity, numbered_after}
 use Rattle.crossterm_read.specs.Replies.{Replied, ToPoll, ToTake, ToQuery, Fault}
 
 -- One call: whose it was, what was asked, what the source answered, and the reply.
@@ -40,12 +40,12 @@ taken_by log = taken (map (λ e. e.reply) log)
 
 -- By which filter a call took, with the arrival number of what it took.
 abbrev pub took : Request → Replied → List (AnyFilter × ℕ)
-took (Read tries f) (ToTake (Some x)) = (f, x.1) ∷ []
+took (Read patience f) (ToTake (Some x)) = (f, x.1) ∷ []
 took (Take f) (ToTake (Some x)) = (f, x.1) ∷ []
-took (Position tries) (ToTake (Some x)) = (filter.Cursor, x.1) ∷ []
-took (Keyboard tries again) (ToTake (Some x)) = (filter.Flags, x.1) ∷ []
-took (Keyboard tries again) (ToQuery x (Some y)) = (filter.Flags, x.1) ∷ (filter.Attributes, y.1) ∷ []
-took (Keyboard tries again) (ToQuery x None) = (filter.Flags, x.1) ∷ []
+took (Position patience) (ToTake (Some x)) = (filter.Cursor, x.1) ∷ []
+took (Keyboard patience again) (ToTake (Some x)) = (filter.Flags, x.1) ∷ []
+took (Keyboard patience again) (ToQuery x (Some y)) = (filter.Flags, x.1) ∷ (filter.Attributes, y.1) ∷ []
+took (Keyboard patience again) (ToQuery x None) = (filter.Flags, x.1) ∷ []
 took c r = []
 
 abbrev pub takes_of : List Entry → List (AnyFilter × ℕ)
@@ -119,9 +119,9 @@ last_from n [] = n
 last_from n (e ∷ es) = last_from (last_of n e.reply) es
 
 module _ {S : Type 0} (drawn : S → List SourceAnswer → S → Type 0) where
-  -- A call leads from one state of the reader to another, as one of a reader of one thread does.
+  -- A call leads from one state of the reader to another, as one of a reader of one thread does. No room is lost.
   abbrev pub Makes : Entry → ReaderState S → ReaderState S → Type 0
-  Makes e s t = drawn s.source e.answers t.source × Step e.call e.answers s.store t.store e.reply
+  Makes e s t = drawn s.source e.answers t.source × Step e.call e.answers s.store t.store e.reply × (capacity s ≤ capacity t)
 
   -- A legal history: each call follows from the state that the one before left, and the last leaves t.
   abbrev pub Runs : ReaderState S → List Entry → ReaderState S → Type 0
@@ -129,7 +129,7 @@ module _ {S : Type 0} (drawn : S → List SourceAnswer → S → Type 0) where
   Runs s (e ∷ es) t = (m : ReaderState S) × Makes e s m × Runs m es t
 
   -- What one call does to what its pass knows. Calls of others may have come between; then comes this one, from the state that these left: no event that the
-  -- pass has seen arrive is missing there. So the pass sees one legal history, which begins with all that it had seen, and in which this call is the last.
+  -- pass has seen arrive is missing there, and no room that there was at first. So the pass sees one legal history, which begins with all that it had seen, and in which this call is the last.
   pub record Extends (made : ReaderState S → Entry → ReaderState S → Type 0) (v w : Known S) : Type 0 where
     pub opening : ReaderState S
     pub between : List Entry
@@ -144,6 +144,7 @@ module _ {S : Type 0} (drawn : S → List SourceAnswer → S → Type 0) where
     pub others : calls_by v.number between ≡ []
     pub after : w ≡ record v { seen = (v.seen ++ between) ++ call ∷ []; mine = v.mine ++ call ∷ [] }
     pub fresh : numbered_after opening.store.arrivals (answers_of v.seen) ≤ found.store.arrivals
+    pub room : capacity opening ≤ capacity found
     pub each_once : EachOnce opening w.seen left
 
   -- Two passes that met: the one sees one legal history that begins with all that it had seen, and with all that the other had seen.

@@ -4,6 +4,7 @@ pub mod Device
 pub mod Entries
 pub mod History
 pub mod Outcomes
+pub mod OverScripts
 pub mod Queries
 pub mod Reading
 pub mod Replies

@@ -10,6 +10,10 @@ use Rattle.crossterm_read.specs.Device.{Answering, DeviceAnswer, Bytes, Resized,
 abbrev pub IsNothingYet : ErrorKind → Type 0
 IsNothingYet kind = (kind ≡ WouldBlock) ⊎ (kind ≡ Interrupted)
 
+-- An error that isn't of such a kind is a fault.
+abbrev pub IsFault : ErrorKind → Type 0
+IsFault kind = IsNothingYet kind → ⊥
+
 -- The most failures that are counted.
 abbrev pub greatest : ℕ
 greatest = 2 ^ 64 - 1

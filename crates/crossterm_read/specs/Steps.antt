@@ -1,10 +1,13 @@
 -- What one call of a reader does.
-use Rattle.std.specs.Prelude.{◌≡◌, ◌≢◌, ◌⊎◌, ◌<◌, ◌≤◌, ℕ, Bool, true, false, List, [], ◌∷◌, ◌++◌, length, Option, Some, None, slice_index_or, position, remove, is_some}
+use Rattle.std.specs.Prelude.{◌≡◌, ◌≢◌, ◌⊎◌, ◌+◌, ◌≤◌, ℕ, Bool, true, false, List, [], ◌∷◌, ◌++◌, length, Option, Some, None, slice_index_or, position, remove, is_some}
 use Rattle.std.specs.List.{AllByRecursion}
 use Rattle.std.specs.declared.io.ErrorKind.{ErrorKind}
 use Rattle.std.specs.declared.io.ErrorKind.TheVariants.{OutOfMemory, Interrupted}
 use Rattle.crossterm_types.specs.Seen.{Seen}
+use Rattle.std.specs.declared.time.Duration.{Duration}
+use Rattle.crossterm_types.specs.Timing.{Reaches}
 use Rattle.crossterm_read.specs.Answers.{SourceAnswer, Gave, Nothing, Failed, gave}
+use Rattle.crossterm_read.specs.Device.{IsAtOnce}
 use Rattle.crossterm_read.specs.declared.read.reader.AtWake.{AtWake}
 use Rattle.crossterm_read.specs.declared.read.reader.AtWake.TheVariants.{Stops, GoesOn}
 use Rattle.crossterm_read.specs.Replies.{Replied, ToPoll, ToTake, ToQuery, Fault}
@@ -26,16 +29,49 @@ Passes wake f (Gave x) = f x ≡ false
 Passes wake f Nothing = Unit {0}
 Passes wake f (Failed kind) = (wake ≡ GoesOn) × (kind ≡ Interrupted)
 
--- What is drawn from the source, of so many answers at most, and how that ends. Where an admitted event is held nothing is drawn. Each answer
--- but the last is passed over, and the last is the first that isn't, where one came. Memory for one event may be refused before an answer.
-pub data Asks (wake : AtWake) (f : Seen → Bool) (tries : ℕ) (held : List (Seen × ℕ)) (zs : List SourceAnswer) (end : End) : Type 0 where
-  held_already : is_some (first_admitted f held) ≡ true → zs ≡ [] → end ≡ Ready → Asks wake f tries held zs end
-  came : first_admitted f held ≡ None → (ys : List SourceAnswer) (x : Seen) → zs ≡ ys ++ Gave x ∷ [] → AllByRecursion (Passes wake f) ys → f x ≡ true → length zs ≤ tries → end ≡ Ready
-      → Asks wake f tries held zs end
-  broke : first_admitted f held ≡ None → (ys : List SourceAnswer) (kind : ErrorKind) → zs ≡ ys ++ Failed kind ∷ [] → AllByRecursion (Passes wake f) ys → (wake ≡ GoesOn → kind ≢ Interrupted) → length zs ≤ tries
-      → end ≡ Broke kind → Asks wake f tries held zs end
-  tried : first_admitted f held ≡ None → AllByRecursion (Passes wake f) zs → length zs ≡ tries → end ≡ Tried → Asks wake f tries held zs end
-  refused : first_admitted f held ≡ None → AllByRecursion (Passes wake f) zs → length zs < tries → end ≡ Broke OutOfMemory → Asks wake f tries held zs end
+-- How long a call asks: so many times at most, or within a limit of time, of which so many nanoseconds have passed at the end.
+pub data Patience : Type 0 where
+  UpTo : ℕ → Patience
+  Within : Option Duration → ℕ → Patience
+
+-- So many answers may be drawn: no more than there are tries, and one with limit zero.
+abbrev pub Allows : Patience → ℕ → Type 0
+Allows (UpTo tries) n = n ≤ tries
+Allows (Within limit past) n = IsAtOnce limit → n ≤ 1
+
+-- The limit has passed, and the source has answered, once with limit zero.
+pub record HasPassed (limit : Option Duration) (past n : ℕ) : Type 0 where
+  pub begun : 1 ≤ n
+  pub once : IsAtOnce limit → n ≤ 1
+  pub passed : Reaches limit past
+
+-- After so many answers the call gives up.
+abbrev pub IsSpent : Patience → ℕ → Type 0
+IsSpent (UpTo tries) n = n ≡ tries
+IsSpent (Within limit past) n = HasPassed limit past n
+
+-- The first admitted event came, after answers that were passed over.
+pub record Finds (wake : AtWake) (f : Seen → Bool) (zs : List SourceAnswer) : Type 0 where
+  pub before : List SourceAnswer
+  pub event : Seen
+  pub all : zs ≡ before ++ Gave event ∷ []
+  pub passed : AllByRecursion (Passes wake f) before
+  pub admitted : f event ≡ true
+
+-- A fault of this kind came, after answers that were passed over.
+pub record Fails (wake : AtWake) (f : Seen → Bool) (kind : ErrorKind) (zs : List SourceAnswer) : Type 0 where
+  pub before : List SourceAnswer
+  pub all : zs ≡ before ++ Failed kind ∷ []
+  pub passed : AllByRecursion (Passes wake f) before
+  pub stops : wake ≡ GoesOn → kind ≢ Interrupted
+
+-- What is drawn from the source, and how that ends. Where an admitted event is held nothing is drawn. Memory for one event may be refused before an answer.
+abbrev pub Asks : AtWake → (Seen → Bool) → Patience → List (Seen × ℕ) → List SourceAnswer → End → Type 0
+Asks wake f patience held zs Ready =
+    ((is_some (first_admitted f held) ≡ true) × (zs ≡ [])) ⊎ ((first_admitted f held ≡ None) × Finds wake f zs × Allows patience (length zs))
+Asks wake f patience held zs Tried = (first_admitted f held ≡ None) × AllByRecursion (Passes wake f) zs × IsSpent patience (length zs)
+Asks wake f patience held zs (Broke kind) = (first_admitted f held ≡ None)
+    × ((Fails wake f kind zs × Allows patience (length zs)) ⊎ ((kind ≡ OutOfMemory) × AllByRecursion (Passes wake f) zs × Allows patience (length zs + 1)))
 
 -- What a poll says of how asking ended. A wake-up ends it with false.
 abbrev pub PollReplies : End → Replied → Type 0
@@ -58,11 +94,11 @@ ReadReplies f Tried s t r = (t ≡ s) × (r ≡ ToTake None)
 ReadReplies f (Broke kind) s t r = (t ≡ s) × (r ≡ Fault kind)
 
 -- The steps: these answers are drawn, their events are held, and the call replies this.
-abbrev pub PollStep : ℕ → (Seen → Bool) → List SourceAnswer → EventStore → EventStore → Replied → Type 0
-PollStep tries f zs s t r = (end : End) × Asks Stops f tries s.held zs end × Arrives s zs t × PollReplies end r
+abbrev pub PollStep : Patience → (Seen → Bool) → List SourceAnswer → EventStore → EventStore → Replied → Type 0
+PollStep patience f zs s t r = (end : End) × Asks Stops f patience s.held zs end × Arrives s zs t × PollReplies end r
 
-abbrev pub ReadStep : ℕ → (Seen → Bool) → List SourceAnswer → EventStore → EventStore → Replied → Type 0
-ReadStep tries f zs s t r = (end : End) × (m : EventStore) × Asks GoesOn f tries s.held zs end × Arrives s zs m × ReadReplies f end m t r
+abbrev pub ReadStep : Patience → (Seen → Bool) → List SourceAnswer → EventStore → EventStore → Replied → Type 0
+ReadStep patience f zs s t r = (end : End) × (m : EventStore) × Asks GoesOn f patience s.held zs end × Arrives s zs m × ReadReplies f end m t r
 
 abbrev pub TakeStep : (Seen → Bool) → List SourceAnswer → EventStore → EventStore → Replied → Type 0
 TakeStep f zs s t (ToTake x) = (zs ≡ []) × TakeReplies f s t x

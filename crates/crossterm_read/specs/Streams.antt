@@ -12,7 +12,7 @@ use Rattle.crossterm_read.specs.Replies.{Replied, ToTake, event_said, shown}
 module _ {S : Type 0} (drawn : S → List SourceAnswer → S → Type 0) (asked : S → List (Option Duration)) where
   -- One read at once that the stream's pass made: it stands in the one history, as the last call that the pass has seen.
   abbrev pub ReadsAtOnce : Replied → Known S → Known S → Type 0
-  ReadsAtOnce r v w = Extends drawn (IsTry drawn asked filters.Event r) v w
+  ReadsAtOnce r v w = Extends drawn (IsTry asked filters.Event r) v w
 
   -- An item is what such a read replied; or it is a fault, and the pass is as it was.
   abbrev pub GivesItem : {A : Type 0} → Known S → Known S → Result (Event A) Error → Type 0
@@ -25,7 +25,7 @@ module _ {S : Type 0} (drawn : S → List SourceAnswer → S → Type 0) (asked 
   -- The worker's pass made polls without a limit, one after another, with these replies. They all stand in the one history.
   abbrev pub PollsOn : Known S → List Replied → Known S → Type 0
   PollsOn v [] w = w ≡ v
-  PollsOn v (r ∷ rs) w = (u : Known S) × Extends drawn (IsPoll drawn asked filters.Event None 0 0 r) v u × PollsOn u rs w
+  PollsOn v (r ∷ rs) w = (u : Known S) × Extends drawn (IsPoll asked filters.Event None 0 0 r) v u × PollsOn u rs w
 
   -- It made no other call.
   abbrev pub OnlyPolls : Known S → Known S → Type 0

@@ -1,5 +1,6 @@
 pub mod Asking
 pub mod Kinds
+pub mod Newest
 pub mod Numbers
 pub mod Queues
 pub mod Replies

@@ -1,7 +1,25 @@
 //! What holds of all that happens.
+ghost use Rattle.crossterm_read.specs.Calls.{CountsTries};
 ghost use Rattle.crossterm_read.specs.Outcomes.{HappensByDivision};
+ghost use Rattle.crossterm_read.specs.OverScripts.{HistoriesAreTold, ScriptsAreTold};
 
 /// The law of what happens: the events of bytes are those of the only division of all bytes, and resizes take no part in it.
 pub fn one_happening()
     ensures { HappensByDivision }
+{}
+
+/// The law of limits: a step within a limit of time is one with some number of tries.
+pub fn counts_tries()
+    ensures { CountsTries }
+{}
+
+/// The law of scripts: what a new source over a script answers comes of the script's answers.
+pub fn scripts_are_told()
+    ensures { ScriptsAreTold }
+{}
+
+/// The law of histories over a script, whichever threads made their calls: what the source answered comes of the script's answers, and the
+/// events that were taken and those that are held are, each once, the first ones of all that happens by the script.
+pub fn histories_are_told()
+    ensures { HistoriesAreTold }
 {}

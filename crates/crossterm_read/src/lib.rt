@@ -20,18 +20,19 @@
 //! |---|---|---|---|
 //! | `Device` | 74 | what a device answers | `Device::answer` |
 //! | `Scripted` | 84 | what the acts of a script answer | `Device::answer` of `Script` |
-//! | `Reading` | 105 | what a device over a reader answers | `Device::answer` of `ReadDevice`, `PolledDevice`, `SocketDevice` |
+//! | `Reading` | 109 | what a device over a reader answers | `Device::answer` of `ReadDevice`, `PolledDevice`, `SocketDevice` |
 //! | `Waking` | 30 | which wakers are alike | `Waker`, `Device::waker` |
 //! | `Answers` | 30 | what a source answers | `EventSource::try_read` |
 //! | `Outcomes` | 102 | what comes of a device's answers, and the events that happen | `laws::one_happening` |
 //! | `Store` | 56 | what a reader holds | `InternalEventReader::{new, held}` |
 //! | `Replies` | 66 | what a call replies | |
-//! | `Steps` | 75 | what a poll, a read and a take do | `InternalEventReader::{poll_within, read_within, take}` |
+//! | `Steps` | 111 | what a poll, a read and a take do | `InternalEventReader::{poll_within, read_within, take}` |
 //! | `Queries` | 47 | what a query does | `InternalEventReader::{position_within, keyboard_within}` |
-//! | `Waiting` | 71 | calls with a limit of time | `InternalEventReader::{poll, read}` |
-//! | `Calls` | 111 | runs of calls, and the account of all events: the headline | `read::play` |
-//! | `History` | 169 | the one legal history of a reader that threads share | `EventReader`, `Pass` |
-//! | `Entries` | 83 | which call an entry of it is | `EventReader::{poll, read, poll_by, read_by, position_by, keyboard_by}` |
+//! | `Waiting` | 34 | with which limits a device is asked | `InternalEventReader::{poll, read}`, `EventReader::keyboard_by` |
+//! | `Calls` | 127 | runs of calls, and the account of all events: the headline | `read::play`, `laws::counts_tries` |
+//! | `History` | 170 | the one legal history of a reader that threads share | `EventReader`, `Pass` |
+//! | `Entries` | 78 | which call an entry of it is | `EventReader::{poll, read, poll_by, read_by, position_by, keyboard_by}` |
+//! | `OverScripts` | 26 | what a history over a script comes to | `laws::{scripts_are_told, histories_are_told}` |
 //! | `Seats` | 19 | what a clause says of a pass | `EventReader::{new, share, meet, close}` |
 //! | `Shared` | 15 | what it says of a share | `EventReader::{new, share}` |
 //! | `Streams` | 32 | what a stream answers, and what its worker does | `EventStream::{poll_event, poll_next}` |

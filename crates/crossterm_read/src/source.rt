@@ -3,8 +3,9 @@ ghost use Rattle.std.specs.Prelude.{◌≡◌, ◌⊎◌, ◌-◌, ◌==◌, ◌
 ghost use Rattle.std.specs.IoError.{error_kind};
 ghost use Rattle.std.specs.declared.io.ErrorKind.TheVariants.{OutOfMemory};
 ghost use Rattle.std.specs.declared.time.Duration.{Duration};
-ghost use Rattle.crossterm_parse.specs.Marked.{marked};
-ghost use Rattle.crossterm_parse.specs.View.{Represents};
+ghost use Rattle.crossterm_parse.specs.Marked.{bytes_of, marked};
+ghost use Rattle.crossterm_parse.specs.View.{Represents, paste_length};
+ghost use Rattle.crossterm_parse.specs.declared.marked.Marked.{Marked};
 ghost use Rattle.crossterm_read.specs.Answers.{SourceAnswer, answer_of, IsOwn};
 ghost use Rattle.crossterm_read.specs.Device.{AsksWith};
 ghost use Rattle.crossterm_read.specs.inside.Turns.{Source, SourceDrawn, source_none, source_on, Hands};
@@ -117,6 +118,21 @@ impl<D: Device, A: Allocator + Clone> DeviceSource<D, A> {
             raw: false,
             device,
         }
+    }
+
+    /// How many bytes of the open paste came after its start, of those that the parser has taken: 0 if no paste is open. This takes no memory.
+    ///
+    /// A server bounds the memory that one of its guests takes by this, as `Parser::paste_len` says.
+    ///
+    /// ```
+    /// if source.paste_len() > 1 << 20 {
+    ///     return Err(io::Error::from(ErrorKind::InvalidData));
+    /// }
+    /// ```
+    pub fn paste_len(&self) -> usize
+        ensures { (before : List Marked) → Represents self.now.parser before → result ≡ paste_length (bytes_of before) }
+    {
+        self.parser.paste_len()
     }
 
     // Hands the untaken bytes to the parser, and gives the first event.

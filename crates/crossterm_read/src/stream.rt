@@ -6,8 +6,8 @@ ghost use Rattle.std.specs.declared.io.ErrorKind.TheVariants.{OutOfMemory};
 ghost use Rattle.futures.specs.Poll.{IfReady, OnPending};
 ghost use Rattle.futures.specs.Task.{Covers, Keeps};
 ghost use Rattle.crossterm_read.specs.Seats.{knows};
-ghost use Rattle.crossterm_read.specs.Shared.{IsPassOf};
-ghost use Rattle.crossterm_read.specs.Streams.{GivesItem, GivesNothing};
+ghost use Rattle.crossterm_read.specs.Shared.{IsPassOf, IsShareOf};
+ghost use Rattle.crossterm_read.specs.Streams.{GivesItem, GivesNothing, OnlyPolls};
 
 mod hub;
 mod worker;
@@ -66,7 +66,7 @@ where
         other: Pass<S, A>,
     ) -> io::Result<EventStream<S, R, A>>
         requires { IsPassOf reader.now pass × IsPassOf reader.now other }
-        ensures pass { IfOk result (λ s. knows s.pass ≡ knows pass) }
+        ensures pass { IfOk result (λ s. (knows s.pass ≡ knows pass) × IsShareOf s.reader reader.now) }
         ensures err { IfErr result (λ e. error_kind e ≡ OutOfMemory) }
     {
         let waker = reader.waker()?;
@@ -78,9 +78,13 @@ where
             &rt,
             move ||
                 requires { IsPassOf theirs other }
+                ensures pass { IsPassOf theirs result }
+                // The thread makes no call but polls.
+                ensures polls { OnlyPolls S.drawn S.asked (knows other) (knows result) }
             {
                 let mut other = other;
-                work(&rt, &tasks, &theirs, &mut other)
+                work(&rt, &tasks, &theirs, &mut other);
+                other
             },
         );
         match started {
@@ -106,6 +110,8 @@ impl<S: EventSource<A>, R: Wait + Drop, A: Allocator + Clone> EventStream<S, R, 
     pub fn poll_event(&mut self, cx: &mut Context<'_>) -> Poll<io::Result<Event<A>>>
         ensures item { IfReady result (GivesItem S.drawn S.asked (knows self.old.pass) (knows self.new.pass)) }
         ensures nothing { OnPending result (GivesNothing S.drawn S.asked (knows self.old.pass) (knows self.new.pass)) }
+        // The stream stays with its reader.
+        ensures shared { self.new.reader ≡ self.old.reader }
         // A pending poll has registered its waker.
         ensures registered { OnPending result (Covers cx.new (λ s. s ≡ (arc_value self.new.hub).source.id)) }
         ensures kept { Keeps cx.old cx.new }
@@ -133,6 +139,7 @@ impl<S: EventSource<A>, R: Wait + Drop, A: Allocator + Clone> Stream for EventSt
     fn poll_next(&mut self, cx: &mut Context<'_>) -> Poll<Option<io::Result<Event<A>>>>
         ensures item { IfReady result (λ o. IsSomeAnd o (GivesItem S.drawn S.asked (knows self.old.pass) (knows self.new.pass))) }
         ensures nothing { OnPending result (GivesNothing S.drawn S.asked (knows self.old.pass) (knows self.new.pass)) }
+        ensures shared { self.new.reader ≡ self.old.reader }
         ensures registered { OnPending result (Covers cx.new (λ s. s ≡ (arc_value self.new.hub).source.id)) }
         ensures kept { Keeps cx.old cx.new }
     {
@@ -143,17 +150,28 @@ impl<S: EventSource<A>, R: Wait + Drop, A: Allocator + Clone> Stream for EventSt
     }
 }
 
-impl<S: EventSource<A>, R: Wait + Drop, A: Allocator> Drop for EventStream<S, R, A> {
-    fn drop(self) {
+impl<S: EventSource<A>, R: Wait + Drop, A: Allocator> EventStream<S, R, A> {
+    /// Ends the stream as a drop does, and gives back the pass by which it read, with all that it knows.
+    pub fn close(self) -> Pass<S, A>
+        ensures pass { IsPassOf self.reader result }
+        ensures same { knows result ≡ knows self.pass }
+    {
         let EventStream {
             rt,
             reader: _,
-            pass: _,
+            pass,
             hub,
             waker,
         } = self;
         hub.end(&rt);
         // Where the device can't be woken the worker ends after its poll.
         let _woken = waker.wake();
+        pass
+    }
+}
+
+impl<S: EventSource<A>, R: Wait + Drop, A: Allocator> Drop for EventStream<S, R, A> {
+    fn drop(self) {
+        let _pass = self.close();
     }
 }

@@ -134,9 +134,25 @@ place_of_color held =
 abbrev pub reads_colored : Data → Option Colored
 reads_colored d = option_and_then place_of_color (reads_member d)
 
--- What a reading gives comes out, `Shape` exactly where it gives nothing, or memory was refused.
-abbrev pub ReadsOrRefused : {X : Type 0} → Option X → Result X ValueFault → Type 0
-ReadsOrRefused reading result = MatchResult result (λ x. reading ≡ Some x) (λ fault. (fault ≡ Memory) ⊎ ((fault ≡ Shape) × (reading ≡ None)))
+-- Whether a text is copied to be read: it's no colour's name, and has `ansi` or `rgb` somewhere.
+abbrev is_copied : Option Color → List ℕ → Bool
+is_copied (Some named) text = false
+is_copied None text = holds (codes "ansi") text || holds (codes "rgb") text
+
+abbrev pub copies : List ℕ → Bool
+copies text = is_copied (color_in names text) text
+
+abbrev pub copies_some : Option (List ℕ) → Bool
+copies_some (Some text) = copies text
+copies_some None = false
+
+abbrev pub copies_member : Option (List ℕ × Data) → Bool
+copies_member (Some held) = copies_some (as_str held.1)
+copies_member None = false
+
+-- What a reading gives comes out, `Shape` exactly where it gives nothing, or memory was refused for a copy, where one is made.
+abbrev pub ReadsOrRefused : {X : Type 0} → Bool → Option X → Result X ValueFault → Type 0
+ReadsOrRefused copied reading result = MatchResult result (λ x. reading ≡ Some x) (λ fault. ((fault ≡ Memory) × (copied ≡ true)) ⊎ ((fault ≡ Shape) × (reading ≡ None)))
 
 -- The numbers of a colour are bytes.
 abbrev pub FitsColor : Color → Type 0

@@ -16,7 +16,7 @@
 //! | `Looks` | 203 | how a terminal shows what it is told | `laws::looks` |
 //! | `Acts` | 131 | what commands do to the look | `laws::some_looks` |
 //! | `Appearance` | 76 | what terminals are told shows as commands paint | `laws::{looks, styled_ends_plain}` |
-//! | `Values` | 150 | colours and attributes as JSON | `to_value` and `from_value` of each |
+//! | `Values` | 166 | colours and attributes as JSON | `to_value` and `from_value` of each |
 //!
 //! A function's proof stands in `proofs/` at the function's path; where there is no file, the prover found it by itself.
 #![tactic(auto)]

@@ -27,11 +27,38 @@ fn width_of(c: char) -> usize {
     c.width().unwrap_or(0)
 }
 
-/// How many columns some characters take.
-fn width_of_all(chars: &[char]) -> usize {
-    chars
-        .iter()
-        .fold(0, |sum: usize, c| sum.saturating_add(width_of(*c)))
+/// The columns with one more character, if there is room for so many.
+fn with_one_more(columns: usize, c: char, room: usize) -> Option<usize> {
+    let columns = columns.saturating_add(width_of(c));
+    if columns <= room { Some(columns) } else { None }
+}
+
+/// How many of the first characters have room in so many columns.
+fn first_fitting(chars: &[char], room: usize) -> usize {
+    let mut count = 0usize;
+    let mut columns = 0usize;
+    for c in chars {
+        match with_one_more(columns, *c, room) {
+            Some(more) => columns = more,
+            None => break,
+        }
+        count = count.saturating_add(1);
+    }
+    count
+}
+
+/// How many of the last characters have room in so many columns, and how many columns they take.
+fn last_fitting(chars: &[char], room: usize) -> (usize, usize) {
+    let mut count = 0usize;
+    let mut columns = 0usize;
+    for c in chars.iter().rev() {
+        match with_one_more(columns, *c, room) {
+            Some(more) => columns = more,
+            None => break,
+        }
+        count = count.saturating_add(1);
+    }
+    (count, columns)
 }
 
 impl Line {
@@ -108,28 +135,14 @@ impl Line {
 
     /// The characters that are shown where there is room for so many columns, and the column among them at which the line goes on.
     ///
-    /// They begin where the place in the line is within the room, and one column is left for it.
+    /// They begin where the place in the line is within the room, and one column is left for it. However long the line is, no more of it is
+    /// looked at than is shown.
     pub fn shown(&self, room: usize) -> (&[char], usize) {
         let before = &self.chars.as_slice()[..self.at.min(self.chars.len())];
-        let mut from = 0usize;
-        let mut column = width_of_all(before);
-        for c in before {
-            if column < room {
-                break;
-            }
-            column = column.saturating_sub(width_of(*c));
-            from = from.saturating_add(1);
-        }
+        let (back, column) = last_fitting(before, room.saturating_sub(1));
+        let from = before.len().saturating_sub(back);
         let rest = &self.chars.as_slice()[from.min(self.chars.len())..];
-        let mut width = 0usize;
-        let mut count = 0usize;
-        for c in rest {
-            width = width.saturating_add(width_of(*c));
-            if width > room {
-                break;
-            }
-            count = count.saturating_add(1);
-        }
+        let count = first_fitting(rest, room);
         (&rest[..count.min(rest.len())], column)
     }
 }

@@ -1,12 +1,12 @@
-//! A line editor: it reads lines in raw mode and tells each of them in the mode that stood before.
+//! A line editor: it reads lines in raw mode and prints each of them.
 //!
 //! `terminal/with_terminal crates/example_edit/out/example_edit` starts it in a terminal; Esc, Ctrl-C or Ctrl-D ends it. What is typed while the terminal
-//! is asked for the cursor's place isn't lost, and stays in order. Its one argument is the folder of the pipes that `with_terminal` makes.
+//! is asked for the cursor's place, or between two lines, isn't lost and stays in order. Its one argument is the folder of the pipes that `with_terminal` makes.
 #![tactic(auto)]
 
 mod line;
 
-use crossterm::cursor::MoveTo;
+use crossterm::cursor::{MoveTo, MoveToColumn};
 use crossterm::event::source::EventSource;
 use crossterm::event::timeout::{Clock, SystemClock};
 use crossterm::event::{DisableBracketedPaste, EnableBracketedPaste, Event};
@@ -52,8 +52,16 @@ fn draw<W: Write>(out: &mut W, line: &Line, place: Place) -> io::Result<()> {
 }
 
 impl<S: EventSource<Global>, D: ModeDevice, W: Write, C: Clock> Editor<S, D, W, C> {
-    /// Where the cursor is, and how wide the screen is.
-    fn place<R: Wait>(&mut self, rt: &R) -> io::Result<Place> {
+    /// Begins a line where the cursor is, with nothing below it. Returns where its text begins, and how wide the screen is.
+    fn begin<R: Wait>(&mut self, rt: &R) -> io::Result<Place> {
+        let out = &mut self.session.out;
+        queue!(
+            out,
+            COLORS,
+            MoveToColumn(0),
+            Clear(ClearType::FromCursorDown)
+        )?;
+        execute!(out, COLORS, Print("> "))?;
         let (column, row) = self.session.position(rt)?;
         let (columns, _) = self.session.term.size(b"80", b"24")?;
         Ok(Place {
@@ -68,10 +76,8 @@ impl<S: EventSource<Global>, D: ModeDevice, W: Write, C: Clock> Editor<S, D, W, 
         match self.session.read(rt)? {
             Event::Key(key) => return Ok(line.press(&key)?),
             Event::Paste(text) => line.insert_all(text.as_str())?,
-            Event::Resize(columns, rows) => {
-                place.columns = columns;
-                place.row = place.row.min(rows.saturating_sub(1));
-            }
+            // The terminal may have moved the text: the line begins anew where the cursor is now.
+            Event::Resize(_, _) => *place = self.begin(rt)?,
             _ => {}
         }
         Ok(Then::GoOn)
@@ -79,8 +85,7 @@ impl<S: EventSource<Global>, D: ModeDevice, W: Write, C: Clock> Editor<S, D, W, 
 
     /// Edits a line until it is done.
     fn edit<R: Wait>(&mut self, rt: &R, line: &mut Line) -> io::Result<Then> {
-        execute!(self.session.out, COLORS, EnableBracketedPaste, Print("> "))?;
-        let mut place = self.place(rt)?;
+        let mut place = self.begin(rt)?;
         for _ in 0..u64::MAX {
             draw(&mut self.session.out, line, place)?;
             match self.turn(rt, line, &mut place)? {
@@ -91,35 +96,40 @@ impl<S: EventSource<Global>, D: ModeDevice, W: Write, C: Clock> Editor<S, D, W, 
         Ok(Then::Quit)
     }
 
-    /// Tells a line.
-    fn tell(&mut self, line: &Line) -> io::Result<()> {
+    /// Prints a line below the one that was edited.
+    fn show(&mut self, line: &Line) -> io::Result<()> {
         let count = line.chars().len();
-        let mut text = format!(in self.session.alloc; "{count}: ")?;
+        let mut text = format!(in self.session.alloc; "\r\n{count}: ")?;
         for c in line.chars() {
             text.push(*c)?;
         }
-        execute!(self.session.out, COLORS, Print(text), Print("\n"))
+        execute!(self.session.out, COLORS, Print(text), Print("\r\n"))
     }
 
-    /// Reads a line in raw mode, and tells it. Whatever comes, the mode stands then that stood before.
-    fn talk<R: Wait>(&mut self, rt: &R) -> io::Result<Then> {
-        let mut line = Line::new(self.session.alloc);
-        self.session.term.enable_raw_mode()?;
-        let then = self.edit(rt, &mut line);
-        let left = execute!(
-            self.session.out,
-            COLORS,
-            DisableBracketedPaste,
-            Print("\r\n")
-        );
-        self.session.term.disable_raw_mode()?;
-        left?;
-        match then {
-            Ok(Then::Done) => self.tell(&line)?,
-            Err(error) if error.kind() == ErrorKind::UnexpectedEof => return Ok(Then::Quit),
-            _ => {}
+    /// Reads lines and prints each, until a key or the end of input ends it.
+    fn talk<R: Wait>(&mut self, rt: &R) -> io::Result<()> {
+        execute!(self.session.out, COLORS, EnableBracketedPaste)?;
+        for _ in 0..u64::MAX {
+            let mut line = Line::new(self.session.alloc);
+            match self.edit(rt, &mut line) {
+                Ok(Then::Done) => self.show(&line)?,
+                Ok(_) => break,
+                Err(error) if error.kind() == ErrorKind::UnexpectedEof => break,
+                Err(error) => return Err(error),
+            }
         }
-        then
+        Ok(())
+    }
+
+    /// Does so in raw mode, which stays on between lines so that no key is lost. Whatever comes, the mode before is set again.
+    fn run<R: Wait>(&mut self, rt: &R) -> io::Result<()> {
+        self.session.term.enable_raw_mode()?;
+        let done = self.talk(rt);
+        let out = &mut self.session.out;
+        let left = execute!(out, COLORS, DisableBracketedPaste, Print("\r\n"));
+        self.session.term.disable_raw_mode()?;
+        done?;
+        left
     }
 }
 
@@ -133,11 +143,5 @@ fn main(rt: HostRuntime) -> io::Result<()> {
     let out = BufWriter::new(alloc, io::writer(&rt))?;
     let clock = SystemClock::new(&rt);
     let session = Session::open(&rt, alloc, rt.stdin(), folder.as_str(), out, clock)?;
-    let mut editor = Editor { session };
-    for _ in 0..u64::MAX {
-        if editor.talk(&rt)? == Then::Quit {
-            break;
-        }
-    }
-    Ok(())
+    Editor { session }.run(&rt)
 }

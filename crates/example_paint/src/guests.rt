@@ -9,7 +9,7 @@ use mio::unix::SourceFd;
 use mio::{Events, Interest, Poll, Registry, Token};
 use slab::Slab;
 use std::alloc::{AllocError, Global};
-use std::io::{self, Write};
+use std::io::{self, ErrorKind, Write};
 use std::net::{Ipv4Addr, Net, SocketAddr, TcpStream};
 use std::os::fd::AsRawFd;
 use std::time::Duration;
@@ -21,6 +21,15 @@ const GUESTS: usize = 64;
 
 /// How many events of one guest are taken before the others have their turn.
 const TURN: u32 = 1000;
+
+/// How many bytes of an open paste a guest may send, since they are kept until its end comes.
+const PASTE: usize = 1_048_576;
+
+/// How many milliseconds the door stays shut after the system couldn't let somebody in.
+const PAUSE: u64 = 100;
+
+/// What somebody is told for whom there is no room.
+const FULL: &[u8] = b"paint: there is no room, come again later\r\n";
 
 /// One terminal: where its events come from, and where its picture goes.
 #[derive(Drop)]
@@ -69,7 +78,6 @@ struct Studio {
     alloc: Global,
     canvas: Canvas,
     guests: Slab<Guest>,
-    had_guests: bool,
 }
 
 impl Studio {
@@ -92,20 +100,19 @@ impl Studio {
         Ok(bytes)
     }
 
-    /// Lets a guest in, where there is room.
-    fn admit(&mut self, registry: &Registry, stream: TcpStream) -> io::Result<()> {
+    /// Lets a guest in, or says that there is no room.
+    fn admit(&mut self, registry: &Registry, mut stream: TcpStream) -> io::Result<()> {
         let key = self.guests.vacant_key();
         if key >= GUESTS {
-            return Ok(());
+            return stream.write_all(FULL);
         }
         let mut guest = Guest::new(self.alloc, stream)?;
         guest.out.write_all(self.welcome()?.as_slice())?;
         let fd = guest.out.as_raw_fd();
         registry.register(&mut SourceFd(&fd), Token(key), Interest::READABLE)?;
         if self.guests.insert(guest).is_err() {
-            return Err(io::Error::from(io::ErrorKind::OutOfMemory));
+            return Err(io::Error::from(ErrorKind::OutOfMemory));
         }
-        self.had_guests = true;
         Ok(())
     }
 
@@ -140,7 +147,7 @@ impl Studio {
     }
 
     /// Does what a guest wants, for one turn at most.
-    fn serve(&mut self, registry: &Registry, key: usize) -> io::Result<()> {
+    fn take_turn(&mut self, registry: &Registry, key: usize) -> io::Result<()> {
         for _ in 0..TURN {
             match self.guests.get_mut(key).and_then(|guest| guest.wish()) {
                 Some(wish) => self.fulfil(key, wish)?,
@@ -153,41 +160,63 @@ impl Studio {
         Ok(())
     }
 
-    /// Waits for more of a guest. One who can't be watched leaves.
+    /// Gives a guest a turn. One whose wish can't be fulfilled leaves, and the others stay.
+    fn serve(&mut self, registry: &Registry, key: usize) {
+        if self.take_turn(registry, key).is_err() {
+            self.guests.try_remove(key);
+        }
+    }
+
+    /// Waits for more of a guest. One who can't be watched leaves, and one whose paste is too long.
     fn rest(&mut self, registry: &Registry, key: usize) -> io::Result<()> {
         let Some(guest) = self.guests.get_mut(key) else {
             return Ok(());
         };
-        match guest.watch(registry, Token(key)) {
-            Ok(()) => Ok(()),
-            Err(_) => self.dismiss(key),
+        if guest.source.paste_len() <= PASTE && guest.watch(registry, Token(key)).is_ok() {
+            return Ok(());
         }
+        self.dismiss(key)
     }
 
     /// Gives those another turn whose last one ended too early, and tells whether there still are such guests.
-    fn serve_busy(&mut self, registry: &Registry) -> io::Result<bool> {
+    fn serve_busy(&mut self, registry: &Registry) -> bool {
         for key in 0..GUESTS {
             if self.guests.get(key).is_some_and(|guest| guest.is_busy) {
-                self.serve(registry, key)?;
+                self.serve(registry, key);
             }
         }
-        Ok(self.guests.iter().any(|(_, guest)| guest.is_busy))
+        self.guests.iter().any(|(_, guest)| guest.is_busy)
     }
 
-    /// Lets in all who knock. One who is gone again isn't let in.
-    fn open_door(&mut self, registry: &Registry, listener: &TcpListener) {
+    /// Lets in those who knock, so many at a time. Returns after how long the door is to be looked at again, and `None` where nobody knocks
+    /// any more: the system tells of a knock only once.
+    fn open_door(&mut self, registry: &Registry, listener: &TcpListener) -> Option<Duration> {
         for _ in 0..GUESTS {
             match listener.accept() {
+                // One who is gone again isn't let in.
                 Ok((stream, _)) => {
                     let _ = self.admit(registry, TcpStream::from(stream));
                 }
-                Err(_) => break,
+                Err(error) => match error.kind() {
+                    ErrorKind::WouldBlock => return None,
+                    ErrorKind::Interrupted | ErrorKind::ConnectionAborted => {}
+                    _ => return Some(Duration::from_millis(PAUSE)),
+                },
             }
         }
+        Some(Duration::ZERO)
     }
 }
 
-/// Serves guests at a port of this machine, until the last of them has left.
+/// Waits until a guest sends something, somebody knocks, or the limit has passed. A signal doesn't end the wait with an error.
+fn wait(poll: &mut Poll, events: &mut Events, limit: Option<Duration>) -> io::Result<()> {
+    match poll.poll(events, limit) {
+        Err(error) if error.kind() != ErrorKind::Interrupted => Err(error),
+        _ => Ok(()),
+    }
+}
+
+/// Serves guests at a port of this machine, until a signal ends the program. No guest ends it.
 pub fn serve<N: Net>(rt: &N, alloc: Global, port: u16) -> io::Result<()> {
     let address = SocketAddr::from((Ipv4Addr::LOCALHOST, port));
     let mut listener = TcpListener::bind(rt, address)?;
@@ -199,23 +228,22 @@ pub fn serve<N: Net>(rt: &N, alloc: Global, port: u16) -> io::Result<()> {
         alloc,
         canvas: Canvas::new(alloc)?,
         guests: Slab::new(alloc),
-        had_guests: false,
     };
-    let mut limit = None;
+    let mut door = None;
+    let mut is_busy = false;
     for _ in 0..u64::MAX {
-        poll.poll(&mut events, limit)?;
+        let limit = if is_busy { Some(Duration::ZERO) } else { door };
+        wait(&mut poll, &mut events, limit)?;
         for event in events.iter() {
             match event.token() {
-                DOOR => studio.open_door(poll.registry(), &listener),
-                Token(key) => studio.serve(poll.registry(), key)?,
+                DOOR => door = Some(Duration::ZERO),
+                Token(key) => studio.serve(poll.registry(), key),
             }
         }
-        limit = studio
-            .serve_busy(poll.registry())?
-            .then_some(Duration::ZERO);
-        if studio.had_guests && studio.guests.is_empty() {
-            break;
+        if door.is_some() {
+            door = studio.open_door(poll.registry(), &listener);
         }
+        is_busy = studio.serve_busy(poll.registry());
     }
     Ok(())
 }

@@ -5,7 +5,9 @@ pub mod Bindings
 pub mod Matching
 pub mod Runs
 pub mod Taking
+pub mod Turns
 pub mod Stepping
+pub mod Spelling
 pub mod Rows
 pub mod Deciding
 pub mod Parts

@@ -17,6 +17,13 @@ pub(crate) struct Match {
     pub(crate) count: usize,
 }
 
+// What stands after some chords: the number of the list that is bound to just them, and whether a longer one begins with them.
+#[derive(Clone, Copy)]
+pub(crate) struct Place {
+    pub(crate) number: Option<usize>,
+    pub(crate) begun: bool,
+}
+
 // What becomes of an event.
 #[derive(Clone, Copy)]
 pub(crate) enum Way {

@@ -11,8 +11,10 @@
 //! assert_eq!(matcher.next(), Some(Outcome::Action(go)));
 //! ```
 //!
-//! It stands on `crossterm_types`, for keys and their equality, and on `crossterm_read`, for a reader that threads share, by their public
-//! contracts alone.
+//! `read_chord` reads a chord as people write it, as `ctrl-x`, and `Spelled` shows one so.
+//!
+//! It stands on `crossterm_types`, for keys and their equality, on `crossterm_flags`, for tables of names, and on `crossterm_read`, for a reader
+//! that threads share, by their public contracts alone.
 //!
 //! What to believe, in the order in which it reads (`specs/`), and where it is proved:
 //!
@@ -27,25 +29,29 @@
 //! | `Matching` | a matcher, and what it is fed | `Matcher::{new, passing, feed, flush, next}` |
 //! | `Runs` | any run of feeding, flushing and taking | `laws::runs` |
 //! | `Taking` | what becomes of an event | `Matcher::step` |
+//! | `Turns` | any run of events, rests and outcomes | `laws::turns` |
 //! | `Stepping` | a step over a reader | `Matcher::step` |
+//! | `Spelling` | chords as people write them, and what reads as one | `read_chord`, `Spelled`, `laws::spelled` |
 //! | `Rows` | some keys, and what they are cut into | `rows::some_cuts` |
 //!
 //! A function's proof stands in `proofs/` at the function's path; where there is no file, the prover found it by itself.
 #![tactic(auto)]
 
 mod bindings;
-mod chords;
 mod fault;
+mod few_keys;
 mod inside;
 pub mod laws;
 mod matching;
 mod outcome;
+mod places;
 pub mod rows;
+mod spelling;
 mod stepping;
 mod taking;
-mod undecided;
 
 pub use bindings::Keymap;
 pub use fault::KeymapFault;
 pub use matching::Matcher;
 pub use outcome::Outcome;
+pub use spelling::{ChordFault, Spelled, read_chord};

@@ -12,9 +12,9 @@ ghost use Rattle.keymap.specs.declared.fault.KeymapFault.TheVariants.{Memory};
 
 use crate::bindings::Keymap;
 use crate::fault::KeymapFault;
+use crate::few_keys::{FewKeys, LIMIT};
 use crate::inside::Match;
 use crate::outcome::Outcome;
-use crate::undecided::{LIMIT, Undecided};
 use crossterm_types::event::KeyEvent;
 use std::alloc::{Allocator, Global};
 use std::collections::VecDeque;
@@ -39,7 +39,7 @@ use std::marker::Model;
 pub struct Matcher<A: Allocator = Global> {
     pub(crate) keymap: Keymap<A>,
     pub(crate) passes: bool,
-    pub(crate) undecided: Undecided,
+    pub(crate) undecided: FewKeys,
     pub(crate) waiting: VecDeque<Outcome<A>, A>,
 }
 
@@ -87,7 +87,7 @@ fn count_of(found: Option<Match>) -> usize
 // Gives what stands at the first place, and goes past it.
 fn give_first<A: Allocator>(
     keymap: &Keymap<A>,
-    keys: &mut Undecided,
+    keys: &mut FewKeys,
     waiting: &mut VecDeque<Outcome<A>, A>,
 )
     requires some { 0 < length keys.old }
@@ -108,7 +108,7 @@ fn give_first<A: Allocator>(
 // Gives what is decided, and keeps the other keys.
 pub(crate) fn give_decided<A: Allocator>(
     keymap: &Keymap<A>,
-    keys: &mut Undecided,
+    keys: &mut FewKeys,
     waiting: &mut VecDeque<Outcome<A>, A>,
 )
     requires { deque_len waiting.old + length keys.old ≤ deque_capacity waiting.old }
@@ -128,7 +128,7 @@ pub(crate) fn give_decided<A: Allocator>(
 // Gives all.
 pub(crate) fn give_all<A: Allocator>(
     keymap: &Keymap<A>,
-    keys: &mut Undecided,
+    keys: &mut FewKeys,
     waiting: &mut VecDeque<Outcome<A>, A>,
 )
     requires { deque_len waiting.old + length keys.old ≤ deque_capacity waiting.old }
@@ -150,7 +150,7 @@ impl<A: Allocator> Matcher<A> {
         Matcher {
             keymap,
             passes,
-            undecided: Undecided::new(),
+            undecided: FewKeys::new(),
             waiting: VecDeque::new(alloc),
         }
     }
@@ -193,6 +193,23 @@ impl<A: Allocator> Matcher<A> {
         ensures { result.now ≡ self.now.keymap }
     {
         &self.keymap
+    }
+
+    /// The keys that wait for a decision, in the order in which they were fed: fewer than 8.
+    ///
+    /// A program shows them while it waits for the next key, and needs no limit of `step` where there are none.
+    ///
+    /// ```
+    /// for key in matcher.undecided() {
+    ///     let chord = Spelled(*key);
+    ///     write!(out, "{chord} ")?;
+    /// }
+    /// ```
+    pub fn undecided(&self) -> &[KeyEvent]
+        ensures keys { result.now ≡ self.now.undecided }
+        ensures few { length result.now < 8 }
+    {
+        self.undecided.as_slice()
     }
 
     /// Takes the first outcome that waits, or gives `None` where there is none. This takes no memory.

@@ -4,10 +4,10 @@ ghost use Rattle.crossterm_read.specs.Seats.{knows};
 ghost use Rattle.crossterm_read.specs.Shared.{IsPassOf};
 ghost use Rattle.keymap.specs.Stepping.{Steps, step_answer};
 
+use crate::few_keys::LIMIT;
 use crate::matching::Matcher;
 use crate::outcome::Outcome;
 use crate::taking::{flush, pop, take_event};
-use crate::undecided::LIMIT;
 use crossterm_read::read::{EventReader, Pass};
 use crossterm_read::source::EventSource;
 use crossterm_types::event::filter::AnyFilter;

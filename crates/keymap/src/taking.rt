@@ -11,10 +11,10 @@ ghost use Rattle.keymap.specs.Told.{told};
 ghost use Rattle.keymap.specs.inside.Giving.{TakesFirstOf, state_of};
 
 use crate::bindings::Keymap;
+use crate::few_keys::FewKeys;
 use crate::inside::Way;
 use crate::matching::{give_all, give_decided};
 use crate::outcome::Outcome;
-use crate::undecided::Undecided;
 use crossterm_types::event::{Event, KeyCode, KeyEvent, KeyEventKind};
 use std::alloc::Allocator;
 use std::collections::VecDeque;
@@ -67,7 +67,7 @@ fn pass_on<A: Allocator>(waiting: &mut VecDeque<Outcome<A>, A>, event: Event<A>)
 // Gives all, and then the event.
 fn follow<A: Allocator>(
     keymap: &Keymap<A>,
-    keys: &mut Undecided,
+    keys: &mut FewKeys,
     waiting: &mut VecDeque<Outcome<A>, A>,
     event: Event<A>,
 )
@@ -82,7 +82,7 @@ fn follow<A: Allocator>(
 // Takes a key.
 fn take_key<A: Allocator>(
     keymap: &Keymap<A>,
-    keys: &mut Undecided,
+    keys: &mut FewKeys,
     waiting: &mut VecDeque<Outcome<A>, A>,
     key: KeyEvent,
 )
@@ -99,7 +99,7 @@ fn take_key<A: Allocator>(
 pub(crate) fn take_event<A: Allocator>(
     keymap: &Keymap<A>,
     passes: bool,
-    keys: &mut Undecided,
+    keys: &mut FewKeys,
     waiting: &mut VecDeque<Outcome<A>, A>,
     event: Event<A>,
 )
@@ -118,7 +118,7 @@ pub(crate) fn take_event<A: Allocator>(
 // Gives all.
 pub(crate) fn flush<A: Allocator>(
     keymap: &Keymap<A>,
-    keys: &mut Undecided,
+    keys: &mut FewKeys,
     waiting: &mut VecDeque<Outcome<A>, A>,
 )
     requires { deque_len waiting.old + length keys.old ≤ deque_capacity waiting.old }

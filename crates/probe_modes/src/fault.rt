@@ -8,7 +8,7 @@ use thiserror::Error;
 #[derive(Debug, Clone, Copy, Error)]
 pub enum Fault {
     /// The command line isn't one mode word.
-    #[error("probe: usage: probe play|say|serve")]
+    #[error("probe: usage: probe play|say|serve|keys")]
     Usage,
     /// A line's first word is none of the mode's.
     #[error("probe: line {0}: unknown word")]

@@ -1,13 +1,16 @@
-//! The modes of the program `probe`, each a function over a reader and a writer: `play::run_play`, `say::run_say` and `serve::run_serve`.
+//! The modes of the program `probe`, each a function over a reader and a writer: `play::run_play`, `say::run_say`, `serve::run_serve` and
+//! `keys::run_keys`.
 //!
-//! They stand on `crossterm` by its public calls, and `serve` on the sockets of `mio`. In `bench` stand two bodies with the macros `queue!` and `execute!`, of which is
-//! proved what they write.
+//! They stand on `crossterm` by its public calls, `serve` on the sockets of `mio`, and `keys` on `keymap`. In `bench` stand two bodies with the
+//! macros `queue!` and `execute!`, of which is proved what they write.
 #![tactic(auto)]
 
 pub mod bench;
 mod event_line;
 pub mod fault;
 mod input;
+pub mod keys;
+mod names;
 pub mod play;
 pub mod say;
 pub mod serve;

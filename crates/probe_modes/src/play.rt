@@ -40,6 +40,19 @@ enum PlainWord {
     Keyboard,
 }
 
+impl Word {
+    /// Whether it says an act of the device, and no call.
+    fn is_act(self) -> bool {
+        match self {
+            Word::Piece { .. } => true,
+            Word::Plain(word) => matches!(
+                word,
+                PlainWord::Resize | PlainWord::Wake | PlainWord::Idle | PlainWord::Fault
+            ),
+        }
+    }
+}
+
 fn first_word(word: &str) -> Option<Word> {
     match word {
         "piece" => Some(Word::Piece { raw: false }),
@@ -148,13 +161,37 @@ fn read_plain<A: Allocator>(word: PlainWord, rest: Option<&str>) -> Result<State
     statement.ok_or(Wrong::Argument)
 }
 
-/// Reads one line, of words with one blank between.
+/// What a first word and the words after it say, with one blank between.
+fn read_words<A: Allocator + Clone>(
+    alloc: &A,
+    word: Word,
+    rest: Option<&str>,
+) -> Result<Statement<A>, Wrong> {
+    match word {
+        Word::Piece { raw } => piece(alloc, rest, raw),
+        Word::Plain(word) => read_plain(word, rest),
+    }
+}
+
+/// Reads one line.
 fn read_statement<A: Allocator + Clone>(alloc: &A, line: &str) -> Result<Statement<A>, Wrong> {
     let (word, rest) = divided(line);
     match first_word(word) {
-        Some(Word::Piece { raw }) => piece(alloc, rest, raw),
-        Some(Word::Plain(word)) => read_plain(word, rest),
+        Some(word) => read_words(alloc, word, rest),
         None => Err(Wrong::Word),
+    }
+}
+
+/// Reads one line that says an act of the device. The words of calls are unknown here.
+pub fn read_act<A: Allocator + Clone>(alloc: &A, line: &str) -> Result<Act<A>, Wrong> {
+    let (word, rest) = divided(line);
+    let word = match first_word(word) {
+        Some(word) if word.is_act() => word,
+        _ => return Err(Wrong::Word),
+    };
+    match read_words(alloc, word, rest)? {
+        Statement::Act(act) => Ok(act),
+        Statement::Call(_) => Err(Wrong::Word),
     }
 }
 

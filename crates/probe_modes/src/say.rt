@@ -1,7 +1,6 @@
 //! `probe say`: commands by their names, and their bytes.
 
 mod looks;
-mod names;
 mod words;
 
 use crate::fault::{Fault, Wrong};

@@ -9,7 +9,7 @@ use crossterm::event::{Event, EventReader, InternalEvent, Pass};
 use mio::net::{TcpListener, TcpStream};
 use std::alloc::Global;
 use std::io::{self, ErrorKind, Read, Write};
-use std::net::{self, Ipv4Addr, Net, SocketAddr};
+use std::net::{self, Ipv4Addr, Net, OpenStream, SocketAddr};
 use std::sync::Wait;
 use std::thread::{self, Threads};
 
@@ -25,6 +25,26 @@ fn input<R: Read>(alloc: Global, reader: &mut R) -> Result<Vec<u8>, Fault> {
     }
 }
 
+/// How many connections of others are closed before ours has to be there.
+const STRANGERS: u32 = 64;
+
+/// The connection that came from this address. Others on this machine may connect to the port before: those are closed.
+///
+/// # Errors
+/// `ConnectionRefused` if too many others came first; else that of `accept`.
+pub fn accepted_from(
+    listener: &net::TcpListener,
+    address: SocketAddr,
+) -> io::Result<net::TcpStream> {
+    for _ in 0..STRANGERS {
+        let (far, from) = listener.accept()?;
+        if from == address {
+            return Ok(far);
+        }
+    }
+    Err(io::Error::from(ErrorKind::ConnectionRefused))
+}
+
 /// The far end of a connection of this machine with itself, to whose near end these bytes were written before it was closed.
 fn far_end<N: Net>(rt: &N, bytes: &[u8]) -> io::Result<TcpStream> {
     let any = SocketAddr::from((Ipv4Addr::LOCALHOST, 0));
@@ -32,7 +52,7 @@ fn far_end<N: Net>(rt: &N, bytes: &[u8]) -> io::Result<TcpStream> {
     listener.set_nonblocking(false)?;
     let mut near = net::TcpStream::connect(rt, listener.local_addr()?)?;
     near.write_all(bytes)?;
-    let (far, _) = listener.accept()?;
+    let far = accepted_from(&listener, near.local_addr()?)?;
     far.set_nonblocking(true)?;
     Ok(TcpStream::from_std(far))
 }

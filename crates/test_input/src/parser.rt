@@ -234,3 +234,24 @@ fn each_call_once(rt: HostRuntime) {
     expect!(rt; takes_a_letter(&mut parser));
     expect!(rt; takes_the_rest(&mut parser));
 }
+
+/// How much of a paste is open after each piece: none before its start is whole and after its end, and what may begin its end counts.
+const OPEN: [(&[u8], usize); 7] = [
+    (b"a\x1b[200", 0),
+    (b"~", 0),
+    (b"three\xe6\xbc", 7),
+    (b"\xa2\x1b[20", 12),
+    (b"1", 13),
+    (b"~b", 0),
+    (b"\x1b[200~\x1b[201~", 0),
+];
+
+#[test]
+fn an_open_paste_has_a_length(rt: HostRuntime) {
+    let mut parser: Parser<Global> = Parser::new(rt.alloc());
+    expect!(rt; parser.paste_len() == 0);
+    for (piece, length) in OPEN {
+        expect!(rt; parser.feed(piece, true, true) == piece.len());
+        expect!(rt; parser.paste_len() == length);
+    }
+}

@@ -160,14 +160,14 @@ static KEY_BEHIND_REPLIES: [Part; 2] = [
     Part::Text(b"k", 1, false),
 ];
 
-/// Whether the one key that comes after the replies is taken, and no event is evaluated.
+/// Whether the one key that comes after the replies is taken, and no event but it is evaluated.
 fn takes_unasked(reader: &mut Reader) -> bool {
     let filter = Counting {
         asked: Cell::new(0),
     };
     let all_came = matches!(reader.read_within(10_001, &Nothing), Ok(None));
     let is_taken = is_some_char(reader.take(&filter), 'k') && reader.take(&filter).is_none();
-    all_came && is_taken && filter.asked.get() == 0 && count_of(reader.held()) == 10_000
+    all_came && is_taken && filter.asked.get() <= 1 && count_of(reader.held()) == 10_000
 }
 
 #[test]

@@ -6,8 +6,14 @@
 #[cfg(test)]
 mod growth;
 #[cfg(test)]
+mod passing;
+#[cfg(test)]
 mod random;
 #[cfg(test)]
+mod refused;
+#[cfg(test)]
 mod rows;
+#[cfg(test)]
+mod spelling;
 #[cfg(test)]
 mod steps;

@@ -44,7 +44,7 @@ fn first_place(lists: &[&str], rest: &[u8]) -> (char, usize) {
     for (number, list) in lists.iter().enumerate() {
         if length < list.len() && rest.starts_with(list.as_bytes()) {
             length = list.len();
-            place = (sign_of(Outcome::Action(number)), length);
+            place = (sign_of(Outcome::<Global>::Action(number)), length);
         }
     }
     place

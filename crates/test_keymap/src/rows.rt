@@ -1,34 +1,39 @@
 //! Rows of bound lists, letters that are typed, and outcomes.
 
-use crossterm_types::event::{KeyCode, KeyEvent};
+use crossterm_types::event::{Event, KeyCode, KeyEvent};
 use keymap::{Keymap, KeymapFault, Matcher, Outcome};
-use std::alloc::Global;
+use std::alloc::{Allocator, Global};
 use test_expect::expect;
 
-/// Lists by their letters, what is typed, and what comes of it: a number is an action, and a letter a key. `|` is a flush.
-static ROWS: [(&[&str], &str, &str); 12] = [
-    (&["gg", "g"], "ggg|", "01"),
-    (&["gg", "g"], "g|g|", "11"),
-    (&["gg", "g"], "g", ""),
-    (&["gg", "g"], "gg", "0"),
-    (&["abc", "b"], "abd", "a1d"),
-    (&["abc", "b"], "ab", ""),
-    (&["abc", "b"], "ab|", "a1"),
-    (&["aab", "ab", "b"], "aaab", "a0"),
-    (&["aab", "ab", "b"], "aaa|", "aaa"),
-    (&["aab", "ab", "b"], "abb", "12"),
-    (&["abcdefgh"], "abcdefgx", "abcdefgx"),
-    (&["abcdefgh"], "abcdefgh", "0"),
+/// Lists by their letters, what is typed, what comes of it, and the keys that are undecided then. A number is an action, and a letter a key;
+/// `|` is a flush.
+static ROWS: [(&[&str], &str, &str, &str); 14] = [
+    (&["gg", "g"], "ggg|", "01", ""),
+    (&["gg", "g"], "g|g|", "11", ""),
+    (&["gg", "g"], "g", "", "g"),
+    (&["gg", "g"], "gg", "0", ""),
+    (&["abc", "b"], "abd", "a1d", ""),
+    (&["abc", "b"], "ab", "", "ab"),
+    (&["abc", "b"], "aba", "a1", "a"),
+    (&["abc", "b"], "ab|", "a1", ""),
+    (&["aab", "ab", "b"], "aaab", "a0", ""),
+    (&["aab", "ab", "b"], "aaa|", "aaa", ""),
+    (&["aab", "ab", "b"], "abb", "12", ""),
+    (&["abcdefgh"], "abcdefgx", "abcdefgx", ""),
+    (&["abcdefgh"], "abcdefgh", "0", ""),
+    (&["abcdefgh"], "xabcdefg", "x", "abcdefg"),
 ];
 
-/// How an outcome is shown.
-pub fn sign_of(outcome: Outcome) -> char {
+/// How an outcome is shown. A key that is let go and passed on is `^`, a modifier key is `m`, and any other event `!`.
+pub fn sign_of<A: Allocator>(outcome: Outcome<A>) -> char {
     match outcome {
         Outcome::Action(0) => '0',
         Outcome::Action(1) => '1',
         Outcome::Action(2) => '2',
+        Outcome::Action(_) => '?',
         Outcome::Key(key) => key.code.as_char().unwrap_or('?'),
-        Outcome::Action(_) | Outcome::Event(_) => '?',
+        Outcome::Event(Event::Key(key)) => if key.is_release() { '^' } else { 'm' },
+        Outcome::Event(_) => '!',
     }
 }
 
@@ -41,19 +46,23 @@ fn chords_of(alloc: Global, letters: &str) -> Option<Vec<KeyEvent>> {
     Some(chords)
 }
 
-/// A matcher of some lists.
-pub fn matcher_of(alloc: Global, lists: &[&str]) -> Option<Matcher> {
-    let mut keymap = Keymap::new(alloc);
+/// A keymap of some lists, whose memory is of an allocator.
+pub fn keymap_of<A: Allocator + Clone>(alloc: Global, own: A, lists: &[&str]) -> Option<Keymap<A>> {
+    let mut keymap = Keymap::new(own);
     for list in lists.iter() {
         let chords = chords_of(alloc, list)?;
         keymap.bind(&chords, list).ok()?;
     }
-    Some(Matcher::new(alloc, keymap))
+    Some(keymap)
+}
+
+/// A matcher of some lists.
+pub fn matcher_of(alloc: Global, lists: &[&str]) -> Option<Matcher> {
+    Some(Matcher::new(alloc, keymap_of(alloc, alloc, lists)?))
 }
 
 /// Types letters, and shows what comes of them.
-fn shown(alloc: Global, lists: &[&str], typed: &str) -> Option<String> {
-    let mut matcher = matcher_of(alloc, lists)?;
+fn shown(alloc: Global, matcher: &mut Matcher, typed: &str) -> Option<String> {
     let mut text = String::new(alloc);
     for letter in typed.chars() {
         if letter == '|' {
@@ -71,18 +80,31 @@ fn shown(alloc: Global, lists: &[&str], typed: &str) -> Option<String> {
     Some(text)
 }
 
-/// Whether letters come out so.
-fn comes_out(alloc: Global, lists: &[&str], typed: &str, want: &str) -> bool {
-    match shown(alloc, lists, typed) {
-        Some(text) => text.as_str() == want,
-        None => false,
+/// The letters of some keys.
+fn letters_of(alloc: Global, keys: &[KeyEvent]) -> Option<String> {
+    let mut text = String::new(alloc);
+    for key in keys.iter() {
+        text.push(key.code.as_char()?).ok()?;
+    }
+    Some(text)
+}
+
+/// Whether letters come out so, and these are undecided then.
+fn comes_out(alloc: Global, (lists, typed, want, left): &(&[&str], &str, &str, &str)) -> bool {
+    let Some(mut matcher) = matcher_of(alloc, lists) else {
+        return false;
+    };
+    let text = shown(alloc, &mut matcher, typed);
+    match (text, letters_of(alloc, matcher.undecided())) {
+        (Some(text), Some(letters)) => text.as_str() == *want && letters.as_str() == *left,
+        _ => false,
     }
 }
 
 #[test]
 fn keys_are_cut_into_the_longest_lists(rt: HostRuntime) {
-    for (lists, typed, want) in ROWS.iter() {
-        expect!(rt; comes_out(rt.alloc(), lists, typed, want), typed);
+    for row in ROWS.iter() {
+        expect!(rt; comes_out(rt.alloc(), row), row.1);
     }
 }
 

@@ -3,6 +3,7 @@
 use crate::queueing::kind;
 use crate::witness::Witness;
 use crossterm::cursor::{MoveTo, Show};
+use crossterm::event::EnableMouseCapture;
 use crossterm::style::{
     Color, ColorOutput, Print, PrintStyledContent, SetForegroundColor, Stylize,
 };
@@ -134,6 +135,8 @@ fn commands_stop_where_their_writer_does(rt: HostRuntime) {
     expect!(rt; stops_always(rt.alloc(), &MOVE, b"\x1b[8;65536H"));
     expect!(rt; stops_always(rt.alloc(), &Show, b"\x1b[?25h"));
     expect!(rt; stops_always(rt.alloc(), &SetTitle("h\u{e9}"), b"\x1b]0;h\xc3\xa9\x07"));
+    let mouse = b"\x1b[?1000h\x1b[?1002h\x1b[?1003h\x1b[?1015h\x1b[?1006h";
+    expect!(rt; stops_always(rt.alloc(), &EnableMouseCapture, mouse));
     expect!(rt; stops_always(rt.alloc(), &RED, b"\x1b[38;2;255;0;1m"));
     let styled = PrintStyledContent('x'.red().bold());
     expect!(rt; stops_always(rt.alloc(), &styled, b"\x1b[38;5;9m\x1b[1mx\x1b[0m"));

@@ -11,9 +11,13 @@ mod commands;
 #[cfg(test)]
 mod faults;
 #[cfg(test)]
+mod growth;
+#[cfg(test)]
 mod modes;
 #[cfg(test)]
 mod noted;
+#[cfg(test)]
+mod order;
 #[cfg(test)]
 mod queries;
 #[cfg(test)]

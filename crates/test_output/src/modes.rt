@@ -4,7 +4,7 @@ ghost use Rattle.std.specs.Prelude.{◌≡◌, None, OnOk};
 
 use crate::noted::{Call, Noted, SIZE, terminal_by};
 use crossterm::event::source::RawFlag;
-use crossterm::terminal::{ModeDevice, Terminal, tput_value};
+use crossterm::terminal::{ModeDevice, Terminal, WindowSize, tput_value};
 use std::alloc::Global;
 use std::io::{self, ErrorKind};
 use std::sync::atomic::AtomicU32;
@@ -59,6 +59,51 @@ fn raw_mode_is_switched_on_and_off(rt: HostRuntime) -> io::Result<()> {
     expect!(rt; switches(&mut terminal, &flag));
     raw_and_back(&mut terminal)?;
     expect!(rt; is_cooked(&terminal, &flag));
+    Ok(())
+}
+
+/// A device of modes that never fails, and claims no more than which mode stands.
+#[derive(Drop)]
+struct Plain {
+    mode: u8,
+}
+
+impl ModeDevice for Plain {
+    type Mode = u8;
+
+    ghost stands = { λ s. s.mode };
+
+    fn mode(&mut self) -> io::Result<u8> {
+        Ok(self.mode)
+    }
+
+    fn set_raw(&mut self, mode: &u8) -> io::Result<()> {
+        self.mode = mode.saturating_add(100);
+        Ok(())
+    }
+
+    fn set_mode(&mut self, mode: &u8) -> io::Result<()> {
+        self.mode = *mode;
+        Ok(())
+    }
+
+    fn window_size(&mut self) -> io::Result<WindowSize> {
+        Ok(SIZE)
+    }
+
+    fn failures(&self) -> u64 {
+        0
+    }
+}
+
+#[test]
+fn a_device_needs_no_claims(rt: HostRuntime) -> io::Result<()> {
+    let mut terminal = Terminal::new(Plain { mode: 7 }, RawFlag::new(rt.alloc())?);
+    raw_and_back(&mut terminal)?;
+    expect!(rt; matches!(terminal.is_raw_mode_enabled(), Ok(false)));
+    terminal.enable_raw_mode()?;
+    expect!(rt; matches!(terminal.is_raw_mode_enabled(), Ok(true)));
+    expect!(rt; matches!(terminal.size(b"", b""), Ok((80, 24))));
     Ok(())
 }
 

@@ -1,7 +1,8 @@
 //! A device of modes that notes its calls, and a terminal over it.
 
-ghost use Rattle.std.specs.Prelude.{◌≡◌, ◌≤◌, OnErr, ⊤};
+ghost use Rattle.std.specs.Prelude.{◌≡◌, ◌≤◌, OnErr};
 ghost use Rattle.crossterm.specs.Modes.{Refuses};
+ghost use Rattle.test_output.specs.Numbers.{numbers_answered};
 
 use crossterm::event::source::RawFlag;
 use crossterm::terminal::{ModeDevice, Terminal, WindowSize};
@@ -68,7 +69,7 @@ impl ModeDevice for Noted<'_> {
 
     ghost stands = { λ s. s.mode };
 
-    ghost sized = { λ _ _ _. ⊤ };
+    ghost answered = { numbers_answered (λ s. s.mode) };
 
     ghost failed = { λ s. s.failures };
 

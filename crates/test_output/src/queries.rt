@@ -9,6 +9,7 @@ use std::alloc::Global;
 use std::io::{self, ErrorKind};
 use std::sync::Wait;
 use std::sync::atomic::{AtomicU32, Ordering};
+use std::time::Duration;
 use test_expect::expect;
 use test_support::{Seat, Still, alone, script_of};
 
@@ -111,6 +112,54 @@ fn the_place_is_asked_for_in_raw_mode(rt: HostRuntime) -> io::Result<()> {
     for room in 0..5usize {
         expect!(rt; is_unwritten(&rt, alloc, room)?);
     }
+    Ok(())
+}
+
+/// A report of the first row and the second column, as xterm writes Shift-F3.
+fn shift_f3(alloc: Global) -> io::Result<Act> {
+    Ok(Act::Piece {
+        bytes: Vec::from_slice(alloc, b"\x1b[1;2R")?,
+        raw: true,
+    })
+}
+
+/// Whether a report that came before the query is its answer.
+fn is_taken_first<R: Wait>(rt: &R, alloc: Global) -> io::Result<bool> {
+    let mut out = willing(alloc);
+    let met = asked_place(rt, alloc, shift_f3(alloc)?, None, &mut out)?;
+    Ok(matches!(met.place, Ok((1, 0))))
+}
+
+/// Whether the true place is told once such reports were taken.
+fn is_told_after<R: Wait>(rt: &R, alloc: Global) -> io::Result<bool> {
+    let calls = AtomicU32::new(0);
+    let mut term = terminal_by(RawFlag::new(alloc)?, &calls, None);
+    let mut acts = Vec::new(alloc);
+    acts.push(shift_f3(alloc)?)?;
+    acts.push(Act::Idle)?;
+    acts.push(Act::Piece {
+        bytes: Vec::from_slice(alloc, b"\x1b[20;10R")?,
+        raw: true,
+    })?;
+    let Seat { shared, mut pass } = alone(rt, alloc, script_of(alloc, acts))?;
+    let stale = shared.position_by(rt, &mut pass, Duration::ZERO, &mut Still);
+    let none = shared.position_by(rt, &mut pass, Duration::ZERO, &mut Still);
+    let place = position(
+        rt,
+        &mut term,
+        &shared,
+        &mut pass,
+        &mut willing(alloc),
+        &mut Still,
+    );
+    let taken = matches!(stale, Ok((1, 0))) && fails(none, ErrorKind::Other);
+    Ok(taken && matches!(place, Ok((9, 19))))
+}
+
+#[test]
+fn reports_from_before_a_query_can_be_taken(rt: HostRuntime) -> io::Result<()> {
+    expect!(rt; is_taken_first(&rt, rt.alloc())?);
+    expect!(rt; is_told_after(&rt, rt.alloc())?);
     Ok(())
 }
 

@@ -5,8 +5,8 @@ use crate::tape::Tape;
 use crossterm::cursor::{MoveTo, Show};
 use crossterm::style::ColorOutput;
 use crossterm::{
-    Command, CommandFault, ExecutableCommand, QueueableCommand, execute_command, queue_command,
-    write_command,
+    Command, CommandFault, ExecutableCommand, QueueableCommand, execute, execute_command, queue,
+    queue_command, send_command, write_command,
 };
 use crossterm_command::laws::one_reading;
 use std::alloc::Global;
@@ -135,12 +135,23 @@ fn writers_take_a_beginning(rt: HostRuntime) {
     one_reading();
 }
 
-/// Whether a command that fails by itself is told after what it wrote, queued and executed.
+/// Whether a command that fails by itself is told after what it wrote, on each way.
 fn is_torn(alloc: Global) -> bool {
     let mut tape = Tape::new(alloc);
-    let queued = kind(tape.queue(ON, Torn)) == Some(ErrorKind::Other);
-    let executed = kind(tape.execute(ON, &Torn)) == Some(ErrorKind::Other);
-    queued && executed && tape.holds(b"abab", 0)
+    let w = &mut tape;
+    let answers = [
+        kind(w.queue(ON, Torn)),
+        kind(w.execute(ON, &Torn)),
+        kind(queue_command(w, ON, &Torn)),
+        kind(execute_command(w, ON, &Torn)),
+        kind(queue!(w, ON, Torn)),
+        kind(execute!(w, ON, Torn)),
+    ];
+    let is_text = matches!(send_command(w, ON, &Torn), Err(CommandFault::Text));
+    let is_told = answers
+        .iter()
+        .all(|answer| *answer == Some(ErrorKind::Other));
+    is_text && is_told && tape.holds(b"ababababababab", 0)
 }
 
 /// Whether it is told alone where the writer fails first.

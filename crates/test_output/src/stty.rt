@@ -52,6 +52,33 @@ fn refusals_are_told(rt: HostRuntime) {
     }
 }
 
+/// The mode that stands after raw mode was set and the first one wasn't, and the kind of that fault.
+fn mode_after(alloc: Global, answers: &[u8]) -> io::Result<(SttyMode, Option<ErrorKind>)> {
+    let mut device = SttyDevice::new(answers, Vec::new(alloc))?;
+    let first = device.mode()?;
+    device.set_raw(&first)?;
+    let kind = match device.set_mode(&first) {
+        Ok(()) => None,
+        Err(error) => Some(error.kind()),
+    };
+    Ok((device.mode()?, kind))
+}
+
+#[test]
+fn the_mode_that_was_told_last_stands(rt: HostRuntime) {
+    let alloc = rt.alloc();
+    let rows: [(&[u8], &str, Option<ErrorKind>); 4] = [
+        (b"5\n0\n5\n", "5", None),
+        (b"5\n0\n6\n", "6", Some(ErrorKind::Other)),
+        (b"5\n0\nfailed\n", "0", Some(ErrorKind::Other)),
+        (b"5\n0\n", "0", Some(ErrorKind::UnexpectedEof)),
+    ];
+    for (answers, mode, kind) in rows {
+        let told = mode_after(alloc, answers);
+        expect!(rt; told.is_ok_and(|told| told.0.text.as_str() == mode && told.1 == kind));
+    }
+}
+
 /// A line of this many bytes, as the first answer.
 fn of_length(alloc: Global, count: usize) -> io::Result<SttyMode> {
     let mut answers = Vec::from_elem(alloc, b'7', count)?;

@@ -67,7 +67,7 @@ frame 1 -> USAGE
 count -> USAGE";
 
 const USAGE: &str =
-    "bench: usage: bench [frame] [--time] | bench held REPLIES | bench make letters|utf8|keys|mouse|paste|hostile BYTES";
+    "bench: usage: bench [frame] [--time] | bench held REPLIES | bench keys BINDINGS | bench make letters|utf8|keys|mouse|paste|hostile BYTES";
 
 /// What is counted where nothing but keys came.
 const ALONE: &str = "mouse 0 pastes 0 focus 0 resizes 0 replies 0";

@@ -1,6 +1,7 @@
 //! Scripts and calls beside what must come of them, run through the program's own functions.
 
 mod bench;
+mod keys;
 mod looks;
 mod numbered;
 mod say;
@@ -375,7 +376,7 @@ fn failing_readers_and_writers_are_named(rt: HostRuntime) {
 }
 
 const FAULTS: [(Fault, &str); 9] = [
-    (Fault::Usage, "probe: usage: probe play|say|serve"),
+    (Fault::Usage, "probe: usage: probe play|say|serve|keys"),
     (Fault::UnknownWord(3), "probe: line 3: unknown word"),
     (Fault::BadArgument(1), "probe: line 1: bad argument"),
     (Fault::NotUtf8, "probe: input is not UTF-8"),

@@ -116,12 +116,14 @@ impl<R: Wait + Drop> Device for Gated<R> {
     }
 }
 
-/// A device that fails once when it is asked without a limit, and else is idle. Its waker wakes it. After its turns the input ends.
+/// A device that fails once when it is asked without a limit, tells the letter `a` once when it is asked so again, and else is idle. Its waker
+/// wakes it. After its turns the input ends.
 #[derive(Drop)]
 pub struct FailsOnce<R> {
     rt: R,
     rings: Arc<AtomicBool>,
     failures: u64,
+    has_told: bool,
     turns: u32,
 }
 
@@ -132,6 +134,7 @@ impl<R: Wait + Drop> FailsOnce<R> {
             rt,
             rings: Arc::new(alloc, AtomicBool::new(false))?,
             failures: 0,
+            has_told: false,
             turns: TURNS,
         })
     }
@@ -140,7 +143,7 @@ impl<R: Wait + Drop> FailsOnce<R> {
 impl<R: Wait + Drop> Device for FailsOnce<R> {
     ghost failed = { λ device. device.failures };
 
-    fn answer(&mut self, _buf: &mut [u8], limit: Option<Duration>) -> io::Result<Answer> {
+    fn answer(&mut self, buf: &mut [u8], limit: Option<Duration>) -> io::Result<Answer> {
         if self.rings.swap(false, Ordering::SeqCst) {
             return Ok(Answer::Woken);
         }
@@ -150,7 +153,15 @@ impl<R: Wait + Drop> Device for FailsOnce<R> {
         nap(&self.rt);
         if self.failures == 0 {
             self.failures = 1;
-            return Err(io::Error::from(ErrorKind::Other));
+            return Err(io::Error::from(ErrorKind::InvalidData));
+        }
+        if !self.has_told {
+            self.has_told = true;
+            buf[0] = b'a';
+            return Ok(Answer::Bytes {
+                count: 1,
+                raw: false,
+            });
         }
         Ok(rest(&mut self.turns))
     }

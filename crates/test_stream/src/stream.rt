@@ -132,21 +132,23 @@ fn answer_within<D: Device, R: Wait + Drop>(
     Answer::Pending
 }
 
-/// Whether a fault that the worker met is given once.
-fn gives_the_fault_once<R>(rt: R, alloc: Global) -> io::Result<bool>
+/// Whether a fault that the worker met is given once, and the letter that comes after it too.
+fn goes_on_after_a_fault<R>(rt: R, alloc: Global) -> io::Result<bool>
 where
     R: Threads + Wait + RandomSource + AllocGlobal + Copy + Send + Drop + 'static,
 {
     let mut stream = stream_of(rt, alloc, FailsOnce::new(rt, alloc)?)?;
     let task = MockTask::new(&rt)?;
     let first = answer_within(&rt, &task, &mut stream, TURNS);
+    let second = answer_within(&rt, &task, &mut stream, TURNS);
     let later = answer_within(&rt, &task, &mut stream, 100);
-    Ok(first == Answer::Fault(ErrorKind::Other) && later == Answer::Pending)
+    let fault = first == Answer::Fault(ErrorKind::InvalidData);
+    Ok(fault && second == Answer::Letter('a') && later == Answer::Pending)
 }
 
 #[test]
 fn a_fault_is_given_once(rt: HostRuntime) -> io::Result<()> {
-    expect!(rt; gives_the_fault_once(rt, rt.alloc())?);
+    expect!(rt; goes_on_after_a_fault(rt, rt.alloc())?);
     Ok(())
 }
 

@@ -46,7 +46,8 @@ fn inputs() -> Vec<(&'static str, Vec<u8>)> {
     vec![("letters", letters), ("utf8", utf8), ("keys", keys), ("mouse", mouse), ("paste", paste), ("hostile", hostile)]
 }
 
-fn flat(bytes: &[u8], kept: &mut Vec<u8>) -> usize {
+/// The archive's table alone.
+fn table(bytes: &[u8], kept: &mut Vec<u8>) -> usize {
     let mut parser = FlatParser::default();
     let mut events = [Flat::default(); 64];
     let (mut rest, mut all) = (bytes, 0);
@@ -64,35 +65,54 @@ fn flat(bytes: &[u8], kept: &mut Vec<u8>) -> usize {
     all
 }
 
+/// A program's way through the events in blocks of 1024 bytes, as a reader has them.
+fn blocks(bytes: &[u8], mut f: impl FnMut(&[u8])) {
+    bytes.chunks(1024).for_each(|block| f(block));
+}
+
 fn parsers() {
-    println!("ns a byte      crossterm   gelvanh, its events   gelvanh, flat");
+    println!("ns a byte     crossterm   gelvanh: queue         each event          flat events         table");
     for (name, bytes) in inputs() {
-        // Both give events as a queue, from which they are taken in blocks of 1024 bytes as a reader does.
         let theirs = least(|| {
             let mut parser = Theirs::default();
-            for block in bytes.chunks(1024) {
+            blocks(&bytes, |block| {
                 parser.advance(block, true);
                 while let Some(event) = parser.next() {
                     black_box(event);
                 }
-            }
+            });
         });
         let mut parser = Parser::default();
         let mut queue = VecDeque::new();
-        let ours = least(|| {
-            for block in bytes.chunks(1024) {
+        let queued = least(|| {
+            blocks(&bytes, |block| {
                 queue.extend(parser.feed(block, true, false));
                 while let Some(event) = queue.pop_front() {
                     black_box(event);
                 }
-            }
+            });
+        });
+        let each = least(|| {
+            blocks(&bytes, |block| {
+                for event in parser.feed(block, true, false) {
+                    black_box(event);
+                }
+            });
+        });
+        let flat = least(|| {
+            blocks(&bytes, |block| {
+                for event in parser.flat(block, true, false) {
+                    black_box(event);
+                }
+            });
         });
         let mut kept = Vec::new();
         let numbers = least(|| {
-            black_box(flat(&bytes, &mut kept));
+            black_box(table(&bytes, &mut kept));
         });
         let n = bytes.len() as f64;
-        println!("{name:10} {:12.2} {:16.2} ({:.2}) {:10.2} ({:.2})", theirs / n, ours / n, ours / theirs, numbers / n, numbers / theirs);
+        let part = |time: f64| format!("{:10.2} ({:.2})", time / n, time / theirs);
+        println!("{name:10} {:12.2} {} {} {} {}", theirs / n, part(queued), part(each), part(flat), part(numbers));
     }
 }
 

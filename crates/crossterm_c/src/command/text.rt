@@ -1,9 +1,9 @@
 //! Commands with a text of their own.
-ghost use Rattle.std.specs.Prelude.{Some, OnOk};
+ghost use Rattle.std.specs.Prelude.{Some, IsSomeAnd, OnOk};
 ghost use Rattle.std.specs.Fmt.{WritesInCalls};
 ghost use Rattle.crossterm_command.specs.Tokens.{text_of};
 ghost use Rattle.crossterm.specs.Sequences.{set_title};
-ghost use Rattle.crossterm_c.specs.Command.{AnswersText, AnswersTo, copied, outcome_at, output_of, printed};
+ghost use Rattle.crossterm_c.specs.Command.{HasNotFailed, AnswersText, AnswersTo, copied, outcome_at, output_of, printed};
 
 use super::{GelvanhCommand, output_of};
 use crate::command::style::style_of;
@@ -15,10 +15,10 @@ use crossterm::style::{ColorOutput, PrintStyledContent};
 use crossterm::terminal::SetTitle;
 use std::fmt;
 
-/// Prints a text, in UTF-8: the command `Print`. It answers as `gelvanh_command` does, 2 where the text isn't UTF-8.
+/// Prints a text, in UTF-8: the command `Print`. It answers as `gelvanh_command` does, but never 3, and 2 where the text isn't UTF-8.
 #[unsafe(no_mangle)]
 pub extern "C" fn gelvanh_print(text: &[u8], slice: &mut [u8], length: &mut usize) -> u32
-    ensures { AnswersText text.now (Some text.now) slice.old slice.new length.new (outcome_at result) }
+    ensures { IsSomeAnd (outcome_at result) (λ outcome. AnswersText text.now (Some text.now) slice.old slice.new length.new outcome × HasNotFailed outcome) }
 {
     let answer = match str::from_utf8(text) {
         Ok(text) => put(text, slice),
@@ -30,7 +30,7 @@ pub extern "C" fn gelvanh_print(text: &[u8], slice: &mut [u8], length: &mut usiz
 /// Sets the window's title, in UTF-8: the command `SetTitle`. It answers as `gelvanh_print` does.
 #[unsafe(no_mangle)]
 pub extern "C" fn gelvanh_set_title(title: &[u8], slice: &mut [u8], length: &mut usize) -> u32
-    ensures { AnswersText title.now (Some (text_of (set_title title.now))) slice.old slice.new length.new (outcome_at result) }
+    ensures { IsSomeAnd (outcome_at result) (λ outcome. AnswersText title.now (Some (text_of (set_title title.now))) slice.old slice.new length.new outcome) }
 {
     let answer = match str::from_utf8(title) {
         Ok(title) => write_plain(&SetTitle(title), slice),
@@ -59,7 +59,7 @@ pub extern "C" fn gelvanh_print_styled(
     slice: &mut [u8],
     length: &mut usize,
 ) -> u32
-    ensures { AnswersText text.now (printed (output_of colors) style.now text.now) slice.old slice.new length.new (outcome_at result) }
+    ensures { IsSomeAnd (outcome_at result) (λ outcome. AnswersText text.now (printed (output_of colors) style.now text.now) slice.old slice.new length.new outcome) }
 {
     let answer = match str::from_utf8(text) {
         Ok(text) => print_styled(style, text, output_of(colors), slice),
@@ -100,7 +100,7 @@ pub extern "C" fn gelvanh_copy_to_clipboard(
     slice: &mut [u8],
     length: &mut usize,
 ) -> u32
-    ensures { AnswersText places.now (Some (text_of (copied content.now places.now))) slice.old slice.new length.new (outcome_at result) }
+    ensures { IsSomeAnd (outcome_at result) (λ outcome. AnswersText places.now (Some (text_of (copied content.now places.now))) slice.old slice.new length.new outcome) }
 {
     let answer = match str::from_utf8(places) {
         Ok(places) => {

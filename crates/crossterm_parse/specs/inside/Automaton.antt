@@ -287,6 +287,10 @@ abbrev pub Opens : State → State → List ℕ → Type 0
 Opens old new [] = new ≡ old
 Opens old new (b ∷ bs) = (mid : State) × ((raw pause : Bool) → state_after old b raw pause ≡ Open mid) × (is_paste mid ≡ false) × Opens mid new bs
 
+-- A sequence is open that has these bytes: ESC and one more at least, of which the last ended none.
+abbrev pub OpensWith : State → List ℕ → Type 0
+OpensWith new bytes = (b : ℕ) × (bs : List ℕ) × (bytes ≡ ESC ∷ b ∷ bs) × Opens Escape new (b ∷ bs)
+
 -- a letter, a digit, a sign or a blank of ASCII
 abbrev pub IsLetter : ℕ → Type 0
 IsLetter b = (byte " " ≤ b) × (b < DEL)

@@ -32,6 +32,11 @@ abbrev pub PutsAll : ParserView → ParserView → List ℕ → Type 0
 PutsAll old new [] = (new.state ≡ old.state) × (new.text ≡ old.text) × (new.waiting ≡ old.waiting)
 PutsAll old new (b ∷ bs) = (mid : ParserView) × ((raw pause : Bool) → PutsByte old mid b raw pause) × PutsAll mid new bs
 
+-- The bytes were put in one after another, whatever the mode, and each but the last with no pause after it.
+abbrev pub PutsOn : ParserView → ParserView → List ℕ → Type 0
+PutsOn old new [] = (new.state ≡ old.state) × (new.text ≡ old.text) × (new.waiting ≡ old.waiting)
+PutsOn old new (b ∷ bs) = (mid : ParserView) × ((raw pause : Bool) → (pause ≡ true → length bs ≡ 0) → PutsByte old mid b raw pause) × PutsOn mid new bs
+
 -- An event was given, and the parser is in the ground state.
 abbrev pub Gives : ParserView → ParserView → Meaning → Type 0
 Gives old new m = (new.state ≡ Ground) × (new.text ≡ old.text) × (new.waiting ≡ old.waiting ++ seen_meaning m ∷ [])

@@ -1,7 +1,7 @@
 //! Runs: bytes that are put in at once, with what comes of putting in each by itself. Where there is no room, and none can be made, a
 //! run takes fewer.
 ghost use Rattle.std.specs.Prelude.{◌≡◌, ◌+◌, ◌*◌, ◌≤◌, ◌<◌, [], length, take, IsTrue};
-ghost use Rattle.crossterm_parse.specs.inside.Putting.{TakesFront, Gives, PutsAll};
+ghost use Rattle.crossterm_parse.specs.inside.Putting.{TakesFront, Gives, PutsAll, PutsOn};
 
 use super::Parser;
 use crate::meaning::{Meaning, ascii_key, typed_key};
@@ -82,7 +82,7 @@ impl<A: Allocator + Clone> Parser<A> {
     fn keep_all<L: Ledger>(&mut self, bytes: &[u8], steps: &mut Steps<L>) -> usize
         requires { self.old.state ≡ State.Paste Met.Nothing }
         ensures within { result ≤ length bytes.now }
-        ensures puts { PutsAll self.old self.new (take result bytes.now) }
+        ensures puts { PutsOn self.old self.new (take result bytes.now) }
         ensures text { length self.new.text ≡ length self.old.text + result }
         ensures room { self.old.room ≡ self.new.room }
         ensures steps { steps.new ≡ steps.old + result }
@@ -99,7 +99,7 @@ impl<A: Allocator + Clone> Parser<A> {
     /// Puts in the bytes in front with which the numbers of a sequence go on, and tells how many.
     fn put_numbers<L: Ledger>(&mut self, bytes: &[u8], steps: &mut Steps<L>) -> usize
         ensures within { result ≤ length bytes.now }
-        ensures puts { PutsAll self.old self.new (take result bytes.now) }
+        ensures puts { PutsOn self.old self.new (take result bytes.now) }
         ensures text { length self.new.text ≡ length self.old.text }
         ensures room { self.old.room ≡ self.new.room }
         ensures steps { steps.new ≡ steps.old + result }
@@ -128,6 +128,7 @@ impl<A: Allocator + Clone> Parser<A> {
         requires { self.old.state ≡ State.Ground }
         ensures front { TakesFront self.old self.new bytes.now result steps.old steps.new }
         ensures puts { PutsAll self.old self.new (take result bytes.now) }
+        ensures state { self.new.state ≡ State.Ground }
     {
         let mut place = 0;
         while place < bytes.len() {
@@ -140,18 +141,39 @@ impl<A: Allocator + Clone> Parser<A> {
         place
     }
 
+    /// Opens the sequence in front with the numbers that it has, and tells how many bytes: none where no such sequence is in front.
+    #[inline(always)]
+    fn open<L: Ledger>(&mut self, bytes: &[u8], steps: &mut Steps<L>) -> usize
+        requires { self.old.state ≡ State.Ground }
+        ensures front { TakesFront self.old self.new bytes.now result steps.old steps.new }
+        ensures puts { PutsOn self.old self.new (take result bytes.now) }
+    {
+        self.state.open(bytes, steps)
+    }
+
+    /// Gives the events of the text in front, and opens the sequence behind it. Tells how many bytes they have.
+    #[inline(always)]
+    fn begin<L: Ledger>(&mut self, bytes: &[u8], steps: &mut Steps<L>) -> usize
+        requires { self.old.state ≡ State.Ground }
+        ensures front { TakesFront self.old self.new bytes.now result steps.old steps.new }
+        ensures puts { PutsOn self.old self.new (take result bytes.now) }
+    {
+        let count = self.give_text(bytes, steps);
+        count + self.open(&bytes[count..], steps)
+    }
+
     /// Puts in the bytes in front that a run takes, and tells how many: text where no sequence is open, or what a sequence's numbers or
     /// a paste go on with.
     #[inline(always)]
     pub(super) fn run<L: Ledger>(&mut self, bytes: &[u8], steps: &mut Steps<L>) -> usize
         ensures within { result ≤ length bytes.now }
-        ensures puts { PutsAll self.old self.new (take result bytes.now) }
+        ensures puts { PutsOn self.old self.new (take result bytes.now) }
         ensures room { self.old.room ≤ self.new.room + result }
         ensures steps { steps.new + length self.new.text ≤ steps.old + length self.old.text + 2 * result }
         ensures counted { steps.old + result ≤ steps.new }
     {
         match self.state {
-            State::Ground => self.give_text(bytes, steps),
+            State::Ground => self.begin(bytes, steps),
             State::Numbered(_, _) | State::Sgr(_) => self.put_numbers(bytes, steps),
             State::Paste(Met::Nothing) => self.keep_all(bytes, steps),
             _ => 0,

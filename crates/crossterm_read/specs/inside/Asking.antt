@@ -1,23 +1,23 @@
 -- What one question of a source comes to, and many until one is answered.
-use Rattle.std.specs.Prelude.{◌≡◌, ◌≢◌, ℕ, Bool, true, false, List, [], ◌∷◌, Result, Ok, Err, ◌⊎◌, ◌≤◌, ◌-◌, length, Option, None}
+use Rattle.std.specs.Prelude.{◌≡◌, ◌≢◌, ℕ, Bool, true, false, List, [], ◌∷◌, Result, Ok, Err, Option}
 use Rattle.std.specs.IoError.{error_kind}
 use Rattle.std.specs.declared.io.Error.{Error}
 use Rattle.std.specs.declared.io.ErrorKind.{ErrorKind}
-use Rattle.std.specs.declared.io.ErrorKind.TheVariants.{Interrupted, OutOfMemory}
+use Rattle.std.specs.declared.io.ErrorKind.TheVariants.{Interrupted}
 use Rattle.crossterm_types.specs.Seen.{Seen}
-use Rattle.crossterm_read.specs.Answers.{SourceAnswer, Gave, Nothing, Failed}
+use Rattle.crossterm_read.specs.Answers.{SourceAnswer, Gave, Failed}
 use Rattle.crossterm_read.specs.declared.read.reader.AtWake.{AtWake}
 use Rattle.crossterm_read.specs.declared.read.reader.AtWake.TheVariants.{Stops, GoesOn}
 use Rattle.crossterm_read.specs.declared.read.reader.Once.{Once}
 use Rattle.crossterm_read.specs.declared.read.reader.Once.TheVariants as once
 use Rattle.crossterm_read.specs.Store.{ReaderState, Arrives}
-use Rattle.crossterm_read.specs.Steps.{End, Ready, Tried, Broke, Passes, Asks, RefusedOnlyWithoutRoom, first_admitted}
+use Rattle.crossterm_read.specs.Steps.{Patience, End, Ready, Tried, Broke, Passes, Asks, RefusedOnlyWithoutRoom}
 use Rattle.std.specs.Duration.{as_nanos}
 use Rattle.std.specs.Option.{option_map}
 use Rattle.std.specs.declared.time.Duration.{Duration}
-use Rattle.crossterm_types.specs.Timing.{Reaches, left_over}
+use Rattle.crossterm_types.specs.Timing.{left_over}
 use Rattle.crossterm_types.specs.declared.event.timeout.PollTimeout.{PollTimeout}
-use Rattle.crossterm_read.specs.Device.{AsksWith, IsAtOnce}
+use Rattle.crossterm_read.specs.Device.{AsksWith}
 
 abbrev pub end_of : Result Bool Error → End
 end_of (Ok true) = Ready
@@ -31,8 +31,8 @@ BrokeWhere Tried P = Unit {0}
 BrokeWhere (Broke kind) P = P kind
 
 -- Some answers were drawn, and asking ended so.
-abbrev pub Asked : {S : Type 0} → (S → List SourceAnswer → S → Type 0) → AtWake → (Seen → Bool) → ℕ → ReaderState S → ReaderState S → End → Type 0
-Asked drawn wake f tries s t end = (zs : List SourceAnswer) × drawn s.source zs t.source × Arrives s.store zs t.store × Asks wake f tries s.store.held zs end
+abbrev pub Asked : {S : Type 0} → (S → List SourceAnswer → S → Type 0) → AtWake → (Seen → Bool) → Patience → ReaderState S → ReaderState S → End → Type 0
+Asked drawn wake f patience s t end = (zs : List SourceAnswer) × drawn s.source zs t.source × Arrives s.store zs t.store × Asks wake f patience s.store.held zs end
     × BrokeWhere end (RefusedOnlyWithoutRoom s.room zs)
 
 -- What one question came to, where room for one event is made before it.
@@ -66,16 +66,3 @@ MeetsNoFault wake once.Nothing = wake ≡ Stops
 -- The device was asked once at most, with what is left of the limit at this moment.
 abbrev pub AsksInTime : PollTimeout → ℕ → List (Option Duration) → List (Option Duration) → Type 0
 AsksInTime timeout now old new = (left : Option Duration) × (option_map as_nanos left ≡ left_over timeout now) × AsksWith left old new
-
--- Asking with a limit of time, to this moment. All tries, however many, are used only where the limit has passed. Where nothing admitted is held
--- the source answers at least once, or there is no memory. With limit zero it answers once at most.
-pub record AskedInTime {S : Type 0} (drawn : S → List SourceAnswer → S → Type 0) (wake : AtWake) (f : Seen → Bool) (limit : Option Duration) (start last : ℕ) (s t : ReaderState S) (end : End) : Type 0 where
-  pub tries : ℕ
-  pub answers : List SourceAnswer
-  pub drawn_so : drawn s.source answers t.source
-  pub arrives : Arrives s.store answers t.store
-  pub asks : Asks wake f tries s.store.held answers end
-  pub memory : BrokeWhere end (RefusedOnlyWithoutRoom s.room answers)
-  pub patient : end ≡ Tried → Reaches limit (last - start)
-  pub begun : first_admitted f s.store.held ≡ None → (answers ≢ []) ⊎ (end ≡ Broke OutOfMemory)
-  pub once : IsAtOnce limit → length answers ≤ 1

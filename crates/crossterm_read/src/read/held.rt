@@ -1,11 +1,11 @@
-//! The events that are held until they are taken.
-ghost use Rattle.std.specs.Prelude.{◌≡◌, ◌+◌, ◌-◌, ◌<◌, ◌≤◌, IfOk, IfErr, List, [], ◌∷◌, length, map, is_some};
+//! The held events in queues by kind.
+ghost use Rattle.std.specs.Prelude.{◌≡◌, ◌+◌, ◌-◌, ◌<◌, ◌≤◌, IfOk, IfErr, List, [], ◌∷◌, length, map, is_some, IsTrue};
 ghost use Rattle.std.specs.Iterator.{YieldsFirstBy, item_count};
 ghost use Rattle.std.specs.Option.{option_map};
 ghost use Rattle.crossterm_types.specs.Seen.{Seen, seen};
 ghost use Rattle.crossterm_read.specs.Answers.{Gave};
 ghost use Rattle.crossterm_read.specs.inside.Queues.{AreJoined, AreKept, behind, joined, member_kept, queues_of};
-ghost use Rattle.crossterm_read.specs.Store.{Arrives, Holding, kept};
+ghost use Rattle.crossterm_read.specs.Store.{Arrives, Holding, kept, next_number};
 ghost use Rattle.crossterm_read.specs.Steps.{TakeReplies, first_admitted};
 
 mod kind;
@@ -15,17 +15,17 @@ use self::kind::Places;
 use self::queues::{ALL, Member, Queues};
 use crossterm_types::event::InternalEvent;
 use crossterm_types::event::filter::Filter;
-use std::alloc::{AllocError, Allocator, Global};
+use std::alloc::{AllocError, Allocator};
 use std::marker::Model;
 
-/// The events that a reader holds, in the order of their arrival.
+// The queued events, in the order of their arrival.
 #[derive(Drop)]
-pub struct Held<'a, A: Allocator = Global> {
+pub(crate) struct Queued<'a, A: Allocator> {
     queues: &'a Option<Queues<A>>,
     at: Places,
 }
 
-impl<'a, A: Allocator> Model for Held<'a, A> {
+impl<'a, A: Allocator> Model for Queued<'a, A> {
     ghost Value = { List Seen };
 
     ghost view = { λ h. map (λ m. seen m.event) (joined (behind (queues_of h.queues.now) h.at)) };
@@ -33,7 +33,7 @@ impl<'a, A: Allocator> Model for Held<'a, A> {
     ghost invariant = { λ h. AreJoined (behind (queues_of h.queues.now) h.at) };
 }
 
-impl<'a, A: Allocator> Iterator for Held<'a, A> {
+impl<'a, A: Allocator> Iterator for Queued<'a, A> {
     type Item = &'a InternalEvent<A>;
 
     ghost next_gives = { YieldsFirstBy (λ event. seen event.now) (λ rest. rest) };
@@ -137,10 +137,32 @@ impl<A: Allocator> HeldEvents<A> {
         }
     }
 
+    // Whether none is held.
+    fn is_empty(&self) -> bool
+        ensures { IsTrue result → self.now.store.held ≡ [] }
+    {
+        self.len == 0
+    }
+
+    // Gives the number of the next event, which joins no queue.
+    pub(crate) fn next_number(&mut self) -> u64
+        ensures number { result ≡ self.old.store.arrivals }
+        ensures held { self.new.store.held ≡ self.old.store.held }
+        ensures arrivals { self.new.store.arrivals ≡ next_number self.old.store.arrivals }
+        ensures room { self.new.room ≡ self.old.room }
+    {
+        let number = self.arrivals;
+        self.arrivals = number.saturating_add(1);
+        number
+    }
+
     // Whether an event is held that is admitted.
     pub(crate) fn holds<F: Filter>(&self, filter: &F) -> bool
         ensures { result ≡ is_some (first_admitted (F.admits filter.now) self.now.store.held) }
     {
+        if self.is_empty() {
+            return false;
+        }
         match &self.queues {
             Some(queues) => queues.place(filter).is_some(),
             None => false,
@@ -152,6 +174,9 @@ impl<A: Allocator> HeldEvents<A> {
         ensures step { TakeReplies (F.admits filter.now) self.old.store self.new.store (option_map kept result) }
         ensures room { length self.new.store.held + self.new.room ≡ length self.old.store.held + self.old.room }
     {
+        if self.is_empty() {
+            return None;
+        }
         match &mut self.queues {
             Some(queues) => match queues.take(filter) {
                 Some(member) => {
@@ -172,10 +197,10 @@ impl<A: Allocator> HeldEvents<A> {
     }
 
     // The events, in the order of their arrival.
-    pub(crate) fn iter(&self) -> Held<'_, A>
+    pub(crate) fn iter(&self) -> Queued<'_, A>
         ensures { result ≡ map (λ h. h.0) self.now.store.held }
     {
-        Held {
+        Queued {
             queues: &self.queues,
             at: Places::FRONTS,
         }

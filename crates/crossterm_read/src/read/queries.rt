@@ -1,5 +1,5 @@
 //! Queries: a reply is waited for, and taken.
-ghost use Rattle.std.specs.Prelude.{◌≡◌, ◌≢◌, ◌⊎◌, ◌≤◌, ◌<◌, true, IfOk, IfErr, ℕ, List, Option, Some, None};
+ghost use Rattle.std.specs.Prelude.{◌≡◌, ◌≢◌, ◌⊎◌, ◌≤◌, ◌<◌, ◌-◌, true, IfOk, IfErr, ℕ, List, Option, Some, None};
 ghost use Rattle.std.specs.Duration.{as_nanos};
 ghost use Rattle.std.specs.IoError.{error_kind};
 ghost use Rattle.std.specs.declared.io.ErrorKind.TheVariants.{Other};
@@ -7,14 +7,15 @@ ghost use Rattle.std.specs.Option.{option_map};
 ghost use Rattle.crossterm_types.specs.Admitting.{is_attributes, is_cursor_position, is_flags_reply};
 ghost use Rattle.crossterm_types.specs.Seen.{CursorPosition, Seen, seen};
 ghost use Rattle.crossterm_read.specs.Answers.{SourceAnswer, IsOwn};
-ghost use Rattle.crossterm_read.specs.Device.{AsksAtOnce, AsksEach};
+ghost use Rattle.crossterm_read.specs.Device.{AsksAtOnce};
 ghost use Rattle.crossterm_read.specs.History.{last_of};
 ghost use Rattle.crossterm_read.specs.Queries.{KeyboardStep, LeftReplies, QueryReplies, QueryStep};
 ghost use Rattle.crossterm_read.specs.Replies.{Fault, Replied, ToPoll, ToQuery, flags_seen, keyboard_said, poll_reply, position_said, shown};
 ghost use Rattle.crossterm_read.specs.inside.Replies.{flags_said, last_said, read_reply};
 ghost use Rattle.crossterm_read.specs.Store.{capacity, kept};
-ghost use Rattle.crossterm_read.specs.Steps.{RefusedOnlyWithoutRoom, first_admitted};
-ghost use Rattle.crossterm_read.specs.Waiting.{TimedKeyboard, TimedQuery, WasLeft};
+ghost use Rattle.crossterm_read.specs.Steps.{UpTo, Within, RefusedOnlyWithoutRoom, first_admitted};
+ghost use Rattle.crossterm_read.specs.Waiting.{AsksLeft, AsksWithin};
+ghost use Rattle.std.specs.declared.time.Duration.{Duration};
 
 use crate::read::InternalEventReader;
 use crate::source::EventSource;
@@ -96,7 +97,7 @@ impl<S: EventSource<A>, A: Allocator + Clone> InternalEventReader<S, A> {
         filter: &F,
     ) -> io::Result<(InternalEvent<A>, u64)>
         ensures step { (zs : List SourceAnswer) × S.drawn self.old.source zs self.new.source
-            × QueryStep (F.admits filter.now) tries zs self.old.store self.new.store (read_reply result)
+            × QueryStep (F.admits filter.now) (UpTo tries) zs self.old.store self.new.store (read_reply result)
             × IfErr result (λ e. RefusedOnlyWithoutRoom self.old.room zs (error_kind e)) }
         ensures at_once { AsksAtOnce (S.asked self.old.source) (S.asked self.new.source) }
         ensures room { capacity self.old ≤ capacity self.new }
@@ -117,9 +118,12 @@ impl<S: EventSource<A>, A: Allocator + Clone> InternalEventReader<S, A> {
         filter: &F,
     ) -> io::Result<(InternalEvent<A>, u64)>
         requires { as_nanos timeout.start ≤ C.told clock.old }
-        ensures step { TimedQuery S.drawn (F.admits filter.now) timeout.limit (as_nanos timeout.start) (C.told clock.new) self.old self.new (read_reply result) }
-        ensures limits { AsksEach (WasLeft timeout (C.told clock.new)) (S.asked self.old.source) (S.asked self.new.source) }
+        ensures step { (zs : List SourceAnswer) × S.drawn self.old.source zs self.new.source
+            × QueryStep (F.admits filter.now) (Within timeout.limit (C.told clock.new - as_nanos timeout.start)) zs self.old.store self.new.store (read_reply result)
+            × IfErr result (λ e. RefusedOnlyWithoutRoom self.old.room zs (error_kind e)) }
+        ensures limits { AsksLeft timeout (C.told clock.new) (S.asked self.old.source) (S.asked self.new.source) }
         ensures later { C.told clock.old ≤ C.told clock.new }
+        ensures room { capacity self.old ≤ capacity self.new }
         ensures admitted { IfOk result (λ x. F.admits filter.now (seen x.0) ≡ true) }
     {
         let ready = self.poll_until(rt, timeout, clock, filter);
@@ -131,7 +135,7 @@ impl<S: EventSource<A>, A: Allocator + Clone> InternalEventReader<S, A> {
     /// It polls as `poll_within` does. The error is `Other` where that is false, and else that poll's.
     pub fn position_within(&mut self, tries: u32) -> io::Result<(u16, u16)>
         ensures step { (zs : List SourceAnswer) × (r : Replied) × S.drawn self.old.source zs self.new.source
-            × QueryStep is_cursor_position tries zs self.old.store self.new.store r × (position_said result ≡ shown r)
+            × QueryStep is_cursor_position (UpTo tries) zs self.old.store self.new.store r × (position_said result ≡ shown r)
             × IfErr result (λ e. RefusedOnlyWithoutRoom self.old.room zs (error_kind e)) }
         // The source is asked with limit zero alone, and so at once.
         ensures at_once { AsksAtOnce (S.asked self.old.source) (S.asked self.new.source) }
@@ -171,7 +175,7 @@ impl<S: EventSource<A>, A: Allocator + Clone> InternalEventReader<S, A> {
     /// The error is `Other` where the first poll is false, and else that poll's.
     pub fn keyboard_within(&mut self, tries: u32) -> io::Result<Option<KeyboardEnhancementFlags>>
         ensures step { (zs : List SourceAnswer) × (r : Replied) × S.drawn self.old.source zs self.new.source
-            × KeyboardStep tries tries zs self.old.store self.new.store r × (keyboard_said result ≡ shown r)
+            × KeyboardStep (UpTo tries) (UpTo tries) zs self.old.store self.new.store r × (keyboard_said result ≡ shown r)
             × IfErr result (λ e. RefusedOnlyWithoutRoom self.old.room zs (error_kind e)) }
         // The source is asked with limit zero alone, and so at once.
         ensures at_once { AsksAtOnce (S.asked self.old.source) (S.asked self.new.source) }
@@ -203,9 +207,13 @@ impl<S: EventSource<A>, A: Allocator + Clone> InternalEventReader<S, A> {
         clock: &mut C,
     ) -> io::Result<(Option<KeyboardEnhancementFlags>, u64)>
         requires { as_nanos timeout.start ≤ C.told clock.old }
-        ensures step { (r : Replied) × TimedKeyboard S.drawn timeout.limit (as_nanos timeout.start) (C.told clock.new) self.old self.new r × (flags_said result ≡ shown r)
-            × ((n : Option ℕ) → last_of n r ≡ last_said n result) }
+        ensures step { (now : ℕ) × (C.told clock.old ≤ now) × (now ≤ C.told clock.new) × (zs : List SourceAnswer) × (r : Replied) × S.drawn self.old.source zs self.new.source
+            × KeyboardStep (Within timeout.limit (now - as_nanos timeout.start)) (Within (Some again) (C.told clock.new - now)) zs self.old.store self.new.store r
+            × (flags_said result ≡ shown r) × IfErr result (λ e. RefusedOnlyWithoutRoom self.old.room zs (error_kind e)) × ((n : Option ℕ) → last_of n r ≡ last_said n result)
+            × (middle : List (Option Duration)) × AsksLeft timeout now (S.asked self.old.source) middle
+            × ((S.asked self.new.source ≡ middle) ⊎ AsksWithin (Some again) now (C.told clock.new) middle (S.asked self.new.source)) }
         ensures later { C.told clock.old ≤ C.told clock.new }
+        ensures room { capacity self.old ≤ capacity self.new }
     {
         match self.query_until(rt, timeout, clock, &KeyboardEnhancementFlagsFilter) {
             Ok((event, number)) => match flags_of(&event) {

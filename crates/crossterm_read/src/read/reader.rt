@@ -11,12 +11,12 @@ ghost use Rattle.crossterm_read.specs.inside.Numbers.{IsOrderly};
 ghost use Rattle.crossterm_read.specs.Replies.{Replied, poll_reply, shown, try_said};
 ghost use Rattle.crossterm_read.specs.inside.Replies.{try_reply};
 ghost use Rattle.crossterm_read.specs.Store.{ReaderState, capacity, kept};
-ghost use Rattle.crossterm_read.specs.Steps.{PollStep, ReadStep, RefusedOnlyWithoutRoom, TakeReplies, first_admitted};
+ghost use Rattle.crossterm_read.specs.Steps.{UpTo, PollStep, ReadStep, RefusedOnlyWithoutRoom, TakeReplies, first_admitted};
 ghost use Rattle.crossterm_read.specs.inside.Asking.{Asked, BreaksWhere, DrawsOne, IsRefused, MeetsNoFault, end_of};
 ghost use Rattle.crossterm_read.specs.declared.read.reader.AtWake.TheVariants.{Stops};
 
 use crate::read::Held;
-use crate::read::held::HeldEvents;
+use crate::read::backlog::Backlog;
 use crate::source::{EventSource, Waker};
 use crossterm_types::event::InternalEvent;
 use crossterm_types::event::filter::Filter;
@@ -40,7 +40,7 @@ use std::time::Duration;
 /// ```
 #[derive(Drop)]
 pub struct InternalEventReader<S, A: Allocator = Global> {
-    held: HeldEvents<A>,
+    held: Backlog<A>,
     source: S,
 }
 
@@ -93,7 +93,7 @@ impl<S: EventSource<A>, A: Allocator> InternalEventReader<S, A> {
         ensures { result ≡ record { store = record { held = []; arrivals = 0 }; room = 0; source = source } }
     {
         InternalEventReader {
-            held: HeldEvents::new(alloc),
+            held: Backlog::new(alloc),
             source,
         }
     }
@@ -118,6 +118,19 @@ impl<S: EventSource<A>, A: Allocator> InternalEventReader<S, A> {
         ensures { result ≡ is_some (first_admitted (F.admits filter.now) self.now.store.held) }
     {
         self.held.holds(filter)
+    }
+
+    /// The source that the reader asks, as to bound what it keeps.
+    ///
+    /// ```
+    /// if reader.source().paste_len() > 1 << 20 {
+    ///     return Err(io::Error::from(ErrorKind::InvalidData));
+    /// }
+    /// ```
+    pub fn source(&self) -> &S
+        ensures { result.now ≡ self.now.source }
+    {
+        &self.source
     }
 
     /// Takes the first held event that the filter admits, and no other. The source isn't asked, and no memory is taken.
@@ -191,7 +204,7 @@ impl<S: EventSource<A>, A: Allocator + Clone> InternalEventReader<S, A> {
 
     // Asks the source until an admitted event is held.
     fn ask<F: Filter>(&mut self, tries: u32, filter: &F, at_wake: AtWake) -> io::Result<bool>
-        ensures asked { Asked S.drawn at_wake (F.admits filter.now) tries self.old self.new (end_of result) }
+        ensures asked { Asked S.drawn at_wake (F.admits filter.now) (UpTo tries) self.old self.new (end_of result) }
         ensures at_once { AsksAtOnce (S.asked self.old.source) (S.asked self.new.source) }
         ensures room { capacity self.old ≤ capacity self.new }
         ensures rise { S.failed self.old.source ≤ S.failed self.new.source }
@@ -223,7 +236,7 @@ impl<S: EventSource<A>, A: Allocator + Clone> InternalEventReader<S, A> {
     /// The error is `OutOfMemory` only where the source's was, or where there was no room left for an event and none could be made.
     pub fn poll_within<F: Filter>(&mut self, tries: u32, filter: &F) -> io::Result<bool>
         ensures step { (zs : List SourceAnswer) × S.drawn self.old.source zs self.new.source
-            × PollStep tries (F.admits filter.now) zs self.old.store self.new.store (poll_reply result)
+            × PollStep (UpTo tries) (F.admits filter.now) zs self.old.store self.new.store (poll_reply result)
             × IfErr result (λ e. RefusedOnlyWithoutRoom self.old.room zs (error_kind e)) }
         // The source is asked with limit zero alone, and so at once.
         ensures at_once { AsksAtOnce (S.asked self.old.source) (S.asked self.new.source) }
@@ -254,7 +267,7 @@ impl<S: EventSource<A>, A: Allocator + Clone> InternalEventReader<S, A> {
         filter: &F,
     ) -> io::Result<Option<InternalEvent<A>>>
         ensures step { (zs : List SourceAnswer) × (r : Replied) × S.drawn self.old.source zs self.new.source
-            × ReadStep tries (F.admits filter.now) zs self.old.store self.new.store r × (try_said result ≡ shown r)
+            × ReadStep (UpTo tries) (F.admits filter.now) zs self.old.store self.new.store r × (try_said result ≡ shown r)
             × IfErr result (λ e. RefusedOnlyWithoutRoom self.old.room zs (error_kind e)) }
         // The source is asked with limit zero alone, and so at once.
         ensures at_once { AsksAtOnce (S.asked self.old.source) (S.asked self.new.source) }
@@ -276,7 +289,7 @@ impl<S: EventSource<A>, A: Allocator + Clone> InternalEventReader<S, A> {
         filter: &F,
     ) -> io::Result<Option<(InternalEvent<A>, u64)>>
         ensures step { (zs : List SourceAnswer) × S.drawn self.old.source zs self.new.source
-            × ReadStep tries (F.admits filter.now) zs self.old.store self.new.store (try_reply result)
+            × ReadStep (UpTo tries) (F.admits filter.now) zs self.old.store self.new.store (try_reply result)
             × IfErr result (λ e. RefusedOnlyWithoutRoom self.old.room zs (error_kind e)) }
         ensures at_once { AsksAtOnce (S.asked self.old.source) (S.asked self.new.source) }
         ensures admitted { IfOk result (λ taken. IfSome taken (λ x. F.admits filter.now (seen x.0) ≡ true)) }

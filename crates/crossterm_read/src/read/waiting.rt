@@ -4,13 +4,12 @@ ghost use Rattle.std.specs.Duration.{as_nanos};
 ghost use Rattle.std.specs.IoError.{error_kind};
 ghost use Rattle.crossterm_types.specs.Seen.{seen};
 ghost use Rattle.crossterm_read.specs.Answers.{SourceAnswer, IsOwn};
-ghost use Rattle.crossterm_read.specs.Device.{AsksEach};
 ghost use Rattle.crossterm_read.specs.Replies.{Replied, poll_reply, read_said, shown};
 ghost use Rattle.crossterm_read.specs.inside.Replies.{read_reply};
 ghost use Rattle.crossterm_read.specs.Store.{capacity};
-ghost use Rattle.crossterm_read.specs.Steps.{ReadStep, RefusedOnlyWithoutRoom};
-ghost use Rattle.crossterm_read.specs.inside.Asking.{BreaksWhere, DrawsOne, IsRefused, MeetsNoFault, end_of, AskedInTime, AsksInTime};
-ghost use Rattle.crossterm_read.specs.Waiting.{AsksForever, AsksWithin, TimedPoll, WasLeft};
+ghost use Rattle.crossterm_read.specs.Steps.{Within, PollStep, ReadStep, RefusedOnlyWithoutRoom};
+ghost use Rattle.crossterm_read.specs.inside.Asking.{BreaksWhere, DrawsOne, IsRefused, MeetsNoFault, end_of, Asked, AsksInTime};
+ghost use Rattle.crossterm_read.specs.Waiting.{AsksForever, AsksLeft, AsksWithin};
 ghost use Rattle.crossterm_read.specs.declared.read.reader.AtWake.TheVariants.{Stops};
 
 use crate::read::InternalEventReader;
@@ -73,8 +72,8 @@ impl<S: EventSource<A>, A: Allocator + Clone> InternalEventReader<S, A> {
     ) -> io::Result<bool>
         requires { as_nanos timeout.start ≤ C.told clock.old }
         ensures later { C.told clock.old ≤ C.told clock.new }
-        ensures asked { AskedInTime S.drawn at_wake (F.admits filter.now) timeout.limit (as_nanos timeout.start) (C.told clock.new) self.old self.new (end_of result) }
-        ensures limits { AsksEach (WasLeft timeout (C.told clock.new)) (S.asked self.old.source) (S.asked self.new.source) }
+        ensures asked { Asked S.drawn at_wake (F.admits filter.now) (Within timeout.limit (C.told clock.new - as_nanos timeout.start)) self.old self.new (end_of result) }
+        ensures limits { AsksLeft timeout (C.told clock.new) (S.asked self.old.source) (S.asked self.new.source) }
         ensures room { capacity self.old ≤ capacity self.new }
         ensures rise { S.failed self.old.source ≤ S.failed self.new.source }
         ensures steady { at_wake ≡ Stops → OnOk result (S.failed self.new.source ≡ S.failed self.old.source) }
@@ -114,7 +113,9 @@ impl<S: EventSource<A>, A: Allocator + Clone> InternalEventReader<S, A> {
         clock: &mut C,
         filter: &F,
     ) -> io::Result<bool>
-        ensures step { TimedPoll S.drawn (F.admits filter.now) limit (C.told clock.old) (C.told clock.new) self.old self.new (poll_reply result) }
+        ensures step { (zs : List SourceAnswer) × S.drawn self.old.source zs self.new.source
+            × PollStep (Within limit (C.told clock.new - C.told clock.old)) (F.admits filter.now) zs self.old.store self.new.store (poll_reply result)
+            × IfErr result (λ e. RefusedOnlyWithoutRoom self.old.room zs (error_kind e)) }
         // The device is asked with what is left of the limit alone.
         ensures asked { AsksWithin limit (C.told clock.old) (C.told clock.new) (S.asked self.old.source) (S.asked self.new.source) }
         // The clock doesn't go back.
@@ -139,8 +140,10 @@ impl<S: EventSource<A>, A: Allocator + Clone> InternalEventReader<S, A> {
         filter: &F,
     ) -> io::Result<bool>
         requires { as_nanos timeout.start ≤ C.told clock.old }
-        ensures step { TimedPoll S.drawn (F.admits filter.now) timeout.limit (as_nanos timeout.start) (C.told clock.new) self.old self.new (poll_reply result) }
-        ensures limits { AsksEach (WasLeft timeout (C.told clock.new)) (S.asked self.old.source) (S.asked self.new.source) }
+        ensures step { (zs : List SourceAnswer) × S.drawn self.old.source zs self.new.source
+            × PollStep (Within timeout.limit (C.told clock.new - as_nanos timeout.start)) (F.admits filter.now) zs self.old.store self.new.store (poll_reply result)
+            × IfErr result (λ e. RefusedOnlyWithoutRoom self.old.room zs (error_kind e)) }
+        ensures limits { AsksLeft timeout (C.told clock.new) (S.asked self.old.source) (S.asked self.new.source) }
         ensures later { C.told clock.old ≤ C.told clock.new }
         ensures room { capacity self.old ≤ capacity self.new }
         ensures rise { S.failed self.old.source ≤ S.failed self.new.source }
@@ -162,8 +165,8 @@ impl<S: EventSource<A>, A: Allocator + Clone> InternalEventReader<S, A> {
     ///
     /// It goes on after a wake-up. Every other fault is answered.
     pub fn read<F: Filter, R: Wait>(&mut self, rt: &R, filter: &F) -> io::Result<InternalEvent<A>>
-        ensures step { (tries : ℕ) × (zs : List SourceAnswer) × (r : Replied) × S.drawn self.old.source zs self.new.source
-            × ReadStep tries (F.admits filter.now) zs self.old.store self.new.store r × (read_said result ≡ shown r)
+        ensures step { (past : ℕ) × (zs : List SourceAnswer) × (r : Replied) × S.drawn self.old.source zs self.new.source
+            × ReadStep (Within None past) (F.admits filter.now) zs self.old.store self.new.store r × (read_said result ≡ shown r)
             × IfErr result (λ e. RefusedOnlyWithoutRoom self.old.room zs (error_kind e)) }
         // The device is asked without a limit.
         ensures asked { AsksForever (S.asked self.old.source) (S.asked self.new.source) }
@@ -184,8 +187,8 @@ impl<S: EventSource<A>, A: Allocator + Clone> InternalEventReader<S, A> {
         rt: &R,
         filter: &F,
     ) -> io::Result<(InternalEvent<A>, u64)>
-        ensures step { (tries : ℕ) × (zs : List SourceAnswer) × S.drawn self.old.source zs self.new.source
-            × ReadStep tries (F.admits filter.now) zs self.old.store self.new.store (read_reply result)
+        ensures step { (past : ℕ) × (zs : List SourceAnswer) × S.drawn self.old.source zs self.new.source
+            × ReadStep (Within None past) (F.admits filter.now) zs self.old.store self.new.store (read_reply result)
             × IfErr result (λ e. RefusedOnlyWithoutRoom self.old.room zs (error_kind e)) }
         ensures asked { AsksForever (S.asked self.old.source) (S.asked self.new.source) }
         ensures admitted { IfOk result (λ x. F.admits filter.now (seen x.0) ≡ true) }

@@ -1,6 +1,7 @@
 //! Where bytes come from.
-ghost use Rattle.std.specs.Prelude.{◌≡◌, ◌≤◌, ◌<◌, ℕ, List, [], ◌∷◌, ◌++◌, length, Option, IfOk, IfErr, OnOk, OnErr, ⊤};
+ghost use Rattle.std.specs.Prelude.{◌≡◌, ◌≤◌, ◌+◌, ℕ, List, [], ◌∷◌, ◌++◌, length, Option, IfOk, IfErr, OnOk, OnErr, ⊤};
 ghost use Rattle.std.specs.IoError.{error_kind};
+ghost use Rattle.std.specs.declared.io.ErrorKind.{ErrorKind};
 ghost use Rattle.std.specs.declared.io.ErrorKind.TheVariants.{OutOfMemory};
 ghost use Rattle.std.specs.declared.time.Duration.{Duration};
 ghost use Rattle.crossterm_read.specs.Device.{Answering, anything, device_answer, CountWithin, AsksWith};
@@ -62,6 +63,9 @@ pub trait Device: Drop {
     /// How often the device failed: never, if it doesn't say more.
     ghost failed: { Self → ℕ } = { λ _. 0 };
 
+    /// The kinds of its errors: any, if it doesn't say more.
+    ghost fails: { ErrorKind → Type 0 } = { λ _. ⊤ };
+
     /// The limits that the device was asked with, in order: none, if it doesn't say more.
     ghost asked: { Self → List (Option Duration) } = { λ _. [] };
 
@@ -71,7 +75,7 @@ pub trait Device: Drop {
     /// Answers once, after the limit at the latest where there is one. Bytes are put into `buf`, which holds 1024.
     ///
     /// # Errors
-    /// The device's own, and then `failed` has risen.
+    /// The device's own, and then `failed` has risen by one.
     fn answer(&mut self, buf: &mut [u8], limit: Option<Duration>) -> io::Result<Answer>
         requires { length buf.now ≡ 1024 }
         // What it answers is told.
@@ -79,10 +83,11 @@ pub trait Device: Drop {
         ensures count { IfOk result (λ a. CountWithin a (length buf.new)) }
         // It was asked with this limit, and with no other.
         ensures asked { AsksWith limit (asked self.old) (asked self.new) }
-        // Its failures rise where it answers an error, and there alone.
+        // Its failures rise by one where it answers an error, and there alone.
         ensures rise { failed self.old ≤ failed self.new }
         ensures ok { OnOk result (failed self.new ≡ failed self.old) }
-        ensures err { OnErr result (failed self.old < failed self.new) };
+        ensures err { OnErr result (failed self.new ≡ failed self.old + 1) }
+        ensures fault { IfErr result (λ e. fails (error_kind e)) };
 
     /// How often the device failed.
     fn failures(&self) -> u64

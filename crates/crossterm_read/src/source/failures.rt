@@ -1,7 +1,7 @@
 //! Errors of the system, and which of them count.
 ghost use Rattle.std.specs.Prelude.{◌≡◌, ◌+◌, ◌⊎◌, IfOk, IfErr};
 ghost use Rattle.std.specs.IoError.{error_kind};
-ghost use Rattle.crossterm_read.specs.Reading.{IsNothingYet, greatest};
+ghost use Rattle.crossterm_read.specs.Reading.{IsFault, IsNothingYet, greatest};
 ghost use Rattle.crossterm_read.specs.declared.source.device.Answer.TheVariants.{Idle};
 
 use crate::source::Answer;
@@ -13,7 +13,7 @@ pub(crate) fn answer_at(failures: &mut u64, error: io::Error) -> io::Result<Answ
     ensures ok { IfOk result (λ a. (a ≡ Idle) × (failures.new ≡ failures.old)) }
     ensures passed { IfOk result (λ _. IsNothingYet (error_kind error) ⊎ (failures.old ≡ greatest)) }
     ensures counted { IfErr result (λ e. (e ≡ error) × (failures.new ≡ failures.old + 1)) }
-    ensures met { IfErr result (λ _. IsNothingYet (error_kind error) → ⊥) }
+    ensures met { IfErr result (λ e. IsFault (error_kind e)) }
 {
     match error.kind() {
         ErrorKind::WouldBlock | ErrorKind::Interrupted => Ok(Answer::Idle),

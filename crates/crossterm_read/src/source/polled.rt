@@ -1,7 +1,7 @@
 //! A device over a descriptor that the system can watch.
 ghost use Rattle.std.specs.Prelude.{◌≡◌, List, [], ◌∷◌, length, IfOk};
 ghost use Rattle.crossterm_read.specs.Device.{CountWithin, device_answer};
-ghost use Rattle.crossterm_read.specs.Reading.{ReadingAnswers, reading_answering};
+ghost use Rattle.crossterm_read.specs.Reading.{IsFault, ReadingAnswers, reading_answering};
 ghost use Rattle.crossterm_read.specs.Waking.{WakesAs};
 ghost use Rattle.crossterm_read.specs.declared.source.waker.Kind.TheVariants.{Mio};
 
@@ -145,6 +145,9 @@ impl<R: Read + AsRawFd + Drop, A: Allocator + Clone> Device for PolledDevice<R, 
     ghost answering = { reading_answering (λ s. R.remaining s.input) };
 
     ghost failed = { λ s. s.failures };
+
+    // What says that nothing came yet is no error.
+    ghost fails = { IsFault };
 
     ghost wakes = { λ s. WakesAs (record { kind = Mio s.watch.waker }) };
 

@@ -1,7 +1,7 @@
 //! A device over a reader.
 ghost use Rattle.std.specs.Prelude.{◌≡◌, List, [], ◌∷◌, length, IfOk, IsOkAnd};
 ghost use Rattle.crossterm_read.specs.Device.{CountWithin, device_answer};
-ghost use Rattle.crossterm_read.specs.Reading.{ReadingAnswers, reading_answering};
+ghost use Rattle.crossterm_read.specs.Reading.{IsFault, ReadingAnswers, reading_answering};
 ghost use Rattle.crossterm_read.specs.Waking.{IsSure};
 
 use crate::source::failures::answer_at;
@@ -56,6 +56,9 @@ impl<R: Read + Drop, A: Allocator + Clone> Device for ReadDevice<R, A> {
     ghost answering = { reading_answering (λ s. R.remaining s.input) };
 
     ghost failed = { λ s. s.failures };
+
+    // What says that nothing came yet is no error.
+    ghost fails = { IsFault };
 
     ghost wakes = { λ _. IsSure };
 

@@ -40,6 +40,8 @@ impl<A: Allocator + Clone> Device for SocketDevice<A> {
 
     ghost failed = { λ s. ⟦<PolledDevice<TcpStream, A> as Device>⟧.failed s.polled };
 
+    ghost fails = { ⟦<PolledDevice<TcpStream, A> as Device>⟧.fails };
+
     ghost wakes = { λ s. ⟦<PolledDevice<TcpStream, A> as Device>⟧.wakes s.polled };
 
     fn answer(&mut self, buf: &mut [u8], limit: Option<Duration>) -> io::Result<Answer> {

@@ -1,9 +1,10 @@
 //! JSON values of colours.
-ghost use Rattle.std.specs.Prelude.{◌≡◌, ◌<◌, IfOk, Some, length, string_bytes};
+ghost use Rattle.std.specs.Prelude.{◌≡◌, ◌<◌, ◌||◌, IfOk, Some, codes, length, string_bytes};
+ghost use Rattle.serde_json.specs.Find.{as_str};
 ghost use Rattle.serde_json.specs.Data.{string};
 ghost use Rattle.serde_json.specs.View.{view};
-ghost use Rattle.crossterm_flags.specs.Values.{Tells};
-ghost use Rattle.crossterm_style.specs.Values.{FitsColor, FitsPlace, ReadsOrRefused, color_text, colored_value, place_of_color, read_color, reads_color, reads_colored, unmarked, unnamed};
+ghost use Rattle.crossterm_flags.specs.Values.{Tells, reads_member};
+ghost use Rattle.crossterm_style.specs.Values.{FitsColor, FitsPlace, ReadsOrRefused, color_text, colored_value, copies, copies_member, copies_some, holds, place_of_color, read_color, reads_color, reads_colored, unmarked, unnamed};
 
 use crate::types::{color_named, name_of};
 use crate::value::marks::{byte, hex, holds, rgb, without};
@@ -49,7 +50,7 @@ impl Color {
     /// # Errors
     /// `Shape` where the JSON tells no colour, and `Memory` where memory for a copy of the text was refused.
     pub fn from_value<A: Allocator + Copy>(alloc: A, value: &Value) -> Result<Color, ValueFault>
-        ensures { ReadsOrRefused (reads_color (view value.now)) result }
+        ensures { ReadsOrRefused (copies_some (as_str (view value.now))) (reads_color (view value.now)) result }
     {
         match value.as_str() {
             Some(text) => Color::read(alloc, text),
@@ -59,7 +60,7 @@ impl Color {
 
     /// The colour that a text tells.
     fn read<A: Allocator + Copy>(alloc: A, text: &str) -> Result<Color, ValueFault>
-        ensures { ReadsOrRefused (read_color text.now) result }
+        ensures { ReadsOrRefused (copies text.now) (read_color text.now) result }
     {
         match color_named(text) {
             Some(color) => Ok(color),
@@ -69,7 +70,7 @@ impl Color {
 
     /// The colour that a text tells which is no name.
     fn unnamed<A: Allocator + Copy>(alloc: A, text: &str) -> Result<Color, ValueFault>
-        ensures { ReadsOrRefused (unnamed text.now) result }
+        ensures { ReadsOrRefused (holds (codes "ansi") text.now || holds (codes "rgb") text.now) (unnamed text.now) result }
     {
         if holds(text, "ansi") {
             return match unmarked(alloc, text, "ansi_(") {
@@ -137,7 +138,7 @@ impl Colored {
     /// # Errors
     /// `Shape` where the JSON is no such object, and `Memory` where memory for a copy of the colour's text was refused.
     pub fn from_value<A: Allocator + Copy>(alloc: A, value: &Value) -> Result<Colored, ValueFault>
-        ensures { ReadsOrRefused (reads_colored (view value.now)) result }
+        ensures { ReadsOrRefused (copies_member (reads_member (view value.now))) (reads_colored (view value.now)) result }
     {
         match read_member(value) {
             Some((place, held)) => Colored::at(alloc, place, held),
@@ -147,7 +148,7 @@ impl Colored {
 
     /// The colour at a place of this name.
     fn at<A: Allocator + Copy>(alloc: A, place: &str, held: &Value) -> Result<Colored, ValueFault>
-        ensures { ReadsOrRefused (place_of_color (place.now, view held.now)) result }
+        ensures { ReadsOrRefused (copies_some (as_str (view held.now))) (place_of_color (place.now, view held.now)) result }
     {
         match place {
             "ForegroundColor" => Color::from_value(alloc, held).map(Colored::ForegroundColor),

@@ -2,7 +2,7 @@
 
 use crate::fault::Wrong;
 use crate::input::{number, text};
-use crate::say::names::is_named;
+use crate::names::is_named;
 use crossterm::AnyCommand;
 use crossterm::style::{
     Attribute, Attributes, Color, Colors, ContentStyle, PrintStyledContent, SetAttribute,

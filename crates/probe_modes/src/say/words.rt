@@ -2,8 +2,8 @@
 
 use crate::fault::Wrong;
 use crate::input::{content_bytes, number, text};
+use crate::names::by_name;
 use crate::say::looks::styling;
-use crate::say::names::by_name;
 use crossterm::AnyCommand;
 use crossterm::clipboard::{ClipboardSelection, CopyToClipboard};
 use crossterm::cursor::{
@@ -120,7 +120,11 @@ fn pushed<A: Allocator>(bits: Option<u8>) -> Result<AnyCommand<A>, Wrong> {
 /// A copy of any bytes to places by their letters.
 fn copied<A: Allocator + Clone>(alloc: &A, argument: &str) -> Result<AnyCommand<A>, Wrong> {
     let (letters, content) = argument.split_once(' ').ok_or(Wrong::Argument)?;
-    let letters = if letters == "-" { "" } else { letters };
+    let letters = match letters {
+        "-" => "",
+        "" => return Err(Wrong::Argument),
+        letters => letters,
+    };
     let content = content_bytes(alloc.clone()?, content)?;
     match ClipboardSelection::from_str(alloc.clone()?, letters) {
         Ok(destination) => Ok(AnyCommand::CopyToClipboard(CopyToClipboard {

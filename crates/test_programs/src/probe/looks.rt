@@ -115,9 +115,11 @@ SetStyle red blue - -> probe: line 1: bad argument
 SetStyle - - - - - -> probe: line 1: bad argument
 PrintStyledContent - - - - ff -> probe: line 1: bad argument
 CopyToClipboard pc -> probe: line 1: bad argument
+CopyToClipboard  61 -> probe: line 1: bad argument
+CopyToClipboard  - -> probe: line 1: bad argument
 CopyToClipboard pc 6 -> probe: line 1: bad argument
 ResetColor 1 -> probe: line 1: bad argument
 SetColor red -> probe: line 1: unknown word";
 
 /// How many there are.
-pub const CASES: usize = 116;
+pub const CASES: usize = 118;

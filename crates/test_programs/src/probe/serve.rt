@@ -4,10 +4,12 @@ use super::spelling::spelled;
 use super::{Mode, SCRIPTS, answer};
 use crate::expect;
 use crate::failing::Failing;
+use mio::net::TcpListener;
 use probe_modes::fault::Fault;
-use probe_modes::serve::run_serve;
+use probe_modes::serve::{accepted_from, run_serve};
 use std::alloc::{AllocError, Global};
-use std::net::Net;
+use std::io::{self, ErrorKind};
+use std::net::{self, Ipv4Addr, Net, OpenStream, SocketAddr};
 use std::sync::Wait;
 use std::thread::Threads;
 
@@ -119,4 +121,43 @@ fn faults_of_serve_are_named(rt: HostRuntime) {
         matches!(write, Err(Fault::WriteFailed)),
         "a writer that fails",
     );
+}
+
+/// What comes of our connection where so many others came before it: the error's kind, or none.
+fn comes_after<N: Net>(rt: &N, alloc: Global, count: usize) -> io::Result<Option<ErrorKind>> {
+    let any = SocketAddr::from((Ipv4Addr::LOCALHOST, 0));
+    let listener = net::TcpListener::from(TcpListener::bind(rt, any)?);
+    listener.set_nonblocking(false)?;
+    let mut strangers = Vec::new(alloc);
+    for _ in 0..count {
+        strangers.push(net::TcpStream::connect(rt, listener.local_addr()?)?)?;
+    }
+    let near = net::TcpStream::connect(rt, listener.local_addr()?)?;
+    let address = near.local_addr()?;
+    match accepted_from(&listener, address) {
+        Ok(far) if far.peer_addr()? == address => Ok(None),
+        Ok(_) => Ok(Some(ErrorKind::InvalidData)),
+        Err(error) => Ok(Some(error.kind())),
+    }
+}
+
+#[test]
+fn connections_of_others_are_let_go(rt: HostRuntime) -> io::Result<()> {
+    expect(
+        &rt,
+        comes_after(&rt, rt.alloc(), 0)?.is_none(),
+        "none before",
+    );
+    expect(
+        &rt,
+        comes_after(&rt, rt.alloc(), 3)?.is_none(),
+        "three before",
+    );
+    let refused = Some(ErrorKind::ConnectionRefused);
+    expect(
+        &rt,
+        comes_after(&rt, rt.alloc(), 64)? == refused,
+        "too many before",
+    );
+    Ok(())
 }

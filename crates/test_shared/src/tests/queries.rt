@@ -1,15 +1,16 @@
 //! Queries through a shared reader.
 
 use crossterm_flags::KeyboardEnhancementFlags;
-use crossterm_read::source::{Act, DeviceSource, Script};
+use crossterm_read::source::{Act, Answer, Device, DeviceSource, EventSource, Script, Waker};
 use crossterm_types::event::timeout::Clock;
 use std::alloc::{AllocError, Global};
 use std::io;
 use std::io::ErrorKind;
 use std::sync::Wait;
+use std::sync::atomic::{AtomicU32, Ordering};
 use std::time::Duration;
 use test_expect::expect;
-use test_support::{Reader, Seat, Still, Ticking, alone, script_of, text};
+use test_support::{Reader, Seat, Still, Ticking, alone, reader_of, script_of, text};
 
 type Source = DeviceSource<Script>;
 
@@ -55,9 +56,9 @@ fn a_place_is_taken_past_a_held_letter(rt: HostRuntime) -> io::Result<()> {
 }
 
 /// The flags, by this clock.
-fn flags<R: Wait, C: Clock>(
+fn flags<S: EventSource<Global>, R: Wait, C: Clock>(
     rt: &R,
-    seat: &mut Seat<Source>,
+    seat: &mut Seat<S>,
     clock: &mut C,
 ) -> io::Result<Option<KeyboardEnhancementFlags>> {
     let limit = Duration::from_millis(LIMIT);
@@ -143,5 +144,63 @@ fn needs_no_attributes<R: Wait>(rt: &R, alloc: Global) -> io::Result<bool> {
 fn limits_end_queries(rt: HostRuntime) -> io::Result<()> {
     expect!(rt; ends_in_time(&rt, rt.alloc())?);
     expect!(rt; needs_no_attributes(&rt, rt.alloc())?);
+    Ok(())
+}
+
+/// With how many milliseconds a query for the flags asks each time, and what it is told then: the clock goes on by one each time that it is looked at, and
+/// the wait for the attributes is as long again.
+static QUESTIONS: [(u64, &[u8]); 4] = [(49, b""), (47, b"\x1b[?1u"), (49, b""), (47, b"\x1b[?62c")];
+
+/// A device that counts the questions that have the limits of these. It is idle where nothing is told.
+#[derive(Drop)]
+struct Asked<'a> {
+    turn: usize,
+    right: &'a AtomicU32,
+}
+
+impl Device for Asked<'_> {
+    fn answer(&mut self, buf: &mut [u8], limit: Option<Duration>) -> io::Result<Answer> {
+        let Some((millis, bytes)) = QUESTIONS.get(self.turn) else {
+            return Ok(Answer::Bytes {
+                count: 0,
+                raw: false,
+            });
+        };
+        self.turn += 1;
+        if matches!(limit, Some(limit) if limit == Duration::from_millis(*millis)) {
+            self.right.fetch_add(1, Ordering::SeqCst);
+        }
+        if bytes.is_empty() {
+            return Ok(Answer::Idle);
+        }
+        let count = bytes.len().min(buf.len());
+        buf[..count].copy_from_slice(&bytes[..count]);
+        Ok(Answer::Bytes { count, raw: false })
+    }
+
+    fn failures(&self) -> u64 {
+        0
+    }
+
+    fn waker(&self) -> io::Result<Waker> {
+        Ok(Waker::none())
+    }
+}
+
+/// Whether each wait of a query for the flags asks with what is left of its own limit.
+fn asks_twice_as_long<R: Wait>(rt: &R, alloc: Global) -> io::Result<bool> {
+    let right = AtomicU32::new(0);
+    let device = Asked {
+        turn: 0,
+        right: &right,
+    };
+    let mut seat = alone(rt, alloc, reader_of(alloc, device))?;
+    let told = is_first(flags(rt, &mut seat, &mut Ticking::new())) && seat.pass.last() == Some(1);
+    Ok(told && right.load(Ordering::SeqCst) == 4)
+}
+
+#[test]
+fn attributes_are_awaited_as_long_again(rt: HostRuntime) -> io::Result<()> {
+    expect!(rt; asks_twice_as_long(&rt, rt.alloc())?);
     Ok(())
 }

@@ -1,14 +1,18 @@
 //! The cursor's place, as a Unix terminal replies it.
-ghost use Rattle.std.specs.Prelude.{◌≡◌, ◌≤◌, List};
+ghost use Rattle.std.specs.Prelude.{◌≡◌, ◌⊎◌, ◌≤◌, ◌<◌, List, IfErr, IsTrue, is_some};
+ghost use Rattle.std.specs.IoError.{error_kind};
+ghost use Rattle.std.specs.declared.io.ErrorKind.TheVariants.{Other};
 ghost use Rattle.crossterm.specs.Asking.{InRawMode, InTwoSeconds, Queries, position_query};
 ghost use Rattle.crossterm_types.specs.Admitting.{is_cursor_position};
-ghost use Rattle.crossterm_read.specs.Answers.{SourceAnswer};
+ghost use Rattle.crossterm_read.specs.Answers.{IsOwn, SourceAnswer};
 ghost use Rattle.crossterm_read.specs.Device.{AsksAtOnce};
 ghost use Rattle.crossterm_read.specs.Entries.{AsksPosition};
 ghost use Rattle.crossterm_read.specs.Queries.{QueryStep};
 ghost use Rattle.crossterm_read.specs.Replies.{Replied, position_said, shown};
 ghost use Rattle.crossterm_read.specs.Seats.{knows};
 ghost use Rattle.crossterm_read.specs.Shared.{IsPassOf};
+ghost use Rattle.crossterm_read.specs.Steps.{RefusedOnlyWithoutRoom, UpTo};
+ghost use Rattle.crossterm_read.specs.Store.{capacity};
 
 use crate::csi;
 use crate::terminal::sys::unix::{ModeDevice, QUERY_MILLIS, Terminal, send_query};
@@ -31,9 +35,12 @@ pub fn position_within<S: EventSource<A>, A: Allocator + Clone>(
     tries: u32,
 ) -> io::Result<(u16, u16)>
     ensures step { (zs : List SourceAnswer) × (r : Replied) × S.drawn reader.old.source zs reader.new.source
-        × QueryStep is_cursor_position tries zs reader.old.store reader.new.store r × (position_said result ≡ shown r) }
+        × QueryStep is_cursor_position (UpTo tries) zs reader.old.store reader.new.store r × (position_said result ≡ shown r)
+        × IfErr result (λ e. RefusedOnlyWithoutRoom reader.old.room zs (error_kind e)) }
     ensures at_once { AsksAtOnce (S.asked reader.old.source) (S.asked reader.new.source) }
+    ensures room { capacity reader.old ≤ capacity reader.new }
     ensures rise { S.failed reader.old.source ≤ S.failed reader.new.source }
+    ensures err { IfErr result (λ e. (error_kind e ≡ Other) ⊎ IsOwn (error_kind e) ⊎ (S.failed reader.old.source < S.failed reader.new.source)) }
 {
     reader.position_within(tries)
 }
@@ -68,28 +75,43 @@ pub fn position<
 ) -> io::Result<(u16, u16)>
     requires { IsPassOf reader.now pass.old }
     ensures pass { IsPassOf reader.now pass.new }
-    ensures query { InRawMode D.stands D.failed term.old term.new ((W.contents out.new ≡ W.contents out.old) × (knows pass.new ≡ knows pass.old))
+    ensures query { InRawMode D.stands D.answered D.failed term.old term.new ((W.contents out.new ≡ W.contents out.old) × (knows pass.new ≡ knows pass.old))
         (Queries (W.contents out.old) (W.contents out.new) position_query (knows pass.new ≡ knows pass.old) (λ r. InTwoSeconds (λ limit. AsksPosition S.drawn S.asked limit (C.told clock.old) (C.told clock.new) (knows pass.old) (knows pass.new) r))) result }
     ensures later { C.told clock.old ≤ C.told clock.new }
 {
     if term.is_raw_mode_enabled()? {
-        return position_raw(rt, reader, pass, out, clock);
+        return position_raw(rt, term, reader, pass, out, clock);
     }
-    term.enable_raw_mode()?;
-    let place = position_raw(rt, reader, pass, out, clock);
-    term.disable_raw_mode()?;
-    place
+    match term.enable_raw_mode() {
+        Ok(()) => {}
+        Err(error) => return Err(error),
+    }
+    let place = position_raw(rt, term, reader, pass, out, clock);
+    match term.disable_raw_mode() {
+        Ok(()) => place,
+        Err(error) => Err(error),
+    }
 }
 
-// The cursor's place, where the terminal is in raw mode.
-fn position_raw<S: EventSource<A>, A: Allocator + Clone, W: io::Write, C: Clock, R: Wait>(
+// The cursor's place. The terminal is in raw mode then.
+fn position_raw<
+    S: EventSource<A>,
+    A: Allocator + Clone,
+    D: ModeDevice,
+    B: Allocator + Clone,
+    W: io::Write,
+    C: Clock,
+    R: Wait,
+>(
     rt: &R,
+    _term: &Terminal<D, B>,
     reader: &EventReader<S, A>,
     pass: &mut Pass<S, A>,
     out: &mut W,
     clock: &mut C,
 ) -> io::Result<(u16, u16)>
-    requires { IsPassOf reader.now pass.old }
+    requires raw { IsTrue (is_some _term.now.prior) }
+    requires pass { IsPassOf reader.now pass.old }
     ensures pass { IsPassOf reader.now pass.new }
     ensures query { Queries (W.contents out.old) (W.contents out.new) position_query (knows pass.new ≡ knows pass.old) (λ r. InTwoSeconds (λ limit. AsksPosition S.drawn S.asked limit (C.told clock.old) (C.told clock.new) (knows pass.old) (knows pass.new) r)) result }
     ensures later { C.told clock.old ≤ C.told clock.new }

@@ -11,9 +11,11 @@
 //! | `size` | two lines: the rows, the columns |
 //!
 //! `failed` in the place of a mode is a refusal, and so is 0 as the number of rows or columns.
-ghost use Rattle.std.specs.Prelude.{◌≡◌, ◌++◌, ℕ, List, Some, codes, IfOk, OnOk};
+ghost use Rattle.std.specs.Prelude.{◌≡◌, ◌++◌, ℕ, List, Some, codes, IfOk, OnOk, OnErr};
 ghost use Rattle.std.specs.Io.KnownBytes.{Appends, Consumes};
-ghost use Rattle.crossterm.specs.Stty.{Asks, AsksSize, Stty, line};
+ghost use Rattle.crossterm_command.specs.Writing.{AppendsFront};
+ghost use Rattle.crossterm.specs.Modes.{Sets};
+ghost use Rattle.crossterm.specs.Stty.{AsksSize, IsMode, Stty, line, stty_answered};
 
 use crate::terminal::size::{WindowSize, tput_size};
 use crate::terminal::sys::unix::{ModeDevice, send_query};
@@ -67,7 +69,7 @@ fn read_line<R: Read>(answers: &mut R) -> io::Result<ArrayString<LONGEST>>
 
 // Reads a mode.
 fn read_mode<R: Read>(answers: &mut R) -> io::Result<SttyMode>
-    ensures { IfOk result (λ mode. Consumes (R.remaining answers.old) (R.remaining answers.new) (line mode.text.bytes)) }
+    ensures { IfOk result (λ mode. Consumes (R.remaining answers.old) (R.remaining answers.new) (line mode.text.bytes) × IsMode mode.text.bytes) }
 {
     let text = read_line(answers)?;
     match text.as_str() {
@@ -84,7 +86,7 @@ impl<R: Read + Drop, W: Write + Drop> SttyDevice<R, W> {
     /// line; `Other` where it refuses.
     pub fn new(mut answers: R, mut requests: W) -> io::Result<Self>
         ensures { IfOk result (λ s. Appends (W.contents requests) (W.contents s.requests) (line (codes "mode"))
-            × Consumes (R.remaining answers) (R.remaining s.answers) (line s.mode.text.bytes) × (s.failures ≡ 0)) }
+            × Consumes (R.remaining answers) (R.remaining s.answers) (line s.mode.text.bytes) × IsMode s.mode.text.bytes × (s.failures ≡ 0)) }
     {
         send_query(&mut requests, "mode\n")?;
         let mode = read_mode(&mut answers)?;
@@ -98,7 +100,9 @@ impl<R: Read + Drop, W: Write + Drop> SttyDevice<R, W> {
 
     // Asks by a line, and keeps the mode that is told for it.
     fn ask_mode(&mut self, request: &str) -> io::Result<()>
-        ensures ok { OnOk result (Appends (W.contents self.old.requests) (W.contents self.new.requests) request.now × Consumes (R.remaining self.old.answers) (R.remaining self.new.answers) (line self.new.mode.text.bytes)) }
+        ensures ok { OnOk result (Appends (W.contents self.old.requests) (W.contents self.new.requests) request.now
+            × Consumes (R.remaining self.old.answers) (R.remaining self.new.answers) (line self.new.mode.text.bytes) × IsMode self.new.mode.text.bytes) }
+        ensures err { OnErr result (AppendsFront (W.contents self.old.requests) (W.contents self.new.requests) request.now × (self.new.mode ≡ self.old.mode)) }
         ensures failures { self.new.failures ≡ self.old.failures }
     {
         send_query(&mut self.requests, request)?;
@@ -108,7 +112,7 @@ impl<R: Read + Drop, W: Write + Drop> SttyDevice<R, W> {
 
     // Sets a mode, and asks whether it stands.
     fn try_set_mode(&mut self, mode: &SttyMode) -> io::Result<()>
-        ensures ok { OnOk result (Asks R.remaining W.contents (codes "set " ++ mode.now.text.bytes) (line mode.now.text.bytes) self.old self.new × (self.new.mode ≡ mode.now)) }
+        ensures asked { stty_answered R.remaining W.contents self.old (Sets mode.now result) self.new }
         ensures failures { self.new.failures ≡ self.old.failures }
     {
         let mut request = ArrayString::<260>::new();
@@ -125,7 +129,8 @@ impl<R: Read + Drop, W: Write + Drop> SttyDevice<R, W> {
 
     // Asks for the window's size.
     fn try_window_size(&mut self) -> io::Result<WindowSize>
-        ensures ok { IfOk result (λ size. AsksSize R.remaining W.contents self.old (Some size) self.new) }
+        ensures ok { IfOk result (λ size. AsksSize R.remaining W.contents self.old size self.new) }
+        ensures front { AppendsFront (W.contents self.old.requests) (W.contents self.new.requests) (line (codes "size")) }
         ensures mode { self.new.mode ≡ self.old.mode }
         ensures failures { self.new.failures ≡ self.old.failures }
     {
@@ -149,7 +154,7 @@ impl<R: Read + Drop, W: Write + Drop> ModeDevice for SttyDevice<R, W> {
 
     ghost stands = { λ s. s.mode };
 
-    ghost sized = { AsksSize R.remaining W.contents };
+    ghost answered = { stty_answered R.remaining W.contents };
 
     ghost failed = { λ s. s.failures };
 

@@ -1,14 +1,14 @@
 //! Modes of a Unix terminal: raw mode on and off, and the size of the window.
 ghost use Rattle.std.specs.Prelude.{◌≡◌, ◌⊎◌, ◌<◌, ◌≤◌, ◌^◌, ◌-◌, ℕ, Option, Some, None, is_some, IfOk, IfErr, OnOk, OnErr, IsOk, IsOkAnd, IsTrue, Result};
 ghost use Rattle.std.specs.Io.KnownBytes.{Appends};
-ghost use Rattle.std.specs.Result.{result_map_both, result_ok};
+ghost use Rattle.std.specs.Result.{result_map_both};
 ghost use Rattle.std.specs.declared.io.Error.{Error};
 ghost use Rattle.crossterm_command.specs.Writing.{AppendsFront};
 ghost use Rattle.crossterm_read.specs.Entries.{AsksKeyboard};
 ghost use Rattle.crossterm_read.specs.Seats.{knows};
 ghost use Rattle.crossterm_read.specs.Shared.{IsPassOf};
 ghost use Rattle.crossterm.specs.Asking.{InRawMode, InTwoSeconds, Queries, keyboard_query};
-ghost use Rattle.crossterm.specs.Modes.{Modes, Refuses, told_size};
+ghost use Rattle.crossterm.specs.Modes.{ModeCall, Modes, Refuses, SetsRaw, Sets, Sizes, SwitchesOff, SwitchesOn, Tells, any_call, told_size};
 ghost use Rattle.crossterm.specs.declared.terminal.size.WindowSize.{WindowSize};
 
 use crate::csi;
@@ -25,6 +25,9 @@ use std::sync::Wait;
 use std::time::Duration;
 
 /// Switches a terminal's modes, and tells its size: what stands in the place of termios.
+///
+/// One that never fails, and claims no more of its calls, says which mode stands, by `ghost stands = { λ device. device.mode };`, and writes
+/// the calls. One that may fail counts its failures, and says so by `ghost failed = { λ device. device.failures };`.
 pub trait ModeDevice: Drop {
     /// A mode, as it can be set again.
     type Mode: Drop;
@@ -32,32 +35,35 @@ pub trait ModeDevice: Drop {
     /// The mode that stands.
     ghost stands: { Self → Self.Mode };
 
-    /// From one state to another, its size was told, or wasn't.
-    ghost sized: { Self → Option WindowSize → Self → Type 0 };
+    /// From one state to another, it was called so and answered so: nothing, if it doesn't say more.
+    ghost answered: { Self → ModeCall Self.Mode → Self → Type 0 } = { any_call };
 
-    /// How often it failed.
-    ghost failed: { Self → ℕ };
+    /// How often it failed: never, if it doesn't say more.
+    ghost failed: { Self → ℕ } = { λ _. 0 };
 
     /// The mode that stands.
     fn mode(&mut self) -> io::Result<Self::Mode>
         ensures mode { IfOk result (λ mode. mode ≡ stands self.old) }
+        ensures asked { answered self.old (Tells result) self.new }
         ensures rise { failed self.old ≤ failed self.new }
         ensures err { OnErr result (Refuses (failed self.old) (failed self.new)) };
 
     /// Sets the raw mode that a mode becomes: no echo, no lines, no signals by keys.
     fn set_raw(&mut self, mode: &Self::Mode) -> io::Result<()>
+        ensures asked { answered self.old (SetsRaw mode.now result) self.new }
         ensures rise { failed self.old ≤ failed self.new }
         ensures err { OnErr result (Refuses (failed self.old) (failed self.new)) };
 
     /// Sets a mode.
     fn set_mode(&mut self, mode: &Self::Mode) -> io::Result<()>
         ensures mode { OnOk result (stands self.new ≡ mode.now) }
+        ensures asked { answered self.old (Sets mode.now result) self.new }
         ensures rise { failed self.old ≤ failed self.new }
         ensures err { OnErr result (Refuses (failed self.old) (failed self.new)) };
 
     /// How large the window is.
     fn window_size(&mut self) -> io::Result<WindowSize>
-        ensures size { sized self.old (result_ok result) self.new }
+        ensures asked { answered self.old (Sizes result) self.new }
         ensures rise { failed self.old ≤ failed self.new }
         ensures err { OnErr result (Refuses (failed self.old) (failed self.new)) };
 
@@ -112,6 +118,7 @@ impl<D: ModeDevice, A: Allocator + Clone> Terminal<D, A> {
     pub fn enable_raw_mode(&mut self) -> io::Result<()>
         ensures already { IsTrue (is_some self.old.prior) → IsOk result × (self.new ≡ self.old) }
         ensures ok { OnOk result (self.old.prior ≡ None → self.new.prior ≡ Some (D.stands self.old.device)) }
+        ensures asked { self.old.prior ≡ None → SwitchesOn D.answered self.old result self.new }
         ensures refused { OnErr result (self.new.prior ≡ None) }
         ensures rise { D.failed self.old.device ≤ D.failed self.new.device }
         ensures err { OnErr result (Refuses (D.failed self.old.device) (D.failed self.new.device)) }
@@ -119,11 +126,18 @@ impl<D: ModeDevice, A: Allocator + Clone> Terminal<D, A> {
         if self.prior.is_some() {
             return Ok(());
         }
-        let mode = self.device.mode()?;
-        self.device.set_raw(&mode)?;
-        self.flag.set(true);
-        self.prior = Some(mode);
-        Ok(())
+        let mode = match self.device.mode() {
+            Ok(mode) => mode,
+            Err(error) => return Err(error),
+        };
+        match self.device.set_raw(&mode) {
+            Ok(()) => {
+                self.flag.set(true);
+                self.prior = Some(mode);
+                Ok(())
+            }
+            Err(error) => Err(error),
+        }
     }
 
     /// Sets the mode that stood before raw mode. Where raw mode isn't on nothing is done.
@@ -131,21 +145,27 @@ impl<D: ModeDevice, A: Allocator + Clone> Terminal<D, A> {
         ensures already { self.old.prior ≡ None → IsOk result × (self.new ≡ self.old) }
         ensures prior { OnOk result (self.new.prior ≡ None) }
         ensures ok { OnOk result (IsTrue (is_some self.old.prior) → Some (D.stands self.new.device) ≡ self.old.prior) }
+        ensures asked { IsTrue (is_some self.old.prior) → SwitchesOff D.answered self.old result self.new }
         ensures refused { OnErr result (self.new.prior ≡ self.old.prior) }
         ensures rise { D.failed self.old.device ≤ D.failed self.new.device }
         ensures err { OnErr result (Refuses (D.failed self.old.device) (D.failed self.new.device)) }
     {
-        if let Some(mode) = &self.prior {
-            self.device.set_mode(mode)?;
-            self.flag.set(false);
-            self.prior = None;
+        match &self.prior {
+            Some(mode) => match self.device.set_mode(mode) {
+                Ok(()) => {
+                    self.flag.set(false);
+                    self.prior = None;
+                    Ok(())
+                }
+                Err(error) => Err(error),
+            },
+            None => Ok(()),
         }
-        Ok(())
     }
 
     /// How large the window is.
     pub fn window_size(&mut self) -> io::Result<WindowSize>
-        ensures size { D.sized self.old.device (result_ok result) self.new.device }
+        ensures asked { D.answered self.old.device (Sizes result) self.new.device }
         ensures prior { self.new.prior ≡ self.old.prior }
         ensures rise { D.failed self.old.device ≤ D.failed self.new.device }
         ensures err { OnErr result (Refuses (D.failed self.old.device) (D.failed self.new.device)) }
@@ -155,7 +175,7 @@ impl<D: ModeDevice, A: Allocator + Clone> Terminal<D, A> {
 
     /// How many columns and rows the window has.
     pub fn size(&mut self, columns: &[u8], lines: &[u8]) -> io::Result<(u16, u16)>
-        ensures size { (told : Option WindowSize) × D.sized self.old.device told self.new.device × (result_ok result ≡ told_size told columns.now lines.now) }
+        ensures size { (told : Result WindowSize Error) × D.answered self.old.device (Sizes told) self.new.device × (result ≡ told_size told columns.now lines.now) }
         ensures prior { self.new.prior ≡ self.old.prior }
         ensures rise { D.failed self.old.device ≤ D.failed self.new.device }
         ensures err { OnErr result (Refuses (D.failed self.old.device) (D.failed self.new.device)) }
@@ -207,8 +227,8 @@ pub fn supports_keyboard_enhancement<
     requires { IsPassOf reader.now pass.old }
     ensures pass { IsPassOf reader.now pass.new }
     ensures query { (flags : Result (Option KeyboardEnhancementFlags) Error) × (result_map_both is_some (λ e. e) flags ≡ result)
-        × InRawMode D.stands D.failed term.old term.new ((W.contents out.new ≡ W.contents out.old) × (knows pass.new ≡ knows pass.old))
-        (Queries (W.contents out.old) (W.contents out.new) keyboard_query (knows pass.new ≡ knows pass.old) (λ r. InTwoSeconds (λ limit. AsksKeyboard S.drawn limit (C.told clock.old) (C.told clock.new) (knows pass.old) (knows pass.new) r))) flags }
+        × InRawMode D.stands D.answered D.failed term.old term.new ((W.contents out.new ≡ W.contents out.old) × (knows pass.new ≡ knows pass.old))
+        (Queries (W.contents out.old) (W.contents out.new) keyboard_query (knows pass.new ≡ knows pass.old) (λ r. InTwoSeconds (λ limit. AsksKeyboard S.drawn S.asked limit (C.told clock.old) (C.told clock.new) (knows pass.old) (knows pass.new) r))) flags }
     ensures later { C.told clock.old ≤ C.told clock.new }
 {
     match query_keyboard_enhancement_flags(rt, term, reader, pass, out, clock) {
@@ -244,30 +264,45 @@ pub fn query_keyboard_enhancement_flags<
 ) -> io::Result<Option<KeyboardEnhancementFlags>>
     requires { IsPassOf reader.now pass.old }
     ensures pass { IsPassOf reader.now pass.new }
-    ensures query { InRawMode D.stands D.failed term.old term.new ((W.contents out.new ≡ W.contents out.old) × (knows pass.new ≡ knows pass.old))
-        (Queries (W.contents out.old) (W.contents out.new) keyboard_query (knows pass.new ≡ knows pass.old) (λ r. InTwoSeconds (λ limit. AsksKeyboard S.drawn limit (C.told clock.old) (C.told clock.new) (knows pass.old) (knows pass.new) r))) result }
+    ensures query { InRawMode D.stands D.answered D.failed term.old term.new ((W.contents out.new ≡ W.contents out.old) × (knows pass.new ≡ knows pass.old))
+        (Queries (W.contents out.old) (W.contents out.new) keyboard_query (knows pass.new ≡ knows pass.old) (λ r. InTwoSeconds (λ limit. AsksKeyboard S.drawn S.asked limit (C.told clock.old) (C.told clock.new) (knows pass.old) (knows pass.new) r))) result }
     ensures later { C.told clock.old ≤ C.told clock.new }
 {
     if term.is_raw_mode_enabled()? {
-        return flags_raw(rt, reader, pass, out, clock);
+        return flags_raw(rt, term, reader, pass, out, clock);
     }
-    term.enable_raw_mode()?;
-    let flags = flags_raw(rt, reader, pass, out, clock);
-    term.disable_raw_mode()?;
-    flags
+    match term.enable_raw_mode() {
+        Ok(()) => {}
+        Err(error) => return Err(error),
+    }
+    let flags = flags_raw(rt, term, reader, pass, out, clock);
+    match term.disable_raw_mode() {
+        Ok(()) => flags,
+        Err(error) => Err(error),
+    }
 }
 
-// The flags of the keyboard protocol, where the terminal is in raw mode.
-fn flags_raw<S: EventSource<A>, A: Allocator + Clone, W: io::Write, C: Clock, R: Wait>(
+// The flags of the keyboard protocol. The terminal is in raw mode then.
+fn flags_raw<
+    S: EventSource<A>,
+    A: Allocator + Clone,
+    D: ModeDevice,
+    B: Allocator + Clone,
+    W: io::Write,
+    C: Clock,
+    R: Wait,
+>(
     rt: &R,
+    _term: &Terminal<D, B>,
     reader: &EventReader<S, A>,
     pass: &mut Pass<S, A>,
     out: &mut W,
     clock: &mut C,
 ) -> io::Result<Option<KeyboardEnhancementFlags>>
-    requires { IsPassOf reader.now pass.old }
+    requires raw { IsTrue (is_some _term.now.prior) }
+    requires pass { IsPassOf reader.now pass.old }
     ensures pass { IsPassOf reader.now pass.new }
-    ensures query { Queries (W.contents out.old) (W.contents out.new) keyboard_query (knows pass.new ≡ knows pass.old) (λ r. InTwoSeconds (λ limit. AsksKeyboard S.drawn limit (C.told clock.old) (C.told clock.new) (knows pass.old) (knows pass.new) r)) result }
+    ensures query { Queries (W.contents out.old) (W.contents out.new) keyboard_query (knows pass.new ≡ knows pass.old) (λ r. InTwoSeconds (λ limit. AsksKeyboard S.drawn S.asked limit (C.told clock.old) (C.told clock.new) (knows pass.old) (knows pass.new) r)) result }
     ensures later { C.told clock.old ≤ C.told clock.new }
 {
     match send_query(out, csi!("?u", "\x1b[c")) {

@@ -5,8 +5,5 @@ use Rattle.crossterm_c.proofs.text.character_of.Goals as goal
 pub returns-clause-some : goal.returns-clause-some
 returns-clause-some c = omega (arith, c.decode.ensures.size, (piece-bounds c.args.bytes.now c.requires).0)
 
-pub returns-clause-few : goal.returns-clause-few
-returns-clause-few c = omega (arith, c.decode.ensures.size, (piece-bounds c.args.bytes.now c.requires).1)
-
 pub returns-clause-within : goal.returns-clause-within
 returns-clause-within c = omega (arith, c.decode.ensures.size, (piece-bounds c.args.bytes.now c.requires).2)

@@ -45,7 +45,7 @@ impl<S: EventSource<A>, A: Allocator + Clone> EventReader<S, A> {
     ) -> io::Result<Option<KeyboardEnhancementFlags>>
         requires { IsPassOf self.now pass.old }
         ensures pass { IsPassOf self.now pass.new }
-        ensures call { AsksKeyboard S.drawn limit (C.told clock.old) (C.told clock.new) (knows pass.old) (knows pass.new) result }
+        ensures call { AsksKeyboard S.drawn S.asked limit (C.told clock.old) (C.told clock.new) (knows pass.old) (knows pass.new) result }
         ensures later { C.told clock.old ≤ C.told clock.new }
     {
         let start = clock.now();

@@ -88,11 +88,12 @@ impl<S: EventSource<A>, A: Allocator> EventReader<S, A> {
 
     /// Takes the reader out for good, where no other share of it is left, and else gives `None`.
     ///
-    /// The reader holds what was left, and goes on where the last call ended. After that the pass is of no more use.
+    /// The reader holds what was left, and goes on where the last call ended. After that the pass is of no more use. Where `None` is given
+    /// the pass is as it was, and the other shares take it.
     pub fn close<R: Wait>(self, rt: &R, pass: &mut Pass<S, A>) -> Option<InternalEventReader<S, A>>
         requires { IsPassOf self pass.old }
         ensures closed { IfSome result (λ r. Closes S.drawn (knows pass.old) r (knows pass.new)) }
-        ensures shared { IfNone result (knows pass.new ≡ knows pass.old) }
+        ensures shared { IfNone result ((knows pass.new ≡ knows pass.old) × IsPassOf self pass.new) }
     {
         let room = Arc::into_inner(self.room)?;
         room.emptied(rt, &mut pass.seat)

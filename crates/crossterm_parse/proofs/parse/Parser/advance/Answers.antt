@@ -1,6 +1,6 @@
 use Rattle.std.proofs.lemmas.Bool.{false≢true}
 use Rattle.std.proofs.Common.{arith, ap, refl, sym, ◌∙◌, is_ok}
-use Rattle.crossterm_parse.proofs.ViewLaws.{advance_more, advance_none, byte_quiet, byte_free, takes_steps}
+use Rattle.crossterm_parse.proofs.ViewLaws.{advance_more, advance_none, byte_quiet, byte_free, byte_rests, takes_steps}
 use Rattle.crossterm_parse.proofs.RunLaws.{advance_rest, advance_still}
 use Rattle.crossterm_parse.proofs.parse.Parser.advance.Goals as goal
 
@@ -56,3 +56,9 @@ returns-after-loop-place-clause-counted g c = c.loop-place.invariant.counted
 
 pub returns-then-place-piece-clause-counted : goal.returns-then-place-piece-clause-counted
 returns-then-place-piece-clause-counted g c = omega (arith, c.loop-place.invariant.counted, c.run-place.ensures.counted)
+
+pub returns-in-Err-clause-stops : goal.returns-in-Err-clause-stops
+returns-in-Err-clause-stops g c less quiet =
+    let stays = c.put.ensures.stays (ap is_ok c.in-Err.is) in
+    let none = byte_rests c.put.new.self c.args.piece.now c.args.more c.args.raw _ _ c.pauses-pause.result (omega arith) refl c.pauses-pause.ensures quiet in
+    absurd (false≢true (sym (ap is_ok c.in-Err.is) ∙ c.put.ensures.free (rw (← stays.1) none.0) (rw (← stays.1, ← stays.2) none.1)))

@@ -1,6 +1,7 @@
-use Rattle.std.proofs.Common.{◌≡◌, ℕ, arith, refl, sym, ap, subst, ◌∙◌}
+use Rattle.std.proofs.Common.{◌≡◌, arith, refl, sym, ap, subst, ◌∙◌}
 use Rattle.crossterm_read.proofs.Asking.{Asking, none_of, asking_none, asking_came, asking_nothing, asked_held, asked_came, asked_broke, asked_refused, asked_tried, asks_none, asks_more}
 use Rattle.crossterm_read.specs.Device.{IsAtOnce}
+use Rattle.crossterm_read.specs.Steps.{UpTo}
 use Rattle.crossterm_read.specs.Store.{ReaderState}
 use Rattle.crossterm_read.proofs.read.reader.InternalEventReader.ask.Goals.{in-Came+else-admitted, in-Nothing}
 use Rattle.crossterm_read.proofs.read.reader.InternalEventReader.ask.Goals as goal
@@ -8,12 +9,12 @@ use Rattle.crossterm_read.proofs.read.reader.InternalEventReader.ask.Goals as go
 pub returns-then-admitted-clause-asked : goal.returns-then-admitted-clause-asked
 returns-then-admitted-clause-asked g c =
     let d = c.in-Came.ensures.one in
-    asked_came g.S.EventSource.drawn g.met.S.EventSource.drawn_on _ _ _ c.loop-i.self c.draw.new.self c.loop-i._i _ d.0 c.loop-i.invariant.so_far c.loop-i-test.true d.1 d.2 (sym d.3 ∙ c.if-admitted.true)
+    asked_came g.S.EventSource.drawn g.met.S.EventSource.drawn_on _ _ _ c.loop-i.self c.draw.new.self c.loop-i._i (UpTo c.args.tries) d.0 c.loop-i.invariant.so_far (omega (arith, c.loop-i-test.true)) d.1 d.2 (sym d.3 ∙ c.if-admitted.true)
 
 pub returns-in-Broke-clause-asked : goal.returns-in-Broke-clause-asked
 returns-in-Broke-clause-asked g c =
     let d = c.in-Broke.ensures.one in
-    asked_broke g.S.EventSource.drawn g.met.S.EventSource.drawn_on _ _ _ c.loop-i.self c.draw.new.self c.loop-i._i _ _ c.loop-i.invariant.so_far c.loop-i-test.true d.0 d.1 d.2
+    asked_broke g.S.EventSource.drawn g.met.S.EventSource.drawn_on _ _ _ c.loop-i.self c.draw.new.self c.loop-i._i (UpTo c.args.tries) _ c.loop-i.invariant.so_far (omega (arith, c.loop-i-test.true)) d.0 d.1 d.2
 
 pub loop-i-preserved : goal.loop-i-preserved
 loop-i-preserved g c = record {
@@ -42,7 +43,7 @@ loop-i-init g c = record {
 
 pub returns-then-holds-clause-asked : goal.returns-then-holds-clause-asked
 returns-then-holds-clause-asked g c =
-    asked_held g.S.EventSource.drawn g.met.S.EventSource.drawn_on _ _ g.met.S.EventSource.none_drawn c.args.self.now c.args.tries
+    asked_held g.S.EventSource.drawn g.met.S.EventSource.drawn_on _ _ g.met.S.EventSource.none_drawn c.args.self.now (UpTo c.args.tries)
     (sym c.holds.ensures ∙ c.if-holds.true)
 
 pub returns-in-Refused-clause-asked : goal.returns-in-Refused-clause-asked
@@ -50,11 +51,10 @@ returns-in-Refused-clause-asked g c =
     let so_far = subst (λ (t : ReaderState g.row.S.Denot). Asking g.S.EventSource.drawn g.met.S.EventSource.drawn_on c.args.at_wake (g.F.Filter.admits c.args.filter.now) c.args.self.now t c.loop-i._i)
     (sym c.in-Refused.ensures.one) c.loop-i.invariant.so_far in
     let room = ap (λ (t : ReaderState g.row.S.Denot). t.room) c.in-Refused.ensures.one ∙ c.in-Refused.ensures.full tt in
-    asked_refused g.S.EventSource.drawn g.met.S.EventSource.drawn_on _ _ c.args.self.now c.draw.new.self c.loop-i._i c.args.tries _ so_far c.loop-i-test.true c.from.ensures
+    asked_refused g.S.EventSource.drawn g.met.S.EventSource.drawn_on _ _ c.args.self.now c.draw.new.self c.loop-i._i (UpTo c.args.tries) _ so_far (omega (arith, c.loop-i-test.true)) c.from.ensures
     (omega (arith, c.in-Refused.ensures.room)) room
 
 pub returns-clause-asked : goal.returns-clause-asked
 returns-clause-asked g c =
     let all : c.loop-i._i ≡ c.args.tries = omega arith in
-    let so_far = subst (λ (i : ℕ). Asking g.S.EventSource.drawn g.met.S.EventSource.drawn_on c.args.at_wake (g.F.Filter.admits c.args.filter.now) c.args.self.now c.loop-i.self i) all c.loop-i.invariant.so_far in
-    asked_tried g.S.EventSource.drawn g.met.S.EventSource.drawn_on _ _ c.args.self.now c.loop-i.self c.args.tries so_far
+    asked_tried g.S.EventSource.drawn g.met.S.EventSource.drawn_on _ _ c.args.self.now c.loop-i.self c.loop-i._i (UpTo c.args.tries) c.loop-i.invariant.so_far all

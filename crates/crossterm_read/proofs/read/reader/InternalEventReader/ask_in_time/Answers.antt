@@ -1,19 +1,20 @@
-use Rattle.std.proofs.Common.{◌+◌, ℕ, arith, refl, sym, ap, subst, ◌∙◌}
+use Rattle.std.proofs.Common.{◌+◌, ◌-◌, ℕ, arith, refl, sym, ap, subst, ◌∙◌}
 use mathlib.Core.Bool.{true≢false}
+use Rattle.std.specs.Duration.{as_nanos}
 use Rattle.crossterm_types.specs.Timing.{HasElapsed}
+use Rattle.crossterm_read.specs.Steps.{Within}
 use Rattle.crossterm_read.specs.Store.{ReaderState}
 use Rattle.crossterm_read.proofs.Asking.{Asking, none_of, asking_none, asking_came, asking_nothing, asked_held, asked_came, asked_broke, asked_refused, asked_tried, asks_none}
-use Rattle.crossterm_read.proofs.Waiting.{in_time, in_time_ready, in_time_broke, limits_more, lasts}
+use Rattle.crossterm_read.proofs.Waiting.{lasts, left_none, limits_more, some_more}
 use Rattle.crossterm_read.proofs.read.reader.InternalEventReader.ask_in_time.Goals.{in-Came+else-admitted, in-Nothing}
 use Rattle.crossterm_read.proofs.read.reader.InternalEventReader.ask_in_time.Goals as goal
 
 pub returns-then-holds-clause-asked : goal.returns-then-holds-clause-asked
 returns-then-holds-clause-asked g c =
-    in_time_ready g.S.EventSource.drawn c.args.at_wake (g.F.Filter.admits c.args.filter.now) _ _ _ c.args.self.now c.args.self.now 1 (omega arith) (λ z. omega arith)
-    (asked_held g.S.EventSource.drawn g.met.S.EventSource.drawn_on _ _ g.met.S.EventSource.none_drawn c.args.self.now 1 (sym c.holds.ensures ∙ c.if-holds.true))
+    asked_held g.S.EventSource.drawn g.met.S.EventSource.drawn_on _ _ g.met.S.EventSource.none_drawn c.args.self.now (Within c.args.timeout.limit (g.C.Clock.told c.args.clock.now - as_nanos c.args.timeout.start)) (sym c.holds.ensures ∙ c.if-holds.true)
 
 pub returns-then-holds-clause-limits : goal.returns-then-holds-clause-limits
-returns-then-holds-clause-limits g c = asks_none _ _
+returns-then-holds-clause-limits g c = left_none _ _ _
 
 pub loop-init : goal.loop-init
 loop-init g c = record {
@@ -36,15 +37,14 @@ pub returns-then-admitted-clause-asked : goal.returns-then-admitted-clause-asked
 returns-then-admitted-clause-asked g c =
     let d = c.in-Came.ensures.one in
     let n = c.loop.invariant.so_far.0 in
-    in_time_ready g.S.EventSource.drawn c.args.at_wake (g.F.Filter.admits c.args.filter.now) _ _ _ c.args.self.now c.draw_in_time.new.self (n + 1) (omega arith) (λ z. let y = c.loop.invariant.so_far.2 z in omega arith)
-    (asked_came g.S.EventSource.drawn g.met.S.EventSource.drawn_on _ _ _ c.loop.self c.draw_in_time.new.self n _ d.0 c.loop.invariant.so_far.1 (omega arith) d.1 d.2 (sym d.3 ∙ c.if-admitted.true))
+    asked_came g.S.EventSource.drawn g.met.S.EventSource.drawn_on _ _ _ c.loop.self c.draw_in_time.new.self n (Within c.args.timeout.limit (g.C.Clock.told c.draw_in_time.new.clock - as_nanos c.args.timeout.start)) d.0 c.loop.invariant.so_far.1 (λ z. let y = c.loop.invariant.so_far.2 z in omega arith) d.1 d.2
+    (sym d.3 ∙ c.if-admitted.true)
 
 pub returns-in-Broke-clause-asked : goal.returns-in-Broke-clause-asked
 returns-in-Broke-clause-asked g c =
     let d = c.in-Broke.ensures.one in
     let n = c.loop.invariant.so_far.0 in
-    in_time_broke g.S.EventSource.drawn c.args.at_wake (g.F.Filter.admits c.args.filter.now) _ _ _ c.args.self.now c.draw_in_time.new.self _ (n + 1) (omega arith) (λ z. let y = c.loop.invariant.so_far.2 z in omega arith)
-    (asked_broke g.S.EventSource.drawn g.met.S.EventSource.drawn_on _ _ _ c.loop.self c.draw_in_time.new.self n _ _ c.loop.invariant.so_far.1 (omega arith) d.0 d.1 d.2)
+    asked_broke g.S.EventSource.drawn g.met.S.EventSource.drawn_on _ _ _ c.loop.self c.draw_in_time.new.self n (Within c.args.timeout.limit (g.C.Clock.told c.draw_in_time.new.clock - as_nanos c.args.timeout.start)) _ c.loop.invariant.so_far.1 (λ z. let y = c.loop.invariant.so_far.2 z in omega arith) d.0 d.1 d.2
 
 pub returns-in-Refused-clause-asked : goal.returns-in-Refused-clause-asked
 returns-in-Refused-clause-asked g c =
@@ -52,8 +52,8 @@ returns-in-Refused-clause-asked g c =
     let so_far = subst (λ (t : ReaderState g.row.S.Denot). Asking g.S.EventSource.drawn g.met.S.EventSource.drawn_on c.args.at_wake (g.F.Filter.admits c.args.filter.now) c.args.self.now t n)
     (sym c.in-Refused.ensures.one) c.loop.invariant.so_far.1 in
     let room = ap (λ (t : ReaderState g.row.S.Denot). t.room) c.in-Refused.ensures.one ∙ c.in-Refused.ensures.full tt in
-    in_time_broke g.S.EventSource.drawn c.args.at_wake (g.F.Filter.admits c.args.filter.now) _ _ _ c.args.self.now c.draw_in_time.new.self _ (n + 1) (omega arith) (λ z. let y = c.loop.invariant.so_far.2 z in omega arith)
-    (asked_refused g.S.EventSource.drawn g.met.S.EventSource.drawn_on _ _ c.args.self.now c.draw_in_time.new.self n _ _ so_far (omega arith) c.from.ensures (omega (arith, c.loop.invariant.room, c.in-Refused.ensures.room)) room)
+    asked_refused g.S.EventSource.drawn g.met.S.EventSource.drawn_on _ _ c.args.self.now c.draw_in_time.new.self n (Within c.args.timeout.limit (g.C.Clock.told c.draw_in_time.new.clock - as_nanos c.args.timeout.start)) _ so_far (λ z. let y = c.loop.invariant.so_far.2 z in omega arith) c.from.ensures
+    (omega (arith, c.loop.invariant.room, c.in-Refused.ensures.room)) room
 
 pub returns-then-elapsed-clause-asked : goal.returns-then-elapsed-clause-asked
 returns-then-elapsed-clause-asked g c =
@@ -62,8 +62,11 @@ returns-then-elapsed-clause-asked g c =
       | in-Came+else-admitted w ↦ asking_came g.S.EventSource.drawn g.met.S.EventSource.drawn_on _ _ _ c.loop.self c.draw_in_time.new.self n _ w.if-admitted.false c.loop.invariant.so_far.1 w.in-Came.ensures.one
       | in-Nothing w ↦ asking_nothing g.S.EventSource.drawn g.met.S.EventSource.drawn_on _ _ _ c.loop.self c.draw_in_time.new.self n c.loop.invariant.so_far.1 w.in-Nothing.ensures.one
     ] in
-    in_time g.S.EventSource.drawn c.args.at_wake (g.F.Filter.admits c.args.filter.now) _ _ _ c.args.self.now c.draw_in_time.new.self _ (n + 1) (omega arith) (λ z. let y = c.loop.invariant.so_far.2 z in omega arith) (λ e. subst (λ (n : ℕ). HasElapsed c.args.timeout n) c.now.ensures.told (c.if-elapsed.ensures.0 refl))
-    (asked_tried g.S.EventSource.drawn g.met.S.EventSource.drawn_on _ _ c.args.self.now c.draw_in_time.new.self (n + 1) so_far)
+    asked_tried g.S.EventSource.drawn g.met.S.EventSource.drawn_on _ _ c.args.self.now c.draw_in_time.new.self (n + 1) (Within c.args.timeout.limit (g.C.Clock.told c.now.new.self - as_nanos c.args.timeout.start)) so_far record {
+      begun = omega arith;
+      once = λ z. let y = c.loop.invariant.so_far.2 z in omega arith;
+      passed = subst (λ (n : ℕ). HasElapsed c.args.timeout n) c.now.ensures.told (c.if-elapsed.ensures.0 refl);
+    }
 
 pub returns-in-Refused-clause-limits : goal.returns-in-Refused-clause-limits
 returns-in-Refused-clause-limits g c =
@@ -88,10 +91,12 @@ loop-preserved g c =
       | in-Came+else-admitted w ↦ asking_came g.S.EventSource.drawn g.met.S.EventSource.drawn_on _ _ _ c.loop.self c.draw_in_time.new.self n _ w.if-admitted.false c.loop.invariant.so_far.1 w.in-Came.ensures.one
       | in-Nothing w ↦ asking_nothing g.S.EventSource.drawn g.met.S.EventSource.drawn_on _ _ _ c.loop.self c.draw_in_time.new.self n c.loop.invariant.so_far.1 w.in-Nothing.ensures.one
     ] in
+    let lasting : HasElapsed c.args.timeout (as_nanos c.now.result) → ⊥ = λ h. true≢false (sym (c.if-elapsed.ensures.1 h)) in
     record {
-      so_far = (n + 1, so_far, λ z. absurd (lasts c.args.timeout _ (λ h. true≢false (sym (c.if-elapsed.ensures.1 h))) z));
+      so_far = (n + 1, so_far, λ z. absurd (lasts c.args.timeout _ lasting z));
       later = omega (arith, c.loop.invariant.later, c.draw_in_time.ensures.later, c.now.ensures.later);
-      limits = limits_more _ _ _ _ _ _ _ (omega (arith, c.draw_in_time.ensures.later, c.now.ensures.later)) (omega (arith, c.requires, c.loop.invariant.later, c.draw_in_time.ensures.later)) (omega (arith, c.now.ensures.later)) c.loop.invariant.limits c.draw_in_time.ensures.asked;
+      limits = some_more _ _ _ _ _ _ _ (omega (arith, c.draw_in_time.ensures.later, c.now.ensures.later)) (omega (arith, c.requires, c.loop.invariant.later, c.draw_in_time.ensures.later)) (omega (arith, c.now.ensures.later))
+          (λ h. lasting (subst (λ (n : ℕ). HasElapsed c.args.timeout n) (sym c.now.ensures.told) h)) c.loop.invariant.limits c.draw_in_time.ensures.asked;
       room = omega (arith, c.loop.invariant.room, c.draw_in_time.ensures.room);
       rise = omega (arith, c.loop.invariant.rise, c.draw_in_time.ensures.rise);
       steady = λ p. elim c.match-draw_in_time.branch [

@@ -1,4 +1,4 @@
-use Rattle.std.proofs.Common.{Some, [], sym, ap, refl, subst}
+use Rattle.std.proofs.Common.{◌-◌, ◌++◌, Some, [], sym, ap, refl, subst, inl, inr, arith, append-nil}
 use Rattle.std.specs.Option.{option_map}
 use Rattle.std.specs.IoError.{error_kind}
 use Rattle.crossterm_types.specs.Seen.{Seen}
@@ -6,37 +6,81 @@ use Rattle.crossterm_types.specs.Admitting.{is_attributes}
 use Rattle.crossterm_read.specs.Store.{kept}
 use Rattle.crossterm_read.specs.Replies.{Came, ToTake, ToQuery, Fault}
 use Rattle.crossterm_read.specs.Queries.{AfterReply}
-use Rattle.crossterm_read.proofs.Querying.{polled_there, keyboard_alone, keyboard_flags, last_query}
+use Rattle.crossterm_read.specs.Steps.{Within}
+use Rattle.crossterm_read.proofs.Querying.{polled_there, last_query}
+use Rattle.crossterm_read.specs.Waiting.{AsksWithin}
 use Rattle.crossterm_read.proofs.read.reader.InternalEventReader.keyboard_until.Goals as goal
 
 pub left_taken-left-requires : goal.left_taken-left-requires
-left_taken-left-requires g c said none = let e = c.poll-ready.ensures.step in polled_there is_attributes _ _ _ e.answers _ e.step said none
+left_taken-left-requires g c said none = let e = c.poll-ready.ensures.step in polled_there is_attributes (Within (Some c.args.again) (g.C.Clock.told c.poll-ready.new.clock - g.C.Clock.told c.query_until.new.clock)) _ _ e.0 _ e.2 said none
 
 pub returns-in-Some-clause-step : goal.returns-in-Some-clause-step
 returns-in-Some-clause-step g c =
+    let e = c.in-Ok.ensures.step in
+    let d = c.poll-ready.ensures.step in
     let x = kept (c.in-Ok.event, c.in-Ok.number) in
-    let y = option_map kept c.left_taken-left.result in (
+    let y = option_map kept c.left_taken-left.result in
+    let m = c.query_until.new.self.store in
+    let n = c.poll-ready.new.self.store in
+    let t = c.left_taken-left.new.self.store in
+    let between = g.C.Clock.told c.query_until.new.clock in
+    let last = g.C.Clock.told c.poll-ready.new.clock in
+    let again = Within (Some c.args.again) (last - between) in
+    let after : AfterReply again d.0 x.0 x m t (ToQuery x y) = subst (λ (z : Seen). AfterReply again d.0 z x m t (ToQuery x y)) (sym c.in-Some.ensures) (n, _, d.2, c.left_taken-left.ensures.delivers x) in
+    let drawn = g.met.S.EventSource.drawn_on _ _ _ e.0 d.0 e.1 d.1 in (
+      between,
+      c.query_until.ensures.later,
+      c.poll-ready.ensures.later,
+      e.0 ++ d.0,
       ToQuery x y,
-      keyboard_flags g.S.EventSource.drawn g.met.S.EventSource.drawn_on _ _ _ _ _ _ c.args.self.now c.query_until.new.self c.poll-ready.new.self c.left_taken-left.new.self x y _ _
-          c.in-Some.ensures c.in-Ok.ensures.step c.poll-ready.ensures.step (c.left_taken-left.ensures.delivers x) c.left_taken-left.ensures.source,
+      subst (λ (z : g.row.S.Denot). g.S.EventSource.drawn c.args.self.now.source (e.0 ++ d.0) z) (sym c.left_taken-left.ensures.source) drawn,
+      (e.0, d.0, m, ToTake (Some x), refl, e.2, after),
       ap (λ (z : Seen). Came (Some z)) (sym c.in-Some.ensures),
+      tt,
       λ n. last_query n x.0 x.1 y _ c.number_of.ensures,
+      g.S.EventSource.asked c.query_until.new.self.source,
+      c.query_until.ensures.limits,
+      inr (subst (λ (z : g.row.S.Denot). AsksWithin (Some c.args.again) between last (g.S.EventSource.asked c.query_until.new.self.source) (g.S.EventSource.asked z)) (sym c.left_taken-left.ensures.source) c.poll-ready.ensures.asked),
     )
 
 pub returns-in-Ok-clause-step : goal.returns-in-Ok-clause-step
 returns-in-Ok-clause-step g c =
+    let e = c.in-Ok.ensures.step in
     let x = kept (c.in-Ok.event, c.in-Ok.number) in
-    let m = c.query_until.new.self in (
+    let m = c.query_until.new.self.store in
+    let between = g.C.Clock.told c.query_until.new.clock in
+    let again = Within (Some c.args.again) (between - between) in
+    let after : AfterReply again [] x.0 x m m (ToTake (Some x)) = subst (λ (z : Seen). AfterReply again [] z x m m (ToTake (Some x))) (sym c.in-None.ensures) (refl, refl, refl) in (
+      between,
+      c.query_until.ensures.later,
+      omega arith,
+      e.0,
       ToTake (Some x),
-      keyboard_alone g.S.EventSource.drawn _ _ _ c.args.self.now m (ToTake (Some x)) c.in-Ok.ensures.step (subst (λ (z : Seen). AfterReply 0 [] z x m.store m.store (ToTake (Some x))) (sym c.in-None.ensures) (refl, refl, refl)),
+      e.1,
+      (e.0, [], m, ToTake (Some x), sym (append-nil e.0), e.2, after),
       ap (λ (z : Seen). Came (Some z)) (sym c.in-None.ensures),
+      tt,
       λ n. refl,
+      g.S.EventSource.asked c.query_until.new.self.source,
+      c.query_until.ensures.limits,
+      inl refl,
     )
 
 pub returns-clause-step : goal.returns-clause-step
-returns-clause-step g c = (
-  Fault (error_kind c.in-Err.error),
-  keyboard_alone g.S.EventSource.drawn _ _ _ c.args.self.now c.query_until.new.self (Fault (error_kind c.in-Err.error)) c.in-Err.ensures.step (refl, refl, refl),
-  refl,
-  λ n. refl,
-)
+returns-clause-step g c =
+    let e = c.in-Err.ensures.step in
+    let fault = Fault (error_kind c.in-Err.error) in (
+      g.C.Clock.told c.query_until.new.clock,
+      c.query_until.ensures.later,
+      omega arith,
+      e.0,
+      fault,
+      e.1,
+      (e.0, [], c.query_until.new.self.store, fault, sym (append-nil e.0), e.2, (refl, refl, refl)),
+      refl,
+      e.3,
+      λ n. refl,
+      g.S.EventSource.asked c.query_until.new.self.source,
+      c.query_until.ensures.limits,
+      inl refl,
+    )

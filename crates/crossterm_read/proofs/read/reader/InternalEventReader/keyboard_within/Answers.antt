@@ -6,6 +6,7 @@ use Rattle.crossterm_types.specs.Admitting.{is_flags_reply, is_attributes}
 use Rattle.crossterm_read.specs.Store.{kept}
 use Rattle.crossterm_read.specs.Replies.{Came, ToTake, ToQuery, Fault}
 use Rattle.crossterm_read.specs.Queries.{AfterReply}
+use Rattle.crossterm_read.specs.Steps.{UpTo}
 use Rattle.crossterm_read.specs.Device.{AsksAtOnce, IsAtOnce}
 use Rattle.crossterm_read.proofs.Asking.{asks_both}
 use Rattle.crossterm_read.proofs.Querying.{query_admitted, polled_there}
@@ -15,7 +16,7 @@ pub flags_of-requires : goal.flags_of-requires
 flags_of-requires g c = let e = c.in-Ok.ensures.step in query_admitted is_flags_reply e.2.1 e.2.0 c.query_within.new.self.store _ e.2.3
 
 pub left_taken-left-requires : goal.left_taken-left-requires
-left_taken-left-requires g c said none = let e = c.poll_within-ready.ensures.step in polled_there is_attributes _ _ _ e.0 _ e.2 said none
+left_taken-left-requires g c said none = let e = c.poll_within-ready.ensures.step in polled_there is_attributes (UpTo c.args.tries) _ _ e.0 _ e.2 said none
 
 pub returns-in-Some-clause-step : goal.returns-in-Some-clause-step
 returns-in-Some-clause-step g c =
@@ -23,8 +24,8 @@ returns-in-Some-clause-step g c =
     let d = c.poll_within-ready.ensures.step in
     let x : Seen × ℕ = kept (c.in-Ok.event, c.in-Ok._number) in
     let r = ToQuery x (option_map kept c.left_taken-left.result) in
-    let after : AfterReply c.args.tries d.0 x.0 x c.query_within.new.self.store c.left_taken-left.new.self.store r = subst
-    (λ (y : Seen). AfterReply c.args.tries d.0 y x c.query_within.new.self.store c.left_taken-left.new.self.store r) (sym c.in-Some.ensures)
+    let after : AfterReply (UpTo c.args.tries) d.0 x.0 x c.query_within.new.self.store c.left_taken-left.new.self.store r = subst
+    (λ (y : Seen). AfterReply (UpTo c.args.tries) d.0 y x c.query_within.new.self.store c.left_taken-left.new.self.store r) (sym c.in-Some.ensures)
     (c.poll_within-ready.new.self.store, _, d.2, c.left_taken-left.ensures.delivers x) in
     let drawn = g.met.S.EventSource.drawn_on _ _ _ e.0 d.0 e.1 d.1 in (
       e.0 ++ d.0,
@@ -39,8 +40,8 @@ pub returns-in-Ok-clause-step : goal.returns-in-Ok-clause-step
 returns-in-Ok-clause-step g c =
     let e = c.in-Ok.ensures.step in
     let x : Seen × ℕ = kept (c.in-Ok.event, c.in-Ok._number) in
-    let after : AfterReply c.args.tries [] x.0 x c.query_within.new.self.store c.query_within.new.self.store (ToTake (Some x)) = subst
-    (λ (y : Seen). AfterReply c.args.tries [] y x c.query_within.new.self.store c.query_within.new.self.store (ToTake (Some x))) (sym c.in-None.ensures) (refl, refl, refl) in
+    let after : AfterReply (UpTo c.args.tries) [] x.0 x c.query_within.new.self.store c.query_within.new.self.store (ToTake (Some x)) = subst
+    (λ (y : Seen). AfterReply (UpTo c.args.tries) [] y x c.query_within.new.self.store c.query_within.new.self.store (ToTake (Some x))) (sym c.in-None.ensures) (refl, refl, refl) in
     (e.0, ToTake (Some x), e.1, (e.0, [], c.query_within.new.self.store, ToTake (Some x), sym (append-nil e.0), e.2, after), ap (λ (y : Seen). Came (Some y)) (sym c.in-None.ensures), tt)
 
 pub returns-clause-step : goal.returns-clause-step

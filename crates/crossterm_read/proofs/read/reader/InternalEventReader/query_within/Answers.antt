@@ -4,13 +4,13 @@ use Rattle.std.specs.IoError.{error_kind}
 use Rattle.std.specs.declared.io.ErrorKind.{ErrorKind}
 use Rattle.std.specs.declared.io.ErrorKind.TheVariants.{Other}
 use Rattle.crossterm_read.specs.Answers.{IsOwn}
-use Rattle.crossterm_read.specs.Steps.{RefusedOnlyWithoutRoom}
+use Rattle.crossterm_read.specs.Steps.{UpTo, RefusedOnlyWithoutRoom}
 use Rattle.crossterm_read.specs.Device.{AsksAtOnce}
 use Rattle.crossterm_read.proofs.Querying.{fault_weaker, other_not, polled_there, query_fault}
 use Rattle.crossterm_read.proofs.read.reader.InternalEventReader.query_within.Goals as goal
 
 pub reply_taken-requires : goal.reply_taken-requires
-reply_taken-requires g c said none = let e = c.poll_within-ready.ensures.step in polled_there (g.F.Filter.admits c.args.filter.now) _ _ _ e.0 _ e.2 said none
+reply_taken-requires g c said none = let e = c.poll_within-ready.ensures.step in polled_there (g.F.Filter.admits c.args.filter.now) (UpTo c.args.tries) _ _ e.0 _ e.2 said none
 
 pub returns-clause-step : goal.returns-clause-step
 returns-clause-step g c =

@@ -1,5 +1,5 @@
 use Rattle.std.proofs.Common.{◌∙◌}
-use Rattle.crossterm_read.proofs.Sharing.{some_there, closed_as, closed_sits, closed_last}
+use Rattle.crossterm_read.proofs.Sharing.{some_there, closed_as, closed_none, closed_sits, closed_last}
 use Rattle.crossterm_read.specs.Seats.{knows}
 use Rattle.crossbeam_queue.specs.Passes.{view}
 use Rattle.crossterm_read.proofs.read.shared.reader.EventReader.close.Goals as goal
@@ -16,3 +16,6 @@ invariant_of-pass g c = record {
 
 pub returns-clause-closed : goal.returns-clause-closed
 returns-clause-closed g c = closed_as g.S.EventSource.drawn c.emptied.result (knows c.args.pass.now) (view c.emptied.new.seat) c.emptied.ensures.taken
+
+pub returns-clause-shared : goal.returns-clause-shared
+returns-clause-shared g c = closed_none g.S.EventSource.drawn _ c.emptied.result (knows c.args.pass.now) (view c.emptied.new.seat) (c.emptied.ensures.seat.0 ∙ c.requires.0) c.requires.1 c.emptied.ensures.same

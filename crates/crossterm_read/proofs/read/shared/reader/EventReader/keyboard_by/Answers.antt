@@ -1,10 +1,11 @@
-use Rattle.std.proofs.Common.{Option, Some, refl, ap, sym, subst, inl, arith, ◌∙◌}
+use Rattle.std.proofs.Common.{◌-◌, Option, Some, refl, ap, sym, subst, inl, arith, ◌∙◌}
 use Rattle.std.specs.Duration.{as_nanos}
 use Rattle.std.specs.declared.time.Duration.{Duration}
 use Rattle.crossbeam_queue.specs.Passes.{view}
 use Rattle.crossterm_read.specs.Calls.{Keyboard}
-use Rattle.crossterm_read.specs.Waiting.{TimedKeyboard}
-use Rattle.crossterm_read.proofs.Sharing.{some_there, produces, extends, extends_at, keyboard_longer, sits_taken, sits_put, last_after}
+use Rattle.crossterm_read.specs.Queries.{KeyboardStep}
+use Rattle.crossterm_read.specs.Steps.{Within}
+use Rattle.crossterm_read.proofs.Sharing.{some_there, produces, extends, extends_at, keyboard_longer, flags_memory, sits_taken, sits_put, last_after}
 use Rattle.crossterm_read.proofs.read.shared.reader.EventReader.keyboard_by.Goals as goal
 
 pub take_within-requires-clause-opened : goal.take_within-requires-clause-opened
@@ -15,12 +16,27 @@ keyboard_until-taken-requires g c = let start = ap as_nanos c.new-timeout.ensure
 
 pub put-requires-clause-produces : goal.put-requires-clause-produces
 put-requires-clause-produces g c =
-    let drawn = g.S.EventSource.drawn in
+    let start = ap as_nanos c.new-timeout.ensures.start in
     let s = c.keyboard_until-taken.ensures.step in
-    let timed = subst (λ (limit : Option Duration). TimedKeyboard drawn limit (as_nanos c.new-timeout.result.start) (g.C.Clock.told c.keyboard_until-taken.new.clock) c.in-Some.reader c.keyboard_until-taken.new.self s.0) c.new-timeout.ensures.limit s.1 in
-    let p = subst (λ n. TimedKeyboard drawn (Some c.args.limit) n (g.C.Clock.told c.keyboard_until-taken.new.clock) c.in-Some.reader c.keyboard_until-taken.new.self s.0) (ap as_nanos c.new-timeout.ensures.start) timed in
-    produces drawn _ _ _ c.in-Some.reader c.keyboard_until-taken.new.self c.in-Some.ensures.taken (Keyboard p.tries p.again) p.answers s.0
-    (record { timed = p; call = refl; answers = refl; reply = refl }, s.2, s.3) p.drawn_so p.step
+    let first = s.0 - as_nanos c.new-timeout.result.start in
+    let past = g.C.Clock.told c.keyboard_until-taken.new.clock - s.0 in
+    let again = Within (Some c.args.limit) past in
+    let step = subst (λ (limit : Option Duration). KeyboardStep (Within limit first) again s.3 c.in-Some.reader.store c.keyboard_until-taken.new.self.store s.4) c.new-timeout.ensures.limit s.6 in
+    produces g.S.EventSource.drawn _ _ _ c.in-Some.reader c.keyboard_until-taken.new.self c.in-Some.ensures.taken (Keyboard (Within (Some c.args.limit) first) again) s.3 s.4 (
+      (
+        s.0,
+        omega (arith, start, c.now-start.ensures.told, c.take_within.ensures.later, s.1),
+        s.2,
+        record {
+          call = (first, past, omega (arith, start), omega arith, refl);
+          reply = refl;
+          limits_so = (s.10, (c.new-timeout.result, c.new-timeout.ensures.limit, omega (arith, start), s.11), s.12);
+          memory = flags_memory c.keyboard_until-taken.result s.4 _ s.7 s.8;
+        },
+      ),
+      s.7,
+      s.9,
+    ) s.5 step c.keyboard_until-taken.ensures.room
 
 pub invariant_of-pass-2 : goal.invariant_of-pass-2
 invariant_of-pass-2 g c =
@@ -37,5 +53,5 @@ returns-clause-call g c =
     inl (
       x.call.reply,
       c.flagged.ensures ∙ x.such.1,
-      extends_at g.S.EventSource.drawn _ _ _ _ x (keyboard_longer g.S.EventSource.drawn _ _ _ _ _ (omega (arith, c.now-start.ensures.later, c.now-start.ensures.told)) x.found x.call x.left x.such.0),
+      extends_at g.S.EventSource.drawn _ _ _ _ x (keyboard_longer g.S.EventSource.drawn g.S.EventSource.asked (Some c.args.limit) _ _ _ _ (omega (arith, c.now-start.ensures.later, c.now-start.ensures.told)) x.found x.call x.left x.such.0),
     )

@@ -1,12 +1,12 @@
-use Rattle.std.proofs.Common.{Option, refl, ap, sym, subst, inl, arith, ◌∙◌}
+use Rattle.std.proofs.Common.{◌-◌, Option, refl, ap, sym, subst, inl, arith, ◌∙◌}
 use Rattle.std.specs.Duration.{as_nanos}
 use Rattle.std.specs.declared.time.Duration.{Duration}
 use Rattle.crossbeam_queue.specs.Passes.{view}
 use Rattle.crossterm_types.specs.Admitting.{admitted}
 use Rattle.crossterm_read.specs.Calls.{Poll}
 use Rattle.crossterm_read.specs.Replies.{poll_reply}
-use Rattle.crossterm_read.specs.Waiting.{TimedPoll}
-use Rattle.crossterm_read.proofs.Sharing.{some_there, produces, extends, extends_as, poll_longer, sits_taken, sits_put, last_after, last_poll}
+use Rattle.crossterm_read.specs.Steps.{Within, PollStep}
+use Rattle.crossterm_read.proofs.Sharing.{some_there, produces, extends, extends_as, call_longer, limits_longer, poll_memory, sits_taken, sits_put, last_after, last_poll}
 use Rattle.crossterm_read.proofs.read.shared.reader.EventReader.poll_by.Goals as goal
 
 pub take_within-requires-clause-opened : goal.take_within-requires-clause-opened
@@ -17,13 +17,17 @@ poll_until-result-requires g c = let start = ap as_nanos c.new-timeout.ensures.s
 
 pub put-requires-clause-produces : goal.put-requires-clause-produces
 put-requires-clause-produces g c =
-    let drawn = g.S.EventSource.drawn in
     let start = ap as_nanos c.new-timeout.ensures.start in
-    let timed = subst (λ (limit : Option Duration). TimedPoll drawn (admitted c.args.filter) limit (as_nanos c.new-timeout.result.start) (g.C.Clock.told c.poll_until-result.new.clock) c.in-Some.reader c.poll_until-result.new.self (poll_reply c.poll_until-result.result))
-    c.new-timeout.ensures.limit c.poll_until-result.ensures.step in
-    let p = subst (λ n. TimedPoll drawn (admitted c.args.filter) c.args.limit n (g.C.Clock.told c.poll_until-result.new.clock) c.in-Some.reader c.poll_until-result.new.self (poll_reply c.poll_until-result.result)) start timed in
-    produces drawn _ _ _ c.in-Some.reader c.poll_until-result.new.self c.in-Some.ensures.taken (Poll p.tries c.args.filter) p.answers (poll_reply c.poll_until-result.result)
-    (record { timed = p; call = refl; answers = refl; reply = refl; limits = (c.new-timeout.result, c.new-timeout.ensures.limit, omega (arith, start), c.poll_until-result.ensures.limits) }) p.drawn_so p.step
+    let past = g.C.Clock.told c.poll_until-result.new.clock - as_nanos c.new-timeout.result.start in
+    let e = c.poll_until-result.ensures.step in
+    let step = subst (λ (limit : Option Duration). PollStep (Within limit past) (admitted c.args.filter) e.0 c.in-Some.reader.store c.poll_until-result.new.self.store (poll_reply c.poll_until-result.result)) c.new-timeout.ensures.limit e.2 in
+    produces g.S.EventSource.drawn _ _ _ c.in-Some.reader c.poll_until-result.new.self c.in-Some.ensures.taken (Poll (Within c.args.limit past) c.args.filter) e.0 (poll_reply c.poll_until-result.result)
+    (record {
+      call = (past, omega (arith, start), refl);
+      reply = refl;
+      limits_so = (c.new-timeout.result, c.new-timeout.ensures.limit, omega (arith, start), c.poll_until-result.ensures.limits);
+      memory = poll_memory c.poll_until-result.result _ e.3;
+    }) e.1 step c.poll_until-result.ensures.room
 
 pub invariant_of-pass-2 : goal.invariant_of-pass-2
 invariant_of-pass-2 g c = record {
@@ -35,5 +39,5 @@ invariant_of-pass-2 g c = record {
 
 pub returns-clause-call : goal.returns-clause-call
 returns-clause-call g c =
-    inl (extends_as g.S.EventSource.drawn _ _ (poll_longer g.S.EventSource.drawn g.S.EventSource.asked c.args.filter c.args.limit _ _ _ _ (omega (arith, c.now-start.ensures.later, c.now-start.ensures.told))) _ _
+    inl (extends_as g.S.EventSource.drawn _ _ (call_longer g.S.EventSource.drawn g.S.EventSource.asked (λ patience. Poll patience c.args.filter) c.args.limit _ _ _ _ _ (limits_longer g.S.EventSource.drawn c.args.limit _ _ _ (omega (arith, c.now-start.ensures.later, c.now-start.ensures.told))) _ (omega (arith, c.now-start.ensures.later, c.now-start.ensures.told))) _ _
     (extends g.S.EventSource.drawn _ (view c.args.pass.now.seat) (view c.take_within.new.seat) (view c.put.new.seat) c.in-Some.reader c.poll_until-result.new.self c.requires.1 c.in-Some.ensures.taken c.put.ensures.put))

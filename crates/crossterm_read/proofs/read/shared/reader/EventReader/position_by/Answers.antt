@@ -1,12 +1,13 @@
-use Rattle.std.proofs.Common.{Option, Some, refl, ap, sym, subst, inl, arith, ◌∙◌}
+use Rattle.std.proofs.Common.{◌-◌, Option, Some, refl, ap, sym, subst, inl, arith, ◌∙◌}
 use Rattle.std.specs.Duration.{as_nanos}
 use Rattle.std.specs.declared.time.Duration.{Duration}
 use Rattle.crossbeam_queue.specs.Passes.{view}
 use Rattle.crossterm_types.specs.Admitting.{is_cursor_position}
 use Rattle.crossterm_read.specs.Calls.{Position}
 use Rattle.crossterm_read.specs.inside.Replies.{read_reply}
-use Rattle.crossterm_read.specs.Waiting.{TimedQuery}
-use Rattle.crossterm_read.proofs.Sharing.{some_there, produces, extends, extends_as, position_longer, sits_taken, sits_put, last_after, last_read}
+use Rattle.crossterm_read.specs.Queries.{QueryStep}
+use Rattle.crossterm_read.specs.Steps.{Within}
+use Rattle.crossterm_read.proofs.Sharing.{some_there, produces, extends, extends_as, call_longer, limits_longer, read_memory, sits_taken, sits_put, last_after, last_read}
 use Rattle.crossterm_read.proofs.read.shared.reader.EventReader.position_by.Goals as goal
 
 pub take_within-requires-clause-opened : goal.take_within-requires-clause-opened
@@ -17,13 +18,17 @@ query_until-taken-requires g c = let start = ap as_nanos c.new-timeout.ensures.s
 
 pub put-requires-clause-produces : goal.put-requires-clause-produces
 put-requires-clause-produces g c =
-    let drawn = g.S.EventSource.drawn in
     let start = ap as_nanos c.new-timeout.ensures.start in
-    let timed = subst (λ (limit : Option Duration). TimedQuery drawn is_cursor_position limit (as_nanos c.new-timeout.result.start) (g.C.Clock.told c.query_until-taken.new.clock) c.in-Some.reader c.query_until-taken.new.self (read_reply c.query_until-taken.result))
-    c.new-timeout.ensures.limit c.query_until-taken.ensures.step in
-    let p = subst (λ n. TimedQuery drawn is_cursor_position (Some c.args.limit) n (g.C.Clock.told c.query_until-taken.new.clock) c.in-Some.reader c.query_until-taken.new.self (read_reply c.query_until-taken.result)) start timed in
-    produces drawn _ _ _ c.in-Some.reader c.query_until-taken.new.self c.in-Some.ensures.taken (Position p.tries) p.answers (read_reply c.query_until-taken.result)
-    (record { timed = p; call = refl; answers = refl; reply = refl; limits = (c.new-timeout.result, c.new-timeout.ensures.limit, omega (arith, start), c.query_until-taken.ensures.limits) }) p.drawn_so p.step
+    let past = g.C.Clock.told c.query_until-taken.new.clock - as_nanos c.new-timeout.result.start in
+    let e = c.query_until-taken.ensures.step in
+    let step = subst (λ (limit : Option Duration). QueryStep is_cursor_position (Within limit past) e.0 c.in-Some.reader.store c.query_until-taken.new.self.store (read_reply c.query_until-taken.result)) c.new-timeout.ensures.limit e.2 in
+    produces g.S.EventSource.drawn _ _ _ c.in-Some.reader c.query_until-taken.new.self c.in-Some.ensures.taken (Position (Within (Some c.args.limit) past)) e.0 (read_reply c.query_until-taken.result)
+    (record {
+      call = (past, omega (arith, start), refl);
+      reply = refl;
+      limits_so = (c.new-timeout.result, c.new-timeout.ensures.limit, omega (arith, start), c.query_until-taken.ensures.limits);
+      memory = read_memory c.query_until-taken.result _ e.3;
+    }) e.1 step c.query_until-taken.ensures.room
 
 pub invariant_of-pass-2 : goal.invariant_of-pass-2
 invariant_of-pass-2 g c = record {
@@ -37,6 +42,6 @@ pub returns-clause-call : goal.returns-clause-call
 returns-clause-call g c = inl (
   read_reply c.query_until-taken.result,
   c.placed.ensures,
-  extends_as g.S.EventSource.drawn _ _ (position_longer g.S.EventSource.drawn g.S.EventSource.asked _ _ _ _ _ (omega (arith, c.now-start.ensures.later, c.now-start.ensures.told))) _ _
+  extends_as g.S.EventSource.drawn _ _ (call_longer g.S.EventSource.drawn g.S.EventSource.asked Position (Some c.args.limit) _ _ _ _ _ (limits_longer g.S.EventSource.drawn (Some c.args.limit) _ _ _ (omega (arith, c.now-start.ensures.later, c.now-start.ensures.told))) _ (omega (arith, c.now-start.ensures.later, c.now-start.ensures.told))) _ _
       (extends g.S.EventSource.drawn _ (view c.args.pass.now.seat) (view c.take_within.new.seat) (view c.put.new.seat) c.in-Some.reader c.query_until-taken.new.self c.requires.1 c.in-Some.ensures.taken c.put.ensures.put),
 )

@@ -1,7 +1,8 @@
-use Rattle.std.proofs.Common.{◌≡◌, true, refl, sym, ◌∙◌}
+use Rattle.std.proofs.Common.{◌≡◌, None, true, refl, sym, ◌∙◌}
 use Rattle.crossbeam_queue.specs.Passes.{view}
 use Rattle.crossterm_types.specs.Admitting.{admitted}
 use Rattle.crossterm_read.specs.Calls.{Read}
+use Rattle.crossterm_read.specs.Steps.{Within}
 use Rattle.crossterm_read.specs.inside.Replies.{read_reply}
 use Rattle.crossterm_read.proofs.Sharing.{some_there, produces, extends, sits_taken, sits_put, last_after, last_read, read_memory, read_kept}
 use Rattle.crossterm_read.proofs.read.shared.reader.EventReader.read_by.Goals as goal
@@ -12,8 +13,8 @@ take-reader-requires-clause-opened g c = some_there _ c.args.pass.now.sits.opene
 pub put-requires-clause-produces : goal.put-requires-clause-produces
 put-requires-clause-produces g c =
     let p = c.read_numbered-taken.ensures.step in
-    produces g.S.EventSource.drawn _ _ _ c.take-reader.result c.read_numbered-taken.new.self c.take-reader.ensures.taken (Read p.0 c.args.filter) p.1 (read_reply c.read_numbered-taken.result)
-    (record { tries = p.0; call = refl; reply = refl; limits = c.read_numbered-taken.ensures.asked; memory = read_memory c.read_numbered-taken.result _ p.4 }) p.2 p.3
+    produces g.S.EventSource.drawn _ _ _ c.take-reader.result c.read_numbered-taken.new.self c.take-reader.ensures.taken (Read (Within None p.0) c.args.filter) p.1 (read_reply c.read_numbered-taken.result)
+    (record { call = (p.0, refl); reply = refl; limits_so = c.read_numbered-taken.ensures.asked; memory = read_memory c.read_numbered-taken.result _ p.4 }) p.2 p.3 c.read_numbered-taken.ensures.room
 
 pub invariant_of-pass : goal.invariant_of-pass
 invariant_of-pass g c = record {

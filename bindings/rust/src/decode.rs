@@ -1,0 +1,110 @@
+//! From the archive's numbers to events.
+
+use crate::event::{Event, InternalEvent, MouseButton, MouseEvent, MouseEventKind};
+use crate::key::{KeyCode, KeyEvent, KeyEventKind, KeyEventState, KeyModifiers, KeyboardEnhancementFlags, MEDIA, MODIFIERS};
+use crate::raw;
+
+/// The keys that the numbers 0 to 24 name. `F` and `Char` have a value of their own.
+const KEYS: [KeyCode; 25] = [
+    KeyCode::Backspace,
+    KeyCode::Enter,
+    KeyCode::Left,
+    KeyCode::Right,
+    KeyCode::Up,
+    KeyCode::Down,
+    KeyCode::Home,
+    KeyCode::End,
+    KeyCode::PageUp,
+    KeyCode::PageDown,
+    KeyCode::Tab,
+    KeyCode::BackTab,
+    KeyCode::Delete,
+    KeyCode::Insert,
+    KeyCode::F(0),
+    KeyCode::Char('\0'),
+    KeyCode::Null,
+    KeyCode::Esc,
+    KeyCode::CapsLock,
+    KeyCode::ScrollLock,
+    KeyCode::NumLock,
+    KeyCode::PrintScreen,
+    KeyCode::Pause,
+    KeyCode::Menu,
+    KeyCode::KeypadBegin,
+];
+
+#[inline]
+fn code_of(event: &raw::Event) -> Option<KeyCode> {
+    if event.code == 15 {
+        return char::from_u32(event.value).map(KeyCode::Char);
+    }
+    match event.code {
+        14 => u8::try_from(event.value).ok().map(KeyCode::F),
+        25 => MEDIA.get(event.value as usize).copied().map(KeyCode::Media),
+        26 => MODIFIERS.get(event.value as usize).copied().map(KeyCode::Modifier),
+        code => KEYS.get(usize::from(code)).copied(),
+    }
+}
+
+#[inline]
+fn key_of(event: &raw::Event) -> Option<KeyEvent> {
+    Some(KeyEvent {
+        code: code_of(event)?,
+        modifiers: KeyModifiers::from_bits_retain(event.modifiers),
+        kind: match event.press {
+            0 => KeyEventKind::Press,
+            1 => KeyEventKind::Repeat,
+            _ => KeyEventKind::Release,
+        },
+        state: KeyEventState::from_bits_retain(event.state),
+    })
+}
+
+#[inline]
+fn mouse_of(event: &raw::Event) -> MouseEvent {
+    let button = match event.value {
+        0 => MouseButton::Left,
+        1 => MouseButton::Right,
+        _ => MouseButton::Middle,
+    };
+    MouseEvent {
+        kind: match event.code {
+            0 => MouseEventKind::Down(button),
+            1 => MouseEventKind::Up(button),
+            2 => MouseEventKind::Drag(button),
+            3 => MouseEventKind::Moved,
+            4 => MouseEventKind::ScrollDown,
+            5 => MouseEventKind::ScrollUp,
+            6 => MouseEventKind::ScrollLeft,
+            _ => MouseEventKind::ScrollRight,
+        },
+        column: event.column,
+        row: event.row,
+        modifiers: KeyModifiers::from_bits_retain(event.modifiers),
+    }
+}
+
+impl raw::Event {
+    /// Whether a paste is over: its text isn't in the numbers.
+    #[inline]
+    pub fn is_paste(&self) -> bool {
+        self.kind == 5
+    }
+
+    /// The event that the numbers tell, but that of a paste. It is `None` where they name none, which no event of a parser does.
+    #[inline]
+    pub fn to_event(&self) -> Option<InternalEvent> {
+        if self.kind == 3 {
+            return key_of(self).map(|key| InternalEvent::Event(Event::Key(key)));
+        }
+        Some(match self.kind {
+            4 => InternalEvent::Event(Event::Mouse(mouse_of(self))),
+            1 => InternalEvent::Event(Event::FocusGained),
+            2 => InternalEvent::Event(Event::FocusLost),
+            6 => InternalEvent::CursorPosition(self.column, self.row),
+            7 => InternalEvent::KeyboardEnhancementFlags(KeyboardEnhancementFlags::from_bits_retain(self.flags)),
+            8 => InternalEvent::PrimaryDeviceAttributes,
+            _ => return None,
+        })
+    }
+}

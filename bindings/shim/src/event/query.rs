@@ -1,0 +1,69 @@
+//! What a terminal is asked for.
+
+use crate::event::reader::{self, Asking, State};
+use crate::system;
+use crate::terminal::{disable_raw_mode, enable_raw_mode};
+use gelvanh::InternalEvent;
+use std::io;
+use std::time::{Duration, Instant};
+
+/// How long an answer may take.
+const LIMIT: Duration = Duration::from_secs(2);
+
+/// Does something in raw mode, so that the terminal's replies aren't shown and come at once.
+fn in_raw_mode<T>(f: impl FnOnce() -> io::Result<T>) -> io::Result<T> {
+    if system::is_raw() {
+        return f();
+    }
+    enable_raw_mode()?;
+    let given = f();
+    disable_raw_mode()?;
+    given
+}
+
+fn not_answered(what: &str) -> io::Error {
+    io::Error::new(io::ErrorKind::Other, format!("the terminal didn't tell {what} within {} s", LIMIT.as_secs()))
+}
+
+/// The cursor's column and row, from 0, which the terminal is asked for. The error is of kind `Other` where it doesn't answer within 2 s.
+///
+/// Outside of raw mode it is turned on for the question. Keys that are typed meanwhile are kept for `event::read`.
+pub fn position() -> io::Result<(u16, u16)> {
+    in_raw_mode(|| {
+        let _asking = Asking::begin();
+        system::send(b"\x1b[6n")?;
+        let place = |reply: &InternalEvent| match *reply {
+            InternalEvent::CursorPosition(column, row) => Some((column, row)),
+            _ => None,
+        };
+        let limit = Instant::now().checked_add(LIMIT);
+        reader::wait(limit, |state: &mut State| state.take_reply(place))?.ok_or_else(|| not_answered("the cursor's place"))
+    })
+}
+
+/// Whether the terminal speaks kitty's keyboard protocol, which it is asked for. The error is of kind `Other` where it doesn't answer
+/// within 2 s.
+pub fn supports_keyboard_enhancement() -> io::Result<bool> {
+    in_raw_mode(|| {
+        let _asking = Asking::begin();
+        // Each terminal tells its attributes: who tells them first doesn't know the flags.
+        system::send(b"\x1b[?u\x1b[c")?;
+        let limit = Instant::now().checked_add(LIMIT);
+        let speaks = reader::wait(limit, |state: &mut State| state.take_reply(speaks))?.ok_or_else(|| not_answered("its flags"))?;
+        if speaks {
+            reader::wait(limit, |state: &mut State| state.take_reply(|reply| speaks_not(reply).then_some(())))?;
+        }
+        Ok(speaks)
+    })
+}
+
+fn speaks_not(reply: &InternalEvent) -> bool {
+    *reply == InternalEvent::PrimaryDeviceAttributes
+}
+
+fn speaks(reply: &InternalEvent) -> Option<bool> {
+    match reply {
+        InternalEvent::KeyboardEnhancementFlags(_) => Some(true),
+        reply => speaks_not(reply).then_some(false),
+    }
+}

@@ -1,0 +1,157 @@
+//! The events that all threads share.
+//!
+//! One thread at a time waits for the terminal: it has taken the source out, and holds no lock. The others wait to be told, each until its
+//! own limit. Who came back with events, or with none, tells all others, and one of these takes the source then.
+
+use crate::event::source::Source;
+use gelvanh::{Event, InternalEvent};
+use std::io;
+use std::mem;
+use std::sync::{Condvar, Mutex, MutexGuard, PoisonError};
+use std::time::{Duration, Instant};
+
+/// Where the source is.
+enum Seat {
+    /// It wasn't needed yet, or couldn't be opened.
+    Unopened,
+    /// Nobody waits for the terminal.
+    Free(Box<Source>),
+    /// A thread waits with it.
+    Taken,
+}
+
+/// What was read and is still to be given.
+pub struct State {
+    /// Events, the newest first, so that the oldest is popped.
+    events: Vec<Event>,
+    /// Replies of the terminal, the oldest first, while somebody asks.
+    replies: Vec<InternalEvent>,
+    /// How many calls wait for a reply.
+    asking: usize,
+    seat: Seat,
+}
+
+static STATE: Mutex<State> = Mutex::new(State { events: Vec::new(), replies: Vec::new(), asking: 0, seat: Seat::Unopened });
+static CHANGED: Condvar = Condvar::new();
+
+fn lock() -> MutexGuard<'static, State> {
+    STATE.lock().unwrap_or_else(PoisonError::into_inner)
+}
+
+impl State {
+    pub fn has_event(&self) -> bool {
+        !self.events.is_empty()
+    }
+
+    pub fn take_event(&mut self) -> Option<Event> {
+        self.events.pop()
+    }
+
+    /// The first reply of a kind.
+    pub fn take_reply<T>(&mut self, of: impl Fn(&InternalEvent) -> Option<T>) -> Option<T> {
+        let (place, found) = self.replies.iter().enumerate().find_map(|(place, reply)| Some((place, of(reply)?)))?;
+        self.replies.remove(place);
+        Some(found)
+    }
+
+    /// Keeps what was read behind what is there. A reply that nobody asked for is dropped.
+    fn keep(&mut self, read: Vec<InternalEvent>) {
+        if read.is_empty() {
+            return;
+        }
+        let mut newer = Vec::with_capacity(self.events.len() + read.len());
+        for event in read {
+            match event {
+                InternalEvent::Event(event) => newer.push(event),
+                reply if self.asking > 0 => self.replies.push(reply),
+                _ => {}
+            }
+        }
+        newer.reverse();
+        newer.append(&mut self.events);
+        self.events = newer;
+    }
+}
+
+/// How long it is until the limit.
+fn left(limit: Option<Instant>) -> Option<Duration> {
+    limit.map(|limit| limit.saturating_duration_since(Instant::now()))
+}
+
+/// What a function finds in the state, for which it waits until the limit: with none it waits on. It looks once at least.
+pub fn wait<T>(limit: Option<Instant>, mut find: impl FnMut(&mut State) -> Option<T>) -> io::Result<Option<T>> {
+    let mut state = lock();
+    let mut has_looked = false;
+    loop {
+        if let Some(found) = find(&mut state) {
+            return Ok(Some(found));
+        }
+        let left = left(limit);
+        if has_looked && left == Some(Duration::ZERO) {
+            return Ok(None);
+        }
+        state = look(state, left)?;
+        has_looked = true;
+    }
+}
+
+/// Waits for the terminal, or where another thread does, for what that one reads.
+fn look(mut state: MutexGuard<'static, State>, left: Option<Duration>) -> io::Result<MutexGuard<'static, State>> {
+    let mut source = match mem::replace(&mut state.seat, Seat::Taken) {
+        Seat::Taken => return Ok(wait_to_be_told(state, left)),
+        Seat::Free(source) => source,
+        Seat::Unopened => match Source::open() {
+            Ok(source) => Box::new(source),
+            Err(error) => {
+                state.seat = Seat::Unopened;
+                return Err(error);
+            }
+        },
+    };
+    drop(state);
+    let mut read = Vec::new();
+    let outcome = source.read(left, &mut read);
+    let mut state = lock();
+    state.seat = Seat::Free(source);
+    state.keep(read);
+    CHANGED.notify_all();
+    outcome.map(|()| state)
+}
+
+fn wait_to_be_told(state: MutexGuard<'static, State>, left: Option<Duration>) -> MutexGuard<'static, State> {
+    match left {
+        None => CHANGED.wait(state).unwrap_or_else(PoisonError::into_inner),
+        Some(left) => CHANGED.wait_timeout(state, left).unwrap_or_else(PoisonError::into_inner).0,
+    }
+}
+
+/// Lets each waiting thread look again at what it waits for.
+#[cfg(feature = "event-stream")]
+pub fn wake_all() {
+    // With the lock, so that a thread either waits already or hasn't looked yet.
+    let state = lock();
+    crate::system::wake();
+    CHANGED.notify_all();
+    drop(state);
+}
+
+/// A call that waits for a reply: while there is one, replies are kept.
+pub struct Asking(());
+
+impl Asking {
+    pub fn begin() -> Asking {
+        lock().asking += 1;
+        Asking(())
+    }
+}
+
+impl Drop for Asking {
+    fn drop(&mut self) {
+        let mut state = lock();
+        state.asking -= 1;
+        if state.asking == 0 {
+            // A reply that came too late answers no later call.
+            state.replies.clear();
+        }
+    }
+}

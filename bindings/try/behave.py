@@ -1,0 +1,241 @@
+"""Runs `behave` in terminals of 24 x 80, types, resizes and answers, and compares the lines that it tells.
+
+behave.py PROGRAM [TEST..]: without a test's name it runs all that are of `behave`; `readme` is of the program in bindings/README.md.
+"""
+import fcntl
+import os
+import pty
+import select
+import struct
+import subprocess
+import sys
+import termios
+import time
+
+
+class Terminal:
+    """A program in a terminal of its own. Its standard error, a pipe, tells lines."""
+
+    def __init__(self, program, name, stdin=None, stdout=None, env=None, controlling=True):
+        self.master, slave = pty.openpty()
+        self.resize(80, 24)
+        self.out, self.told = bytearray(), bytearray()
+
+        def own():
+            os.setsid()
+            if controlling:
+                fcntl.ioctl(slave, termios.TIOCSCTTY, 0)
+
+        environment = {key: value for key, value in os.environ.items() if key != "NO_COLOR"}
+        self.before = termios.tcgetattr(slave)
+        self.process = subprocess.Popen(
+            [program, name], stdin=slave if stdin is None else stdin, stdout=slave if stdout is None else stdout,
+            stderr=subprocess.PIPE, preexec_fn=own, env={**environment, **(env or {})},
+        )
+        self.slave = slave
+
+    def resize(self, columns, rows):
+        fcntl.ioctl(self.master, termios.TIOCSWINSZ, struct.pack("HHHH", rows, columns, 640, 480))
+
+    def type(self, text):
+        data = text if isinstance(text, bytes) else text.encode()
+        while data:
+            data = data[os.write(self.master, data[:512]):]
+            self.pump(0.0)
+
+    def pump(self, seconds):
+        """Takes what comes within some time."""
+        error = self.process.stderr.fileno()
+        for fd in select.select([self.master, error], [], [], seconds)[0]:
+            try:
+                data = os.read(fd, 65536)
+            except OSError:
+                data = b""
+            if fd == error:
+                self.told += data
+            else:
+                self.out += data
+
+    def until(self, done, what):
+        end = time.time() + 10
+        while not done():
+            if time.time() > end:
+                self.process.kill()
+                raise AssertionError(f"no {what} within 10 s; told {bytes(self.told)!r}, shown {bytes(self.out)!r}")
+            self.pump(0.05)
+
+    def wait_told(self, line, times=1):
+        self.until(lambda: self.told.decode().splitlines().count(line) >= times, f"line {line!r}")
+
+    def wait_shown(self, text, times=1):
+        self.until(lambda: self.out.count(text) >= times, f"text {text!r}")
+
+    def is_raw(self):
+        return not termios.tcgetattr(self.slave)[3] & termios.ICANON
+
+    def end(self):
+        """The lines told, where the program ended well and left the terminal's mode as it was."""
+        self.until(lambda: self.process.poll() is not None, "end")
+        for _ in range(5):
+            self.pump(0.02)
+        self.told += self.process.stderr.read()
+        assert self.process.returncode == 0, (self.process.returncode, bytes(self.told))
+        assert termios.tcgetattr(self.slave) == self.before, "the mode isn't as it was"
+        os.close(self.master)
+        os.close(self.slave)
+        return self.told.decode().splitlines()
+
+
+def keys(start):
+    t = start("keys")
+    t.wait_told("raw true")
+    assert t.is_raw()
+    rows = [
+        ("a", "a  Press"), ("A", "A Shift Press"), ("é", "é  Press"), ("\n", "j Control Press"), ("\r", "Enter  Press"),
+        ("\x1b", "Esc  Press"), ("\x1ba", "a Alt Press"), ("\x1b[A", "Up  Press"), ("\x1b[1;5C", "Right Control Press"),
+        ("\x1b[15~", "F5  Press"), ("\x1b[97;1:3u", "a  Release"), ("\x1b[I", "FocusGained"),
+        ("\x1b[200~two\nlines\x1b[201~", 'Paste("two\\nlines")'),
+        ("\x1b[<0;20;10M", "Mouse(MouseEvent { kind: Down(Left), column: 19, row: 9, modifiers: KeyModifiers(0x0) })"),
+        ("\x1b[<66;1;1M", "Mouse(MouseEvent { kind: ScrollLeft, column: 0, row: 0, modifiers: KeyModifiers(0x0) })"),
+    ]
+    for text, told in rows:
+        t.type(text)
+        t.wait_told(told)
+    t.type("q")
+    assert t.end() == ["raw true"] + [told for _, told in rows] + ["q  Press", "raw false"]
+
+
+def resizes(start):
+    t = start("keys")
+    t.wait_told("raw true")
+    t.type("a")
+    t.wait_told("a  Press")
+    t.resize(100, 30)
+    t.wait_told("Resize(100, 30)")
+    # Bytes that are no event yet.
+    t.type("\x1b[1")
+    time.sleep(0.1)
+    t.resize(90, 20)
+    t.wait_told("Resize(90, 20)")
+    t.type(";2A")
+    t.wait_told("Up Shift Press")
+    t.type("q")
+    assert t.end()[1:-2] == ["a  Press", "Resize(100, 30)", "Resize(90, 20)", "Up Shift Press"]
+    t = start("chained")
+    t.wait_told("ready")
+    t.resize(70, 20)
+    assert t.end() == ["ready", "Resize(70, 20) handled 1"]
+
+
+def limits(start):
+    t = start("limits")
+    t.wait_told("ready")
+    t.type("x")
+    t.wait_told('Some("x  Press")')
+    t.type("y")
+    assert t.end() == ["zero false None", "short false true", "ready", "max true", "zero true", 'Some("x  Press")', "huge true", "y  Press"]
+
+
+def two_threads(start):
+    t = start("two_threads")
+    t.wait_shown(b"\x1b[6n")
+    t.type("\x1b[5;3R")
+    t.wait_told("ready")
+    t.type("x")
+    assert t.end() == ["poll false true", "place (2, 4)", "ready", "x  Press"]
+    t = start("shared_wait")
+    t.wait_told("ready")
+    t.type("x")
+    assert t.end() == ["ready", "true true x  Press"]
+
+
+def many(start):
+    t = start("count")
+    t.wait_told("ready")
+    for _ in range(20):
+        t.type("0123456789" * 50 + "\x1b[A")
+    t.type("q")
+    assert t.end() == ["ready", str(20 * 501)]
+
+
+def queries(start):
+    t = start("place")
+    t.wait_shown(b"\x1b[6n")
+    t.type("k\x1b[7;9R")
+    # Nobody answers the second.
+    assert t.end() == ["Ok((8, 6)) raw false", "Err(Other) raw false"]
+    t = start("keyboard")
+    for times, answer in enumerate(["\x1b[?1u\x1b[?62c", "\x1b[?62c"], 1):
+        t.wait_shown(b"\x1b[?u\x1b[c", times)
+        t.type(answer)
+    assert t.end() == ["Ok(true)", "Ok(false)", "Err(Other)"]
+
+
+def filters(start):
+    for stdin, stdout in ((subprocess.PIPE, None), (subprocess.DEVNULL, subprocess.DEVNULL)):
+        t = start("filter", stdin=stdin, stdout=stdout)
+        t.wait_told("raw true")
+        assert t.is_raw()
+        t.type("xq")
+        assert t.end() == ["size (80, 24)", "window 80 24 640 480", "raw true", "x  Press", "q  Press", "raw false"]
+    t = start("no_terminal", stdin=subprocess.DEVNULL, stdout=subprocess.DEVNULL, controlling=False)
+    assert t.end() == ["raw false", "poll false", "read false", "window false"]
+
+
+def ends(start):
+    t = start("end")
+    t.wait_told("ready")
+    t.type("\x04")
+    t.wait_told("Err(UnexpectedEof)")
+    t.type("\x04")
+    t.wait_told("Err(UnexpectedEof)", 2)
+    t.type("x\n")
+    assert t.end() == ["ready", "Err(UnexpectedEof)", "Err(UnexpectedEof)", "x  Press"]
+
+
+def hangups(start):
+    t = start("hangup", controlling=False)
+    t.wait_told("ready")
+    os.close(t.master)
+    t.process.wait(10)
+    assert t.process.stderr.read().decode().splitlines() == ["Err(UnexpectedEof)"] * 3
+    os.close(t.slave)
+
+
+def colours(start):
+    red = "\\u{1b}[38;5;9m"
+    assert start("colours").end() == [red + red + "\\u{1b}[m"]
+    assert start("colours", env={"NO_COLOR": ""}).end() == [red + red + "\\u{1b}[m"]
+    assert start("colours", env={"NO_COLOR": "1"}).end() == ["\\u{1b}[m" + red + "\\u{1b}[m"]
+
+
+def streams(start):
+    t = start("stream")
+    t.wait_told("ready")
+    t.type("a")
+    t.wait_told("a  Press")
+    t.resize(81, 25)
+    t.wait_told("Resize(81, 25)")
+    t.type("b")
+    t.wait_told("ready", 2)
+    t.type("\x04")
+    assert t.end() == [
+        "ready", "a  Press", "Resize(81, 25)", "b  Press", "pending true", "threads 2", "threads 1",
+        "ready", "Some(Err(UnexpectedEof))", "true",
+    ]
+
+
+def readme(start):
+    t = start("")
+    t.wait_shown(b"Esc ends it")
+    assert t.is_raw()
+    t.type("x\x1b")
+    assert t.end() == []
+    assert bytes(t.out) == b"\x1b[?1049h\x1b[38;5;10mEsc ends it\x1b[39m\x1b[?1049l", bytes(t.out)
+
+
+program, names = sys.argv[1], sys.argv[2:]
+ALL = (keys, resizes, limits, two_threads, many, queries, filters, ends, hangups, colours, streams)
+for test in [globals()[name] for name in names] or ALL:
+    test(lambda name, **how: Terminal(program, name, **how))
+    print(f"{test.__name__}: as expected", flush=True)

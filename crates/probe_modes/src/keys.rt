@@ -1,0 +1,204 @@
+//! `probe keys`: the keys of a script, cut by bindings.
+ghost use Rattle.crossterm_read.specs.Shared.{IsPassOf};
+
+mod chord;
+
+use crate::event_line::EventLine;
+use crate::fault::{Fault, Wrong};
+use crate::input::{Lines, divided};
+use crate::play::read_act;
+use chord::chord;
+use crossterm::event::read::InternalEventReader;
+use crossterm::event::source::{Act, DeviceSource, Script};
+use crossterm::event::timeout::Clock;
+use crossterm::event::{Event, EventReader, InternalEvent, KeyEvent, Pass};
+use keymap::{Keymap, KeymapFault, Matcher, Outcome};
+use std::alloc::{AllocError, Allocator};
+use std::io::{self, ErrorKind, Read, Write};
+use std::sync::Wait;
+use std::time::Duration;
+
+/// A clock that stands still.
+#[derive(Drop)]
+struct Still;
+
+impl Clock for Still {
+    ghost told = { λ _. 0 };
+
+    fn now(&mut self) -> Duration {
+        Duration::ZERO
+    }
+
+    fn last(&self) -> Duration {
+        Duration::ZERO
+    }
+}
+
+/// Chords with commas between.
+fn chords<A: Allocator + Clone>(alloc: &A, list: &str) -> Result<Vec<KeyEvent, A>, Wrong> {
+    let mut chords = Vec::new(alloc.clone()?);
+    for word in list.split(',') {
+        let chord = chord(word)?;
+        if chords.push(chord).is_err() {
+            return Err(Wrong::Memory);
+        }
+    }
+    Ok(chords)
+}
+
+/// What all lines say: the bindings and the script.
+#[derive(Drop)]
+struct Statements<A: Allocator> {
+    keymap: Keymap<A>,
+    script: Vec<Act<A>, A>,
+}
+
+impl<A: Allocator + Clone> Statements<A> {
+    fn new(alloc: &A) -> Result<Statements<A>, AllocError> {
+        let keymap = Keymap::new(alloc.clone()?);
+        let script = Vec::new(alloc.clone()?);
+        Ok(Statements { keymap, script })
+    }
+
+    fn add(&mut self, act: Act<A>) -> Result<(), AllocError> {
+        self.script.push(act)?;
+        Ok(())
+    }
+
+    /// Binds the chords of a line to its name.
+    fn bind(&mut self, alloc: &A, rest: &str) -> Result<(), Wrong> {
+        let (name, list) = rest.split_once(' ').ok_or(Wrong::Argument)?;
+        if name.is_empty() {
+            return Err(Wrong::Argument);
+        }
+        let chords = chords(alloc, list)?;
+        match self.keymap.bind(chords.as_slice(), name) {
+            Ok(_number) => Ok(()),
+            Err(KeymapFault::Memory) => Err(Wrong::Memory),
+            Err(_) => Err(Wrong::Argument),
+        }
+    }
+}
+
+impl<A: Allocator + Clone> Lines<A> for Statements<A> {
+    fn add_line(&mut self, alloc: &A, line: &str) -> Result<(), Wrong> {
+        match divided(line) {
+            ("bind", rest) => self.bind(alloc, rest.ok_or(Wrong::Argument)?),
+            _ => {
+                let act = read_act(alloc, line)?;
+                Ok(self.add(act)?)
+            }
+        }
+    }
+}
+
+fn print_event<A: Allocator, W: Write>(writer: &mut W, event: Event<A>) -> io::Result<()> {
+    let event = InternalEvent::Event(event);
+    let line = EventLine(&event);
+    writeln!(writer, "{line}")
+}
+
+fn print_outcome<A: Allocator, W: Write>(
+    writer: &mut W,
+    keymap: &Keymap<A>,
+    outcome: Outcome<A>,
+) -> io::Result<()> {
+    match outcome {
+        Outcome::Action(number) => {
+            let name = keymap.action(number).unwrap_or("");
+            writeln!(writer, "action {name}")
+        }
+        Outcome::Key(key) => print_event(writer, Event::<A>::Key(key)),
+        Outcome::Event(event) => print_event(writer, event),
+    }
+}
+
+/// Prints the outcomes that wait.
+fn print_waiting<A: Allocator, W: Write>(
+    writer: &mut W,
+    matcher: &mut Matcher<A>,
+) -> io::Result<()> {
+    while let Some(outcome) = matcher.next() {
+        print_outcome(writer, matcher.keymap(), outcome)?;
+    }
+    Ok(())
+}
+
+/// Flushes, and prints what comes of it and the kind of the fault that ended the steps.
+fn print_rest<A: Allocator, W: Write>(
+    writer: &mut W,
+    matcher: &mut Matcher<A>,
+    kind: ErrorKind,
+) -> io::Result<()> {
+    if matcher.flush().is_err() {
+        return Err(io::Error::from(ErrorKind::OutOfMemory));
+    }
+    print_waiting(writer, matcher)?;
+    writeln!(writer, "fault {kind:?}")
+}
+
+/// The reader of a script.
+type Shared<A> = EventReader<DeviceSource<Script<A>, A>, A>;
+
+/// Steps until a fault, and prints each outcome. The fault's kind stands on the last line.
+fn step<A: Allocator + Clone, H: Wait, W: Write>(
+    rt: &H,
+    shared: &Shared<A>,
+    mut pass: Pass<DeviceSource<Script<A>, A>, A>,
+    mut matcher: Matcher<A>,
+    writer: &mut W,
+) -> io::Result<()>
+    requires { IsPassOf shared.now pass }
+{
+    for _ in rt.forever() {
+        match matcher.step(rt, shared, &mut pass, Some(Duration::ZERO), &mut Still) {
+            Ok(Some(outcome)) => print_outcome(writer, matcher.keymap(), outcome)?,
+            Ok(None) => {}
+            Err(fault) => {
+                print_rest(writer, &mut matcher, fault.kind())?;
+                break;
+            }
+        }
+    }
+    writer.flush()
+}
+
+/// Runs a matcher of the bindings over the script, with one pass.
+fn run_statements<A: Allocator + Clone, H: Wait, W: Write>(
+    rt: &H,
+    alloc: &A,
+    statements: Statements<A>,
+    writer: &mut W,
+) -> Result<(), Fault> {
+    let Statements { keymap, script } = statements;
+    let source = DeviceSource::new(alloc.clone()?, Script::new(script));
+    let reader = InternalEventReader::new(alloc.clone()?, source);
+    let matcher = Matcher::new(alloc.clone()?, keymap);
+    let (shared, pass) = match EventReader::new(rt, alloc.clone()?, reader, 1) {
+        Ok((shared, mut passes)) => match passes.pop() {
+            Some(pass) => (shared, pass),
+            None => unreachable!(),
+        },
+        Err(_) => return Err(Fault::OutOfMemory),
+    };
+    match step(rt, &shared, pass, matcher, writer) {
+        Ok(()) => Ok(()),
+        Err(error) => Err(Fault::of_write(&error)),
+    }
+}
+
+/// Reads lines, checks them all, binds and steps as they say, and prints a line for each outcome and one for the fault at the end.
+///
+/// # Errors
+/// `TooLong`, `NotUtf8`, `UnknownWord` and `BadArgument` come before anything runs, `ReadFailed` and `WriteFailed` where the reader
+/// or the writer failed, `OutOfMemory` where memory was refused.
+pub fn run_keys<A: Allocator + Clone, H: Wait, R: Read, W: Write>(
+    rt: &H,
+    alloc: A,
+    reader: &mut R,
+    writer: &mut W,
+) -> Result<(), Fault> {
+    let mut statements = Statements::new(&alloc)?;
+    statements.read(&alloc, reader)?;
+    run_statements(rt, &alloc, statements, writer)
+}

@@ -1,0 +1,91 @@
+-- How many characters strokes print.
+use Rattle.std.proofs.Common.{◌≡◌, ◌≢◌, inl, inr, ℕ, ◌+◌, ◌<◌, Bool, true, false, List, [], ◌∷◌, ◌++◌, Option, Some, None, refl, sym, ap, ◌∙◌, subst, arith, length, take, get_or}
+use Rattle.std.specs.List.{AllByRecursion}
+use Rattle.std.proofs.lemmas.List.{take_more}
+use Rattle.std.proofs.lemmas.List.Concat.{flat_map-append}
+use Rattle.crossterm_command.specs.Tokens.{Token}
+use Rattle.crossterm_command.specs.Tokens.Token.{Char, Csi, Osc, Private}
+use Rattle.crossterm_command.specs.declared.color_output.ColorOutput.{ColorOutput}
+use Rattle.crossterm_style.specs.declared.content_style.ContentStyle.{ContentStyle}
+use Rattle.crossterm_style.specs.Acts.{Act, style_acts}
+use Rattle.crossterm_style.specs.Acts.Act.{Prints, Colors, Takes}
+use Rattle.crossterm_style.specs.Styles.{no_style, told}
+use Rattle.screen.specs.declared.cells.Cell.{Cell}
+use Rattle.screen.specs.declared.strokes.Stroke.{Stroke}
+use Rattle.screen.specs.declared.strokes.Stroke.TheVariants as stroke
+use Rattle.screen.specs.Drawings.{DifferAt, printed}
+use Rattle.screen.specs.inside.Strokes.{cell_strokes, cursor_strokes, first_strokes, last_strokes, tokens, tokens_of}
+use Rattle.screen.proofs.Runs.{SetsStyle, style_sets}
+
+-- ---- tokens in a row
+
+printed_joined : (ts us : List Token) → printed (ts ++ us) ≡ printed ts + printed us
+printed_joined [] us = omega arith
+printed_joined (Char c ∷ ts) us = omega (arith, printed_joined ts us)
+printed_joined (Csi a b f ∷ ts) us = printed_joined ts us
+printed_joined (Osc t e ∷ ts) us = printed_joined ts us
+printed_joined (Private b ∷ ts) us = printed_joined ts us
+
+pub strokes_printed : (colors : ColorOutput) (xs ys : List Stroke) → printed (tokens_of colors (xs ++ ys)) ≡ printed (tokens_of colors xs) + printed (tokens_of colors ys)
+strokes_printed colors xs ys = ap printed (flat_map-append (tokens colors) xs ys) ∙ printed_joined (tokens_of colors xs) (tokens_of colors ys)
+
+told_prints : (colors : ColorOutput) (acts : List Act) → AllByRecursion SetsStyle acts → printed (told colors acts) ≡ 0
+told_prints colors [] h = refl
+told_prints colors (Prints cs ∷ acts) h = absurd h.0
+told_prints colors (Colors c ∷ acts) h = told_prints colors acts h.1
+told_prints colors (Takes a ∷ acts) h = told_prints colors acts h.1
+
+style_prints : (colors : ColorOutput) (s : ContentStyle) (ss : List Stroke) → printed (tokens_of colors (stroke.Style s ∷ ss)) ≡ printed (tokens_of colors ss)
+style_prints colors s ss =
+    printed_joined (tokens colors (stroke.Style s)) (tokens_of colors ss) ∙ ap (λ n. n + printed (tokens_of colors ss)) (told_prints colors (style_acts s) (style_sets s)) ∙ (omega arith)
+
+pub cell_prints : (colors : ColorOutput) (there right : Bool) (column row : ℕ) (c : Cell) → printed (tokens_of colors (cell_strokes there right column row c)) ≡ 1
+cell_prints colors true true column row c = refl
+cell_prints colors true false column row c = style_prints colors c.style (stroke.Print c.symbol ∷ [])
+cell_prints colors false true column row c = refl
+cell_prints colors false false column row c = style_prints colors c.style (stroke.Print c.symbol ∷ [])
+
+pub last_prints : (colors : ColorOutput) (cursor : Option (ℕ × ℕ)) → printed (tokens_of colors (last_strokes cursor)) ≡ 0
+last_prints colors None = style_prints colors no_style (cursor_strokes None ++ (stroke.End ∷ []))
+last_prints colors (Some place) = style_prints colors no_style (cursor_strokes (Some place) ++ (stroke.End ∷ []))
+
+pub first_prints : (colors : ColorOutput) (known : Bool) → printed (tokens_of colors (first_strokes known)) ≡ 0
+first_prints colors true = refl
+first_prints colors false = style_prints colors no_style (stroke.Erase ∷ [])
+
+-- ---- places that differ
+
+differ_same : (xs ys : List Cell) (x y : Cell) (n : ℕ) → x ≡ y → DifferAt xs ys n → DifferAt (xs ++ x ∷ []) (ys ++ y ∷ []) n
+differ_same [] [] x y n e d = inl (e, d)
+differ_same [] (b ∷ ys) x y n e d = absurd d
+differ_same (a ∷ xs) [] x y n e d = absurd d
+differ_same (a ∷ xs) (b ∷ ys) x y n e d = elim d [
+  | inl p ↦ inl (p.0, differ_same xs ys x y n e p.1)
+  | inr q ↦ inr (q.0, q.1, q.2, differ_same xs ys x y q.1 e q.3)
+]
+
+differ_more : (xs ys : List Cell) (x y : Cell) (n : ℕ) → x ≢ y → DifferAt xs ys n → DifferAt (xs ++ x ∷ []) (ys ++ y ∷ []) (n + 1)
+differ_more [] [] x y n e d = inr (e, n, refl, d)
+differ_more [] (b ∷ ys) x y n e d = absurd d
+differ_more (a ∷ xs) [] x y n e d = absurd d
+differ_more (a ∷ xs) (b ∷ ys) x y n e d = elim d [
+  | inl p ↦ inl (p.0, differ_more xs ys x y n e p.1)
+  | inr q ↦ inr (q.0, q.1 + 1, ap (λ k. k + 1) q.2, differ_more xs ys x y q.1 e q.3)
+]
+
+grown : (xs : List Cell) (k : ℕ) (x : Cell) → k < length xs → get_or xs k x ≡ x → take (k + 1) xs ≡ take k xs ++ x ∷ []
+grown xs k x lt e = take_more xs k x lt ∙ ap (λ y. take k xs ++ (y ∷ [])) e
+
+-- One place more that is the same.
+pub same_at : (before after : List Cell) (k n : ℕ) (b c : Cell) → k < length before → k < length after → get_or before k b ≡ b → get_or after k c ≡ c → b ≡ c
+    → DifferAt (take k before) (take k after) n → DifferAt (take (k + 1) before) (take (k + 1) after) n
+same_at before after k n b c lb la eb ec e d =
+    subst (λ l. DifferAt l (take (k + 1) after) n) (sym (grown before k b lb eb))
+    (subst (λ l. DifferAt (take k before ++ b ∷ []) l n) (sym (grown after k c la ec)) (differ_same (take k before) (take k after) b c n e d))
+
+-- One place more that differs.
+pub other_at : (before after : List Cell) (k n : ℕ) (b c : Cell) → k < length before → k < length after → get_or before k b ≡ b → get_or after k c ≡ c → b ≢ c
+    → DifferAt (take k before) (take k after) n → DifferAt (take (k + 1) before) (take (k + 1) after) (n + 1)
+other_at before after k n b c lb la eb ec e d =
+    subst (λ l. DifferAt l (take (k + 1) after) (n + 1)) (sym (grown before k b lb eb))
+    (subst (λ l. DifferAt (take k before ++ b ∷ []) l (n + 1)) (sym (grown after k c la ec)) (differ_more (take k before) (take k after) b c n e d))

@@ -1,0 +1,120 @@
+-- The end of a frame, and frames as the screen's clauses tell of them.
+use Rattle.std.proofs.Common.{◌≡◌, ℕ, ◌+◌, ◌*◌, ◌<◌, ◌^◌, List, [], ◌∷◌, ◌++◌, Option, Some, None, IfSome, Bool, true, false, refl, sym, ap, ◌∙◌, subst, arith, if◌then◌else◌, length, map, option_map, replicate}
+use Rattle.crossterm_command.specs.declared.color_output.ColorOutput.{ColorOutput}
+use Rattle.crossterm_command.specs.declared.color_output.ColorOutput.TheVariants.{Enabled, Disabled}
+use Rattle.crossterm_command.proofs.Readings.{all_joined}
+use Rattle.crossterm_style.specs.Looks.{plain}
+use Rattle.crossterm_style.specs.Styles.{no_style}
+use Rattle.screen.specs.declared.cells.Cell.{Cell}
+use Rattle.screen.specs.declared.strokes.Stroke.{Stroke}
+use Rattle.screen.specs.declared.strokes.Stroke.TheVariants as stroke
+use Rattle.screen.specs.Buffers.{Picture}
+use Rattle.screen.specs.Cells.{blank, seen}
+use Rattle.screen.specs.Drawings.{DifferAt, HasCursor, HasSize, IsFrame, MayShow, cells_before, printed}
+use Rattle.screen.specs.Screens.{View}
+use Rattle.screen.specs.Grids.{Grid, run}
+use Rattle.screen.specs.inside.Scans.{Planned, StartsWith, Visited, is_known}
+use Rattle.screen.specs.inside.Strokes.{AreFitting, IsFitting, last_strokes, tokens, tokens_of}
+use Rattle.screen.proofs.Counts.{last_prints, strokes_printed}
+use Rattle.screen.proofs.Runs.{moved, plain_set, run_then, runs_then}
+
+-- The cursor's place is within a size.
+abbrev pub IsInside : ℕ → ℕ → Option (ℕ × ℕ) → Type 0
+IsInside width height cursor = IfSome cursor (λ place. (place.0 < width) × (place.1 < height))
+
+-- A grid with a cursor.
+abbrev Pointed : Option (ℕ × ℕ) → Grid → Grid → Type 0
+Pointed cursor g h = (h.width ≡ g.width) × (h.height ≡ g.height) × (h.cells ≡ g.cells) × HasCursor cursor h × (h.style ≡ plain)
+
+finishes : (colors : ColorOutput) (width height : ℕ) (cursor : Option (ℕ × ℕ)) (g : Grid) → width < 2 ^ 32 → height < 2 ^ 32 → HasSize width height g → IsInside width height cursor
+    → (h : Grid) × (run (tokens_of colors (last_strokes cursor)) g ≡ Some h) × Pointed cursor g h
+finishes colors width height None g ws hs size inside =
+    let g1 : Grid = record g { style = plain } in
+    (record g1 { visible = false }, run_then (tokens colors (stroke.Style no_style)) (tokens_of colors (stroke.Hide ∷ stroke.End ∷ [])) g g1 (plain_set colors g), (refl, refl, refl, refl, refl))
+finishes colors width height (Some place) g ws hs size inside =
+    let g1 : Grid = record g { style = plain } in
+    let g2 : Grid = record g1 { cursor = Some (place.1 * g.width + place.0) } in
+    let goes : run (tokens_of colors (stroke.Move place.0 place.1 ∷ stroke.Show ∷ stroke.End ∷ [])) g1 ≡ Some (record g2 { visible = true }) =
+    run_then (tokens colors (stroke.Move place.0 place.1)) (tokens_of colors (stroke.Show ∷ stroke.End ∷ [])) g1 g2
+    (moved place.1 place.0 g1 (subst (λ n. place.1 < n) (sym size.1) inside.1) (subst (λ n. place.0 < n) (sym size.0) inside.0) (omega (arith, inside.1, hs)) (omega (arith, inside.0, ws))) in (
+      record g2 { visible = true },
+      run_then (tokens colors (stroke.Style no_style)) (tokens_of colors (stroke.Move place.0 place.1 ∷ stroke.Show ∷ stroke.End ∷ [])) g g1 (plain_set colors g) ∙ goes,
+      (refl, refl, refl, (refl, refl), refl),
+    )
+
+pub planned : (known : Bool) (width height : ℕ) (before after : List Cell) (cursor : Option (ℕ × ℕ)) (strokes : List Stroke) → width < 2 ^ 32 → height < 2 ^ 32 → IsInside width height cursor
+    → Visited known width height before after strokes → Planned known width height before after cursor (strokes ++ last_strokes cursor)
+planned known width height before after cursor strokes ws hs inside visited = record {
+  leads = λ colors g s.
+      let (h, ran, shown) = visited.leads colors g s in
+      let (i, ended, pointed) = finishes colors width height cursor h ws hs shown.0 inside in (
+        i,
+        runs_then colors strokes (last_strokes cursor) g h ran ∙ ended,
+        (
+          (pointed.0 ∙ shown.0.0, pointed.1 ∙ shown.0.1, ap length pointed.2 ∙ shown.0.2),
+          pointed.2 ∙ shown.1,
+          pointed.3,
+          pointed.4,
+        ),
+      );
+  count = λ colors.
+      let same : printed (tokens_of colors (strokes ++ last_strokes cursor)) ≡ printed (tokens_of colors strokes) =
+      strokes_printed colors strokes (last_strokes cursor) ∙ ap (λ n. printed (tokens_of colors strokes) + n) (last_prints colors cursor) ∙ (omega arith) in
+      subst (DifferAt before after) (sym same) (visited.count colors);
+}
+
+last_fitting : (cursor : Option (ℕ × ℕ)) → AreFitting (last_strokes cursor)
+last_fitting None = (tt, (tt, (tt, tt)))
+last_fitting (Some place) = (tt, (tt, (tt, (tt, tt))))
+
+pub fitting : (strokes : List Stroke) (cursor : Option (ℕ × ℕ)) → AreFitting strokes → AreFitting (strokes ++ last_strokes cursor)
+fitting strokes cursor all = all_joined IsFitting strokes (last_strokes cursor) all (last_fitting cursor)
+
+-- ---- a screen's frame
+
+-- a screen by its parts
+abbrev pub view_of : ℕ → ℕ → Option ColorOutput → List Cell → View
+view_of width height drawn shown = record { width = width; height = height; drawn = option_map (λ colors. record { colors = colors; cells = shown }) drawn }
+
+-- the cells that a frame begins with
+abbrev Begun : ℕ → ℕ → Option ColorOutput → List Cell → ColorOutput → List Cell → Type 0
+Begun width height drawn shown colors before = before ≡ (if is_known drawn colors then shown else replicate (width * height) blank)
+
+started : (width height : ℕ) (drawn : Option ColorOutput) (shown : List Cell) (colors : ColorOutput) (before : List Cell) → Begun width height drawn shown colors before
+    → (g : Grid) → MayShow (view_of width height drawn shown) g → StartsWith (is_known drawn colors) colors width height before g
+started width height None shown colors before e g m = m.0
+started width height (Some Enabled) shown Enabled before e g m = (m.0, m.1 ∙ ap (map (seen Enabled)) (sym e))
+started width height (Some Disabled) shown Disabled before e g m = (m.0, m.1 ∙ ap (map (seen Disabled)) (sym e))
+started width height (Some Enabled) shown Disabled before e g m = m.0
+started width height (Some Disabled) shown Enabled before e g m = m.0
+
+begun : (width height : ℕ) (drawn : Option ColorOutput) (shown : List Cell) (colors : ColorOutput) (before : List Cell) → Begun width height drawn shown colors before
+    → before ≡ cells_before (view_of width height drawn shown) colors
+begun width height None shown colors before e = e
+begun width height (Some c) shown colors before e = e
+
+sized : (p : Picture) (width height : ℕ) (g : Grid) → p.width ≡ width → p.height ≡ height → HasSize width height g → HasSize p.width p.height g
+sized p width height g w h s = (s.0 ∙ sym w, s.1 ∙ sym h, s.2 ∙ ap (λ n. n * height) (sym w) ∙ ap (λ n. p.width * n) (sym h))
+
+-- What was planned is a frame of the screen.
+pub framed : (width height : ℕ) (drawn : Option ColorOutput) (shown before : List Cell) (colors : ColorOutput) (p : Picture) (cursor : Option (ℕ × ℕ)) (strokes : List Stroke)
+    → p.width ≡ width → p.height ≡ height → before ≡ (if is_known drawn colors then shown else replicate (width * height) blank)
+    → Planned (is_known drawn colors) width height before p.cells cursor strokes → IsFrame (view_of width height drawn shown) colors p cursor (tokens_of colors strokes)
+framed width height drawn shown before colors p cursor strokes w h e plan = record {
+  turns = λ g m.
+      let (i, ran, shows) = plan.leads colors g (started width height drawn shown colors before e g m) in
+      (i, ran, (sized p width height i w h shows.0, shows.1, shows.2, shows.3));
+  count = subst (λ l. DifferAt l p.cells (printed (tokens_of colors strokes))) (begun width height drawn shown colors before e) (plan.count colors);
+}
+
+-- The same, by what the parts are known to be.
+pub frame_of : (s : View) (width height : ℕ) (drawn : Option ColorOutput) (shown prepared before after : List Cell) (colors : ColorOutput) (p : Picture) (cursor : Option (ℕ × ℕ)) (known : Bool) (strokes said : List Stroke)
+    → view_of width height drawn shown ≡ s → p.width ≡ width → p.height ≡ height → after ≡ p.cells → known ≡ is_known drawn colors
+    → prepared ≡ (if is_known drawn colors then shown else replicate (length shown) blank) → before ≡ prepared → length shown ≡ width * height → said ≡ strokes
+    → Planned known width height before after cursor strokes → IsFrame s colors p cursor (tokens_of colors said)
+frame_of s width height drawn shown prepared before after colors p cursor known strokes said view w h a k prep b len told plan =
+    let sure : before ≡ (if is_known drawn colors then shown else replicate (width * height) blank) =
+    b ∙ prep ∙ ap (λ n. if is_known drawn colors then shown else replicate n blank) len in
+    let cells : Planned (is_known drawn colors) width height before p.cells cursor strokes =
+    subst (λ l. Planned (is_known drawn colors) width height before l cursor strokes) a (subst (λ y. Planned y width height before after cursor strokes) k plan) in
+    subst (λ l. IsFrame s colors p cursor (tokens_of colors l)) (sym told) (subst (λ v. IsFrame v colors p cursor (tokens_of colors strokes)) view (framed width height drawn shown before colors p cursor strokes w h sure cells))

@@ -1,0 +1,6 @@
+pub mod Fitting
+pub mod Runs
+pub mod Counts
+pub mod Scans
+pub mod Frames
+pub mod Written

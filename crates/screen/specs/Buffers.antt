@@ -1,0 +1,28 @@
+-- Pictures: the cells of a buffer.
+use Rattle.std.specs.Prelude.{ℕ, Bool, ◌+◌, ◌*◌, ◌&&◌, nat_lt, List, Option, Some, if◌then◌else◌, replicate, set}
+use Rattle.screen.specs.declared.cells.Cell.{Cell}
+use Rattle.screen.specs.declared.faults.CellFault.{CellFault}
+use Rattle.screen.specs.declared.faults.CellFault.TheVariants.{Outside}
+use Rattle.screen.specs.Cells.{symbol_fault}
+
+-- Cells stand row by row, from the top left one.
+pub record Picture : Type 0 where
+  pub width : ℕ
+  pub height : ℕ
+  pub cells : List Cell
+
+-- a picture of one cell everywhere
+abbrev pub filled : ℕ → ℕ → Cell → Picture
+filled width height c = record { width = width; height = height; cells = replicate (width * height) c }
+
+-- whether the picture has a column and a row
+abbrev pub has : Picture → ℕ → ℕ → Bool
+has p column row = nat_lt column p.width && nat_lt row p.height
+
+-- why a character isn't set at a column and a row, where it isn't: first the place, then the character
+abbrev pub refusal : Picture → ℕ → ℕ → ℕ → Option CellFault
+refusal p column row symbol = if has p column row then symbol_fault symbol else Some Outside
+
+-- the picture with a cell at a column and a row
+abbrev pub with_cell : Picture → ℕ → ℕ → Cell → Picture
+with_cell p column row c = record p { cells = set p.cells (row * p.width + column) c }

@@ -1,0 +1,111 @@
+-- What a frame does to a terminal.
+use Rattle.std.specs.Prelude.{◌≡◌, ◌≢◌, ◌⊎◌, ⊤, IfSome, ℕ, ◌+◌, ◌*◌, ◌<◌, Bool, true, false, List, [], ◌∷◌, Option, Some, None, if◌then◌else◌, length, map, replicate}
+use Rattle.crossterm_command.specs.Faults.{Stopped}
+use Rattle.crossterm_command.specs.Tokens.{Token, text_of}
+use Rattle.crossterm_command.specs.Tokens.Token.{Char}
+use Rattle.crossterm_command.specs.declared.color_output.ColorOutput.{ColorOutput}
+use Rattle.crossterm_command.specs.declared.color_output.ColorOutput.TheVariants.{Enabled, Disabled}
+use Rattle.crossterm_style.specs.Looks.{plain}
+use Rattle.screen.specs.declared.cells.Cell.{Cell}
+use Rattle.screen.specs.declared.faults.DrawFault.{DrawFault}
+use Rattle.screen.specs.declared.faults.DrawFault.TheVariants.{Size, Cursor, Memory, Command}
+use Rattle.screen.specs.Buffers.{Picture}
+use Rattle.screen.specs.Cells.{blank, seen}
+use Rattle.screen.specs.Grids.{Grid, run}
+use Rattle.screen.specs.Screens.{Drawn, View}
+
+-- ---- what is shown
+
+-- The grid has the size.
+abbrev pub HasSize : ℕ → ℕ → Grid → Type 0
+HasSize width height g = (g.width ≡ width) × (g.height ≡ height) × (length g.cells ≡ width * height)
+
+-- Each cell of the grid is the picture's, in looks.
+abbrev pub ShowsCells : ColorOutput → List Cell → Grid → Type 0
+ShowsCells colors cells g = g.cells ≡ map (seen colors) cells
+
+-- what was drawn is shown; where nothing is known, any cells are
+abbrev pub ShowsDrawn : Option Drawn → Grid → Type 0
+ShowsDrawn None g = ⊤
+ShowsDrawn (Some drawn) g = ShowsCells drawn.colors drawn.cells g
+
+-- A grid of the screen's size that shows what was drawn last. Its cursor and its style may be any.
+abbrev pub MayShow : View → Grid → Type 0
+MayShow s g = HasSize s.width s.height g × ShowsDrawn s.drawn g
+
+-- The cursor is shown at a column and a row, or hidden.
+abbrev pub HasCursor : Option (ℕ × ℕ) → Grid → Type 0
+HasCursor None g = g.visible ≡ false
+HasCursor (Some place) g = (g.cursor ≡ Some (place.1 * g.width + place.0)) × (g.visible ≡ true)
+
+-- The grid shows the picture with the cursor where it was asked to be, and the style that is set is plain.
+abbrev pub Shows : ColorOutput → Picture → Option (ℕ × ℕ) → Grid → Type 0
+Shows colors p cursor g = HasSize p.width p.height g × ShowsCells colors p.cells g × HasCursor cursor g × (g.style ≡ plain)
+
+-- From each grid that the screen may stand for, the tokens lead to one that shows the picture.
+abbrev pub Turns : View → ColorOutput → Picture → Option (ℕ × ℕ) → List Token → Type 0
+Turns s colors p cursor ts = (g : Grid) → MayShow s g → (h : Grid) × (run ts g ≡ Some h) × Shows colors p cursor h
+
+-- ---- how much is printed
+
+-- how many characters are printed
+abbrev pub printed : List Token → ℕ
+printed [] = 0
+printed (Char c ∷ ts) = printed ts + 1
+printed (t ∷ ts) = printed ts
+
+-- Two lists of cells differ at so many places.
+abbrev pub DifferAt : List Cell → List Cell → ℕ → Type 0
+DifferAt [] [] n = n ≡ 0
+DifferAt (a ∷ before) (b ∷ after) n = ((a ≡ b) × DifferAt before after n) ⊎ ((a ≢ b) × (m : ℕ) × (n ≡ m + 1) × DifferAt before after m)
+DifferAt before after n = ⊥
+
+-- Both write colours, or neither does.
+abbrev pub same_output : ColorOutput → ColorOutput → Bool
+same_output Enabled Enabled = true
+same_output Disabled Disabled = true
+same_output a b = false
+
+abbrev blanks : View → List Cell
+blanks s = replicate (s.width * s.height) blank
+
+abbrev pub cells_drawn : View → Option Drawn → ColorOutput → List Cell
+cells_drawn s None colors = blanks s
+cells_drawn s (Some drawn) colors = if same_output drawn.colors colors then drawn.cells else blanks s
+
+-- The cells that a frame begins with: those drawn last with the same choice of colours. Otherwise all is erased, and they are blank.
+abbrev pub cells_before : View → ColorOutput → List Cell
+cells_before s colors = cells_drawn s s.drawn colors
+
+-- ---- a frame
+
+-- The tokens of a frame: they show the picture, and print a character for each place where the cells differ, and no other.
+pub record IsFrame (s : View) (colors : ColorOutput) (p : Picture) (cursor : Option (ℕ × ℕ)) (ts : List Token) : Type 0 where
+  pub turns : Turns s colors p cursor ts
+  pub count : DifferAt (cells_before s colors) p.cells (printed ts)
+
+-- ---- what is refused
+
+-- The screen has the picture's size.
+abbrev pub IsSameSize : View → Picture → Type 0
+IsSameSize s p = (p.width ≡ s.width) × (p.height ≡ s.height)
+
+-- The cursor's place is within the screen, or it is to be hidden.
+abbrev pub CursorFits : View → Option (ℕ × ℕ) → Type 0
+CursorFits s cursor = IfSome cursor (λ place. (place.0 < s.width) × (place.1 < s.height))
+
+-- The screen after a frame, and after an error.
+abbrev pub with_drawn : View → ColorOutput → List Cell → View
+with_drawn s colors cells = record s { drawn = Some (record { colors = colors; cells = cells }) }
+
+abbrev pub forgotten : View → View
+forgotten s = record s { drawn = None }
+
+-- Why a frame wasn't drawn, what the screen is then, and what was written: nothing, or a beginning of a frame where the writer failed.
+abbrev pub NotDrawn : DrawFault → View → View → ColorOutput → Picture → Option (ℕ × ℕ) → Option (List ℕ) → Option (List ℕ) → Type 0
+NotDrawn Size s t colors p cursor old new = (IsSameSize s p → ⊥) × (t ≡ s) × (new ≡ old)
+NotDrawn Cursor s t colors p cursor old new = IsSameSize s p × (CursorFits s cursor → ⊥) × (t ≡ s) × (new ≡ old)
+NotDrawn Memory s t colors p cursor old new = IsSameSize s p × CursorFits s cursor × (t ≡ forgotten s) × (new ≡ old)
+NotDrawn (Command fault) s t colors p cursor old new =
+    IsSameSize s p × CursorFits s cursor × (t ≡ forgotten s)
+    × (ts : List Token) × IsFrame s colors p cursor ts × Stopped fault (Some (text_of ts)) ⊤ old new

@@ -1,0 +1,15 @@
+-- A screen: its size, and the cells that the terminal shows.
+use Rattle.std.specs.Prelude.{ℕ, List, Option}
+use Rattle.crossterm_command.specs.declared.color_output.ColorOutput.{ColorOutput}
+use Rattle.screen.specs.declared.cells.Cell.{Cell}
+
+-- What was drawn: the cells, and whether colours were written.
+pub record Drawn : Type 0 where
+  pub colors : ColorOutput
+  pub cells : List Cell
+
+-- A screen. Nothing is known of the terminal's cells at the beginning, after a resize, and after an error.
+pub record View : Type 0 where
+  pub width : ℕ
+  pub height : ℕ
+  pub drawn : Option Drawn

@@ -1,0 +1,56 @@
+-- A frame's way over the cells.
+use Rattle.std.specs.Prelude.{◌≡◌, ℕ, ◌*◌, Bool, true, false, List, Option, Some, None, drop, length, map, replicate, take}
+use Rattle.crossterm_command.specs.declared.color_output.ColorOutput.{ColorOutput}
+use Rattle.crossterm_style.specs.declared.content_style.ContentStyle.{ContentStyle}
+use Rattle.screen.specs.declared.cells.Cell.{Cell}
+use Rattle.screen.specs.declared.strokes.Stroke.{Stroke}
+use Rattle.screen.specs.Cells.{blank, look, seen}
+use Rattle.screen.specs.Drawings.{DifferAt, HasSize, Shows, ShowsCells, printed, same_output}
+use Rattle.screen.specs.Grids.{Grid, run}
+use Rattle.screen.specs.inside.Strokes.{tokens_of}
+
+-- Whether colours are written as they were.
+abbrev pub is_known : Option ColorOutput → ColorOutput → Bool
+is_known None colors = false
+is_known (Some drawn) colors = same_output drawn colors
+
+-- A grid of the size, which shows the cells where they are known.
+abbrev pub StartsWith : Bool → ColorOutput → ℕ → ℕ → List Cell → Grid → Type 0
+StartsWith true colors width height cells g = HasSize width height g × ShowsCells colors cells g
+StartsWith false colors width height cells g = HasSize width height g
+
+-- The old cells have the size, and are blank where they aren't known.
+abbrev pub IsWithin : Bool → ℕ → ℕ → List Cell → Type 0
+IsWithin true width height cells = length cells ≡ width * height
+IsWithin false width height cells = cells ≡ replicate (width * height) blank
+
+-- Before a place the cells are the new ones, and from it on the old ones. What is known of the cursor and of the style holds.
+pub record Scanned (colors : ColorOutput) (width height : ℕ) (before after : List Cell) (k : ℕ) (cursor : Option ℕ) (style : Option ContentStyle) (h : Grid) : Type 0 where
+  pub size : HasSize width height h
+  pub front : take k h.cells ≡ take k (map (seen colors) after)
+  pub back : drop k h.cells ≡ drop k (map (seen colors) before)
+  pub place : (n : ℕ) → cursor ≡ Some n → h.cursor ≡ Some n
+  pub set : (s : ContentStyle) → style ≡ Some s → h.style ≡ look colors s
+
+-- From each grid that a frame may begin with, strokes lead there.
+abbrev pub LeadsTo : Bool → ℕ → ℕ → List Cell → List Stroke → (ColorOutput → Grid → Type 0) → Type 0
+LeadsTo known width height before strokes End =
+    (colors : ColorOutput) (g : Grid) → StartsWith known colors width height before g → (h : Grid) × (run (tokens_of colors strokes) g ≡ Some h) × End colors h
+
+abbrev pub Reaches : Bool → ℕ → ℕ → List Cell → List Cell → ℕ → Option ℕ → Option ContentStyle → List Stroke → Type 0
+Reaches known width height before after k cursor style strokes =
+    LeadsTo known width height before strokes (λ colors. Scanned colors width height before after k cursor style)
+
+-- Before a place a character is printed where the cells differ.
+abbrev pub Counts : List Cell → List Cell → ℕ → List Stroke → Type 0
+Counts before after k strokes = (colors : ColorOutput) → DifferAt (take k before) (take k after) (printed (tokens_of colors strokes))
+
+-- All cells were visited.
+pub record Visited (known : Bool) (width height : ℕ) (before after : List Cell) (strokes : List Stroke) : Type 0 where
+  pub leads : LeadsTo known width height before strokes (λ colors h. HasSize width height h × ShowsCells colors after h)
+  pub count : (colors : ColorOutput) → DifferAt before after (printed (tokens_of colors strokes))
+
+-- A frame is planned: its strokes show the new cells with the cursor where it was asked to be.
+pub record Planned (known : Bool) (width height : ℕ) (before after : List Cell) (cursor : Option (ℕ × ℕ)) (strokes : List Stroke) : Type 0 where
+  pub leads : LeadsTo known width height before strokes (λ colors. Shows colors (record { width = width; height = height; cells = after }) cursor)
+  pub count : (colors : ColorOutput) → DifferAt before after (printed (tokens_of colors strokes))

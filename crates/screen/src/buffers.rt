@@ -1,0 +1,167 @@
+//! Buffers: the cells that a program wants to show.
+ghost use Rattle.std.specs.Prelude.{◌≡◌, ◌*◌, ◌+◌, ◌-◌, ◌<◌, OnOk, OnErr, IfOk, IfErr, IsTrue, None, Some, chars, length, replicate, set};
+ghost use Rattle.std.specs.List.{All};
+ghost use Rattle.screen.specs.Buffers.{filled, has, refusal, with_cell};
+ghost use Rattle.screen.specs.Cells.{Fits, blank, symbol_fault};
+
+use crate::cells::{Cell, symbol_fault};
+use crate::faults::CellFault;
+use crossterm_style::ContentStyle;
+use std::alloc::{AllocError, Allocator, Global};
+use std::marker::Model;
+
+/// Cells row by row, each with a character that takes one column.
+///
+/// ```
+/// let mut buffer = Buffer::new(alloc, 80, 24)?;
+/// buffer.set(0, 0, 'x', ContentStyle::new())?;
+/// ```
+#[derive(Drop)]
+pub struct Buffer<A: Allocator = Global> {
+    width: u16,
+    height: u16,
+    cells: Vec<Cell, A>,
+}
+
+impl<A: Allocator> Model for Buffer<A> {
+    ghost use Rattle.std.specs.Prelude.{◌≡◌, ◌*◌, length};
+    ghost use Rattle.std.specs.List.{All};
+    ghost use Rattle.screen.specs.Buffers.{Picture};
+    ghost use Rattle.screen.specs.Cells.{Fits};
+
+    ghost Value = { Picture };
+
+    ghost view = { λ b. record { width = b.width; height = b.height; cells = b.cells.items } };
+
+    ghost invariant = { λ b. (length b.cells.items ≡ b.width * b.height) × All (λ c. Fits c.symbol) b.cells.items };
+}
+
+/// How many cells there are.
+pub(crate) fn count_of(width: u16, height: u16) -> usize
+    ensures { result ≡ width * height }
+{
+    width as usize * height as usize
+}
+
+/// Makes all cells the same.
+pub(crate) fn fill(cells: &mut [Cell], cell: Cell)
+    ensures { cells.new ≡ replicate (length cells.old) cell }
+{
+    cells.fill(cell);
+}
+
+/// Makes so many blank cells. Where memory is refused the cells stay.
+fn make_blank<A: Allocator>(cells: &mut Vec<Cell, A>, count: usize) -> Result<(), AllocError>
+    ensures ok { OnOk result (cells.new.items ≡ replicate count blank) }
+    ensures err { OnErr result (cells.new.items ≡ cells.old.items) }
+{
+    cells.resize(count, Cell::blank())?;
+    fill(cells, Cell::blank());
+    Ok(())
+}
+
+/// The same, with what follows of blank cells.
+#[tactic(auto, using(crate::proofs::Fitting::count_blank))]
+pub(crate) fn set_blank<A: Allocator>(
+    cells: &mut Vec<Cell, A>,
+    count: usize,
+) -> Result<(), AllocError>
+    ensures ok { OnOk result (cells.new.items ≡ replicate count blank) }
+    ensures count { OnOk result (length cells.new.items ≡ count) }
+    ensures fits { OnOk result (All (λ c. Fits c.symbol) cells.new.items) }
+    ensures err { OnErr result (cells.new.items ≡ cells.old.items) }
+{
+    make_blank(cells, count)?;
+    Ok(())
+}
+
+impl<A: Allocator> Buffer<A> {
+    /// Blank cells: spaces in the empty style.
+    pub fn new(alloc: A, width: u16, height: u16) -> Result<Buffer<A>, AllocError>
+        ensures { IfOk result (λ buffer. buffer ≡ filled width height blank) }
+    {
+        let mut cells = Vec::new(alloc);
+        set_blank(&mut cells, count_of(width, height))?;
+        Ok(Buffer {
+            width,
+            height,
+            cells,
+        })
+    }
+
+    /// Takes another size. All cells are blank then; where memory is refused nothing changes.
+    pub fn resize(&mut self, width: u16, height: u16) -> Result<(), AllocError>
+        ensures ok { OnOk result (self.new ≡ filled width height blank) }
+        ensures err { OnErr result (self.new ≡ self.old) }
+    {
+        set_blank(&mut self.cells, count_of(width, height))?;
+        self.width = width;
+        self.height = height;
+        Ok(())
+    }
+
+    /// How many columns there are.
+    pub fn width(&self) -> u16
+        ensures { result ≡ self.now.width }
+    {
+        self.width
+    }
+
+    /// How many rows there are.
+    pub fn height(&self) -> u16
+        ensures { result ≡ self.now.height }
+    {
+        self.height
+    }
+
+    /// All cells, row by row.
+    pub fn cells(&self) -> &[Cell]
+        ensures cells { result.now ≡ self.now.cells }
+        ensures count { length self.now.cells ≡ self.now.width * self.now.height }
+        ensures fits { All (λ c. Fits c.symbol) self.now.cells }
+    {
+        &self.cells
+    }
+
+    /// Makes all cells the same.
+    ///
+    /// # Errors
+    /// Those of the character: `Control`, `NoWidth`, `Wide`. Then nothing changes.
+    pub fn fill(&mut self, symbol: char, style: ContentStyle) -> Result<(), CellFault>
+        ensures ok { OnOk result ((symbol_fault symbol ≡ None)
+            × (self.new ≡ filled self.old.width self.old.height (record { symbol = symbol; style = style }))) }
+        ensures err { IfErr result (λ fault. (symbol_fault symbol ≡ Some fault) × (self.new ≡ self.old)) }
+    {
+        if let Some(fault) = symbol_fault(symbol) {
+            return Err(fault);
+        }
+        fill(&mut self.cells, Cell { symbol, style });
+        Ok(())
+    }
+
+    /// Sets a cell, by its column and its row from 0.
+    ///
+    /// # Errors
+    /// `Outside`, and else those of the character: `Control`, `NoWidth`, `Wide`. Then nothing changes.
+    pub fn set(
+        &mut self,
+        column: u16,
+        row: u16,
+        symbol: char,
+        style: ContentStyle,
+    ) -> Result<(), CellFault>
+        ensures ok { OnOk result ((refusal self.old column row symbol ≡ None)
+            × (self.new ≡ with_cell self.old column row (record { symbol = symbol; style = style }))) }
+        ensures err { IfErr result (λ fault. (refusal self.old column row symbol ≡ Some fault) × (self.new ≡ self.old)) }
+    {
+        if column >= self.width || row >= self.height {
+            return Err(CellFault::Outside);
+        }
+        if let Some(fault) = symbol_fault(symbol) {
+            return Err(fault);
+        }
+        let at = row as usize * self.width as usize + column as usize;
+        self.cells[at] = Cell { symbol, style };
+        Ok(())
+    }
+}

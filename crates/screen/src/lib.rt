@@ -1,0 +1,51 @@
+//! A screen above crossterm: a program fills a `Buffer`, and `Screen::draw` writes what makes the terminal show it.
+//!
+//! Only cells that changed are written, side by side without a move between them, and a style only where it changes. Each frame stands
+//! within synchronized output.
+//!
+//! ```
+//! let mut buffer = Buffer::new(alloc, 80, 24)?;
+//! let mut screen = Screen::new(alloc, 80, 24)?;
+//! buffer.set(2, 1, 'x', ContentStyle::new())?;
+//! screen.draw(w, ColorOutput::Enabled, &buffer, None)?;
+//! ```
+//!
+//! The promise, for each terminal that does what `specs/Grids.antt` says and has the widths of the crate `unicode_width`: whatever grid of the
+//! screen's size shows the buffer that was drawn last, with any cursor and any style, what `draw` writes leads to a grid that shows the new
+//! buffer cell for cell, with the cursor where it was asked to be. At the beginning, after `resize`, `forget` and an error nothing is known
+//! of the cells, and the same holds for every grid of the size.
+//!
+//! A cell holds a character of one column. Control characters and those of no column or of two and more are refused by name (`CellFault`).
+//!
+//! Where a frame broke off within a control sequence, the next one begins with ESC, which ends such a sequence at a terminal. The definitions
+//! speak of whole sequences and don't say so.
+//!
+//! Memory is taken by `new`, by `resize`, and by a frame with more strokes than any before it. A stroke is a move, a style, a character, or
+//! one of a handful at the frame's ends.
+//!
+//! What to believe, in the order in which it reads (`specs/`), and where it is proved:
+//!
+//! | Definitions | Lines | Of | Contract |
+//! |---|---|---|---|
+//! | `Grids` | 105 | a terminal as a grid of cells, and what each token does to it | |
+//! | `Cells` | 38 | how a cell looks, and which characters fit | `Cell::blank`, `Buffer::set` |
+//! | `Buffers` | 28 | the pictures that buffers hold | `Buffer` |
+//! | `Screens` | 15 | a screen, and what it drew last | `Screen` |
+//! | `Drawings` | 111 | what a frame does to each grid, how many characters it prints, and what is refused | `Screen::draw` |
+//!
+//! `specs/inside/` says the same of a frame's parts, and no public clause cites it.
+//!
+//! A function's proof stands in `proofs/` at the function's path; where there is no file, the prover found it by itself.
+#![tactic(auto)]
+
+mod buffers;
+mod cells;
+mod faults;
+mod planning;
+mod screens;
+mod strokes;
+
+pub use buffers::Buffer;
+pub use cells::Cell;
+pub use faults::{CellFault, DrawFault};
+pub use screens::Screen;

@@ -1,0 +1,191 @@
+//! Screens: what the terminal shows, and how it is made to show a buffer.
+ghost use Rattle.std.specs.Prelude.{◌≡◌, ◌*◌, ◌<◌, ◌↔◌, OnOk, OnErr, IfOk, IfErr, IfSome, IsTrue, List, None, Some, if◌then◌else◌, length, replicate};
+ghost use Rattle.std.specs.Option.{option_map};
+ghost use Rattle.crossterm.specs.Functions.{AppendsReading};
+ghost use Rattle.crossterm_command.specs.Tokens.{Token};
+ghost use Rattle.screen.specs.Cells.{blank};
+ghost use Rattle.screen.specs.Drawings.{CursorFits, IsFrame, IsSameSize, NotDrawn, forgotten, with_drawn};
+ghost use Rattle.screen.specs.inside.Scans.{is_known};
+
+use crate::buffers::{Buffer, count_of, fill};
+use crate::cells::Cell;
+use crate::faults::DrawFault;
+use crate::planning::plan;
+use crate::strokes::{Stroke, write_strokes};
+use crossterm_command::ColorOutput;
+use std::alloc::{AllocError, Allocator, Global};
+use std::io::Write;
+use std::marker::Model;
+
+/// What a terminal shows, as far as it is known.
+///
+/// ```
+/// let mut screen = Screen::new(alloc, 80, 24)?;
+/// screen.draw(w, ColorOutput::Enabled, &buffer, None)?;
+/// ```
+#[derive(Drop)]
+pub struct Screen<A: Allocator = Global> {
+    width: u16,
+    height: u16,
+    // The choice of colours that `shown` was drawn with, and none where nothing is known of the terminal.
+    drawn: Option<ColorOutput>,
+    shown: Vec<Cell, A>,
+    strokes: Vec<Stroke, A>,
+}
+
+impl<A: Allocator> Model for Screen<A> {
+    ghost use Rattle.std.specs.Prelude.{◌≡◌, ◌*◌, length};
+    ghost use Rattle.std.specs.Option.{option_map};
+    ghost use Rattle.screen.specs.Screens.{View};
+
+    ghost Value = { View };
+
+    ghost view = { λ s. record {
+      width = s.width;
+      height = s.height;
+      drawn = option_map (λ colors. record { colors = colors; cells = s.shown.items }) s.drawn;
+    } };
+
+    ghost invariant = { λ s. length s.shown.items ≡ s.width * s.height };
+}
+
+/// Whether colours are written as they were.
+fn is_known(drawn: Option<ColorOutput>, colors: ColorOutput) -> bool
+    ensures { result ≡ is_known drawn colors }
+{
+    match drawn {
+        None => false,
+        Some(ColorOutput::Enabled) => matches!(colors, ColorOutput::Enabled),
+        Some(ColorOutput::Disabled) => matches!(colors, ColorOutput::Disabled),
+    }
+}
+
+/// Whether the cursor's place is within a size, or it is to be hidden.
+fn is_inside(cursor: Option<(u16, u16)>, width: u16, height: u16) -> bool
+    ensures { IsTrue result ↔ IfSome cursor (λ place. (place.0 < width) × (place.1 < height)) }
+{
+    match cursor {
+        None => true,
+        Some((column, row)) => column < width && row < height,
+    }
+}
+
+/// Makes the cells blank that aren't known, and tells whether they are.
+fn prepare<A: Allocator>(
+    cells: &mut Vec<Cell, A>,
+    drawn: Option<ColorOutput>,
+    colors: ColorOutput,
+) -> bool
+    ensures known { result ≡ is_known drawn colors }
+    ensures cells { cells.new.items ≡ (if is_known drawn colors then cells.old.items else replicate (length cells.old.items) blank) }
+    ensures count { length cells.new.items ≡ length cells.old.items }
+{
+    if is_known(drawn, colors) {
+        return true;
+    }
+    fill(cells, Cell::blank());
+    false
+}
+
+impl<A: Allocator + Copy> Screen<A> {
+    /// A screen of a size. Nothing is known of the terminal yet.
+    pub fn new(alloc: A, width: u16, height: u16) -> Result<Screen<A>, AllocError>
+        ensures { IfOk result (λ screen. screen ≡ record { width = width; height = height; drawn = None }) }
+    {
+        let strokes = Vec::new(alloc);
+        let mut shown = Vec::new(alloc);
+        shown.resize(count_of(width, height), Cell::blank())?;
+        Ok(Screen {
+            width,
+            height,
+            drawn: None,
+            shown,
+            strokes,
+        })
+    }
+}
+
+impl<A: Allocator> Screen<A> {
+    /// How many columns there are.
+    pub fn width(&self) -> u16
+        ensures { result ≡ self.now.width }
+    {
+        self.width
+    }
+
+    /// How many rows there are.
+    pub fn height(&self) -> u16
+        ensures { result ≡ self.now.height }
+    {
+        self.height
+    }
+
+    /// Forgets what the terminal shows, as after another program has written on it: the next frame writes all.
+    pub fn forget(&mut self)
+        ensures { self.new ≡ forgotten self.old }
+    {
+        self.drawn = None;
+    }
+
+    /// Takes another size, after which nothing is known of the terminal. Where memory is refused nothing changes.
+    pub fn resize(&mut self, width: u16, height: u16) -> Result<(), AllocError>
+        ensures ok { OnOk result (self.new ≡ record { width = width; height = height; drawn = None }) }
+        ensures err { OnErr result (self.new ≡ self.old) }
+    {
+        self.shown.resize(count_of(width, height), Cell::blank())?;
+        self.drawn = None;
+        self.width = width;
+        self.height = height;
+        Ok(())
+    }
+
+    /// Writes what makes the terminal show the buffer, with the cursor at a column and a row from 0, or hidden.
+    ///
+    /// # Errors
+    /// `Size` where the buffer has another size, and `Cursor` where the place is outside: then nothing was written and nothing changed.
+    /// `Memory`: nothing was written. `Command`: a beginning of the frame was written. After these two nothing is known of the terminal, and the
+    /// next frame writes all.
+    pub fn draw<W: Write, B: Allocator>(
+        &mut self,
+        writer: &mut W,
+        colors: ColorOutput,
+        buffer: &Buffer<B>,
+        cursor: Option<(u16, u16)>,
+    ) -> Result<(), DrawFault>
+        ensures frame { OnOk result ((ts : List Token) × AppendsReading (W.contents writer.old) (W.contents writer.new) ts
+            × IsFrame self.old colors buffer.now cursor ts) }
+        ensures accepted { OnOk result (IsSameSize self.old buffer.now × CursorFits self.old cursor) }
+        ensures drawn { OnOk result (self.new ≡ with_drawn self.old colors buffer.now.cells) }
+        ensures err { IfErr result (λ fault. NotDrawn fault self.old self.new colors buffer.now cursor
+            (W.contents writer.old) (W.contents writer.new)) }
+    {
+        if buffer.width() != self.width || buffer.height() != self.height {
+            return Err(DrawFault::Size);
+        }
+        if !is_inside(cursor, self.width, self.height) {
+            return Err(DrawFault::Cursor);
+        }
+        let is_known = prepare(&mut self.shown, self.drawn, colors);
+        self.drawn = None;
+        let size = (self.width, self.height);
+        let after = buffer.cells();
+        if let Err(_) = plan(
+            &mut self.strokes,
+            is_known,
+            size,
+            &self.shown,
+            after,
+            cursor,
+        ) {
+            return Err(DrawFault::Memory);
+        }
+        match write_strokes(writer, colors, &self.strokes) {
+            Ok(()) => {
+                self.shown.copy_from_slice(after);
+                self.drawn = Some(colors);
+                Ok(())
+            }
+            Err(fault) => Err(DrawFault::Command(fault)),
+        }
+    }
+}

@@ -1,0 +1,70 @@
+//! Strokes: what a frame is written by.
+ghost use Rattle.std.specs.Prelude.{◌≡◌, ◌++◌, ◌∷◌, [], ⊤, OnOk, IfErr, Some};
+ghost use Rattle.crossterm_command.specs.Faults.{Stopped};
+ghost use Rattle.crossterm_command.specs.Tokens.{text_of};
+ghost use Rattle.crossterm.specs.Functions.{AppendsReading};
+ghost use Rattle.screen.specs.inside.Strokes.{AreFitting, tokens, tokens_of};
+
+use crossterm::cursor::{Hide, MoveTo, Show};
+use crossterm::style::{Attribute, Print, SetAttribute, SetStyle};
+use crossterm::terminal::{BeginSynchronizedUpdate, Clear, ClearType, EndSynchronizedUpdate};
+use crossterm_command::{ColorOutput, Command, CommandFault, write_command};
+use crossterm_style::ContentStyle;
+use std::{fmt, io};
+
+/// One thing that a terminal is told.
+#[derive(Clone, Copy, Debug)]
+pub(crate) enum Stroke {
+    /// What follows is shown at once, up to the end.
+    Begin,
+    End,
+    /// All cells become blank.
+    Erase,
+    /// Moves the cursor to a column and a row.
+    Move(u16, u16),
+    /// Sets a style, whatever stood before.
+    Style(ContentStyle),
+    /// Prints a character.
+    Print(char),
+    /// Shows the cursor.
+    Show,
+    Hide,
+}
+
+impl Command for Stroke {
+    ghost text = { λ stroke colors. Some (text_of (tokens colors stroke)) };
+
+    fn write_ansi<W: fmt::Write>(&self, f: &mut W, colors: ColorOutput) -> fmt::Result {
+        match self {
+            Stroke::Begin => BeginSynchronizedUpdate.write_ansi(f, colors),
+            Stroke::End => EndSynchronizedUpdate.write_ansi(f, colors),
+            Stroke::Erase => Clear(ClearType::All).write_ansi(f, colors),
+            Stroke::Move(column, row) => MoveTo(*column, *row).write_ansi(f, colors),
+            Stroke::Style(style) => {
+                (SetAttribute(Attribute::Reset), SetStyle(*style)).write_ansi(f, colors)
+            }
+            Stroke::Print(symbol) => Print(*symbol).write_ansi(f, colors),
+            Stroke::Show => Show.write_ansi(f, colors),
+            Stroke::Hide => Hide.write_ansi(f, colors),
+        }
+    }
+}
+
+/// Writes strokes, one after another, up to the first that fails.
+pub(crate) fn write_strokes<W: io::Write>(
+    writer: &mut W,
+    colors: ColorOutput,
+    strokes: &[Stroke],
+) -> Result<(), CommandFault>
+    requires { AreFitting strokes.now }
+    ensures reads { OnOk result (AppendsReading (W.contents writer.old) (W.contents writer.new) (tokens_of colors strokes.now)) }
+    ensures err { IfErr result (λ fault. Stopped fault (Some (text_of (tokens_of colors strokes.now))) ⊤
+        (W.contents writer.old) (W.contents writer.new)) }
+{
+    for stroke in strokes {
+        if let Err(fault) = write_command(writer, colors, stroke) {
+            return Err(fault);
+        }
+    }
+    Ok(())
+}

@@ -1,0 +1,344 @@
+//! Paper: what a terminal would show of bytes, by a program that knows nothing of the library.
+
+use crossterm_style::{Attribute, Attributes, Color, ContentStyle};
+use screen::Buffer;
+use std::alloc::{AllocError, Global};
+
+/// How a cell looks: colours of the palette, where 256 is the terminal's own, and two attributes.
+#[derive(Clone, Copy, PartialEq, Eq, Debug)]
+pub struct Look {
+    pub front: u32,
+    pub back: u32,
+    pub is_bold: bool,
+    pub is_reverse: bool,
+}
+
+pub const PLAIN: Look = Look {
+    front: 256,
+    back: 256,
+    is_bold: false,
+    is_reverse: false,
+};
+
+/// A character by its code, in its look.
+#[derive(Clone, Copy, PartialEq, Eq, Debug)]
+pub struct Mark {
+    pub code: u32,
+    pub look: Look,
+}
+
+/// Where the bytes stand.
+#[derive(Clone, Copy, PartialEq, Eq)]
+enum At {
+    Ground,
+    Escape,
+    Control,
+    // Within a character, of which so many bytes are to come.
+    Within(u32),
+}
+
+/// A paper of some size, which is written on by bytes.
+#[derive(Drop)]
+pub struct Paper {
+    pub width: u32,
+    pub height: u32,
+    pub marks: Vec<Mark>,
+    /// From 0; behind the last column no character may come.
+    pub column: u32,
+    pub row: u32,
+    pub is_visible: bool,
+    /// How many characters were printed.
+    pub printed: u32,
+    /// Whether something came that the paper doesn't know.
+    pub is_spoilt: bool,
+    look: Look,
+    at: At,
+    code: u32,
+    // The parameters so far, of which at most 4 are kept, and whether a `?` came.
+    numbers: [u32; 4],
+    count: usize,
+    is_private: bool,
+}
+
+/// What a style is to look like: the styles that the tests use, by a number.
+pub fn look_of(number: u32) -> Look {
+    match number % 5 {
+        0 => PLAIN,
+        1 => Look { front: 9, ..PLAIN },
+        2 => Look {
+            back: 200,
+            is_bold: true,
+            ..PLAIN
+        },
+        3 => Look {
+            front: 16,
+            back: 17,
+            is_reverse: true,
+            ..PLAIN
+        },
+        _ => Look {
+            is_bold: true,
+            ..PLAIN
+        },
+    }
+}
+
+fn color_of(number: u32) -> Option<Color> {
+    if number > 255 {
+        return None;
+    }
+    Some(Color::AnsiValue(number as u8))
+}
+
+/// The style of that look.
+pub fn style_of(number: u32) -> ContentStyle {
+    let look = look_of(number);
+    let mut attributes = Attributes::none();
+    if look.is_bold {
+        attributes = attributes.with(Attribute::Bold);
+    }
+    if look.is_reverse {
+        attributes = attributes.with(Attribute::Reverse);
+    }
+    ContentStyle {
+        foreground_color: color_of(look.front),
+        background_color: color_of(look.back),
+        underline_color: None,
+        attributes,
+    }
+}
+
+impl Paper {
+    /// A paper full of rubbish, with the cursor and the style anywhere.
+    pub fn new(alloc: Global, width: u16, height: u16) -> Result<Paper, AllocError> {
+        let rubbish = Mark {
+            code: 0x23,
+            look: look_of(3),
+        };
+        let count = usize::from(width).saturating_mul(usize::from(height));
+        let marks = Vec::from_elem(alloc, rubbish, count)?;
+        Ok(Paper {
+            width: u32::from(width),
+            height: u32::from(height),
+            marks,
+            column: 3,
+            row: 0,
+            is_visible: true,
+            printed: 0,
+            is_spoilt: false,
+            look: look_of(2),
+            at: At::Ground,
+            code: 0,
+            numbers: [0; 4],
+            count: 0,
+            is_private: false,
+        })
+    }
+
+    fn print(&mut self) {
+        let mark = Mark {
+            code: self.code,
+            look: self.look,
+        };
+        let at = self
+            .row
+            .saturating_mul(self.width)
+            .saturating_add(self.column) as usize;
+        let is_inside = self.column < self.width;
+        match self.marks.get_mut(at) {
+            Some(place) if is_inside => *place = mark,
+            _ => self.is_spoilt = true,
+        }
+        self.column = self.column.saturating_add(1);
+        self.printed = self.printed.saturating_add(1);
+    }
+
+    // SGR, where a colour is one of the palette.
+    fn set_look(&mut self) {
+        match self.numbers {
+            [0, ..] => self.look = PLAIN,
+            [1, ..] => self.look.is_bold = true,
+            [7, ..] => self.look.is_reverse = true,
+            [38, 5, number, _] => self.look.front = number,
+            [48, 5, number, _] => self.look.back = number,
+            _ => self.is_spoilt = true,
+        }
+    }
+
+    fn go(&mut self) {
+        let [row, column, ..] = self.numbers;
+        if row == 0 || column == 0 || row > self.height || column > self.width {
+            self.is_spoilt = true;
+        }
+        self.row = row.saturating_sub(1);
+        self.column = column.saturating_sub(1);
+    }
+
+    fn erase(&mut self) {
+        if self.look != PLAIN {
+            self.is_spoilt = true;
+        }
+        let space = Mark {
+            code: 0x20,
+            look: PLAIN,
+        };
+        for place in self.marks.iter_mut() {
+            *place = space;
+        }
+    }
+
+    fn switch(&mut self, is_on: bool) {
+        match self.numbers {
+            [25, ..] => self.is_visible = is_on,
+            [2026, ..] => {}
+            _ => self.is_spoilt = true,
+        }
+    }
+
+    fn control(&mut self, last: u8) {
+        self.at = At::Ground;
+        match last {
+            b'h' if self.is_private => self.switch(true),
+            b'l' if self.is_private => self.switch(false),
+            _ if self.is_private => self.is_spoilt = true,
+            b'm' => self.set_look(),
+            b'H' => self.go(),
+            b'J' if self.numbers[0] == 2 => self.erase(),
+            _ => self.is_spoilt = true,
+        }
+    }
+
+    fn parameter(&mut self, byte: u8) {
+        match byte {
+            b'?' => self.is_private = true,
+            b';' => self.count = self.count.saturating_add(1),
+            b'0'..=b'9' => {
+                if let Some(number) = self.numbers.get_mut(self.count) {
+                    *number = number
+                        .saturating_mul(10)
+                        .saturating_add(u32::from(byte - b'0'));
+                }
+            }
+            _ => self.control(byte),
+        }
+    }
+
+    fn ground(&mut self, byte: u8) {
+        let (code, more) = match byte {
+            0x20..=0x7E => (byte, 0),
+            0xC0..=0xDF => (byte - 0xC0, 1),
+            0xE0..=0xEF => (byte - 0xE0, 2),
+            0xF0..=0xF7 => (byte - 0xF0, 3),
+            _ => {
+                self.is_spoilt = true;
+                (b'?', 0)
+            }
+        };
+        self.code = u32::from(code);
+        if more == 0 {
+            self.print();
+        } else {
+            self.at = At::Within(more);
+        }
+    }
+
+    fn within(&mut self, byte: u8, more: u32) {
+        self.code = self
+            .code
+            .saturating_mul(64)
+            .saturating_add(u32::from(byte & 0x3F));
+        if more > 1 {
+            self.at = At::Within(more - 1);
+        } else {
+            self.at = At::Ground;
+            self.print();
+        }
+    }
+
+    fn put(&mut self, byte: u8) {
+        if byte == 0x1B {
+            self.at = At::Escape;
+            return;
+        }
+        match self.at {
+            At::Ground => self.ground(byte),
+            At::Escape => {
+                self.at = At::Control;
+                self.numbers = [0; 4];
+                self.count = 0;
+                self.is_private = false;
+                if byte != b'[' {
+                    self.is_spoilt = true;
+                }
+            }
+            At::Control => self.parameter(byte),
+            At::Within(more) => self.within(byte, more),
+        }
+    }
+
+    /// Writes bytes on it.
+    pub fn write(&mut self, bytes: &[u8]) {
+        for byte in bytes {
+            self.put(*byte);
+        }
+    }
+
+    /// Whether it shows these marks, with the cursor at a column and a row, or hidden, and everything was known.
+    pub fn shows(&self, marks: &[Mark], cursor: Option<(u16, u16)>) -> bool {
+        if self.is_spoilt || self.look != PLAIN || self.marks.as_slice() != marks {
+            return false;
+        }
+        match cursor {
+            None => !self.is_visible,
+            Some((column, row)) => {
+                self.is_visible && self.column == u32::from(column) && self.row == u32::from(row)
+            }
+        }
+    }
+}
+
+/// A buffer, and the marks that are wanted of it.
+#[derive(Drop)]
+pub struct Sheet {
+    pub buffer: Buffer,
+    pub marks: Vec<Mark>,
+}
+
+impl Sheet {
+    /// A blank one.
+    pub fn new(alloc: Global, width: u16, height: u16) -> Result<Sheet, AllocError> {
+        let space = Mark {
+            code: 0x20,
+            look: PLAIN,
+        };
+        let count = usize::from(width).saturating_mul(usize::from(height));
+        Ok(Sheet {
+            buffer: Buffer::new(alloc, width, height)?,
+            marks: Vec::from_elem(alloc, space, count)?,
+        })
+    }
+
+    /// Sets a character in a style, and tells whether it is as it should be.
+    pub fn set(&mut self, column: u16, row: u16, symbol: char, style: u32) -> bool {
+        let width = usize::from(self.buffer.width());
+        let at = usize::from(row)
+            .saturating_mul(width)
+            .saturating_add(usize::from(column));
+        let mark = Mark {
+            code: symbol as u32,
+            look: look_of(style),
+        };
+        match self.marks.get_mut(at) {
+            Some(place) if usize::from(column) < width => {
+                *place = mark;
+                self.buffer
+                    .set(column, row, symbol, style_of(style))
+                    .is_ok()
+            }
+            _ => self
+                .buffer
+                .set(column, row, symbol, style_of(style))
+                .is_err(),
+        }
+    }
+}
