@@ -20,8 +20,9 @@ use test_expect::expect;
 
 const ON: ColorOutput = ColorOutput::Enabled;
 
-static KINDS: [ErrorKind; 4] = [
+static KINDS: [ErrorKind; 5] = [
     ErrorKind::Other,
+    ErrorKind::WriteZero,
     ErrorKind::PermissionDenied,
     ErrorKind::OutOfMemory,
     ErrorKind::WouldBlock,

@@ -1,13 +1,19 @@
 //! Modes and sizes by a helper that runs `stty`: what it is asked, and what comes of its answers.
 
+use crate::queueing::kind;
+use crate::witness::Witness;
 use crossterm::event::source::RawFlag;
 use crossterm::terminal::{ModeDevice, SttyDevice, SttyMode, Terminal, WindowSize};
 use std::alloc::Global;
-use std::io::{self, ErrorKind};
+use std::io::{self, ErrorKind, Write};
 use test_expect::expect;
 
 /// Raw mode on and off again, and the size, by these answers.
-fn use_all(alloc: Global, answers: &[u8], requests: &mut Vec<u8>) -> io::Result<(u16, u16)> {
+fn use_all<W: Write + Drop>(
+    alloc: Global,
+    answers: &[u8],
+    requests: W,
+) -> io::Result<(u16, u16)> {
     let mut term = Terminal::new(SttyDevice::new(answers, requests)?, RawFlag::new(alloc)?);
     term.enable_raw_mode()?;
     term.disable_raw_mode()?;
@@ -15,13 +21,35 @@ fn use_all(alloc: Global, answers: &[u8], requests: &mut Vec<u8>) -> io::Result<
     Ok((columns, rows))
 }
 
+/// What a helper answers, and what it is asked.
+const ANSWERS: &[u8] = b"500:5:bf\n0:4:b0\n500:5:bf\n24\n80\n";
+const REQUESTS: &[u8] = b"mode\nraw\nset 500:5:bf\nsize\n";
+
 #[test]
 fn a_helper_is_asked_by_lines(rt: HostRuntime) {
     let mut requests = Vec::new(rt.alloc());
-    let answers = b"500:5:bf\n0:4:b0\n500:5:bf\n24\n80\n";
-    let size = use_all(rt.alloc(), answers, &mut requests);
+    let size = use_all(rt.alloc(), ANSWERS, &mut requests);
     expect!(rt; size.is_ok_and(|size| size == (80, 24)));
-    expect!(rt; requests.as_slice() == b"mode\nraw\nset 500:5:bf\nsize\n".as_slice());
+    expect!(rt; requests.as_slice() == REQUESTS);
+}
+
+/// Whether the writer's fault is told where it takes so many bytes of the requests, and it is left alone then. Each line is flushed.
+fn stops(alloc: Global, room: usize, fault: ErrorKind) -> bool {
+    let mut w = Witness::new(alloc, room, fault);
+    let answer = kind(use_all(alloc, ANSWERS, &mut w));
+    let taken = &REQUESTS[..room.min(REQUESTS.len())];
+    let lines = taken.iter().filter(|byte| **byte == b'\n').count();
+    let want = (room <= REQUESTS.len()).then_some(fault);
+    answer == want && w.saw(taken, lines as u32, 0)
+}
+
+#[test]
+fn a_helper_that_is_gone_is_told(rt: HostRuntime) {
+    for fault in [ErrorKind::BrokenPipe, ErrorKind::WriteZero, ErrorKind::Other] {
+        for room in 0..REQUESTS.len() + 2 {
+            expect!(rt; stops(rt.alloc(), room, fault));
+        }
+    }
 }
 
 /// The kind of the fault that these answers lead to.

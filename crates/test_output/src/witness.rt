@@ -9,7 +9,7 @@ pub struct Witness {
     bytes: Vec<u8>,
     /// How many bytes it takes before it fails.
     room: usize,
-    /// What it fails with.
+    /// What it fails with. A write that fails with `WriteZero` takes nothing and answers 0, as a full writer does.
     fault: ErrorKind,
     has_failed: bool,
     /// How often it was called after it failed.
@@ -53,7 +53,10 @@ impl Witness {
 
 impl Write for Witness {
     fn write(&mut self, buf: &[u8]) -> io::Result<usize> {
-        self.fail_at_end()?;
+        match self.fail_at_end() {
+            Err(error) if error.kind() == ErrorKind::WriteZero => return Ok(0),
+            outcome => outcome?,
+        }
         let count = buf.len().min(self.room);
         self.bytes.extend_from_slice(&buf[..count])?;
         self.room -= count;
