@@ -16,18 +16,21 @@ const HEAP: usize = 1 << 19;
 /// More calls than any session here needs.
 const CALLS: usize = 2_000;
 
+/// How many bytes are free at first, and over how many heaps a session is played.
+const LEAST: usize = 64;
+
+const STEPS: usize = 400;
+
 /// A session: the parts of its script, how many `a` its first piece has before them, and by how many bytes the free memory grows. That
 /// is less than any block, so each allocation is refused once at least.
 type Session = (&'static [Part], u32, usize);
 
-static SESSIONS: [Session; 5] = [
-    (&[Part::Text(b"\x1b", 1, false), Part::Text(b"\x1b", 1, false)], 0, 8),
-    (&[Part::Text(b"\x1b\x1b", 1, false)], 0, 8),
-    // A full piece, which ESC ends: it is no key yet.
-    (&[Part::Text(b"\x1b", 1, false), Part::Text(b"[A", 1, false)], 1_023, 200),
-    (&PASTE, 0, 4),
-    (&ACTS, 0, 8),
-];
+static TWO_PIECES: [Part; 2] = [Part::Text(b"\x1b", 1, false), Part::Text(b"\x1b", 1, false)];
+
+static ONE_PIECE: [Part; 1] = [Part::Text(b"\x1b\x1b", 1, false)];
+
+/// After 1,023 letters the first piece is a full one, which ESC ends: it is no key yet.
+static FULL_PIECE: [Part; 2] = [Part::Text(b"\x1b", 1, false), Part::Text(b"[A", 1, false)];
 
 /// A paste, byte by byte after its first one.
 static PASTE: [Part; 14] = [
@@ -84,6 +87,7 @@ fn number_of<A: Allocator>(event: &InternalEvent<A>) -> u32 {
 
 /// What no event and a fault are told by.
 const NONE: u32 = 0x11_0006;
+
 const FAULT: u32 = 0x11_0007;
 
 type Poor<'a> = InternalEventReader<DeviceSource<Script, &'a LocalHeap>, &'a LocalHeap>;
@@ -126,28 +130,36 @@ fn played(alloc: Global, session: &Session, free: usize) -> Result<(Vec<u32>, bo
     read_all(alloc, &mut reader, block)
 }
 
-/// How often memory was refused in a session, if it gives the same each time.
+/// How often a call was refused memory in a session, if it gives the same over each heap.
 fn sweep(alloc: Global, session: &Session) -> Result<Option<u32>, AllocError> {
     let (want, _) = played(alloc, session, HEAP)?;
     let mut refusals = 0u32;
-    for step in 8..HEAP {
-        let (seen, is_refused) = played(alloc, session, step.saturating_mul(session.2))?;
+    for step in 0..STEPS {
+        let (seen, is_refused) = played(
+            alloc,
+            session,
+            LEAST.saturating_add(step.saturating_mul(session.2)),
+        )?;
         if seen.as_slice() != want.as_slice() {
             return Ok(None);
         }
-        if !is_refused {
-            break;
-        }
-        refusals = refusals.saturating_add(1);
+        refusals = refusals.saturating_add(u32::from(is_refused));
     }
     Ok(Some(refusals))
 }
 
 #[test]
 fn refused_memory_loses_no_event(rt: HostRuntime) -> Result<(), AllocError> {
-    for session in &SESSIONS {
+    let sessions: [Session; 5] = [
+        (&TWO_PIECES, 0, 8),
+        (&ONE_PIECE, 0, 8),
+        (&FULL_PIECE, 1_023, 220),
+        (&PASTE, 0, 4),
+        (&ACTS, 0, 8),
+    ];
+    for session in &sessions {
         let refusals = sweep(rt.alloc(), session)?;
-        expect!(rt; refusals.is_some_and(|count| count > 0));
+        expect!(rt; refusals.is_some_and(|count| (1..STEPS as u32).contains(&count)));
     }
     Ok(())
 }
@@ -183,14 +195,11 @@ fn queries(alloc: Global, free: usize) -> Result<(bool, bool), AllocError> {
 #[test]
 fn refused_memory_loses_no_reply(rt: HostRuntime) -> Result<(), AllocError> {
     let mut refusals = 0u32;
-    for step in 8..HEAP {
-        let (is_told, is_refused) = queries(rt.alloc(), step.saturating_mul(8))?;
+    for step in 0..STEPS {
+        let (is_told, is_refused) = queries(rt.alloc(), LEAST + 8 * step)?;
         expect!(rt; is_told);
-        if !is_refused {
-            break;
-        }
-        refusals = refusals.saturating_add(1);
+        refusals = refusals.saturating_add(u32::from(is_refused));
     }
-    expect!(rt; refusals > 0);
+    expect!(rt; 0 < refusals && refusals < STEPS as u32);
     Ok(())
 }
