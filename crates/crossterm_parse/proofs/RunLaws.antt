@@ -7,14 +7,21 @@ use Rattle.std.proofs.lemmas.Bool.Decides.{nat_tests}
 use Rattle.std.specs.List.{AllByRecursion}
 use Rattle.bstr.specs.Utf8.{Decoded, decoded, second, continues, code_of_2, code_of_3, code_of_4}
 use Rattle.bstr.proofs.lemmas.PieceLemmas.{by-shape}
-use Rattle.crossterm_parse.specs.inside.Recognizer.{is_lead, is_continuing, further_after}
+use Rattle.crossterm_parse.specs.inside.Fields.{fields_after}
+use Rattle.crossterm_parse.specs.inside.Recognizer.{is_lead, is_continuing, is_final, is_mouse_end, further_after}
+use Rattle.crossterm_parse.specs.inside.Utf8.{utf8_after}
 use Rattle.crossterm_parse.specs.Meaning.{typed, decoded_character}
 use Rattle.memchr.specs.Find.{Nowhere, Passes, is_byte}
-use Rattle.crossterm_parse.specs.inside.Automaton.{IsCharacterOf, IsLetter, state_after, state_left, text_left, events_left, is_paste, Opens, OpensWith, StateRepresents, kept_text}
+use Rattle.crossterm_parse.specs.inside.Automaton.{IsCharacterOf, IsLetter, parameters_after, state_after, state_left, text_left, events_left, is_paste, Opens, OpensWith, StateRepresents, kept_text}
 use Rattle.crossterm_parse.specs.Marked.{Marked, bytes_of, marked}
 use Rattle.crossterm_parse.specs.View.{ParserView, Represents, AdvancesOver}
 use Rattle.crossterm_parse.specs.inside.Putting.{Gives, PutsAll, PutsByte, PutsOn}
+use Rattle.crossterm_parse.specs.declared.fields.Fields.{Fields}
+use Rattle.crossterm_parse.specs.declared.numbered.Parameters.{Parameters}
+use Rattle.crossterm_parse.specs.declared.utf8.Validity.{Validity}
+use Rattle.crossterm_parse.specs.declared.utf8.Validity.TheVariants.{Sound}
 use Rattle.crossterm_parse.specs.declared.paste.Met.TheVariants as met
+use Rattle.crossterm_parse.specs.declared.paste.Opening.TheVariants as opening
 use Rattle.crossterm_parse.specs.declared.state.State.{State}
 use Rattle.crossterm_parse.specs.declared.state.State.TheVariants.{Ground, Escape, Ss3, Csi, LinuxKey, X10, Sgr, Private, Reply, Numbered, Paste, Utf8}
 use Rattle.crossterm_parse.specs.inside.Step.{Step, Open, Whole}
@@ -176,6 +183,12 @@ advance_rest n old mid new piece more raw i l all before =
     let left : length (drop i piece) ≤ length piece - i = omega (arith, length-drop i piece) in
     advance_run n old mid new piece more raw i l (subst (λ (bs : List ℕ). PutsOn mid new (take n bs)) (take_all (length piece - i) (drop i piece) left) all) before
 
+pub take_less : (n m : ℕ) (bs : List ℕ) → n ≤ length (take m bs) → take n (take m bs) ≡ take n bs
+take_less zero m bs l = refl
+take_less (suc n) zero bs l = absurd (omega (arith, l))
+take_less (suc n) (suc m) [] l = refl
+take_less (suc n) (suc m) (b ∷ bs) l = ap (λ (t : List ℕ). b ∷ t) (take_less n m bs (omega (arith, l)))
+
 -- one more byte with which a sequence goes on
 pub opens_more : (old mid new : State) (bs : List ℕ) (b : ℕ) → Opens old mid bs → ((raw pause : Bool) → state_after mid b raw pause ≡ Open new) → is_paste new ≡ false
     → Opens old new (bs ++ b ∷ [])
@@ -195,9 +208,43 @@ opens_puts (b ∷ bs) old new opens text waiting =
     ) in
     (mid, puts, opens_puts bs mid new opens.3 text waiting)
 
-opens_join : (bs cs : List ℕ) (old mid new : State) → Opens old mid bs → Opens mid new cs → Opens old new (bs ++ cs)
+pub opens_join : (bs cs : List ℕ) (old mid new : State) → Opens old mid bs → Opens mid new cs → Opens old new (bs ++ cs)
 opens_join [] cs old mid new same more = subst (λ (s : State). Opens s new cs) same more
 opens_join (b ∷ bs) cs old mid new all more = (all.0, all.1, all.2, opens_join bs cs all.0 mid new all.3 more)
+
+-- bytes at the front of a slice, and bytes behind them
+pub opens_front : (old new : State) (bs : List ℕ) (few n : ℕ) → n ≤ length (take few bs) → Opens old new (take n (take few bs)) → Opens old new (take n bs)
+opens_front old new bs few n l opens = subst (Opens old new) (take_less n few bs l) opens
+
+pub opens_on : (old mid new : State) (bs : List ℕ) (i n : ℕ) → Opens old mid (take i bs) → Opens mid new (take n (take (length bs - i) (drop i bs))) → Opens old new (take (i + n) bs)
+opens_on old mid new bs i n opens more =
+    let left : length (drop i bs) ≤ length bs - i = omega (arith, length-drop i bs) in
+    subst (Opens old new) (take_join i n bs) (opens_join (take i bs) (take n (drop i bs)) old mid new opens
+        (subst (λ (cs : List ℕ). Opens mid new (take n cs)) (take_all (length bs - i) (drop i bs) left) more))
+
+-- a digit that changes no number
+idle_after : (p : Parameters) (b : ℕ) → b < 58 → p.validity ≡ Sound → fields_after p.fields b ≡ p.fields
+    → parameters_after p b ≡ record { fields = p.fields; last = b; validity = p.validity }
+idle_after p b high sound same =
+    let ascii : nat_lt b 128 ≡ true = grind (arith, nat_tests) in
+    let still : utf8_after Sound b ≡ Sound = rw (ascii) refl in
+    let valid : utf8_after p.validity b ≡ p.validity = ap (λ (v : Validity). utf8_after v b) sound ∙ still ∙ sym sound in
+    ap (λ (fs : Fields). record { fields = fs; last = b; validity = utf8_after p.validity b }) same
+    ∙ ap (λ (v : Validity). record { fields = p.fields; last = b; validity = v }) valid
+
+pub idle_number : (p : Parameters) (b : ℕ) → 48 ≤ b → b < 58 → p.validity ≡ Sound → fields_after p.fields b ≡ p.fields → (raw pause : Bool)
+    → state_after (Numbered p opening.Not) b raw pause ≡ Open (Numbered (record { fields = p.fields; last = b; validity = p.validity }) opening.Not)
+idle_number p b low high sound same raw pause =
+    let on : is_final b ≡ false = grind (arith, nat_tests) in
+    let same = ap (λ (q : Parameters). Open (Numbered q opening.Not)) (idle_after p b high sound same) in
+    rw on same
+
+pub idle_report : (p : Parameters) (b : ℕ) → 48 ≤ b → b < 58 → p.validity ≡ Sound → fields_after p.fields b ≡ p.fields → (raw pause : Bool)
+    → state_after (Sgr p) b raw pause ≡ Open (Sgr (record { fields = p.fields; last = b; validity = p.validity }))
+idle_report p b low high sound same raw pause =
+    let on : is_mouse_end b ≡ false = grind (arith, nat_tests) in
+    let same = ap (λ (q : Parameters). Open (Sgr q)) (idle_after p b high sound same) in
+    rw on same
 
 -- ESC and a byte that stands with it
 escape_byte : (old : ParserView) (b : ℕ) (bs : List ℕ) (raw pause : Bool) → (pause ≡ true → length (b ∷ bs) ≡ 0) → old.state ≡ Ground
@@ -279,12 +326,6 @@ whole_byte old new state b m is whole gives raw pause =
 
 pub letter_puts : (old new : ParserView) (b : ℕ) → IsLetter b → old.state ≡ Ground → Gives old new (typed b) → (raw pause : Bool) → PutsByte old new b raw pause
 letter_puts old new b is ground gives = whole_byte old new Ground b (typed b) ground (letter_after b is) gives
-
-pub take_less : (n m : ℕ) (bs : List ℕ) → n ≤ length (take m bs) → take n (take m bs) ≡ take n bs
-take_less zero m bs l = refl
-take_less (suc n) zero bs l = absurd (omega (arith, l))
-take_less (suc n) (suc m) [] l = refl
-take_less (suc n) (suc m) (b ∷ bs) l = ap (λ (t : List ℕ). b ∷ t) (take_less n m bs (omega (arith, l)))
 
 pub letters_more : (bs : List ℕ) (b : ℕ) → AllByRecursion IsLetter bs → IsLetter b → AllByRecursion IsLetter (bs ++ b ∷ [])
 letters_more [] b all is = (is, tt)

@@ -1,5 +1,5 @@
 //! The first three fields of a sequence that is open, as numbers.
-ghost use Rattle.std.specs.Prelude.{◌≡◌};
+ghost use Rattle.std.specs.Prelude.{◌≡◌, ◌≤◌, ◌<◌, ◌+◌, ℕ};
 ghost use Rattle.crossterm_parse.specs.inside.Fields.{fields_of, field_after, fields_after, whole_of};
 ghost use Rattle.crossterm_parse.specs.inside.Numbers.{number_after};
 
@@ -64,6 +64,18 @@ impl Field {
         }
     }
 
+    /// How many of the digits from 0 on leave the field as it is.
+    fn idle_digits(&self) -> u8
+        ensures most { result ≤ 10 }
+        ensures idle { (b : ℕ) → 48 ≤ b → b < 48 + result → field_after self.now b ≡ self.now }
+    {
+        match self.part {
+            Part::First => self.first.idle_digits(),
+            Part::Second => self.second.idle_digits(),
+            Part::Later => 10,
+        }
+    }
+
     #[inline(always)]
     fn read(&mut self, byte: u8)
         ensures { self.new ≡ field_after self.old byte }
@@ -92,6 +104,19 @@ impl Fields {
             second: Field::new(Number::Empty),
             third: Number::Empty,
             place: Place::First,
+        }
+    }
+
+    /// How many of the digits from 0 on leave the fields as they are.
+    pub fn idle_digits(&self) -> u8
+        ensures most { result ≤ 10 }
+        ensures idle { (b : ℕ) → 48 ≤ b → b < 48 + result → fields_after self.now b ≡ self.now }
+    {
+        match self.place {
+            Place::First => self.first.idle_digits(),
+            Place::Second => self.second.idle_digits(),
+            Place::Third => self.third.idle_digits(),
+            Place::Later => 10,
         }
     }
 

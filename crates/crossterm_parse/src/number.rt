@@ -1,5 +1,5 @@
 //! Numbers that are read byte by byte.
-ghost use Rattle.std.specs.Prelude.{◌≡◌, true};
+ghost use Rattle.std.specs.Prelude.{◌≡◌, ◌≤◌, ◌<◌, ◌+◌, ℕ, true};
 ghost use Rattle.crossterm_parse.specs.Bytes.{is_digit};
 ghost use Rattle.crossterm_parse.specs.Number.{at_most};
 ghost use Rattle.crossterm_parse.specs.inside.Numbers.{number_after, reading};
@@ -69,6 +69,18 @@ impl Number {
             *self = Number::digit(byte);
         } else {
             *self = self.put(byte);
+        }
+    }
+
+    /// How many of the digits from 0 on leave the number as it is: all ten once it is past its limit or no number, 0 alone after zeros.
+    pub fn idle_digits(&self) -> u8
+        ensures most { result ≤ 10 }
+        ensures idle { (b : ℕ) → 48 ≤ b → b < 48 + result → number_after self.now b ≡ self.now }
+    {
+        match self {
+            Number::Big | Number::Bad => 10,
+            Number::Value(0) => 1,
+            _ => 0,
         }
     }
 

@@ -1,8 +1,10 @@
 //! A numbered sequence `ESC [ d w f`, with d a digit.
-ghost use Rattle.std.specs.Prelude.{◌≡◌, true};
+ghost use Rattle.std.specs.Prelude.{◌≡◌, ◌≤◌, length, take, true};
 ghost use Rattle.crossterm_parse.specs.Bytes.{is_digit};
 ghost use Rattle.crossterm_parse.specs.inside.Recognizer.{is_final, is_mouse_end};
-ghost use Rattle.crossterm_parse.specs.inside.Automaton.{parameters_after, empty_parameters, readings_at};
+ghost use Rattle.crossterm_parse.specs.inside.Automaton.{parameters_after, empty_parameters, readings_at, Opens};
+ghost use Rattle.crossterm_parse.specs.declared.paste.Opening.TheVariants as opening;
+ghost use Rattle.crossterm_parse.specs.declared.state.State.TheVariants as state;
 ghost use Rattle.crossterm_parse.specs.Mouse.{less, mouse_report};
 ghost use Rattle.crossterm_parse.specs.Number.{at_most, coordinate};
 ghost use Rattle.crossterm_parse.specs.inside.Numbers.{reading};
@@ -146,6 +148,26 @@ impl Parameters {
         self.fields.read(byte);
         self.last = byte;
         self.validity.read(byte);
+    }
+
+    /// Reads the digits in front that change no number, and returns how many. A sequence has them where it has more digits than a
+    /// number can, or zeros before one.
+    pub fn read_idle(&mut self, bytes: &[u8]) -> usize
+        ensures within { result ≤ length bytes.now }
+        ensures numbered { Opens (state.Numbered self.old opening.Not) (state.Numbered self.new opening.Not) (take result bytes.now) }
+        ensures report { Opens (state.Sgr self.old) (state.Sgr self.new) (take result bytes.now) }
+    {
+        if !matches!(self.validity, Validity::Sound) {
+            return 0;
+        }
+        let end = b'0' + self.fields.idle_digits();
+        for (i, byte) in bytes.iter().enumerate() {
+            if *byte < b'0' || *byte >= end {
+                return i;
+            }
+            self.last = *byte;
+        }
+        bytes.len()
     }
 
     fn modifier_field(&self) -> Option<ModifierField>

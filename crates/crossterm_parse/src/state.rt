@@ -62,6 +62,9 @@ pub enum Progress {
     Closed,
 }
 
+// So many bytes of a sequence are read one by one before digits that change nothing are looked for: most sequences are shorter.
+const FEW: usize = 16;
+
 /// Whether the byte is a letter, a digit, a sign or a blank of ASCII.
 pub(crate) fn is_letter(byte: u8) -> bool
     ensures { IsTrue result → IsLetter byte }
@@ -128,8 +131,9 @@ fn read_reply(number: &mut Number, byte: u8) -> bool
     true
 }
 
-/// Reads the bytes in front with which a numbered sequence goes on, and tells how many.
-fn read_numbers(parameters: &mut Parameters, opening: &mut Opening, bytes: &[u8]) -> usize
+/// Reads the bytes in front with which a numbered sequence goes on, one by one, and tells how many.
+#[inline(always)]
+fn read_few_numbers(parameters: &mut Parameters, opening: &mut Opening, bytes: &[u8]) -> usize
     ensures within { result ≤ length bytes.now }
     ensures opens { Opens (State.Numbered parameters.old opening.old) (State.Numbered parameters.new opening.new) (take result bytes.now) }
 {
@@ -141,8 +145,9 @@ fn read_numbers(parameters: &mut Parameters, opening: &mut Opening, bytes: &[u8]
     bytes.len()
 }
 
-/// Reads the bytes in front with which a report of the mouse goes on, and tells how many.
-fn read_reports(parameters: &mut Parameters, bytes: &[u8]) -> usize
+/// Reads the bytes in front with which a report of the mouse goes on, one by one, and tells how many.
+#[inline(always)]
+fn read_few_reports(parameters: &mut Parameters, bytes: &[u8]) -> usize
     ensures within { result ≤ length bytes.now }
     ensures opens { Opens (State.Sgr parameters.old) (State.Sgr parameters.new) (take result bytes.now) }
 {
@@ -152,6 +157,55 @@ fn read_reports(parameters: &mut Parameters, bytes: &[u8]) -> usize
         }
     }
     bytes.len()
+}
+
+/// Reads the bytes in front with which a long numbered sequence goes on, and tells how many. Digits that change no number are skipped.
+#[inline(never)]
+fn read_more_numbers(parameters: &mut Parameters, opening: &mut Opening, bytes: &[u8]) -> usize
+    ensures within { result ≤ length bytes.now }
+    ensures opens { Opens (State.Numbered parameters.old opening.old) (State.Numbered parameters.new opening.new) (take result bytes.now) }
+{
+    match opening {
+        Opening::Not => {
+            let count = parameters.read_idle(bytes);
+            count + read_few_numbers(parameters, opening, &bytes[count..])
+        }
+        _ => 0,
+    }
+}
+
+/// Reads the bytes in front with which a long report of the mouse goes on, and tells how many. Digits that change no number are skipped.
+#[inline(never)]
+fn read_more_reports(parameters: &mut Parameters, bytes: &[u8]) -> usize
+    ensures within { result ≤ length bytes.now }
+    ensures opens { Opens (State.Sgr parameters.old) (State.Sgr parameters.new) (take result bytes.now) }
+{
+    let count = parameters.read_idle(bytes);
+    count + read_few_reports(parameters, &bytes[count..])
+}
+
+/// Reads the bytes in front with which a numbered sequence goes on, and tells how many.
+fn read_numbers(parameters: &mut Parameters, opening: &mut Opening, bytes: &[u8]) -> usize
+    ensures within { result ≤ length bytes.now }
+    ensures opens { Opens (State.Numbered parameters.old opening.old) (State.Numbered parameters.new opening.new) (take result bytes.now) }
+{
+    let count = read_few_numbers(parameters, opening, &bytes[..bytes.len().min(FEW)]);
+    if count < FEW {
+        return count;
+    }
+    count + read_more_numbers(parameters, opening, &bytes[count..])
+}
+
+/// Reads the bytes in front with which a report of the mouse goes on, and tells how many.
+fn read_reports(parameters: &mut Parameters, bytes: &[u8]) -> usize
+    ensures within { result ≤ length bytes.now }
+    ensures opens { Opens (State.Sgr parameters.old) (State.Sgr parameters.new) (take result bytes.now) }
+{
+    let count = read_few_reports(parameters, &bytes[..bytes.len().min(FEW)]);
+    if count < FEW {
+        return count;
+    }
+    count + read_more_reports(parameters, &bytes[count..])
 }
 
 impl State {

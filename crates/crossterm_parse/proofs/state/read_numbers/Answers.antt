@@ -1,10 +1,12 @@
-use Rattle.std.proofs.Common.{sym, subst, take, refl}
-use Rattle.std.proofs.lemmas.List.{take_more}
-use Rattle.crossterm_parse.specs.inside.Automaton.{Opens}
 use Rattle.crossterm_parse.specs.declared.state.State.TheVariants.{Numbered}
-use Rattle.crossterm_parse.proofs.RunLaws.{opens_more}
+use Rattle.crossterm_parse.proofs.RunLaws.{opens_front, opens_on}
 use Rattle.crossterm_parse.proofs.state.read_numbers.Goals as goal
 
-pub loop-i-preserved : goal.loop-i-preserved
-loop-i-preserved c = subst (Opens (Numbered c.args.parameters.now c.args.opening.now) (Numbered c.read_number.new.parameters c.read_number.new.opening)) (sym (take_more c.args.bytes.now c.loop-i.i 0 c.loop-i-test.true))
-    (opens_more (Numbered c.args.parameters.now c.args.opening.now) (Numbered c.loop-i.parameters c.loop-i.opening) (Numbered c.read_number.new.parameters c.read_number.new.opening) (take c.loop-i.i c.args.bytes.now) _ c.loop-i.invariant (c.read_number.ensures.yes c.if-not-read_number.false) refl)
+pub returns-clause-opens : goal.returns-clause-opens
+returns-clause-opens c =
+    let few = c.read_few_numbers-count in
+    let more = c.read_more_numbers in
+    let old = Numbered c.args.parameters.now c.args.opening.now in
+    let mid = Numbered few.new.parameters few.new.opening in
+    opens_on old mid (Numbered more.new.parameters more.new.opening) c.args.bytes.now few.result more.result
+        (opens_front old mid c.args.bytes.now c.min.result few.result few.ensures.within few.ensures.opens) more.ensures.opens

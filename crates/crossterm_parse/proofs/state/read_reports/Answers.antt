@@ -1,10 +1,12 @@
-use Rattle.std.proofs.Common.{sym, subst, take, refl}
-use Rattle.std.proofs.lemmas.List.{take_more}
-use Rattle.crossterm_parse.specs.inside.Automaton.{Opens}
 use Rattle.crossterm_parse.specs.declared.state.State.TheVariants.{Sgr}
-use Rattle.crossterm_parse.proofs.RunLaws.{opens_more}
+use Rattle.crossterm_parse.proofs.RunLaws.{opens_front, opens_on}
 use Rattle.crossterm_parse.proofs.state.read_reports.Goals as goal
 
-pub loop-i-preserved : goal.loop-i-preserved
-loop-i-preserved c = subst (Opens (Sgr c.args.parameters.now) (Sgr c.read_report.new.parameters)) (sym (take_more c.args.bytes.now c.loop-i.i 0 c.loop-i-test.true))
-    (opens_more (Sgr c.args.parameters.now) (Sgr c.loop-i.parameters) (Sgr c.read_report.new.parameters) (take c.loop-i.i c.args.bytes.now) _ c.loop-i.invariant (c.read_report.ensures.yes c.if-not-read_report.false) refl)
+pub returns-clause-opens : goal.returns-clause-opens
+returns-clause-opens c =
+    let few = c.read_few_reports-count in
+    let more = c.read_more_reports in
+    let old = Sgr c.args.parameters.now in
+    let mid = Sgr few.new.parameters in
+    opens_on old mid (Sgr more.new.parameters) c.args.bytes.now few.result more.result
+        (opens_front old mid c.args.bytes.now c.min.result few.result few.ensures.within few.ensures.opens) more.ensures.opens

@@ -1,7 +1,7 @@
 use Rattle.std.proofs.Common.{take}
 use Rattle.crossterm_parse.specs.inside.Automaton.{Opens}
 use Rattle.crossterm_parse.specs.declared.state.State.TheVariants.{Sgr}
-use Rattle.crossterm_parse.proofs.state.read_reports.Given as goal
+use Rattle.crossterm_parse.proofs.state.read_few_reports.Given as goal
 
 -- the bytes before this one were read
 abbrev pub invariant-loop-i : goal.invariant-loop-i
