@@ -7,7 +7,7 @@ use Rattle.crossterm_types.specs.declared.event.filter.Classes.{Classes}
 use Rattle.crossterm_types.specs.declared.event.key.KeyCode.{KeyCode}
 use Rattle.crossterm_types.specs.declared.event.key.KeyEventKind.{KeyEventKind}
 use Rattle.crossterm_types.specs.declared.event.mouse.MouseEventKind.{MouseEventKind}
-use Rattle.crossterm_c.specs.Event.{code_at, done_at, event_at, is_bare, key_by, mouse_by, no_code, no_flags, no_place, no_press, only, or_resize, press_at, told_by}
+use Rattle.crossterm_c.specs.Event.{code_at, done_at, event_at, is_bare, key_by, mouse_by, no_code, no_flags, no_place, no_press, only, or_resize, press_at}
 use Rattle.crossterm_c.specs.declared.event.GelvanhEvent.{GelvanhEvent}
 
 -- the event of a reply with no number but its own

@@ -1,7 +1,6 @@
-use Rattle.std.proofs.Common.{◌≡◌, ℕ, false, get_or, sym, ap, ◌∙◌, arith, below_more}
+use Rattle.std.proofs.Common.{◌≡◌, false, get_or, sym, ap, ◌∙◌, arith, below_more}
 use Rattle.std.proofs.lemmas.List.{get_or_default}
 use Rattle.crossterm_c.specs.Held.{admits}
-use Rattle.crossterm_c.specs.declared.held.GelvanhHeld.{GelvanhHeld}
 use Rattle.crossterm_c.proofs.HeldLaws.{found, found_none, no_member}
 use Rattle.crossterm_c.proofs.held.first_of.Goals as goal
 
