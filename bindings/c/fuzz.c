@@ -25,6 +25,39 @@ static void fail(const char *what) {
     exit(1);
 }
 
+/* Random calls of a reader beside a list that a loop shifts. */
+static void hold_and_take(void) {
+    size_t room = draw(6), count = 0;
+    struct gelvanh_held *table = room ? malloc(room * sizeof *table) : NULL;
+    struct gelvanh_held kept[6], taken;
+    struct gelvanh_reader reader = {draw(2) ? 0 : draw(9), 0, 0};
+    for (int i = 0; i < 40; i++) {
+        uint32_t classes = draw(16);
+        if (draw(2)) {
+            struct gelvanh_event event = {(uint16_t)(1 + draw(9)), 0, 0, 0, 0, 0, 0, 0, 0};
+            uint64_t number = reader.arrivals;
+            if (gelvanh_hold(&reader, table, room, &event) != (count < room))
+                fail("room of gelvanh_hold");
+            if (count < room) {
+                kept[count].event = event;
+                kept[count++].arrival = number;
+            }
+            continue;
+        }
+        size_t at = 0;
+        while (at < count && !(classes & (kept[at].event.kind == 6 ? 2u : kept[at].event.kind == 7 ? 4u : kept[at].event.kind == 8 ? 8u : 1u)))
+            at++;
+        if (gelvanh_holds(&reader, table, room, classes) != (at < count) || gelvanh_take(&reader, table, room, classes, &taken) != (at < count))
+            fail("whether gelvanh_take takes");
+        if (at < count) {
+            if (taken.event.kind != kept[at].event.kind || taken.arrival != kept[at].arrival)
+                fail("what gelvanh_take takes");
+            memmove(kept + at, kept + at + 1, (--count - at) * sizeof *kept);
+        }
+    }
+    free(table);
+}
+
 static void one(bool wild) {
     struct gelvanh_state *state = calloc(1, sizeof *state);
     if (wild)
@@ -64,6 +97,7 @@ static void one(bool wild) {
     gelvanh_copy_to_clipboard(piece, length, piece, length / 2, slice, out, &needed);
     gelvanh_set_title(piece, length, slice, out, &needed);
     gelvanh_print(piece, length, slice, out, &needed);
+    hold_and_take();
     free(slice);
     free(events);
     free(piece);

@@ -46,7 +46,8 @@ enum gelvanh_event_kind {
     GELVANH_PASTE = 5,     /* its end: the text is with the caller */
     GELVANH_CURSOR = 6,    /* column, row */
     GELVANH_FLAGS = 7,     /* flags */
-    GELVANH_ATTRIBUTES = 8
+    GELVANH_ATTRIBUTES = 8,
+    GELVANH_RESIZE = 9     /* column and row: how many the window has. No bytes mean it; a caller holds it */
 };
 
 enum gelvanh_key {
@@ -83,7 +84,7 @@ enum { GELVANH_BUTTON_LEFT, GELVANH_BUTTON_RIGHT, GELVANH_BUTTON_MIDDLE };
 struct gelvanh_event {
     uint16_t kind, code;
     uint32_t value;
-    uint16_t column, row; /* from 0 */
+    uint16_t column, row; /* from 0, but of a resize */
     uint8_t modifiers, press, state, flags;
 };
 
@@ -108,6 +109,37 @@ gelvanh_bool gelvanh_is_pasting(const struct gelvanh_state *state);
  * next character has room. It tells how many bytes were read: the text of the others is still missing. `written` is how many bytes
  * were written. With room for three times the bytes all are read. */
 size_t gelvanh_paste_text(const uint8_t *bytes, size_t length, uint8_t *text, size_t room, size_t *written);
+
+/* An event that is held, and how many events arrived before it. */
+struct gelvanh_held {
+    struct gelvanh_event event;
+    uint64_t arrival;
+};
+
+/* A reader: which places of the caller's table hold events, in the order of their arrival. All zeros is one that no event has reached. The
+ * table may grow at its end between calls. A paste's bytes stay with the caller, under the number of its event. */
+struct gelvanh_reader {
+    size_t first, held;
+    uint64_t arrivals; /* the number of the next event; it stays at the greatest */
+};
+
+/* Classes of events, or sums of them. */
+enum {
+    GELVANH_EVENTS = 1,            /* what a user brought about: all but replies */
+    GELVANH_CURSOR_REPLIES = 2,
+    GELVANH_FLAGS_REPLIES = 4,
+    GELVANH_ATTRIBUTES_REPLIES = 8 /* also the reply to a query for the flags, where the terminal has none */
+};
+
+/* Holds an event behind those that are held, and tells whether the table of `room` places had one more: else nothing has changed. */
+gelvanh_bool gelvanh_hold(struct gelvanh_reader *reader, struct gelvanh_held *table, size_t room, const struct gelvanh_event *event);
+
+/* Whether an event of one of some classes is held. */
+gelvanh_bool gelvanh_holds(const struct gelvanh_reader *reader, const struct gelvanh_held *table, size_t room, uint32_t classes);
+
+/* Takes the first held event of one of some classes, and tells whether there was one: else nothing has changed. The others stay, in their
+ * order. */
+gelvanh_bool gelvanh_take(struct gelvanh_reader *reader, struct gelvanh_held *table, size_t room, uint32_t classes, struct gelvanh_held *taken);
 
 /* A colour: 0 none, 1 the terminal's own, 2 to 17 by name, 18 by its parts, 19 by its place in the palette, which is r. */
 struct gelvanh_color {
@@ -207,6 +239,11 @@ GELVANH_CHECK(event_value, offsetof(struct gelvanh_event, value) == 4);
 GELVANH_CHECK(event_column, offsetof(struct gelvanh_event, column) == 8);
 GELVANH_CHECK(event_modifiers, offsetof(struct gelvanh_event, modifiers) == 12);
 GELVANH_CHECK(event_flags, offsetof(struct gelvanh_event, flags) == 15);
+GELVANH_CHECK(held, sizeof(struct gelvanh_held) == 24);
+GELVANH_CHECK(held_arrival, offsetof(struct gelvanh_held, arrival) == 16);
+GELVANH_CHECK(reader, sizeof(struct gelvanh_reader) == 24);
+GELVANH_CHECK(reader_held, offsetof(struct gelvanh_reader, held) == 8);
+GELVANH_CHECK(reader_arrivals, offsetof(struct gelvanh_reader, arrivals) == 16);
 GELVANH_CHECK(color, sizeof(struct gelvanh_color) == 4);
 GELVANH_CHECK(command, sizeof(struct gelvanh_command) == 24);
 GELVANH_CHECK(command_attributes, offsetof(struct gelvanh_command, attributes) == 4);

@@ -1,6 +1,7 @@
 //! From the archive's numbers to events.
 
 use crate::event::{Event, InternalEvent, MouseButton, MouseEvent, MouseEventKind};
+use crate::held::Classes;
 use crate::key::{KeyCode, KeyEvent, KeyEventKind, KeyEventState, KeyModifiers, KeyboardEnhancementFlags, MEDIA, MODIFIERS};
 use crate::raw;
 
@@ -85,6 +86,22 @@ fn mouse_of(event: &raw::Event) -> MouseEvent {
 }
 
 impl raw::Event {
+    /// The numbers of a resize to so many columns and rows, which no bytes mean.
+    pub fn resize(columns: u16, rows: u16) -> raw::Event {
+        raw::Event { kind: 9, column: columns, row: rows, ..raw::Event::default() }
+    }
+
+    /// The class that the event is of, for `HeldEvents`.
+    #[inline]
+    pub fn class(&self) -> Classes {
+        match self.kind {
+            6 => Classes::CURSOR,
+            7 => Classes::FLAGS,
+            8 => Classes::ATTRIBUTES,
+            _ => Classes::EVENTS,
+        }
+    }
+
     /// Whether a paste is over: its text isn't in the numbers.
     #[inline]
     pub fn is_paste(&self) -> bool {
@@ -104,7 +121,20 @@ impl raw::Event {
             6 => InternalEvent::CursorPosition(self.column, self.row),
             7 => InternalEvent::KeyboardEnhancementFlags(KeyboardEnhancementFlags::from_bits_retain(self.flags)),
             8 => InternalEvent::PrimaryDeviceAttributes,
+            9 => InternalEvent::Event(Event::Resize(self.column, self.row)),
             _ => return None,
         })
+    }
+
+    /// The same, with that of a paste, whose text is asked for. Without the feature `bracketed-paste` a paste is none.
+    #[inline]
+    pub fn to_event_with(&self, text: impl FnOnce() -> Option<String>) -> Option<InternalEvent> {
+        if !self.is_paste() {
+            return self.to_event();
+        }
+        #[cfg(feature = "bracketed-paste")]
+        return text().map(|text| InternalEvent::Event(Event::Paste(text)));
+        #[cfg(not(feature = "bracketed-paste"))]
+        return text().and(None);
     }
 }

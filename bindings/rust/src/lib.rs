@@ -26,8 +26,9 @@
 //! # Ok::<(), std::io::Error>(())
 //! ```
 //!
-//! What is proved is the archive's code: that the events are the meanings of the parts of the only division of the bytes, and a command's
-//! bytes its text. This wrapper isn't: its part is the declarations of `raw`, which hold all its `unsafe`, and from numbers to enums.
+//! What is proved is the archive's code: that the events are the meanings of the parts of the only division of the bytes, that those held are
+//! taken in their order, by class, and that a command's bytes are its text. This wrapper isn't: its part is the declarations of `raw`, which
+//! hold all its `unsafe`, and from numbers to enums.
 #![deny(unsafe_code)]
 #![warn(missing_docs)]
 
@@ -37,6 +38,7 @@ mod command;
 mod decode;
 mod event;
 mod flags;
+mod held;
 mod key;
 mod parser;
 #[allow(unsafe_code)]
@@ -50,6 +52,7 @@ pub use color::Color;
 pub use command::{parameters, put_command, write_command, write_text, ClearType, Command, CursorStyle, Style};
 pub use event::{Event, InternalEvent, MouseButton, MouseEvent, MouseEventKind};
 pub use flags::{FlagIter, FlagNames};
+pub use held::{Classes, HeldEvents};
 pub use key::{KeyCode, KeyEvent, KeyEventKind, KeyEventState, KeyModifiers, KeyboardEnhancementFlags, MediaKeyCode, ModifierKeyCode};
 pub use parser::{Events, Parser};
 

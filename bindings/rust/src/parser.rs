@@ -163,13 +163,9 @@ impl Iterator for Events<'_> {
     #[inline]
     fn next(&mut self) -> Option<InternalEvent> {
         loop {
-            if let Some(event) = self.0.next()?.to_event() {
+            let event = self.0.next()?;
+            if let Some(event) = event.to_event_with(|| self.0.paste_text()) {
                 return Some(event);
-            }
-            // A paste's event alone has no numbers that tell all of it.
-            #[cfg(feature = "bracketed-paste")]
-            if let Some(text) = self.0.paste_text() {
-                return Some(InternalEvent::Event(crate::Event::Paste(text)));
             }
         }
     }

@@ -25,9 +25,9 @@ pub struct Event {
     pub code: u16,
     /// The key's character or number, or the mouse's button.
     pub value: u32,
-    /// The column, from 0.
+    /// The column, from 0, or how many the window has.
     pub column: u16,
-    /// The row, from 0.
+    /// The row, from 0, or how many rows.
     pub row: u16,
     /// The modifiers' bits.
     pub modifiers: u8,
@@ -37,6 +37,25 @@ pub struct Event {
     pub state: u8,
     /// The bits of the keyboard's flags.
     pub flags: u8,
+}
+
+/// An event that is held, and its number.
+#[repr(C)]
+#[derive(Clone, Copy, Default, Debug, PartialEq, Eq)]
+pub struct Held {
+    /// The event.
+    pub event: Event,
+    /// How many events arrived before it.
+    pub arrival: u64,
+}
+
+/// Which places of a table hold events.
+#[repr(C)]
+#[derive(Clone, Copy, Default, Debug, PartialEq, Eq)]
+pub struct Reader {
+    pub first: usize,
+    pub held: usize,
+    pub arrivals: u64,
 }
 
 #[repr(C)]
@@ -63,6 +82,8 @@ pub struct Command {
 const _: () = {
     assert!(size_of::<State>() == 52 && align_of::<State>() == 4);
     assert!(size_of::<Event>() == 16 && align_of::<Event>() == 4);
+    assert!(size_of::<Held>() == 24 && align_of::<Held>() == 8);
+    assert!(size_of::<Reader>() == 24 && align_of::<Reader>() == 8);
     assert!(size_of::<Color>() == 4);
     assert!(size_of::<Command>() == 24 && align_of::<Command>() == 4);
 };
@@ -76,6 +97,9 @@ extern "C" {
     fn gelvanh_is_undecided(state: *const State) -> bool;
     fn gelvanh_is_pasting(state: *const State) -> bool;
     fn gelvanh_paste_text(bytes: *const u8, length: usize, text: *mut u8, room: usize, written: *mut usize) -> usize;
+    fn gelvanh_hold(reader: *mut Reader, table: *mut Held, room: usize, event: *const Event) -> bool;
+    fn gelvanh_holds(reader: *const Reader, table: *const Held, room: usize, classes: u32) -> bool;
+    fn gelvanh_take(reader: *mut Reader, table: *mut Held, room: usize, classes: u32, taken: *mut Held) -> bool;
     fn gelvanh_command(command: *const Command, colors: bool, slice: *mut u8, room: usize, length: *mut usize) -> u32;
     fn gelvanh_print(text: *const u8, length: usize, slice: *mut u8, room: usize, written: *mut usize) -> u32;
     fn gelvanh_set_title(title: *const u8, length: usize, slice: *mut u8, room: usize, written: *mut usize) -> u32;
@@ -114,6 +138,24 @@ pub fn paste_text(bytes: &[u8], text: &mut [u8]) -> (usize, usize) {
     let mut written = 0;
     let read = unsafe { gelvanh_paste_text(bytes.as_ptr(), bytes.len(), text.as_mut_ptr(), text.len(), &mut written) };
     (read, written)
+}
+
+/// Whether there was room.
+#[inline]
+pub fn hold(reader: &mut Reader, table: &mut [Held], event: &Event) -> bool {
+    unsafe { gelvanh_hold(reader, table.as_mut_ptr(), table.len(), event) }
+}
+
+#[inline]
+pub fn holds(reader: &Reader, table: &[Held], classes: u32) -> bool {
+    unsafe { gelvanh_holds(reader, table.as_ptr(), table.len(), classes) }
+}
+
+#[inline]
+pub fn take(reader: &mut Reader, table: &mut [Held], classes: u32) -> Option<Held> {
+    let mut taken = Held::default();
+    let is_taken = unsafe { gelvanh_take(reader, table.as_mut_ptr(), table.len(), classes, &mut taken) };
+    is_taken.then_some(taken)
 }
 
 /// What came of a command, and its length.

@@ -7,8 +7,9 @@
 //! crossterm = { path = ".../bindings/shim" }
 //! ```
 //!
-//! Events are the proved parser's, and the bytes of commands are the proved commands'. This crate's part is ordinary Rust: the terminal's
-//! modes and size, the wait for its bytes, and the names. How it differs from crossterm is told in `bindings/README.md`.
+//! Events are the proved parser's, held and taken by the proved reader, and the bytes of commands are the proved commands'. This crate's part is
+//! ordinary Rust: the terminal's modes and size, a lock, the wait for its bytes, and the names. How it differs from crossterm is told in
+//! `bindings/README.md`.
 //!
 //! ```
 //! use crossterm::{cursor::MoveTo, queue, style::{Print, Stylize}};

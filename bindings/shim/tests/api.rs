@@ -394,13 +394,14 @@ fn of_terminals() {
         [rows, columns, width, height]
     };
     assert_eq!(crossterm::csi!("?", 25, "h"), "\x1b[?25h");
-    assert_eq!(crossterm::osc!("0;", "t"), "\x1b]0;t\x1b\\");
 }
 
 #[cfg(feature = "osc52")]
 #[test]
 fn of_clipboards() {
     use crossterm::clipboard::{ClipboardSelection, ClipboardType, CopyToClipboard};
+    // It came with the clipboard.
+    assert_eq!(crossterm::osc!("0;", "t"), "\x1b]0;t\x1b\\");
     have!(ClipboardType: Debug + Clone + PartialEq + Eq + From<char>);
     have!(ClipboardSelection: Debug + Clone + PartialEq + Eq + Display + FromStr<Err = ()>);
     have!(CopyToClipboard<&str>: Debug + Clone + PartialEq + Eq + Command);

@@ -68,33 +68,33 @@ abbrev pub done_at : ℕ → ℕ → Option MouseEventKind
 done_at n value = if nat_lt n 3 then with_button n (button_at value) else if value == 0 then slice_get without_button (n - 3) else None
 
 -- The key event of the numbers, by its key and by whether that was pressed, held or let go.
-abbrev key_by : GelvanhEvent → Option KeyCode → Option KeyEventKind → Option Seen
+abbrev pub key_by : GelvanhEvent → Option KeyCode → Option KeyEventKind → Option Seen
 key_by e (Some which) (Some press) = Some (seen.Key (record { code = which; modifiers = modifiers_of e.modifiers; kind = press; state = record { 0 = e.state } }))
 key_by e (Some which) None = None
 key_by e None press = None
 
 -- The mouse event of the numbers, by what the mouse did.
-abbrev mouse_by : GelvanhEvent → Option MouseEventKind → Option Seen
+abbrev pub mouse_by : GelvanhEvent → Option MouseEventKind → Option Seen
 mouse_by e (Some done) = Some (seen.Mouse (record { kind = done; column = e.column; row = e.row; modifiers = modifiers_of e.modifiers }))
 mouse_by e None = None
 
 -- Numbers that are 0 in an event whose kind doesn't name them.
-abbrev no_code : GelvanhEvent → Bool
+abbrev pub no_code : GelvanhEvent → Bool
 no_code e = e.code == 0 && (e.value == 0 && e.modifiers == 0)
 
-abbrev no_press : GelvanhEvent → Bool
+abbrev pub no_press : GelvanhEvent → Bool
 no_press e = e.press == 0 && e.state == 0
 
-abbrev no_place : GelvanhEvent → Bool
+abbrev pub no_place : GelvanhEvent → Bool
 no_place e = e.column == 0 && e.row == 0
 
-abbrev no_flags : GelvanhEvent → Bool
+abbrev pub no_flags : GelvanhEvent → Bool
 no_flags e = e.flags == 0
 
-abbrev is_bare : GelvanhEvent → Bool
+abbrev pub is_bare : GelvanhEvent → Bool
 is_bare e = no_code e && (no_press e && (no_place e && no_flags e))
 
-abbrev only : Bool → Option Seen → Option Seen
+abbrev pub only : Bool → Option Seen → Option Seen
 only is told = if is then told else None
 
 -- The event that the numbers tell, where they are an event's. A paste has its text with the caller, who kept the bytes of it, six of which are its end.
@@ -108,10 +108,11 @@ told_by kept e =
     if e.kind == 6 then only (no_code e && (no_press e && no_flags e)) (Some (seen.CursorPosition e.column e.row)) else
     if e.kind == 7 then only (no_code e && (no_press e && no_place e)) (Some (seen.KeyboardFlags (record { 0 = e.flags }))) else
     if e.kind == 8 then only (is_bare e) (Some seen.PrimaryDeviceAttributes) else
+    if e.kind == 9 then only (no_code e && (no_press e && no_flags e)) (Some (seen.Resize e.column e.row)) else
     None
 
--- The same, where numbers that are no event's are taken for a resize. No bytes mean a resize, so these numbers are never given.
-abbrev or_resize : Option Seen → Seen
+-- The same, where numbers that are no event's are taken for a resize to nothing. No bytes mean a resize, so none of these is ever given for bytes.
+abbrev pub or_resize : Option Seen → Seen
 or_resize (Some told) = told
 or_resize None = seen.Resize 0 0
 

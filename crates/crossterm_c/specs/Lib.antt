@@ -1,6 +1,7 @@
 pub mod Command
 pub mod Event
 pub mod Feeding
+pub mod Held
 pub mod Outlet
 pub mod State
 pub mod Text

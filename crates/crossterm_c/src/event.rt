@@ -12,15 +12,15 @@ use crossterm_types::event::{KeyCode, KeyEvent, MouseEvent, MouseEventKind};
 #[derive(Clone, Copy, Debug, PartialEq, Eq)]
 pub struct GelvanhEvent {
     /// 1 the focus was gained, 2 it was lost, 3 a key, 4 the mouse, 5 the end of a paste, 6 the cursor's place, 7 the flags of the
-    /// keyboard, 8 the terminal's attributes.
+    /// keyboard, 8 the terminal's attributes, 9 a resize.
     pub kind: u16,
     /// Which key, or what the mouse did, by its place in crossterm's enum.
     pub code: u16,
     /// The key's character or number, or the mouse's button.
     pub value: u32,
-    /// The column of the mouse or of the cursor, from 0.
+    /// The column of the mouse or of the cursor, from 0, or how many the window has.
     pub column: u16,
-    /// The row, from 0.
+    /// The row, from 0, or how many rows.
     pub row: u16,
     /// The bits of the modifiers that were held.
     pub modifiers: u8,

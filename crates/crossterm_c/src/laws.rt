@@ -1,10 +1,29 @@
 //! What holds of the definitions.
-ghost use Rattle.std.specs.Prelude.{◌≡◌, ℕ, List};
+ghost use Rattle.std.specs.Prelude.{◌≡◌, ◌+◌, ◌++◌, ◌∷◌, [], Bool, true, false, ℕ, List, length, map, None, Some};
+ghost use Rattle.std.specs.List.{AllByRecursion};
 ghost use Rattle.std.specs.Str.{IsUtf8};
 ghost use Rattle.crossterm.specs.Clipboard.{copy_functions, selection_of};
+ghost use Rattle.crossterm_types.specs.Admitting.{admitted, is_of};
+ghost use Rattle.crossterm_types.specs.Seen.{Seen};
+ghost use Rattle.crossterm_types.specs.declared.event.filter.AnyFilter.{AnyFilter};
+ghost use Rattle.crossterm_read.specs.Answers.{Gave, SourceAnswer};
+ghost use Rattle.crossterm_read.specs.Replies.{ToTake};
+ghost use Rattle.crossterm_read.specs.Steps.{ReadStep, TakeReplies, UpTo, first_admitted};
+ghost use Rattle.crossterm_read.specs.Store.{Arrives, EventStore};
 ghost use Rattle.crossterm_c.specs.Command.{copied};
+ghost use Rattle.crossterm_c.specs.Held.{bits_of, classes_at};
 
 /// What `gelvanh_copy_to_clipboard` writes is the text of the command `CopyToClipboard` with the places of the letters.
 pub fn a_copy_is_the_command()
     ensures { (content places : List ℕ) → IsUtf8 places → copied content places ≡ copy_functions content (selection_of places) }
+{}
+
+/// What `gelvanh_hold` and `gelvanh_take` do one after another is what a reader does in a call.
+///
+/// Each filter of a reader has its classes. A read that holds events until one is admitted, and takes it, is `InternalEventReader::read`. And
+/// who holds more events before taking takes the same one, and holds the same ones then.
+pub fn holding_and_taking_is_reading()
+    ensures filters { (f : AnyFilter) (x : Seen) → is_of (classes_at (bits_of f)) x ≡ admitted f x }
+    ensures read { (f : Seen → Bool) (passed : List Seen) (event : Seen) (s m t : EventStore) (x : Seen × ℕ) → first_admitted f s.held ≡ None → AllByRecursion (λ e. f e ≡ false) passed → f event ≡ true → Arrives s (map Gave (passed ++ event ∷ [])) m → TakeReplies f m t (Some x) → ReadStep (UpTo (length passed + 1)) f (map Gave (passed ++ event ∷ [])) s t (ToTake (Some x)) }
+    ensures more { (f : Seen → Bool) (zs : List SourceAnswer) (s t m k : EventStore) (x : Seen × ℕ) → TakeReplies f s t (Some x) → Arrives s zs m → Arrives t zs k → TakeReplies f m k (Some x) }
 {}

@@ -2,16 +2,17 @@
 //!
 //! It stands on `crossterm_parse` and `crossterm`. The parser's state is a struct of numbers that the caller keeps, so no call needs memory,
 //! and none blocks. `gelvanh_feed` follows the only division of the bytes as `Parser::advance` does (`specs/Feeding.antt`); what the
-//! numbers of a state, an event and a command mean is `specs/State.antt`, `specs/Event.antt` and `specs/Command.antt`. The header for C is
-//! `bindings/c/gelvanh.h`.
+//! numbers of a state, an event and a command mean is `specs/State.antt`, `specs/Event.antt` and `specs/Command.antt`. Events are held in the
+//! caller's table, and taken by class, as `InternalEventReader` does (`specs/Held.antt`). The header for C is `bindings/c/gelvanh.h`.
 //!
 //! What to believe, in the order in which it reads (`specs/`), and where it is proved:
 //!
 //! | Definitions | Lines | Of | Contract |
 //! |---|---|---|---|
 //! | `State` | 88 | the state of an open sequence as numbers | `gelvanh_is_undecided`, `gelvanh_is_pasting` |
-//! | `Event` | 119 | events as numbers | `gelvanh_feed` |
+//! | `Event` | 120 | events as numbers | `gelvanh_feed` |
 //! | `Feeding` | 54 | what a call does that takes bytes | `gelvanh_feed` |
+//! | `Held` | 46 | events that are held, and their classes | `gelvanh_hold`, `gelvanh_holds`, `gelvanh_take` |
 //! | `Text` | 23 | the text of a paste, piece by piece | `gelvanh_paste_text` |
 //! | `Command` | 213 | commands as numbers, and their texts | `gelvanh_command`, `gelvanh_print` and the like |
 //! | `Outlet` | 9 | a slice that takes what fits | the same |
@@ -23,9 +24,11 @@ mod color;
 mod command;
 mod event;
 mod feed;
+mod held;
 mod laws;
 mod outlet;
 mod parser;
+mod reader;
 mod state;
 mod table;
 #[cfg(test)]

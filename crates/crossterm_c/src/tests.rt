@@ -6,7 +6,9 @@ use crate::command::text::{
 };
 use crate::command::{GelvanhCommand, gelvanh_command};
 use crate::event::{GelvanhEvent, plain};
+use crate::held::{GelvanhHeld, GelvanhReader};
 use crate::parser::{gelvanh_feed, gelvanh_is_pasting, gelvanh_is_undecided, gelvanh_paste_text};
+use crate::reader::{gelvanh_hold, gelvanh_holds, gelvanh_take};
 use crate::state::GelvanhState;
 use std::mem::{align_of, size_of};
 
@@ -44,6 +46,9 @@ fn sizes_are_the_headers(rt: HostRuntime) {
     assert_eq!(rt; align_of::<GelvanhState>(), 4);
     assert_eq!(rt; size_of::<GelvanhEvent>(), 16);
     assert_eq!(rt; align_of::<GelvanhEvent>(), 4);
+    assert_eq!(rt; size_of::<GelvanhHeld>(), 24);
+    assert_eq!(rt; align_of::<GelvanhHeld>(), 8);
+    assert_eq!(rt; size_of::<GelvanhReader>(), 24);
     assert_eq!(rt; size_of::<GelvanhColor>(), 4);
     assert_eq!(rt; size_of::<GelvanhCommand>(), 24);
 }
@@ -195,4 +200,66 @@ fn texts_are_written(rt: HostRuntime) {
     let told = gelvanh_copy_to_clipboard(b"foo", b"c", &mut slice, &mut length);
     assert_eq!(rt; (told, length), (0, 13));
     assert!(rt; slice.starts_with(b"\x1b]52;c;Zm9v\x1b\\"));
+}
+
+fn nothing() -> GelvanhHeld {
+    GelvanhHeld {
+        event: plain(0),
+        arrival: 0,
+    }
+}
+
+#[test]
+fn held_events_are_taken_by_class_in_their_order(rt: HostRuntime) {
+    let mut reader = GelvanhReader::default();
+    let mut table = [nothing(); 4];
+    let cursor = GelvanhEvent {
+        column: 7,
+        ..plain(6)
+    };
+    for event in [character('a', 0), cursor, character('b', 0), plain(8)] {
+        assert!(rt; gelvanh_hold(&mut reader, &mut table, &event));
+    }
+    let full = reader;
+    assert!(rt; !gelvanh_hold(&mut reader, &mut table, &plain(1)));
+    assert_eq!(rt; reader, full);
+    let mut taken = nothing();
+    // Flags or attributes, the cursor's place, two letters, and nothing more.
+    for (classes, event, arrival) in [
+        (12, plain(8), 3),
+        (2, cursor, 1),
+        (1, character('a', 0), 0),
+        (15, character('b', 0), 2),
+    ] {
+        assert!(rt; gelvanh_holds(&reader, &table, classes));
+        assert!(rt; gelvanh_take(&mut reader, &mut table, classes, &mut taken));
+        assert_eq!(rt; taken, GelvanhHeld { event, arrival });
+    }
+    assert!(rt; !gelvanh_holds(&reader, &table, 15));
+    assert!(rt; !gelvanh_take(&mut reader, &mut table, 15, &mut taken));
+    // What was taken left its place.
+    let resize = GelvanhEvent {
+        column: 80,
+        row: 24,
+        ..plain(9)
+    };
+    assert!(rt; gelvanh_hold(&mut reader, &mut table, &resize));
+    assert!(rt; !gelvanh_holds(&reader, &table, 14));
+    assert!(rt; gelvanh_take(&mut reader, &mut table, 1, &mut taken));
+    assert_eq!(rt;
+        taken,
+        GelvanhHeld {
+            event: resize,
+            arrival: 4
+        }
+    );
+    // Any numbers are a reader.
+    let mut wild = GelvanhReader {
+        first: 9,
+        held: usize::MAX,
+        arrivals: u64::MAX,
+    };
+    assert!(rt; !gelvanh_holds(&wild, &table, 15));
+    assert!(rt; gelvanh_hold(&mut wild, &mut table, &resize));
+    assert_eq!(rt; (wild.held, wild.arrivals), (1, u64::MAX));
 }

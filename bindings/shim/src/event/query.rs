@@ -3,7 +3,7 @@
 use crate::event::reader::{self, Asking, State};
 use crate::system;
 use crate::terminal::{disable_raw_mode, enable_raw_mode};
-use gelvanh::InternalEvent;
+use gelvanh::{Classes, InternalEvent};
 use std::io;
 use std::time::{Duration, Instant};
 
@@ -32,12 +32,11 @@ pub fn position() -> io::Result<(u16, u16)> {
     in_raw_mode(|| {
         let _asking = Asking::begin();
         system::send(b"\x1b[6n")?;
-        let place = |reply: &InternalEvent| match *reply {
-            InternalEvent::CursorPosition(column, row) => Some((column, row)),
-            _ => None,
-        };
         let limit = Instant::now().checked_add(LIMIT);
-        reader::wait(limit, |state: &mut State| state.take_reply(place))?.ok_or_else(|| not_answered("the cursor's place"))
+        match reader::wait(limit, |state: &mut State| state.take_reply(Classes::CURSOR))? {
+            Some(InternalEvent::CursorPosition(column, row)) => Ok((column, row)),
+            _ => Err(not_answered("the cursor's place")),
+        }
     })
 }
 
@@ -49,21 +48,11 @@ pub fn supports_keyboard_enhancement() -> io::Result<bool> {
         // Each terminal tells its attributes: who tells them first doesn't know the flags.
         system::send(b"\x1b[?u\x1b[c")?;
         let limit = Instant::now().checked_add(LIMIT);
-        let speaks = reader::wait(limit, |state: &mut State| state.take_reply(speaks))?.ok_or_else(|| not_answered("its flags"))?;
+        let reply = reader::wait(limit, |state: &mut State| state.take_reply(Classes::FLAGS | Classes::ATTRIBUTES))?;
+        let speaks = matches!(reply.ok_or_else(|| not_answered("its flags"))?, InternalEvent::KeyboardEnhancementFlags(_));
         if speaks {
-            reader::wait(limit, |state: &mut State| state.take_reply(|reply| speaks_not(reply).then_some(())))?;
+            reader::wait(limit, |state: &mut State| state.take_reply(Classes::ATTRIBUTES))?;
         }
         Ok(speaks)
     })
-}
-
-fn speaks_not(reply: &InternalEvent) -> bool {
-    *reply == InternalEvent::PrimaryDeviceAttributes
-}
-
-fn speaks(reply: &InternalEvent) -> Option<bool> {
-    match reply {
-        InternalEvent::KeyboardEnhancementFlags(_) => Some(true),
-        reply => speaks_not(reply).then_some(false),
-    }
 }

@@ -1,10 +1,10 @@
-//! The events that all threads share.
+//! The events that all threads share: held, found and taken by the proved reader.
 //!
 //! One thread at a time waits for the terminal: it has taken the source out, and holds no lock. The others wait to be told, each until its
 //! own limit. Who came back with events, or with none, tells all others, and one of these takes the source then.
 
-use crate::event::source::Source;
-use gelvanh::{Event, InternalEvent};
+use crate::event::source::{Source, Told};
+use gelvanh::{Classes, Event, HeldEvents, InternalEvent};
 use std::io;
 use std::mem;
 use std::sync::{Condvar, Mutex, MutexGuard, PoisonError};
@@ -20,18 +20,21 @@ enum Seat {
     Taken,
 }
 
+/// The classes of the terminal's replies.
+fn replies() -> Classes {
+    Classes::CURSOR | Classes::FLAGS | Classes::ATTRIBUTES
+}
+
 /// What was read and is still to be given.
 pub struct State {
-    /// Events, the newest first, so that the oldest is popped.
-    events: Vec<Event>,
-    /// Replies of the terminal, the oldest first, while somebody asks.
-    replies: Vec<InternalEvent>,
+    /// Events, and while somebody asks replies of the terminal too.
+    held: HeldEvents,
     /// How many calls wait for a reply.
     asking: usize,
     seat: Seat,
 }
 
-static STATE: Mutex<State> = Mutex::new(State { events: Vec::new(), replies: Vec::new(), asking: 0, seat: Seat::Unopened });
+static STATE: Mutex<State> = Mutex::new(State { held: HeldEvents::new(), asking: 0, seat: Seat::Unopened });
 static CHANGED: Condvar = Condvar::new();
 
 fn lock() -> MutexGuard<'static, State> {
@@ -40,36 +43,28 @@ fn lock() -> MutexGuard<'static, State> {
 
 impl State {
     pub fn has_event(&self) -> bool {
-        !self.events.is_empty()
+        self.held.holds(Classes::EVENTS)
     }
 
     pub fn take_event(&mut self) -> Option<Event> {
-        self.events.pop()
-    }
-
-    /// The first reply of a kind.
-    pub fn take_reply<T>(&mut self, of: impl Fn(&InternalEvent) -> Option<T>) -> Option<T> {
-        let (place, found) = self.replies.iter().enumerate().find_map(|(place, reply)| Some((place, of(reply)?)))?;
-        self.replies.remove(place);
-        Some(found)
-    }
-
-    /// Keeps what was read behind what is there. A reply that nobody asked for is dropped.
-    fn keep(&mut self, read: Vec<InternalEvent>) {
-        if read.is_empty() {
-            return;
+        match self.held.take(Classes::EVENTS)? {
+            InternalEvent::Event(event) => Some(event),
+            _ => None,
         }
-        let mut newer = Vec::with_capacity(self.events.len() + read.len());
-        for event in read {
-            match event {
-                InternalEvent::Event(event) => newer.push(event),
-                reply if self.asking > 0 => self.replies.push(reply),
-                _ => {}
+    }
+
+    /// The first reply of some classes.
+    pub fn take_reply(&mut self, classes: Classes) -> Option<InternalEvent> {
+        self.held.take(classes)
+    }
+
+    /// Holds what was read behind what is there. A reply that nobody asked for is dropped.
+    fn keep(&mut self, read: Vec<Told>) {
+        for (event, text) in read {
+            if self.asking > 0 || event.class() == Classes::EVENTS {
+                self.held.hold(event, text);
             }
         }
-        newer.reverse();
-        newer.append(&mut self.events);
-        self.events = newer;
     }
 }
 
@@ -151,7 +146,7 @@ impl Drop for Asking {
         state.asking -= 1;
         if state.asking == 0 {
             // A reply that came too late answers no later call.
-            state.replies.clear();
+            while state.held.take(replies()).is_some() {}
         }
     }
 }

@@ -1,0 +1,46 @@
+-- Events that a caller's table holds for a reader, and which of them a call asks for.
+use Rattle.std.specs.Prelude.{ℕ, Bool, not, ◌==◌, if◌then◌else◌, List, [], take, drop, map, Option, Some, None}
+use Rattle.std.specs.Int.RustNames.{bit_and}
+use Rattle.crossterm_types.specs.Admitting.{is_of}
+use Rattle.crossterm_types.specs.Seen.{Seen}
+use Rattle.crossterm_types.specs.declared.event.filter.AnyFilter.{AnyFilter}
+use Rattle.crossterm_types.specs.declared.event.filter.AnyFilter.TheVariants.{Event, Cursor, Flags, Attributes}
+use Rattle.crossterm_types.specs.declared.event.filter.Classes.{Classes}
+use Rattle.crossterm_read.specs.Store.{EventStore}
+use Rattle.crossterm_c.specs.Event.{event_at}
+use Rattle.crossterm_c.specs.declared.held.GelvanhHeld.{GelvanhHeld}
+use Rattle.crossterm_c.specs.declared.held.GelvanhReader.{GelvanhReader}
+
+-- The part of a table that holds events, in the order of their arrival. Any numbers name one.
+abbrev pub held_in : GelvanhReader → List GelvanhHeld → List GelvanhHeld
+held_in reader table = take reader.held (drop reader.first table)
+
+-- A held event with its number, where the caller keeps the bytes of each paste under the number of its event.
+abbrev pub kept_at : (ℕ → List ℕ) → GelvanhHeld → Seen × ℕ
+kept_at texts h = (event_at (texts h.arrival) h.event, h.arrival)
+
+-- What the reader of these numbers holds.
+abbrev pub store_at : (ℕ → List ℕ) → GelvanhReader → List GelvanhHeld → EventStore
+store_at texts reader table = record { held = map (kept_at texts) (held_in reader table); arrivals = reader.arrivals }
+
+-- What a call took, where it took one.
+abbrev pub taken_at : (ℕ → List ℕ) → Bool → GelvanhHeld → Option (Seen × ℕ)
+taken_at texts took h = if took then Some (kept_at texts h) else None
+
+abbrev pub has_bit : ℕ → ℕ → Bool
+has_bit bits bit = not (bit_and bits bit == 0)
+
+-- The classes of some bits: what a user brought about, and replies that tell the cursor's place, the keyboard's flags, the terminal's attributes.
+abbrev pub classes_at : ℕ → Classes
+classes_at bits = record { event = has_bit bits 1; cursor = has_bit bits 2; flags = has_bit bits 4; attributes = has_bit bits 8 }
+
+-- The bits of what each filter admits. A terminal without the keyboard protocol answers to the query for the flags with its attributes alone.
+abbrev pub bits_of : AnyFilter → ℕ
+bits_of Event = 1
+bits_of Cursor = 2
+bits_of Flags = 12
+bits_of Attributes = 8
+
+-- Whether a held event is of one of these classes, whatever is kept of a paste.
+abbrev pub admits : ℕ → GelvanhHeld → Bool
+admits bits h = is_of (classes_at bits) (event_at [] h.event)
