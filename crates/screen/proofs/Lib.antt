@@ -1,4 +1,5 @@
 pub mod Fitting
+pub mod Prints
 pub mod Runs
 pub mod Counts
 pub mod Scans

@@ -29,7 +29,8 @@
 //! |---|---|---|---|
 //! | `Grids` | 105 | a terminal as a grid of cells, and what each token does to it | |
 //! | `Cells` | 38 | how a cell looks, and which characters fit | `Cell::blank`, `Buffer::set` |
-//! | `Buffers` | 28 | the pictures that buffers hold | `Buffer` |
+//! | `Texts` | 19 | the cells of a text's characters | `Buffer::print` |
+//! | `Buffers` | 44 | the pictures that buffers hold | `Buffer` |
 //! | `Screens` | 15 | a screen, and what it drew last | `Screen` |
 //! | `Drawings` | 111 | what a frame does to each grid, how many characters it prints, and what is refused | `Screen::draw` |
 //!
@@ -44,6 +45,7 @@ mod faults;
 mod planning;
 mod screens;
 mod strokes;
+mod texts;
 
 pub use buffers::Buffer;
 pub use cells::Cell;
