@@ -1,8 +1,8 @@
 //! Buffers: the cells that a program wants to show.
-ghost use Rattle.std.specs.Prelude.{◌≡◌, ◌+◌, ◌*◌, OnOk, OnErr, IfOk, IfErr, None, Some, chars, length, replicate};
+ghost use Rattle.std.specs.Prelude.{◌≡◌, ◌+◌, ◌*◌, false, OnOk, OnErr, IfOk, IfErr, None, Some, chars, length, replicate};
 ghost use Rattle.std.specs.List.{All};
 ghost use Rattle.screen.specs.Buffers.{clipped, filled, print_refusal, refusal, with_cell, with_text};
-ghost use Rattle.screen.specs.Cells.{Fits, blank, symbol_fault};
+ghost use Rattle.screen.specs.Cells.{ArePaired, Fits, StayInRows, Stands, blank, symbol_fault};
 
 use crate::cells::{Cell, symbol_fault};
 use crate::faults::CellFault;
@@ -123,10 +123,14 @@ impl<A: Allocator> Buffer<A> {
     }
 
     /// All cells, row by row.
+    #[tactic(auto, using(crate::proofs::Fitting::all_stand, crate::proofs::Fitting::all_paired, crate::proofs::Fitting::all_stay))]
     pub fn cells(&self) -> &[Cell]
         ensures cells { result.now ≡ self.now.cells }
         ensures count { length self.now.cells ≡ self.now.width * self.now.height }
         ensures fits { All (λ c. Fits c.symbol) self.now.cells }
+        ensures stand { All Stands self.now.cells }
+        ensures paired { ArePaired false self.now.cells }
+        ensures rows { StayInRows self.now.width self.now.cells }
     {
         &self.cells
     }
