@@ -20,9 +20,6 @@ use std::io::{self, BufWriter, ErrorKind, Write};
 
 const COLORS: ColorOutput = ColorOutput::Enabled;
 
-/// The size until the terminal tells another one.
-const SIZE: (u16, u16) = (80, 24);
-
 /// What is listed: the control functions of ECMA-48 that move the cursor, with the sections that define them.
 static ROWS: [&str; 12] = [
     "CBT  cursor backward tabulation   8.3.7",
@@ -62,11 +59,13 @@ fn style_of(is_chosen: bool) -> ContentStyle {
 }
 
 impl Browser {
-    fn new(alloc: Global) -> Result<Browser, AllocError> {
+    /// The first row is chosen, on a screen of so many columns and rows.
+    fn new(alloc: Global, size: (u16, u16)) -> Result<Browser, AllocError> {
+        let (columns, rows) = size;
         Ok(Browser {
             chosen: 0,
-            buffer: Buffer::new(alloc, SIZE.0, SIZE.1)?,
-            screen: Screen::new(alloc, SIZE.0, SIZE.1)?,
+            buffer: Buffer::new(alloc, columns, rows)?,
+            screen: Screen::new(alloc, columns, rows)?,
         })
     }
 
@@ -74,17 +73,6 @@ impl Browser {
     fn top(&self) -> u16 {
         self.chosen
             .saturating_sub(self.buffer.height().saturating_sub(1))
-    }
-
-    /// Puts a row of the list into a row of the buffer. What has no room is left out.
-    fn put(&mut self, row: u16, text: &str, style: &ContentStyle) {
-        let mut column = 0u16;
-        for symbol in text.chars() {
-            if self.buffer.set(column, row, symbol, *style).is_err() {
-                return;
-            }
-            column = column.saturating_add(1);
-        }
     }
 
     /// Draws the list.
@@ -97,7 +85,9 @@ impl Browser {
             let at = top.saturating_add(row);
             if let Some(text) = ROWS.get(usize::from(at)) {
                 let style = style_of(at == self.chosen);
-                self.put(row, text, &style);
+                if self.buffer.print(0, row, text, style).is_err() {
+                    return Err(io::Error::from(ErrorKind::InvalidData));
+                }
             }
         }
         match self.screen.draw(w, COLORS, &self.buffer, None) {
@@ -145,9 +135,14 @@ impl Browser {
 }
 
 /// Browses until Esc, or the end of input.
-fn browse<D: Device, W: Write>(alloc: Global, device: D, w: &mut W) -> io::Result<()> {
+fn browse<D: Device, W: Write>(
+    alloc: Global,
+    device: D,
+    size: (u16, u16),
+    w: &mut W,
+) -> io::Result<()> {
     let mut source = DeviceSource::new(alloc, device);
-    let mut browser = Browser::new(alloc)?;
+    let mut browser = Browser::new(alloc, size)?;
     browser.draw(w)?;
     for _ in 0..u64::MAX {
         match source.try_read(None) {
@@ -174,9 +169,10 @@ fn main(rt: HostRuntime) -> io::Result<()> {
     };
     let (device, mut term) = own_terminal::open(&rt, alloc, rt.stdin(), folder.as_str())?;
     let mut w = BufWriter::new(alloc, io::writer(&rt))?;
+    let size = term.size(&[], &[])?;
     term.enable_raw_mode()?;
     let done = match execute!(w, COLORS, EnterAlternateScreen, EnableMouseCapture) {
-        Ok(()) => browse(alloc, device, &mut w),
+        Ok(()) => browse(alloc, device, size, &mut w),
         Err(error) => Err(error),
     };
     let left = execute!(w, COLORS, DisableMouseCapture, Show, LeaveAlternateScreen);

@@ -1,5 +1,5 @@
 -- How many characters strokes print.
-use Rattle.std.proofs.Common.{◌≡◌, ◌≢◌, inl, inr, ℕ, ◌+◌, ◌<◌, Bool, true, false, List, [], ◌∷◌, ◌++◌, Option, Some, None, refl, sym, ap, ◌∙◌, subst, arith, length, take, get_or}
+use Rattle.std.proofs.Common.{◌≡◌, inl, inr, ℕ, ◌+◌, ◌<◌, Bool, true, false, List, [], ◌∷◌, ◌++◌, Option, Some, None, refl, sym, ap, ◌∙◌, subst, arith, length, take, get_or}
 use Rattle.std.specs.List.{AllByRecursion}
 use Rattle.std.proofs.lemmas.List.{take_more}
 use Rattle.std.proofs.lemmas.List.Concat.{flat_map-append}
@@ -13,7 +13,7 @@ use Rattle.crossterm_style.specs.Styles.{no_style, told}
 use Rattle.screen.specs.declared.cells.Cell.{Cell}
 use Rattle.screen.specs.declared.strokes.Stroke.{Stroke}
 use Rattle.screen.specs.declared.strokes.Stroke.TheVariants as stroke
-use Rattle.screen.specs.Drawings.{DifferAt, printed}
+use Rattle.screen.specs.Drawings.{DifferAt, HasToBePrinted, printed}
 use Rattle.screen.specs.inside.Strokes.{cell_strokes, cursor_strokes, first_strokes, last_strokes, tokens, tokens_of}
 use Rattle.screen.proofs.Runs.{SetsStyle, style_sets}
 
@@ -55,7 +55,7 @@ first_prints colors false = style_prints colors no_style (stroke.Erase ∷ [])
 
 -- ---- places that differ
 
-differ_same : (xs ys : List Cell) (x y : Cell) (n : ℕ) → x ≡ y → DifferAt xs ys n → DifferAt (xs ++ x ∷ []) (ys ++ y ∷ []) n
+differ_same : (xs ys : List Cell) (x y : Cell) (n : ℕ) → (HasToBePrinted x y → ⊥) → DifferAt xs ys n → DifferAt (xs ++ x ∷ []) (ys ++ y ∷ []) n
 differ_same [] [] x y n e d = inl (e, d)
 differ_same [] (b ∷ ys) x y n e d = absurd d
 differ_same (a ∷ xs) [] x y n e d = absurd d
@@ -64,7 +64,7 @@ differ_same (a ∷ xs) (b ∷ ys) x y n e d = elim d [
   | inr q ↦ inr (q.0, q.1, q.2, differ_same xs ys x y q.1 e q.3)
 ]
 
-differ_more : (xs ys : List Cell) (x y : Cell) (n : ℕ) → x ≢ y → DifferAt xs ys n → DifferAt (xs ++ x ∷ []) (ys ++ y ∷ []) (n + 1)
+differ_more : (xs ys : List Cell) (x y : Cell) (n : ℕ) → HasToBePrinted x y → DifferAt xs ys n → DifferAt (xs ++ x ∷ []) (ys ++ y ∷ []) (n + 1)
 differ_more [] [] x y n e d = inr (e, n, refl, d)
 differ_more [] (b ∷ ys) x y n e d = absurd d
 differ_more (a ∷ xs) [] x y n e d = absurd d
@@ -76,15 +76,15 @@ differ_more (a ∷ xs) (b ∷ ys) x y n e d = elim d [
 grown : (xs : List Cell) (k : ℕ) (x : Cell) → k < length xs → get_or xs k x ≡ x → take (k + 1) xs ≡ take k xs ++ x ∷ []
 grown xs k x lt e = take_more xs k x lt ∙ ap (λ y. take k xs ++ (y ∷ [])) e
 
--- One place more that is the same.
-pub same_at : (before after : List Cell) (k n : ℕ) (b c : Cell) → k < length before → k < length after → get_or before k b ≡ b → get_or after k c ≡ c → b ≡ c
+-- One place more for which nothing is printed.
+pub same_at : (before after : List Cell) (k n : ℕ) (b c : Cell) → k < length before → k < length after → get_or before k b ≡ b → get_or after k c ≡ c → (HasToBePrinted b c → ⊥)
     → DifferAt (take k before) (take k after) n → DifferAt (take (k + 1) before) (take (k + 1) after) n
 same_at before after k n b c lb la eb ec e d =
     subst (λ l. DifferAt l (take (k + 1) after) n) (sym (grown before k b lb eb))
     (subst (λ l. DifferAt (take k before ++ b ∷ []) l n) (sym (grown after k c la ec)) (differ_same (take k before) (take k after) b c n e d))
 
--- One place more that differs.
-pub other_at : (before after : List Cell) (k n : ℕ) (b c : Cell) → k < length before → k < length after → get_or before k b ≡ b → get_or after k c ≡ c → b ≢ c
+-- One place more for which a character is printed.
+pub other_at : (before after : List Cell) (k n : ℕ) (b c : Cell) → k < length before → k < length after → get_or before k b ≡ b → get_or after k c ≡ c → HasToBePrinted b c
     → DifferAt (take k before) (take k after) n → DifferAt (take (k + 1) before) (take (k + 1) after) (n + 1)
 other_at before after k n b c lb la eb ec e d =
     subst (λ l. DifferAt l (take (k + 1) after) (n + 1)) (sym (grown before k b lb eb))

@@ -9,14 +9,15 @@ use Rattle.screen.specs.declared.cells.Cell.{Cell}
 use Rattle.screen.specs.declared.strokes.Stroke.{Stroke}
 use Rattle.screen.specs.declared.strokes.Stroke.TheVariants as stroke
 use Rattle.screen.specs.Buffers.{Picture}
-use Rattle.screen.specs.Cells.{blank, seen}
+use Rattle.screen.specs.Cells.{ArePaired, blank, seen}
 use Rattle.screen.specs.Drawings.{DifferAt, HasCursor, HasSize, IsFrame, MayShow, cells_before, printed}
 use Rattle.screen.specs.Screens.{View}
 use Rattle.screen.specs.Grids.{Grid, run}
-use Rattle.screen.specs.inside.Scans.{Planned, StartsWith, Visited, is_known}
+use Rattle.screen.specs.inside.Scans.{IsPairedIf, Planned, StartsWith, Visited, is_known}
 use Rattle.screen.specs.inside.Strokes.{AreFitting, IsFitting, last_strokes, tokens, tokens_of}
 use Rattle.screen.proofs.Counts.{last_prints, strokes_printed}
 use Rattle.screen.proofs.Runs.{moved, plain_set, run_then, runs_then}
+use Rattle.screen.proofs.Squares.{blanks_paired}
 
 -- The cursor's place is within a size.
 abbrev pub IsInside : ℕ → ℕ → Option (ℕ × ℕ) → Type 0
@@ -118,3 +119,11 @@ frame_of s width height drawn shown prepared before after colors p cursor known 
     let cells : Planned (is_known drawn colors) width height before p.cells cursor strokes =
     subst (λ l. Planned (is_known drawn colors) width height before l cursor strokes) a (subst (λ y. Planned y width height before after cursor strokes) k plan) in
     subst (λ l. IsFrame s colors p cursor (tokens_of colors l)) (sym told) (subst (λ v. IsFrame v colors p cursor (tokens_of colors strokes)) view (framed width height drawn shown before colors p cursor strokes w h sure cells))
+
+-- Cells that a frame begins with are paired.
+pub prepared_paired : (drawn : Option ColorOutput) (colors : ColorOutput) (shown now : List Cell) (n : ℕ) → now ≡ (if is_known drawn colors then shown else replicate n blank) → IsPairedIf drawn shown → ArePaired false now
+prepared_paired None colors shown now n e p = subst (ArePaired false) (sym e) (blanks_paired n)
+prepared_paired (Some Enabled) Enabled shown now n e p = subst (ArePaired false) (sym e) p
+prepared_paired (Some Disabled) Disabled shown now n e p = subst (ArePaired false) (sym e) p
+prepared_paired (Some Enabled) Disabled shown now n e p = subst (ArePaired false) (sym e) (blanks_paired n)
+prepared_paired (Some Disabled) Enabled shown now n e p = subst (ArePaired false) (sym e) (blanks_paired n)

@@ -1,4 +1,6 @@
 pub mod Fitting
+pub mod Prints
+pub mod Squares
 pub mod Runs
 pub mod Counts
 pub mod Scans

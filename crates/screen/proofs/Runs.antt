@@ -1,5 +1,5 @@
 -- What strokes do to a grid.
-use Rattle.std.proofs.Common.{◌≡◌, ℕ, ◌+◌, ◌-◌, ◌*◌, ◌<◌, ◌≤◌, ◌==◌, ◌^◌, nat_le, Bool, true, false, cond, List, [], ◌∷◌, ◌++◌, Option, Some, None, refl, sym, ap, ◌∙◌, subst, arith, map, set, codes, append-nil}
+use Rattle.std.proofs.Common.{◌≡◌, ℕ, ◌+◌, ◌-◌, ◌*◌, ◌<◌, ◌≤◌, ◌==◌, ◌^◌, nat_le, Bool, true, false, cond, List, [], ◌∷◌, ◌++◌, Option, Some, None, refl, sym, ap, ◌∙◌, subst, arith, map, codes, append-nil, not, ◌&&◌, ◌⊎◌, inl, inr}
 use Rattle.std.specs.Fmt.{decimal}
 use Rattle.std.specs.List.{AllByRecursion, list_all, slice_split}
 use Rattle.std.specs.Str.Parse.{digits_value}
@@ -7,6 +7,7 @@ use Rattle.std.proofs.Math.Nat.{mod-lt}
 use Rattle.std.proofs.lemmas.Bool.Decides.{nat_tests}
 use Rattle.std.proofs.lemmas.Fmt.{decimal_by_steps, decimal_is_IsNumeral}
 use Rattle.std.proofs.lemmas.List.Concat.{flat_map-append}
+use Rattle.unicode_width.specs.Width.{char_width}
 use Rattle.crossterm_command.specs.Tokens.{Token}
 use Rattle.crossterm_command.specs.declared.color_output.ColorOutput.{ColorOutput}
 use Rattle.crossterm_command.proofs.Readings.{all_joined}
@@ -28,9 +29,12 @@ use Rattle.crossterm.specs.Sequences.{move_to}
 use Rattle.screen.specs.declared.cells.Cell.{Cell}
 use Rattle.screen.specs.declared.strokes.Stroke.{Stroke}
 use Rattle.screen.specs.declared.strokes.Stroke.TheVariants as stroke
-use Rattle.screen.specs.Cells.{look, seen}
-use Rattle.screen.specs.Grids.{Grid, move_cursor, number, place, place_told, right_of, run, step, takes_one}
+use Rattle.screen.specs.Cells.{is_wide, look}
+use Rattle.screen.specs.Grids.{Grid, is_last, is_width, move_cursor, number, overwritten, place, place_told, print_at, print_one, print_two, right_of, run, step, takes_one, takes_two}
+use Rattle.screen.specs.Grids.Square.{Whole, First, Second}
+use Rattle.screen.specs.inside.Scans.{last_of}
 use Rattle.screen.specs.inside.Strokes.{cell_strokes, move_strokes, style_strokes, tokens, tokens_of}
+use Rattle.screen.proofs.Squares.{squares}
 
 -- ---- tokens in a row
 
@@ -144,7 +148,31 @@ plain_set colors g = styled colors no_style g (subst (AllByRecursion FitsAct) (s
 -- ---- a cell
 
 abbrev pub painted : ColorOutput → Grid → ℕ → Cell → Grid
-painted colors g at c = record g { cells = set g.cells at (seen colors c); cursor = right_of g.width at; style = look colors c.style }
+painted colors g at c = record g { cells = overwritten g.cells at (squares colors c); cursor = right_of g.width (last_of at c); style = look colors c.style }
+
+by_two : (o : Option ℕ) → is_width 2 o ≡ true → is_width 1 o ≡ false
+by_two None e = cc
+by_two (Some w) e = let two : w ≡ 2 = grind (arith, nat_tests) in ap (λ n. n == 1) two
+
+-- Whether a character that is printed takes one cell.
+one_of : (c : ℕ) → (takes_one c ≡ true) ⊎ (takes_two c ≡ true) → takes_two c ≡ false → takes_one c ≡ true
+one_of c (inl e) f = e
+one_of c (inr e) f = cc
+
+printed_by : (wide : Bool) (colors : ColorOutput) (c : Cell) (at : ℕ) (g : Grid) → is_wide c ≡ wide → (takes_one c.symbol ≡ true) ⊎ (takes_two c.symbol ≡ true) → (wide ≡ true → is_last g.width at ≡ false)
+    → g.cursor ≡ Some at → g.style ≡ look colors c.style → print_at g.cursor c.symbol g ≡ Some (painted colors g at c)
+printed_by false colors c at g w takes room cursor style =
+    ap (λ o. print_at o c.symbol g) cursor
+    ∙ ap (λ b. cond b (Some (print_one at c.symbol g)) (cond (takes_two c.symbol && not (is_last g.width at)) (Some (print_two at c.symbol g)) None)) (one_of c.symbol takes w)
+    ∙ ap (λ s. Some (record g { cells = overwritten g.cells at (Whole c.symbol s ∷ []); cursor = right_of g.width at; style = s })) style
+    ∙ ap (λ b. Some (record g { cells = overwritten g.cells at (cond b (First c.symbol (look colors c.style) ∷ Second ∷ []) (Whole c.symbol (look colors c.style) ∷ [])); cursor = right_of g.width (cond b (at + 1) at); style = look colors c.style })) (sym w)
+printed_by true colors c at g w takes room cursor style =
+    ap (λ o. print_at o c.symbol g) cursor
+    ∙ ap (λ b. cond b (Some (print_one at c.symbol g)) (cond (takes_two c.symbol && not (is_last g.width at)) (Some (print_two at c.symbol g)) None)) (by_two (char_width false c.symbol) w)
+    ∙ ap (λ b. cond (b && not (is_last g.width at)) (Some (print_two at c.symbol g)) None) w
+    ∙ ap (λ b. cond (not b) (Some (print_two at c.symbol g)) None) (room refl)
+    ∙ ap (λ s. Some (record g { cells = overwritten g.cells at (First c.symbol s ∷ Second ∷ []); cursor = right_of g.width (at + 1); style = s })) style
+    ∙ ap (λ b. Some (record g { cells = overwritten g.cells at (cond b (First c.symbol (look colors c.style) ∷ Second ∷ []) (Whole c.symbol (look colors c.style) ∷ [])); cursor = right_of g.width (cond b (at + 1) at); style = look colors c.style })) (sym w)
 
 moved_if : (colors : ColorOutput) (there : Bool) (row column : ℕ) (g : Grid) → row < g.height → column < g.width → row < 2 ^ 32 → column < 2 ^ 32
     → (there ≡ true → g.cursor ≡ Some (row * g.width + column)) → run (tokens_of colors (move_strokes there column row)) g ≡ Some (record g { cursor = Some (row * g.width + column) })
@@ -157,16 +185,16 @@ styled_if colors true s g fits h = ap (λ p. Some (record g { style = p })) (h r
 styled_if colors false s g fits h = ap (λ ts. run ts g) (append-nil (tokens colors (stroke.Style s))) ∙ styled colors s g fits
 
 pub cell_painted : (colors : ColorOutput) (there right : Bool) (row column : ℕ) (c : Cell) (g : Grid) → row < g.height → column < g.width → row < 2 ^ 32 → column < 2 ^ 32
-    → AllByRecursion FitsAct (style_acts c.style) → takes_one c.symbol ≡ true
+    → AllByRecursion FitsAct (style_acts c.style) → (takes_one c.symbol ≡ true) ⊎ (takes_two c.symbol ≡ true) → (is_wide c ≡ true → is_last g.width (row * g.width + column) ≡ false)
     → (there ≡ true → g.cursor ≡ Some (row * g.width + column)) → (right ≡ true → g.style ≡ look colors c.style)
     → run (tokens_of colors (cell_strokes there right column row c)) g ≡ Some (painted colors g (row * g.width + column) c)
-cell_painted colors there right row column c g r k rs ks fits takes at_place is_set =
+cell_painted colors there right row column c g r k rs ks fits takes room at_place is_set =
     let at = row * g.width + column in
     let print : List Stroke = stroke.Print c.symbol ∷ [] in
     let g1 : Grid = record g { cursor = Some at } in
     let g3 : Grid = record g { cursor = Some at; style = look colors c.style } in
     let prints : run (tokens_of colors print) g3 ≡ Some (painted colors g at c) =
-    ap (λ b. elim (cond b (Some (painted colors g at c)) None) [ None ↦ None | Some h ↦ Some h ]) takes in
+    ap (λ o. elim o [ None ↦ None | Some h ↦ Some h ]) (printed_by (is_wide c) colors c at g3 refl takes room refl refl) in
     runs_then colors (move_strokes there column row) (style_strokes right c.style ++ print) g g1 (moved_if colors there row column g r k rs ks at_place)
     ∙ runs_then colors (style_strokes right c.style) print g1 g3 (styled_if colors right c.style g1 fits is_set)
     ∙ prints

@@ -1,5 +1,5 @@
 -- Strokes that are written read as their tokens.
-use Rattle.std.proofs.Common.{◌≡◌, ℕ, ◌+◌, true, false, List, [], ◌∷◌, ◌++◌, Option, refl, sym, ap, ◌∙◌, codes}
+use Rattle.std.proofs.Common.{◌≡◌, ℕ, ◌+◌, true, false, List, [], ◌∷◌, ◌++◌, Option, ◌⊎◌, inl, inr, refl, sym, ap, ◌∙◌, codes}
 use Rattle.std.specs.Fmt.{decimal}
 use Rattle.std.specs.List.{AllByRecursion}
 use Rattle.unicode_width.specs.Width.{char_width}
@@ -17,17 +17,21 @@ use Rattle.crossterm.specs.declared.terminal.ClearType.TheVariants.{All}
 use Rattle.crossterm.proofs.StyleReadings.{Formed, attribute_formed, style_plain, told_formed}
 use Rattle.screen.specs.declared.strokes.Stroke.{Stroke}
 use Rattle.screen.specs.declared.strokes.Stroke.TheVariants as stroke
-use Rattle.screen.specs.Cells.{Fits}
-use Rattle.screen.specs.Grids.{takes_one}
+use Rattle.screen.specs.Grids.{takes_one, takes_two}
 use Rattle.screen.specs.inside.Strokes.{AreFitting, IsFitting, tokens, tokens_of}
 
--- A character that takes a cell isn't ESC.
-escape_takes_none : takes_one 0x1B ≡ false
+-- A character that is printed isn't ESC.
+escape_takes_no_cell : takes_one 0x1B ≡ false
 unfolding char_width
-escape_takes_none = refl
+escape_takes_no_cell = refl
 
-fits_plain : (c : ℕ) → Fits c → IsPlain c
-fits_plain c f e = let no : true ≡ false = sym f.1 ∙ ap takes_one e ∙ escape_takes_none in cc
+escape_takes_no_two : takes_two 0x1B ≡ false
+unfolding char_width
+escape_takes_no_two = refl
+
+printed_plain : (c : ℕ) → (takes_one c ≡ true) ⊎ (takes_two c ≡ true) → IsPlain c
+printed_plain c (inl f) e = let no : true ≡ false = sym f ∙ ap takes_one e ∙ escape_takes_no_cell in cc
+printed_plain c (inr f) e = let no : true ≡ false = sym f ∙ ap takes_two e ∙ escape_takes_no_two in cc
 
 -- two numbers with a semicolon between
 two_formed : (m n : ℕ) → AllByRecursion IsParameter (decimal m ++ (codes ";" ++ decimal n))
@@ -42,7 +46,7 @@ stroke_formed colors stroke.Erase f = known_formed (clear All) refl
 stroke_formed colors (stroke.Move column row) f = control_formed _ "H" (two_formed (row + 1) (column + 1)) refl
 stroke_formed colors (stroke.Style s) f =
     all_joined IsWellFormed (attribute_functions Reset) (told colors (style_acts s)) (attribute_formed Reset) (told_formed colors (style_acts s) (style_plain s))
-stroke_formed colors (stroke.Print c) f = ((f.0, fits_plain c f), tt)
+stroke_formed colors (stroke.Print c) f = ((f.0, printed_plain c f.1), tt)
 stroke_formed colors stroke.Show f = known_formed (tokens colors stroke.Show) refl
 stroke_formed colors stroke.Hide f = known_formed (tokens colors stroke.Hide) refl
 

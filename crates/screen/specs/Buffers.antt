@@ -1,9 +1,11 @@
 -- Pictures: the cells of a buffer.
-use Rattle.std.specs.Prelude.{ℕ, Bool, ◌+◌, ◌*◌, ◌&&◌, nat_lt, List, Option, Some, if◌then◌else◌, replicate, set}
+use Rattle.std.specs.Prelude.{ℕ, Bool, ◌+◌, ◌-◌, ◌*◌, ◌&&◌, nat_lt, List, Option, Some, if◌then◌else◌, replicate, set, take}
+use Rattle.crossterm_style.specs.declared.content_style.ContentStyle.{ContentStyle}
 use Rattle.screen.specs.declared.cells.Cell.{Cell}
 use Rattle.screen.specs.declared.faults.CellFault.{CellFault}
 use Rattle.screen.specs.declared.faults.CellFault.TheVariants.{Outside}
 use Rattle.screen.specs.Cells.{symbol_fault}
+use Rattle.screen.specs.Texts.{cells_of, text_fault, with_cells}
 
 -- Cells stand row by row, from the top left one.
 pub record Picture : Type 0 where
@@ -26,3 +28,17 @@ refusal p column row symbol = if has p column row then symbol_fault symbol else 
 -- the picture with a cell at a column and a row
 abbrev pub with_cell : Picture → ℕ → ℕ → Cell → Picture
 with_cell p column row c = record p { cells = set p.cells (row * p.width + column) c }
+
+-- ---- texts
+
+-- why a text isn't printed in a row, where it isn't: first the row, then the text
+abbrev pub print_refusal : Picture → ℕ → List ℕ → Option CellFault
+print_refusal p row text = if nat_lt row p.height then text_fault text else Some Outside
+
+-- what a text shows from a column on: as many characters as have room in the row
+abbrev pub clipped : Picture → ℕ → List ℕ → List ℕ
+clipped p column text = take (p.width - column) text
+
+-- the picture with a text in a row from a column on, and all other cells as they were
+abbrev pub with_text : Picture → ℕ → ℕ → List ℕ → ContentStyle → Picture
+with_text p column row text s = record p { cells = with_cells p.cells (row * p.width + column) (cells_of s (clipped p column text)) }

@@ -1,5 +1,5 @@
 -- Cells: a character in its style.
-use Rattle.std.specs.Prelude.{◌≡◌, ℕ, ◌==◌, Option, Some, None, true, false, if◌then◌else◌}
+use Rattle.std.specs.Prelude.{◌≡◌, ◌⊎◌, ℕ, ◌+◌, ◌<◌, ◌%◌, ◌==◌, Bool, List, [], ◌∷◌, Option, Some, None, true, false, if◌then◌else◌, get_or, length}
 use Rattle.std.specs.Char.{IsScalar}
 use Rattle.unicode_width.specs.Width.{char_width}
 use Rattle.crossterm_command.specs.declared.color_output.ColorOutput.{ColorOutput}
@@ -10,7 +10,8 @@ use Rattle.crossterm_style.specs.Styles.{no_style}
 use Rattle.screen.specs.declared.cells.Cell.{Cell}
 use Rattle.screen.specs.declared.faults.CellFault.{CellFault}
 use Rattle.screen.specs.declared.faults.CellFault.TheVariants.{Control, NoWidth, Wide}
-use Rattle.screen.specs.Grids.{takes_one}
+use Rattle.screen.specs.Grids.{Square, takes_one, takes_two}
+use Rattle.screen.specs.Grids.Square.{Whole, First, Second}
 
 -- a space in the empty style
 abbrev pub blank : Cell
@@ -20,9 +21,34 @@ blank = record { symbol = 32; style = no_style }
 abbrev pub look : ColorOutput → ContentStyle → Style
 look colors s = after_acts colors (style_acts s) plain
 
+-- whether a cell is the second one of a character that takes two: such a cell has the character 0
+abbrev pub is_covered : Cell → Bool
+is_covered c = c.symbol == 0
+
+-- whether a cell is the first one of a character that takes two
+abbrev pub is_wide : Cell → Bool
+is_wide c = takes_two c.symbol
+
 -- how a cell looks
-abbrev pub seen : ColorOutput → Cell → Option (ℕ × Style)
-seen colors c = Some (c.symbol, look colors c.style)
+abbrev pub seen : ColorOutput → Cell → Square
+seen colors c = if is_covered c then Second else (if is_wide c then First c.symbol (look colors c.style) else Whole c.symbol (look colors c.style))
+
+-- A character that takes one cell or two.
+abbrev pub IsPrinted : ℕ → Type 0
+IsPrinted c = IsScalar c × ((takes_one c ≡ true) ⊎ (takes_two c ≡ true))
+
+-- A cell that is covered, or has a character that takes one cell or two.
+abbrev pub Stands : Cell → Type 0
+Stands c = (is_covered c ≡ true) ⊎ ((is_covered c ≡ false) × IsPrinted c.symbol)
+
+-- Each first cell of a character has the second one behind it, and no other cell is covered. Whether the cell before is such a first one is told.
+abbrev pub ArePaired : Bool → List Cell → Type 0
+ArePaired first [] = first ≡ false
+ArePaired first (c ∷ cells) = (is_covered c ≡ first) × ArePaired (is_wide c) cells
+
+-- In no row a character begins in the last cell and goes on in the next row.
+abbrev pub StayInRows : ℕ → List Cell → Type 0
+StayInRows width cells = (k : ℕ) (d : Cell) → k < length cells → is_wide (get_or cells k d) ≡ true → ((k + 1) % width == 0) ≡ false
 
 -- A character that takes one cell.
 abbrev pub Fits : ℕ → Type 0

@@ -10,7 +10,7 @@ use Rattle.screen.specs.declared.cells.Cell.{Cell}
 use Rattle.screen.specs.declared.faults.DrawFault.{DrawFault}
 use Rattle.screen.specs.declared.faults.DrawFault.TheVariants.{Size, Cursor, Memory, Command}
 use Rattle.screen.specs.Buffers.{Picture}
-use Rattle.screen.specs.Cells.{blank, seen}
+use Rattle.screen.specs.Cells.{blank, is_covered, seen}
 use Rattle.screen.specs.Grids.{Grid, run}
 use Rattle.screen.specs.Screens.{Drawn, View}
 
@@ -54,10 +54,15 @@ printed [] = 0
 printed (Char c ∷ ts) = printed ts + 1
 printed (t ∷ ts) = printed ts
 
--- Two lists of cells differ at so many places.
+-- A cell differs and isn't covered, so that a character has to be printed for it.
+abbrev pub HasToBePrinted : Cell → Cell → Type 0
+HasToBePrinted before after = (is_covered after ≡ false) × (before ≢ after)
+
+-- In two lists of cells so many have to be printed.
 abbrev pub DifferAt : List Cell → List Cell → ℕ → Type 0
 DifferAt [] [] n = n ≡ 0
-DifferAt (a ∷ before) (b ∷ after) n = ((a ≡ b) × DifferAt before after n) ⊎ ((a ≢ b) × (m : ℕ) × (n ≡ m + 1) × DifferAt before after m)
+DifferAt (a ∷ before) (b ∷ after) n =
+    ((HasToBePrinted a b → ⊥) × DifferAt before after n) ⊎ (HasToBePrinted a b × (m : ℕ) × (n ≡ m + 1) × DifferAt before after m)
 DifferAt before after n = ⊥
 
 -- Both write colours, or neither does.

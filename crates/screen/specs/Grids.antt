@@ -1,5 +1,5 @@
 -- A terminal's screen as a grid of cells, and what it does by each token that it reads. Where terminals differ, nothing is claimed.
-use Rattle.std.specs.Prelude.{ℕ, ◌+◌, ◌-◌, ◌*◌, ◌%◌, ◌==◌, ◌&&◌, not, nat_le, Bool, true, false, List, [], ◌∷◌, Option, Some, None, bytes_eq, codes, if◌then◌else◌, is_none, map, set}
+use Rattle.std.specs.Prelude.{ℕ, ◌+◌, ◌-◌, ◌*◌, ◌%◌, ◌==◌, ◌&&◌, not, nat_le, Bool, true, false, List, [], ◌∷◌, ◌++◌, Option, Some, None, bytes_eq, codes, if◌then◌else◌, drop, is_none, length, map, take}
 use Rattle.std.specs.List.{list_all, slice_split}
 use Rattle.std.specs.Str.Parse.{digits_value}
 use Rattle.unicode_width.specs.Width.{char_width}
@@ -7,12 +7,22 @@ use Rattle.crossterm_command.specs.Tokens.{Token}
 use Rattle.crossterm_command.specs.Tokens.Token.{Char, Csi}
 use Rattle.crossterm_style.specs.Looks.{Style, is_digit, plain, sgr}
 
+-- What stands in a cell.
+pub data Square : Type 0 where
+  -- what isn't known
+  Unknown : Square
+  -- a character that takes one cell, in its style
+  Whole : ℕ → Style → Square
+  -- the first cell of a character that takes two, in its style
+  First : ℕ → Style → Square
+  -- its second cell
+  Second : Square
+
 -- Cells stand row by row, and a place is the number of cells before it.
 pub record Grid : Type 0 where
   pub width : ℕ
   pub height : ℕ
-  -- each cell's character with its style, and none where it isn't known, as in a half of a wide character
-  pub cells : List (Option (ℕ × Style))
+  pub cells : List Square
   -- the cursor's place, and none where it isn't known, as behind a row's last cell
   pub cursor : Option ℕ
   -- whether the cursor is shown
@@ -22,21 +32,64 @@ pub record Grid : Type 0 where
 
 -- ---- characters
 
-abbrev is_one : Option ℕ → Bool
-is_one None = false
-is_one (Some width) = width == 1
+abbrev pub is_width : ℕ → Option ℕ → Bool
+is_width n None = false
+is_width n (Some width) = width == n
 
 -- the characters that take one cell
 abbrev pub takes_one : ℕ → Bool
-takes_one c = is_one (char_width false c)
+takes_one c = is_width 1 (char_width false c)
+
+-- the characters that take two cells
+abbrev pub takes_two : ℕ → Bool
+takes_two c = is_width 2 (char_width false c)
+
+-- a first cell whose second one is overwritten
+abbrev pub without_second : Square → Square
+without_second (First c s) = Unknown
+without_second x = x
+
+-- a second cell whose first one is overwritten
+abbrev pub without_first : Square → Square
+without_first Second = Unknown
+without_first x = x
+
+-- the cells before one that is overwritten
+abbrev pub ended : List Square → List Square
+ended [] = []
+ended (x ∷ []) = without_second x ∷ []
+ended (x ∷ y ∷ cells) = x ∷ ended (y ∷ cells)
+
+-- the cells behind one that is overwritten
+abbrev pub begun : List Square → List Square
+begun [] = []
+begun (x ∷ cells) = without_first x ∷ cells
+
+-- Cells with others in the place of those from a place on. Of a character that loses one of its cells the other one isn't known.
+abbrev pub overwritten : List Square → ℕ → List Square → List Square
+overwritten cells at others = ended (take at cells) ++ (others ++ begun (drop (at + length others) cells))
+
+-- whether a cell is its row's last one
+abbrev pub is_last : ℕ → ℕ → Bool
+is_last width at = (at + 1) % width == 0
 
 -- the place to the right of a cell, and none behind a row's last one
 abbrev pub right_of : ℕ → ℕ → Option ℕ
-right_of width at = if (at + 1) % width == 0 then None else Some (at + 1)
+right_of width at = if is_last width at then None else Some (at + 1)
 
+abbrev pub print_one : ℕ → ℕ → Grid → Grid
+print_one at c g = record g { cells = overwritten g.cells at (Whole c g.style ∷ []); cursor = right_of g.width at }
+
+abbrev pub print_two : ℕ → ℕ → Grid → Grid
+print_two at c g = record g { cells = overwritten g.cells at (First c g.style ∷ Second ∷ []); cursor = right_of g.width (at + 1) }
+
+-- A character of two cells has no room in a row's last one: there terminals differ.
 abbrev pub print_at : Option ℕ → ℕ → Grid → Option Grid
 print_at None c g = None
-print_at (Some at) c g = if takes_one c then Some (record g { cells = set g.cells at (Some (c, g.style)); cursor = right_of g.width at }) else None
+print_at (Some at) c g =
+    if takes_one c then Some (print_one at c g) else (
+    if takes_two c && not (is_last g.width at) then Some (print_two at c g) else (
+    None))
 
 -- ---- places
 
@@ -67,8 +120,8 @@ is_plain s =
     && not s.hidden && not s.crossed_out && not s.framed && not s.encircled && not s.overlined
 
 -- a space in the plain style
-abbrev pub blank_square : Option (ℕ × Style)
-blank_square = Some (32, plain)
+abbrev pub blank_square : Square
+blank_square = Whole 32 plain
 
 -- ED with the parameter 2, in the plain style: in another one terminals differ in the colour of what is erased
 abbrev pub erase : List ℕ → Grid → Option Grid

@@ -1,5 +1,6 @@
 pub mod Grids
 pub mod Cells
+pub mod Texts
 pub mod Buffers
 pub mod Drawings
 pub mod Screens

@@ -1,11 +1,12 @@
 //! Buffers: the cells that a program wants to show.
-ghost use Rattle.std.specs.Prelude.{◌≡◌, ◌*◌, ◌+◌, ◌-◌, ◌<◌, OnOk, OnErr, IfOk, IfErr, IsTrue, None, Some, chars, length, replicate, set};
+ghost use Rattle.std.specs.Prelude.{◌≡◌, ◌+◌, ◌*◌, false, OnOk, OnErr, IfOk, IfErr, None, Some, chars, length, replicate};
 ghost use Rattle.std.specs.List.{All};
-ghost use Rattle.screen.specs.Buffers.{filled, has, refusal, with_cell};
-ghost use Rattle.screen.specs.Cells.{Fits, blank, symbol_fault};
+ghost use Rattle.screen.specs.Buffers.{clipped, filled, print_refusal, refusal, with_cell, with_text};
+ghost use Rattle.screen.specs.Cells.{ArePaired, Fits, StayInRows, Stands, blank, symbol_fault};
 
 use crate::cells::{Cell, symbol_fault};
 use crate::faults::CellFault;
+use crate::texts::{text_fault, write_text};
 use crossterm_style::ContentStyle;
 use std::alloc::{AllocError, Allocator, Global};
 use std::marker::Model;
@@ -41,6 +42,13 @@ pub(crate) fn count_of(width: u16, height: u16) -> usize
     ensures { result ≡ width * height }
 {
     width as usize * height as usize
+}
+
+/// The place of a cell, by the number of columns.
+fn place_at(width: u16, column: u16, row: u16) -> usize
+    ensures { result ≡ row * width + column }
+{
+    row as usize * width as usize + column as usize
 }
 
 /// Makes all cells the same.
@@ -115,10 +123,14 @@ impl<A: Allocator> Buffer<A> {
     }
 
     /// All cells, row by row.
+    #[tactic(auto, using(crate::proofs::Fitting::all_stand, crate::proofs::Fitting::all_paired, crate::proofs::Fitting::all_stay))]
     pub fn cells(&self) -> &[Cell]
         ensures cells { result.now ≡ self.now.cells }
         ensures count { length self.now.cells ≡ self.now.width * self.now.height }
         ensures fits { All (λ c. Fits c.symbol) self.now.cells }
+        ensures stand { All Stands self.now.cells }
+        ensures paired { ArePaired false self.now.cells }
+        ensures rows { StayInRows self.now.width self.now.cells }
     {
         &self.cells
     }
@@ -160,8 +172,46 @@ impl<A: Allocator> Buffer<A> {
         if let Some(fault) = symbol_fault(symbol) {
             return Err(fault);
         }
-        let at = row as usize * self.width as usize + column as usize;
+        let at = place_at(self.width, column, row);
         self.cells[at] = Cell { symbol, style };
         Ok(())
+    }
+
+    /// Sets the cells of a row, from a column on, to a text's characters, and returns how many columns these take. Characters behind the last
+    /// column are left out, and a column behind it leaves out all.
+    ///
+    /// ```
+    /// let used = buffer.print(0, 2, "name", ContentStyle::new())?;
+    /// buffer.print(used + 1, 2, "size", ContentStyle::new())?;
+    /// ```
+    ///
+    /// # Errors
+    /// `Outside` where there is no such row, and else that of the first character which can't stand in a cell, shown or not: `Control`,
+    /// `NoWidth`, `Wide`. Then nothing changes.
+    pub fn print(
+        &mut self,
+        column: u16,
+        row: u16,
+        text: &str,
+        style: ContentStyle,
+    ) -> Result<u16, CellFault>
+        ensures used { IfOk result (λ used. used ≡ length (clipped self.old column (chars text.now))) }
+        ensures ok { OnOk result ((print_refusal self.old row (chars text.now) ≡ None)
+            × (self.new ≡ with_text self.old column row (chars text.now) style)) }
+        ensures err { IfErr result (λ fault. (print_refusal self.old row (chars text.now) ≡ Some fault) × (self.new ≡ self.old)) }
+    {
+        if row >= self.height {
+            return Err(CellFault::Outside);
+        }
+        if let Some(fault) = text_fault(text) {
+            return Err(fault);
+        }
+        if column >= self.width {
+            return Ok(0);
+        }
+        let room = (self.width - column) as usize;
+        let at = place_at(self.width, column, row);
+        let used = write_text(&mut self.cells, at, room, text, &style);
+        Ok(used as u16)
     }
 }

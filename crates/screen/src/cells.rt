@@ -1,7 +1,8 @@
 //! Cells, and whether two are the same.
-ghost use Rattle.std.specs.Prelude.{◌≡◌, ◌↔◌, IsTrue};
+ghost use Rattle.std.specs.Prelude.{◌≡◌, ◌↔◌, IsTrue, false};
 ghost use Rattle.crossterm_style.specs.declared.types.color.Color.TheVariants.{Rgb};
-ghost use Rattle.screen.specs.Cells.{Fits, blank, symbol_fault};
+ghost use Rattle.screen.specs.Cells.{Fits, blank, is_covered, is_wide, symbol_fault};
+ghost use Rattle.screen.specs.Drawings.{HasToBePrinted};
 ghost use Rattle.std.specs.Prelude.{None};
 
 use crate::faults::CellFault;
@@ -144,4 +145,32 @@ pub(crate) fn is_same(left: &Cell, right: &Cell) -> bool
         return false;
     }
     is_same_style(left.style, right.style)
+}
+
+/// Whether a cell is the second one of a character that takes two.
+pub(crate) fn is_covered(cell: &Cell) -> bool
+    ensures { result ≡ is_covered cell.now }
+{
+    cell.symbol == '\0'
+}
+
+/// Whether a cell is the first one of a character that takes two.
+pub(crate) fn is_wide(cell: &Cell) -> bool
+    ensures { result ≡ is_wide cell.now }
+{
+    match cell.symbol.width() {
+        None => false,
+        Some(width) => width == 2,
+    }
+}
+
+/// Whether a character has to be printed where one cell stands and another one is to be.
+pub(crate) fn has_to_be_printed(before: &Cell, after: &Cell) -> bool
+    ensures printed { IsTrue result ↔ HasToBePrinted before.now after.now }
+    ensures kept { result ≡ false → is_covered after.now ≡ false → before.now ≡ after.now }
+{
+    if is_covered(after) {
+        return false;
+    }
+    !is_same(before, after)
 }

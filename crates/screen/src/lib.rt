@@ -15,7 +15,8 @@
 //! buffer cell for cell, with the cursor where it was asked to be. At the beginning, after `resize`, `forget` and an error nothing is known
 //! of the cells, and the same holds for every grid of the size.
 //!
-//! A cell holds a character of one column. Control characters and those of no column or of two and more are refused by name (`CellFault`).
+//! A cell of a buffer holds a character of one column. Control characters and those of no column or of two and more are refused by name
+//! (`CellFault`). The definitions and the proof of a frame have characters of two columns too, which cover the next cell; no buffer makes any yet.
 //!
 //! Where a frame broke off within a control sequence, the next one begins with ESC, which ends such a sequence at a terminal. The definitions
 //! speak of whole sequences and don't say so.
@@ -27,11 +28,12 @@
 //!
 //! | Definitions | Lines | Of | Contract |
 //! |---|---|---|---|
-//! | `Grids` | 105 | a terminal as a grid of cells, and what each token does to it | |
-//! | `Cells` | 38 | how a cell looks, and which characters fit | `Cell::blank`, `Buffer::set` |
-//! | `Buffers` | 28 | the pictures that buffers hold | `Buffer` |
+//! | `Grids` | 158 | a terminal as a grid of cells, and what each token does to it | |
+//! | `Cells` | 64 | how a cell looks, which cells are paired, and which characters fit | `Cell::blank`, `Buffer::{cells, set}` |
+//! | `Texts` | 19 | the cells of a text's characters | `Buffer::print` |
+//! | `Buffers` | 44 | the pictures that buffers hold | `Buffer` |
 //! | `Screens` | 15 | a screen, and what it drew last | `Screen` |
-//! | `Drawings` | 111 | what a frame does to each grid, how many characters it prints, and what is refused | `Screen::draw` |
+//! | `Drawings` | 116 | what a frame does to each grid, how many characters it prints, and what is refused | `Screen::draw` |
 //!
 //! `specs/inside/` says the same of a frame's parts, and no public clause cites it.
 //!
@@ -44,6 +46,7 @@ mod faults;
 mod planning;
 mod screens;
 mod strokes;
+mod texts;
 
 pub use buffers::Buffer;
 pub use cells::Cell;

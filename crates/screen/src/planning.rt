@@ -1,14 +1,15 @@
 //! The strokes of a frame.
-ghost use Rattle.std.specs.Prelude.{◌≡◌, ◌++◌, ◌+◌, ◌*◌, ◌<◌, ◌^◌, ◌↔◌, ⊤, OnOk, IfSome, IsTrue, ◌∷◌, [], length, slice_get, true, false, Some};
+ghost use Rattle.std.specs.Prelude.{◌≡◌, ◌++◌, ◌+◌, ◌*◌, ◌<◌, ◌≤◌, ◌^◌, ◌↔◌, ⊤, OnOk, IfSome, IsTrue, ◌∷◌, [], length, slice_get, true, false, Some};
 ghost use Rattle.std.specs.List.{All, AllByRecursion};
 ghost use Rattle.crossterm_style.specs.Acts.{style_acts};
 ghost use Rattle.crossterm_style.specs.Appearance.{FitsAct};
-ghost use Rattle.screen.specs.Cells.{Fits};
+ghost use Rattle.screen.specs.Cells.{ArePaired, StayInRows, Stands};
+ghost use Rattle.screen.specs.inside.Scans.{last_of};
 ghost use Rattle.screen.specs.Grids.{right_of};
 ghost use Rattle.screen.specs.inside.Scans.{IsWithin, Planned, Visited};
 ghost use Rattle.screen.specs.inside.Strokes.{AreFitting, cell_strokes, cursor_strokes, first_strokes, last_strokes, move_strokes, style_strokes};
 
-use crate::cells::{Cell, is_same, is_same_style};
+use crate::cells::{Cell, has_to_be_printed, is_same_style, is_wide};
 use crate::strokes::Stroke;
 use crossterm_style::ContentStyle;
 use crossterm_style::laws::style_fits;
@@ -96,7 +97,7 @@ fn has_style(set: Option<ContentStyle>, style: ContentStyle) -> bool
 
 /// Where the cursor is after a character.
 fn right_of(at: usize, width: u16) -> Option<usize>
-    requires fits { at < 2 ^ 32 }
+    requires fits { at ≤ 2 ^ 32 }
     requires width { 0 < width }
     ensures { result ≡ right_of width at }
 {
@@ -108,7 +109,16 @@ fn right_of(at: usize, width: u16) -> Option<usize>
     }
 }
 
-/// Adds what paints each cell that differs, and no other.
+/// The last place that the character at a place takes.
+fn last_of(at: usize, cell: &Cell) -> usize
+    requires { at < 2 ^ 32 }
+    ensures value { result ≡ last_of at cell.now }
+    ensures bound { result ≤ at + 1 }
+{
+    if is_wide(cell) { at + 1 } else { at }
+}
+
+/// Adds what paints each cell that has to be printed, and no other.
 fn scan<A: Allocator>(
     strokes: &mut Vec<Stroke, A>,
     is_known: bool,
@@ -119,7 +129,10 @@ fn scan<A: Allocator>(
     requires first { strokes.old.items ≡ first_strokes is_known }
     requires before { IsWithin is_known size.0 size.1 before.now }
     requires length { length after.now ≡ size.0 * size.1 }
-    requires fits { All (λ c. Fits c.symbol) after.now }
+    requires fits { All Stands after.now }
+    requires before_paired { ArePaired false before.now }
+    requires after_paired { ArePaired false after.now }
+    requires rows { StayInRows size.0 after.now }
     ensures visited { OnOk result (Visited is_known size.0 size.1 before.now after.now strokes.new.items) }
     ensures fitting { OnOk result (AreFitting strokes.new.items) }
 {
@@ -128,12 +141,12 @@ fn scan<A: Allocator>(
     let mut style: Option<ContentStyle> = None;
     for at in 0..after.len() {
         let cell = &after[at];
-        if !is_same(&before[at], cell) {
+        if has_to_be_printed(&before[at], cell) {
             let place = place_of(at, width, height);
             let there = is_at(cursor, at);
             let right = has_style(style, cell.style);
             paint(strokes, there, right, place, cell)?;
-            cursor = right_of(at, width);
+            cursor = right_of(last_of(at, cell), width);
             style = Some(cell.style);
         }
     }
@@ -197,7 +210,10 @@ pub(crate) fn plan<A: Allocator>(
 ) -> Result<(), AllocError>
     requires before { IsWithin is_known size.0 size.1 before.now }
     requires length { length after.now ≡ size.0 * size.1 }
-    requires fits { All (λ c. Fits c.symbol) after.now }
+    requires fits { All Stands after.now }
+    requires before_paired { ArePaired false before.now }
+    requires after_paired { ArePaired false after.now }
+    requires rows { StayInRows size.0 after.now }
     requires cursor { IfSome cursor (λ place. (place.0 < size.0) × (place.1 < size.1)) }
     ensures planned { OnOk result (Planned is_known size.0 size.1 before.now after.now cursor strokes.new.items) }
     ensures fitting { OnOk result (AreFitting strokes.new.items) }

@@ -1,11 +1,11 @@
 //! Screens: what the terminal shows, and how it is made to show a buffer.
-ghost use Rattle.std.specs.Prelude.{◌≡◌, ◌*◌, ◌<◌, ◌↔◌, OnOk, OnErr, IfOk, IfErr, IfSome, IsTrue, List, None, Some, if◌then◌else◌, length, replicate};
+ghost use Rattle.std.specs.Prelude.{◌≡◌, ◌*◌, ◌<◌, ◌↔◌, OnOk, OnErr, IfOk, IfErr, IfSome, IsTrue, List, None, Some, if◌then◌else◌, false, length, replicate};
 ghost use Rattle.std.specs.Option.{option_map};
 ghost use Rattle.crossterm.specs.Functions.{AppendsReading};
 ghost use Rattle.crossterm_command.specs.Tokens.{Token};
-ghost use Rattle.screen.specs.Cells.{blank};
+ghost use Rattle.screen.specs.Cells.{ArePaired, blank};
 ghost use Rattle.screen.specs.Drawings.{CursorFits, IsFrame, IsSameSize, NotDrawn, forgotten, with_drawn};
-ghost use Rattle.screen.specs.inside.Scans.{is_known};
+ghost use Rattle.screen.specs.inside.Scans.{IsPairedIf, is_known};
 
 use crate::buffers::{Buffer, count_of, fill};
 use crate::cells::Cell;
@@ -37,6 +37,7 @@ impl<A: Allocator> Model for Screen<A> {
     ghost use Rattle.std.specs.Prelude.{◌≡◌, ◌*◌, length};
     ghost use Rattle.std.specs.Option.{option_map};
     ghost use Rattle.screen.specs.Screens.{View};
+    ghost use Rattle.screen.specs.inside.Scans.{IsPairedIf};
 
     ghost Value = { View };
 
@@ -46,7 +47,7 @@ impl<A: Allocator> Model for Screen<A> {
       drawn = option_map (λ colors. record { colors = colors; cells = s.shown.items }) s.drawn;
     } };
 
-    ghost invariant = { λ s. length s.shown.items ≡ s.width * s.height };
+    ghost invariant = { λ s. (length s.shown.items ≡ s.width * s.height) × IsPairedIf s.drawn s.shown.items };
 }
 
 /// Whether colours are written as they were.
@@ -71,7 +72,7 @@ fn is_inside(cursor: Option<(u16, u16)>, width: u16, height: u16) -> bool
 }
 
 /// Makes the cells blank that aren't known, and tells whether they are.
-fn prepare<A: Allocator>(
+fn prepare_cells<A: Allocator>(
     cells: &mut Vec<Cell, A>,
     drawn: Option<ColorOutput>,
     colors: ColorOutput,
@@ -85,6 +86,21 @@ fn prepare<A: Allocator>(
     }
     fill(cells, Cell::blank());
     false
+}
+
+/// The same, with what follows of cells that are paired where they were drawn.
+fn prepare<A: Allocator>(
+    cells: &mut Vec<Cell, A>,
+    drawn: Option<ColorOutput>,
+    colors: ColorOutput,
+) -> bool
+    requires { IsPairedIf drawn cells.old.items }
+    ensures known { result ≡ is_known drawn colors }
+    ensures cells { cells.new.items ≡ (if is_known drawn colors then cells.old.items else replicate (length cells.old.items) blank) }
+    ensures count { length cells.new.items ≡ length cells.old.items }
+    ensures paired { ArePaired false cells.new.items }
+{
+    prepare_cells(cells, drawn, colors)
 }
 
 impl<A: Allocator + Copy> Screen<A> {

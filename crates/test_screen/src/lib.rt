@@ -10,6 +10,8 @@ mod growth;
 #[cfg(test)]
 mod paper;
 #[cfg(test)]
+mod prints;
+#[cfg(test)]
 mod random;
 #[cfg(test)]
 mod refused;

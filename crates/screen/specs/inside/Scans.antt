@@ -1,18 +1,24 @@
 -- A frame's way over the cells.
-use Rattle.std.specs.Prelude.{◌≡◌, ℕ, ◌*◌, Bool, true, false, List, Option, Some, None, drop, length, map, replicate, take}
+use Rattle.std.specs.Prelude.{⊤, ◌≡◌, ℕ, ◌+◌, ◌*◌, Bool, true, false, List, [], ◌∷◌, ◌++◌, Option, Some, None, drop, length, map, replicate, take, if◌then◌else◌}
 use Rattle.crossterm_command.specs.declared.color_output.ColorOutput.{ColorOutput}
 use Rattle.crossterm_style.specs.declared.content_style.ContentStyle.{ContentStyle}
 use Rattle.screen.specs.declared.cells.Cell.{Cell}
 use Rattle.screen.specs.declared.strokes.Stroke.{Stroke}
-use Rattle.screen.specs.Cells.{blank, look, seen}
+use Rattle.screen.specs.Cells.{ArePaired, blank, is_covered, is_wide, look, seen}
 use Rattle.screen.specs.Drawings.{DifferAt, HasSize, Shows, ShowsCells, printed, same_output}
-use Rattle.screen.specs.Grids.{Grid, run}
+use Rattle.screen.specs.Grids.{Grid, Square, begun, run}
+use Rattle.screen.specs.Grids.Square.{Second}
 use Rattle.screen.specs.inside.Strokes.{tokens_of}
 
 -- Whether colours are written as they were.
 abbrev pub is_known : Option ColorOutput → ColorOutput → Bool
 is_known None colors = false
 is_known (Some drawn) colors = same_output drawn colors
+
+-- Cells that were drawn are paired.
+abbrev pub IsPairedIf : Option ColorOutput → List Cell → Type 0
+IsPairedIf None cells = ⊤
+IsPairedIf (Some colors) cells = ArePaired false cells
 
 -- A grid of the size, which shows the cells where they are known.
 abbrev pub StartsWith : Bool → ColorOutput → ℕ → ℕ → List Cell → Grid → Type 0
@@ -24,11 +30,24 @@ abbrev pub IsWithin : Bool → ℕ → ℕ → List Cell → Type 0
 IsWithin true width height cells = length cells ≡ width * height
 IsWithin false width height cells = cells ≡ replicate (width * height) blank
 
--- Before a place the cells are the new ones, and from it on the old ones. What is known of the cursor and of the style holds.
+-- the last place that the character at a place takes
+abbrev pub last_of : ℕ → Cell → ℕ
+last_of at c = if is_wide c then at + 1 else at
+
+-- Whether the first of some cells is covered.
+abbrev pub begins_covered : List Cell → Bool
+begins_covered [] = false
+begins_covered (c ∷ cells) = is_covered c
+
+-- What stands from a place on, by the new cells and the old ones from there: the old ones, where the first isn't known if it is a second one. But
+-- where the new cell is covered the character before it stands in it already.
+abbrev pub rest : List Cell → List Square → List Square
+rest after old = if begins_covered after then Second ∷ begun (drop 1 old) else begun old
+
+-- Before a place the cells are the new ones. What is known of the cursor and of the style holds.
 pub record Scanned (colors : ColorOutput) (width height : ℕ) (before after : List Cell) (k : ℕ) (cursor : Option ℕ) (style : Option ContentStyle) (h : Grid) : Type 0 where
   pub size : HasSize width height h
-  pub front : take k h.cells ≡ take k (map (seen colors) after)
-  pub back : drop k h.cells ≡ drop k (map (seen colors) before)
+  pub cells : h.cells ≡ take k (map (seen colors) after) ++ rest (drop k after) (map (seen colors) (drop k before))
   pub place : (n : ℕ) → cursor ≡ Some n → h.cursor ≡ Some n
   pub set : (s : ContentStyle) → style ≡ Some s → h.style ≡ look colors s
 

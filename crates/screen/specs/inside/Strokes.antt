@@ -14,7 +14,7 @@ use Rattle.crossterm.specs.declared.terminal.ClearType.TheVariants.{All}
 use Rattle.screen.specs.declared.cells.Cell.{Cell}
 use Rattle.screen.specs.declared.strokes.Stroke.{Stroke}
 use Rattle.screen.specs.declared.strokes.Stroke.TheVariants as stroke
-use Rattle.screen.specs.Cells.{Fits}
+use Rattle.screen.specs.Cells.{IsPrinted}
 
 -- what a terminal is told by a stroke
 abbrev pub tokens : ColorOutput → Stroke → List Token
@@ -31,9 +31,9 @@ tokens colors stroke.Hide = reset "25"
 abbrev pub tokens_of : ColorOutput → List Stroke → List Token
 tokens_of colors strokes = flat_map (tokens colors) strokes
 
--- A printed character takes one cell.
+-- A printed character takes one cell or two.
 abbrev pub IsFitting : Stroke → Type 0
-IsFitting (stroke.Print c) = Fits c
+IsFitting (stroke.Print c) = IsPrinted c
 IsFitting s = ⊤
 
 abbrev pub AreFitting : List Stroke → Type 0

@@ -27,7 +27,7 @@ returns-in-Ok-clause-frame g c =
     let knows : known ≡ is_known drawn colors = search rules in
     let prep : prepared ≡ (if is_known drawn colors then shown else replicate (length shown) blank) = search rules in
     let begins : before ≡ prepared = search rules in
-    let len : length shown ≡ w * h = c.self.invariant in
+    let len : length shown ≡ w * h = c.self.invariant.0 in
     let told : said ≡ strokes = search rules in
     let plan : Planned known w h before after c.args.cursor strokes = search rules in
     (tokens_of colors said, c.in-Ok.ensures.reads, frame_of c.args.self.now w h drawn shown prepared before after colors p c.args.cursor known strokes said view pw ph cells knows prep begins len told plan)
@@ -53,7 +53,7 @@ returns-in-Err-write_strokes-clause-err g c =
     let knows : known ≡ is_known drawn colors = search rules in
     let prep : prepared ≡ (if is_known drawn colors then shown else replicate (length shown) blank) = search rules in
     let begins : before ≡ prepared = search rules in
-    let len : length shown ≡ w * h = c.self.invariant in
+    let len : length shown ≡ w * h = c.self.invariant.0 in
     let told : said ≡ strokes = search rules in
     let plan : Planned known w h before after c.args.cursor strokes = search rules in
     let fits : CursorFits (view_of w h drawn shown) c.args.cursor = search rules in (
