@@ -14,7 +14,7 @@ import re
 
 ROOT = os.path.dirname(os.path.dirname(os.path.abspath(__file__)))
 PART = re.compile(r"^<!-- made: (.*?) -->\n(.*?)^<!-- end -->\n", re.M | re.S)
-# Parts that are tables: a page's own words are counted without them.
+# Parts that are tables, which are folded.
 TABLES = ("proved", "definitions", "shapes", "rows")
 
 
@@ -89,9 +89,10 @@ def shapes():
 
 def test_rows(path):
     """The rows `A -> B` of the tables of a test, without those that are errors or print nothing."""
-    text = re.sub(r"\\\\", r"\\", read(path))
-    found = re.findall(r"^(\S.*?) ->(?: (.*?))?(?:\";)?$", text, re.M)
-    return [(given, told) for given, told in found if told and not told.startswith("probe: ")]
+    tables = re.findall(r'^(?:pub )?const \w+: &str = "\\\n(.*?)";$', read(path), re.M | re.S)
+    lines = [line.replace("\\\\", "\\") for it in tables for line in it.split("\n")]
+    found = [line.partition(" -> ")[::2] for line in lines]
+    return [(given, told) for given, told in found if told.strip() and not given.startswith(" ") and not told.startswith("probe: ")]
 
 
 def code(text):
@@ -139,6 +140,6 @@ def with_parts(text):
     return PART.sub(lambda part: f"<!-- made: {part[1]} -->\n{made(part[1])}\n<!-- end -->\n", text)
 
 
-def without_tables(text, kinds=TABLES):
-    """A page without the tables that are made."""
+def without_parts(text, kinds=TABLES):
+    """A page without the parts of these kinds."""
     return PART.sub(lambda part: "" if part[1].split()[0] in kinds else part[0], text)
