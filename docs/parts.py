@@ -70,6 +70,7 @@ def proved():
         for promise, contract in rows_below(crate, "What is proved"):
             rows.append([link, promise, contract])
             link = ""
+    rows.append(["all others", "safety alone", ""])
     return table(["Crate", "Proved", "By the contract of"], rows)
 
 
