@@ -5,6 +5,17 @@
 //! `crossterm_style`. What each promises stands in that crate. The commands themselves are here: what a terminal is told by them is
 //! `specs/Functions.antt`, and a command's text is the bytes of that.
 //!
+//! What is proved, beyond safety:
+//!
+//! | Proved | By the contract of |
+//! |---|---|
+//! | each command of the cursor, the terminal, events and the clipboard writes exactly its text | each `Command::text`, `Display` |
+//! | what commands write reads back (the second theorem) | `write_commands`, `queue_all` |
+//! | `sync_update` writes its beginning, calls the closure once, and writes its end; an error stops it in either, or before the call | `SynchronizedUpdate::sync_update` |
+//! | raw mode is on once the device reported its mode and that the raw one is set, and off once it reported that the earlier one is set; the size is the window's, else that of `tput`, else the device's error | `Terminal`, `tput_value` |
+//! | `SttyDevice` asks its helper by the lines of its table; its mode is the one that the helper reported last | `SttyDevice::new`, `ModeDevice` |
+//! | a query fails before it asks; or it writes exactly its text, makes one call of the shared reader, and leaves raw mode as it was, or returns the error of the switch back | `cursor::position`, `terminal::{query_keyboard_enhancement_flags, supports_keyboard_enhancement}` |
+//!
 //! What to believe, in the order in which it reads (`specs/`), and where it is proved:
 //!
 //! | Definitions | Lines | Of | Contract |

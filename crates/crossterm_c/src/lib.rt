@@ -5,6 +5,13 @@
 //! numbers of a state, an event and a command mean is `specs/State.antt`, `specs/Event.antt` and `specs/Command.antt`. Events are held in the
 //! caller's table, and taken by class, as `InternalEventReader` does (`specs/Held.antt`). The header for C is `bindings/c/gelvanh.h`.
 //!
+//! What is proved, beyond safety:
+//!
+//! | Proved | By the contract of |
+//! |---|---|
+//! | the events, as numbers of the header with 0 for what their kind doesn't use, mean the parts of the only division of the bytes taken; however small the table is, none is lost; the state's numbers represent the rest | `gelvanh_feed`, `gelvanh_is_undecided`, `gelvanh_is_pasting` |
+//! | a paste's text is written until all bytes are read or the next character has no room; a command's text is in the slice, or the slice is unchanged and the length is returned | `gelvanh_paste_text`, `gelvanh_command` and the four calls with a text |
+//!
 //! What to believe, in the order in which it reads (`specs/`), and where it is proved:
 //!
 //! | Definitions | Lines | Of | Contract |

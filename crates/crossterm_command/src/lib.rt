@@ -4,6 +4,13 @@
 //! error (`specs/Writing.antt`), and that bytes read back as control functions and characters in one way at most (`specs/Tokens.antt`,
 //! whose law stands on `laws::one_reading`). Lemmas for their proofs are `proofs/Texts.antt` and `proofs/Readings.antt`.
 //!
+//! What is proved, beyond safety:
+//!
+//! | Proved | By the contract of |
+//! |---|---|
+//! | on Ok exactly the command's text was written; on an Err of a kind other than `Other`, a prefix of it | `QueueableCommand::queue`, `ExecutableCommand::execute`, `queue_command`, `execute_command` |
+//! | an error of the writer is told from one of the command; bytes read back in one way at most | `write_command`, `send_command`, `write_text`; `laws::one_reading` |
+//!
 //! What to believe, in the order in which it reads (`specs/`), and where it is proved:
 //!
 //! | Definitions | Lines | Of | Contract |

@@ -7,6 +7,13 @@
 //! go by an order (`specs/Orders.antt`), the names and ranks of an enum's variants by one table (`specs/Variants.antt`), and the lemmas that
 //! an enum's derived comparisons go by ranks (`proofs/Ranks.antt`).
 //!
+//! What is proved, beyond safety:
+//!
+//! | Proved | By the contract of |
+//! |---|---|
+//! | each operation of the three flag types is its definition on sets of bits; `iter` gives each named constant that is contained, then the bits without a name | each method; `FlagIter::next` |
+//! | `KeyModifiers` displays exactly the names of its bits; the JSON value of a set is its bits as a number, and any number below 256 reads as a set | `Display`; `to_value`, `from_value` |
+//!
 //! What to believe, in the order in which it reads (`specs/`), and where it is proved:
 //!
 //! | Definitions | Lines | Of | Contract |

@@ -1,7 +1,7 @@
 //! From the bytes of a terminal to its events: crossterm's `event::sys::unix::parse`.
 //!
 //! It stands on `crossterm_types`. The layers above use that `Parser::advance` and `Parser::next` follow the only division of the bytes
-//! into whole sequences (`specs/ParserView.antt`). The grammar is `specs/Grammar.antt`, and what a sequence means `specs/Meaning.antt`.
+//! into whole sequences (`specs/View.antt`). The grammar is `specs/Grammar.antt`, and what a sequence means `specs/Meaning.antt`.
 //!
 //! A sequence has one of these shapes, each by where it ends (ECMA-48, xterm's control sequences, kitty's keyboard protocol):
 //!
@@ -21,6 +21,16 @@
 //! | `ESC[200~` and a text | the first `ESC[201~` |
 //!
 //! ESC alone is the Esc key where nothing came with it after it.
+//!
+//! What is proved, beyond safety:
+//!
+//! | Proved | By the contract of |
+//! |---|---|
+//! | no complete sequence is a proper prefix of another, so bytes divide in one way only; the parser follows that division and gives each part's meaning | `laws::unique_division`; `Parser::{advance, feed, next, events}` |
+//! | however the same bytes are cut into pieces, they give the same events | `laws::cuttings` |
+//! | a piece that ends no event and leaves no paste open takes no memory; after `reserve(n)` a piece of n bytes that opens no paste is consumed whole; if a piece isn't consumed whole, the next byte ends an event or belongs to a paste | `Parser::{advance, reserve}` |
+//! | at most two steps for each byte, and at least one | `laws::{two_steps_a_byte, a_step_a_byte}` |
+//! | the length of the open paste, whose text is kept | `Parser::paste_len` |
 //!
 //! What to believe, in the order in which it reads (`specs/`), and where it is proved:
 //!

@@ -14,6 +14,21 @@
 //! the headline of `read::play`: what calls answer is a run over the answers of a source, which come of those of its device.
 //! `laws::one_happening` says that the events of bytes are those of the only division of all bytes.
 //!
+//! What is proved, beyond safety:
+//!
+//! | Proved | By the contract of |
+//! |---|---|
+//! | a source returns the results of its device's answers in order; it asks the device with its own limit, and its waker is the device's; it reports the length of the open paste | `EventSource::{try_read, waker}`, `DeviceSource::paste_len` |
+//! | each call is one step of the reader's definition; it loses no room, and memory is refused only if no room was left | `InternalEventReader::{poll_within, read_within, take, held, position_within, keyboard_within}` |
+//! | if a filter declares its event classes, the first match is the earliest of four queued events at most | `Filter::classes`; `HeldEvents`, `Queues` (private) |
+//! | a poll asks with what is left of its limit, and returns false only at a wake-up or after the limit; a step within a limit is one with some number of tries | `InternalEventReader::{poll, read}`; `laws::counts_tries` |
+//! | no event is lost (the first theorem) | `read::play`, `laws::one_happening` |
+//! | a device over a reader returns the reader's next bytes, in order, and the end only at its end, if the reader says what it contains | `Device::answer` of `ReadDevice`, `PolledDevice`, `SocketDevice` |
+//! | an error of the system is returned and counted once, unless it says that nothing came yet, or no more can be counted | `failures::answer_at` |
+//! | threads share one history (the third theorem), over a script too; the keyboard query waits twice, each time with its own limit; each event was taken once or is held; the events that one filter takes have rising numbers | `EventReader::{new, share, poll, read, poll_by, read_by, position_by, keyboard_by, meet, close}`, `laws::histories_are_told` |
+//! | a shared poll that makes no entry returns `Ok(false)` after its limit; every call puts the reader back | the same |
+//! | an item of a stream is the reply of one read with limit zero in that history, or an error; a pending poll has registered its waker; `close` returns the pass | `EventStream::{new, poll_event, poll_next, close}` |
+//!
 //! What to believe, in the order in which it reads (`specs/`), and where it is proved:
 //!
 //! | Definitions | Lines | Of | Contract |

@@ -1,5 +1,13 @@
 //! Colours, attributes and styled text: crossterm's `style`, but for `Stylize`.
 //!
+//! What is proved, beyond safety:
+//!
+//! | Proved | By the contract of |
+//! |---|---|
+//! | each command of style writes exactly its text, with colours and without, and looks as it paints | each `Command::text`, `Display`; `laws::{looks, styled_ends_plain, some_looks}` |
+//! | `parse_ansi` returns what its definition reads; with colours on, a colour's own text reads back | `Colored::{parse_ansi, text}`, `laws::colors_read` |
+//! | `Attributes` is a set: two are equal exactly if their members are; JSON values read back | each method; `laws::{sets, sets_are_their_members}`; `to_value`, `from_value` |
+//!
 //! What to believe, in the order in which it reads (`specs/`), and where it is proved:
 //!
 //! | Definitions | Lines | Of | Contract |

@@ -2,6 +2,12 @@
 //!
 //! `"text".red().on_blue().bold()` is a `StyledContent`, and shows as its text between its style and the end of it.
 //!
+//! What is proved, beyond safety:
+//!
+//! | Proved | By the contract of |
+//! |---|---|
+//! | each of the 63 calls of `Stylize` changes its one field of the style and nothing else | each method |
+//!
 //! What to believe, in the order in which it reads (`specs/`), and where it is proved:
 //!
 //! | Definitions | Lines | Of | Contract |

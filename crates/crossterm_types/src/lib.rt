@@ -4,6 +4,15 @@
 //! (`specs/Normal.antt`, `specs/Compared.antt`; its laws stand on `event::laws::normal_form_laws`), see events through
 //! `specs/Seen.antt`, and know exactly which events a filter admits (`specs/Admitting.antt`).
 //!
+//! What is proved, beyond safety:
+//!
+//! | Proved | By the contract of |
+//! |---|---|
+//! | equality, order and hash of a `KeyEvent` are those of its normal form; every other type is ordered as declared | `event::laws::{normal_form_laws, declared_orders, declared_orders_of_events}` |
+//! | each filter accepts exactly its events; what is left of a time limit, and whether it has passed, follow from two moments | `Filter::eval`; `PollTimeout::{elapsed, leftover}` |
+//! | keys display exactly their names; each predicate and accessor is its table, in both directions | `Display`; each method |
+//! | the JSON value of an event reads back as that event, field by field; any other value is the error `Shape` | `to_value`, `from_value` |
+//!
 //! What to believe, in the order in which it reads (`specs/`), and where it is proved:
 //!
 //! | Definitions | Lines | Of | Contract |

@@ -1,4 +1,10 @@
 //! Bodies of one's own over commands and events, with contracts that prove with no proof file.
+//!
+//! What is proved, beyond safety:
+//!
+//! | Proved | By the contract of |
+//! |---|---|
+//! | what bodies with `queue!` and `execute!` write, on Ok and if the writer fails; a loop over a parser's events leaves none | `begin`, `put`, `say`, `count` |
 #![tactic(auto)]
 
 ghost use Rattle.std.specs.Prelude.{◌≡◌, ◌++◌, ◌≢◌, IfErr, OnOk, [], codes};

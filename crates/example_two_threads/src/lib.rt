@@ -3,6 +3,12 @@
 //! `two_reads` and `two_threads` have two passes read, in one thread and in two. The passes meet, and then it is known: both calls stand in
 //! one legal history, at two places; no event went to both, and of a reader with no further pass none was lost between them. That two
 //! passes are of a reader with as many passes is what `EventReader::new` says of those that it gives.
+//!
+//! What is proved, beyond safety:
+//!
+//! | Proved | By the contract of |
+//! |---|---|
+//! | of two threads that read, no event went to both, and with no further pass none was lost between them | `two_threads`, `two_reads` |
 #![tactic(auto)]
 
 ghost use Rattle.std.specs.Prelude.{◌≡◌, ◌⊎◌, Bool, Result};

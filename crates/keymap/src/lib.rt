@@ -16,6 +16,14 @@
 //! It stands on `crossterm_types`, for keys and their equality, on `crossterm_flags`, for tables of names, and on `crossterm_read`, for a reader
 //! that threads share, by their public contracts alone.
 //!
+//! What is proved, beyond safety:
+//!
+//! | Proved | By the contract of |
+//! |---|---|
+//! | the outcomes of keys are the cut of these keys into the longest bound lists, given exactly as far as no further key can change it, and the rest at a flush; a refusal changes nothing | `Keymap::bind`, `Matcher::{feed, flush, next, step}`, `laws::{runs, turns, given}` |
+//! | a step polls and reads by its pass's next calls in the one legal history; an error leaves the matcher unchanged | `Matcher::step` |
+//! | a text reads as a chord exactly as its definition says; what a chord is spelled as reads as the same chord | `read_chord`, `Display` of `Spelled`; `laws::spelled` |
+//!
 //! What to believe, in the order in which it reads (`specs/`), and where it is proved:
 //!
 //! | Definitions | Of | Contract |

@@ -3,6 +3,12 @@
 //!
 //! They stand on `crossterm` by its public calls, `serve` on the sockets of `mio`, and `keys` on `keymap`. In `bench` stand two bodies with the
 //! macros `queue!` and `execute!`, of which is proved what they write.
+//!
+//! What is proved, beyond safety:
+//!
+//! | Proved | By the contract of |
+//! |---|---|
+//! | what two bodies with `queue!` and `execute!` write | `bench::{print_first, show_now}` |
 #![tactic(auto)]
 
 pub mod bench;

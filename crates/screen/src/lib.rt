@@ -24,6 +24,13 @@
 //! Memory is taken by `new`, by `resize`, and by a frame with more strokes than any before it. A stroke is a move, a style, a character, or
 //! one of a handful at the frame's ends.
 //!
+//! What is proved, beyond safety:
+//!
+//! | Proved | By the contract of |
+//! |---|---|
+//! | a frame shows the buffer (the fourth theorem): it leads from each grid that shows the last one to a grid that shows this one, with the cursor where it was asked to be, and prints one character for each cell that differs and no other; an error says what was written, and then nothing is known of the cells | `Screen::draw` |
+//! | a character that doesn't take one column is refused by name, and a refusal changes nothing | `Buffer::{new, resize, fill, set}` |
+//!
 //! What to believe, in the order in which it reads (`specs/`), and where it is proved:
 //!
 //! | Definitions | Lines | Of | Contract |

@@ -3,6 +3,12 @@
 //!
 //! They stand here, in a crate of their own, since a crate with tests is proved twice. What a proof costs grows with the square of what one
 //! function does, so tables are statics, and short helpers say whether a row of one holds.
+//!
+//! What is proved, beyond safety:
+//!
+//! | Proved | By the contract of |
+//! |---|---|
+//! | a plain, slow divider gives the lengths of the parts of the only division, and their events | `plain::divide` |
 #![tactic(auto)]
 
 #[cfg(test)]

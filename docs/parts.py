@@ -1,0 +1,146 @@
+"""The parts of the pages that are made from the tree.
+
+A part begins with a line `<!-- made: KIND ARGUMENTS -->` and ends with a line `<!-- end -->`. The kinds are:
+
+proved                 what each crate's root lists under 'What is proved'
+definitions            what each crate's root lists under 'What to believe'
+shapes                 the table of sequences in the root of crossterm_parse
+rows PATH HEAD HEAD    the rows `A -> B` of a test's table, without those that are errors
+file PATH              a file, as a block of code
+clauses PATH FN NAME.. clauses of a function, as a block of code
+"""
+import os
+import re
+
+ROOT = os.path.dirname(os.path.dirname(os.path.abspath(__file__)))
+PART = re.compile(r"^<!-- made: (.*?) -->\n(.*?)^<!-- end -->\n", re.M | re.S)
+# Parts that are tables, which are folded.
+TABLES = ("proved", "definitions", "shapes", "rows")
+
+
+class PageError(Exception):
+    """A part that can't be made, as a sentence."""
+
+
+def read(path):
+    """A file of the tree."""
+    try:
+        with open(f"{ROOT}/{path}", encoding="utf-8") as file:
+            return file.read()
+    except OSError as error:
+        raise PageError(f"{path} can't be read: {error.strerror}") from error
+
+
+def crates():
+    """The crates, in the order of crates.txt."""
+    rows = [line.split("#")[0].partition(":")[0].split() for line in read("crates.txt").splitlines()]
+    return [row[0] for row in rows if row]
+
+
+def root_of(crate):
+    """The path of a crate's root."""
+    paths = [f"crates/{crate}/src/{name}.rt" for name in ("lib", "main")]
+    return next(path for path in paths if os.path.exists(f"{ROOT}/{path}"))
+
+
+def rows_below(crate, heading):
+    """The cells of the table that a crate's root has below a line that begins so, without its head."""
+    lines = [line.removeprefix("//!").strip() for line in read(root_of(crate)).splitlines() if line.startswith("//!")]
+    found, within = [], False
+    for line in lines:
+        if line.startswith(heading):
+            within = True
+        elif within and line.startswith("|"):
+            found.append([cell.strip() for cell in line.strip("|").split(" | ")])
+        elif within and line and found:
+            break
+    return [[cell.strip(" |") for cell in row] for row in found[2:]]
+
+
+def table(heads, rows):
+    """A table of these heads and rows."""
+    lines = ["| " + " | ".join(cells) + " |" for cells in [heads, *rows]]
+    return "\n".join([lines[0], "|" + "---|" * len(heads), *lines[1:]])
+
+
+def proved():
+    rows = []
+    for crate in crates():
+        link = f"[`{crate}`]({root_of(crate)})"
+        for promise, contract in rows_below(crate, "What is proved"):
+            rows.append([link, promise, contract])
+            link = ""
+    rows.append(["all others", "safety alone", ""])
+    return table(["Crate", "Proved", "By the contract of"], rows)
+
+
+def definitions():
+    rows = []
+    for crate in crates():
+        for cells in rows_below(crate, "What to believe"):
+            path = f"crates/{crate}/specs/{cells[0].strip('`')}.antt"
+            subject, contract = cells[-2], cells[-1]
+            rows.append([f"[`{crate}`: `{cells[0].strip('`')}`]({path})", str(len(read(path).splitlines())), subject, contract])
+    return table(["Definitions", "Lines", "Of", "Contract"], rows)
+
+
+def shapes():
+    return table(["Shape", "Ends at"], rows_below("crossterm_parse", "A sequence has one of these shapes"))
+
+
+def test_rows(path):
+    """The rows `A -> B` of the tables of a test, without those that are errors or print nothing."""
+    tables = re.findall(r'^(?:pub )?const \w+: &str = "\\\n(.*?)";$', read(path), re.M | re.S)
+    lines = [line.replace("\\\\", "\\") for it in tables for line in it.split("\n")]
+    found = [line.partition(" -> ")[::2] for line in lines]
+    return [(given, told) for given, told in found if told.strip() and not given.startswith(" ") and not told.startswith("probe: ")]
+
+
+def code(text):
+    """A code span in a cell."""
+    mark = "``" if "`" in text else "`"
+    return f"{mark} {text} {mark}" if mark == "``" else f"`{text}`".replace("|", "\\|")
+
+
+def rows(path, *heads):
+    return table(heads, [[code(given), code(told)] for given, told in test_rows(path)])
+
+
+def file(path):
+    return f"```rust\n{read(path)}```"
+
+
+def clauses(path, function, *names):
+    """Clauses of a function, with what stands before the first of them left out."""
+    start = re.search(rf"^( *)(?:pub )?fn {function}\b", read(path), re.M)
+    if not start:
+        raise PageError(f"{path} has no function {function}")
+    head = read(path)[start.end() :].split(f"\n{start[1]}{{\n")[0]
+    found = re.findall(r"^ *(ensures (\w+) \{.*?\}) *$(?=\n *(?:ensures|//)|\Z)", head, re.M | re.S)
+    texts = {name: text for text, name in found}
+    lacking = [name for name in names if name not in texts]
+    if lacking:
+        raise PageError(f"{function} in {path} has no clause {', '.join(lacking)}")
+    joined = "\n".join(re.sub(r"\n +", "\n    ", texts[name]) for name in names)
+    return f"```text\n{joined}\n```"
+
+
+MAKERS = {"proved": proved, "definitions": definitions, "shapes": shapes, "rows": rows, "file": file, "clauses": clauses}
+
+
+def made(words):
+    """What stands in a part that is asked for by these words."""
+    kind, *arguments = words.split()
+    if kind not in MAKERS:
+        raise PageError(f"there is no part '{kind}'; there are {', '.join(MAKERS)}")
+    return MAKERS[kind](*arguments)
+
+
+def with_parts(text):
+    """A page with its parts made anew."""
+    return PART.sub(lambda part: f"<!-- made: {part[1]} -->\n{made(part[1])}\n<!-- end -->\n", text)
+
+
+def without_parts(text, kinds=TABLES):
+    """A page without the parts of these kinds."""
+    return PART.sub(lambda part: "" if part[1].split()[0] in kinds else part[0], text)
