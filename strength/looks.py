@@ -1,4 +1,4 @@
-"""How cells look: styles by the names of colours and attributes, as docs/DEFINITIONS.md has it ("How output looks"), and styles as tmux tells them.
+"""How cells look: styles by the names of colours and attributes, as docs/FORMATS.md has it ("How output looks"), and styles as tmux tells them.
 
 A style is a dictionary of what differs from the plain one. What tmux can't show is left out of a comparison by `seen`:
 
