@@ -1,26 +1,20 @@
 //! Key bindings: it reads lines as `ctrl-x ctrl-s = save`, and shows the action of the keys that are typed, or that a key isn't bound.
 //!
-//! `terminal/with_terminal crates/example_keys/out/example_keys FILE` starts it in a terminal, with the bindings of a file; without one it has
-//! some of its own. Keys that may become a bound list are shown while they wait, a second at most. Esc, Ctrl-C, Ctrl-D or the action `quit`
-//! ends it. Its last argument is the folder of the pipes that `with_terminal` makes.
+//! `terminal/start keys FILE` runs it with the bindings of a file; without one it has some of its own. Keys that may become a bound list
+//! are shown while they wait, a second at most. Esc, Ctrl-C, Ctrl-D or the action `quit` ends it.
 #![tactic(auto)]
 
 mod bindings;
 
 use crossterm::cursor::MoveToColumn;
-use crossterm::event::source::EventSource;
-use crossterm::event::timeout::{Clock, SystemClock};
-use crossterm::event::{
-    KeyCode, KeyEvent, KeyModifiers, KeyboardEnhancementFlags, PopKeyboardEnhancementFlags,
-    PushKeyboardEnhancementFlags,
-};
+use crossterm::event::{KeyCode, KeyEvent, KeyModifiers, KeyboardEnhancementFlags};
 use crossterm::style::ColorOutput;
-use crossterm::terminal::{Clear, ClearType, ModeDevice, supports_keyboard_enhancement};
-use crossterm::{QueueableCommand, execute, queue};
+use crossterm::terminal::{Clear, ClearType};
+use crossterm::{QueueableCommand, queue};
 use keymap::{Keymap, Matcher, Outcome, Spelled};
-use own_terminal::Session;
+use own_terminal::{Feature, Tty};
 use std::alloc::Global;
-use std::io::{self, BufWriter, ErrorKind, Write};
+use std::io::{self, ErrorKind, Write};
 use std::sync::Wait;
 use std::time::Duration;
 use std::{env, fs};
@@ -49,114 +43,79 @@ fn is_quit(key: &KeyEvent) -> bool {
     key.code == KeyCode::Esc || is_letter && key.modifiers == KeyModifiers::CONTROL
 }
 
-/// A terminal whose keys are cut by bindings.
-#[derive(Drop)]
-struct Keys<S: EventSource<Global>, D: ModeDevice, W, C> {
-    session: Session<S, D, W, C>,
-    matcher: Matcher,
+/// Shows an outcome on a line of its own, and returns whether it is the last one.
+fn show(tty: &mut Tty<'_>, matcher: &Matcher, outcome: Option<Outcome>) -> io::Result<bool> {
+    match outcome {
+        Some(Outcome::Action(number)) => {
+            let action = matcher.keymap().action(number).unwrap_or("");
+            write!(tty.out, "{action}\r\n")?;
+            Ok(action == "quit")
+        }
+        Some(Outcome::Key(key)) => {
+            write!(tty.out, "{} isn't bound\r\n", Spelled(key))?;
+            Ok(is_quit(&key))
+        }
+        Some(Outcome::Event(_)) | None => Ok(false),
+    }
 }
 
-impl<S: EventSource<Global>, D: ModeDevice, W: Write, C: Clock> Keys<S, D, W, C> {
-    /// Shows an outcome on a line of its own, and tells whether it is the last one.
-    fn show(&mut self, outcome: Option<Outcome>) -> io::Result<bool> {
-        let out = &mut self.session.out;
-        match outcome {
-            Some(Outcome::Action(number)) => {
-                let action = self.matcher.keymap().action(number).unwrap_or("");
-                write!(out, "{action}\r\n")?;
-                Ok(action == "quit")
-            }
-            Some(Outcome::Key(key)) => {
-                write!(out, "{} isn't bound\r\n", Spelled(key))?;
-                Ok(is_quit(&key))
-            }
-            Some(Outcome::Event(_)) | None => Ok(false),
-        }
+/// Shows the next outcome in place of the keys that waited, and then those that wait now. If none waits there is no hurry. Returns whether
+/// it was the last outcome.
+fn turn(rt: &impl Wait, tty: &mut Tty<'_>, matcher: &mut Matcher) -> io::Result<bool> {
+    let is_waiting = !matcher.undecided().is_empty();
+    let limit = is_waiting.then_some(Duration::from_secs(1));
+    let next = matcher.step(rt, &tty.reader, &mut tty.pass, limit, &mut tty.clock)?;
+    queue!(tty.out, COLORS, MoveToColumn(0))?;
+    queue!(tty.out, COLORS, Clear(ClearType::UntilNewLine))?;
+    let is_over = show(tty, matcher, next)?;
+    for key in matcher.undecided() {
+        write!(tty.out, "{} ", Spelled(*key))?;
     }
+    tty.out.flush()?;
+    Ok(is_over)
+}
 
-    /// Shows the next outcome in place of the keys that waited, and then those that wait now. Where none waits there is no hurry. Tells whether
-    /// it was the last outcome.
-    fn turn<R: Wait>(&mut self, rt: &R) -> io::Result<bool> {
-        let is_waiting = !self.matcher.undecided().is_empty();
-        let limit = is_waiting.then_some(Duration::from_secs(1));
-        let session = &mut self.session;
-        let (reader, pass, clock) = (&session.reader, &mut session.pass, &mut session.clock);
-        let next = self.matcher.step(rt, reader, pass, limit, clock)?;
-        queue!(session.out, COLORS, MoveToColumn(0))?;
-        queue!(session.out, COLORS, Clear(ClearType::UntilNewLine))?;
-        let is_over = self.show(next)?;
-        for key in self.matcher.undecided() {
-            write!(self.session.out, "{} ", Spelled(*key))?;
-        }
-        self.session.out.flush()?;
-        Ok(is_over)
-    }
-
-    /// Shows outcomes until the last one, or the end of input. There the keys that wait are flushed.
-    fn run<R: Wait>(&mut self, rt: &R, has_flags: bool) -> io::Result<()> {
-        if has_flags {
-            let flags = KeyboardEnhancementFlags::DISAMBIGUATE_ESCAPE_CODES
-                | KeyboardEnhancementFlags::REPORT_EVENT_TYPES;
-            let out = &mut self.session.out;
-            execute!(out, COLORS, PushKeyboardEnhancementFlags(flags))?;
-        }
-        for _ in 0..u64::MAX {
-            match self.turn(rt) {
-                Ok(true) => break,
-                Ok(false) => {}
-                Err(error) if error.kind() == ErrorKind::UnexpectedEof => {
-                    if self.matcher.undecided().is_empty() {
-                        break;
-                    }
-                    self.matcher.flush().map_err(|_| ErrorKind::OutOfMemory)?;
+/// Shows outcomes until the last one, or the end of input. There the keys that wait are flushed.
+fn run(rt: &impl Wait, tty: &mut Tty<'_>, matcher: &mut Matcher) -> io::Result<()> {
+    for _ in rt.forever() {
+        match turn(rt, tty, matcher) {
+            Ok(true) => break,
+            Ok(false) => {}
+            Err(error) if error.kind() == ErrorKind::UnexpectedEof => {
+                if matcher.undecided().is_empty() {
+                    break;
                 }
-                Err(error) => return Err(error),
+                matcher.flush().map_err(|_| ErrorKind::OutOfMemory)?;
             }
+            Err(error) => return Err(error),
         }
-        Ok(())
     }
+    Ok(())
+}
 
-    /// Does so in raw mode, where the terminal can it with releases reported. Whatever comes, all is then as it was.
-    fn all<R: Wait>(&mut self, rt: &R) -> io::Result<()> {
-        let session = &mut self.session;
-        session.term.enable_raw_mode()?;
-        let has_flags = supports_keyboard_enhancement(
-            rt,
-            &mut session.term,
-            &session.reader,
-            &mut session.pass,
-            &mut session.out,
-            &mut session.clock,
-        )
-        .unwrap_or(false);
-        let shown = self.run(rt, has_flags);
-        let out = &mut self.session.out;
-        let left = if has_flags {
-            execute!(out, COLORS, PopKeyboardEnhancementFlags)
-        } else {
-            Ok(())
-        };
-        self.session.term.disable_raw_mode()?;
-        shown?;
-        left
+/// Raw mode, and releases of keys if the terminal reports them.
+fn enter(rt: &impl Wait, tty: &mut Tty<'_>) -> io::Result<()> {
+    tty.enable_raw_mode()?;
+    if tty.supports_keyboard_enhancement(rt).unwrap_or(false) {
+        let flags = KeyboardEnhancementFlags::DISAMBIGUATE_ESCAPE_CODES
+            | KeyboardEnhancementFlags::REPORT_EVENT_TYPES;
+        tty.turn_on(Feature::Keyboard(flags))?;
     }
+    Ok(())
 }
 
 fn main(rt: HostRuntime) -> io::Result<()> {
     let alloc = rt.alloc();
+    let mut tty = own_terminal::start(&rt, rt.stdin(), rt.stdout())?;
     let mut words = env::args(&rt)?;
-    let Some(first) = words.nth(1) else {
-        eprintln!(rt; "usage: terminal/with_terminal crates/example_keys/out/example_keys [FILE]")?;
-        return Err(io::Error::from(ErrorKind::InvalidInput));
+    // The last word is the folder of the pipes.
+    let text = match (words.nth(1), words.next()) {
+        (Some(file), Some(_)) => fs::read_to_string(&rt, file.as_str())?,
+        _ => String::from_str(alloc, BINDINGS)?,
     };
-    let (text, folder) = match words.next() {
-        Some(folder) => (fs::read_to_string(&rt, first.as_str())?, folder),
-        None => (String::from_str(alloc, BINDINGS)?, first),
-    };
-    let mut out = BufWriter::new(alloc, io::writer(&rt))?;
-    let keymap = read_keymap(alloc, text.as_str(), &mut out)?;
-    let clock = SystemClock::new(&rt);
-    let session = Session::open(&rt, alloc, rt.stdin(), folder.as_str(), out, clock)?;
-    let matcher = Matcher::passing(alloc, keymap);
-    Keys { session, matcher }.all(&rt)
+    let keymap = read_keymap(alloc, text.as_str(), &mut tty.out)?;
+    let mut matcher = Matcher::passing(alloc, keymap);
+    enter(&rt, &mut tty)?;
+    run(&rt, &mut tty, &mut matcher)?;
+    tty.leave()
 }

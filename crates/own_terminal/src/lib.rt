@@ -1,25 +1,56 @@
-//! The terminal that `terminal/with_terminal` started a program in: what it tells, and its modes.
+//! A terminal program of one's own: its session with the terminal that `terminal/with_terminal` started it in.
 //!
-//! The library opens nothing by itself. These are the few lines by which the examples open the pipes of `with_terminal`, and by which any
-//! program may.
+//! ```
+//! fn show(rt: &impl Wait, tty: &mut Tty<'_>) -> io::Result<()> {
+//!     for _ in rt.forever() {
+//!         let event = tty.read(rt)?;
+//!         write!(tty.out, "{event:?}\r\n")?;
+//!         tty.out.flush()?;
+//!         if event == Event::Key(KeyCode::Esc.into()) {
+//!             break;
+//!         }
+//!     }
+//!     Ok(())
+//! }
+//!
+//! fn main(rt: HostRuntime) -> io::Result<()> {
+//!     let mut tty = own_terminal::start(&rt, rt.stdin(), rt.stdout())?;
+//!     tty.enable_raw_mode()?;
+//!     tty.turn_on(Feature::MouseCapture)?;
+//!     show(&rt, &mut tty)
+//! }
+//! ```
+//!
+//! The library opens nothing by itself, so the pipes of `with_terminal` are opened here. When a session is dropped, at the end of `main` or by
+//! a `?`, all that it switched on is off again, and the terminal's mode is the one from before.
 #![tactic(auto)]
 
+mod feature;
 mod session;
 
-use crossterm::event::source::{PolledDevice, RawFlag};
+use crossterm::event::source::{DeviceSource, PolledDevice, RawFlag};
+use crossterm::event::timeout::SystemClock;
 use crossterm::terminal::{SttyDevice, Terminal};
+pub use feature::Feature;
 pub use session::Session;
-use std::alloc::Global;
+use std::alloc::{Alloc, Global};
+use std::env;
 use std::format;
 use std::fs::{File, Files};
-use std::io::{self, Stdin};
+use std::io::{self, BufWriter, ErrorKind, Stdin, Stdout};
 use std::net::Net;
+use std::rt::{HostRuntime, Runtime};
+use std::sync::Wait;
 
-/// What the terminal tells: the bytes of standard input, and its sizes.
+/// What the terminal reports: the bytes of standard input, and the window's sizes.
 pub type Input = PolledDevice<Stdin>;
 
 /// The terminal's modes, which a helper beside the program switches.
 pub type Modes = Terminal<SttyDevice<File, File>>;
+
+/// The session of a program in a terminal, as `start` returns it. `R` is the type of `main`'s argument.
+pub type Tty<'a, R = HostRuntime> =
+    Session<DeviceSource<Input>, SttyDevice<File, File>, BufWriter<Stdout>, SystemClock<'a, R>>;
 
 /// Opens one of the pipes. It is opened for reading and writing, so that this doesn't wait for its other end.
 fn pipe<R: Files<File = File>>(
@@ -35,7 +66,7 @@ fn pipe<R: Files<File = File>>(
 /// The terminal that the program was started in. `folder` is the program's last argument, and holds the pipes.
 ///
 /// # Errors
-/// `OutOfMemory`; the system's error where a pipe can't be opened or watched; that of `SttyDevice::new` where the helper doesn't answer.
+/// `OutOfMemory`; the system's error if a pipe can't be opened or watched; that of `SttyDevice::new` if the helper doesn't answer.
 pub fn open<R: Files<File = File> + Net>(
     rt: &R,
     alloc: Global,
@@ -50,4 +81,21 @@ pub fn open<R: Files<File = File> + Net>(
         pipe(rt, alloc, folder, "ask")?,
     )?;
     Ok((input, Terminal::new(device, raw)))
+}
+
+/// The session with the terminal that `terminal/with_terminal` started the program in. Its output is buffered.
+///
+/// # Errors
+/// `InvalidInput` if the program has no argument, since `with_terminal` didn't start it, and standard error says so; else those of `open`.
+pub fn start<'a, R>(rt: &'a R, input: Stdin, out: Stdout) -> io::Result<Tty<'a, R>>
+where
+    R: Runtime + Alloc<A = Global> + Files<File = File> + Net + Wait,
+{
+    let alloc = rt.alloc();
+    let Some(folder) = env::args(rt)?.skip(1).last() else {
+        eprintln!(rt; "this program needs a terminal: start it by terminal/with_terminal")?;
+        return Err(io::Error::from(ErrorKind::InvalidInput));
+    };
+    let out = BufWriter::new(alloc, out)?;
+    Session::open(rt, alloc, input, folder.as_str(), out, SystemClock::new(rt))
 }

@@ -2,13 +2,13 @@
 
 ghost use Rattle.crossterm_read.specs.Shared.{IsPassOf};
 
-use crate::{Input, open};
+use crate::{Feature, Input, open};
 use crossterm::cursor;
 use crossterm::event::read::InternalEventReader;
 use crossterm::event::source::{DeviceSource, EventSource};
 use crossterm::event::timeout::Clock;
 use crossterm::event::{Event, EventReader, Pass};
-use crossterm::terminal::{ModeDevice, SttyDevice, Terminal};
+use crossterm::terminal::{ModeDevice, SttyDevice, Terminal, supports_keyboard_enhancement};
 use std::alloc::Global;
 use std::fs::{File, Files};
 use std::io::{self, ErrorKind, Stdin, Write};
@@ -17,8 +17,9 @@ use std::sync::Wait;
 use std::time::Duration;
 
 /// A terminal, its events, where is written, and the clock that limits are measured by.
-#[derive(Drop)]
-pub struct Session<S: EventSource<Global>, D: ModeDevice, W, C> {
+///
+/// When it is dropped, what was turned on is turned off, the last one first, and raw mode ends.
+pub struct Session<S: EventSource<Global>, D: ModeDevice, W: Write + Drop, C: Clock + Drop> {
     /// The allocator of texts.
     pub alloc: Global,
     /// The terminal's modes.
@@ -27,14 +28,31 @@ pub struct Session<S: EventSource<Global>, D: ModeDevice, W, C> {
     pub reader: EventReader<S>,
     /// The pass that they are read by.
     pub pass: Pass<S>,
-    /// Where is written.
+    /// Where is written. What is written arrives when it is flushed, as `execute!` does.
     pub out: W,
     /// The clock.
     pub clock: C,
+    // What is turned on.
+    features: Vec<Feature>,
     pub ghost own: { IsPassOf reader pass },
 }
 
-impl<W: Drop, C: Drop> Session<DeviceSource<Input>, SttyDevice<File, File>, W, C> {
+impl<S: EventSource<Global>, D: ModeDevice, W: Write + Drop, C: Clock + Drop> Drop for Session<S, D, W, C> {
+    fn drop(mut self) {
+        let _ = self.leave();
+        let Session {
+            alloc: _,
+            term: _,
+            reader: _,
+            pass: _,
+            out: _,
+            clock: _,
+            features: _,
+        } = self;
+    }
+}
+
+impl<W: Write + Drop, C: Clock + Drop> Session<DeviceSource<Input>, SttyDevice<File, File>, W, C> {
     /// Opens the terminal that the program was started in, as `open` does. What is written goes to `out`.
     ///
     /// # Errors
@@ -58,17 +76,34 @@ impl<W: Drop, C: Drop> Session<DeviceSource<Input>, SttyDevice<File, File>, W, C
                 pass,
                 out,
                 clock,
+                features: Vec::new(alloc),
             }),
             None => Err(io::Error::from(ErrorKind::NotFound)),
         }
     }
 }
 
-impl<S: EventSource<Global>, D: ModeDevice, W: Write, C: Clock> Session<S, D, W, C> {
-    /// The cursor's place, as column and row.
+impl<S: EventSource<Global>, D: ModeDevice, W: Write + Drop, C: Clock + Drop> Session<S, D, W, C> {
+    /// The next event. This waits for it as long as it takes.
     ///
     /// # Errors
-    /// Those of `cursor::position`.
+    /// `UnexpectedEof` at the end of input; the device's fault; `OutOfMemory`. No event is lost by any of them.
+    pub fn read<R: Wait>(&mut self, rt: &R) -> io::Result<Event> {
+        self.reader.read(rt, &mut self.pass)
+    }
+
+    /// Whether an event comes within this limit. The next `read` returns it at once.
+    ///
+    /// # Errors
+    /// Those of `read`.
+    pub fn poll<R: Wait>(&mut self, rt: &R, limit: Duration) -> io::Result<bool> {
+        self.reader.poll(rt, &mut self.pass, limit, &mut self.clock)
+    }
+
+    /// The cursor's place, as column and row, both counted from 0. This asks the terminal, and waits two seconds at most.
+    ///
+    /// # Errors
+    /// `Other` if no answer came in time; else those of `read` and of the writer.
     pub fn position<R: Wait>(&mut self, rt: &R) -> io::Result<(u16, u16)> {
         cursor::position(
             rt,
@@ -80,19 +115,65 @@ impl<S: EventSource<Global>, D: ModeDevice, W: Write, C: Clock> Session<S, D, W,
         )
     }
 
-    /// Whether an event comes within this limit.
+    /// Whether the terminal has the kitty keyboard protocol, which `Feature::Keyboard` needs. This asks it, and waits four seconds at most.
     ///
     /// # Errors
-    /// Those of `EventReader::poll`.
-    pub fn poll<R: Wait>(&mut self, rt: &R, limit: Duration) -> io::Result<bool> {
-        self.reader.poll(rt, &mut self.pass, limit, &mut self.clock)
+    /// `Other` if no answer came in time; else those of `read` and of the writer.
+    pub fn supports_keyboard_enhancement<R: Wait>(&mut self, rt: &R) -> io::Result<bool> {
+        supports_keyboard_enhancement(
+            rt,
+            &mut self.term,
+            &self.reader,
+            &mut self.pass,
+            &mut self.out,
+            &mut self.clock,
+        )
     }
 
-    /// The next event.
+    /// How many columns and rows the window has. An `Event::Resize` reports each change.
     ///
     /// # Errors
-    /// Those of `EventReader::read`.
-    pub fn read<R: Wait>(&mut self, rt: &R) -> io::Result<Event> {
-        self.reader.read(rt, &mut self.pass)
+    /// The helper's: `Other` if it doesn't know the size.
+    pub fn size(&mut self) -> io::Result<(u16, u16)> {
+        let size = self.term.window_size()?;
+        Ok((size.columns, size.rows))
+    }
+
+    /// Switches raw mode on: keys come one by one, and aren't shown. It ends with the session.
+    ///
+    /// # Errors
+    /// The helper's. Raw mode is off then.
+    pub fn enable_raw_mode(&mut self) -> io::Result<()> {
+        self.term.enable_raw_mode()
+    }
+
+    /// Sets the mode from before raw mode.
+    ///
+    /// # Errors
+    /// The helper's.
+    pub fn disable_raw_mode(&mut self) -> io::Result<()> {
+        self.term.disable_raw_mode()
+    }
+
+    /// Turns something on in the terminal until the session ends.
+    ///
+    /// # Errors
+    /// `OutOfMemory`, and nothing was written; the writer's.
+    pub fn turn_on(&mut self, feature: Feature) -> io::Result<()> {
+        self.features.push(feature)?;
+        feature.enter(&mut self.out)
+    }
+
+    /// Turns all off that is turned on, the last one first, and ends raw mode, as the session's end does.
+    ///
+    /// # Errors
+    /// The first of the writer's and the helper's. All is tried, whichever fails.
+    pub fn leave(&mut self) -> io::Result<()> {
+        let mut left = Ok(());
+        for feature in self.features.iter().rev() {
+            left = left.and(feature.leave(&mut self.out));
+        }
+        self.features.clear();
+        left.and(self.out.flush()).and(self.term.disable_raw_mode())
     }
 }
