@@ -29,7 +29,7 @@
 //! | Proved | By the contract of |
 //! |---|---|
 //! | a frame shows the buffer (the fourth theorem): it leads from each grid that shows the last one to a grid that shows this one, with the cursor where it was asked to be, and prints one character for each cell that differs and no other; an error says what was written, and then nothing is known of the cells | `Screen::draw` |
-//! | a character that doesn't take one column is refused by name, and a refusal changes nothing | `Buffer::{new, resize, fill, set}` |
+//! | a character that doesn't take one column is refused by name, and a refusal changes nothing; a text is printed into a row up to the last column, and the columns that it took are returned | `Buffer::{new, resize, fill, set, print}` |
 //!
 //! What to believe, in the order in which it reads (`specs/`), and where it is proved:
 //!
