@@ -220,7 +220,7 @@ pub opens_on : (old mid new : State) (bs : List ℕ) (i n : ℕ) → Opens old m
 opens_on old mid new bs i n opens more =
     let left : length (drop i bs) ≤ length bs - i = omega (arith, length-drop i bs) in
     subst (Opens old new) (take_join i n bs) (opens_join (take i bs) (take n (drop i bs)) old mid new opens
-        (subst (λ (cs : List ℕ). Opens mid new (take n cs)) (take_all (length bs - i) (drop i bs) left) more))
+    (subst (λ (cs : List ℕ). Opens mid new (take n cs)) (take_all (length bs - i) (drop i bs) left) more))
 
 -- a digit that changes no number
 idle_after : (p : Parameters) (b : ℕ) → b < 58 → p.validity ≡ Sound → fields_after p.fields b ≡ p.fields

@@ -34,13 +34,12 @@ use crossterm::terminal::{SttyDevice, Terminal};
 pub use feature::Feature;
 pub use session::Session;
 use std::alloc::{Alloc, Global};
-use std::env;
-use std::format;
 use std::fs::{File, Files};
 use std::io::{self, BufWriter, ErrorKind, Stdin, Stdout};
 use std::net::Net;
 use std::rt::{HostRuntime, Runtime};
 use std::sync::Wait;
+use std::{env, format};
 
 /// What the terminal reports: the bytes of standard input, and the window's sizes.
 pub type Input = PolledDevice<Stdin>;
@@ -49,8 +48,12 @@ pub type Input = PolledDevice<Stdin>;
 pub type Modes = Terminal<SttyDevice<File, File>>;
 
 /// The session of a program in a terminal, as `start` returns it. `R` is the type of `main`'s argument.
-pub type Tty<'a, R = HostRuntime> =
-    Session<DeviceSource<Input>, SttyDevice<File, File>, BufWriter<Stdout>, SystemClock<'a, R>>;
+pub type Tty<'a, R = HostRuntime> = Session<
+    DeviceSource<Input>,
+    SttyDevice<File, File>,
+    BufWriter<Stdout>,
+    SystemClock<'a, R>,
+>;
 
 /// Opens one of the pipes. It is opened for reading and writing, so that this doesn't wait for its other end.
 fn pipe<R: Files<File = File>>(

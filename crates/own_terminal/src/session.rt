@@ -37,7 +37,8 @@ pub struct Session<S: EventSource<Global>, D: ModeDevice, W: Write + Drop, C: Cl
     pub ghost own: { IsPassOf reader pass },
 }
 
-impl<S: EventSource<Global>, D: ModeDevice, W: Write + Drop, C: Clock + Drop> Drop for Session<S, D, W, C> {
+impl<S: EventSource<Global>, D: ModeDevice, W: Write + Drop, C: Clock + Drop> Drop
+    for Session<S, D, W, C> {
     fn drop(mut self) {
         let _ = self.leave();
         let Session {

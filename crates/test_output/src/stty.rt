@@ -9,11 +9,7 @@ use std::io::{self, ErrorKind, Write};
 use test_expect::expect;
 
 /// Raw mode on and off again, and the size, by these answers.
-fn use_all<W: Write + Drop>(
-    alloc: Global,
-    answers: &[u8],
-    requests: W,
-) -> io::Result<(u16, u16)> {
+fn use_all<W: Write + Drop>(alloc: Global, answers: &[u8], requests: W) -> io::Result<(u16, u16)> {
     let mut term = Terminal::new(SttyDevice::new(answers, requests)?, RawFlag::new(alloc)?);
     term.enable_raw_mode()?;
     term.disable_raw_mode()?;
@@ -23,6 +19,7 @@ fn use_all<W: Write + Drop>(
 
 /// What a helper answers, and what it is asked.
 const ANSWERS: &[u8] = b"500:5:bf\n0:4:b0\n500:5:bf\n24\n80\n";
+
 const REQUESTS: &[u8] = b"mode\nraw\nset 500:5:bf\nsize\n";
 
 #[test]
@@ -45,7 +42,11 @@ fn stops(alloc: Global, room: usize, fault: ErrorKind) -> bool {
 
 #[test]
 fn a_helper_that_is_gone_is_told(rt: HostRuntime) {
-    for fault in [ErrorKind::BrokenPipe, ErrorKind::WriteZero, ErrorKind::Other] {
+    for fault in [
+        ErrorKind::BrokenPipe,
+        ErrorKind::WriteZero,
+        ErrorKind::Other,
+    ] {
         for room in 0..REQUESTS.len() + 2 {
             expect!(rt; stops(rt.alloc(), room, fault));
         }

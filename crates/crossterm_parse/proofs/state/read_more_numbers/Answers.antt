@@ -16,4 +16,4 @@ returns-in-Not-clause-opens c =
     let bytes = take (idle.result + few.result) c.args.bytes.now in
     subst (λ (o : Opening). Opens (Numbered c.args.parameters.now o) new bytes) (sym c.in-Not.is)
     (opens_on (Numbered c.args.parameters.now opening.Not) (Numbered idle.new.self opening.Not) new c.args.bytes.now idle.result few.result idle.ensures.numbered
-        (subst (λ (o : Opening). Opens (Numbered idle.new.self o) new rest) c.in-Not.is few.ensures.opens))
+    (subst (λ (o : Opening). Opens (Numbered idle.new.self o) new rest) c.in-Not.is few.ensures.opens))

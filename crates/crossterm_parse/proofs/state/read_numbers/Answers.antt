@@ -9,4 +9,4 @@ returns-clause-opens c =
     let old = Numbered c.args.parameters.now c.args.opening.now in
     let mid = Numbered few.new.parameters few.new.opening in
     opens_on old mid (Numbered more.new.parameters more.new.opening) c.args.bytes.now few.result more.result
-        (opens_front old mid c.args.bytes.now c.min.result few.result few.ensures.within few.ensures.opens) more.ensures.opens
+    (opens_front old mid c.args.bytes.now c.min.result few.result few.ensures.within few.ensures.opens) more.ensures.opens

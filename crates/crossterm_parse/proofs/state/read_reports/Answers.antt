@@ -9,4 +9,4 @@ returns-clause-opens c =
     let old = Sgr c.args.parameters.now in
     let mid = Sgr few.new.parameters in
     opens_on old mid (Sgr more.new.parameters) c.args.bytes.now few.result more.result
-        (opens_front old mid c.args.bytes.now c.min.result few.result few.ensures.within few.ensures.opens) more.ensures.opens
+    (opens_front old mid c.args.bytes.now c.min.result few.result few.ensures.within few.ensures.opens) more.ensures.opens
