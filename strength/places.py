@@ -61,7 +61,7 @@ def function_at(text, pair):
 
 
 def without_parameters(head):
-    """A head without what stands between angle brackets, and the names that it declares in the first ones."""
+    """A head without its bounds and what stands between angle brackets, and the names that it declares in the first ones."""
     depth, kept, declared = 0, "", ""
     for at, letter in enumerate(head):
         depth += letter == "<"
@@ -70,13 +70,13 @@ def without_parameters(head):
         elif not re.search(r"\w", kept.removeprefix("impl")):
             declared += letter
         depth -= letter == ">" and head[at - 1] != "-"
+    kept = re.sub(r"\b(?:where|requires|ensures)\b.*", "", kept)
     return kept, set(re.findall(r"[<,] *(?:const )?(\w+)", declared))
 
 
 def owner_fits(segment, head):
     """Whether a method's owner may have this name: the type's, or the type's and the trait's."""
     plain, declared = without_parameters(head)
-    plain = re.sub(r"\bwhere\b.*|\b(?:requires|ensures)\b.*", "", plain)
     named = re.match(r"(?:pub(?:\([^)]*\))? )?(?:unsafe )?trait (\w+)", plain)
     if named:
         return segment == named[1]
@@ -91,10 +91,16 @@ def owner_fits(segment, head):
     return segment.lower().startswith(word.lower()) and trait in segment
 
 
+def module_of(path):
+    """The module of a file of sources, or nothing for the crate's root."""
+    module = re.sub(r"^src/|(/mod)?\.rt$", "", path).replace("/", "::")
+    return "" if module in ("lib", "main") else module
+
+
 def names_of(names, path, function):
     """Those of the prover's names that may be this function's: in its file's module, else (a type may stand elsewhere) anywhere."""
-    module = re.sub(r"^src/|(/mod)?\.rt$", "", path).replace("/", "::")
-    module = "" if module in ("lib", "main") else f"{module}::"
+    module = module_of(path)
+    module += "::" if module else ""
     if not function.owner:
         return [it for it in names if it == module + function.name]
     fitting = []
@@ -103,3 +109,21 @@ def names_of(names, path, function):
         if len(parts) > 1 and parts[-1] == function.name and owner_fits(parts[-2], function.owner):
             fitting.append(name)
     return [it for it in fitting if it.startswith(module)] or fitting
+
+
+def owner_name(head):
+    """The name that the prover gives an owner in an archive: the type's, with the trait's behind it."""
+    plain, _ = without_parameters(head)
+    trait, _, of = plain.removeprefix("impl").strip().rpartition(" for ")
+    return "".join(re.findall(r"\w+", it)[-1] for it in (of, trait) if it)
+
+
+def names_in(texts):
+    """The names of the functions of these texts, by the files and owners that they stand in."""
+    found = []
+    for path, text in texts.items():
+        if path.startswith("src/"):
+            for it in functions_of(text):
+                parts = [module_of(path), owner_name(it.owner) if it.owner else "", it.name]
+                found.append("::".join(part for part in parts if part))
+    return found

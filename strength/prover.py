@@ -3,12 +3,15 @@ import collections
 import functools
 import importlib.machinery
 import importlib.util
+import json
 import os
 import re
 import shutil
 import subprocess
 import sys
 import tempfile
+
+import places
 
 OPEN = re.compile(r"^note: (?:\./)?(src/\S+?:\d+):\d+: (it is not proved that .*)")
 IN_PROOF = re.compile(r"^(?:\./)?proofs/(\S+)/(?:Answers|Invariants|Proof)\.antt:\d+:\d+: error: (.*)")
@@ -85,7 +88,15 @@ def faults(answer, crate):
     return found
 
 
-def names_in(log, crate):
-    """The names of a crate's functions, as a gate's lines tell them."""
-    lines = re.findall(rf"^[\d. ]*fn {crate}::(\S+): ", log, re.M)
-    return list(dict.fromkeys(lines))
+def names_of(crate):
+    """The names of a crate's functions below it, as the code of its built library has them. An archive leaves no library: its sources name
+    them."""
+    if crate.is_static:
+        return places.names_in(texts_of(crate.folder))
+    try:
+        with open(f"{crate.rlib}/toolchain/mir.json", encoding="utf-8") as it:
+            found = [name for name, *_ in json.load(it)]
+    except FileNotFoundError:
+        raise SystemExit(f"{crate.name} isn't built: `rt ci` builds it") from None
+    # A trait's function without a body isn't proved.
+    return [it.removeprefix(f"{crate.name}::") for it in found if not it.endswith("+decl")]
