@@ -38,4 +38,4 @@ pub use command::Command;
 pub use fault::CommandFault;
 pub use queueable::{ExecutableCommand, QueueableCommand, execute_command, queue_command};
 pub use shown::execute_fmt;
-pub use writing::{send_command, write_command, write_text};
+pub use writing::{send_command, write_bytes, write_command, write_text};

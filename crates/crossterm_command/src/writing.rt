@@ -15,7 +15,15 @@ pub fn write_text<W: io::Write>(writer: &mut W, text: &str) -> io::Result<()>
     ensures ok { OnOk result (Appends (W.contents writer.old) (W.contents writer.new) text.now) }
     ensures err { OnErr result (AppendsFront (W.contents writer.old) (W.contents writer.new) text.now) }
 {
-    let mut rest = text.as_bytes();
+    write_bytes(writer, text.as_bytes())
+}
+
+/// Writes all of some bytes, as `write_text` does a text.
+pub fn write_bytes<W: io::Write>(writer: &mut W, bytes: &[u8]) -> io::Result<()>
+    ensures ok { OnOk result (Appends (W.contents writer.old) (W.contents writer.new) bytes.now) }
+    ensures err { OnErr result (AppendsFront (W.contents writer.old) (W.contents writer.new) bytes.now) }
+{
+    let mut rest = bytes;
     let mut tries = Tries::new();
     while !rest.is_empty() {
         match writer.write(rest) {

@@ -1,10 +1,12 @@
-//! Bodies of one's own over commands and events, with contracts that prove with no proof file.
+//! Bodies of one's own over commands and events, with contracts that prove with no proof file. The module `passes` is what a program learns
+//! of two passes of one reader.
 //!
 //! What is proved, beyond safety:
 //!
 //! | Proved | By the contract of |
 //! |---|---|
 //! | what bodies with `queue!` and `execute!` write, on Ok and if the writer fails; a loop over a parser's events leaves none | `begin`, `put`, `say`, `count` |
+//! | of two threads that read, no event went to both, and with no further pass none was lost between them | `passes::{two_threads, two_reads}` |
 #![tactic(auto)]
 
 ghost use Rattle.std.specs.Prelude.{◌≡◌, ◌++◌, ◌≢◌, IfErr, OnOk, [], codes};
@@ -16,6 +18,8 @@ ghost use Rattle.crossterm_command.specs.Writing.{AppendsFront};
 ghost use Rattle.crossterm_style.specs.Styles.{color_functions};
 ghost use Rattle.crossterm_style.specs.declared.types.colored.Colored.TheVariants.{ForegroundColor};
 ghost use Rattle.crossterm.specs.Sequences.{move_to};
+
+pub mod passes;
 
 use crossterm::cursor::MoveTo;
 use crossterm::event::sys::unix::parse::Parser;

@@ -3,10 +3,19 @@
 //! `probe play` reads lines from standard input. Acts of the device: `piece HEX`, `raw HEX`, `resize COLUMNS ROWS`, `wake`, `idle`, `fault`.
 //! Calls of the reader: `poll FILTER TRIES`, `read FILTER TRIES`, `take FILTER`, `position TRIES`, `keyboard TRIES`. `probe say` reads commands by their names and arguments,
 //! and `colors on|off`, and writes the commands' bytes. `probe serve` sends its input through a socket of its own, and prints the events
-//! there. `probe keys` reads bindings (`bind NAME CHORD,..`) and acts, and prints what their keys are cut into. Its code stands on `crossterm` and
-//! `keymap`, by their public calls.
+//! there. `probe keys` reads bindings (`bind NAME CHORD,..`) and acts, and prints what their keys are cut into.
+//!
+//! `probe bench` reads standard input to its end, hands it to the parser in pieces of 1024 bytes, and prints the bytes and the events by kind.
+//! `probe bench frame` writes the commands of one frame into memory, and prints how many bytes and commands they are. With `--time` each does
+//! so again and again for about a second, and prints the least time. `probe bench make NAME BYTES` writes an input of a kind:
+//! `letters`, `utf8`, `keys`, `mouse`, `paste` or `hostile`. `probe bench held REPLIES` prints the least time in which a key comes and is
+//! taken while so many replies are held. `probe bench keys BINDINGS` prints the least time that a key takes which is fed to a matcher of so
+//! many bound lists.
+//!
+//! Its code stands on `crossterm` and `keymap`, by their public calls.
 #![tactic(auto)]
 
+use probe_modes::bench::mode::Mode;
 use probe_modes::fault::Fault;
 use probe_modes::keys::run_keys;
 use probe_modes::play::run_play;
@@ -16,30 +25,58 @@ use std::io::ErrorKind;
 use std::process::ExitCode;
 use std::{env, io};
 
-/// The mode word, where it is the only word of the command line.
-fn mode(rt: &HostRuntime) -> Result<String, Fault> {
+/// The words of the command line after the program's name.
+fn words(rt: &HostRuntime) -> Result<Vec<String>, Fault> {
     let mut words = match env::args(rt) {
         Ok(words) => words,
         Err(error) if error.kind() == ErrorKind::OutOfMemory => return Err(Fault::OutOfMemory),
         Err(_) => return Err(Fault::Usage),
     };
     let _program = words.next();
-    match (words.next(), words.next()) {
-        (Some(word), None) => Ok(word),
+    Ok(words.collect(rt.alloc())?)
+}
+
+/// What the command line asks for.
+enum Asked {
+    Play,
+    Say,
+    Serve,
+    Keys,
+    Bench(Mode),
+}
+
+/// The mode of a word that stands alone.
+fn of_word(word: &str) -> Result<Asked, Fault> {
+    match word {
+        "play" => Ok(Asked::Play),
+        "say" => Ok(Asked::Say),
+        "serve" => Ok(Asked::Serve),
+        "keys" => Ok(Asked::Keys),
         _ => Err(Fault::Usage),
     }
 }
 
+/// What some words ask for: those of the command line after the program's name.
+fn asked(words: &[String]) -> Result<Asked, Fault> {
+    match words.split_first() {
+        Some((first, rest)) if first.as_str() == "bench" => Ok(Asked::Bench(Mode::read(rest)?)),
+        Some((word, [])) => of_word(word.as_str()),
+        _ => Err(Fault::Usage),
+    }
+}
+
+fn read_words(rt: &HostRuntime) -> Result<Asked, Fault> {
+    asked(words(rt)?.as_slice())
+}
+
 fn main(rt: HostRuntime) -> ExitCode {
     let (alloc, mut reader, mut writer) = (rt.alloc(), rt.reader(), io::writer(&rt));
-    let done = match mode(&rt) {
-        Ok(word) => match word.as_str() {
-            "play" => run_play(alloc, &mut reader, &mut writer),
-            "say" => run_say(alloc, &mut reader, &mut writer),
-            "serve" => run_serve(&rt, alloc, &mut reader, &mut writer),
-            "keys" => run_keys(&rt, alloc, &mut reader, &mut writer),
-            _ => Err(Fault::Usage),
-        },
+    let done = match read_words(&rt) {
+        Ok(Asked::Play) => run_play(alloc, &mut reader, &mut writer),
+        Ok(Asked::Say) => run_say(alloc, &mut reader, &mut writer),
+        Ok(Asked::Serve) => run_serve(&rt, alloc, &mut reader, &mut writer),
+        Ok(Asked::Keys) => run_keys(&rt, alloc, &mut reader, &mut writer),
+        Ok(Asked::Bench(mode)) => mode.run(&rt, alloc, &mut reader, &mut writer),
         Err(fault) => Err(fault),
     };
     match done {

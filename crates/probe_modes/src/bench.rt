@@ -1,8 +1,19 @@
-//! Bodies with the macros of `crossterm`, and what they write.
+//! `probe bench`: counts what the parser makes of some bytes, writes a frame of commands, and times both, keys that come while replies
+//! are held, and keys that are fed to a matcher of bindings. `mode::Mode` is what the words after `bench` ask for.
+//!
+//! Beside it are two bodies with the macros of `crossterm`, of which it is proved what they write.
 ghost use Rattle.std.specs.Prelude.{◌≢◌, OnOk, IfErr, codes};
 ghost use Rattle.std.specs.IoError.{error_kind};
 ghost use Rattle.std.specs.Io.KnownBytes.{Appends};
 ghost use Rattle.crossterm_command.specs.Writing.{AppendsFront};
+
+pub mod frame;
+mod held;
+mod input;
+mod keys;
+pub mod mode;
+pub mod timing;
+mod workload;
 
 use crossterm::cursor::{MoveTo, Show};
 use crossterm::style::{ColorOutput, Print};

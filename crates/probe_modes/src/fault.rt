@@ -10,6 +10,9 @@ pub enum Fault {
     /// The command line isn't one mode word.
     #[error("probe: usage: probe play|say|serve|keys")]
     Usage,
+    /// The words after `bench` are none of that mode's.
+    #[error("probe: usage: probe bench [frame] [--time] | probe bench held REPLIES | probe bench keys BINDINGS | probe bench make letters|utf8|keys|mouse|paste|hostile BYTES")]
+    BenchUsage,
     /// A line's first word is none of the mode's.
     #[error("probe: line {0}: unknown word")]
     UnknownWord(usize),
@@ -29,6 +32,8 @@ pub enum Fault {
     WriteFailed,
     #[error("probe: socket failed")]
     SocketFailed,
+    #[error("probe: no clock")]
+    NoClock,
 }
 
 impl From<AllocError> for Fault {

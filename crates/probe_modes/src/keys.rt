@@ -140,8 +140,42 @@ fn print_rest<A: Allocator, W: Write>(
 /// The reader of a script.
 type Shared<A> = EventReader<DeviceSource<Script<A>, A>, A>;
 
-/// Steps until a fault, and prints each outcome. The fault's kind stands on the last line.
+/// Prints what a step gave, and after a fault the rest. Returns whether there was one.
+fn print_step<A: Allocator, W: Write>(
+    writer: &mut W,
+    matcher: &mut Matcher<A>,
+    given: io::Result<Option<Outcome<A>>>,
+) -> io::Result<bool> {
+    match given {
+        Ok(Some(outcome)) => {
+            print_outcome(writer, matcher.keymap(), outcome)?;
+            Ok(false)
+        }
+        Ok(None) => Ok(false),
+        Err(fault) => {
+            print_rest(writer, matcher, fault.kind())?;
+            Ok(true)
+        }
+    }
+}
+
+/// Steps once, and prints what it gave. Returns whether that was a fault.
 fn step<A: Allocator + Clone, H: Wait, W: Write>(
+    rt: &H,
+    shared: &Shared<A>,
+    pass: &mut Pass<DeviceSource<Script<A>, A>, A>,
+    matcher: &mut Matcher<A>,
+    writer: &mut W,
+) -> io::Result<bool>
+    requires { IsPassOf shared.now pass.old }
+    ensures { IsPassOf shared.now pass.new }
+{
+    let given = matcher.step(rt, shared, pass, Some(Duration::ZERO), &mut Still);
+    print_step(writer, matcher, given)
+}
+
+/// Steps until a fault, and prints each outcome. The fault's kind is on the last line.
+fn run<A: Allocator + Clone, H: Wait, W: Write>(
     rt: &H,
     shared: &Shared<A>,
     mut pass: Pass<DeviceSource<Script<A>, A>, A>,
@@ -151,13 +185,8 @@ fn step<A: Allocator + Clone, H: Wait, W: Write>(
     requires { IsPassOf shared.now pass }
 {
     for _ in rt.forever() {
-        match matcher.step(rt, shared, &mut pass, Some(Duration::ZERO), &mut Still) {
-            Ok(Some(outcome)) => print_outcome(writer, matcher.keymap(), outcome)?,
-            Ok(None) => {}
-            Err(fault) => {
-                print_rest(writer, &mut matcher, fault.kind())?;
-                break;
-            }
+        if step(rt, shared, &mut pass, &mut matcher, writer)? {
+            break;
         }
     }
     writer.flush()
@@ -181,7 +210,7 @@ fn run_statements<A: Allocator + Clone, H: Wait, W: Write>(
         },
         Err(_) => return Err(Fault::OutOfMemory),
     };
-    match step(rt, &shared, pass, matcher, writer) {
+    match run(rt, &shared, pass, matcher, writer) {
         Ok(()) => Ok(()),
         Err(error) => Err(Fault::of_write(&error)),
     }

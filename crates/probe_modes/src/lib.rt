@@ -1,8 +1,8 @@
-//! The modes of the program `probe`, each a function over a reader and a writer: `play::run_play`, `say::run_say`, `serve::run_serve` and
-//! `keys::run_keys`.
+//! The modes of the program `probe`, each a function over a reader and a writer: `play::run_play`, `say::run_say`, `serve::run_serve`,
+//! `keys::run_keys` and `bench::mode::Mode::run`.
 //!
-//! They stand on `crossterm` by its public calls, `serve` on the sockets of `mio`, and `keys` on `keymap`. In `bench` stand two bodies with the
-//! macros `queue!` and `execute!`, of which is proved what they write.
+//! They stand on `crossterm` by its public calls, `serve` on the sockets of `mio`, `keys` and `bench` on `keymap`. In `bench` are two
+//! bodies with the macros `queue!` and `execute!`, of which it is proved what they write.
 //!
 //! What is proved, beyond safety:
 //!

@@ -118,17 +118,25 @@ fn drain_by_two<R: Wait + Threads + Sync>(
     Ok(arrived)
 }
 
+/// A reader of these bytes by a socket.
+fn reader<N: Net>(
+    rt: &N,
+    alloc: Global,
+    bytes: &[u8],
+) -> Result<InternalEventReader<Source>, Fault> {
+    match device(rt, alloc, bytes) {
+        Ok(device) => Ok(InternalEventReader::new(alloc, DeviceSource::new(alloc, device))),
+        Err(error) => Err(Fault::of_socket(&error)),
+    }
+}
+
 /// The events of these bytes, by a socket, in the order of their arrival.
 fn serve<H: Net + Threads + Wait + Sync>(
     rt: &H,
     alloc: Global,
     bytes: &[u8],
 ) -> Result<Vec<Arrived>, Fault> {
-    let device = match device(rt, alloc, bytes) {
-        Ok(device) => device,
-        Err(error) => return Err(Fault::of_socket(&error)),
-    };
-    let reader = InternalEventReader::new(alloc, DeviceSource::new(alloc, device));
+    let reader = reader(rt, alloc, bytes)?;
     match EventReader::new(rt, alloc, reader, 2) {
         Ok((shared, mut passes)) => match (passes.pop(), passes.pop()) {
             (Some(one), Some(other)) => drain_by_two(rt, alloc, &shared, one, other),

@@ -1,8 +1,5 @@
-//! Tests of the parser, the source and the reader by their public calls: each call once, and tables that come from outside.
+//! Tests of the devices, the parser, the source and the reader by their public calls: each call once, and tables that come from outside.
 //! Beside them stands the slow program of the grammar's definitions (`plain`), which the parser is compared with.
-//!
-//! They stand here, in a crate of their own, since a crate with tests is proved twice. What a proof costs grows with the square of what one
-//! function does, so tables are statics, and short helpers say whether a row of one holds.
 //!
 //! What is proved, beyond safety:
 //!
@@ -11,6 +8,8 @@
 //! | a plain, slow divider gives the lengths of the parts of the only division, and their events | `plain::divide` |
 #![tactic(auto)]
 
+#[cfg(test)]
+mod devices;
 #[cfg(test)]
 mod parser;
 #[cfg(test)]

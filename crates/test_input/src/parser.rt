@@ -6,7 +6,7 @@ use crossterm_parse::marked::Marked;
 use crossterm_parse::parse::Parser;
 use crossterm_types::event::{Event, InternalEvent, KeyCode, KeyEvent, KeyModifiers};
 use std::alloc::{AllocError, Global};
-use test_expect::expect;
+use test_support::expect;
 
 /// How bytes come.
 #[derive(Clone, Copy)]

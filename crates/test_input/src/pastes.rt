@@ -17,7 +17,7 @@ use std::io;
 use std::marker::Brand;
 use std::string::String;
 use std::sync::ledger::{Blank, Ledger};
-use test_expect::expect;
+use test_support::expect;
 
 fn is_pasted(event: Option<InternalEvent>, want: &str) -> bool {
     match event {

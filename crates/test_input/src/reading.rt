@@ -8,7 +8,7 @@ use crossterm_types::event::{Event, InternalEvent, KeyCode};
 use linked_list_allocator::LocalHeap;
 use std::alloc::{AllocError, Allocator, Global};
 use std::cell::Cell;
-use test_expect::expect;
+use test_support::expect;
 
 // Admits no event.
 struct Nothing;

@@ -3,7 +3,7 @@
 use crossterm_parse::parse::Parser;
 use linked_list_allocator::LocalHeap;
 use std::alloc::{AllocError, Global};
-use test_expect::expect;
+use test_support::expect;
 
 type Poor<'a> = Parser<&'a LocalHeap>;
 

@@ -8,7 +8,7 @@ use crossterm_types::event::{Event, InternalEvent, KeyCode};
 use linked_list_allocator::LocalHeap;
 use std::alloc::{AllocError, Allocator, Global};
 use std::io;
-use test_expect::expect;
+use test_support::expect;
 
 /// How many pieces of one letter a long script has.
 const ACTS: usize = 5_000;

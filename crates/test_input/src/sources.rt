@@ -6,7 +6,7 @@ use crossterm_types::event::{Event, InternalEvent};
 use std::alloc::AllocError;
 use std::io::{self, ErrorKind};
 use std::time::Duration;
-use test_expect::expect;
+use test_support::expect;
 
 static PARTS: [Part; 5] = [
     Part::Text(b"ab", 1, false),

@@ -8,7 +8,7 @@ use crossterm_types::event::{Event, InternalEvent, KeyCode, KeyboardEnhancementF
 use linked_list_allocator::LocalHeap;
 use std::alloc::{AllocError, Allocator, Global};
 use std::io::ErrorKind;
-use test_expect::expect;
+use test_support::expect;
 
 /// How large the heaps are.
 const HEAP: usize = 1 << 19;

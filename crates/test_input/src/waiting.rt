@@ -9,8 +9,7 @@ use std::alloc::{AllocError, Global};
 use std::io::{self, ErrorKind};
 use std::sync::Wait;
 use std::time::Duration;
-use test_expect::expect;
-use test_support::Ticking;
+use test_support::{Ticking, expect};
 
 /// Whether a limit is of so many milliseconds, or there is none.
 fn is_limit(limit: Option<Duration>, millis: Option<u64>) -> bool {

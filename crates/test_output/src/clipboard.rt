@@ -1,5 +1,6 @@
 //! Copies to the clipboard: selections there and back, and what a copy may hold.
 
+use crate::commands::is_cloned;
 use crossterm::Command;
 use crossterm::clipboard::{ClipboardSelection, ClipboardType, CopyToClipboard};
 use crossterm::style::ColorOutput;
@@ -7,7 +8,7 @@ use std::alloc::Global;
 use std::convert::AsSlice;
 use std::io;
 use std::test::Fail;
-use test_expect::{expect, is_text};
+use test_support::{expect, is_text};
 
 /// Letters, and the places that they stand for.
 static SPELLED: [(&str, &[ClipboardType]); 7] = [
@@ -91,19 +92,11 @@ fn copies_hold_bytes_and_texts(rt: HostRuntime) {
     expect!(rt; writes(rt.alloc(), string, "\x1b]52;c;Zm9vYmFy\x1b\\"));
 }
 
-/// Whether the clone of a copy is the copy, and is printed so for a programmer.
-fn is_cloned(alloc: Global, copy: &CopyToClipboard<Vec<u8>>, want: &str) -> bool {
-    match copy.clone() {
-        Ok(again) => again == *copy && is_text(format!(in alloc; "{again:?}"), want),
-        Err(_) => false,
-    }
-}
-
 #[test]
 fn copies_are_cloned_and_printed(rt: HostRuntime) -> Result<(), Fail> {
     let bytes = vec![in rt.alloc(); b'a']?;
     let copy = CopyToClipboard::to_clipboard_from(rt.alloc(), bytes)?;
     let want = "CopyToClipboard { content: [97], destination: ClipboardSelection([Clipboard]) }";
-    expect!(rt; is_cloned(rt.alloc(), &copy, want));
+    expect!(rt; is_cloned(rt.alloc(), copy, want));
     Ok(())
 }

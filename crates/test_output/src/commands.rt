@@ -13,7 +13,7 @@ use crossterm::{
 use std::alloc::{AllocError, Global};
 use std::fmt::Debug;
 use std::io::{self, ErrorKind, Write};
-use test_expect::{expect, is_text};
+use test_support::{expect, is_text};
 
 const ON: ColorOutput = ColorOutput::Enabled;
 
@@ -130,10 +130,7 @@ fn updates_stand_between_their_brackets(rt: HostRuntime) {
 
 /// Whether a list is written byte by byte.
 fn list_is_written(alloc: Global, commands: &[AnyCommand]) -> bool {
-    let mut tape = Tape {
-        step: 1,
-        ..Tape::new(alloc)
-    };
+    let mut tape = Tape::narrow(alloc, 1);
     queue_all(&mut tape, ON, commands).is_ok() && tape.holds(b"\x1b[1;65536H\x1b[?25l", 0)
 }
 
@@ -190,7 +187,7 @@ fn literal_sequences_have_their_ends(rt: HostRuntime) {
 }
 
 /// Whether a value is the same as its clone, which is printed so for a programmer.
-fn is_cloned<T: Clone + PartialEq + Debug + Drop>(alloc: Global, value: T, want: &str) -> bool {
+pub fn is_cloned<T: Clone + PartialEq + Debug + Drop>(alloc: Global, value: T, want: &str) -> bool {
     match value.clone() {
         Ok(other) => value == other && is_text(format!(in alloc; "{other:?}"), want),
         Err(_) => false,

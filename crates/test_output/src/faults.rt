@@ -16,7 +16,7 @@ use crossterm::{
 use crossterm_command::write_text;
 use std::alloc::{AllocError, Global};
 use std::io::{self, ErrorKind};
-use test_expect::expect;
+use test_support::expect;
 
 const ON: ColorOutput = ColorOutput::Enabled;
 

@@ -31,7 +31,7 @@ use crossterm_command::write_text;
 use linked_list_allocator::LocalHeap;
 use std::alloc::{AllocError, Global};
 use std::io::{self, ErrorKind};
-use test_expect::expect;
+use test_support::expect;
 
 const ON: ColorOutput = ColorOutput::Enabled;
 
@@ -45,8 +45,8 @@ fn colored() -> ContentStyle {
     }
 }
 
-/// Commands of the cursor.
-fn of_the_cursor(commands: &mut Vec<AnyCommand>) -> Result<(), AllocError> {
+/// Moves of the cursor.
+fn of_places(commands: &mut Vec<AnyCommand>) -> Result<(), AllocError> {
     commands.push(AnyCommand::MoveTo(MoveTo(65535, 0)))?;
     commands.push(AnyCommand::MoveToColumn(MoveToColumn(1)))?;
     commands.push(AnyCommand::MoveToRow(MoveToRow(2)))?;
@@ -56,6 +56,11 @@ fn of_the_cursor(commands: &mut Vec<AnyCommand>) -> Result<(), AllocError> {
     commands.push(AnyCommand::MoveDown(MoveDown(6)))?;
     commands.push(AnyCommand::MoveRight(MoveRight(7)))?;
     commands.push(AnyCommand::MoveLeft(MoveLeft(8)))?;
+    Ok(())
+}
+
+/// Other commands of the cursor.
+fn of_the_cursor(commands: &mut Vec<AnyCommand>) -> Result<(), AllocError> {
     commands.push(AnyCommand::SavePosition(SavePosition))?;
     commands.push(AnyCommand::RestorePosition(RestorePosition))?;
     commands.push(AnyCommand::Hide(Hide))?;
@@ -66,8 +71,8 @@ fn of_the_cursor(commands: &mut Vec<AnyCommand>) -> Result<(), AllocError> {
     Ok(())
 }
 
-/// Commands of the terminal and of events.
-fn of_the_terminal(alloc: Global, commands: &mut Vec<AnyCommand>) -> Result<(), AllocError> {
+/// Commands of the terminal.
+fn of_the_terminal(commands: &mut Vec<AnyCommand>, title: String) -> Result<(), AllocError> {
     commands.push(AnyCommand::DisableLineWrap(DisableLineWrap))?;
     commands.push(AnyCommand::EnableLineWrap(EnableLineWrap))?;
     commands.push(AnyCommand::EnterAlternateScreen(EnterAlternateScreen))?;
@@ -76,7 +81,12 @@ fn of_the_terminal(alloc: Global, commands: &mut Vec<AnyCommand>) -> Result<(), 
     commands.push(AnyCommand::ScrollUp(ScrollUp(9)))?;
     commands.push(AnyCommand::ScrollDown(ScrollDown(10)))?;
     commands.push(AnyCommand::SetSize(SetSize(80, 24)))?;
-    commands.push(AnyCommand::SetTitle(SetTitle(String::from_str(alloc, "h\u{e9}")?)))?;
+    commands.push(AnyCommand::SetTitle(SetTitle(title)))?;
+    Ok(())
+}
+
+/// Commands of updates and events.
+fn of_events(commands: &mut Vec<AnyCommand>) -> Result<(), AllocError> {
     commands.push(AnyCommand::BeginSynchronizedUpdate(BeginSynchronizedUpdate))?;
     commands.push(AnyCommand::EndSynchronizedUpdate(EndSynchronizedUpdate))?;
     commands.push(AnyCommand::EnableMouseCapture(EnableMouseCapture))?;
@@ -91,8 +101,8 @@ fn of_the_terminal(alloc: Global, commands: &mut Vec<AnyCommand>) -> Result<(), 
     Ok(())
 }
 
-/// Commands of style and of the clipboard.
-fn of_style(alloc: Global, commands: &mut Vec<AnyCommand>) -> io::Result<()> {
+/// Commands of style.
+fn of_style(commands: &mut Vec<AnyCommand>) -> Result<(), AllocError> {
     commands.push(AnyCommand::SetForegroundColor(SetForegroundColor(Color::Red)))?;
     commands.push(AnyCommand::SetBackgroundColor(SetBackgroundColor(Color::Blue)))?;
     commands.push(AnyCommand::SetUnderlineColor(SetUnderlineColor(Color::Green)))?;
@@ -103,9 +113,14 @@ fn of_style(alloc: Global, commands: &mut Vec<AnyCommand>) -> io::Result<()> {
         .with(Attribute::OverLined);
     commands.push(AnyCommand::SetAttributes(SetAttributes(both)))?;
     commands.push(AnyCommand::SetStyle(SetStyle(colored())))?;
+    commands.push(AnyCommand::ResetColor(ResetColor))?;
+    Ok(())
+}
+
+/// Commands that hold a text, and one of the clipboard.
+fn of_texts(alloc: Global, commands: &mut Vec<AnyCommand>) -> io::Result<()> {
     let styled = colored().apply(String::from_str(alloc, "st\u{e9}")?);
     commands.push(AnyCommand::PrintStyledContent(PrintStyledContent(styled)))?;
-    commands.push(AnyCommand::ResetColor(ResetColor))?;
     let copy = CopyToClipboard {
         content: Vec::from_slice(alloc, b"foob")?,
         destination: ClipboardSelection::from_str(alloc, "cp")?,
@@ -118,9 +133,12 @@ fn of_style(alloc: Global, commands: &mut Vec<AnyCommand>) -> io::Result<()> {
 /// One of each of the 46 commands.
 fn all_commands(alloc: Global) -> io::Result<Vec<AnyCommand>> {
     let mut commands = Vec::new(alloc);
+    of_places(&mut commands)?;
     of_the_cursor(&mut commands)?;
-    of_the_terminal(alloc, &mut commands)?;
-    of_style(alloc, &mut commands)?;
+    of_the_terminal(&mut commands, String::from_str(alloc, "h\u{e9}")?)?;
+    of_events(&mut commands)?;
+    of_style(&mut commands)?;
+    of_texts(alloc, &mut commands)?;
     Ok(commands)
 }
 
@@ -165,23 +183,14 @@ fn each_growth_is_refused_in_turn(rt: HostRuntime) -> io::Result<()> {
     Ok(())
 }
 
-/// A writer that is interrupted so often before each write.
-fn interrupted(alloc: Global, interrupts: u32) -> Tape {
-    Tape {
-        interrupts,
-        left: interrupts,
-        ..Tape::new(alloc)
-    }
-}
-
 /// Whether a way writes `Show` where it is interrupted 64 times in a row, and is answered so where 65 times, with nothing written.
 macro_rules! tries {
     ($rt:expr, $text:expr, $w:ident => $call:expr) => {
-        let mut tape = interrupted($rt.alloc(), 64);
+        let mut tape = Tape::interrupted($rt.alloc(), 64);
         let $w = &mut tape;
         expect!($rt; kind($call).is_none());
         expect!($rt; tape.bytes.as_slice() == $text);
-        let mut tape = interrupted($rt.alloc(), 65);
+        let mut tape = Tape::interrupted($rt.alloc(), 65);
         let $w = &mut tape;
         expect!($rt; kind($call) == Some(ErrorKind::Interrupted));
         expect!($rt; tape.bytes.is_empty());

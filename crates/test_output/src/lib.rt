@@ -1,7 +1,6 @@
-//! Tests of commands, the macros, updates, writers and the clipboard by their public calls, and tables that come from outside.
+//! Tests of commands, the macros, updates, writers, the clipboard and screens by their public calls, and tables that come from outside.
 //!
-//! They stand here, in a crate of their own beside the tests of events, since a crate with tests is proved twice. What a line of
-//! `probe say` can tell of a command, its bytes, stands in the tables of `probe` alone.
+//! What a line of `probe say` can tell of a command, its bytes, stands in the tables of `probe` alone.
 #![tactic(auto)]
 
 #[cfg(test)]
@@ -10,6 +9,8 @@ mod clipboard;
 mod commands;
 #[cfg(test)]
 mod faults;
+#[cfg(test)]
+mod frames;
 #[cfg(test)]
 mod growth;
 #[cfg(test)]

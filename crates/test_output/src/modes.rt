@@ -8,7 +8,7 @@ use crossterm::terminal::{ModeDevice, Terminal, WindowSize, tput_value};
 use std::alloc::Global;
 use std::io::{self, ErrorKind};
 use std::sync::atomic::AtomicU32;
-use test_expect::expect;
+use test_support::expect;
 
 /// A terminal over a device of modes, and its flag once more.
 fn terminal_of(
@@ -133,21 +133,32 @@ fn refused_switches_leave_the_mode_as_it_was(rt: HostRuntime) -> io::Result<()> 
     Ok(())
 }
 
-/// Whether the window's size is told, and both texts of `tput` where it isn't.
-fn tells_sizes(alloc: Global) -> io::Result<bool> {
+/// Whether a size is this one.
+fn is_size(size: io::Result<(u16, u16)>, want: (u16, u16)) -> bool {
+    matches!(size, Ok(size) if size == want)
+}
+
+/// Whether the window's size is told.
+fn tells_its_window(alloc: Global) -> io::Result<bool> {
     let calls = AtomicU32::new(0);
-    let (mut told, _flag) = terminal_of(alloc, &calls, None)?;
-    let (mut untold, _flag) = terminal_of(alloc, &calls, Some(Call::WindowSize))?;
-    let window = matches!(told.window_size(), Ok(size) if size == SIZE);
-    let size = matches!(told.size(b"132", b"50"), Ok((80, 24)));
-    let tput = matches!(untold.size(b"132\n", b"50\n"), Ok((132, 50)));
-    let neither = is_denied(untold.size(b"132\n", b"")) && is_denied(untold.size(b"0", b"50"));
-    Ok(window && size && tput && neither && is_denied(untold.window_size()))
+    let (mut terminal, _flag) = terminal_of(alloc, &calls, None)?;
+    let window = matches!(terminal.window_size(), Ok(size) if size == SIZE);
+    Ok(window && is_size(terminal.size(b"132", b"50"), (80, 24)))
+}
+
+/// Whether both texts of `tput` are told where the window's size isn't.
+fn tells_tput(alloc: Global) -> io::Result<bool> {
+    let calls = AtomicU32::new(0);
+    let (mut terminal, _flag) = terminal_of(alloc, &calls, Some(Call::WindowSize))?;
+    let tput = is_size(terminal.size(b"132\n", b"50\n"), (132, 50));
+    let neither = is_denied(terminal.size(b"132\n", b"")) && is_denied(terminal.size(b"0", b"50"));
+    Ok(tput && neither && is_denied(terminal.window_size()))
 }
 
 #[test]
 fn sizes_are_told_by_the_window_or_by_tput(rt: HostRuntime) -> io::Result<()> {
-    expect!(rt; tells_sizes(rt.alloc())?);
+    expect!(rt; tells_its_window(rt.alloc())?);
+    expect!(rt; tells_tput(rt.alloc())?);
     Ok(())
 }
 

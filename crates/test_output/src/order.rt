@@ -1,15 +1,16 @@
 //! In which order a query switches modes and writes.
 
-use crate::noted::{Call, terminal_by};
+use crate::noted::{Call, Noted, terminal_by};
+use crate::queries::{Source, telling};
+use crate::queueing::kind;
 use crossterm::cursor::position;
 use crossterm::event::source::{Act, RawFlag};
-use crossterm::terminal::query_keyboard_enhancement_flags;
+use crossterm::terminal::{Terminal, query_keyboard_enhancement_flags};
 use std::alloc::Global;
 use std::io::{self, ErrorKind, Write};
 use std::sync::Wait;
 use std::sync::atomic::{AtomicU32, Ordering};
-use test_expect::expect;
-use test_support::{Seat, Still, alone, script_of};
+use test_support::{Seat, Still, expect};
 
 /// A writer that takes all, and notes its calls beside those of a device of modes: 5 a write, 6 a flush.
 #[derive(Drop)]
@@ -39,7 +40,27 @@ impl Write for Noting<'_> {
     }
 }
 
-/// What a query over this act and text is noted as, and the kind of its error.
+/// The kind of the error of a query for the place.
+fn place_fault<R: Wait>(
+    rt: &R,
+    term: &mut Terminal<Noted<'_>>,
+    seat: &mut Seat<Source>,
+    out: &mut Noting<'_>,
+) -> Option<ErrorKind> {
+    kind(position(rt, term, &seat.shared, &mut seat.pass, out, &mut Still))
+}
+
+/// The kind of the error of a query for the flags.
+fn flags_fault<R: Wait>(
+    rt: &R,
+    term: &mut Terminal<Noted<'_>>,
+    seat: &mut Seat<Source>,
+    out: &mut Noting<'_>,
+) -> Option<ErrorKind> {
+    kind(query_keyboard_enhancement_flags(rt, term, &seat.shared, &mut seat.pass, out, &mut Still))
+}
+
+/// What a query over this act and the replies to both is noted as, and the kind of its error.
 fn noted<R: Wait>(
     rt: &R,
     alloc: Global,
@@ -49,29 +70,14 @@ fn noted<R: Wait>(
 ) -> io::Result<(u32, Option<ErrorKind>)> {
     let calls = AtomicU32::new(0);
     let mut term = terminal_by(RawFlag::new(alloc)?, &calls, refused);
+    let mut seat = telling(rt, alloc, act, b"\x1b[20;10R\x1b[?1u\x1b[?62c")?;
     let mut out = Noting { calls: &calls };
-    let mut acts = Vec::new(alloc);
-    acts.push(act)?;
-    acts.push(Act::Piece {
-        bytes: Vec::from_slice(alloc, b"\x1b[20;10R\x1b[?1u\x1b[?62c")?,
-        raw: true,
-    })?;
-    let Seat { shared, mut pass } = alone(rt, alloc, script_of(alloc, acts))?;
-    let kind = if keyboard {
-        let flags = query_keyboard_enhancement_flags(
-            rt, &mut term, &shared, &mut pass, &mut out, &mut Still,
-        );
-        match flags {
-            Ok(_) => None,
-            Err(error) => Some(error.kind()),
-        }
+    let fault = if keyboard {
+        flags_fault(rt, &mut term, &mut seat, &mut out)
     } else {
-        match position(rt, &mut term, &shared, &mut pass, &mut out, &mut Still) {
-            Ok(_) => None,
-            Err(error) => Some(error.kind()),
-        }
+        place_fault(rt, &mut term, &mut seat, &mut out)
     };
-    Ok((calls.load(Ordering::SeqCst), kind))
+    Ok((calls.load(Ordering::SeqCst), fault))
 }
 
 #[test]

@@ -10,13 +10,13 @@ use std::io::{self, ErrorKind};
 use std::sync::Wait;
 use std::sync::atomic::{AtomicU32, Ordering};
 use std::time::Duration;
-use test_expect::expect;
-use test_support::{Seat, Still, alone, script_of};
+use test_support::{Seat, Still, alone, expect, script_of};
 
-type Source = DeviceSource<Script>;
+/// The source of a script.
+pub type Source = DeviceSource<Script>;
 
 /// A shared reader over a script of this act and this text, and its only pass.
-fn telling<R: Wait>(rt: &R, alloc: Global, act: Act, text: &[u8]) -> io::Result<Seat<Source>> {
+pub fn telling<R: Wait>(rt: &R, alloc: Global, act: Act, text: &[u8]) -> io::Result<Seat<Source>> {
     let mut acts = Vec::new(alloc);
     acts.push(act)?;
     acts.push(Act::Piece {
@@ -130,10 +130,8 @@ fn is_taken_first<R: Wait>(rt: &R, alloc: Global) -> io::Result<bool> {
     Ok(matches!(met.place, Ok((1, 0))))
 }
 
-/// Whether the true place is told once such reports were taken.
-fn is_told_after<R: Wait>(rt: &R, alloc: Global) -> io::Result<bool> {
-    let calls = AtomicU32::new(0);
-    let mut term = terminal_by(RawFlag::new(alloc)?, &calls, None);
+/// A reader over a script of such a report, a pause and a true one.
+fn reporting<R: Wait>(rt: &R, alloc: Global) -> io::Result<Seat<Source>> {
     let mut acts = Vec::new(alloc);
     acts.push(shift_f3(alloc)?)?;
     acts.push(Act::Idle)?;
@@ -141,18 +139,30 @@ fn is_told_after<R: Wait>(rt: &R, alloc: Global) -> io::Result<bool> {
         bytes: Vec::from_slice(alloc, b"\x1b[20;10R")?,
         raw: true,
     })?;
-    let Seat { shared, mut pass } = alone(rt, alloc, script_of(alloc, acts))?;
-    let stale = shared.position_by(rt, &mut pass, Duration::ZERO, &mut Still);
-    let none = shared.position_by(rt, &mut pass, Duration::ZERO, &mut Still);
-    let place = position(
-        rt,
-        &mut term,
-        &shared,
-        &mut pass,
-        &mut willing(alloc),
-        &mut Still,
-    );
-    let taken = matches!(stale, Ok((1, 0))) && fails(none, ErrorKind::Other);
+    alone(rt, alloc, script_of(alloc, acts))
+}
+
+/// Whether one report that waits is taken, and no other.
+fn takes_one<R: Wait>(rt: &R, seat: &mut Seat<Source>) -> bool {
+    let zero = Duration::ZERO;
+    let stale = seat
+        .shared
+        .position_by(rt, &mut seat.pass, zero, &mut Still);
+    let none = seat
+        .shared
+        .position_by(rt, &mut seat.pass, zero, &mut Still);
+    matches!(stale, Ok((1, 0))) && fails(none, ErrorKind::Other)
+}
+
+/// Whether the true place is told once such reports were taken.
+fn is_told_after<R: Wait>(rt: &R, alloc: Global) -> io::Result<bool> {
+    let calls = AtomicU32::new(0);
+    let mut term = terminal_by(RawFlag::new(alloc)?, &calls, None);
+    let mut seat = reporting(rt, alloc)?;
+    let mut out = willing(alloc);
+    let taken = takes_one(rt, &mut seat);
+    let Seat { shared, mut pass } = seat;
+    let place = position(rt, &mut term, &shared, &mut pass, &mut out, &mut Still);
     Ok(taken && matches!(place, Ok((9, 19))))
 }
 

@@ -12,7 +12,7 @@ use crossterm_command::laws::one_reading;
 use std::alloc::Global;
 use std::fmt;
 use std::io::{self, ErrorKind};
-use test_expect::expect;
+use test_support::expect;
 
 const ON: ColorOutput = ColorOutput::Enabled;
 
@@ -56,14 +56,7 @@ type Maker = (usize, usize, Option<ErrorKind>, u32);
 
 fn made(alloc: Global, maker: &Maker) -> Tape {
     let (step, room, stop, interrupts) = *maker;
-    Tape {
-        step,
-        room,
-        stop,
-        interrupts,
-        left: interrupts,
-        ..Tape::new(alloc)
-    }
+    Tape::with(alloc, step, room, stop, interrupts)
 }
 
 /// A writer, a place, and what a move there answers and writes.

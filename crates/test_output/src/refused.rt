@@ -6,7 +6,7 @@ use crossterm::style::Attribute;
 use linked_list_allocator::LocalHeap;
 use std::alloc::AllocError;
 use std::io::ErrorKind;
-use test_expect::expect;
+use test_support::expect;
 
 const REFUSED: Option<ErrorKind> = Some(ErrorKind::OutOfMemory);
 

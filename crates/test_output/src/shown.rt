@@ -11,7 +11,7 @@ use crossterm::style::{
 };
 use crossterm::terminal::{Clear, ClearType, ScrollDown, ScrollUp, SetSize};
 use std::alloc::Global;
-use test_expect::{expect, is_text};
+use test_support::{expect, is_text};
 
 /// Whether moves to a place show so.
 fn places_show(alloc: Global) -> bool {

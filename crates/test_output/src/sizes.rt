@@ -14,16 +14,13 @@ use crossterm::{
 use std::alloc::{AllocError, Global};
 use std::io;
 use std::test::Fail;
-use test_expect::{expect, is_text};
+use test_support::{expect, is_text};
 
 const ON: ColorOutput = ColorOutput::Enabled;
 
 /// A writer that takes 7 bytes a call.
 fn narrow(alloc: Global) -> Tape {
-    Tape {
-        step: 7,
-        ..Tape::new(alloc)
-    }
+    Tape::narrow(alloc, 7)
 }
 
 /// Whether a command is queued and executed whole.

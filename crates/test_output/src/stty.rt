@@ -6,7 +6,7 @@ use crossterm::event::source::RawFlag;
 use crossterm::terminal::{ModeDevice, SttyDevice, SttyMode, Terminal, WindowSize};
 use std::alloc::Global;
 use std::io::{self, ErrorKind, Write};
-use test_expect::expect;
+use test_support::expect;
 
 /// Raw mode on and off again, and the size, by these answers.
 fn use_all<W: Write + Drop>(alloc: Global, answers: &[u8], requests: W) -> io::Result<(u16, u16)> {

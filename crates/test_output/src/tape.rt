@@ -24,26 +24,44 @@ pub struct Tape {
 }
 
 impl Tape {
-    /// One that takes all bytes of a test.
-    pub fn new(alloc: Global) -> Tape {
+    /// One that takes so many bytes a call and in all, stops so, and is interrupted so often before it takes bytes.
+    pub fn with(
+        alloc: Global,
+        step: usize,
+        room: usize,
+        stop: Option<ErrorKind>,
+        interrupts: u32,
+    ) -> Tape {
         Tape {
             bytes: Vec::new(alloc),
-            step: usize::MAX,
-            room: usize::MAX,
-            stop: Some(ErrorKind::BrokenPipe),
-            interrupts: 0,
-            left: 0,
+            step,
+            room,
+            stop,
+            interrupts,
+            left: interrupts,
             flushes: 0,
             is_stuck: false,
         }
     }
 
+    /// One that takes all bytes of a test.
+    pub fn new(alloc: Global) -> Tape {
+        Tape::failing_at(alloc, usize::MAX)
+    }
+
     /// One that fails once, after so many bytes.
     pub fn failing_at(alloc: Global, room: usize) -> Tape {
-        Tape {
-            room,
-            ..Tape::new(alloc)
-        }
+        Tape::with(alloc, usize::MAX, room, Some(ErrorKind::BrokenPipe), 0)
+    }
+
+    /// One that takes so many bytes a call.
+    pub fn narrow(alloc: Global, step: usize) -> Tape {
+        Tape::with(alloc, step, usize::MAX, None, 0)
+    }
+
+    /// One that is interrupted so often before it takes bytes.
+    pub fn interrupted(alloc: Global, interrupts: u32) -> Tape {
+        Tape::with(alloc, usize::MAX, usize::MAX, None, interrupts)
     }
 
     /// Whether it holds these bytes, and was flushed so often after them.

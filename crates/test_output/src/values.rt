@@ -4,7 +4,7 @@ use crossterm::event::ValueFault;
 use crossterm::terminal::ClearType;
 use serde_json::Value;
 use std::alloc::Global;
-use test_expect::expect;
+use test_support::expect;
 
 /// Whether a text tells this, and this is told as that text.
 fn is_carried(alloc: Global, text: &str, cleared: ClearType) -> bool {

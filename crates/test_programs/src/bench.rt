@@ -1,11 +1,11 @@
-//! Command lines beside what comes of them, run through the program's own functions.
+//! Words after `bench` beside what comes of them, run through the program's own functions.
 
 use crate::expect;
 use crate::failing::Failing;
-use bench_modes::fault::Fault;
-use bench_modes::frame::Screen;
-use bench_modes::mode::Mode;
-use bench_modes::timing::Work;
+use probe_modes::bench::frame::Screen;
+use probe_modes::bench::mode::Mode;
+use probe_modes::bench::timing::Work;
+use probe_modes::fault::Fault;
 use std::alloc::{AllocError, Global};
 use std::io;
 
@@ -67,7 +67,7 @@ frame 1 -> USAGE
 count -> USAGE";
 
 const USAGE: &str =
-    "bench: usage: bench [frame] [--time] | bench held REPLIES | bench keys BINDINGS | bench make letters|utf8|keys|mouse|paste|hostile BYTES";
+    "probe: usage: probe bench [frame] [--time] | probe bench held REPLIES | probe bench keys BINDINGS | probe bench make letters|utf8|keys|mouse|paste|hostile BYTES";
 
 /// What is counted where nothing but keys came.
 const ALONE: &str = "mouse 0 pastes 0 focus 0 resizes 0 replies 0";

@@ -1,4 +1,4 @@
-//! Tests of the programs `probe` and `bench`, run through the functions of their libraries: tables of inputs beside what must come of them.
+//! Tests of the program `probe`, run through the functions of its library: tables of inputs beside what must come of them.
 #![tactic(auto)]
 
 #[cfg(test)]

@@ -1,18 +1,23 @@
-//! What tests of shared readers and of streams have in common: readers over devices and scripts, passes for threads, and waits that end.
+//! What the crates of tests have in common: `expect!`, readers over devices and scripts, passes for threads, and waits that end.
 //!
-//! It is a crate of its own, since a crate with tests is proved twice.
+//! A crate with tests is proved twice, with them and without. So tests stand in crates of their own, `test_values` to `test_programs`, and what
+//! they share in this one, which has none.
 #![tactic(auto)]
 
 ghost use Rattle.std.specs.Prelude.{ℕ};
 ghost use Rattle.crossterm_read.specs.Device.{CountWithin};
 
 mod clocks;
+mod expects;
+mod heaps;
 mod seats;
 
 pub use clocks::{Still, Ticking};
 use crossterm_read::read::InternalEventReader;
 use crossterm_read::source::{Act, Answer, Device, DeviceSource, Script};
 use crossterm_types::event::Event;
+pub use expects::is_text;
+pub use heaps::{Calls, Came, is_refused_below_a_size};
 pub use seats::{Seat, alone, two};
 use std::alloc::{AllocError, Global};
 use std::io;
@@ -78,6 +83,13 @@ pub fn text(alloc: Global, bytes: &[u8]) -> Result<Act, AllocError> {
 /// A reader over a script.
 pub fn script_of(alloc: Global, acts: Vec<Act>) -> Reader<Script> {
     reader_of(alloc, Script::new(acts))
+}
+
+/// A reader over a script that tells this text, in one piece.
+pub fn telling(alloc: Global, bytes: &[u8]) -> Result<Reader<Script>, AllocError> {
+    let mut acts = Vec::new(alloc);
+    acts.push(text(alloc, bytes)?)?;
+    Ok(script_of(alloc, acts))
 }
 
 /// A key's letter, and `?` for all else.

@@ -1,0 +1,6 @@
+mod Acting
+mod Cutting
+mod Entering
+mod ReadBack
+mod Replayings
+mod Wording

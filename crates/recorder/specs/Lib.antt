@@ -1,0 +1,6 @@
+pub mod Answering
+pub mod Lines
+pub mod Reads
+pub mod Recording
+pub mod Replaying
+pub mod inside

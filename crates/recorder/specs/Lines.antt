@@ -1,0 +1,113 @@
+-- How what a device answers is written, an answer on a line, each after a line with its time.
+use Rattle.std.specs.Prelude.{ℕ, Bool, codes, List, [], ◌∷◌, ◌++◌, map, if◌then◌else◌}
+use Rattle.std.specs.Fmt.{decimal}
+use Rattle.std.specs.declared.io.ErrorKind.{ErrorKind}
+use Rattle.std.specs.declared.io.ErrorKind.TheVariants as kind
+use Rattle.hex.specs.Hex.{encode_lower}
+use Rattle.crossterm_read.specs.Device.{DeviceAnswer, Bytes, Resized, Woken, Idle, Fault}
+use Rattle.crossterm_read.specs.declared.source.script.Act.{Act}
+use Rattle.crossterm_read.specs.declared.source.script.Act.TheVariants as act
+
+-- The name of a kind of errors.
+abbrev pub kind_name : ErrorKind → List ℕ
+kind_name kind.NotFound = codes "NotFound"
+kind_name kind.PermissionDenied = codes "PermissionDenied"
+kind_name kind.ConnectionRefused = codes "ConnectionRefused"
+kind_name kind.ConnectionReset = codes "ConnectionReset"
+kind_name kind.HostUnreachable = codes "HostUnreachable"
+kind_name kind.NetworkUnreachable = codes "NetworkUnreachable"
+kind_name kind.ConnectionAborted = codes "ConnectionAborted"
+kind_name kind.NotConnected = codes "NotConnected"
+kind_name kind.AddrInUse = codes "AddrInUse"
+kind_name kind.AddrNotAvailable = codes "AddrNotAvailable"
+kind_name kind.NetworkDown = codes "NetworkDown"
+kind_name kind.BrokenPipe = codes "BrokenPipe"
+kind_name kind.AlreadyExists = codes "AlreadyExists"
+kind_name kind.WouldBlock = codes "WouldBlock"
+kind_name kind.NotADirectory = codes "NotADirectory"
+kind_name kind.IsADirectory = codes "IsADirectory"
+kind_name kind.DirectoryNotEmpty = codes "DirectoryNotEmpty"
+kind_name kind.ReadOnlyFilesystem = codes "ReadOnlyFilesystem"
+kind_name kind.FilesystemLoop = codes "FilesystemLoop"
+kind_name kind.StaleNetworkFileHandle = codes "StaleNetworkFileHandle"
+kind_name kind.InvalidInput = codes "InvalidInput"
+kind_name kind.InvalidData = codes "InvalidData"
+kind_name kind.TimedOut = codes "TimedOut"
+kind_name kind.WriteZero = codes "WriteZero"
+kind_name kind.StorageFull = codes "StorageFull"
+kind_name kind.NotSeekable = codes "NotSeekable"
+kind_name kind.QuotaExceeded = codes "QuotaExceeded"
+kind_name kind.FileTooLarge = codes "FileTooLarge"
+kind_name kind.ResourceBusy = codes "ResourceBusy"
+kind_name kind.ExecutableFileBusy = codes "ExecutableFileBusy"
+kind_name kind.Deadlock = codes "Deadlock"
+kind_name kind.CrossesDevices = codes "CrossesDevices"
+kind_name kind.TooManyLinks = codes "TooManyLinks"
+kind_name kind.InvalidFilename = codes "InvalidFilename"
+kind_name kind.ArgumentListTooLong = codes "ArgumentListTooLong"
+kind_name kind.Interrupted = codes "Interrupted"
+kind_name kind.Unsupported = codes "Unsupported"
+kind_name kind.UnexpectedEof = codes "UnexpectedEof"
+kind_name kind.OutOfMemory = codes "OutOfMemory"
+kind_name kind.InProgress = codes "InProgress"
+kind_name kind.Other = codes "Other"
+kind_name kind.Uncategorized = codes "Uncategorized"
+
+-- All kinds.
+abbrev pub kinds : List ErrorKind
+kinds =
+    kind.NotFound ∷ kind.PermissionDenied ∷ kind.ConnectionRefused ∷ kind.ConnectionReset ∷ kind.HostUnreachable ∷ kind.NetworkUnreachable ∷
+    kind.ConnectionAborted ∷ kind.NotConnected ∷ kind.AddrInUse ∷ kind.AddrNotAvailable ∷ kind.NetworkDown ∷ kind.BrokenPipe ∷
+    kind.AlreadyExists ∷ kind.WouldBlock ∷ kind.NotADirectory ∷ kind.IsADirectory ∷ kind.DirectoryNotEmpty ∷ kind.ReadOnlyFilesystem ∷
+    kind.FilesystemLoop ∷ kind.StaleNetworkFileHandle ∷ kind.InvalidInput ∷ kind.InvalidData ∷ kind.TimedOut ∷ kind.WriteZero ∷
+    kind.StorageFull ∷ kind.NotSeekable ∷ kind.QuotaExceeded ∷ kind.FileTooLarge ∷ kind.ResourceBusy ∷ kind.ExecutableFileBusy ∷
+    kind.Deadlock ∷ kind.CrossesDevices ∷ kind.TooManyLinks ∷ kind.InvalidFilename ∷ kind.ArgumentListTooLong ∷ kind.Interrupted ∷
+    kind.Unsupported ∷ kind.UnexpectedEof ∷ kind.OutOfMemory ∷ kind.InProgress ∷ kind.Other ∷ kind.Uncategorized ∷ []
+
+-- Kinds with their names.
+abbrev pub named : List ErrorKind → List (List ℕ × ErrorKind)
+named ks = map (λ k. (kind_name k, k)) ks
+
+-- The word before bytes.
+abbrev pub bytes_word : Bool → List ℕ
+bytes_word raw = if raw then codes "raw" else codes "piece"
+
+-- An answer as a line, without its end. Bytes are written in hexadecimal digits.
+abbrev pub line : DeviceAnswer → List ℕ
+line (Bytes bytes raw) = bytes_word raw ++ 32 ∷ encode_lower bytes
+line (Resized columns rows) = codes "resize" ++ 32 ∷ (decimal columns ++ 32 ∷ decimal rows)
+line Woken = codes "wake"
+line Idle = codes "idle"
+line (Fault kind) = codes "fault" ++ 32 ∷ kind_name kind
+
+-- A time as a line, without its end: a comment.
+abbrev pub stamp : ℕ → List ℕ
+stamp time = codes "#" ++ 32 ∷ decimal time
+
+-- What came, and when, as two lines with their ends.
+abbrev pub entry : ℕ × DeviceAnswer → List ℕ
+entry e = stamp e.0 ++ 10 ∷ (line e.1 ++ 10 ∷ [])
+
+-- All that came, in order.
+abbrev pub text : List (ℕ × DeviceAnswer) → List ℕ
+text [] = []
+text (e ∷ es) = entry e ++ text es
+
+-- The lines of answers alone, without their times.
+abbrev pub lines : List DeviceAnswer → List ℕ
+lines [] = []
+lines (w ∷ ws) = line w ++ 10 ∷ lines ws
+
+abbrev pub times_of : List (ℕ × DeviceAnswer) → List ℕ
+times_of es = map (λ e. e.0) es
+
+abbrev pub answers_of : List (ℕ × DeviceAnswer) → List DeviceAnswer
+answers_of es = map (λ e. e.1) es
+
+-- What an act says in one line, however long its piece is.
+abbrev pub told : {A : Type 0} → Act A → DeviceAnswer
+told (act.Piece bytes raw) = Bytes bytes.items raw
+told (act.Resize columns rows) = Resized columns rows
+told act.Woken = Woken
+told act.Idle = Idle
+told (act.Fault k) = Fault k

@@ -1,0 +1,93 @@
+-- What a recorder writes of its device's answers.
+use Rattle.std.specs.Prelude.{◌≡◌, ◌≤◌, ◌<◌, ◌+◌, ◌/◌, ℕ, List, [], ◌∷◌, ◌++◌, length, min, Option, Some, None}
+use Rattle.std.specs.List.{AllByRecursion}
+use Rattle.std.specs.Io.KnownBytes.{Appends}
+use Rattle.hex.specs.Hex.{IsBytes}
+use Rattle.crossterm_command.specs.Writing.{AppendsFront}
+use Rattle.crossterm_read.specs.Device.{DeviceAnswer, Bytes, Resized, Woken, Idle, Fault}
+use Rattle.recorder.specs.Lines.{answers_of, text, times_of}
+use Rattle.recorder.specs.declared.recorder.Stop.{Stop}
+use Rattle.recorder.specs.declared.recorder.Stop.TheVariants as stop
+
+-- The end of input has no line: a script's last act is followed by it.
+abbrev pub recorded : List DeviceAnswer → List DeviceAnswer
+recorded [] = []
+recorded (Bytes [] raw ∷ ws) = recorded ws
+recorded (Bytes (b ∷ bs) raw ∷ ws) = Bytes (b ∷ bs) raw ∷ recorded ws
+recorded (Resized columns rows ∷ ws) = Resized columns rows ∷ recorded ws
+recorded (Woken ∷ ws) = Woken ∷ recorded ws
+recorded (Idle ∷ ws) = Idle ∷ recorded ws
+recorded (Fault kind ∷ ws) = Fault kind ∷ recorded ws
+
+-- What a device can answer: at most 1024 bytes, each below 256, and sizes below 65536.
+abbrev pub IsAnswer : DeviceAnswer → Type 0
+IsAnswer (Bytes bytes raw) = (length bytes ≤ 1024) × IsBytes bytes
+IsAnswer (Resized columns rows) = (columns < 65536) × (rows < 65536)
+IsAnswer Woken = Unit {0}
+IsAnswer Idle = Unit {0}
+IsAnswer (Fault kind) = Unit {0}
+
+-- ---- times
+
+-- The milliseconds of a moment in nanoseconds, as far as 32 bits go.
+abbrev pub millis : ℕ → ℕ
+millis nanos = min 4294967295 (nanos / 1000000)
+
+-- Times between two of them, none before an earlier one.
+abbrev pub Rises : ℕ → List ℕ → ℕ → Type 0
+Rises low [] high = low ≤ high
+Rises low (time ∷ times) high = (low ≤ time) × Rises time times high
+
+-- ---- room
+
+-- So many bytes fit, if there is a bound.
+abbrev pub Fits : Option ℕ → ℕ → Type 0
+Fits None n = Unit {0}
+Fits (Some room) n = n ≤ room
+
+-- So many bytes of the room are used.
+abbrev pub Uses : Option ℕ → ℕ → Option ℕ → Type 0
+Uses None n after = after ≡ None
+Uses (Some room) n after = (left : ℕ) × (after ≡ Some left) × (left + n ≡ room)
+
+-- ---- writing
+
+-- The next entry didn't fit: those before it were written whole, and nothing of it.
+pub record Cuts (old new : Option (List ℕ)) (room : Option ℕ) (es : List (ℕ × DeviceAnswer)) : Type 0 where
+  pub kept : List (ℕ × DeviceAnswer)
+  pub next : ℕ × DeviceAnswer
+  pub rest : List (ℕ × DeviceAnswer)
+  pub split : es ≡ kept ++ next ∷ rest
+  pub written : Appends old new (text kept)
+  pub full : Fits room (length (text (kept ++ next ∷ []))) → ⊥
+
+-- A beginning was written, and no more than there is room for.
+pub record Fails (old new : Option (List ℕ)) (room : Option ℕ) (bytes : List ℕ) : Type 0 where
+  pub written : AppendsFront old new bytes
+  pub fits : Fits room (length written.front)
+
+-- Entries go to a writer, by whether it had stopped before and after: all of them, a part, or none.
+abbrev pub Writes : {W : Type 0} → (W → Option (List ℕ)) → Option Stop → Option ℕ → W → List (ℕ × DeviceAnswer) → Option Stop → Option ℕ → W → Type 0
+Writes contents None room s es None left t = Appends (contents s) (contents t) (text es) × Uses room (length (text es)) left
+Writes contents None room s es (Some stop.Cut) left t = Cuts (contents s) (contents t) room es
+Writes contents None room s es (Some (stop.Failed kind)) left t = Fails (contents s) (contents t) room (text es)
+Writes contents (Some why) room s es None left t = ⊥
+Writes contents (Some why) room s es (Some same) left t = (same ≡ why) × (t ≡ s)
+
+-- A recorder as its callers see it. `clock` is what its clock told last, in nanoseconds.
+pub record Recording (D W : Type 0) : Type 0 where
+  pub device : D
+  pub writer : W
+  pub clock : ℕ
+  pub room : Option ℕ
+  pub stop : Option Stop
+
+-- A recorder answers what its device answers, and writes these answers with rising times.
+pub record Records {D W : Type 0} (contents : W → Option (List ℕ)) (answered : D → List DeviceAnswer → D → Type 0)
+    (s : Recording D W) (ws : List DeviceAnswer) (t : Recording D W) : Type 0 where
+  pub given : answered s.device ws t.device
+  pub entries : List (ℕ × DeviceAnswer)
+  pub says : answers_of entries ≡ recorded ws
+  pub rises : Rises (millis s.clock) (times_of entries) (millis t.clock)
+  pub written : Writes contents s.stop s.room s.writer entries t.stop t.room t.writer
+  pub are_answers : AllByRecursion IsAnswer ws

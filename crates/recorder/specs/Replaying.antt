@@ -1,0 +1,76 @@
+-- What a recording replays.
+use Rattle.std.specs.Prelude.{◌≡◌, ◌≢◌, ◌≤◌, ℕ, List, [], ◌∷◌, length, map, Option, None, Ok}
+use Rattle.std.specs.List.{AllByRecursion}
+use Rattle.std.specs.Io.KnownBytes.{Appends}
+use Rattle.crossterm_read.specs.Answers.{SourceAnswer}
+use Rattle.crossterm_read.specs.Calls.{Plays, Run, empty, joined}
+use Rattle.crossterm_read.specs.Device.{DeviceAnswer, Bytes, Resized, Woken, Idle, Fault}
+use Rattle.crossterm_read.specs.Outcomes.{Answered}
+use Rattle.crossterm_read.specs.OverScripts.{IsNew}
+use Rattle.crossterm_read.specs.Replies.{Replied, shown}
+use Rattle.crossterm_read.specs.Store.{EventStore}
+use Rattle.crossterm_read.specs.declared.read.call.Call.{Call}
+use Rattle.crossterm_read.specs.Scripted.{device_answers}
+use Rattle.crossterm_read.specs.declared.source.script.Act.{Act}
+use Rattle.crossterm_read.specs.inside.Turns.{Source, SourceDrawn}
+use Rattle.recorder.specs.Lines.{answers_of, text, told}
+use Rattle.recorder.specs.Reads.{read_text, session}
+use Rattle.recorder.specs.Recording.{IsAnswer, Recording, Records, recorded}
+
+-- The end of input.
+abbrev pub IsEnd : DeviceAnswer → Type 0
+IsEnd (Bytes [] raw) = Unit {0}
+IsEnd (Bytes (b ∷ bs) raw) = ⊥
+IsEnd (Resized columns rows) = ⊥
+IsEnd Woken = ⊥
+IsEnd Idle = ⊥
+IsEnd (Fault kind) = ⊥
+
+-- After the end of input nothing comes but that end again.
+abbrev pub EndsLast : List DeviceAnswer → Type 0
+EndsLast [] = Unit {0}
+EndsLast (Bytes [] raw ∷ ws) = AllByRecursion IsEnd ws
+EndsLast (Bytes (b ∷ bs) raw ∷ ws) = EndsLast ws
+EndsLast (Resized columns rows ∷ ws) = EndsLast ws
+EndsLast (Woken ∷ ws) = EndsLast ws
+EndsLast (Idle ∷ ws) = EndsLast ws
+EndsLast (Fault kind ∷ ws) = EndsLast ws
+
+-- A device gave some answers, the writer grew by them with their times, that text reads as what was recorded of them, and what the source answered
+-- comes of a script of it.
+pub record Replayed {D W : Type 0} (contents : W → Option (List ℕ)) (answered : D → List DeviceAnswer → D → Type 0)
+    (s : Recording D W) (xs : List SourceAnswer) (t : Recording D W) : Type 0 where
+  pub given : List DeviceAnswer
+  pub entries : List (ℕ × DeviceAnswer)
+  pub by_device : answered s.device given t.device
+  pub says : answers_of entries ≡ recorded given
+  pub written : Appends (contents s.writer) (contents t.writer) (text entries)
+  pub reads : read_text (text entries) ≡ Ok (session entries)
+  pub replays : EndsLast given → Answered (recorded given) xs
+
+-- So it is for a new source over a recorder, as long as the recording goes on.
+abbrev pub Replays : {D W : Type 0} → (W → Option (List ℕ)) → (D → List DeviceAnswer → D → Type 0) → Type 0
+Replays {D} {W} contents answered = (s t : Source (Recording D W)) (xs : List SourceAnswer) → IsNew s → s.device.stop ≡ None → t.device.stop ≡ None
+    → SourceDrawn (Records contents answered) s xs t → Replayed contents answered s.device xs t.device
+
+-- What is in a recording: an answer with at least one byte and at most 1024, or without bytes.
+abbrev pub IsLine : DeviceAnswer → Type 0
+IsLine (Bytes bytes raw) = (bytes ≢ []) × (length bytes ≤ 1024)
+IsLine (Resized columns rows) = Unit {0}
+IsLine Woken = Unit {0}
+IsLine Idle = Unit {0}
+IsLine (Fault kind) = Unit {0}
+
+-- The acts of such lines answer what they say, one answer an act.
+abbrev pub AnswersAsTold : (A : Type 0) → Type 0
+AnswersAsTold A = (acts : List (Act A)) → AllByRecursion IsLine (map told acts) → device_answers acts ≡ map told acts
+
+-- All that is recorded of a device's answers is of this kind.
+abbrev pub RecordsLines : Type 0
+RecordsLines = (ws : List DeviceAnswer) → AllByRecursion IsAnswer ws → AllByRecursion IsLine (recorded ws)
+
+-- The calls of a reader over such a source play over the recording: they have one run, which `read::play` has over a script of it.
+abbrev pub PlaysAlike : {D W : Type 0} → (W → Option (List ℕ)) → (D → List DeviceAnswer → D → Type 0) → Type 0
+PlaysAlike {D} {W} contents answered = (s t : Source (Recording D W)) (calls : List Call) (drawn : List (List SourceAnswer)) (replies : List Replied) (last : EventStore)
+    → IsNew s → s.device.stop ≡ None → t.device.stop ≡ None → SourceDrawn (Records contents answered) s (joined drawn) t → Run empty calls drawn replies last
+    → (r : Replayed contents answered s.device (joined drawn) t.device) × (EndsLast r.given → Plays (recorded r.given) calls (map shown replies) (map (λ h. h.0) last.held))

@@ -1,0 +1,29 @@
+-- What is written of one answer, as the private functions see it.
+use Rattle.std.specs.Prelude.{◌≡◌, ℕ, List, [], ◌∷◌, Option, Some, None}
+use Rattle.crossterm_read.specs.Device.{DeviceAnswer, Bytes, Resized, Woken, Idle, Fault}
+use Rattle.recorder.specs.Lines.{answers_of, times_of}
+use Rattle.recorder.specs.Recording.{Rises, Writes, millis}
+use Rattle.recorder.specs.declared.recorder.Stop.{Stop}
+use Rattle.recorder.specs.declared.line.Told.{Told}
+use Rattle.recorder.specs.declared.line.Told.TheVariants as told
+
+-- The answer that a line says.
+abbrev pub told_answer : Told → DeviceAnswer
+told_answer (told.Bytes bytes raw) = Bytes bytes.now raw
+told_answer (told.Resized columns rows) = Resized columns rows
+told_answer told.Woken = Woken
+told_answer told.Idle = Idle
+told_answer (told.Fault kind) = Fault kind
+
+-- The answers that the line says, if there is one.
+abbrev pub said_by : Option Told → List DeviceAnswer
+said_by None = []
+said_by (Some t) = told_answer t ∷ []
+
+-- Answers were written with their times, as far as the recording goes on: by what the clock told, why it stopped, the room, and the writer.
+pub record Notes {W : Type 0} (contents : W → Option (List ℕ)) (clock : ℕ) (stop : Option Stop) (room : Option ℕ) (writer : W) (ws : List DeviceAnswer)
+    (later : ℕ) (stopped : Option Stop) (left : Option ℕ) (after : W) : Type 0 where
+  pub entries : List (ℕ × DeviceAnswer)
+  pub says : answers_of entries ≡ ws
+  pub rises : Rises (millis clock) (times_of entries) (millis later)
+  pub written : Writes contents stop room writer entries stopped left after

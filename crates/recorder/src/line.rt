@@ -1,0 +1,160 @@
+//! Acts as lines of text.
+ghost use Rattle.std.specs.Prelude.{◌≡◌, ◌<◌, ℕ, List, [], ◌∷◌, ◌++◌, OnOk, IfOk, slice_index};
+ghost use Rattle.hex.specs.Hex.{encode_lower, lower_digits};
+ghost use Rattle.crossterm_read.specs.Device.{Bytes, Resized, Fault};
+ghost use Rattle.recorder.specs.Lines as spec;
+ghost use Rattle.recorder.specs.inside.Said.{told_answer};
+
+use crate::kinds::kind_name;
+use crossterm_read::source::Act;
+use std::alloc::{AllocError, Allocator};
+use std::io::{ErrorKind, Write};
+
+/// What a line says.
+#[derive(Clone, Copy)]
+pub(crate) enum Told<'a> {
+    Bytes { bytes: &'a [u8], raw: bool },
+    Resized(u16, u16),
+    Woken,
+    Idle,
+    Fault(ErrorKind),
+}
+
+// The digit of a number below 16.
+fn digit(n: u8) -> u8
+    requires { n < 16 }
+    ensures { result ≡ slice_index lower_digits n }
+{
+    let digits: &[u8] = b"0123456789abcdef";
+    digits[usize::from(n)]
+}
+
+// Appends a word.
+fn push_word<A: Allocator>(out: &mut Vec<u8, A>, word: &str) -> Result<(), AllocError>
+    ensures { OnOk result (out.new.items ≡ out.old.items ++ word.now) }
+{
+    out.extend_from_slice(word.as_bytes())
+}
+
+// Appends hexadecimal digits.
+#[tactic(auto, unfolding(hex::specs::Hex::encode_with))]
+fn push_hex<A: Allocator>(out: &mut Vec<u8, A>, bytes: &[u8]) -> Result<(), AllocError>
+    ensures { OnOk result (out.new.items ≡ out.old.items ++ encode_lower bytes.now) }
+{
+    for byte in bytes {
+        out.push(digit(*byte / 16))?;
+        out.push(digit(*byte % 16))?;
+    }
+    Ok(())
+}
+
+// Appends the line of bytes.
+fn push_bytes<A: Allocator>(out: &mut Vec<u8, A>, bytes: &[u8], raw: bool) -> Result<(), AllocError>
+    ensures { OnOk result (out.new.items ≡ out.old.items ++ spec.line (Bytes bytes.now raw)) }
+{
+    if raw {
+        push_word(out, "raw ")?;
+        push_hex(out, bytes)?;
+        return Ok(());
+    }
+    push_word(out, "piece ")?;
+    push_hex(out, bytes)?;
+    Ok(())
+}
+
+// Appends the line of a size.
+fn push_size<A: Allocator>(out: &mut Vec<u8, A>, columns: u16, rows: u16) -> Result<(), AllocError>
+    ensures { OnOk result (out.new.items ≡ out.old.items ++ spec.line (Resized columns rows)) }
+{
+    match write!(out, "resize {columns} {rows}") {
+        Ok(()) => Ok(()),
+        Err(_) => Err(AllocError),
+    }
+}
+
+// Appends the line of a fault.
+fn push_fault<A: Allocator>(out: &mut Vec<u8, A>, kind: ErrorKind) -> Result<(), AllocError>
+    ensures { OnOk result (out.new.items ≡ out.old.items ++ spec.line (Fault kind)) }
+{
+    push_word(out, "fault ")?;
+    push_word(out, kind_name(kind))?;
+    Ok(())
+}
+
+// Appends the line of an answer, without its end.
+fn push_line<A: Allocator>(out: &mut Vec<u8, A>, told: Told<'_>) -> Result<(), AllocError>
+    ensures { OnOk result (out.new.items ≡ out.old.items ++ spec.line (told_answer told.entry)) }
+{
+    match told {
+        Told::Bytes { bytes, raw } => push_bytes(out, bytes, raw),
+        Told::Resized(columns, rows) => push_size(out, columns, rows),
+        Told::Woken => push_word(out, "wake"),
+        Told::Idle => push_word(out, "idle"),
+        Told::Fault(kind) => push_fault(out, kind),
+    }
+}
+
+// Appends the line of an answer and its end.
+fn push_told<A: Allocator>(out: &mut Vec<u8, A>, told: Told<'_>) -> Result<(), AllocError>
+    ensures { OnOk result (out.new.items ≡ out.old.items ++ spec.lines (told_answer told.entry ∷ [])) }
+{
+    push_line(out, told)?;
+    out.push(b'\n')?;
+    Ok(())
+}
+
+// Appends the line of a time and its end.
+fn push_stamp<A: Allocator>(out: &mut Vec<u8, A>, time: u32) -> Result<(), AllocError>
+    ensures { OnOk result (out.new.items ≡ out.old.items ++ spec.stamp time ++ 10 ∷ []) }
+{
+    match writeln!(out, "# {time}") {
+        Ok(()) => Ok(()),
+        Err(_) => Err(AllocError),
+    }
+}
+
+/// Appends what came at a time: the line of the time, in milliseconds, and that of the answer.
+pub(crate) fn push_entry<A: Allocator>(
+    out: &mut Vec<u8, A>,
+    time: u32,
+    told: Told<'_>,
+) -> Result<(), AllocError>
+    ensures { OnOk result (out.new.items ≡ out.old.items ++ spec.text ((time, told_answer told.entry) ∷ [])) }
+{
+    push_stamp(out, time)?;
+    push_told(out, told)?;
+    Ok(())
+}
+
+// What an act says in one line.
+fn said<A: Allocator>(act: &Act<A>) -> Told<'_>
+    ensures { told_answer result ≡ spec.told act.now }
+{
+    match act {
+        Act::Piece { bytes, raw } => Told::Bytes {
+            bytes: bytes.as_slice(),
+            raw: *raw,
+        },
+        Act::Resize(columns, rows) => Told::Resized(*columns, *rows),
+        Act::Woken => Told::Woken,
+        Act::Idle => Told::Idle,
+        Act::Fault(kind) => Told::Fault(*kind),
+    }
+}
+
+/// Appends an act to a text, as one line: `piece HEX`, `raw HEX`, `resize COLUMNS ROWS`, `wake`, `idle` or `fault KIND`.
+///
+/// ```
+/// write_act(&mut text, &Act::Resize(80, 24))?;    // resize 80 24
+/// ```
+///
+/// # Errors
+/// Memory was refused, and then the text may end with a part of the line.
+pub fn write_act<A: Allocator, B: Allocator>(
+    out: &mut Vec<u8, B>,
+    act: &Act<A>,
+) -> Result<(), AllocError>
+    ensures { OnOk result (out.new.items ≡ out.old.items ++ spec.lines (spec.told act.now ∷ [])) }
+{
+    push_told(out, said(act))
+}

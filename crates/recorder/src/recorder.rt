@@ -1,0 +1,219 @@
+//! A device whose answers are written before they are handed on.
+ghost use Rattle.std.specs.Prelude.{◌≡◌, ◌≤◌, ◌↔◌, ℕ, List, [], ◌∷◌, length, Option, None, Some, IfOk, IsTrue, false};
+ghost use Rattle.crossterm_read.specs.Device.{CountWithin, device_answer};
+ghost use Rattle.recorder.specs.Answering.{recorder_answering};
+ghost use Rattle.recorder.specs.Recording.{Fits, IsAnswer, Recording, Uses, Writes, millis, recorded};
+ghost use Rattle.recorder.specs.inside.Said.{Notes, said_by, told_answer};
+
+use crate::line::{Told, push_entry};
+use crossterm_command::write_bytes;
+use crossterm_read::source::{Answer, Device, Waker};
+use crossterm_types::event::timeout::Clock;
+use std::alloc::{Allocator, Global};
+use std::io::{self, ErrorKind, Write};
+use std::marker::Model;
+use std::time::Duration;
+
+/// Why a recording ended before its session.
+#[derive(Clone, Copy, Debug, PartialEq, Eq)]
+pub enum Stop {
+    /// What came next had no room, as `Recorder::most` bounds it. The recording ends with a whole line.
+    Cut,
+    /// The writer failed with an error of this kind, and may have taken a part of a line.
+    Failed(ErrorKind),
+}
+
+/// A device over a device, which writes each answer as a line before it hands it on, and before it the time.
+///
+/// It answers what its device answers, whatever becomes of the recording: at the first failure of its writer it stops writing, and
+/// keeps why. The end of input isn't written: a script of the lines ends by itself.
+///
+/// ```
+/// let device = Recorder::new(alloc, device, file, SystemClock::new(&rt)).most(1_048_576);
+/// let mut reader = InternalEventReader::new(alloc, DeviceSource::new(alloc, device));
+/// ```
+#[derive(Drop)]
+pub struct Recorder<D, W, C: Clock, A: Allocator = Global> {
+    device: D,
+    writer: W,
+    clock: C,
+    line: Vec<u8, A>,
+    room: Option<u64>,
+    stop: Option<Stop>,
+}
+
+impl<D, W, C: Clock, A: Allocator> Model for Recorder<D, W, C, A> {
+    ghost Value = { Recording D W };
+
+    ghost view = { λ r. record { device = r.device; writer = r.writer; clock = C.told r.clock; room = r.room; stop = r.stop } };
+}
+
+// The line of an answer, if it has one.
+fn line_of<'a>(answer: &io::Result<Answer>, buf: &'a [u8]) -> Option<Told<'a>>
+    requires within { IfOk answer.now (λ a. CountWithin a (length buf.now)) }
+    requires most { length buf.now ≤ 1024 }
+    ensures is_answer { IsAnswer (device_answer answer.now buf.now) }
+    ensures line { said_by result ≡ recorded (device_answer answer.now buf.now ∷ []) }
+{
+    match answer {
+        Ok(Answer::Bytes { count, raw }) => {
+            if *count == 0 {
+                None
+            } else {
+                let bytes = &buf[..*count];
+                Some(Told::Bytes { bytes, raw: *raw })
+            }
+        }
+        Ok(Answer::Resize(columns, rows)) => Some(Told::Resized(*columns, *rows)),
+        Ok(Answer::Woken) => Some(Told::Woken),
+        Ok(Answer::Idle) => Some(Told::Idle),
+        Err(e) => Some(Told::Fault(e.kind())),
+    }
+}
+
+// The milliseconds that a clock tells.
+fn moment<C: Clock>(clock: &mut C) -> u32
+    ensures time { result ≡ millis (C.told clock.new) }
+    ensures later { millis (C.told clock.old) ≤ millis (C.told clock.new) }
+{
+    let time = clock.now().as_millis();
+    if time < 4_294_967_295 {
+        time as u32
+    } else {
+        4_294_967_295
+    }
+}
+
+// Takes so many bytes of the room, if it has as many, and returns whether it had.
+fn take_room(room: &mut Option<u64>, count: usize) -> bool
+    ensures uses { IsTrue result → Uses room.old count room.new }
+    ensures full { result ≡ false → Fits room.old count → ⊥ }
+{
+    match *room {
+        None => true,
+        Some(left) => {
+            let count = count as u64;
+            if left < count {
+                return false;
+            }
+            *room = Some(left - count);
+            true
+        }
+    }
+}
+
+// Writes an entry, and returns why the recording ends, if it does.
+fn write_entry<W: Write, A: Allocator>(
+    writer: &mut W,
+    line: &mut Vec<u8, A>,
+    room: &mut Option<u64>,
+    time: u32,
+    told: Told<'_>,
+) -> Option<Stop>
+    ensures { Writes W.contents None room.old writer.old ((time, told_answer told.entry) ∷ []) result room.new writer.new }
+{
+    line.clear();
+    if push_entry(line, time, told).is_err() {
+        return Some(Stop::Failed(ErrorKind::OutOfMemory));
+    }
+    if !take_room(room, line.len()) {
+        return Some(Stop::Cut);
+    }
+    match write_bytes(writer, line.as_slice()) {
+        Ok(()) => None,
+        Err(e) => Some(Stop::Failed(e.kind())),
+    }
+}
+
+// Writes what is said with its time, if something is and nothing stopped the recording.
+fn record<W: Write, C: Clock, A: Allocator>(
+    writer: &mut W,
+    clock: &mut C,
+    line: &mut Vec<u8, A>,
+    room: &mut Option<u64>,
+    stop: &mut Option<Stop>,
+    told: Option<Told<'_>>,
+)
+    ensures { Notes W.contents (C.told clock.old) stop.old room.old writer.old (said_by told.entry) (C.told clock.new) stop.new room.new writer.new }
+{
+    let Some(told) = told else {
+        return;
+    };
+    if stop.is_none() {
+        let time = moment(clock);
+        *stop = write_entry(writer, line, room, time, told);
+    }
+}
+
+impl<D: Device, W: Write + Drop, C: Clock + Drop, A: Allocator> Recorder<D, W, C, A> {
+    /// A recorder that has written nothing yet. Times count from where its clock begins.
+    pub fn new(alloc: A, device: D, writer: W, clock: C) -> Self
+        ensures { result ≡ record { device = device; writer = writer; clock = C.told clock; room = None; stop = None } }
+    {
+        Recorder {
+            device,
+            writer,
+            clock,
+            line: Vec::new(alloc),
+            room: None,
+            stop: None,
+        }
+    }
+
+    /// The same recorder, which writes so many bytes at most from now on.
+    pub fn most(mut self, bytes: u64) -> Self
+        ensures { result ≡ record { device = self.device; writer = self.writer; clock = self.clock; room = Some bytes; stop = self.stop } }
+    {
+        self.room = Some(bytes);
+        self
+    }
+
+    /// The writer, with what it was given.
+    pub fn into_writer(self) -> W
+        ensures { result ≡ self.writer }
+    {
+        let Recorder { writer, .. } = self;
+        writer
+    }
+
+    /// Why the recording ended, after which nothing was written; `None` while it goes on.
+    pub fn stopped(&self) -> Option<Stop>
+        ensures { result ≡ self.now.stop }
+    {
+        self.stop
+    }
+}
+
+impl<D: Device, W: Write + Drop, C: Clock + Drop, A: Allocator> Device for Recorder<D, W, C, A> {
+    ghost answering = { recorder_answering W.contents D.answering };
+
+    ghost failed = { λ s. D.failed s.device };
+
+    ghost fails = { D.fails };
+
+    ghost asked = { λ s. D.asked s.device };
+
+    ghost wakes = { λ s. D.wakes s.device };
+
+    fn answer(&mut self, buf: &mut [u8], limit: Option<Duration>) -> io::Result<Answer> {
+        let answer = self.device.answer(buf, limit);
+        let line = line_of(&answer, buf);
+        record(
+            &mut self.writer,
+            &mut self.clock,
+            &mut self.line,
+            &mut self.room,
+            &mut self.stop,
+            line,
+        );
+        answer
+    }
+
+    fn failures(&self) -> u64 {
+        self.device.failures()
+    }
+
+    fn waker(&self) -> io::Result<Waker> {
+        self.device.waker()
+    }
+}

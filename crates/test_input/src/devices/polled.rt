@@ -1,0 +1,96 @@
+//! What comes at once, and what is waited for.
+
+use crate::devices::answers::{NOW, is_idle, long, tells, tells_many, waits_out};
+use crate::devices::ends::piped;
+use crate::devices::readers::is_key;
+use crate::expect_of_each;
+use crossterm_read::source::{Device, DeviceSource, EventSource};
+use crossterm_types::event::KeyCode;
+use std::alloc::Global;
+use std::fs::Files;
+use std::io::{self, Write};
+use std::net::Net;
+use std::time::Clock;
+use test_support::expect;
+
+/// Whether bytes are told once, as they came, and nothing before and after.
+fn tells_what_came<D: Device, W: Write>(device: &mut D, far: &mut W) -> io::Result<bool> {
+    let empty = is_idle(device, NOW);
+    far.write_all(b"abc")?;
+    let came = tells(device, long(), b"abc") && is_idle(device, NOW);
+    far.write_all(&[b'x'; 1024])?;
+    let full = tells_many(device, None, b'x', 1024) && is_idle(device, NOW);
+    far.write_all(&[b'y'; 1025])?;
+    let more = tells_many(device, None, b'y', 1024) && tells_many(device, NOW, b'y', 1);
+    Ok(empty && came && full && more && is_idle(device, NOW))
+}
+
+/// Whether bytes that come one at a time are told one at a time.
+fn tells_each<D: Device, W: Write>(device: &mut D, far: &mut W) -> io::Result<bool> {
+    for byte in 0..200u8 {
+        far.write_all(&[byte])?;
+        if !tells(device, long(), &[byte]) {
+            return Ok(false);
+        }
+    }
+    Ok(true)
+}
+
+/// Whether a limit is waited out: after bytes, before them, and again.
+fn keeps_limits<D: Device, W: Write, R: Clock>(
+    rt: &R,
+    device: &mut D,
+    far: &mut W,
+) -> io::Result<bool> {
+    let before = waits_out(rt, device, 30)?;
+    far.write_all(b"ab")?;
+    let came = tells(device, None, b"ab");
+    let after = waits_out(rt, device, 60)?;
+    far.write_all(&[b'x'; 2048])?;
+    let burst = tells_many(device, None, b'x', 1024) && tells_many(device, None, b'x', 1024);
+    Ok(before && came && after && burst && waits_out(rt, device, 50)?)
+}
+
+/// Whether what came before the end is told, and then the end for good, at once.
+fn tells_the_end<D: Device, W: Write + Drop>(device: &mut D, far: W) -> io::Result<bool> {
+    let mut far = far;
+    far.write_all(b"yz")?;
+    drop(far);
+    let rest = tells(device, None, b"yz");
+    Ok(rest && tells(device, None, b"") && tells(device, None, b"") && device.failures() == 0)
+}
+
+/// Whether bytes come at once, limits are waited out, and the end is told.
+fn waits_and_tells<D: Device, W: Write + Drop, R: Clock>(
+    rt: &R,
+    device: &mut D,
+    far: W,
+) -> io::Result<bool> {
+    let mut far = far;
+    let waits = tells_what_came(device, &mut far)?
+        && tells_each(device, &mut far)?
+        && keeps_limits(rt, device, &mut far)?;
+    Ok(waits && tells_the_end(device, far)?)
+}
+
+#[test]
+fn pipes_connections_and_sockets_are_told(rt: HostRuntime) -> io::Result<()> {
+    expect_of_each!(rt; waits_and_tells);
+    Ok(())
+}
+
+/// Whether a sequence that is cut between two answers is one key.
+fn joins_a_sequence<R: Net + Files>(rt: &R, alloc: Global) -> io::Result<bool> {
+    let (device, mut far) = piped(rt, alloc)?;
+    let mut source = DeviceSource::new(alloc, device);
+    far.write_all(b"\x1b[1")?;
+    let none = source.try_read(long())?.is_none() && source.try_read(NOW)?.is_none();
+    far.write_all(b";2A")?;
+    Ok(none && is_key(source.try_read(long())?, KeyCode::Up))
+}
+
+#[test]
+fn a_sequence_may_be_cut(rt: HostRuntime) -> io::Result<()> {
+    expect!(rt; joins_a_sequence(&rt, rt.alloc())?);
+    Ok(())
+}

@@ -1,0 +1,112 @@
+//! A device over a reader.
+
+use crate::devices::answers::{NOW, fails, is_idle, is_raw, tells, tells_many};
+use crate::devices::ends::cooked;
+use crossterm_read::source::{Device, DeviceSource, EventSource, RawFlag, ReadDevice};
+use crossterm_types::event::{Event, InternalEvent, KeyCode};
+use std::alloc::Global;
+use std::io::{self, Cursor, ErrorKind, Read};
+use test_support::expect;
+
+/// Whether a device over a list of bytes tells them, and then the end for good.
+fn tells_a_list(alloc: Global) -> io::Result<bool> {
+    let mut device = ReadDevice::new(&b"abc"[..], cooked(alloc)?);
+    Ok(
+        tells(&mut device, None, b"abc")
+            && tells(&mut device, None, b"")
+            && tells(&mut device, NOW, b""),
+    )
+}
+
+/// Whether a buffer at a time is told.
+fn tells_by_buffers(alloc: Global) -> io::Result<bool> {
+    let mut device = ReadDevice::new(Cursor::new([7u8; 1025]), cooked(alloc)?);
+    Ok(
+        tells_many(&mut device, None, 7, 1024)
+            && tells_many(&mut device, None, 7, 1)
+            && tells(&mut device, None, b""),
+    )
+}
+
+#[test]
+fn a_reader_is_told_to_its_end(rt: HostRuntime) -> io::Result<()> {
+    expect!(rt; tells_a_list(rt.alloc())?);
+    expect!(rt; tells_by_buffers(rt.alloc())?);
+    Ok(())
+}
+
+/// A reader that gives `x` after three errors.
+#[derive(Drop)]
+struct Faulty {
+    reads: u8,
+}
+
+impl Read for Faulty {
+    fn read(&mut self, buf: &mut [u8]) -> io::Result<usize> {
+        self.reads = self.reads.saturating_add(1);
+        match self.reads {
+            1 => Err(io::Error::from(ErrorKind::WouldBlock)),
+            2 => Err(io::Error::from(ErrorKind::Interrupted)),
+            3 => Err(io::Error::from(ErrorKind::Other)),
+            _ => match buf.first_mut() {
+                Some(first) => {
+                    *first = b'x';
+                    Ok(1)
+                }
+                None => Ok(0),
+            },
+        }
+    }
+}
+
+/// Whether an error is a failure where it says more than that nothing came.
+fn tells_faults(alloc: Global) -> io::Result<bool> {
+    let mut device = ReadDevice::new(Faulty { reads: 0 }, cooked(alloc)?);
+    let idle = is_idle(&mut device, None) && is_idle(&mut device, None) && device.failures() == 0;
+    let fails = fails(&mut device, ErrorKind::Other) && device.failures() == 1;
+    Ok(idle && fails && tells(&mut device, None, b"x") && device.failures() == 1)
+}
+
+#[test]
+fn an_error_is_told_and_counted(rt: HostRuntime) -> io::Result<()> {
+    expect!(rt; tells_faults(rt.alloc())?);
+    Ok(())
+}
+
+/// Whether bytes come in the mode that the flag says then, and whether waking changes anything.
+fn follows_its_flag(alloc: Global) -> io::Result<bool> {
+    let flag = RawFlag::new(alloc)?;
+    let mut device = ReadDevice::new(Cursor::new([7u8; 2500]), flag.share()?);
+    device.waker()?.wake()?;
+    let cooked = !is_raw(&mut device);
+    flag.set(true);
+    Ok(cooked && is_raw(&mut device))
+}
+
+#[test]
+fn bytes_come_in_the_mode_of_the_flag(rt: HostRuntime) -> io::Result<()> {
+    expect!(rt; follows_its_flag(rt.alloc())?);
+    Ok(())
+}
+
+/// Whether the next event is that of a key.
+pub fn is_key(event: Option<InternalEvent>, code: KeyCode) -> bool {
+    matches!(event, Some(InternalEvent::Event(Event::Key(key))) if key.code == code)
+}
+
+/// Whether a source over a device over a reader gives keys.
+fn gives_keys(alloc: Global) -> io::Result<bool> {
+    let device = ReadDevice::new(&b"a\x1b[A"[..], cooked(alloc)?);
+    let mut source = DeviceSource::new(alloc, device);
+    let first = is_key(source.try_read(None)?, KeyCode::Char('a'));
+    let second = is_key(source.try_read(None)?, KeyCode::Up);
+    let ended =
+        matches!(source.try_read(None), Err(error) if error.kind() == ErrorKind::UnexpectedEof);
+    Ok(first && second && ended)
+}
+
+#[test]
+fn a_source_reads_a_reader(rt: HostRuntime) -> io::Result<()> {
+    expect!(rt; gives_keys(rt.alloc())?);
+    Ok(())
+}

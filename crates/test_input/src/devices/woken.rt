@@ -1,0 +1,82 @@
+//! Wakers.
+
+use crate::devices::answers::{NOW, is_idle, is_woken, tells_many, waits_out};
+use crate::devices::ends::piped;
+use crate::expect_of_each;
+use crossterm_read::source::{Device, DeviceSource, EventSource, Waker};
+use std::alloc::Global;
+use std::fs::Files;
+use std::io::{self, ErrorKind, Write};
+use std::net::Net;
+use std::thread;
+use std::thread::Threads;
+use std::time::{Clock, Duration};
+use test_support::expect;
+
+/// Whether a device is woken once, however often its wakers were used, and before bytes, of which none is lost.
+fn is_woken_once<D: Device, W: Write>(device: &mut D, far: &mut W) -> io::Result<bool> {
+    let waker = device.waker()?;
+    let other = waker.share()?;
+    far.write_all(&[b'x'; 4096])?;
+    waker.wake()?;
+    other.wake()?;
+    device.waker()?.wake()?;
+    let woken = is_woken(device, None);
+    let first = tells_many(device, None, b'x', 1024) && tells_many(device, None, b'x', 1024);
+    waker.wake()?;
+    let again = is_woken(device, NOW);
+    let rest = tells_many(device, None, b'x', 1024) && tells_many(device, None, b'x', 1024);
+    Ok(woken && first && again && rest && is_idle(device, NOW))
+}
+
+/// Whether a waker ends a wait without limit from another thread, and a later wait isn't ended.
+fn is_woken_from_afar<D: Device + Send, R: Threads + Clock + Sync>(
+    rt: &R,
+    device: &mut D,
+    waker: &Waker,
+) -> io::Result<bool> {
+    let (wakes, woken) = thread::join(
+        rt,
+        || {
+            thread::sleep(rt, Duration::from_millis(20));
+            waker.wake().is_ok()
+        },
+        || is_woken(device, None),
+    );
+    Ok(wakes && woken && waits_out(rt, device, 30)?)
+}
+
+/// Whether its wakers wake a device, here and from another thread.
+fn wakes<D: Device + Send, W: Write + Drop, R: Threads + Clock + Sync>(
+    rt: &R,
+    device: &mut D,
+    far: W,
+) -> io::Result<bool> {
+    let mut far = far;
+    let waker = device.waker()?;
+    Ok(is_woken_once(device, &mut far)? && is_woken_from_afar(rt, device, &waker)?)
+}
+
+#[test]
+fn pipes_connections_and_sockets_are_woken(rt: HostRuntime) -> io::Result<()> {
+    expect_of_each!(rt; wakes);
+    Ok(())
+}
+
+/// Whether a source is woken by a waker of its device, and a waker does no harm once the device is gone.
+fn wakes_a_source<R: Net + Files>(rt: &R, alloc: Global) -> io::Result<bool> {
+    let (device, _far) = piped(rt, alloc)?;
+    let mut source = DeviceSource::new(alloc, device);
+    let waker = source.waker()?;
+    waker.wake()?;
+    let woken =
+        matches!(source.try_read(None), Err(error) if error.kind() == ErrorKind::Interrupted);
+    drop(source);
+    Ok(woken && waker.wake().is_ok())
+}
+
+#[test]
+fn a_source_is_woken(rt: HostRuntime) -> io::Result<()> {
+    expect!(rt; wakes_a_source(&rt, rt.alloc())?);
+    Ok(())
+}

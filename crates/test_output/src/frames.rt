@@ -1,0 +1,10 @@
+//! Screens from outside: what is written is read by a plain program of the test, which shows it on cells of its own.
+
+mod failing;
+mod growth;
+mod paper;
+mod prints;
+mod random;
+mod refused;
+mod rows;
+mod sizes;

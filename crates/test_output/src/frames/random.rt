@@ -1,0 +1,84 @@
+//! Random frames, each read back on paper.
+
+use crate::frames::paper::{Paper, Sheet};
+use crossterm_command::ColorOutput;
+use screen::Screen;
+use std::alloc::Global;
+use std::io;
+use test_support::expect;
+
+/// How many frames are drawn.
+const FRAMES: u32 = 50;
+
+/// The number from which the random ones follow.
+const SEED: u32 = 20_261_124;
+
+const SYMBOLS: [char; 8] = ['a', 'b', ' ', '~', 'é', 'Ж', '─', '𝔸'];
+
+/// The next of the random numbers, below a limit.
+fn number(state: &mut u32, below: u16) -> u16 {
+    *state = state.wrapping_mul(1_664_525).wrapping_add(1_013_904_223);
+    ((*state >> 16) as u16).checked_rem(below).unwrap_or(0)
+}
+
+/// Sets some cells, and tells whether each was set as it should be.
+fn change(sheet: &mut Sheet, state: &mut u32) -> bool {
+    let mut is_right = true;
+    for _ in 0..number(state, 9) {
+        let column = number(state, 12);
+        let row = number(state, 6);
+        let symbol = *SYMBOLS.get(usize::from(number(state, 8))).unwrap_or(&'?');
+        let style = u32::from(number(state, 5));
+        is_right = sheet.set(column, row, symbol, style) && is_right;
+    }
+    is_right
+}
+
+/// How many cells differ.
+fn count_changed(old: &Sheet, new: &Sheet) -> u32 {
+    let mut count = 0u32;
+    for (left, right) in old.marks.iter().zip(new.marks.iter()) {
+        if left != right {
+            count = count.saturating_add(1);
+        }
+    }
+    count
+}
+
+/// Draws frames one after another on one paper, and tells whether each is shown, and how many characters were printed for it.
+fn are_shown(alloc: Global) -> io::Result<bool> {
+    let mut state = SEED;
+    let mut screen = Screen::new(alloc, 11, 5)?;
+    let mut paper = Paper::new(alloc, 11, 5)?;
+    // Both sheets get the same changes, and the old one gets them a frame later.
+    let mut old = Sheet::new(alloc, 11, 5)?;
+    let mut new = Sheet::new(alloc, 11, 5)?;
+    for _ in 0..FRAMES {
+        let before = state;
+        if !change(&mut new, &mut state) {
+            return Ok(false);
+        }
+        let cursor = if number(&mut state, 3) == 0 {
+            None
+        } else {
+            Some((number(&mut state, 11), number(&mut state, 5)))
+        };
+        let mut bytes: Vec<u8> = Vec::new(alloc);
+        let drawn = screen.draw(&mut bytes, ColorOutput::Enabled, &new.buffer, cursor);
+        paper.printed = 0;
+        paper.write(&bytes);
+        let wanted = count_changed(&old, &new);
+        if drawn.is_err() || !paper.shows(&new.marks, cursor) || paper.printed != wanted {
+            return Ok(false);
+        }
+        let mut again = before;
+        change(&mut old, &mut again);
+    }
+    Ok(true)
+}
+
+#[test]
+fn random_frames_are_shown(rt: HostRuntime) -> io::Result<()> {
+    expect!(rt; are_shown(rt.alloc())?);
+    Ok(())
+}

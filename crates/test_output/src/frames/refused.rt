@@ -1,0 +1,65 @@
+//! What is refused, by name.
+
+use crossterm_command::ColorOutput;
+use crossterm_style::ContentStyle;
+use screen::{Buffer, CellFault, DrawFault, Screen};
+use std::alloc::{AllocError, Global};
+use test_support::expect;
+
+/// Characters, and why they can't stand in a cell (Unicode Standard Annex 11; ECMA-48 for the control characters).
+const ROWS: [(char, Option<CellFault>); 10] = [
+    ('\u{0}', Some(CellFault::Control)),
+    ('\u{1b}', Some(CellFault::Control)),
+    ('\u{7f}', Some(CellFault::Control)),
+    ('\u{9b}', Some(CellFault::Control)),
+    ('\u{301}', Some(CellFault::NoWidth)),
+    ('\u{200b}', Some(CellFault::NoWidth)),
+    ('漢', Some(CellFault::Wide)),
+    ('😀', Some(CellFault::Wide)),
+    ('é', None),
+    ('~', None),
+];
+
+fn are_refused(alloc: Global) -> Result<bool, AllocError> {
+    let mut buffer = Buffer::new(alloc, 2, 2)?;
+    for (symbol, fault) in ROWS {
+        let style = ContentStyle::new();
+        if buffer.set(1, 1, symbol, style).err() != fault
+            || buffer.fill(symbol, style).err() != fault
+        {
+            return Ok(false);
+        }
+    }
+    let is_filled = buffer.cells().iter().all(|cell| cell.symbol == '~');
+    let style = ContentStyle::new();
+    Ok(
+        is_filled
+            && buffer.set(2, 0, 'x', style) == Err(CellFault::Outside)
+            && buffer.set(0, 2, '\u{1b}', style) == Err(CellFault::Outside),
+    )
+}
+
+/// Whether frames of another size and cursors outside are refused, with nothing written.
+fn are_frames_refused(alloc: Global) -> Result<bool, AllocError> {
+    let mut screen = Screen::new(alloc, 2, 2)?;
+    let mut bytes: Vec<u8> = Vec::new(alloc);
+    let colors = ColorOutput::Enabled;
+    let small = Buffer::new(alloc, 2, 1)?;
+    let buffer = Buffer::new(alloc, 2, 2)?;
+    let is_size = matches!(
+        screen.draw(&mut bytes, colors, &small, None),
+        Err(DrawFault::Size)
+    );
+    let right = screen.draw(&mut bytes, colors, &buffer, Some((2, 0)));
+    let below = screen.draw(&mut bytes, colors, &buffer, Some((0, 2)));
+    let is_cursor = matches!(right, Err(DrawFault::Cursor))
+        && matches!(below, Err(DrawFault::Cursor));
+    Ok(is_size && is_cursor && bytes.is_empty())
+}
+
+#[test]
+fn faults_have_names(rt: HostRuntime) -> Result<(), AllocError> {
+    expect!(rt; are_refused(rt.alloc())?);
+    expect!(rt; are_frames_refused(rt.alloc())?);
+    Ok(())
+}

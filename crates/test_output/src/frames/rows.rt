@@ -1,0 +1,52 @@
+//! Frames by their bytes, written by hand from ECMA-48.
+
+use crossterm_command::ColorOutput;
+use crossterm_style::{Color, ContentStyle};
+use screen::{Buffer, Screen};
+use std::alloc::{AllocError, Global};
+use test_support::expect;
+
+/// What begins each frame, and what ends one whose cursor is hidden.
+const BEGIN: &str = "\x1b[?2026h";
+
+const END: &str = "\x1b[0m\x1b[?25l\x1b[?2026l";
+
+/// What a frame is to write between its beginning and its end.
+fn writes(screen: &mut Screen, alloc: Global, buffer: &Buffer, wanted: &str) -> bool {
+    let mut bytes: Vec<u8> = Vec::new(alloc);
+    if screen
+        .draw(&mut bytes, ColorOutput::Enabled, buffer, None)
+        .is_err()
+    {
+        return false;
+    }
+    let Some(rest) = bytes.as_slice().strip_prefix(BEGIN.as_bytes()) else {
+        return false;
+    };
+    rest.strip_suffix(END.as_bytes()) == Some(wanted.as_bytes())
+}
+
+fn are_written(alloc: Global) -> Result<bool, AllocError> {
+    let mut screen = Screen::new(alloc, 20, 3)?;
+    let mut buffer = Buffer::new(alloc, 20, 3)?;
+    let red = ContentStyle {
+        foreground_color: Some(Color::AnsiValue(9)),
+        ..ContentStyle::new()
+    };
+    let blank = writes(&mut screen, alloc, &buffer, "\x1b[0m\x1b[2J");
+    let nothing = writes(&mut screen, alloc, &buffer, "");
+    let set = buffer.set(2, 1, 'a', red).is_ok()
+        && buffer.set(3, 1, 'b', red).is_ok()
+        && buffer.set(19, 1, 'c', red).is_ok()
+        && buffer.set(0, 2, 'd', ContentStyle::new()).is_ok();
+    let some = "\x1b[2;3H\x1b[0m\x1b[38;5;9mab\x1b[2;20Hc\x1b[3;1H\x1b[0md";
+    let changed = writes(&mut screen, alloc, &buffer, some);
+    let still = writes(&mut screen, alloc, &buffer, "");
+    Ok(blank && nothing && set && changed && still)
+}
+
+#[test]
+fn neighbours_are_grouped_and_the_rest_is_left(rt: HostRuntime) -> Result<(), AllocError> {
+    expect!(rt; are_written(rt.alloc())?);
+    Ok(())
+}

@@ -1,0 +1,9 @@
+//! Key bindings from outside, by rows: lists that are bound, letters that are typed, and what comes of them.
+
+mod growth;
+mod passing;
+mod random;
+mod refused;
+mod rows;
+mod spelling;
+mod steps;

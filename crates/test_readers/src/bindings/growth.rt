@@ -1,0 +1,77 @@
+//! Bindings and matchers whose memory is refused.
+
+use crossterm_types::event::{KeyCode, KeyEvent};
+use keymap::{Keymap, KeymapFault, Matcher, Outcome};
+use linked_list_allocator::LocalHeap;
+use std::alloc::AllocError;
+use test_support::{Calls, Came, expect, is_refused_below_a_size};
+
+/// Binds a list that is to have this number. Where memory is refused there may be no binding of that number.
+fn binds(keymap: &mut Keymap<&LocalHeap>, chords: &[KeyEvent], number: usize) -> Came {
+    match keymap.bind(chords, "go") {
+        Ok(bound) => {
+            if bound == number && keymap.action(number) == Some("go") {
+                Came::Done
+            } else {
+                Came::Wrong
+            }
+        }
+        Err(KeymapFault::Memory) => {
+            if keymap.action(number).is_none() {
+                Came::Refused
+            } else {
+                Came::Wrong
+            }
+        }
+        Err(_) => Came::Wrong,
+    }
+}
+
+/// Feeds a key that is bound and may become longer, and flushes. Where memory is refused nothing may wait.
+fn feeds(matcher: &mut Matcher<&LocalHeap>, key: KeyEvent) -> Came {
+    if matcher.feed(key) == Err(KeymapFault::Memory) {
+        return if matcher.next().is_none() {
+            Came::Refused
+        } else {
+            Came::Wrong
+        };
+    }
+    if matcher.next().is_some() || matcher.flush().is_err() {
+        return Came::Wrong;
+    }
+    match matcher.next() {
+        Some(Outcome::Action(1)) => Came::Done,
+        _ => Came::Wrong,
+    }
+}
+
+/// Binds a key twice and alone, and feeds it.
+fn binds_and_feeds(heap: &LocalHeap) -> Came {
+    let key = KeyEvent::from(KeyCode::Char('g'));
+    let mut keymap = Keymap::new(heap);
+    match binds(&mut keymap, &[key, key], 0) {
+        Came::Done => {}
+        other => return other,
+    }
+    match binds(&mut keymap, &[key], 1) {
+        Came::Done => {}
+        other => return other,
+    }
+    feeds(&mut Matcher::new(heap, keymap), key)
+}
+
+/// Bindings, and a key that is fed.
+#[derive(Drop)]
+struct Bindings;
+
+impl Calls for Bindings {
+    fn over(&self, heap: &LocalHeap) -> Result<Came, AllocError> {
+        Ok(binds_and_feeds(heap))
+    }
+}
+
+#[test]
+fn refused_memory_changes_nothing(rt: HostRuntime) -> Result<(), AllocError> {
+    expect!(rt; is_refused_below_a_size(rt.alloc(), &Bindings)?);
+    Ok(())
+}

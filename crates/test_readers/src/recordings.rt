@@ -1,0 +1,281 @@
+//! Recordings from outside: what is written of a session, what reads as one, and what is left where the writer fails or the room is used up.
+
+use crossterm_read::read::InternalEventReader;
+use crossterm_read::source::{Answer, Device, DeviceSource, Script};
+use crossterm_types::event::filter::EventFilter;
+use linked_list_allocator::LocalHeap;
+use recorder::reading::{Session, Wrong, read_session};
+use recorder::{Recorder, Stop};
+use std::alloc::{AllocError, Global};
+use std::io::{self, ErrorKind, Write};
+use test_support::{Calls, Came, Ticking, expect, is_refused_below_a_size, is_text};
+
+/// A session, and how it is recorded by a clock that goes on by a millisecond an answer.
+const ACTS: &str = "\
+piece 1b5b41
+raw 0d
+resize 80 24
+wake
+idle
+fault Interrupted
+piece 1b
+idle
+piece 5b42
+fault Other
+";
+
+const RECORDED: &str = "\
+# 1
+piece 1b5b41
+# 2
+raw 0d
+# 3
+resize 80 24
+# 4
+wake
+# 5
+idle
+# 6
+fault Interrupted
+# 7
+piece 1b
+# 8
+idle
+# 9
+piece 5b42
+# 10
+fault Other
+";
+
+/// A writer that takes so many bytes, and then is full.
+#[derive(Drop)]
+struct Short {
+    bytes: Vec<u8>,
+    left: usize,
+}
+
+impl Write for Short {
+    fn write(&mut self, buf: &[u8]) -> io::Result<usize> {
+        let count = self.left.min(buf.len());
+        if count == 0 {
+            return Err(io::Error::from(ErrorKind::StorageFull));
+        }
+        self.left -= count;
+        match self.bytes.extend_from_slice(&buf[..count]) {
+            Ok(()) => Ok(count),
+            Err(_) => Err(io::Error::from(ErrorKind::OutOfMemory)),
+        }
+    }
+
+    fn flush(&mut self) -> io::Result<()> {
+        Ok(())
+    }
+}
+
+/// A recorder over a script.
+type Recording = Recorder<Script, Short, Ticking>;
+
+/// A recorder of the session whose writer takes so many bytes.
+fn recording(alloc: Global, left: usize) -> Option<Recording> {
+    let session = read_session(&alloc, ACTS.as_bytes()).ok()?;
+    let bytes = Vec::new(alloc);
+    Some(Recorder::new(
+        alloc,
+        Script::new(session.acts),
+        Short { bytes, left },
+        Ticking::new(),
+    ))
+}
+
+/// How an answer is shown: the first letter of its act, or `.` for the end of input.
+fn sign_of(answer: &io::Result<Answer>) -> char {
+    match answer {
+        Ok(Answer::Bytes { count: 0, .. }) => '.',
+        Ok(Answer::Bytes { raw: true, .. }) => 'r',
+        Ok(Answer::Bytes { .. }) => 'p',
+        Ok(Answer::Resize(_, _)) => 's',
+        Ok(Answer::Woken) => 'w',
+        Ok(Answer::Idle) => 'i',
+        Err(_) => 'f',
+    }
+}
+
+/// Asks a device twelve times, and shows its answers.
+fn asked(alloc: Global, device: &mut impl Device) -> Option<String> {
+    let mut signs = String::new(alloc);
+    let mut buf = [0u8; 1024];
+    for _ in 0..12u32 {
+        let answer = device.answer(&mut buf, None);
+        signs.push(sign_of(&answer)).ok()?;
+    }
+    Some(signs)
+}
+
+/// What the session's answers are, whatever becomes of its recording.
+const ANSWERS: &str = "prswifpipf..";
+
+/// What is written where a writer takes so many bytes, if all is answered as it should be, and why the recording ended.
+fn written(alloc: Global, mut recorder: Recording) -> Option<(Vec<u8>, Option<Stop>)> {
+    if asked(alloc, &mut recorder)?.as_str() != ANSWERS {
+        return None;
+    }
+    let stop = recorder.stopped();
+    Some((recorder.into_writer().bytes, stop))
+}
+
+/// Whether a writer that takes so many bytes has as many, and the recording says so.
+fn is_written(alloc: Global, left: usize) -> Option<bool> {
+    let (bytes, stop) = written(alloc, recording(alloc, left)?)?;
+    let want = RECORDED.as_bytes();
+    if left < want.len() {
+        return Some(
+            bytes.as_slice() == &want[..left] && stop == Some(Stop::Failed(ErrorKind::StorageFull)),
+        );
+    }
+    Some(bytes.as_slice() == want && stop.is_none())
+}
+
+#[test]
+fn a_session_is_recorded_as_far_as_its_writer_goes(rt: HostRuntime) {
+    for left in 0..=RECORDED.len() {
+        expect!(rt; is_written(rt.alloc(), left) == Some(true), "what was written");
+    }
+}
+
+/// How many bytes the whole entries take that fit.
+fn whole(most: usize) -> usize {
+    let mut used = 0usize;
+    let mut place = 0usize;
+    let mut ends = 0usize;
+    for byte in RECORDED.bytes() {
+        place = place.saturating_add(1);
+        if byte == b'\n' {
+            ends = ends.saturating_add(1);
+            if ends % 2 == 0 && place <= most {
+                used = place;
+            }
+        }
+    }
+    used
+}
+
+/// Whether a recording with so much room has the entries that fit, and says whether it was cut.
+fn is_bounded(alloc: Global, most: usize) -> Option<bool> {
+    let recorder = recording(alloc, RECORDED.len())?.most(most as u64);
+    let (bytes, stop) = written(alloc, recorder)?;
+    let want = RECORDED.as_bytes().get(..whole(most))?;
+    let is_cut = stop == Some(Stop::Cut);
+    Some(bytes.as_slice() == want && is_cut == (most < RECORDED.len()))
+}
+
+#[test]
+fn a_recording_with_a_bound_ends_with_a_whole_entry(rt: HostRuntime) {
+    for most in 0..=RECORDED.len() {
+        expect!(rt; is_bounded(rt.alloc(), most) == Some(true), "the bound");
+    }
+}
+
+/// Texts, and what they read as: how many acts and the last time, or the error.
+static TEXTS: [(&str, &str); 25] = [
+    ("", "0 acts, 0 ms"),
+    ("piece 61\n", "1 acts, 0 ms"),
+    ("# a note\npiece 61\n#\n# 5\nidle\n", "2 acts, 5 ms"),
+    ("# 4294967295\nidle\n", "1 acts, 4294967295 ms"),
+    ("# 4294967296\nidle\n", "1 acts, 0 ms"),
+    ("# 7 8\nidle\n", "1 acts, 0 ms"),
+    ("resize 65535 0\n", "1 acts, 0 ms"),
+    ("fault\nfault TimedOut\n", "2 acts, 0 ms"),
+    ("piece 61", "line 1: cut line"),
+    ("piece 61\npiece 6", "line 2: cut line"),
+    ("piece 61\n#", "line 2: cut line"),
+    ("piece 616\n", "line 1: bad argument"),
+    ("piece\n", "line 1: bad argument"),
+    ("piece 61 62\n", "line 1: bad argument"),
+    ("piece  61\n", "line 1: bad argument"),
+    ("piece 61\r\n", "line 1: bad argument"),
+    ("idle\r\n", "line 1: unknown word"),
+    ("jump\n", "line 1: unknown word"),
+    ("idle\n\nidle\n", "line 2: unknown word"),
+    ("PIECE 61\n", "line 1: unknown word"),
+    ("resize 80\n", "line 1: bad argument"),
+    ("resize 65536 1\n", "line 1: bad argument"),
+    ("resize 80 +24\n", "line 1: bad argument"),
+    ("wake up\n", "line 1: bad argument"),
+    ("fault Nothing\n", "line 1: bad argument"),
+];
+
+/// What a text reads as.
+fn reading(alloc: Global, text: &str) -> Result<String, AllocError> {
+    match read_session(&alloc, text.as_bytes()) {
+        Ok(session) => {
+            let (count, end) = (session.acts.len(), session.end);
+            format!(in alloc; "{count} acts, {end} ms")
+        }
+        Err(bad) => format!(in alloc; "{bad}"),
+    }
+}
+
+#[test]
+fn a_text_reads_as_a_session_or_names_its_bad_line(rt: HostRuntime) {
+    for (text, want) in &TEXTS {
+        expect!(rt; is_text(reading(rt.alloc(), text), want), text);
+    }
+}
+
+/// What a reader reads of a session's acts, an event or a fault on each line, up to the end of input.
+fn played(alloc: Global, session: Session) -> Result<String, AllocError> {
+    let source = DeviceSource::new(alloc, Script::new(session.acts));
+    let mut reader = InternalEventReader::new(alloc, source);
+    let mut lines = String::new(alloc);
+    for _ in 0..12u32 {
+        let line = match reader.read_within(9, &EventFilter) {
+            Ok(event) => format!(in alloc; "{event:?}\n")?,
+            Err(fault) => {
+                let kind = fault.kind();
+                format!(in alloc; "{kind:?}\n")?
+            }
+        };
+        lines.push_str(line.as_str())?;
+    }
+    Ok(lines)
+}
+
+/// Whether what was recorded plays as the session does.
+fn replays(alloc: Global) -> Option<bool> {
+    let live = played(alloc, read_session(&alloc, ACTS.as_bytes()).ok()?).ok()?;
+    let (bytes, _) = written(alloc, recording(alloc, RECORDED.len())?)?;
+    let again = played(alloc, read_session(&alloc, bytes.as_slice()).ok()?).ok()?;
+    Some(live.as_str() == again.as_str() && live.as_str().contains("Up"))
+}
+
+#[test]
+fn a_recording_replays(rt: HostRuntime) {
+    expect!(rt; replays(rt.alloc()) == Some(true));
+}
+
+/// A recording that is read over a heap.
+#[derive(Drop)]
+struct Readings;
+
+impl Calls for Readings {
+    fn over(&self, heap: &LocalHeap) -> Result<Came, AllocError> {
+        match read_session(&heap, RECORDED.as_bytes()) {
+            Ok(session) => Ok(if session.acts.len() == 10 {
+                Came::Done
+            } else {
+                Came::Wrong
+            }),
+            Err(bad) => Ok(if bad.reason == Wrong::Memory {
+                Came::Refused
+            } else {
+                Came::Wrong
+            }),
+        }
+    }
+}
+
+#[test]
+fn refused_memory_is_no_shorter_session(rt: HostRuntime) -> Result<(), AllocError> {
+    expect!(rt; is_refused_below_a_size(rt.alloc(), &Readings)?);
+    Ok(())
+}

@@ -1,0 +1,10 @@
+//! The reader that threads share.
+
+mod bell;
+mod closing;
+mod limits;
+mod order;
+mod queries;
+mod refused;
+mod waits;
+mod waking;

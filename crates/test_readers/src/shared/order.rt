@@ -1,0 +1,127 @@
+//! Each event comes to one pass, in the order of arrival.
+ghost use Rattle.crossterm_read.specs.Shared.{IsPassOf};
+
+use crate::parts::are_all;
+use crossterm_read::read::{EventReader, Pass};
+use crossterm_read::source::{DeviceSource, Script};
+use std::alloc::{AllocError, Global};
+use std::sync::Wait;
+use std::thread::Threads;
+use std::{io, thread};
+use test_support::{Reader, Seat, expect, letter_in, script_of, text};
+
+/// How many letters the script has.
+const LETTERS: u64 = 1000;
+
+/// The letter at a place of the script.
+fn letter_at(place: u64) -> u8 {
+    match u8::try_from(place % 26) {
+        Ok(place) => b'a' + place,
+        Err(_) => b'?',
+    }
+}
+
+/// A script of pieces of one letter each.
+fn letters(alloc: Global) -> Result<Reader<Script>, AllocError> {
+    let mut acts = Vec::new(alloc);
+    for place in 0..LETTERS {
+        acts.push(text(alloc, &[letter_at(place)])?)?;
+    }
+    Ok(script_of(alloc, acts))
+}
+
+type Source = DeviceSource<Script>;
+
+/// What one thread read: the arrival numbers of its letters.
+type Drained = Result<Vec<u64>, AllocError>;
+
+/// The arrival number of the letter that was read last, and `u64::MAX` where the script has another letter there.
+fn number_of(letter: char, last: Option<u64>) -> u64 {
+    match last {
+        Some(number) if letter == char::from(letter_at(number)) => number,
+        _ => u64::MAX,
+    }
+}
+
+/// Reads to the end of input.
+fn drain<R: Wait>(rt: &R, alloc: Global, mut seat: Seat<Source>) -> Drained {
+    let mut taken = Vec::new(alloc);
+    for _ in rt.forever() {
+        match seat.letter(rt) {
+            Some(letter) => taken.push(number_of(letter, seat.pass.last()))?,
+            None => break,
+        }
+    }
+    Ok(taken)
+}
+
+/// Two seats at a reader.
+type Two = (Seat<Source>, Seat<Source>);
+
+/// Four shares of a reader, each with a pass.
+fn four<R: Wait>(rt: &R, alloc: Global, reader: Reader<Script>) -> io::Result<(Two, Two)> {
+    let (shared, mut passes) = EventReader::new(rt, alloc, reader, 4)?;
+    let a = Seat::next(&shared, &mut passes)?;
+    let b = Seat::next(&shared, &mut passes)?;
+    let c = Seat::next(&shared, &mut passes)?;
+    let d = Seat::next(&shared, &mut passes)?;
+    Ok(((a, b), (c, d)))
+}
+
+/// What two threads read.
+fn drained<R: Wait + Threads + Sync>(rt: &R, alloc: Global, two: Two) -> (Drained, Drained) {
+    let (one, other) = two;
+    thread::join(
+        rt,
+        move || drain(rt, alloc, one),
+        move || drain(rt, alloc, other),
+    )
+}
+
+/// Whether four threads take each event once.
+fn is_each_once<R: Wait + Threads + Sync>(rt: &R, alloc: Global) -> io::Result<bool> {
+    let (one, other) = four(rt, alloc, letters(alloc)?)?;
+    let ((a, b), (c, d)) = thread::join(
+        rt,
+        move || drained(rt, alloc, one),
+        move || drained(rt, alloc, other),
+    );
+    Ok(are_all(alloc, &[a?, b?, c?, d?], LETTERS)?)
+}
+
+#[test]
+fn four_passes_take_each_event_once(rt: HostRuntime) -> io::Result<()> {
+    expect!(rt; is_each_once(&rt, rt.alloc())?);
+    Ok(())
+}
+
+/// Whether a pass reads on after it met another that has read.
+fn reads_on<R: Wait>(
+    rt: &R,
+    shared: &EventReader<Source>,
+    mut one: Pass<Source>,
+    mut other: Pass<Source>,
+) -> bool
+    requires { IsPassOf shared.now one × IsPassOf shared.now other }
+{
+    let first = letter_in(shared.read(rt, &mut one)) == Some('a');
+    let second = letter_in(shared.read(rt, &mut other)) == Some('b');
+    shared.meet(&mut one, other);
+    let third = letter_in(shared.read(rt, &mut one)) == Some('c');
+    first && second && third && one.last() == Some(2)
+}
+
+/// Whether two passes meet.
+fn meets<R: Wait>(rt: &R, alloc: Global) -> io::Result<bool> {
+    let (shared, mut passes) = EventReader::new(rt, alloc, letters(alloc)?, 2)?;
+    match (passes.pop(), passes.pop()) {
+        (Some(other), Some(one)) => Ok(reads_on(rt, &shared, one, other)),
+        _ => Ok(false),
+    }
+}
+
+#[test]
+fn a_pass_reads_on_after_a_meeting(rt: HostRuntime) -> io::Result<()> {
+    expect!(rt; meets(&rt, rt.alloc())?);
+    Ok(())
+}

@@ -1,0 +1,122 @@
+//! Three threads share a reader: one has it for a second, in a device that sleeps, and two wait for it.
+
+use crossterm_read::read::{EventReader, InternalEventReader};
+use crossterm_read::source::{Answer, Device, EventSource, Waker};
+use crossterm_types::event::Event;
+use crossterm_types::event::filter::AnyFilter;
+use std::alloc::Global;
+use std::sync::Wait;
+use std::sync::atomic::{AtomicBool, Ordering};
+use std::thread::Threads;
+use std::time::Duration;
+use std::{io, thread};
+use test_support::{Seat, TURNS, expect, is_raised_within, reader_of, sleep};
+
+/// A device that sleeps at the first question, then is woken, and then tells the letter `a` at each.
+#[derive(Drop)]
+struct Sleeper<'a, R> {
+    rt: &'a R,
+    asked: &'a AtomicBool,
+    time: Duration,
+    questions: u8,
+}
+
+impl<R: Wait> Device for Sleeper<'_, R> {
+    fn answer(&mut self, buf: &mut [u8], _limit: Option<Duration>) -> io::Result<Answer> {
+        if self.questions == 0 {
+            self.questions = 1;
+            self.asked.store(true, Ordering::SeqCst);
+            sleep(self.rt, self.time);
+            return Ok(Answer::Woken);
+        }
+        buf[0] = b'a';
+        Ok(Answer::Bytes {
+            count: 1,
+            raw: false,
+        })
+    }
+
+    fn failures(&self) -> u64 {
+        0
+    }
+
+    fn waker(&self) -> io::Result<Waker> {
+        Ok(Waker::none())
+    }
+}
+
+/// What a poll by a clock that stands still comes to: each of its waits takes the whole limit.
+fn polls<S: EventSource<Global>, R: Wait>(
+    rt: &R,
+    mut seat: Seat<S>,
+    limit: Option<Duration>,
+) -> &'static str {
+    match seat.poll(rt, limit, AnyFilter::Event) {
+        Ok(true) => "true",
+        Ok(false) => "false",
+        Err(_) => "a fault",
+    }
+}
+
+/// Waits without a limit, and reads.
+fn reads<S: EventSource<Global>, R: Wait>(rt: &R, mut seat: Seat<S>) -> &'static str {
+    match seat.read(rt) {
+        Ok(Event::Key(_)) => "a key",
+        Ok(_) => "an event",
+        Err(_) => "a fault",
+    }
+}
+
+/// What two threads came to that wait for the reader once the device is asked, one of them for 3 s at most.
+fn both_wait<S: EventSource<Global> + Send, R: Wait + Threads + Sync>(
+    rt: &R,
+    asked: &AtomicBool,
+    one: Seat<S>,
+    other: Seat<S>,
+) -> (&'static str, &'static str) {
+    let _ = is_raised_within(rt, asked, TURNS);
+    let limit = Some(Duration::from_secs(3));
+    thread::join(rt, move || reads(rt, one), move || polls(rt, other, limit))
+}
+
+/// Three shares of a reader, each with a pass.
+fn three<S: EventSource<Global>, R: Wait>(
+    rt: &R,
+    alloc: Global,
+    reader: InternalEventReader<S>,
+) -> io::Result<(Seat<S>, Seat<S>, Seat<S>)> {
+    let (shared, mut passes) = EventReader::new(rt, alloc, reader, 3)?;
+    let first = Seat::next(&shared, &mut passes)?;
+    let second = Seat::next(&shared, &mut passes)?;
+    Ok((first, second, Seat::next(&shared, &mut passes)?))
+}
+
+/// What the thread that has the reader comes to, the one that reads, and the one that polls for 3 s at most.
+fn three_share<R: Wait + Threads + Sync>(
+    rt: &R,
+    alloc: Global,
+) -> io::Result<(&'static str, &'static str, &'static str)> {
+    let asked = AtomicBool::new(false);
+    let device = Sleeper {
+        rt,
+        asked: &asked,
+        time: Duration::from_secs(1),
+        questions: 0,
+    };
+    let (first, one, other) = three(rt, alloc, reader_of(alloc, device))?;
+    let (held, (read, polled)) = thread::join(
+        rt,
+        || polls(rt, first, None),
+        || both_wait(rt, &asked, one, other),
+    );
+    Ok((held, read, polled))
+}
+
+#[test]
+fn who_waits_for_the_reader_has_its_turn(rt: HostRuntime) -> io::Result<()> {
+    let (held, read, polled) = three_share(&rt, rt.alloc())?;
+    expect!(rt; held == "false");
+    expect!(rt; read == "a key");
+    expect!(rt; polled == "true");
+    Ok(())
+}
