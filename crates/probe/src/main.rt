@@ -37,7 +37,7 @@ fn words(rt: &HostRuntime) -> Result<Vec<String>, Fault> {
 }
 
 /// What the command line asks for.
-enum Asked {
+enum Task {
     Play,
     Say,
     Serve,
@@ -45,38 +45,38 @@ enum Asked {
     Bench(Mode),
 }
 
-/// The mode of a word that stands alone.
-fn of_word(word: &str) -> Result<Asked, Fault> {
+/// The task of a word that stands alone.
+fn task_of(word: &str) -> Result<Task, Fault> {
     match word {
-        "play" => Ok(Asked::Play),
-        "say" => Ok(Asked::Say),
-        "serve" => Ok(Asked::Serve),
-        "keys" => Ok(Asked::Keys),
+        "play" => Ok(Task::Play),
+        "say" => Ok(Task::Say),
+        "serve" => Ok(Task::Serve),
+        "keys" => Ok(Task::Keys),
         _ => Err(Fault::Usage),
     }
 }
 
-/// What some words ask for: those of the command line after the program's name.
-fn asked(words: &[String]) -> Result<Asked, Fault> {
+/// What these words ask for.
+fn find_task(words: &[String]) -> Result<Task, Fault> {
     match words.split_first() {
-        Some((first, rest)) if first.as_str() == "bench" => Ok(Asked::Bench(Mode::read(rest)?)),
-        Some((word, [])) => of_word(word.as_str()),
+        Some((first, rest)) if first.as_str() == "bench" => Ok(Task::Bench(Mode::read(rest)?)),
+        Some((word, [])) => task_of(word.as_str()),
         _ => Err(Fault::Usage),
     }
 }
 
-fn read_words(rt: &HostRuntime) -> Result<Asked, Fault> {
-    asked(words(rt)?.as_slice())
+fn read_task(rt: &HostRuntime) -> Result<Task, Fault> {
+    find_task(words(rt)?.as_slice())
 }
 
 fn main(rt: HostRuntime) -> ExitCode {
     let (alloc, mut reader, mut writer) = (rt.alloc(), rt.reader(), io::writer(&rt));
-    let done = match read_words(&rt) {
-        Ok(Asked::Play) => run_play(alloc, &mut reader, &mut writer),
-        Ok(Asked::Say) => run_say(alloc, &mut reader, &mut writer),
-        Ok(Asked::Serve) => run_serve(&rt, alloc, &mut reader, &mut writer),
-        Ok(Asked::Keys) => run_keys(&rt, alloc, &mut reader, &mut writer),
-        Ok(Asked::Bench(mode)) => mode.run(&rt, alloc, &mut reader, &mut writer),
+    let done = match read_task(&rt) {
+        Ok(Task::Play) => run_play(alloc, &mut reader, &mut writer),
+        Ok(Task::Say) => run_say(alloc, &mut reader, &mut writer),
+        Ok(Task::Serve) => run_serve(&rt, alloc, &mut reader, &mut writer),
+        Ok(Task::Keys) => run_keys(&rt, alloc, &mut reader, &mut writer),
+        Ok(Task::Bench(mode)) => mode.run(&rt, alloc, &mut reader, &mut writer),
         Err(fault) => Err(fault),
     };
     match done {

@@ -3,4 +3,6 @@ mod Cutting
 mod Entering
 mod ReadBack
 mod Replayings
+mod Stoppings
+mod Tearing
 mod Wording

@@ -23,11 +23,11 @@ use Rattle.recorder.proofs.Cutting.{not_true, parts_there}
 -- ---- parts
 
 -- No element is that byte.
-abbrev Without : ℕ → List ℕ → Type 0
+abbrev pub Without : ℕ → List ℕ → Type 0
 Without c xs = AllByRecursion (λ b. (b == c) ≡ false) xs
 
 -- A list without the byte is one part, and ends at the byte where one follows.
-one_part : (c : ℕ) (xs : List ℕ) → Without c xs → parts c xs ≡ xs ∷ []
+pub one_part : (c : ℕ) (xs : List ℕ) → Without c xs → parts c xs ≡ xs ∷ []
 one_part c [] a = refl
 one_part c (x ∷ xs) a = slice_split-cons_no (λ b. b == c) x xs a.0 ∙ ap (onto_first x) (one_part c xs a.1)
 
@@ -275,7 +275,7 @@ line_back Woken h = refl
 line_back Idle h = refl
 line_back (Fault k) h = fault_back k
 
-no_end : (w : DeviceAnswer) → IsWritable w → Without 10 (line w)
+pub no_end : (w : DeviceAnswer) → IsWritable w → Without 10 (line w)
 no_end (Bytes bytes true) h = all_joined _ (codes "raw ") (encode_lower bytes) (without 10 (codes "raw ") refl) (above_without 10 (omega arith) (encode_lower bytes) (hex_above bytes h))
 no_end (Bytes bytes false) h = all_joined _ (codes "piece ") (encode_lower bytes) (without 10 (codes "piece ") refl) (above_without 10 (omega arith) (encode_lower bytes) (hex_above bytes h))
 no_end (Resized columns rows) h = all_joined _ (codes "resize ") (decimal columns ++ 32 ∷ decimal rows) (without 10 (codes "resize ") refl)
@@ -302,7 +302,7 @@ time_back time n l =
     ∙ ap (λ words. codes "#" ∷ words) (one_part 32 (decimal n) (above_without 32 (omega arith) (decimal n) (number_above 4294967296 n (omega arith) l))))
     ∙ ap (or_else time) (number_back 4294967296 n (omega arith) l)
 
-no_end_of_stamp : (n : ℕ) → n < 4294967296 → Without 10 (stamp n)
+pub no_end_of_stamp : (n : ℕ) → n < 4294967296 → Without 10 (stamp n)
 no_end_of_stamp n l = all_joined _ (codes "# ") (decimal n) (without 10 (codes "# ") refl) (above_without 10 (omega arith) (decimal n) (number_above 4294967296 n (omega arith) l))
 
 -- ---- texts
@@ -314,31 +314,31 @@ read_one s n [] (more ∷ rest) f = refl
 read_one s n (b ∷ bs) (more ∷ rest) f = refl
 
 -- The first line of a text is read, and then the rest.
-read_first : (s t : Session) (n : ℕ) (first rest : List ℕ) → Without 10 first → read_next s first ≡ Ok t → read_after s n (parts 10 (first ++ 10 ∷ rest)) ≡ read_after t (n + 1) (parts 10 rest)
+pub read_first : (s t : Session) (n : ℕ) (first rest : List ℕ) → Without 10 first → read_next s first ≡ Ok t → read_after s n (parts 10 (first ++ 10 ∷ rest)) ≡ read_after t (n + 1) (parts 10 rest)
 read_first s t n first rest a e =
     ap (read_after s n) (first_part 10 first rest refl a)
     ∙ read_one s n first (parts 10 rest) (parts_there 10 rest)
     ∙ ap (λ r. read_then n r (λ t. read_after t (n + 1) (parts 10 rest))) e
 
 -- What is read of an answer's line.
-abbrev after_line : Session → DeviceAnswer → Session
+abbrev pub after_line : Session → DeviceAnswer → Session
 after_line s w = record { acts = s.acts ++ w ∷ []; times = s.times ++ s.end ∷ []; end = s.end }
 
-line_read : (s : Session) (w : DeviceAnswer) → IsWritable w → read_next s (line w) ≡ Ok (after_line s w)
+pub line_read : (s : Session) (w : DeviceAnswer) → IsWritable w → read_next s (line w) ≡ Ok (after_line s w)
 line_read s w h =
     ap (λ b. if b then Ok (record { acts = s.acts; times = s.times; end = time_after s.end (line w) }) else with_act s (read_line (line w))) (no_comment w)
     ∙ ap (with_act s) (line_back w h)
 
-abbrev at : Session → ℕ → Session
+abbrev pub at : Session → ℕ → Session
 at s time = record { acts = s.acts; times = s.times; end = time }
 
-stamp_read : (s : Session) (n : ℕ) → n < 4294967296 → read_next s (stamp n) ≡ Ok (at s n)
+pub stamp_read : (s : Session) (n : ℕ) → n < 4294967296 → read_next s (stamp n) ≡ Ok (at s n)
 stamp_read s n l = ap (λ time. Ok (at s time)) (time_back s.end n l)
 
 abbrev joined_with : Session → List (ℕ × DeviceAnswer) → Session
 joined_with s es = record { acts = s.acts ++ answers_of es; times = s.times ++ times_of es; end = last_time s.end es }
 
-entry_split : (e : ℕ × DeviceAnswer) (rest : List ℕ) → entry e ++ rest ≡ stamp e.0 ++ 10 ∷ (line e.1 ++ 10 ∷ rest)
+pub entry_split : (e : ℕ × DeviceAnswer) (rest : List ℕ) → entry e ++ rest ≡ stamp e.0 ++ 10 ∷ (line e.1 ++ 10 ∷ rest)
 entry_split e rest = append_assoc (stamp e.0) (10 ∷ (line e.1 ++ 10 ∷ [])) rest ∙ ap (λ l. stamp e.0 ++ 10 ∷ l) (append_assoc (line e.1) (10 ∷ []) rest)
 
 all_read : (es : List (ℕ × DeviceAnswer)) (s : Session) (n : ℕ) → AllByRecursion IsEntry es → read_after s n (parts 10 (text es)) ≡ Ok (joined_with s es)

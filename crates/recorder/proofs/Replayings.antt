@@ -1,17 +1,21 @@
 -- A recording replays.
-use Rattle.std.proofs.Common.{◌≡◌, ◌≢◌, ◌≤◌, ◌<◌, arith, ℕ, ◌+◌, List, [], ◌∷◌, ◌++◌, Option, None, false, ap, refl, sym, subst, ◌∙◌}
+use Rattle.std.proofs.Common.{◌≡◌, ◌≢◌, ◌≤◌, ◌<◌, arith, ℕ, ◌+◌, List, [], ◌∷◌, ◌++◌, Option, None, false, ap, refl, sym, subst, ◌∙◌, append_assoc}
 use Rattle.std.specs.List.{AllByRecursion}
 use Rattle.crossterm_read.specs.Answers.{SourceAnswer}
 use Rattle.crossterm_read.specs.Calls.{joined}
-use Rattle.crossterm_read.specs.Device.{DeviceAnswer, Bytes, Resized, Woken, Idle, Fault}
+use Rattle.crossterm_read.specs.Device.{Answering, DeviceAnswer, Bytes, Resized, Woken, Idle, Fault}
+use Rattle.crossterm_read.specs.History.{Entry, Runs}
+use Rattle.crossterm_read.specs.History as history
 use Rattle.crossterm_read.specs.Outcomes.{IsAnsweredBy}
-use Rattle.crossterm_read.specs.OverScripts.{ScriptsAreTold}
-use Rattle.crossterm_read.specs.Scripted.{AnswersWith, faults}
-use Rattle.crossterm_read.specs.inside.Turns.{At, Turn, Turns, waited, again, fresh, other}
+use Rattle.crossterm_read.specs.OverScripts.{HistoriesAreTold, IsNew, ScriptsAreTold}
+use Rattle.crossterm_read.specs.Scripted.{AnswersWith, ScriptLeft, ScriptTells, faults}
+use Rattle.crossterm_read.specs.Store.{ReaderState}
+use Rattle.crossterm_read.specs.inside.Turns.{At, DrawnFor, Source, SourceDrawn, Turn, Turns, source_on, waited, again, fresh, other}
 use Rattle.recorder.specs.Lines.{answers_of, times_of}
 use Rattle.recorder.specs.Reads.{IsEntry, IsWritable}
-use Rattle.recorder.specs.Recording.{IsAnswer, Rises, Writes, millis, recorded}
-use Rattle.recorder.specs.Replaying.{EndsLast, IsEnd, PlaysAlike, Replayed, Replays}
+use Rattle.recorder.specs.Answering.{recorder_answering}
+use Rattle.recorder.specs.Recording.{IsAnswer, Recording, Records, Rises, Writes, millis, recorded}
+use Rattle.recorder.specs.Replaying.{EndsLast, HistoriesReplay, IsEnd, PlaysAlike, Replayed, Replays}
 use Rattle.recorder.specs.declared.recorder.Stop.{Stop}
 use Rattle.recorder.proofs.ReadBack.{all_read_back}
 
@@ -98,6 +102,12 @@ entries_fit (e ∷ es) low high l r h = ((omega (arith, l, highest e.0 high (tim
 short : (nanos : ℕ) → millis nanos < 4294967296
 short nanos = omega arith
 
+-- What was recorded fits into lines.
+pub are_entries : {D W : Type 0} (contents : W → Option (List ℕ)) (answered : D → List DeviceAnswer → D → Type 0) (s t : Recording D W) (ws : List DeviceAnswer)
+    → (r : Records contents answered s ws t) → AllByRecursion IsEntry r.entries
+are_entries contents answered s t ws r = entries_fit r.entries (millis s.clock) (millis t.clock) (short t.clock) r.rises
+    (subst (λ (l : List DeviceAnswer). AllByRecursion IsWritable l) (sym r.says) (writable ws r.are_answers))
+
 -- The law of scripts is that of the reader's crate.
 pub replays : {D W : Type 0} (told : ScriptsAreTold) (contents : W → Option (List ℕ)) (answered : D → List DeviceAnswer → D → Type 0) → Replays contents answered
 replays told contents answered s t xs new before after d =
@@ -110,8 +120,7 @@ replays told contents answered s t xs new before after d =
       says = d.1.says;
       written = (subst (λ (f : Option Stop). Writes contents None s.device.room s.device.writer es f t.device.room t.device.writer) after
           (subst (λ (f : Option Stop). Writes contents f s.device.room s.device.writer es t.device.stop t.device.room t.device.writer) before d.1.written)).0;
-      reads = all_read_back es (entries_fit es (millis s.device.clock) (millis t.device.clock) (short t.device.clock) d.1.rises
-          (subst (λ (l : List DeviceAnswer). AllByRecursion IsWritable l) (sym d.1.says) (writable ws d.1.are_answers)));
+      reads = all_read_back es (are_entries contents answered s.device t.device ws d.1);
       replays = λ ends. told
           (record { parser = s.parser; untaken = s.untaken; device = record { left = recorded ws; failed = 0 } })
           (record { parser = t.parser; untaken = t.untaken; device = record { left = []; failed = 0 + faults (plain_all ws) } })
@@ -129,3 +138,81 @@ pub plays_alike : {D W : Type 0} (told : ScriptsAreTold) (contents : W → Optio
 plays_alike told contents answered s t calls drawn replies last new before after d run =
     let r : Replayed contents answered s.device (joined drawn) t.device = replays told contents answered s t (joined drawn) new before after d in
     (r, λ ends. record { drawn = drawn; replies = replies; last = last; answered = r.replays ends; run = run; shows = refl; left = refl })
+
+-- ---- shared readers
+
+-- A script's answers come in two runs as they come in one.
+cut_answers : (l k : List DeviceAnswer) (xs ys : List DeviceAnswer) → AnswersWith l (xs ++ ys) k → (m : List DeviceAnswer) × AnswersWith l xs m × AnswersWith m ys k
+cut_answers l k [] ys d = (l, refl, d)
+cut_answers [] k (x ∷ xs) ys d = let r = cut_answers [] k xs ys d.1 in (r.0, (d.0, r.1), r.2)
+cut_answers (w ∷ l) k (x ∷ xs) ys d = let r = cut_answers l k xs ys d.1 in (r.0, (d.0, r.1), r.2)
+
+-- The same source over a script with so much left, and the same reader over it.
+abbrev scripted : {D : Type 0} → List DeviceAnswer → ℕ → Source D → Source ScriptLeft
+scripted l n s = record { parser = s.parser; untaken = s.untaken; device = record { left = l; failed = n } }
+
+abbrev over : {D : Type 0} → List DeviceAnswer → ℕ → ReaderState (Source D) → ReaderState (Source ScriptLeft)
+over l n s = record { store = s.store; room = s.room; source = scripted l n s.source }
+
+-- What a source over a device answered it answers over a script of the same answers.
+scripted_drawn : {D : Type 0} (s t : Source D) (ws : List DeviceAnswer) (xs : List SourceAnswer) (l k : List DeviceAnswer) (n : ℕ)
+    → DrawnFor s ws xs t → AnswersWith l (plain_all ws) k → SourceDrawn ScriptTells (scripted l n s) xs (scripted k (n + faults (plain_all ws)) t)
+scripted_drawn s t ws xs l k n d a = (
+  plain_all ws,
+  (a, refl),
+  λ before represents undecided.
+      let f = d before represents undecided in
+      (f.0, f.1, f.2, plain_turns _ _ ws xs f.3),
+)
+
+-- What was drawn in two runs was drawn in one, for the answers of both: the devices are lists of answers here.
+abbrev Grows : List DeviceAnswer → List DeviceAnswer → List DeviceAnswer → Type 0
+Grows a ws b = a ++ ws ≡ b
+
+grows_on : (a b c xs ys : List DeviceAnswer) → Grows a xs b → Grows b ys c → Grows a (xs ++ ys) c
+grows_on a b c xs ys d e = sym (append_assoc a xs ys) ∙ ap (λ (l : List DeviceAnswer). l ++ ys) d ∙ e
+
+abbrev on_list : {D : Type 0} → Source D → List DeviceAnswer → Source (List DeviceAnswer)
+on_list s l = record { parser = s.parser; untaken = s.untaken; device = l }
+
+drawn_on : {D : Type 0} (s t u : Source D) (us vs : List DeviceAnswer) (xs ys : List SourceAnswer) → DrawnFor s us xs t → DrawnFor t vs ys u → DrawnFor s (us ++ vs) (xs ++ ys) u
+drawn_on s t u us vs xs ys d e =
+    let r = source_on Grows grows_on (on_list s []) (on_list t us) (on_list u (us ++ vs)) xs ys (us, refl, d) (vs, refl, e) in
+    subst (λ (ws : List DeviceAnswer). DrawnFor s ws (xs ++ ys) u) r.1 r.2
+
+-- A history over a recorder: what its device answered in all of it, and the same history over a script that answers so.
+record Told {D W : Type 0} (contents : W → Option (List ℕ)) (answered : D → List DeviceAnswer → D → Type 0)
+    (o t : ReaderState (Source (Recording D W))) (log : List Entry) : Type 0 where
+  given : List DeviceAnswer
+  records : Records contents answered o.source.device given t.source.device
+  drawn : DrawnFor o.source given (history.answers_of log) t.source
+  runs : (l k : List DeviceAnswer) (n : ℕ) → AnswersWith l (plain_all given) k → (m : ℕ) × Runs (SourceDrawn ScriptTells) (over l n o) log (over k m t)
+
+told_runs : {D W : Type 0} (contents : W → Option (List ℕ)) (answering : Answering D) (o t : ReaderState (Source (Recording D W))) (log : List Entry)
+    → Runs (SourceDrawn (Records contents answering.answered)) o log t → Told contents answering.answered o t log
+told_runs contents answering o t [] h = record {
+  given = [];
+  records = subst (λ (y : ReaderState _). Records contents answering.answered o.source.device [] y.source.device) h ((recorder_answering contents answering).none o.source.device);
+  drawn = subst (λ (y : ReaderState _). DrawnFor o.source [] [] y.source) h (λ before represents undecided. (before, represents, undecided, (refl, refl)));
+  runs = λ l k n a. (n, ap (over l n) h ∙ ap (λ (left : List DeviceAnswer). over left n t) a);
+}
+told_runs contents answering o t (e ∷ log) h =
+    let r = told_runs contents answering h.0 t log h.2 in
+    let first = h.1.0 in record {
+      given = first.0 ++ r.given;
+      records = (recorder_answering contents answering).on o.source.device h.0.source.device t.source.device first.0 r.given first.1 r.records;
+      drawn = drawn_on o.source h.0.source t.source first.0 r.given e.answers (history.answers_of log) first.2 r.drawn;
+      runs = λ l k n a.
+          let c = cut_answers l k (plain_all first.0) (plain_all r.given) (subst (λ (ws : List DeviceAnswer). AnswersWith l ws k) (plain_on first.0 r.given) a) in
+          let later = r.runs c.0 k (n + faults (plain_all first.0)) c.2 in
+          (later.0, (over c.0 (n + faults (plain_all first.0)) h.0, (scripted_drawn o.source h.0.source first.0 e.answers l c.0 n first.2 c.1, h.1.1, h.1.2), later.1));
+    }
+
+pub histories_replay : {D W : Type 0} (told : ScriptsAreTold) (histories : HistoriesAreTold) (contents : W → Option (List ℕ)) (answering : Answering D) → HistoriesReplay contents answering.answered
+unfolding replays
+histories_replay told histories contents answering o t log new nothing before after runs =
+    let r = told_runs contents answering o t log runs in
+    let xs = history.answers_of log in
+    (replays told contents answering.answered o.source t.source xs new before after (r.given, r.records, r.drawn), λ ends.
+        let script = r.runs (recorded r.given) [] 0 (all_given r.given ends) in
+        (histories (over (recorded r.given) 0 o) (over [] script.0 t) log (record { waiting = new.waiting; represents = new.represents; untaken = new.untaken }) nothing script.1).1)

@@ -3,4 +3,5 @@ pub mod Lines
 pub mod Reads
 pub mod Recording
 pub mod Replaying
+pub mod Stopping
 pub mod inside

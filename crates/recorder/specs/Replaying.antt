@@ -3,12 +3,14 @@ use Rattle.std.specs.Prelude.{◌≡◌, ◌≢◌, ◌≤◌, ℕ, List, [], �
 use Rattle.std.specs.List.{AllByRecursion}
 use Rattle.std.specs.Io.KnownBytes.{Appends}
 use Rattle.crossterm_read.specs.Answers.{SourceAnswer}
-use Rattle.crossterm_read.specs.Calls.{Plays, Run, empty, joined}
+use Rattle.crossterm_read.specs.Calls.{IsAccounted, Plays, Run, empty, joined}
 use Rattle.crossterm_read.specs.Device.{DeviceAnswer, Bytes, Resized, Woken, Idle, Fault}
+use Rattle.crossterm_read.specs.History.{Entry, Runs, taken_by}
+use Rattle.crossterm_read.specs.History as history
 use Rattle.crossterm_read.specs.Outcomes.{Answered}
 use Rattle.crossterm_read.specs.OverScripts.{IsNew}
 use Rattle.crossterm_read.specs.Replies.{Replied, shown}
-use Rattle.crossterm_read.specs.Store.{EventStore}
+use Rattle.crossterm_read.specs.Store.{EventStore, ReaderState}
 use Rattle.crossterm_read.specs.declared.read.call.Call.{Call}
 use Rattle.crossterm_read.specs.Scripted.{device_answers}
 use Rattle.crossterm_read.specs.declared.source.script.Act.{Act}
@@ -74,3 +76,10 @@ abbrev pub PlaysAlike : {D W : Type 0} → (W → Option (List ℕ)) → (D → 
 PlaysAlike {D} {W} contents answered = (s t : Source (Recording D W)) (calls : List Call) (drawn : List (List SourceAnswer)) (replies : List Replied) (last : EventStore)
     → IsNew s → s.device.stop ≡ None → t.device.stop ≡ None → SourceDrawn (Records contents answered) s (joined drawn) t → Run empty calls drawn replies last
     → (r : Replayed contents answered s.device (joined drawn) t.device) × (EndsLast r.given → Plays (recorded r.given) calls (map shown replies) (map (λ h. h.0) last.held))
+
+-- So does a shared reader that held nothing at first, whichever threads made its calls: what it took, and what it holds, are each once the first ones of
+-- all that happens by a script of the recording.
+abbrev pub HistoriesReplay : {D W : Type 0} → (W → Option (List ℕ)) → (D → List DeviceAnswer → D → Type 0) → Type 0
+HistoriesReplay {D} {W} contents answered = (o t : ReaderState (Source (Recording D W))) (log : List Entry)
+    → IsNew o.source → o.store ≡ empty → o.source.device.stop ≡ None → t.source.device.stop ≡ None → Runs (SourceDrawn (Records contents answered)) o log t
+    → (r : Replayed contents answered o.source.device (history.answers_of log) t.source.device) × (EndsLast r.given → IsAccounted (recorded r.given) (taken_by log) t.store.held)

@@ -1,8 +1,10 @@
 //! What holds of all recordings.
 ghost use Rattle.recorder.specs.Reads.{AllReadBack, LinesReadBack};
-ghost use Rattle.recorder.specs.Replaying.{AnswersAsTold, PlaysAlike, RecordsLines, Replays};
+ghost use Rattle.recorder.specs.Replaying.{AnswersAsTold, HistoriesReplay, PlaysAlike, RecordsLines, Replays};
+ghost use Rattle.recorder.specs.Stopping.{CutsKeep, FailuresTear, FrontsHappen, FrontsRead, OneList};
 
-use crossterm_read::laws::scripts_are_told;
+use crossterm_parse::laws::unique_division;
+use crossterm_read::laws::{histories_are_told, scripts_are_told};
 use crossterm_read::source::Device;
 use std::alloc::Allocator;
 use std::io::Write;
@@ -21,6 +23,32 @@ pub fn replays<D: Device, W: Write>()
 {
     scripts_are_told();
 }
+
+/// The law of recordings that a shared reader made: the events that its passes took, whichever threads they were on, and those that it
+/// holds are, each once, the first ones of all that happens by a script of the recording. It was not stopped, and nothing came after the
+/// end of input.
+pub fn histories_replay<D: Device, W: Write>()
+    ensures { HistoriesReplay W.contents D.answering.answered }
+{
+    scripts_are_told();
+    histories_are_told();
+}
+
+/// The law of events: what was recorded has one list of events, and a front of it has a front of these events.
+pub fn one_list()
+    ensures one { OneList }
+    ensures fronts { FrontsHappen }
+{
+    unique_division();
+}
+
+/// The law of recordings that stopped: one that was cut reads as a front of what came, with its times. One whose writer failed does so
+/// too, or its last line has no end, and then it doesn't read.
+pub fn stops<D: Device, W: Write>()
+    ensures texts { FrontsRead }
+    ensures cut { CutsKeep W.contents D.answering.answered }
+    ensures failed { FailuresTear W.contents D.answering.answered }
+{}
 
 /// The law of acts: those of a recording answer what they say, one answer an act, so that a script of them answers what was recorded.
 pub fn answers_as_told<A: Allocator>()
