@@ -8,6 +8,7 @@ shapes                 the table of sequences in the root of crossterm_parse
 rows PATH HEAD HEAD    the rows `A -> B` of a test's table, without those that are errors
 file PATH              a file, as a block of code
 clauses PATH FN NAME.. clauses of a function, as a block of code
+figures PATH           a file whose lines have cells between tabs, as a table
 """
 import os
 import re
@@ -125,7 +126,12 @@ def clauses(path, function, *names):
     return f"```text\n{joined}\n```"
 
 
-MAKERS = {"proved": proved, "definitions": definitions, "shapes": shapes, "rows": rows, "file": file, "clauses": clauses}
+def figures(path):
+    heads, *rows = [line.split("\t") for line in read(path).splitlines()]
+    return table(heads, rows)
+
+
+MAKERS = {"proved": proved, "definitions": definitions, "shapes": shapes, "rows": rows, "file": file, "clauses": clauses, "figures": figures}
 
 
 def made(words):

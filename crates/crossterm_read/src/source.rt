@@ -135,6 +135,19 @@ impl<D: Device, A: Allocator + Clone> DeviceSource<D, A> {
         self.parser.paste_len()
     }
 
+    /// The device, as to ask what it knows of itself.
+    ///
+    /// ```
+    /// if let Some(stop) = reader.source().device().stopped() {
+    ///     eprintln!(rt; "the recording ended: {stop}")?;
+    /// }
+    /// ```
+    pub fn device(&self) -> &D
+        ensures { result.now ≡ self.now.device }
+    {
+        &self.device
+    }
+
     // Hands the untaken bytes to the parser, and gives the first event.
     fn hand(&mut self) -> io::Result<Option<InternalEvent<A>>>
         requires { self.old.parser.waiting ≡ [] }

@@ -1,9 +1,9 @@
 //! Runs one of the `examples` by its name, as `example table`.
 //!
-//! `browse`, `edit`, `events` and `keys` run in a terminal: `terminal/with_terminal crates/example/out/example browse`.
+//! `browse`, `edit`, `events`, `keys` and `record` run in a terminal: `terminal/with_terminal crates/example/out/example browse`.
 #![tactic(auto)]
 
-use examples::{browse, edit, events, frames, keylog, keys, own_command, table};
+use examples::{browse, edit, events, frames, keylog, keys, own_command, record, replay, table};
 use own_terminal::Tty;
 use std::env;
 use std::io::{self, BufWriter, ErrorKind};
@@ -12,17 +12,19 @@ use std::sync::Wait;
 
 const USAGE: &str = "usage: example NAME
 by itself: frames, keylog, own_command, table
-by terminal/with_terminal: browse, edit, events, keys, keys FILE";
+  replay FILE, replay FILE --speed N, replay FILE --probe, replay FILE --cast
+by terminal/with_terminal: browse, edit, events, keys, keys FILE, record FILE";
 
 /// Runs an example on standard input and output. Where there is none of the name, standard error lists them.
-fn run_plain(rt: &HostRuntime, name: &str) -> io::Result<()> {
+fn run_plain(rt: &HostRuntime, name: &str, words: &[String]) -> io::Result<()> {
     let alloc = rt.alloc();
     let mut out = BufWriter::new(alloc, io::writer(rt))?;
-    match name {
-        "frames" => frames::run(rt, alloc, rt.reader(), &mut out),
-        "keylog" => keylog::run(alloc, &mut rt.reader(), &mut out),
-        "own_command" => own_command::run(alloc, rt.reader(), &mut out),
-        "table" => table::run(rt, &mut out),
+    match (name, words) {
+        ("frames", []) => frames::run(rt, alloc, rt.reader(), &mut out),
+        ("keylog", []) => keylog::run(alloc, &mut rt.reader(), &mut out),
+        ("own_command", []) => own_command::run(alloc, rt.reader(), &mut out),
+        ("table", []) => table::run(rt, &mut out),
+        ("replay", [file, form @ ..]) => replay::run(rt, file.as_str(), form, &mut out),
         _ => {
             eprintln!(rt; "{USAGE}")?;
             Err(io::Error::from(ErrorKind::InvalidInput))
@@ -46,18 +48,23 @@ fn run_in_terminal<R: AllocGlobal + Files + Wait>(
 }
 
 fn main(rt: HostRuntime) -> io::Result<()> {
-    let mut words = env::args(&rt)?;
-    let Some(name) = words.nth(1) else {
-        return run_plain(&rt, "");
+    let words: Vec<String> = env::args(&rt)?.skip(1).collect(rt.alloc())?;
+    let Some((name, words)) = words.as_slice().split_first() else {
+        return run_plain(&rt, "", &[]);
     };
-    match (name.as_str(), words.next(), words.next()) {
-        ("browse" | "edit" | "events" | "keys", Some(first), second) => {
-            // The last word is the folder of the terminal's pipes.
-            let file = second.is_some().then_some(first.as_str());
-            let mut tty = own_terminal::start(&rt, rt.stdin(), rt.stdout())?;
-            run_in_terminal(&rt, &mut tty, name.as_str(), file)?;
+    // In a terminal the last word is the folder of its pipes.
+    match (name.as_str(), words) {
+        ("record", [file, folder]) => {
+            let (input, out) = (rt.stdin(), rt.stdout());
+            let (mut tty, watch) = record::open(&rt, input, out, file.as_str(), folder.as_str())?;
+            record::run(&rt, &mut tty, &watch)?;
             tty.leave()
         }
-        (name, ..) => run_plain(&rt, name),
+        (name @ ("browse" | "edit" | "events" | "keys"), [file @ .., _]) => {
+            let mut tty = own_terminal::start(&rt, rt.stdin(), rt.stdout())?;
+            run_in_terminal(&rt, &mut tty, name, file.first().map(|file| file.as_str()))?;
+            tty.leave()
+        }
+        (name, words) => run_plain(&rt, name, words),
     }
 }

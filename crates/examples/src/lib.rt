@@ -9,8 +9,9 @@
 //! | `edit` | a line editor |
 //! | `keys` | key bindings, by default or from a file |
 //! | `browse` | a full-screen list, by keys and mouse |
+//! | `record` | each event as it comes, and records what the terminal sends |
 //!
-//! These write to standard output, as `crates/example/out/example table`. All but `table` read standard input:
+//! These write to standard output, as `crates/example/out/example table`. All but `table` and `replay` read standard input:
 //!
 //! | Module | Shows |
 //! |---|---|
@@ -18,6 +19,7 @@
 //! | `keylog` | the names of events in recorded bytes |
 //! | `own_command` | commands and devices of one's own |
 //! | `frames` | frames on a screen of cells, as lines tell |
+//! | `replay` | the events of a recording |
 //!
 //! Each has a function `run`. What it reads and writes are its parameters, which the `main` of `example` opens.
 #![tactic(auto)]
@@ -29,4 +31,6 @@ pub mod frames;
 pub mod keylog;
 pub mod keys;
 pub mod own_command;
+pub mod record;
+pub mod replay;
 pub mod table;

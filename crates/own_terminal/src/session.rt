@@ -5,7 +5,7 @@ ghost use Rattle.crossterm_read.specs.Shared.{IsPassOf};
 use crate::{Feature, Input, open};
 use crossterm::cursor;
 use crossterm::event::read::InternalEventReader;
-use crossterm::event::source::{DeviceSource, EventSource};
+use crossterm::event::source::{Device, DeviceSource, EventSource};
 use crossterm::event::timeout::Clock;
 use crossterm::event::{Event, EventReader, Pass};
 use crossterm::terminal::{ModeDevice, SttyDevice, Terminal, supports_keyboard_enhancement};
@@ -67,6 +67,23 @@ impl<W: Write + Drop, C: Clock + Drop> Session<DeviceSource<Input>, SttyDevice<F
         clock: C,
     ) -> io::Result<Session<DeviceSource<Input>, SttyDevice<File, File>, W, C>> {
         let (device, term) = open(rt, alloc, input, folder)?;
+        Session::over(rt, alloc, device, term, out, clock)
+    }
+}
+
+impl<I: Device, D: ModeDevice, W: Write + Drop, C: Clock + Drop> Session<DeviceSource<I>, D, W, C> {
+    /// The session of a terminal whose events are those of a device, as of a recorder over what `open` returns.
+    ///
+    /// # Errors
+    /// `OutOfMemory`.
+    pub fn over<R: Wait>(
+        rt: &R,
+        alloc: Global,
+        device: I,
+        term: Terminal<D>,
+        out: W,
+        clock: C,
+    ) -> io::Result<Session<DeviceSource<I>, D, W, C>> {
         let reader = InternalEventReader::new(alloc, DeviceSource::new(alloc, device));
         let (reader, mut passes) = EventReader::new(rt, alloc, reader, 1)?;
         match passes.pop() {

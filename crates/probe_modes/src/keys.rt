@@ -1,4 +1,5 @@
 //! `probe keys`: the keys of a script, cut by bindings.
+ghost use Rattle.std.specs.Prelude.{IfOk};
 ghost use Rattle.crossterm_read.specs.Shared.{IsPassOf};
 
 mod chord;
@@ -192,6 +193,32 @@ fn run<A: Allocator + Clone, H: Wait, W: Write>(
     writer.flush()
 }
 
+/// A reader of a script.
+fn read_script<A: Allocator + Clone>(
+    alloc: &A,
+    script: Vec<Act<A>, A>,
+) -> Result<InternalEventReader<DeviceSource<Script<A>, A>, A>, Fault> {
+    let source = DeviceSource::new(alloc.clone()?, Script::new(script));
+    Ok(InternalEventReader::new(alloc.clone()?, source))
+}
+
+/// A reader to share, and its only pass.
+fn share<A: Allocator + Clone, H: Wait>(
+    rt: &H,
+    alloc: &A,
+    reader: InternalEventReader<DeviceSource<Script<A>, A>, A>,
+) -> Result<(Shared<A>, Pass<DeviceSource<Script<A>, A>, A>), Fault>
+    ensures { IfOk result (λ r. IsPassOf r.0 r.1) }
+{
+    match EventReader::new(rt, alloc.clone()?, reader, 1) {
+        Ok((shared, mut passes)) => match passes.pop() {
+            Some(pass) => Ok((shared, pass)),
+            None => unreachable!(),
+        },
+        Err(_) => Err(Fault::OutOfMemory),
+    }
+}
+
 /// Runs a matcher of the bindings over the script, with one pass.
 fn run_statements<A: Allocator + Clone, H: Wait, W: Write>(
     rt: &H,
@@ -200,16 +227,9 @@ fn run_statements<A: Allocator + Clone, H: Wait, W: Write>(
     writer: &mut W,
 ) -> Result<(), Fault> {
     let Statements { keymap, script } = statements;
-    let source = DeviceSource::new(alloc.clone()?, Script::new(script));
-    let reader = InternalEventReader::new(alloc.clone()?, source);
     let matcher = Matcher::new(alloc.clone()?, keymap);
-    let (shared, pass) = match EventReader::new(rt, alloc.clone()?, reader, 1) {
-        Ok((shared, mut passes)) => match passes.pop() {
-            Some(pass) => (shared, pass),
-            None => unreachable!(),
-        },
-        Err(_) => return Err(Fault::OutOfMemory),
-    };
+    let reader = read_script(alloc, script)?;
+    let (shared, pass) = share(rt, alloc, reader)?;
     match run(rt, &shared, pass, matcher, writer) {
         Ok(()) => Ok(()),
         Err(error) => Err(Fault::of_write(&error)),

@@ -212,7 +212,9 @@ pub histories_replay : {D W : Type 0} (told : ScriptsAreTold) (histories : Histo
 unfolding replays
 histories_replay told histories contents answering o t log new nothing before after runs =
     let r = told_runs contents answering o t log runs in
-    let xs = history.answers_of log in
-    (replays told contents answering.answered o.source t.source xs new before after (r.given, r.records, r.drawn), λ ends.
-        let script = r.runs (recorded r.given) [] 0 (all_given r.given ends) in
-        (histories (over (recorded r.given) 0 o) (over [] script.0 t) log (record { waiting = new.waiting; represents = new.represents; untaken = new.untaken }) nothing script.1).1)
+    let xs = history.answers_of log in (
+      replays told contents answering.answered o.source t.source xs new before after (r.given, r.records, r.drawn),
+      λ ends.
+          let script = r.runs (recorded r.given) [] 0 (all_given r.given ends) in
+          (histories (over (recorded r.given) 0 o) (over [] script.0 t) log (record { waiting = new.waiting; represents = new.represents; untaken = new.untaken }) nothing script.1).1,
+    )

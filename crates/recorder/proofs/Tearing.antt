@@ -63,10 +63,13 @@ torn_line s n es (b ∷ front) a = inr (n, ap (read_after s n) (one_part 10 (b �
 one_more : (s : Session) (e : ℕ × DeviceAnswer) (es : List (ℕ × DeviceAnswer)) (r : Result Session Refusal) → Ends (after_line (at s e.0) e.1) es r → Ends s (e ∷ es) r
 one_more s e es r d = elim d [
   | inl k ↦ inl (
-      e ∷ k.0, k.1, k.2, ap (λ (l : List (ℕ × DeviceAnswer)). e ∷ l) k.3,
-      k.4 ∙ ap (λ acts. Ok (record { acts = acts; times = (s.times ++ e.0 ∷ []) ++ times_of k.0; end = k.2 })) (append_assoc s.acts (e.1 ∷ []) (answers_of k.0))
-          ∙ ap (λ times. Ok (record { acts = s.acts ++ e.1 ∷ answers_of k.0; times = times; end = k.2 })) (append_assoc s.times (e.0 ∷ []) (times_of k.0)),
-    )
+    e ∷ k.0,
+    k.1,
+    k.2,
+    ap (λ (l : List (ℕ × DeviceAnswer)). e ∷ l) k.3,
+    k.4 ∙ ap (λ acts. Ok (record { acts = acts; times = (s.times ++ e.0 ∷ []) ++ times_of k.0; end = k.2 })) (append_assoc s.acts (e.1 ∷ []) (answers_of k.0))
+        ∙ ap (λ times. Ok (record { acts = s.acts ++ e.1 ∷ answers_of k.0; times = times; end = k.2 })) (append_assoc s.times (e.0 ∷ []) (times_of k.0)),
+  )
   | inr n ↦ inr n
 ]
 
@@ -84,7 +87,7 @@ fronts (e ∷ es) s n front rest h d = elim (cut_where (stamp e.0) (line e.1 ++ 
         | inl m ↦ torn_line (at s e.0) (n + 1) (e ∷ es) f.0 (within_first (line e.1) f.0 m.0 m.1 (no_end e.1 h.0.1))
         | inr g ↦
             let lined = ap (λ (l : List ℕ). read_after (at s e.0) (n + 1) (parts 10 l)) g.1
-                ∙ read_first (at s e.0) (after_line (at s e.0) e.1) (n + 1) (line e.1) g.0 (no_end e.1 h.0.1) (line_read (at s e.0) e.1 h.0.1) in
+            ∙ read_first (at s e.0) (after_line (at s e.0) e.1) (n + 1) (line e.1) g.0 (no_end e.1 h.0.1) (line_read (at s e.0) e.1 h.0.1) in
             subst (λ r. Ends s (e ∷ es) r) (sym lined) (one_more s e es _ (fronts es (after_line (at s e.0) e.1) (n + 1 + 1) g.0 rest h.1 g.2))
       ])
 ]
@@ -101,8 +104,8 @@ pub cuts_keep : {D W : Type 0} (contents : W → Option (List ℕ)) (answered : 
 cuts_keep contents answered s t xs before after d =
     let r = d.1 in
     let cut : Cuts (contents s.device.writer) (contents t.device.writer) s.device.room r.entries =
-        subst (λ (f : Option Stop). Writes contents None s.device.room s.device.writer r.entries f t.device.room t.device.writer) after
-        (subst (λ (f : Option Stop). Writes contents f s.device.room s.device.writer r.entries t.device.stop t.device.room t.device.writer) before r.written) in
+    subst (λ (f : Option Stop). Writes contents None s.device.room s.device.writer r.entries f t.device.room t.device.writer) after
+    (subst (λ (f : Option Stop). Writes contents f s.device.room s.device.writer r.entries t.device.stop t.device.room t.device.writer) before r.written) in
     record {
       given = d.0;
       kept = cut.kept;
@@ -118,8 +121,8 @@ pub failures_tear : {D W : Type 0} (contents : W → Option (List ℕ)) (answere
 failures_tear contents answered s t xs kind before after d =
     let r = d.1 in
     let failed : Fails (contents s.device.writer) (contents t.device.writer) s.device.room (text r.entries) =
-        subst (λ (f : Option Stop). Writes contents None s.device.room s.device.writer r.entries f t.device.room t.device.writer) after
-        (subst (λ (f : Option Stop). Writes contents f s.device.room s.device.writer r.entries t.device.stop t.device.room t.device.writer) before r.written) in
+    subst (λ (f : Option Stop). Writes contents None s.device.room s.device.writer r.entries f t.device.room t.device.writer) after
+    (subst (λ (f : Option Stop). Writes contents f s.device.room s.device.writer r.entries t.device.stop t.device.room t.device.writer) before r.written) in
     record {
       given = d.0;
       entries = r.entries;

@@ -6,6 +6,7 @@ ghost use Rattle.recorder.specs.Recording.{Fits, IsAnswer, Recording, Uses, Writ
 ghost use Rattle.recorder.specs.inside.Said.{Notes, said_by, told_answer};
 
 use crate::line::{Told, push_entry};
+use crate::watch::Watch;
 use crossterm_command::write_bytes;
 use crossterm_read::source::{Answer, Device, Waker};
 use crossterm_types::event::timeout::Clock;
@@ -13,13 +14,16 @@ use std::alloc::{Allocator, Global};
 use std::io::{self, ErrorKind, Write};
 use std::marker::Model;
 use std::time::Duration;
+use thiserror::Error;
 
 /// Why a recording ended before its session.
-#[derive(Clone, Copy, Debug, PartialEq, Eq)]
+#[derive(Clone, Copy, Debug, PartialEq, Eq, Error)]
 pub enum Stop {
     /// What came next had no room, as `Recorder::most` bounds it. The recording ends with a whole line.
+    #[error("no room is left")]
     Cut,
-    /// The writer failed with an error of this kind, and may have taken a part of a line.
+    /// The writer failed with an error of this kind, and may have taken a part of a line. Or memory for a line was refused.
+    #[error("the writer failed: {0:?}")]
     Failed(ErrorKind),
 }
 
@@ -40,6 +44,7 @@ pub struct Recorder<D, W, C: Clock, A: Allocator = Global> {
     line: Vec<u8, A>,
     room: Option<u64>,
     stop: Option<Stop>,
+    watch: Option<Watch<A>>,
 }
 
 impl<D, W, C: Clock, A: Allocator> Model for Recorder<D, W, C, A> {
@@ -157,6 +162,7 @@ impl<D: Device, W: Write + Drop, C: Clock + Drop, A: Allocator> Recorder<D, W, C
             line: Vec::new(alloc),
             room: None,
             stop: None,
+            watch: None,
         }
     }
 
@@ -166,6 +172,22 @@ impl<D: Device, W: Write + Drop, C: Clock + Drop, A: Allocator> Recorder<D, W, C
     {
         self.room = Some(bytes);
         self
+    }
+
+    /// The same recorder, which also reports to a watch why it ended.
+    pub fn watched(mut self, watch: Watch<A>) -> Self
+        ensures { result ≡ record { device = self.device; writer = self.writer; clock = self.clock; room = self.room; stop = self.stop } }
+    {
+        self.watch = Some(watch);
+        self.report();
+        self
+    }
+
+    // Reports why the recording ended, if it did and there is a watch.
+    fn report(&self) {
+        if let (Some(stop), Some(watch)) = (self.stop, &self.watch) {
+            watch.report(stop);
+        }
     }
 
     /// The writer, with what it was given.
@@ -197,6 +219,7 @@ impl<D: Device, W: Write + Drop, C: Clock + Drop, A: Allocator> Device for Recor
 
     fn answer(&mut self, buf: &mut [u8], limit: Option<Duration>) -> io::Result<Answer> {
         let answer = self.device.answer(buf, limit);
+        let went_on = self.stop.is_none();
         let line = line_of(&answer, buf);
         record(
             &mut self.writer,
@@ -206,6 +229,9 @@ impl<D: Device, W: Write + Drop, C: Clock + Drop, A: Allocator> Device for Recor
             &mut self.stop,
             line,
         );
+        if went_on {
+            self.report();
+        }
         answer
     }
 

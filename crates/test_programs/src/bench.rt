@@ -63,11 +63,12 @@ make other 100 -> USAGE
 made keys 100 -> USAGE
 make keys 100 100 -> USAGE
 frame 1 -> USAGE
+recorded 1 -> USAGE
 --time frame -> USAGE
 count -> USAGE";
 
 const USAGE: &str =
-    "probe: usage: probe bench [frame] [--time] | probe bench held REPLIES | probe bench keys BINDINGS | probe bench make letters|utf8|keys|mouse|paste|hostile BYTES";
+    "probe: usage: probe bench [frame] [--time] | probe bench held REPLIES | probe bench recorded | probe bench keys BINDINGS | probe bench make letters|utf8|keys|mouse|paste|hostile BYTES";
 
 /// What is counted where nothing but keys came.
 const ALONE: &str = "mouse 0 pastes 0 focus 0 resizes 0 replies 0";

@@ -5,7 +5,7 @@ use crossterm_read::source::{Answer, Device, DeviceSource, Script};
 use crossterm_types::event::filter::EventFilter;
 use linked_list_allocator::LocalHeap;
 use recorder::reading::{Session, Wrong, read_session};
-use recorder::{Recorder, Stop};
+use recorder::{Recorder, Stop, Watch};
 use std::alloc::{AllocError, Global};
 use std::io::{self, ErrorKind, Write};
 use test_support::{Calls, Came, Ticking, expect, is_refused_below_a_size, is_text};
@@ -114,12 +114,22 @@ fn asked(alloc: Global, device: &mut impl Device) -> Option<String> {
 /// What the session's answers are, whatever becomes of its recording.
 const ANSWERS: &str = "prswifpipf..";
 
-/// What is written where a writer takes so many bytes, if all is answered as it should be, and why the recording ended.
-fn written(alloc: Global, mut recorder: Recording) -> Option<(Vec<u8>, Option<Stop>)> {
-    if asked(alloc, &mut recorder)?.as_str() != ANSWERS {
+/// What is written where a writer takes so many bytes, and why the recording ended. All must be answered as it should be, and watches must
+/// report what the recorder does.
+fn written(alloc: Global, recorder: Recording) -> Option<(Vec<u8>, Option<Stop>)> {
+    let (watch, late) = (Watch::new(alloc).ok()?, Watch::new(alloc).ok()?);
+    let mut recorder = recorder.watched(watch.share().ok()?);
+    if watch.stopped().is_some() || asked(alloc, &mut recorder)?.as_str() != ANSWERS {
         return None;
     }
     let stop = recorder.stopped();
+    if watch.stopped() != stop {
+        return None;
+    }
+    let recorder = recorder.watched(late.share().ok()?);
+    if late.stopped() != stop {
+        return None;
+    }
     Some((recorder.into_writer().bytes, stop))
 }
 

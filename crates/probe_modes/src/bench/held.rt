@@ -1,11 +1,11 @@
 //! A reader that holds many replies, while keys come and are taken.
 
 use crate::bench::input::print;
-use crate::bench::timing::{Work, least};
+use crate::bench::reading::Reading;
+use crate::bench::timing::least;
 use crate::fault::Fault;
-use crossterm::event::filter::{EventFilter, PrimaryDeviceAttributesFilter};
-use crossterm::event::read::InternalEventReader;
-use crossterm::event::source::{DeviceSource, RawFlag, ReadDevice};
+use crossterm::event::filter::PrimaryDeviceAttributesFilter;
+use crossterm::event::source::{RawFlag, ReadDevice};
 use std::alloc::Allocator;
 use std::io::{self, Read, Write};
 use std::rt::Clock;
@@ -31,36 +31,22 @@ impl Read for Typed {
     }
 }
 
-/// A reader behind whose replies keys come.
-#[derive(Drop)]
-struct Behind<A: Allocator> {
-    reader: InternalEventReader<DeviceSource<ReadDevice<Typed, A>, A>, A>,
-}
-
-impl<A: Allocator + Clone> Behind<A> {
-    /// So many replies are held.
-    fn new(alloc: A, replies: u32) -> Result<Behind<A>, Fault> {
-        let raw = match RawFlag::new(alloc.clone()?) {
-            Ok(raw) => raw,
-            Err(_) => return Err(Fault::OutOfMemory),
-        };
-        let source = DeviceSource::new(alloc.clone()?, ReadDevice::new(Typed { replies }, raw));
-        let mut reader = InternalEventReader::new(alloc, source);
-        match reader.poll_within(replies, &PrimaryDeviceAttributesFilter) {
-            Ok(_) => Ok(Behind { reader }),
-            Err(_) => Err(Fault::OutOfMemory),
-        }
-    }
-}
-
-impl<A: Allocator + Clone> Work for Behind<A> {
-    /// A key comes, and is taken.
-    fn run(&mut self) -> Result<(), Fault> {
-        match self.reader.read_within(1, &EventFilter) {
-            Ok(Some(_)) => Ok(()),
-            Ok(None) => Err(Fault::ReadFailed),
-            Err(error) => Err(Fault::of_read(&error)),
-        }
+/// A reader that holds so many replies, behind which keys come.
+fn behind<A: Allocator + Clone>(
+    alloc: A,
+    replies: u32,
+) -> Result<Reading<ReadDevice<Typed, A>, A>, Fault> {
+    let raw = match RawFlag::new(alloc.clone()?) {
+        Ok(raw) => raw,
+        Err(_) => return Err(Fault::OutOfMemory),
+    };
+    let mut reading = Reading::new(alloc, ReadDevice::new(Typed { replies }, raw))?;
+    match reading
+        .reader
+        .poll_within(replies, &PrimaryDeviceAttributesFilter)
+    {
+        Ok(_) => Ok(reading),
+        Err(_) => Err(Fault::OutOfMemory),
     }
 }
 
@@ -71,7 +57,7 @@ pub fn time<C: Clock, A: Allocator + Clone, W: Write>(
     replies: u32,
     writer: &mut W,
 ) -> Result<(), Fault> {
-    let mut behind = Behind::new(alloc, replies)?;
+    let mut behind = behind(alloc, replies)?;
     let nanos = least(clock, &mut behind, 1)?;
     print(writer, format_args!("ns a key {nanos}"))
 }

@@ -1,7 +1,7 @@
 //! What the command line asks for.
 
 use crate::bench::workload::Workload;
-use crate::bench::{frame, held, input, keys};
+use crate::bench::{frame, held, input, keys, recorded};
 use crate::fault::Fault;
 use std::alloc::Allocator;
 use std::io::{Read, Write};
@@ -20,6 +20,8 @@ pub enum Mode {
     TimeFrame,
     /// Times a key behind so many held replies.
     TimeHeld(u32),
+    /// Times a key with a recorder and without one.
+    TimeRecorded,
     /// Times a key where so many lists are bound.
     TimeKeys(u32),
     /// Writes so many bytes of a workload.
@@ -46,6 +48,7 @@ impl Mode {
         match word {
             "--time" => Some(Mode::TimeInput),
             "frame" => Some(Mode::Frame),
+            "recorded" => Some(Mode::TimeRecorded),
             _ => None,
         }
     }
@@ -77,6 +80,7 @@ impl Mode {
             Mode::Frame => frame::count(alloc, writer),
             Mode::TimeFrame => frame::time(clock, alloc, writer),
             Mode::TimeHeld(replies) => held::time(clock, alloc, replies, writer),
+            Mode::TimeRecorded => recorded::time(clock, alloc, writer),
             Mode::TimeKeys(count) => keys::time(clock, alloc, count, writer),
             Mode::Make(workload, count) => workload.write(alloc, count, writer),
         }

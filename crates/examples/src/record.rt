@@ -1,0 +1,126 @@
+//! Shows each event of the terminal as it comes, and records what the terminal sends.
+//!
+//! `example record FILE` runs it in a terminal; Esc ends it. The last row shows how many events came, and why the recording ended if it did.
+//! `example replay FILE` shows the same events again.
+
+use crossterm::cursor::MoveTo;
+use crossterm::event::source::DeviceSource;
+use crossterm::event::timeout::{Clock, SystemClock};
+use crossterm::event::{Event, KeyCode};
+use crossterm::style::ColorOutput;
+use crossterm::terminal::{Clear, ClearType, SttyDevice};
+use crossterm::{QueueableCommand, queue};
+use own_terminal::{Feature, Input, Session};
+use recorder::{Recorder, Watch};
+use std::alloc::Global;
+use std::fs::{File, Files};
+use std::io::{self, BufWriter, ErrorKind, Stdin, Stdout, Write};
+use std::net::Net;
+use std::rt::{HostRuntime, Runtime};
+use std::sync::Wait;
+use std::time::Duration;
+
+const COLORS: ColorOutput = ColorOutput::Enabled;
+
+/// The session of a terminal whose answers are recorded. `R` is the type of `main`'s argument.
+pub type Recorded<'a, R = HostRuntime> = Session<
+    DeviceSource<Recorder<Input, File, SystemClock<'a, R>>>,
+    SttyDevice<File, File>,
+    BufWriter<Stdout>,
+    SystemClock<'a, R>,
+>;
+
+/// What is shown.
+#[derive(Drop)]
+struct View {
+    /// How many rows the window has.
+    rows: u16,
+    /// How many events came.
+    events: u64,
+}
+
+/// Opens the terminal, with a recorder over what it reports, and a watch that reports why the recording ended.
+pub fn open<'a, R>(
+    rt: &'a R,
+    input: Stdin,
+    out: Stdout,
+    file: &str,
+    folder: &str,
+) -> io::Result<(Recorded<'a, R>, Watch)>
+where
+    R: Runtime + Alloc<A = Global> + Files<File = File> + Net + Wait,
+{
+    let alloc = rt.alloc();
+    let watch = Watch::new(alloc)?;
+    let file = File::create(rt, file)?;
+    let (input, term) = own_terminal::open(rt, alloc, input, folder)?;
+    let device = Recorder::new(alloc, input, file, SystemClock::new(rt)).watched(watch.share()?);
+    let out = BufWriter::new(alloc, out)?;
+    let tty = Session::over(rt, alloc, device, term, out, SystemClock::new(rt))?;
+    Ok((tty, watch))
+}
+
+/// Begins the last row anew.
+fn clear_last_row(tty: &mut Recorded<'_>, rows: u16) -> io::Result<()> {
+    queue!(tty.out, COLORS, MoveTo(0, rows.saturating_sub(1)))?;
+    queue!(tty.out, COLORS, Clear(ClearType::CurrentLine))
+}
+
+/// Shows an event above the last row, and returns whether it is the last one.
+fn show(tty: &mut Recorded<'_>, view: &mut View, event: &Event) -> io::Result<bool> {
+    if let Event::Resize(_, rows) = event {
+        view.rows = *rows;
+    }
+    view.events = view.events.saturating_add(1);
+    clear_last_row(tty, view.rows)?;
+    write!(tty.out, "{event:?}\r\n")?;
+    Ok(matches!(event, Event::Key(key) if key.code == KeyCode::Esc))
+}
+
+/// Shows on the last row how far the recording is.
+fn report(tty: &mut Recorded<'_>, watch: &Watch, view: &View) -> io::Result<()> {
+    clear_last_row(tty, view.rows)?;
+    let seconds = tty.clock.now().as_secs();
+    let events = view.events;
+    match watch.stopped() {
+        None => write!(tty.out, "{seconds} s, {events} events; Esc ends"),
+        Some(stop) => write!(tty.out, "the recording ended: {stop}"),
+    }
+}
+
+/// Shows what comes within a second, and returns whether it was the last event.
+fn turn(
+    rt: &impl Wait,
+    tty: &mut Recorded<'_>,
+    watch: &Watch,
+    view: &mut View,
+) -> io::Result<bool> {
+    let is_over = if tty.poll(rt, Duration::from_secs(1))? {
+        let event = tty.read(rt)?;
+        show(tty, view, &event)?
+    } else {
+        false
+    };
+    report(tty, watch, view)?;
+    tty.out.flush()?;
+    Ok(is_over)
+}
+
+/// Shows events until the last one, or the end of input.
+pub fn run(rt: &impl Wait, tty: &mut Recorded<'_>, watch: &Watch) -> io::Result<()> {
+    tty.enable_raw_mode()?;
+    tty.turn_on(Feature::BracketedPaste)?;
+    tty.turn_on(Feature::FocusChange)?;
+    tty.turn_on(Feature::MouseCapture)?;
+    let (_, rows) = tty.size()?;
+    let mut view = View { rows, events: 0 };
+    for _ in rt.forever() {
+        match turn(rt, tty, watch, &mut view) {
+            Ok(false) => {}
+            Ok(true) => break,
+            Err(error) if error.kind() == ErrorKind::UnexpectedEof => break,
+            Err(error) => return Err(error),
+        }
+    }
+    tty.out.write_all(b"\r\n")
+}

@@ -1,0 +1,233 @@
+//! Shows the events of a recording, each after the milliseconds that had passed since the beginning.
+//!
+//! `example replay FILE` shows them at once, and `example replay FILE --speed N` as they came, N times as fast. `--probe` writes what
+//! came in the words of `probe play`, and `--cast` in the format asciicast v2, which the players of asciinema read.
+
+mod cast;
+
+use crossterm::event::InternalEvent;
+use crossterm::event::filter::EventFilter;
+use crossterm::event::read::InternalEventReader;
+use crossterm::event::source::{Act, Answer, Device, DeviceSource, Script, Waker};
+use recorder::reading::{Session, read_session};
+use recorder::write_act;
+use std::alloc::{AllocError, Global};
+use std::fs::{self, Files};
+use std::io::{self, Eprint, ErrorKind, Write};
+use std::thread;
+use std::time::{Clock, Duration};
+
+/// What is written of a recording.
+#[derive(Clone, Copy)]
+enum Form {
+    /// Its events, at once or so many times as fast as they came.
+    Events(Option<u32>),
+    /// What came, in the words of `probe play`.
+    Probe,
+    /// Lines of asciicast.
+    Cast,
+}
+
+fn read_form(words: &[String]) -> Option<Form> {
+    match words {
+        [] => Some(Form::Events(None)),
+        [word] if word.as_str() == "--probe" => Some(Form::Probe),
+        [word] if word.as_str() == "--cast" => Some(Form::Cast),
+        [word, speed] if word.as_str() == "--speed" => {
+            Some(Form::Events(Some(speed.parse().ok()?)))
+        }
+        _ => None,
+    }
+}
+
+/// A script that knows when each of its answers came, and waits for that where it has a speed.
+#[derive(Drop)]
+struct Player<'a, C> {
+    clock: &'a C,
+    script: Script,
+    /// When each answer came, in milliseconds.
+    times: Vec<u32>,
+    told: usize,
+    speed: Option<u32>,
+}
+
+impl<'a, C: Clock> Player<'a, C> {
+    fn new(
+        alloc: Global,
+        clock: &'a C,
+        session: Session,
+        speed: Option<u32>,
+    ) -> Result<Player<'a, C>, AllocError> {
+        let mut times = Vec::new(alloc);
+        for (act, time) in session.acts.iter().zip(session.times.iter()) {
+            for _ in 0..answers_of(act) {
+                times.push(*time)?;
+            }
+        }
+        Ok(Player {
+            clock,
+            script: Script::new(session.acts),
+            times,
+            told: 0,
+            speed,
+        })
+    }
+
+    /// When the last answer came: 0 before the first one.
+    fn time(&self) -> u32 {
+        let last = self.told.min(self.times.len()).checked_sub(1);
+        last.and_then(|at| self.times.get(at).copied()).unwrap_or(0)
+    }
+
+    /// Whether all was answered, and the end of input too.
+    fn is_over(&self) -> bool {
+        self.times.len() < self.told
+    }
+
+    /// Waits until the next answer comes.
+    fn wait(&self) {
+        let next = self.times.get(self.told).copied().unwrap_or(0);
+        let pause = next.saturating_sub(self.time());
+        if let Some(speed) = self.speed {
+            let millis = pause.checked_div(speed).unwrap_or(0);
+            thread::sleep(self.clock, Duration::from_millis(u64::from(millis)));
+        }
+    }
+}
+
+/// How many answers a script makes of an act: it cuts long pieces into buffers of 1024 bytes.
+fn answers_of(act: &Act) -> usize {
+    match act {
+        Act::Piece { bytes, .. } => bytes.len().div_ceil(1024),
+        _ => 1,
+    }
+}
+
+impl<C: Clock> Device for Player<'_, C> {
+    ghost failed = { λ player. player.script.failed };
+
+    fn answer(&mut self, buf: &mut [u8], limit: Option<Duration>) -> io::Result<Answer> {
+        self.wait();
+        self.told = self.told.saturating_add(1);
+        self.script.answer(buf, limit)
+    }
+
+    fn failures(&self) -> u64 {
+        self.script.failures()
+    }
+
+    fn waker(&self) -> io::Result<Waker> {
+        self.script.waker()
+    }
+}
+
+/// Writes a line for a failure that came at this time. Wake-ups have none.
+fn write_fault<W: Write>(time: u32, error: io::Error, out: &mut W) -> io::Result<()> {
+    match error.kind() {
+        ErrorKind::Interrupted => Ok(()),
+        ErrorKind::OutOfMemory => Err(error),
+        kind => writeln!(out, "{time} fault {kind:?}"),
+    }
+}
+
+/// Writes a line for what came at this time, if it is an event or a failure.
+fn write_line<W: Write>(
+    time: u32,
+    next: io::Result<Option<InternalEvent>>,
+    out: &mut W,
+) -> io::Result<()> {
+    match next {
+        Ok(Some(InternalEvent::Event(event))) => writeln!(out, "{time} {event:?}"),
+        Ok(_) => Ok(()),
+        Err(error) => write_fault(time, error, out),
+    }
+}
+
+/// Reads once, and writes what came. Returns whether all was read.
+fn turn<C: Clock, W: Write>(
+    reader: &mut InternalEventReader<DeviceSource<Player<'_, C>>>,
+    out: &mut W,
+) -> io::Result<bool> {
+    let next = reader.read_within(1, &EventFilter);
+    let player = reader.source().device();
+    if next.is_err() && player.is_over() {
+        return Ok(true);
+    }
+    write_line(player.time(), next, out)?;
+    if player.speed.is_some() {
+        out.flush()?;
+    }
+    Ok(false)
+}
+
+/// Writes the events and failures of a recording.
+fn write_events<C: Clock, W: Write>(
+    alloc: Global,
+    player: Player<'_, C>,
+    out: &mut W,
+) -> io::Result<()> {
+    let mut reader = InternalEventReader::new(alloc, DeviceSource::new(alloc, player));
+    for _ in 0..u64::MAX {
+        if turn(&mut reader, out)? {
+            break;
+        }
+    }
+    Ok(())
+}
+
+/// Writes the acts in the words of `probe play`, which has one word for all failures.
+fn write_probe<W: Write>(alloc: Global, session: &Session, out: &mut W) -> io::Result<()> {
+    let mut line = Vec::new(alloc);
+    for act in session.acts.iter() {
+        line.clear();
+        if let Act::Fault(_) = act {
+            line.extend_from_slice(b"fault\n")?;
+        } else {
+            write_act(&mut line, act)?;
+        }
+        out.write_all(line.as_slice())?;
+    }
+    Ok(())
+}
+
+/// Reads the recording of a file. Standard error says which line doesn't read, and why.
+fn load<R: AllocGlobal + Files + Eprint>(rt: &R, file: &str) -> io::Result<Session> {
+    let text = fs::read(rt, file)?;
+    match read_session(&rt.alloc(), text.as_slice()) {
+        Ok(session) => Ok(session),
+        Err(bad) => {
+            eprintln!(rt; "{file}: {bad}")?;
+            Err(io::Error::from(ErrorKind::InvalidData))
+        }
+    }
+}
+
+/// Writes a recording in a form.
+fn write<R: AllocGlobal + Clock, W: Write>(
+    rt: &R,
+    form: Form,
+    session: Session,
+    out: &mut W,
+) -> io::Result<()> {
+    let alloc = rt.alloc();
+    match form {
+        Form::Events(speed) => write_events(alloc, Player::new(alloc, rt, session, speed)?, out),
+        Form::Probe => write_probe(alloc, &session, out),
+        Form::Cast => cast::write(alloc, &session, out),
+    }
+}
+
+/// Writes the recording of a file in the form that some words ask for.
+pub fn run<R: AllocGlobal + Files + Clock + Eprint, W: Write>(
+    rt: &R,
+    file: &str,
+    words: &[String],
+    out: &mut W,
+) -> io::Result<()> {
+    let Some(form) = read_form(words) else {
+        return Err(io::Error::from(ErrorKind::InvalidInput));
+    };
+    let session = load(rt, file)?;
+    write(rt, form, session, out)?;
+    out.flush()
+}
