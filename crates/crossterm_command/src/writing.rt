@@ -19,6 +19,9 @@ pub fn write_text<W: io::Write>(writer: &mut W, text: &str) -> io::Result<()>
 }
 
 /// Writes all of some bytes, as `write_text` does a text.
+///
+/// # Errors
+/// Those of `write_text`; the writer has taken a front of the bytes then.
 pub fn write_bytes<W: io::Write>(writer: &mut W, bytes: &[u8]) -> io::Result<()>
     ensures ok { OnOk result (Appends (W.contents writer.old) (W.contents writer.new) bytes.now) }
     ensures err { OnErr result (AppendsFront (W.contents writer.old) (W.contents writer.new) bytes.now) }
