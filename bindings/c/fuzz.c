@@ -104,8 +104,15 @@ static void one(bool wild) {
     free(state);
 }
 
+/* The archive is the header's. */
+static void check_version(void) {
+    if (gelvanh_version() != GELVANH_VERSION_NUMBER)
+        fail("gelvanh_version");
+}
+
 int main(int argc, char **argv) {
     int n = argc > 1 ? atoi(argv[1]) : 20000;
+    check_version();
     for (int i = 0; i < n; i++)
         one(i % 2);
     printf("%d states and pieces\n", n);

@@ -1,7 +1,7 @@
-/* Gelvanh's parser and commands, proved (crates/crossterm_c). No call needs memory, blocks or fails otherwise than told here.
+/* Gelvanh's parser and commands, proved (crates/crossterm_c). No call needs memory or blocks, or fails in a way that isn't said here.
  *
  * What a caller owes: each pointer is valid for its length (with a length of 0 it may be NULL), a bool is 0 or 1, and what two arguments
- * point to doesn't overlap where one of them is written. Any numbers in a state are a state. */
+ * point to doesn't overlap if one of them is written. Any numbers in a state are a state. */
 #ifndef GELVANH_H
 #define GELVANH_H
 
@@ -9,10 +9,11 @@
  *
  * Before 1.0.0 the second number changes wherever a program has to be compiled again: a struct, a number or a call is another. From 1.0.0
  * on the first does. Otherwise numbers for new kinds, keys and commands may follow the last: a program passes over those it doesn't know. */
-#define GELVANH_VERSION "0.2.0"
+#define GELVANH_VERSION "0.3.0"
 #define GELVANH_VERSION_MAJOR 0
-#define GELVANH_VERSION_MINOR 2
+#define GELVANH_VERSION_MINOR 3
 #define GELVANH_VERSION_PATCH 0
+#define GELVANH_VERSION_NUMBER ((GELVANH_VERSION_MAJOR * 256 + GELVANH_VERSION_MINOR) * 256 + GELVANH_VERSION_PATCH)
 
 #include <stddef.h>
 #include <stdint.h>
@@ -80,7 +81,8 @@ enum gelvanh_mouse {
 };
 enum { GELVANH_BUTTON_LEFT, GELVANH_BUTTON_RIGHT, GELVANH_BUTTON_MIDDLE };
 
-/* An event. The fields that its kind doesn't name are 0. */
+/* An event. The fields that its kind doesn't name are 0: gelvanh_feed gives them so, and you owe them so to gelvanh_hold. An event with another
+ * of them is held as it is, but in the class GELVANH_EVENTS, whatever its kind. */
 struct gelvanh_event {
     uint16_t kind, code;
     uint32_t value;
@@ -88,10 +90,13 @@ struct gelvanh_event {
     uint8_t modifiers, press, state, flags;
 };
 
-/* Takes bytes of a terminal, and tells how many. `count` is how many events they gave, which stand in front of `events`.
+/* The version of the archive, as GELVANH_VERSION_NUMBER is the header's: for a program that finds the functions by name. */
+uint32_t gelvanh_version(void);
+
+/* Takes bytes of a terminal, and returns how many. `count` is how many events they gave, which are in front of `events`.
  *
- * It stops where all are taken, where the table of `room` events is full, and after the byte with which a paste opens or is over; then
- * the others are handed in again. So where a paste was open before the call, all bytes taken are of it: the caller keeps them, and where
+ * It stops when all are taken, when the table of `room` events is full, and after the byte with which a paste opens or is over; then
+ * the others are handed in again. So if a paste was open before the call, all bytes taken are of it: the caller keeps them, and if
  * the paste is over its event is the only one, and its text that of the bytes kept but the last six.
  *
  * `more` says that bytes of the same answer of the terminal follow at once, so that ESC at the end is no Esc key yet. `raw` is the mode
@@ -106,7 +111,7 @@ gelvanh_bool gelvanh_is_undecided(const struct gelvanh_state *state);
 gelvanh_bool gelvanh_is_pasting(const struct gelvanh_state *state);
 
 /* Writes the text of a paste's bytes (without the six of its end), with U+FFFD for each maximal part that isn't UTF-8, as far as the
- * next character has room. It tells how many bytes were read: the text of the others is still missing. `written` is how many bytes
+ * next character has room. It returns how many bytes were read: the text of the others is still missing. `written` is how many bytes
  * were written. With room for three times the bytes all are read. */
 size_t gelvanh_paste_text(const uint8_t *bytes, size_t length, uint8_t *text, size_t room, size_t *written);
 
@@ -128,16 +133,16 @@ enum {
     GELVANH_EVENTS = 1,            /* what a user brought about: all but replies */
     GELVANH_CURSOR_REPLIES = 2,
     GELVANH_FLAGS_REPLIES = 4,
-    GELVANH_ATTRIBUTES_REPLIES = 8 /* also the reply to a query for the flags, where the terminal has none */
+    GELVANH_ATTRIBUTES_REPLIES = 8 /* also the reply to a query for the flags, if the terminal has none */
 };
 
-/* Holds an event behind those that are held, and tells whether the table of `room` places had one more: else nothing has changed. */
+/* Holds an event behind those that are held, and returns whether the table of `room` places had one more: else nothing has changed. */
 gelvanh_bool gelvanh_hold(struct gelvanh_reader *reader, struct gelvanh_held *table, size_t room, const struct gelvanh_event *event);
 
 /* Whether an event of one of some classes is held. */
 gelvanh_bool gelvanh_holds(const struct gelvanh_reader *reader, const struct gelvanh_held *table, size_t room, uint32_t classes);
 
-/* Takes the first held event of one of some classes, and tells whether there was one: else nothing has changed. The others stay, in their
+/* Takes the first held event of one of some classes, and returns whether there was one: else nothing has changed. The others stay, in their
  * order. */
 gelvanh_bool gelvanh_take(struct gelvanh_reader *reader, struct gelvanh_held *table, size_t room, uint32_t classes, struct gelvanh_held *taken);
 
@@ -211,12 +216,12 @@ struct gelvanh_command {
 /* What came of a command. */
 enum gelvanh_outcome {
     GELVANH_WRITTEN,      /* its text was written; `length` is how many bytes it has */
-    GELVANH_TOO_SMALL,    /* it has more bytes than there is room, as `length` tells; nothing was written */
+    GELVANH_TOO_SMALL,    /* it has more bytes than there is room, `length` is how many; nothing was written */
     GELVANH_NAMES_NOTHING,/* the numbers name no command, or the text isn't UTF-8; nothing was written */
     GELVANH_FAILED        /* the command failed by itself, which none is known to: `length` is 0, and the slice may hold anything */
 };
 
-/* Writes a command that has no text of its own. `colors` is false where colours aren't to be written, as with NO_COLOR. */
+/* Writes a command that has no text of its own. `colors` is false if colours aren't to be written, as with NO_COLOR. */
 uint32_t gelvanh_command(const struct gelvanh_command *command, gelvanh_bool colors, uint8_t *slice, size_t room, size_t *length);
 
 /* The four that have one. Texts, titles and places are UTF-8; the places of a copy are letters, `c` the clipboard, `p` the selection. */
@@ -227,7 +232,7 @@ uint32_t gelvanh_print_styled(const struct gelvanh_command *style, const uint8_t
 uint32_t gelvanh_copy_to_clipboard(const uint8_t *content, size_t content_length, const uint8_t *places, size_t places_length,
                                    uint8_t *slice, size_t room, size_t *length);
 
-/* The sizes are fixed by the proved crate's tests too; that its fields stand at these places is tried by bindings/try/run. An array of
+/* The sizes are fixed by the proved crate's tests too; that its fields are at these places is tried by bindings/try/run. An array of
  * negative size is an error in C89 and C++98 too. */
 #define GELVANH_CHECK(name, test) typedef char gelvanh_check_##name[(test) ? 1 : -1]
 GELVANH_CHECK(state, sizeof(struct gelvanh_state) == 52);

@@ -5,10 +5,16 @@ use std::ops::{BitAnd, BitOr, BitXor};
 /// Declares the attributes, and the list of all.
 macro_rules! attributes {
     ($($(#[$doc:meta])* $name:ident,)*) => {
-        /// An attribute of a text, or the end of one.
+        /// An attribute of a text, or the end of one, with its parameter of `ESC [ .. m`.
+        ///
+        /// ```
+        /// use gelvanh::Attribute;
+        ///
+        /// assert_eq!(Attribute::Undercurled.sgr(), "4:3");
+        /// assert_eq!(Attribute::Bold.to_string(), "\x1b[1m");
+        /// ```
         #[derive(Clone, Copy, Debug, PartialEq, Eq, PartialOrd, Ord, Hash)]
         #[cfg_attr(feature = "serde", derive(serde::Serialize, serde::Deserialize))]
-        #[allow(missing_docs)]
         #[non_exhaustive]
         pub enum Attribute {
             $($(#[$doc])* $name,)*
@@ -19,36 +25,61 @@ macro_rules! attributes {
 }
 
 attributes! {
-    /// Ends all attributes and colours.
+    /// Ends all attributes and colours, `0`.
     Reset,
+    /// Bold, `1`.
     Bold,
+    /// Dim, `2`.
     Dim,
+    /// Italic, `3`.
     Italic,
+    /// Underlined, `4`.
     Underlined,
+    /// Underlined twice, `4:2`.
     DoubleUnderlined,
+    /// Underlined by a curl, `4:3`.
     Undercurled,
+    /// Underlined by dots, `4:4`.
     Underdotted,
+    /// Underlined by dashes, `4:5`.
     Underdashed,
+    /// Blinks, `5`.
     SlowBlink,
+    /// Blinks fast, `6`.
     RapidBlink,
+    /// With its two colours exchanged, `7`.
     Reverse,
+    /// Not shown, `8`.
     Hidden,
+    /// Crossed out, `9`.
     CrossedOut,
+    /// In Fraktur, `20`.
     Fraktur,
-    /// Ends bold; some terminals underline twice.
+    /// Ends bold; some terminals underline twice, `21`.
     NoBold,
-    /// Ends bold and dim.
+    /// Ends bold and dim, `22`.
     NormalIntensity,
+    /// Ends italic, `23`.
     NoItalic,
+    /// Ends every underline, `24`.
     NoUnderline,
+    /// Ends blinking, `25`.
     NoBlink,
+    /// Ends the exchange of colours, `27`.
     NoReverse,
+    /// Shows the text again, `28`.
     NoHidden,
+    /// Ends crossing out, `29`.
     NotCrossedOut,
+    /// In a frame, `51`.
     Framed,
+    /// In a circle, `52`.
     Encircled,
+    /// With a line above, `53`.
     OverLined,
+    /// Ends frame and circle, `54`.
     NotFramedOrEncircled,
+    /// Ends the line above, `55`.
     NotOverLined,
 }
 
@@ -66,6 +97,14 @@ impl Attribute {
 }
 
 /// A set of attributes.
+///
+/// ```
+/// use gelvanh::{Attribute, Attributes};
+///
+/// let set = Attributes::from(Attribute::Bold) | Attribute::Italic;
+/// assert!(set.has(Attribute::Bold));
+/// assert_eq!(set.without(Attribute::Bold), Attribute::Italic.into());
+/// ```
 #[derive(Clone, Copy, Debug, Default, PartialEq, Eq, Hash)]
 pub struct Attributes(u32);
 

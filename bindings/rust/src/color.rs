@@ -3,29 +3,59 @@
 use std::str::FromStr;
 
 /// A colour. In the names `Dark` is the normal one of a pair, and the plain name the bright one.
+///
+/// ```
+/// use gelvanh::Color;
+///
+/// assert_eq!("dark_red".parse(), Ok(Color::DarkRed));
+/// assert_eq!(Color::from((1, 2, 3)), Color::Rgb { r: 1, g: 2, b: 3 });
+/// assert_eq!(Color::try_from("mauve"), Err(()));
+/// ```
 #[derive(Clone, Copy, Debug, PartialEq, Eq, PartialOrd, Ord, Hash)]
-#[allow(missing_docs)]
 pub enum Color {
     /// The terminal's own.
     Reset,
+    /// Place 0 of the palette.
     Black,
+    /// Place 8 of the palette.
     DarkGrey,
+    /// Place 9.
     Red,
+    /// Place 1.
     DarkRed,
+    /// Place 10.
     Green,
+    /// Place 2.
     DarkGreen,
+    /// Place 11.
     Yellow,
+    /// Place 3.
     DarkYellow,
+    /// Place 12.
     Blue,
+    /// Place 4.
     DarkBlue,
+    /// Place 13.
     Magenta,
+    /// Place 5.
     DarkMagenta,
+    /// Place 14.
     Cyan,
+    /// Place 6.
     DarkCyan,
+    /// Place 15.
     White,
+    /// Place 7.
     Grey,
     /// A colour by its red, green and blue.
-    Rgb { r: u8, g: u8, b: u8 },
+    Rgb {
+        /// Red.
+        r: u8,
+        /// Green.
+        g: u8,
+        /// Blue.
+        b: u8,
+    },
     /// A place in the palette of 256.
     AnsiValue(u8),
 }

@@ -1,5 +1,4 @@
 //! Commands, and how their bytes get to a writer.
-#![allow(missing_docs)]
 
 use crate::attribute::{Attribute, Attributes};
 use crate::color::Color;
@@ -11,9 +10,13 @@ use std::io;
 /// How a text looks.
 #[derive(Clone, Copy, Debug, Default, PartialEq, Eq, Hash)]
 pub struct Style {
+    /// The text's colour.
     pub foreground: Option<Color>,
+    /// The colour behind it.
     pub background: Option<Color>,
+    /// The colour of the line below it.
     pub underline: Option<Color>,
+    /// Its attributes.
     pub attributes: Attributes,
 }
 
@@ -38,67 +41,124 @@ pub enum ClearType {
 /// The cursor's shape.
 #[derive(Clone, Copy, Debug, PartialEq, Eq, Hash)]
 pub enum CursorStyle {
+    /// The shape that the user chose.
     DefaultUserShape,
+    /// A block that blinks.
     BlinkingBlock,
+    /// A block.
     SteadyBlock,
+    /// A line below the character, which blinks.
     BlinkingUnderScore,
+    /// A line below the character.
     SteadyUnderScore,
+    /// A bar in front of the character, which blinks.
     BlinkingBar,
+    /// A bar in front of the character.
     SteadyBar,
 }
 
 /// A command, under crossterm's names.
+///
+/// ```
+/// use gelvanh::{put_command, ClearType, Command};
+///
+/// let mut slice = [0; 8];
+/// assert_eq!(put_command(&mut slice, &Command::Clear(ClearType::All), true), Some(4));
+/// assert_eq!(&slice[..4], b"\x1b[2J");
+/// ```
 #[derive(Clone, Copy, Debug, PartialEq)]
 pub enum Command<'a> {
     /// Column and row, from 0.
     MoveTo(u16, u16),
+    /// The column, from 0.
     MoveToColumn(u16),
+    /// The row, from 0.
     MoveToRow(u16),
+    /// How many lines down, to the first column.
     MoveToNextLine(u16),
+    /// How many lines up, to the first column.
     MoveToPreviousLine(u16),
+    /// How many rows.
     MoveUp(u16),
+    /// How many rows.
     MoveDown(u16),
+    /// How many columns.
     MoveRight(u16),
+    /// How many columns.
     MoveLeft(u16),
+    /// The cursor's shape.
     SetCursorStyle(CursorStyle),
+    /// What is cleared.
     Clear(ClearType),
+    /// How many lines; with 0 it writes nothing.
     ScrollUp(u16),
+    /// How many lines; with 0 it writes nothing.
     ScrollDown(u16),
     /// Columns and rows.
     SetSize(u16, u16),
+    /// The window's title.
     SetTitle(&'a str),
+    /// The flags of kitty's protocol.
     PushKeyboardEnhancementFlags(KeyboardEnhancementFlags),
+    /// The text's colour.
     SetForegroundColor(Color),
+    /// The colour behind the text.
     SetBackgroundColor(Color),
+    /// The colour of the line below the text.
     SetUnderlineColor(Color),
-    /// The colour of the text and the one behind it, where they are there.
+    /// The colour of the text and the one behind it, if they are there.
     SetColors(Option<Color>, Option<Color>),
+    /// An attribute.
     SetAttribute(Attribute),
+    /// Attributes, in declared order.
     SetAttributes(Attributes),
+    /// All that the style has.
     SetStyle(Style),
+    /// A text in a style, and the end of that style.
     PrintStyledContent(Style, &'a str),
     /// The content, and the letters of the places: `c` is the clipboard, `p` the primary selection.
     CopyToClipboard(&'a [u8], &'a str),
+    /// A text.
     Print(&'a str),
+    /// Keeps the cursor's place.
     SavePosition,
+    /// Moves the cursor to the place that was kept.
     RestorePosition,
+    /// Hides the cursor.
     Hide,
+    /// Shows the cursor.
     Show,
+    /// Lets the cursor blink.
     EnableBlinking,
+    /// Keeps it from blinking.
     DisableBlinking,
+    /// Cuts off a line that is too long.
     DisableLineWrap,
+    /// Lets it go on in the next.
     EnableLineWrap,
+    /// Turns to the other screen.
     EnterAlternateScreen,
+    /// Turns back.
     LeaveAlternateScreen,
+    /// Begins changes that are shown together.
     BeginSynchronizedUpdate,
+    /// Shows them.
     EndSynchronizedUpdate,
+    /// Lets the mouse be reported.
     EnableMouseCapture,
+    /// Ends that.
     DisableMouseCapture,
+    /// Lets the focus be reported.
     EnableFocusChange,
+    /// Ends that.
     DisableFocusChange,
+    /// Lets a paste be reported as one event.
     EnableBracketedPaste,
+    /// Ends that.
     DisableBracketedPaste,
+    /// Ends the flags that were pushed last.
     PopKeyboardEnhancementFlags,
+    /// Ends all colours and attributes.
     ResetColor,
 }
 
@@ -199,10 +259,10 @@ fn numbers(command: &Command) -> raw::Command {
     }
 }
 
-/// Writes a command into a slice, and tells how many bytes it has; where they are more than the slice has, nothing was written.
-/// `colors` is false where colours aren't to be written, as with `NO_COLOR`.
+/// Writes a command into a slice, and returns how many bytes it has; if they are more than the slice has, nothing was written.
+/// `colors` is false if colours aren't to be written, as with `NO_COLOR`.
 ///
-/// It is `None` where the archive says that there is no such command, which no value of this type is.
+/// It is `None` if the archive says that there is no such command, which no value of this type is.
 #[inline]
 pub fn put_command(slice: &mut [u8], command: &Command, colors: bool) -> Option<usize> {
     let (told, length) = match command {
@@ -215,7 +275,7 @@ pub fn put_command(slice: &mut [u8], command: &Command, colors: bool) -> Option<
     (told < 2).then_some(length)
 }
 
-/// The bytes of a command, on the stack where they are few.
+/// The bytes of a command, on the stack if they are few.
 struct Bytes {
     short: [u8; 64],
     long: Vec<u8>,
@@ -241,6 +301,10 @@ impl Bytes {
 }
 
 /// Writes a command as text.
+///
+/// # Errors
+///
+/// The writer's.
 ///
 /// ```
 /// use gelvanh::{write_text, Command};
@@ -279,6 +343,10 @@ impl Display for Attribute {
 }
 
 /// Writes a command on a writer.
+///
+/// # Errors
+///
+/// The writer's, which may have taken a beginning of the bytes.
 pub fn write_command<W: io::Write + ?Sized>(writer: &mut W, command: &Command, colors: bool) -> io::Result<()> {
     let bytes = Bytes::of(command, colors).ok_or(io::ErrorKind::InvalidInput)?;
     writer.write_all(bytes.as_slice())

@@ -108,7 +108,7 @@ impl raw::Event {
         self.kind == 5
     }
 
-    /// The event that the numbers tell, but that of a paste. It is `None` where they name none, which no event of a parser does.
+    /// The event of these numbers, but that of a paste. It is `None` if they are no event's, as those of a parser never are.
     #[inline]
     pub fn to_event(&self) -> Option<InternalEvent> {
         if self.kind == 3 {

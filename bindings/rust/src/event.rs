@@ -4,6 +4,16 @@ use crate::key::{KeyEvent, KeyEventKind, KeyModifiers, KeyboardEnhancementFlags}
 use crate::variants::is_variants;
 
 /// An event that a user of the terminal brings about.
+///
+/// ```
+/// use gelvanh::{Event, InternalEvent, KeyModifiers, Parser};
+///
+/// let mut parser = Parser::default();
+/// let events: Vec<InternalEvent> = parser.feed(b"\x1b[1;5C", false, true).collect();
+/// let InternalEvent::Event(event) = &events[0] else { unreachable!() };
+/// let key = event.as_key_press_event().unwrap();
+/// assert_eq!((key.code.to_string(), key.modifiers), ("Right".into(), KeyModifiers::CONTROL));
+/// ```
 #[derive(Clone, Debug, PartialEq, Eq, PartialOrd, Ord, Hash)]
 #[cfg_attr(not(feature = "bracketed-paste"), derive(Copy))]
 #[cfg_attr(feature = "serde", derive(serde::Serialize, serde::Deserialize))]
@@ -120,6 +130,15 @@ pub enum InternalEvent {
 }
 
 /// What the mouse did, and where, from 0.
+///
+/// ```
+/// use gelvanh::{Event, InternalEvent, KeyModifiers, MouseButton, MouseEvent, MouseEventKind, Parser};
+///
+/// let mut parser = Parser::default();
+/// let pressed = MouseEvent { kind: MouseEventKind::Down(MouseButton::Left), column: 19, row: 9, modifiers: KeyModifiers::NONE };
+/// let event = parser.feed(b"\x1b[<0;20;10M", false, true).next();
+/// assert_eq!(event, Some(InternalEvent::Event(Event::Mouse(pressed))));
+/// ```
 #[derive(Clone, Copy, Debug, PartialEq, Eq, PartialOrd, Ord, Hash)]
 #[cfg_attr(feature = "serde", derive(serde::Serialize, serde::Deserialize))]
 pub struct MouseEvent {
@@ -163,10 +182,12 @@ is_variants!(MouseEventKind {
 /// A button of the mouse.
 #[derive(Clone, Copy, Debug, PartialEq, Eq, PartialOrd, Ord, Hash)]
 #[cfg_attr(feature = "serde", derive(serde::Serialize, serde::Deserialize))]
-#[allow(missing_docs)]
 pub enum MouseButton {
+    /// The left one.
     Left,
+    /// The right one.
     Right,
+    /// The middle one, or the wheel.
     Middle,
 }
 

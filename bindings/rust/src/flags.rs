@@ -93,7 +93,7 @@ macro_rules! flags {
                 self.0
             }
 
-            /// The set of some bits, where each is a flag's.
+            /// The set of some bits, if each is a flag's.
             pub const fn from_bits(bits: u8) -> Option<$name> {
                 if bits & !$name::all().0 == 0 { Some($name(bits)) } else { None }
             }

@@ -11,11 +11,11 @@ pub struct Classes(u32);
 impl Classes {
     /// What a user brought about.
     pub const EVENTS: Classes = Classes(1);
-    /// Replies that tell the cursor's place.
+    /// Replies with the cursor's place.
     pub const CURSOR: Classes = Classes(2);
-    /// Replies that tell the keyboard's flags.
+    /// Replies with the keyboard's flags.
     pub const FLAGS: Classes = Classes(4);
-    /// Replies that tell the terminal's attributes.
+    /// Replies with the terminal's attributes.
     pub const ATTRIBUTES: Classes = Classes(8);
 }
 
@@ -70,7 +70,7 @@ impl HeldEvents {
             self.texts.push((self.reader.arrivals, text));
         }
         let behind = self.table.len() - self.reader.first - self.reader.held;
-        // Where the end is reached, the archive moves the events to the front: that pays where half of the table is free there.
+        // If the end is reached, the archive moves the events to the front: that pays if half of the table is free there.
         if behind == 0 && self.reader.first < self.table.len() / 2 + 1 {
             let more = self.table.len().max(16);
             self.table.resize(self.table.len() + more, raw::Held::default());

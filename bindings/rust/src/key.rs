@@ -7,7 +7,15 @@ use std::fmt::{self, Display};
 use std::hash::{Hash, Hasher};
 
 flags! {
-    /// The modifiers that were held.
+    /// The modifiers that were held, as a set.
+    ///
+    /// ```
+    /// use gelvanh::KeyModifiers;
+    ///
+    /// let held = KeyModifiers::CONTROL | KeyModifiers::ALT;
+    /// assert!(held.contains(KeyModifiers::ALT));
+    /// assert_eq!(held.to_string(), "Control+Alt");
+    /// ```
     KeyModifiers {
         /// Shift.
         SHIFT = 1;
@@ -28,7 +36,7 @@ flags! {
 }
 
 flags! {
-    /// What else the keyboard told of a key.
+    /// What else the keyboard reported of a key.
     KeyEventState {
         /// The key is one of the keypad.
         KEYPAD = 1;
@@ -43,11 +51,21 @@ flags! {
 }
 
 flags! {
-    /// What a terminal is asked to tell of keys, by kitty's keyboard protocol.
+    /// What a terminal is asked to report of keys, by kitty's keyboard protocol.
+    ///
+    /// ```
+    /// use gelvanh::{write_command, Command, KeyboardEnhancementFlags as Flags};
+    ///
+    /// let mut out = Vec::new();
+    /// let flags = Flags::DISAMBIGUATE_ESCAPE_CODES | Flags::REPORT_EVENT_TYPES;
+    /// write_command(&mut out, &Command::PushKeyboardEnhancementFlags(flags), true)?;
+    /// assert_eq!(out, b"\x1b[>3u");
+    /// # Ok::<(), std::io::Error>(())
+    /// ```
     KeyboardEnhancementFlags {
         /// Escape and keys with modifiers come so that none reads as the start of another.
         DISAMBIGUATE_ESCAPE_CODES = 1;
-        /// Keys that are held or let go are told apart from those pressed.
+        /// Keys that are held or let go are reported, apart from those pressed.
         REPORT_EVENT_TYPES = 2;
         /// The shifted key comes beside the key.
         REPORT_ALTERNATE_KEYS = 4;
@@ -81,7 +99,15 @@ impl Display for KeyModifiers {
 
 /// A key that was pressed, held or let go.
 ///
-/// Two events are equal where they are the same stroke: `A`, `A` with Shift and `a` with Shift are. Order and hash follow.
+/// Two events are equal if they are the same stroke: `A`, `A` with Shift and `a` with Shift are. Order and hash follow.
+///
+/// ```
+/// use gelvanh::{KeyCode, KeyEvent, KeyModifiers};
+///
+/// let key = KeyEvent::new(KeyCode::Char('a'), KeyModifiers::SHIFT);
+/// assert_eq!(key, KeyCode::Char('A').into());
+/// assert!(key.is_press());
+/// ```
 #[derive(Clone, Copy, Debug)]
 #[cfg_attr(feature = "serde", derive(serde::Serialize, serde::Deserialize))]
 pub struct KeyEvent {
@@ -91,7 +117,7 @@ pub struct KeyEvent {
     pub modifiers: KeyModifiers,
     /// Whether it was pressed, held or let go.
     pub kind: KeyEventKind,
-    /// What else the keyboard told.
+    /// What else the keyboard reported.
     pub state: KeyEventState,
 }
 
@@ -106,7 +132,7 @@ impl KeyEvent {
         KeyEvent::new_with_kind_and_state(code, modifiers, kind, KeyEventState::NONE)
     }
 
-    /// A key with all that is told of it.
+    /// A key with all that is known of it.
     pub const fn new_with_kind_and_state(code: KeyCode, modifiers: KeyModifiers, kind: KeyEventKind, state: KeyEventState) -> KeyEvent {
         KeyEvent { code, modifiers, kind, state }
     }
@@ -126,7 +152,7 @@ impl KeyEvent {
         self.kind == KeyEventKind::Repeat
     }
 
-    /// The stroke in its one form: an ASCII letter is upper case exactly where Shift is held.
+    /// The stroke in its one form: an ASCII letter is upper case exactly if Shift is held.
     fn stroke(&self) -> (KeyCode, KeyModifiers, KeyEventKind, KeyEventState) {
         let (code, modifiers) = match self.code {
             KeyCode::Char(c) if c.is_ascii_uppercase() => (self.code, self.modifiers | KeyModifiers::SHIFT),
@@ -184,24 +210,44 @@ pub enum KeyEventKind {
 is_variants!(KeyEventKind { Press is_press, Repeat is_repeat, Release is_release, });
 
 /// A key.
+///
+/// ```
+/// use gelvanh::KeyCode;
+///
+/// assert_eq!(KeyCode::PageUp.to_string(), "Page Up");
+/// assert_eq!(KeyCode::Char('x').as_char(), Some('x'));
+/// assert!(KeyCode::F(5).is_function_key(5));
+/// ```
 #[derive(Clone, Copy, Debug, PartialEq, Eq, PartialOrd, Ord, Hash)]
 #[cfg_attr(feature = "serde", derive(serde::Serialize, serde::Deserialize))]
-#[allow(missing_docs)]
 pub enum KeyCode {
+    /// Backspace, the bytes 127 and 8.
     Backspace,
+    /// Enter.
     Enter,
+    /// The arrow to the left.
     Left,
+    /// The arrow to the right.
     Right,
+    /// The arrow up.
     Up,
+    /// The arrow down.
     Down,
+    /// Home.
     Home,
+    /// End.
     End,
+    /// Page Up.
     PageUp,
+    /// Page Down.
     PageDown,
+    /// Tab.
     Tab,
     /// Tab with Shift.
     BackTab,
+    /// Delete.
     Delete,
+    /// Insert.
     Insert,
     /// A function key: `F(1)` is F1.
     F(u8),
@@ -209,18 +255,25 @@ pub enum KeyCode {
     Char(char),
     /// Control with Space or `@`, the byte 0.
     Null,
+    /// Escape.
     Esc,
+    /// Caps Lock. Kitty's protocol alone reports it, and those below.
     CapsLock,
+    /// Scroll Lock.
     ScrollLock,
+    /// Num Lock.
     NumLock,
+    /// Print Screen.
     PrintScreen,
+    /// Pause.
     Pause,
+    /// Menu.
     Menu,
     /// The middle key of the keypad.
     KeypadBegin,
-    /// A key of a player of music. Kitty's protocol alone tells it.
+    /// A key of a player of music. Kitty's protocol alone reports it.
     Media(MediaKeyCode),
-    /// A modifier by itself. Kitty's protocol alone tells it.
+    /// A modifier by itself. Kitty's protocol alone reports it.
     Modifier(ModifierKeyCode),
 }
 
@@ -304,9 +357,11 @@ macro_rules! named {
         $(#[$doc])*
         #[derive(Clone, Copy, Debug, PartialEq, Eq, PartialOrd, Ord, Hash)]
         #[cfg_attr(feature = "serde", derive(serde::Serialize, serde::Deserialize))]
-        #[allow(missing_docs)]
         pub enum $name {
-            $($variant,)*
+            $(
+                #[doc = concat!("Shown as `", $shown, "`.")]
+                $variant,
+            )*
         }
 
         pub(crate) const $table: &[$name] = &[$($name::$variant),*];

@@ -30,7 +30,7 @@
 //! taken in their order, by class, and that a command's bytes are its text. This wrapper isn't: its part is the declarations of `raw`, which
 //! hold all its `unsafe`, and from numbers to enums.
 #![deny(unsafe_code)]
-#![warn(missing_docs)]
+#![deny(missing_docs)]
 
 mod attribute;
 mod color;
@@ -55,6 +55,17 @@ pub use flags::{FlagIter, FlagNames};
 pub use held::{Classes, HeldEvents};
 pub use key::{KeyCode, KeyEvent, KeyEventKind, KeyEventState, KeyModifiers, KeyboardEnhancementFlags, MediaKeyCode, ModifierKeyCode};
 pub use parser::{Events, Parser};
+
+/// The version of the archive that is linked, by its three numbers: that of this crate, if the archive is the one that goes with it.
+///
+/// ```
+/// let (major, minor, patch) = gelvanh::archive_version();
+/// assert_eq!(format!("{major}.{minor}.{patch}"), env!("CARGO_PKG_VERSION"));
+/// ```
+pub fn archive_version() -> (u8, u8, u8) {
+    let [_, major, minor, patch] = raw::version().to_be_bytes();
+    (major, minor, patch)
+}
 
 /// The events before they are given a shape, as numbers.
 pub mod flat {

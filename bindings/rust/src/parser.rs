@@ -12,7 +12,7 @@ pub struct FlatParser {
 }
 
 impl FlatParser {
-    /// Takes bytes, and tells how many, and how many events they gave in front of the table. It stops where the table is full, and after
+    /// Takes bytes, and returns how many, and how many events they gave in front of the table. It stops if the table is full, and after
     /// the byte with which a paste opens or is over.
     #[inline]
     pub fn feed(&mut self, piece: &[u8], more: bool, raw: bool, events: &mut [raw::Event]) -> (usize, usize) {
@@ -50,7 +50,7 @@ impl Parser {
     /// The events of some bytes, in order, as numbers: `to_event` makes an event of those that are asked for.
     ///
     /// `more` says that bytes of the same answer of the terminal follow at once, so that ESC at the end is no Esc key yet; `raw` is the
-    /// mode that the bytes came in. All bytes are taken even where not all events are: those are lost then.
+    /// mode that the bytes came in. All bytes are taken even if not all events are: those are lost then.
     ///
     /// ```
     /// use gelvanh::{InternalEvent, Parser};
@@ -71,6 +71,16 @@ impl Parser {
     }
 
     /// The events of some bytes, in order, each made when it is asked for: `flat`'s, in their shape.
+    ///
+    /// ```
+    /// use gelvanh::{Event, InternalEvent, KeyCode, Parser};
+    ///
+    /// let mut parser = Parser::default();
+    /// // Half of a sequence, and the other half.
+    /// assert_eq!(parser.feed(b"\x1b[", true, true).count(), 0);
+    /// assert!(parser.is_undecided());
+    /// assert_eq!(parser.feed(b"A", false, true).next(), Some(InternalEvent::Event(Event::Key(KeyCode::Up.into()))));
+    /// ```
     #[inline]
     pub fn feed<'a>(&'a mut self, piece: &'a [u8], more: bool, raw: bool) -> Events<'a> {
         Events(self.flat(piece, more, raw))
@@ -85,7 +95,7 @@ impl Parser {
     #[cold]
     fn paste_text(&self) -> String {
         let end = self.kept.len().saturating_sub(6);
-        // The archive writes at most three bytes for one, and stops only where the next character has no room.
+        // The archive writes at most three bytes for one, and stops only if the next character has no room.
         let mut text = vec![0; 3 * end];
         let (_, written) = raw::paste_text(&self.kept[..end], &mut text);
         text.truncate(written);
@@ -104,13 +114,13 @@ pub struct FlatEvents<'a> {
 }
 
 impl FlatEvents<'_> {
-    /// The text of the paste, where the event that was given last is a paste's.
+    /// The text of the paste, if the event that was given last is a paste's.
     pub fn paste_text(&self) -> Option<String> {
         let is_paste = self.next == 1 && self.parser.events[0].is_paste();
         is_paste.then(|| self.parser.paste_text())
     }
 
-    /// Takes more bytes, and tells whether there were any.
+    /// Takes more bytes, and returns whether there were any.
     #[inline(never)]
     fn take(&mut self) -> bool {
         if self.piece.is_empty() {

@@ -91,8 +91,16 @@ const _: () = {
 use std::mem::{align_of, size_of};
 
 extern "C" {
+    fn gelvanh_version() -> u32;
     fn gelvanh_feed(
-        state: *mut State, piece: *const u8, length: usize, more: bool, raw: bool, events: *mut Event, room: usize, count: *mut usize,
+        state: *mut State,
+        piece: *const u8,
+        length: usize,
+        more: bool,
+        raw: bool,
+        events: *mut Event,
+        room: usize,
+        count: *mut usize,
     ) -> usize;
     fn gelvanh_is_undecided(state: *const State) -> bool;
     fn gelvanh_is_pasting(state: *const State) -> bool;
@@ -104,22 +112,36 @@ extern "C" {
     fn gelvanh_print(text: *const u8, length: usize, slice: *mut u8, room: usize, written: *mut usize) -> u32;
     fn gelvanh_set_title(title: *const u8, length: usize, slice: *mut u8, room: usize, written: *mut usize) -> u32;
     fn gelvanh_print_styled(
-        style: *const Command, text: *const u8, length: usize, colors: bool, slice: *mut u8, room: usize, written: *mut usize,
+        style: *const Command,
+        text: *const u8,
+        length: usize,
+        colors: bool,
+        slice: *mut u8,
+        room: usize,
+        written: *mut usize,
     ) -> u32;
     fn gelvanh_copy_to_clipboard(
-        content: *const u8, length: usize, places: *const u8, places_length: usize, slice: *mut u8, room: usize, written: *mut usize,
+        content: *const u8,
+        length: usize,
+        places: *const u8,
+        places_length: usize,
+        slice: *mut u8,
+        room: usize,
+        written: *mut usize,
     ) -> u32;
 }
 
 // SAFETY of each block below: the declarations are the header's, each pointer is a live reference's or a slice's with its own length, and
 // what is written is borrowed mutably, so nothing overlaps. The archive's functions keep no pointer.
 
+pub fn version() -> u32 {
+    unsafe { gelvanh_version() }
+}
+
 #[inline]
 pub fn feed(state: &mut State, piece: &[u8], more: bool, raw: bool, events: &mut [Event]) -> (usize, usize) {
     let mut count = 0;
-    let taken = unsafe {
-        gelvanh_feed(state, piece.as_ptr(), piece.len(), more, raw, events.as_mut_ptr(), events.len(), &mut count)
-    };
+    let taken = unsafe { gelvanh_feed(state, piece.as_ptr(), piece.len(), more, raw, events.as_mut_ptr(), events.len(), &mut count) };
     (taken, count)
 }
 
@@ -183,9 +205,7 @@ pub fn set_title(title: &str, slice: &mut [u8]) -> Told {
 
 pub fn print_styled(style: &Command, text: &str, colors: bool, slice: &mut [u8]) -> Told {
     let mut length = 0;
-    let told = unsafe {
-        gelvanh_print_styled(style, text.as_ptr(), text.len(), colors, slice.as_mut_ptr(), slice.len(), &mut length)
-    };
+    let told = unsafe { gelvanh_print_styled(style, text.as_ptr(), text.len(), colors, slice.as_mut_ptr(), slice.len(), &mut length) };
     (told, length)
 }
 
@@ -193,7 +213,13 @@ pub fn copy_to_clipboard(content: &[u8], places: &str, slice: &mut [u8]) -> Told
     let mut length = 0;
     let told = unsafe {
         gelvanh_copy_to_clipboard(
-            content.as_ptr(), content.len(), places.as_ptr(), places.len(), slice.as_mut_ptr(), slice.len(), &mut length,
+            content.as_ptr(),
+            content.len(),
+            places.as_ptr(),
+            places.len(),
+            slice.as_mut_ptr(),
+            slice.len(),
+            &mut length,
         )
     };
     (told, length)

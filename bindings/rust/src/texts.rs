@@ -64,7 +64,7 @@ impl<'de> Deserialize<'de> for Color {
     }
 }
 
-/// The bits of names with `|` between them; a number as `0x80` stands for bits without a name.
+/// The bits of names with `|` between them; a number as `0x80` is bits without a name.
 fn bits_of(text: &str, of_name: impl Fn(&str) -> Option<u8>) -> Option<u8> {
     if text.trim().is_empty() {
         return Some(0);

@@ -27,6 +27,10 @@ use std::io::{self, Write};
 /// ```
 pub trait Command {
     /// Writes the command's text.
+    ///
+    /// # Errors
+    ///
+    /// The writer's, or one of the command's own.
     fn write_ansi(&self, f: &mut impl fmt::Write) -> fmt::Result;
 }
 
@@ -57,9 +61,22 @@ impl<W: Write + ?Sized> fmt::Write for Text<'_, W> {
     }
 }
 
-/// Commands that a writer is to hold until it is flushed.
+/// Writers that take commands and are flushed later.
+///
+/// ```
+/// use crossterm::{cursor::MoveTo, style::Print, QueueableCommand};
+///
+/// let mut out = Vec::new();
+/// out.queue(MoveTo(0, 0))?.queue(Print("ab"))?;
+/// assert_eq!(out, b"\x1b[1;1Hab");
+/// # Ok::<(), std::io::Error>(())
+/// ```
 pub trait QueueableCommand {
-    /// Writes a command. The error is the writer's, or of kind `Other` where the command failed by itself.
+    /// Writes a command.
+    ///
+    /// # Errors
+    ///
+    /// The writer's, or one of kind `Other` if the command failed by itself. The writer may have taken a beginning of the text.
     fn queue(&mut self, command: impl Command) -> io::Result<&mut Self>;
 }
 
@@ -73,9 +90,20 @@ impl<W: Write + ?Sized> QueueableCommand for W {
     }
 }
 
-/// Commands that are carried out at once.
+/// Writers whose commands are carried out at once.
+///
+/// ```no_run
+/// use crossterm::{terminal::SetTitle, ExecutableCommand};
+///
+/// std::io::stdout().execute(SetTitle("mail"))?;
+/// # Ok::<(), std::io::Error>(())
+/// ```
 pub trait ExecutableCommand {
     /// Writes a command, and flushes.
+    ///
+    /// # Errors
+    ///
+    /// Those of `queue`, and the writer's at the flush.
     fn execute(&mut self, command: impl Command) -> io::Result<&mut Self>;
 }
 
@@ -87,8 +115,21 @@ impl<W: Write + ?Sized> ExecutableCommand for W {
 }
 
 /// Changes of the screen that are shown together.
+///
+/// ```
+/// use crossterm::{queue, style::Print, SynchronizedUpdate};
+///
+/// let mut out = Vec::new();
+/// out.sync_update(|out| queue!(out, Print("ab")))??;
+/// assert_eq!(out, b"\x1b[?2026hab\x1b[?2026l");
+/// # Ok::<(), std::io::Error>(())
+/// ```
 pub trait SynchronizedUpdate {
-    /// Writes what a function does, between the commands that begin and end such an update, and gives what the function gives.
+    /// Writes what a function writes, between the commands that begin and end such an update, and returns what the function returns.
+    ///
+    /// # Errors
+    ///
+    /// The writer's at the beginning or the end. An error that the function returns is inside of `Ok`.
     fn sync_update<T>(&mut self, operations: impl FnOnce(&mut Self) -> T) -> io::Result<T>;
 }
 

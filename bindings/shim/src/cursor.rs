@@ -10,6 +10,15 @@ pub use crate::event::query::position;
 
 commands! {
     /// Moves the cursor to a column and a row, from 0.
+    ///
+    /// ```
+    /// use crossterm::{cursor::MoveTo, queue};
+    ///
+    /// let mut out = Vec::new();
+    /// queue!(out, MoveTo(9, 1))?;
+    /// assert_eq!(out, b"\x1b[2;10H");
+    /// # Ok::<(), std::io::Error>(())
+    /// ```
     MoveTo(column: u16, row: u16) => Proved::MoveTo(column, row);
     /// Moves the cursor down so many lines, to the first column.
     MoveToNextLine(lines: u16) => Proved::MoveToNextLine(lines);
@@ -32,6 +41,15 @@ commands! {
     /// Moves the cursor to the place that was kept.
     RestorePosition => Proved::RestorePosition;
     /// Hides the cursor.
+    ///
+    /// ```no_run
+    /// use crossterm::{cursor::{Hide, Show}, execute};
+    ///
+    /// execute!(std::io::stdout(), Hide)?;
+    /// // .. draw ..
+    /// execute!(std::io::stdout(), Show)?;
+    /// # Ok::<(), std::io::Error>(())
+    /// ```
     Hide => Proved::Hide;
     /// Shows the cursor.
     Show => Proved::Show;
@@ -42,6 +60,12 @@ commands! {
 }
 
 /// Gives the cursor a shape.
+///
+/// ```
+/// use crossterm::cursor::SetCursorStyle;
+///
+/// assert_eq!(SetCursorStyle::SteadyBar.to_string(), "\x1b[6 q");
+/// ```
 #[derive(Clone, Copy, Debug, PartialEq, Eq, Hash)]
 pub enum SetCursorStyle {
     /// The shape that the terminal's user chose.

@@ -34,15 +34,33 @@ pub use gelvanh::{
 pub use stream::EventStream;
 
 commands! {
-    /// Lets the mouse be told as events.
+    /// Lets the mouse be reported as events.
+    ///
+    /// ```no_run
+    /// use crossterm::{event::{DisableMouseCapture, EnableMouseCapture}, execute};
+    ///
+    /// execute!(std::io::stdout(), EnableMouseCapture)?;
+    /// // .. read events ..
+    /// execute!(std::io::stdout(), DisableMouseCapture)?;
+    /// # Ok::<(), std::io::Error>(())
+    /// ```
     EnableMouseCapture => Proved::EnableMouseCapture;
     /// Ends that.
     DisableMouseCapture => Proved::DisableMouseCapture;
-    /// Lets the focus be told as events.
+    /// Lets the focus be reported as events.
     EnableFocusChange => Proved::EnableFocusChange;
     /// Ends that.
     DisableFocusChange => Proved::DisableFocusChange;
-    /// Lets kitty's keyboard protocol be spoken with these flags, until they are popped.
+    /// Turns on these flags of kitty's keyboard protocol, until they are popped.
+    ///
+    /// ```
+    /// use crossterm::{event::{KeyboardEnhancementFlags, PushKeyboardEnhancementFlags}, queue};
+    ///
+    /// let mut out = Vec::new();
+    /// queue!(out, PushKeyboardEnhancementFlags(KeyboardEnhancementFlags::REPORT_EVENT_TYPES))?;
+    /// assert_eq!(out, b"\x1b[>2u");
+    /// # Ok::<(), std::io::Error>(())
+    /// ```
     PushKeyboardEnhancementFlags(flags: KeyboardEnhancementFlags) => Proved::PushKeyboardEnhancementFlags(flags);
     /// Ends that.
     PopKeyboardEnhancementFlags => Proved::PopKeyboardEnhancementFlags;
@@ -50,23 +68,58 @@ commands! {
 
 #[cfg(feature = "bracketed-paste")]
 commands! {
-    /// Lets a text that is pasted come as one event.
+    /// Lets a text that is pasted be reported as one event, `Event::Paste`.
+    ///
+    /// ```no_run
+    /// use crossterm::{event::{read, EnableBracketedPaste, Event}, execute};
+    ///
+    /// execute!(std::io::stdout(), EnableBracketedPaste)?;
+    /// if let Event::Paste(text) = read()? {
+    ///     println!("{} bytes", text.len());
+    /// }
+    /// # Ok::<(), std::io::Error>(())
+    /// ```
     EnableBracketedPaste => Proved::EnableBracketedPaste;
     /// Ends that.
     DisableBracketedPaste => Proved::DisableBracketedPaste;
 }
 
-/// Whether an event is there, for which it waits so long at most: `read` gives it at once then, where no other thread takes it.
+/// Whether an event is there, for which it waits so long at most. Then `read` returns it at once, if no other thread takes it.
 ///
-/// Another thread's `read` keeps none from waiting, and any time is allowed, `Duration::MAX` too. The error is `UnexpectedEof` at the end
-/// of input, or the system's.
+/// It waits beside another thread's `read`, and for any time, `Duration::MAX` too.
+///
+/// ```no_run
+/// use crossterm::event::{poll, read};
+/// use std::time::Duration;
+///
+/// while poll(Duration::from_millis(100))? {
+///     println!("{:?}", read()?);
+/// }
+/// println!("nothing came for 100 ms");
+/// # Ok::<(), std::io::Error>(())
+/// ```
+///
+/// # Errors
+///
+/// `UnexpectedEof` at the end of input, or the system's.
 pub fn poll(timeout: Duration) -> io::Result<bool> {
     let limit = Instant::now().checked_add(timeout);
     let told = reader::wait(limit, |state| state.has_event().then_some(()))?;
     Ok(told.is_some())
 }
 
-/// The next event, for which it waits. The error is `UnexpectedEof` at the end of input, or the system's.
+/// The next event, for which it waits.
+///
+/// ```no_run
+/// use crossterm::event::{read, Event, KeyCode};
+///
+/// while read()? != Event::Key(KeyCode::Esc.into()) {}
+/// # Ok::<(), std::io::Error>(())
+/// ```
+///
+/// # Errors
+///
+/// `UnexpectedEof` at the end of input, or the system's.
 pub fn read() -> io::Result<Event> {
     loop {
         if let Some(event) = reader::wait(None, reader::State::take_event)? {

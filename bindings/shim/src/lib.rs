@@ -8,8 +8,8 @@
 //! ```
 //!
 //! Events are the proved parser's, held and taken by the proved reader, and the bytes of commands are the proved commands'. This crate's part is
-//! ordinary Rust: the terminal's modes and size, a lock, the wait for its bytes, and the names. How it differs from crossterm is told in
-//! `bindings/README.md`.
+//! ordinary Rust: the terminal's modes and size, a lock, the wait for its bytes, and the names. `bindings/README.md` has the
+//! differences from crossterm.
 //!
 //! ```
 //! use crossterm::{cursor::MoveTo, queue, style::{Print, Stylize}};
@@ -20,7 +20,7 @@
 //! # Ok::<(), std::io::Error>(())
 //! ```
 #![deny(unsafe_code)]
-#![warn(missing_docs)]
+#![deny(missing_docs)]
 
 #[cfg(not(target_os = "linux"))]
 compile_error!("the proved archive is built for Linux alone");

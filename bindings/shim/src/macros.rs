@@ -59,7 +59,7 @@ macro_rules! osc {
     ($($part:expr),*) => { ::std::concat!("\x1b]", $($part),*, "\x1b\\") };
 }
 
-/// Declares commands, each by the proved one that it stands for. They are shown as their text.
+/// Declares commands, each by the proved one whose text it has. They are shown as their text.
 macro_rules! commands {
     ($($(#[$doc:meta])* $name:ident $(($($field:ident: $of:ty),*))? => $command:expr;)*) => {$(
         $(#[$doc])*

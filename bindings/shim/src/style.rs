@@ -15,11 +15,18 @@ pub use gelvanh::{Attribute, Attributes, Color};
 pub use stylize::Stylize;
 
 /// A value without a style yet.
+///
+/// ```
+/// use crossterm::style::{style, Attribute, Color, Stylize};
+///
+/// let text = style(42).with(Color::Green).attribute(Attribute::Bold);
+/// assert_eq!(text.to_string(), "\x1b[38;5;10m\x1b[1m42\x1b[0m");
+/// ```
 pub fn style<D: Display>(val: D) -> StyledContent<D> {
     ContentStyle::new().apply(val)
 }
 
-/// How many colours the terminal has, by the variables `COLORTERM` or else `TERM`: 65535 stands for all that red, green and blue make.
+/// How many colours the terminal has, by the variables `COLORTERM` or else `TERM`: 65535 if it has all that red, green and blue make.
 pub fn available_color_count() -> u16 {
     let name = std::env::var("COLORTERM").or_else(|_| std::env::var("TERM")).unwrap_or_default();
     if name.contains("24bit") || name.contains("truecolor") {
@@ -38,6 +45,15 @@ pub fn force_color_output(enabled: bool) {
 
 commands! {
     /// Sets the colour of texts.
+    ///
+    /// ```
+    /// use crossterm::{queue, style::{Color, Print, ResetColor, SetForegroundColor}};
+    ///
+    /// let mut out = Vec::new();
+    /// queue!(out, SetForegroundColor(Color::Rgb { r: 9, g: 8, b: 7 }), Print("x"), ResetColor)?;
+    /// assert_eq!(out, b"\x1b[38;2;9;8;7mx\x1b[0m");
+    /// # Ok::<(), std::io::Error>(())
+    /// ```
     SetForegroundColor(color: Color) => Proved::SetForegroundColor(color);
     /// Sets the colour behind texts.
     SetBackgroundColor(color: Color) => Proved::SetBackgroundColor(color);
@@ -56,6 +72,15 @@ commands! {
 }
 
 /// Prints a value in its style, and ends what the style began.
+///
+/// ```
+/// use crossterm::{queue, style::{PrintStyledContent, Stylize}};
+///
+/// let mut out = Vec::new();
+/// queue!(out, PrintStyledContent("hi".red().on_white()))?;
+/// assert_eq!(out, b"\x1b[48;5;15m\x1b[38;5;9mhi\x1b[49m\x1b[39m");
+/// # Ok::<(), std::io::Error>(())
+/// ```
 #[derive(Clone, Copy, Debug)]
 pub struct PrintStyledContent<D: Display>(pub StyledContent<D>);
 
@@ -68,6 +93,15 @@ impl<D: Display> Command for PrintStyledContent<D> {
 shown!(PrintStyledContent<D>);
 
 /// Prints a value as `{}` shows it.
+///
+/// ```
+/// use crossterm::{queue, style::Print};
+///
+/// let mut out = Vec::new();
+/// queue!(out, Print("line "), Print(7))?;
+/// assert_eq!(out, b"line 7");
+/// # Ok::<(), std::io::Error>(())
+/// ```
 #[derive(Clone, Copy, Debug, PartialEq, Eq)]
 pub struct Print<T: Display>(pub T);
 

@@ -34,7 +34,7 @@ extern "C" {
     fn ioctl(fd: i32, request: u64, ...) -> i32;
 }
 
-/// The mode before raw mode, where it is on.
+/// The mode before raw mode, if that is on.
 static BEFORE: Mutex<Option<Termios>> = Mutex::new(None);
 
 fn check(answer: i32) -> io::Result<()> {
@@ -59,7 +59,7 @@ pub enum Terminal {
 }
 
 impl Terminal {
-    /// Standard input, or `/dev/tty` where that is no terminal.
+    /// Standard input, or `/dev/tty` if that is no terminal.
     pub fn open() -> io::Result<Terminal> {
         if is_terminal(STDIN) {
             return Ok(Terminal::Stdin);
@@ -77,7 +77,7 @@ impl AsRawFd for Terminal {
     }
 }
 
-/// Writes a query to standard output, or to `/dev/tty` where that is no terminal.
+/// Writes a query to standard output, or to `/dev/tty` if that is no terminal.
 #[cfg(feature = "events")]
 pub fn send(query: &[u8]) -> io::Result<()> {
     use std::io::Write;

@@ -9,24 +9,51 @@ use std::{fmt, io, process};
 pub use crate::event::query::supports_keyboard_enhancement;
 pub use gelvanh::ClearType;
 
-/// Whether raw mode was turned on by `enable_raw_mode`, and not off again.
+/// Whether raw mode was turned on by `enable_raw_mode`, and not off again. It is never an error.
 pub fn is_raw_mode_enabled() -> io::Result<bool> {
     Ok(system::is_raw())
 }
 
 /// Turns raw mode on: bytes come as they are typed, they aren't shown, and Ctrl-C is a key. In raw mode already, it does nothing.
 ///
-/// The terminal is standard input, or `/dev/tty` where that isn't one.
+/// The terminal is standard input, or `/dev/tty` if that isn't one.
+///
+/// ```no_run
+/// use crossterm::terminal::{disable_raw_mode, enable_raw_mode};
+///
+/// enable_raw_mode()?;
+/// // .. read keys ..
+/// disable_raw_mode()?;
+/// # Ok::<(), std::io::Error>(())
+/// ```
+///
+/// # Errors
+///
+/// The system's, if there is no terminal or it refuses the mode. Then nothing has changed.
 pub fn enable_raw_mode() -> io::Result<()> {
     system::enable_raw_mode()
 }
 
 /// Turns back to the mode before raw mode. Not in raw mode, it does nothing.
+///
+/// # Errors
+///
+/// The system's. Then raw mode is still on.
 pub fn disable_raw_mode() -> io::Result<()> {
     system::disable_raw_mode()
 }
 
-/// The window's columns and rows: of `/dev/tty`, or of standard output, or as `tput` tells them.
+/// The window's columns and rows: of `/dev/tty`, or of standard output, or as `tput` prints them.
+///
+/// ```no_run
+/// let (columns, rows) = crossterm::terminal::size()?;
+/// println!("{columns} columns, {rows} rows");
+/// # Ok::<(), std::io::Error>(())
+/// ```
+///
+/// # Errors
+///
+/// The system's, if there is no terminal and `tput` doesn't help.
 pub fn size() -> io::Result<(u16, u16)> {
     match window_size() {
         Ok(size) => Ok((size.columns, size.rows)),
@@ -48,13 +75,24 @@ pub struct WindowSize {
     pub rows: u16,
     /// In characters, from left to right.
     pub columns: u16,
-    /// In pixels; 0 where the terminal doesn't tell.
+    /// In pixels; 0 if the terminal doesn't report it.
     pub width: u16,
-    /// In pixels; 0 where the terminal doesn't tell.
+    /// In pixels; 0 if the terminal doesn't report it.
     pub height: u16,
 }
 
+#[cfg(feature = "libc")]
+impl From<libc::winsize> for WindowSize {
+    fn from(size: libc::winsize) -> WindowSize {
+        WindowSize { rows: size.ws_row, columns: size.ws_col, width: size.ws_xpixel, height: size.ws_ypixel }
+    }
+}
+
 /// The window's size, in characters and in pixels: of `/dev/tty`, or of standard output.
+///
+/// # Errors
+///
+/// The system's, if there is no terminal.
 pub fn window_size() -> io::Result<WindowSize> {
     let [rows, columns, width, height] = system::window_size()?;
     Ok(WindowSize { rows, columns, width, height })
@@ -66,6 +104,15 @@ commands! {
     /// Lets a line that is too long go on in the next.
     EnableLineWrap => Proved::EnableLineWrap;
     /// Turns to the other screen, which can't be scrolled.
+    ///
+    /// ```no_run
+    /// use crossterm::{execute, terminal::{EnterAlternateScreen, LeaveAlternateScreen}};
+    ///
+    /// execute!(std::io::stdout(), EnterAlternateScreen)?;
+    /// // .. draw ..
+    /// execute!(std::io::stdout(), LeaveAlternateScreen)?;
+    /// # Ok::<(), std::io::Error>(())
+    /// ```
     EnterAlternateScreen => Proved::EnterAlternateScreen;
     /// Turns back to the first screen.
     LeaveAlternateScreen => Proved::LeaveAlternateScreen;
@@ -74,6 +121,15 @@ commands! {
     /// Scrolls so many lines down; with 0 it writes nothing.
     ScrollDown(lines: u16) => Proved::ScrollDown(lines);
     /// Clears a part of the screen.
+    ///
+    /// ```
+    /// use crossterm::{queue, terminal::{Clear, ClearType}};
+    ///
+    /// let mut out = Vec::new();
+    /// queue!(out, Clear(ClearType::UntilNewLine))?;
+    /// assert_eq!(out, b"\x1b[K");
+    /// # Ok::<(), std::io::Error>(())
+    /// ```
     Clear(part: ClearType) => Proved::Clear(part);
     /// Asks for a window of so many columns and rows.
     SetSize(columns: u16, rows: u16) => Proved::SetSize(columns, rows);
@@ -84,6 +140,12 @@ commands! {
 }
 
 /// Gives the window a title, which is the value as `{}` shows it.
+///
+/// ```
+/// use crossterm::terminal::SetTitle;
+///
+/// assert_eq!(SetTitle("mail").to_string(), "\x1b]0;mail\x07");
+/// ```
 #[derive(Clone, Copy, Debug, PartialEq, Eq)]
 pub struct SetTitle<T>(pub T);
 

@@ -352,9 +352,34 @@ fn methods_of_stylize() {
 fn variants_of_styles() {
     use Attribute::*;
     let all = [
-        Reset, Bold, Dim, Italic, Underlined, DoubleUnderlined, Undercurled, Underdotted, Underdashed, SlowBlink, RapidBlink, Reverse,
-        Hidden, CrossedOut, Fraktur, NoBold, NormalIntensity, NoItalic, NoUnderline, NoBlink, NoReverse, NoHidden, NotCrossedOut, Framed,
-        Encircled, OverLined, NotFramedOrEncircled, NotOverLined,
+        Reset,
+        Bold,
+        Dim,
+        Italic,
+        Underlined,
+        DoubleUnderlined,
+        Undercurled,
+        Underdotted,
+        Underdashed,
+        SlowBlink,
+        RapidBlink,
+        Reverse,
+        Hidden,
+        CrossedOut,
+        Fraktur,
+        NoBold,
+        NormalIntensity,
+        NoItalic,
+        NoUnderline,
+        NoBlink,
+        NoReverse,
+        NoHidden,
+        NotCrossedOut,
+        Framed,
+        Encircled,
+        OverLined,
+        NotFramedOrEncircled,
+        NotOverLined,
     ];
     assert!(Attribute::iterator().eq(all));
     let _ = |color: Color| match color {

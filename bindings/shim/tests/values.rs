@@ -255,11 +255,9 @@ mod serde_texts {
 
     #[test]
     fn colours() {
-        for (color, text) in [
-            (Color::DarkGrey, "dark_grey"),
-            (Color::AnsiValue(255), "ansi_(255)"),
-            (Color::Rgb { r: 1, g: 2, b: 255 }, "rgb_(1,2,255)"),
-        ] {
+        for (color, text) in
+            [(Color::DarkGrey, "dark_grey"), (Color::AnsiValue(255), "ansi_(255)"), (Color::Rgb { r: 1, g: 2, b: 255 }, "rgb_(1,2,255)")]
+        {
             assert_eq!(Written(color).to_string(), text);
             assert_eq!(read(text), Some(color));
         }
@@ -282,4 +280,12 @@ mod serde_texts {
         assert_eq!(read("PageUp"), Some(KeyCode::PageUp));
         assert_eq!(Written(KeyEventKind::Repeat).to_string(), "Repeat");
     }
+}
+
+#[cfg(feature = "libc")]
+#[test]
+fn sizes_of_libc() {
+    let size = libc::winsize { ws_row: 24, ws_col: 80, ws_xpixel: 640, ws_ypixel: 480 };
+    let size = terminal::WindowSize::from(size);
+    assert_eq!((size.rows, size.columns, size.width, size.height), (24, 80, 640, 480));
 }

@@ -9,13 +9,13 @@ use std::time::{Duration, Instant};
 #[cfg(feature = "event-stream")]
 mod stream;
 
+#[cfg(feature = "bracketed-paste")]
+pub use newer_event::{DisableBracketedPaste, EnableBracketedPaste};
 pub use newer_event::{
     DisableFocusChange, DisableMouseCapture, EnableFocusChange, EnableMouseCapture, KeyCode, KeyEvent, KeyEventKind, KeyEventState,
     KeyModifiers, KeyboardEnhancementFlags, MediaKeyCode, ModifierKeyCode, MouseButton, PopKeyboardEnhancementFlags,
     PushKeyboardEnhancementFlags,
 };
-#[cfg(feature = "bracketed-paste")]
-pub use newer_event::{DisableBracketedPaste, EnableBracketedPaste};
 #[cfg(feature = "event-stream")]
 pub use stream::EventStream;
 
@@ -115,6 +115,10 @@ fn has_seen() -> bool {
 }
 
 /// Whether an event is there, for which it waits so long at most.
+///
+/// # Errors
+///
+/// `UnexpectedEof` at the end of input, or the system's.
 pub fn poll(timeout: Duration) -> Result<bool> {
     let limit = Instant::now().checked_add(timeout);
     while !has_seen() {
@@ -130,6 +134,10 @@ pub fn poll(timeout: Duration) -> Result<bool> {
 }
 
 /// The next event, for which it waits.
+///
+/// # Errors
+///
+/// `UnexpectedEof` at the end of input, or the system's.
 pub fn read() -> Result<Event> {
     loop {
         if let Some(event) = take_seen() {

@@ -7,7 +7,7 @@
 //! crossterm = { path = ".../bindings/shim25" }
 //! ```
 #![forbid(unsafe_code)]
-#![warn(missing_docs)]
+#![deny(missing_docs)]
 
 pub mod cursor;
 pub mod event;

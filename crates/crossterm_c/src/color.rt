@@ -27,7 +27,7 @@ pub(crate) fn attribute_of(place: u16) -> Option<Attribute>
     Attribute::iterator().nth(usize::from(place))
 }
 
-/// Adds an attribute to a set and to its bits, where some bits include it.
+/// Adds an attribute to a set and to its bits, if some bits include it.
 fn include(bits: u32, attribute: Attribute, set: &mut Attributes, known: &mut u32)
     requires { set.old.0 ≡ known.old }
     ensures set { set.new.0 ≡ known.new }
@@ -53,7 +53,7 @@ fn known_in(bits: u32) -> (Attributes, u32)
     (set, known)
 }
 
-/// The set of some bits, where they are those of attributes.
+/// The set of some bits, if they are those of attributes.
 pub(crate) fn attributes_of(bits: u32) -> Option<Attributes>
     ensures { result ≡ attributes_at bits }
 {

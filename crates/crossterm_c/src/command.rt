@@ -61,10 +61,10 @@ fn write_any(command: &GelvanhCommand, colors: ColorOutput, slice: &mut [u8]) ->
 
 /// Writes a command that has no text of its own into a slice.
 ///
-/// It answers 0 where the text was written, and `length` is how many bytes it has; 1 where it has more bytes than the slice, and nothing
-/// was written; 2 where the numbers name no command, and nothing was written; 3 where the command failed by itself, which none is known to:
+/// It returns 0 if the text was written, and `length` is how many bytes it has; 1 if it has more bytes than the slice, and nothing
+/// was written; 2 if the numbers name no command, and nothing was written; 3 if the command failed by itself, which none is known to:
 /// then the slice may hold anything, and `length` is 0 as with 2.
-/// `colors` is false where colours aren't to be written, as with `NO_COLOR`.
+/// `colors` is false if colours aren't to be written, as with `NO_COLOR`.
 #[unsafe(no_mangle)]
 pub extern "C" fn gelvanh_command(
     command: &GelvanhCommand,

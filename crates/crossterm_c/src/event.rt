@@ -26,7 +26,7 @@ pub struct GelvanhEvent {
     pub modifiers: u8,
     /// Of a key: 0 pressed, 1 held, 2 let go.
     pub press: u8,
-    /// The bits of what else the keyboard told.
+    /// The bits of what else the keyboard reported.
     pub state: u8,
     /// The bits of the keyboard's flags.
     pub flags: u8,

@@ -14,7 +14,7 @@ use crossterm_parse::state::{Progress, State};
 use crossterm_parse::steps::Steps;
 use std::sync::ledger::{Blank, Ledger};
 
-/// Takes bytes outside of a paste: all, or as many as the table has room for, or those up to the start of a paste. It tells how many bytes it
+/// Takes bytes outside of a paste: all, or as many as the table has room for, or those up to the start of a paste. It returns how many bytes it
 /// took, and how many events it gave.
 fn feed_sequences<L: Ledger>(
     state: &mut State,
@@ -49,7 +49,7 @@ fn feed_sequences<L: Ledger>(
     (place, given)
 }
 
-/// Takes the bytes of an open paste before the next ESC, where none of its end is met, and tells how many.
+/// Takes the bytes of an open paste before the next ESC, if none of its end is met, and returns how many.
 #[inline(always)]
 fn skip_text<L: Ledger>(state: &State, bytes: &[u8], steps: &mut Steps<L>) -> usize
     requires { is_paste state.now ≡ true }
@@ -66,7 +66,7 @@ fn skip_text<L: Ledger>(state: &State, bytes: &[u8], steps: &mut Steps<L>) -> us
     }
 }
 
-/// Takes the bytes of an open paste: all, or those up to its end. It tells how many, and whether the paste is over.
+/// Takes the bytes of an open paste: all, or those up to its end. It returns how many, and whether the paste is over.
 fn feed_paste<L: Ledger>(state: &mut State, piece: &[u8], steps: &mut Steps<L>) -> (usize, bool)
     requires { is_paste state.old ≡ true }
     ensures taken { result.0 ≤ length piece.now }
@@ -93,7 +93,7 @@ fn feed_paste<L: Ledger>(state: &mut State, piece: &[u8], steps: &mut Steps<L>) 
     (place, false)
 }
 
-/// Takes bytes, and gives their events in a table, from its front on. It tells how many of both. Steps are counted in a new ledger, which
+/// Takes bytes, and gives their events in a table, from its front on. It returns how many of both. Steps are counted in a new ledger, which
 /// costs nothing.
 pub(crate) fn feed<L: Ledger>(
     state: &mut State,

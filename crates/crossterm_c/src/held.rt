@@ -28,7 +28,7 @@ pub struct GelvanhReader {
     pub arrivals: u64,
 }
 
-/// The place of the first held event, and how many there are, where any numbers are told.
+/// The place of the first held event, and how many there are, for any numbers.
 pub(crate) fn span(reader: &GelvanhReader, table: &[GelvanhHeld]) -> (usize, usize)
     ensures within { result.0 + result.1 ≤ length table.now }
     ensures held { take result.1 (drop result.0 table.now) ≡ held_in reader.now table.now }
@@ -59,21 +59,21 @@ fn has_no_place(event: &GelvanhEvent) -> bool
     event.column == 0 && event.row == 0
 }
 
-/// Whether an event is a reply that tells the cursor's place.
+/// Whether an event is a reply with the cursor's place.
 fn is_cursor(event: &GelvanhEvent) -> bool
     ensures { result ≡ (event.now.kind == 6 && (no_code event.now && (no_press event.now && no_flags event.now))) }
 {
     event.kind == 6 && (has_no_code(event) && (has_no_press(event) && event.flags == 0))
 }
 
-/// Whether it is a reply that tells the keyboard's flags.
+/// Whether it is a reply with the keyboard's flags.
 fn is_flags(event: &GelvanhEvent) -> bool
     ensures { result ≡ (event.now.kind == 7 && (no_code event.now && (no_press event.now && no_place event.now))) }
 {
     event.kind == 7 && (has_no_code(event) && (has_no_press(event) && has_no_place(event)))
 }
 
-/// Whether it is a reply that tells the terminal's attributes.
+/// Whether it is a reply with the terminal's attributes.
 fn is_attributes(event: &GelvanhEvent) -> bool
     ensures { result ≡ (event.now.kind == 8 && is_bare event.now) }
 {
@@ -116,7 +116,7 @@ pub(crate) fn first_of(held: &[GelvanhHeld], classes: u32) -> Option<usize>
     None
 }
 
-/// Lets held events stand where there is room for one more behind them, and tells the place of the first.
+/// Moves held events to a place with room for one more behind them, and returns the place of the first.
 pub(crate) fn make_room(table: &mut [GelvanhHeld], first: usize, held: usize) -> usize
     requires within { first + held ≤ length table.old }
     requires less { held < length table.old }
@@ -149,7 +149,7 @@ fn move_first(held: &mut [GelvanhHeld], at: usize)
     held[..=at].rotate_right(1);
 }
 
-/// Takes the event at a place among those that are held. The others then stand from the next place on.
+/// Takes the event at a place among those that are held. The others are then from the next place on.
 pub(crate) fn take_at(
     table: &mut [GelvanhHeld],
     first: usize,

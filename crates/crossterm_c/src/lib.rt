@@ -1,6 +1,6 @@
 //! A door for C and Rust: the parser, the reader and the commands by numbers and slices.
 //!
-//! It stands on `crossterm_parse` and `crossterm`, and its contracts on `crossterm_read` too. The parser's state is a struct of numbers that
+//! It is built on `crossterm_parse` and `crossterm`, and its contracts on `crossterm_read` too. The parser's state is a struct of numbers that
 //! the caller keeps, so no call needs memory, and none blocks. `gelvanh_feed` follows the only division of the bytes as `Parser::advance`
 //! does (`specs/Feeding.antt`); what the numbers of a state, an event and a command mean is `specs/State.antt`, `specs/Event.antt` and
 //! `specs/Command.antt`. Events are held in the caller's table, and taken by class, as `InternalEventReader` does (`specs/Held.antt`). The
@@ -13,6 +13,7 @@
 //! | the events, as numbers of the header with 0 for what their kind doesn't use, mean the parts of the only division of the bytes taken; however small the table is, none is lost; the state's numbers represent the rest | `gelvanh_feed`, `gelvanh_is_undecided`, `gelvanh_is_pasting` |
 //! | events held in the caller's table are a reader's: one more comes last, or the table is full and nothing changes; the first of the classes asked for is taken, and the others stay in order; holding events until one is admitted, and taking it, is a call of `InternalEventReader::read`; who holds a whole batch first takes the same event | `gelvanh_hold`, `gelvanh_holds`, `gelvanh_take`, `laws::holding_and_taking_is_reading` |
 //! | a paste's text is written until all bytes are read or the next character has no room; a command's text is in the slice, or the slice is unchanged and the length is returned | `gelvanh_paste_text`, `gelvanh_command` and the four calls with a text |
+//! | the version is the header's | `gelvanh_version` |
 //!
 //! What to believe, in the order in which it reads (`specs/`), and where it is proved:
 //!
@@ -26,7 +27,7 @@
 //! | `Command` | 213 | commands as numbers, and their texts | `gelvanh_command`, `gelvanh_print` and the like |
 //! | `Outlet` | 9 | a slice that takes what fits | the same |
 //!
-//! A function's proof stands in `proofs/` at the function's path; where there is no file, the prover found it by itself.
+//! A function's proof is in `proofs/` at the function's path; where there is no file, the prover found it by itself.
 #![tactic(auto)]
 
 mod color;
@@ -43,3 +44,4 @@ mod table;
 #[cfg(test)]
 mod tests;
 mod text;
+mod version;

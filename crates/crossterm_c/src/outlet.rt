@@ -36,7 +36,7 @@ impl Outcome {
     }
 }
 
-/// What came of a command, and how long its text is where there is one.
+/// What came of a command, and how long its text is, if there is one.
 #[derive(Clone, Copy)]
 pub(crate) struct Answer {
     pub(crate) outcome: Outcome,
@@ -74,7 +74,7 @@ impl Answer {
     }
 }
 
-/// Copies bytes to a place, where they fit.
+/// Copies bytes to a place, if they fit.
 #[inline(always)]
 fn copy_in(slice: &mut [u8], place: usize, end: usize, bytes: &[u8])
     requires { end ≡ place + length bytes.now }
@@ -105,7 +105,7 @@ impl fmt::Write for Outlet<'_> {
     }
 }
 
-/// Offers a command's text to a slice, which takes what fits, and tells how long it is.
+/// Offers a command's text to a slice, which takes what fits, and returns how long it is.
 fn fill<C: Command>(command: &C, colors: ColorOutput, slice: &mut [u8]) -> Result<usize, fmt::Error>
     ensures { IfOk result (λ n. IfSome (C.text command.now colors) (λ text. Puts slice.old 0 text slice.new n)) }
 {
@@ -161,7 +161,7 @@ fn write_long<C: Command>(command: &C, colors: ColorOutput, slice: &mut [u8]) ->
     }
 }
 
-/// Writes a command: at once where its text is short.
+/// Writes a command: at once if its text is short.
 #[inline(always)]
 pub(crate) fn write<C: Command>(command: &C, colors: ColorOutput, slice: &mut [u8]) -> Answer
     ensures { IfSome (C.text command.now colors) (λ text. Answers text slice.old slice.new result.length result.outcome) }

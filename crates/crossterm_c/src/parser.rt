@@ -15,10 +15,10 @@ use crossterm_parse::state::State;
 use std::marker::Brand;
 use std::sync::ledger::Blank;
 
-/// Takes bytes of a terminal, and tells how many. `count` is how many events they gave, which stand in front of `events`.
+/// Takes bytes of a terminal, and returns how many. `count` is how many events they gave, which are in front of `events`.
 ///
-/// It stops where all are taken, where the table is full, and after the byte with which a paste opens or is over; then the others are handed
-/// in again. So where a paste was open before the call, all bytes taken are of it: the caller keeps them, and where the paste is over,
+/// It stops when all are taken, when the table is full, and after the byte with which a paste opens or is over; then the others are handed
+/// in again. So if a paste was open before the call, all bytes taken are of it: the caller keeps them, and if the paste is over,
 /// its event is the only one, and its text that of the bytes kept but the last six (`gelvanh_paste_text`).
 ///
 /// `more` says that bytes of the same answer of the terminal follow at once, so that ESC at the end is no Esc key yet. `raw` is the mode
@@ -34,7 +34,7 @@ pub extern "C" fn gelvanh_feed(
 ) -> usize
     ensures taken { result ≤ length piece.now }
     ensures count { count.new ≤ length events.old }
-    // The events are the meanings of the parts of the only division, and the numbers stand for the rest.
+    // The events are the meanings of the parts of the only division, and the numbers represent the rest.
     ensures feeds { Feeds (state_at state.old) (state_at state.new) (take count.new events.new) (take result piece.now) (take result (marked piece.now more raw)) }
     ensures all { (result ≡ length piece.now) ⊎ (count.new ≡ length events.old) ⊎ (is_paste (state_at state.new) ≢ is_paste (state_at state.old)) }
     // With room for an event, some of the bytes are taken.
@@ -65,7 +65,7 @@ pub extern "C" fn gelvanh_is_pasting(state: &GelvanhState) -> bool
 
 /// Writes the text of a paste's bytes, with U+FFFD for each maximal part that isn't UTF-8, as far as the next character has room.
 ///
-/// It tells how many bytes were read: where they aren't all, the text of the others is still missing. `written` is how many bytes of the
+/// It returns how many bytes were read: if they aren't all, the text of the others is still missing. `written` is how many bytes of the
 /// slice were written.
 #[unsafe(no_mangle)]
 pub extern "C" fn gelvanh_paste_text(bytes: &[u8], text: &mut [u8], written: &mut usize) -> usize

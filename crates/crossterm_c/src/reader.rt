@@ -10,9 +10,9 @@ ghost use Rattle.crossterm_c.specs.Held.{classes_at, held_in, store_at, taken_at
 use crate::event::GelvanhEvent;
 use crate::held::{GelvanhHeld, GelvanhReader, first_of, make_room, put_behind, span, take_at};
 
-/// Holds an event behind those that are held, with its number, and tells whether there was room: else nothing has changed.
+/// Holds an event behind those that are held, with its number, and returns whether there was room: else nothing has changed.
 ///
-/// The number tells how many events arrived before, which is `arrivals` before the call. Under it the caller keeps the bytes of a paste.
+/// The number is how many events arrived before: `arrivals` before the call. Under it the caller keeps the bytes of a paste.
 #[unsafe(no_mangle)]
 pub extern "C" fn gelvanh_hold(
     reader: &mut GelvanhReader,
@@ -43,8 +43,8 @@ pub extern "C" fn gelvanh_hold(
 
 /// Whether an event of one of some classes is held.
 ///
-/// The classes are 1 for what a user brought about, 2 for replies that tell the cursor's place, 4 for those that tell the keyboard's flags, 8
-/// for those that tell the terminal's attributes, or a sum of these.
+/// The classes are 1 for what a user brought about, 2 for replies with the cursor's place, 4 for those with the keyboard's flags, 8
+/// for those with the terminal's attributes, or a sum of these.
 #[unsafe(no_mangle)]
 pub extern "C" fn gelvanh_holds(reader: &GelvanhReader, table: &[GelvanhHeld], classes: u32) -> bool
     ensures { (texts : ℕ → List ℕ) → result ≡ is_some (first_admitted (is_of (classes_at classes)) (store_at texts reader.now table.now).held) }
@@ -53,7 +53,7 @@ pub extern "C" fn gelvanh_holds(reader: &GelvanhReader, table: &[GelvanhHeld], c
     first_of(&table[first..first + held], classes).is_some()
 }
 
-/// Takes the first held event of one of some classes, with its number, and tells whether there was one: else nothing has changed. The others
+/// Takes the first held event of one of some classes, with its number, and returns whether there was one: else nothing has changed. The others
 /// stay, in their order.
 #[unsafe(no_mangle)]
 pub extern "C" fn gelvanh_take(

@@ -17,7 +17,7 @@ use crossterm_parse::utf8::Validity;
 pub struct GelvanhNumber {
     /// How far: with no byte yet, a `+`, a value, past 32 bits, or no number.
     pub kind: u32,
-    /// The value, where there is one.
+    /// The value, if there is one.
     pub value: u32,
 }
 
@@ -53,7 +53,7 @@ pub struct GelvanhState {
     pub validity: u8,
     /// How far a paste's start is met, or its end.
     pub opening: u8,
-    /// Whether an escape stands before a character.
+    /// Whether an escape is before a character.
     pub escaped: u8,
     /// The bytes of a character so far, or those of a report of the mouse.
     pub begun: GelvanhBytes,

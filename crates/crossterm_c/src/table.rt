@@ -51,7 +51,7 @@ pub(crate) fn put<L: Ledger>(
     }
 }
 
-/// Gives the events of the letters in front, and tells how many: as many as the table has room for.
+/// Gives the events of the letters in front, and returns how many: as many as the table has room for.
 fn give_letters<L: Ledger>(
     state: &State,
     bytes: &[u8],
@@ -75,7 +75,7 @@ fn give_letters<L: Ledger>(
     count
 }
 
-/// Gives the event of the character in UTF-8 in front, and tells how many bytes it has.
+/// Gives the event of the character in UTF-8 in front, and returns how many bytes it has.
 #[inline(always)]
 fn give_utf8<L: Ledger>(
     state: &State,
@@ -99,7 +99,7 @@ fn give_utf8<L: Ledger>(
     size
 }
 
-/// Gives the events of the letters in front, or that of the character in UTF-8, and tells how many bytes they have.
+/// Gives the events of the letters in front, or that of the character in UTF-8, and returns how many bytes they have.
 #[inline(always)]
 fn give_front<L: Ledger>(
     state: &State,
@@ -124,7 +124,7 @@ fn give_front<L: Ledger>(
     }
 }
 
-/// Gives the events of the letters and of the characters in UTF-8 in front, and tells how many bytes they have.
+/// Gives the events of the letters and of the characters in UTF-8 in front, and returns how many bytes they have.
 fn give_text<L: Ledger>(
     state: &State,
     bytes: &[u8],
@@ -151,7 +151,7 @@ fn give_text<L: Ledger>(
     place
 }
 
-/// Puts in the bytes in front that a run takes, and tells how many: text where no sequence is open, or what a sequence's numbers go on
+/// Puts in the bytes in front that a run takes, and returns how many: text if no sequence is open, or what a sequence's numbers go on
 /// with.
 #[inline(always)]
 pub(crate) fn run<L: Ledger>(

@@ -9,7 +9,7 @@ use bstr::decode_utf8;
 /// U+FFFD in UTF-8.
 const REPLACEMENT: &[u8] = &[0xEF, 0xBF, 0xBD];
 
-/// How many bytes of ASCII stand in front.
+/// How many bytes of ASCII are in front.
 fn ascii_in(bytes: &[u8]) -> usize
     ensures within { result ≤ length bytes.now }
     ensures ascii { AllByRecursion (λ b. b < 128) (take result bytes.now) }
@@ -22,7 +22,7 @@ fn ascii_in(bytes: &[u8]) -> usize
     bytes.len()
 }
 
-/// The character in front, where there is one, and how many bytes it has or the part that isn't UTF-8.
+/// The character in front, if there is one, and how many bytes it has or the part that isn't UTF-8.
 fn character_of(bytes: &[u8]) -> (Option<char>, usize)
     requires { 0 < length bytes.now }
     ensures decoded { (result.0 ≡ (decoded bytes.now).char) × (result.1 ≡ (decoded bytes.now).size) }
@@ -50,7 +50,7 @@ fn front_of<'a>(bytes: &'a [u8], room: usize) -> (&'a [u8], usize)
     }
 }
 
-/// Writes the text of some bytes, as far as the next character has room. It tells how many bytes were read; `written` is how many were
+/// Writes the text of some bytes, as far as the next character has room. It returns how many bytes were read; `written` is how many were
 /// written.
 pub(crate) fn write_text(bytes: &[u8], text: &mut [u8], written: &mut usize) -> usize
     ensures { Writes bytes.now text.new written.new result }

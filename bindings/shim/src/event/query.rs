@@ -25,9 +25,19 @@ fn not_answered(what: &str) -> io::Error {
     io::Error::new(io::ErrorKind::Other, format!("the terminal didn't tell {what} within {} s", LIMIT.as_secs()))
 }
 
-/// The cursor's column and row, from 0, which the terminal is asked for. The error is of kind `Other` where it doesn't answer within 2 s.
+/// The cursor's column and row, from 0, which the terminal is asked for.
 ///
 /// Outside of raw mode it is turned on for the question. Keys that are typed meanwhile are kept for `event::read`.
+///
+/// ```no_run
+/// let (column, row) = crossterm::cursor::position()?;
+/// println!("column {column}, row {row}");
+/// # Ok::<(), std::io::Error>(())
+/// ```
+///
+/// # Errors
+///
+/// One of kind `Other` if the terminal doesn't answer within 2 s, `UnexpectedEof` at the end of input, or the system's.
 pub fn position() -> io::Result<(u16, u16)> {
     in_raw_mode(|| {
         let _asking = Asking::begin();
@@ -40,12 +50,15 @@ pub fn position() -> io::Result<(u16, u16)> {
     })
 }
 
-/// Whether the terminal speaks kitty's keyboard protocol, which it is asked for. The error is of kind `Other` where it doesn't answer
-/// within 2 s.
+/// Whether the terminal has kitty's keyboard protocol, which it is asked for.
+///
+/// # Errors
+///
+/// One of kind `Other` if the terminal doesn't answer within 2 s, `UnexpectedEof` at the end of input, or the system's.
 pub fn supports_keyboard_enhancement() -> io::Result<bool> {
     in_raw_mode(|| {
         let _asking = Asking::begin();
-        // Each terminal tells its attributes: who tells them first doesn't know the flags.
+        // Each terminal reports its attributes: one that does so first doesn't know the flags.
         system::send(b"\x1b[?u\x1b[c")?;
         let limit = Instant::now().checked_add(LIMIT);
         let reply = reader::wait(limit, |state: &mut State| state.take_reply(Classes::FLAGS | Classes::ATTRIBUTES))?;

@@ -1,7 +1,7 @@
 //! The events that all threads share: held, found and taken by the proved reader.
 //!
-//! One thread at a time waits for the terminal: it has taken the source out, and holds no lock. The others wait to be told, each until its
-//! own limit. Who came back with events, or with none, tells all others, and one of these takes the source then.
+//! One thread at a time waits for the terminal: it has taken the source out, and holds no lock. The others wait, each until its own
+//! limit. A thread that came back, with events or without, wakes all others, and one of these takes the source then.
 
 use crate::event::source::{Source, Told};
 use gelvanh::{Classes, Event, HeldEvents, InternalEvent};
@@ -90,7 +90,7 @@ pub fn wait<T>(limit: Option<Instant>, mut find: impl FnMut(&mut State) -> Optio
     }
 }
 
-/// Waits for the terminal, or where another thread does, for what that one reads.
+/// Waits for the terminal, or if another thread does, for what that one reads.
 fn look(mut state: MutexGuard<'static, State>, left: Option<Duration>) -> io::Result<MutexGuard<'static, State>> {
     let mut source = match mem::replace(&mut state.seat, Seat::Taken) {
         Seat::Taken => return Ok(wait_to_be_told(state, left)),

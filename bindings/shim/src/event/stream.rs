@@ -13,7 +13,19 @@ use std::time::Instant;
 
 /// Events as a stream, which ends after the error `UnexpectedEof`.
 ///
-/// A thread of its own waits while the stream has nothing to give; it ends with the stream.
+/// A thread of its own waits while the stream is pending; it ends with the stream.
+///
+/// ```no_run
+/// use crossterm::event::EventStream;
+/// use futures_core::Stream;
+/// use std::pin::Pin;
+/// use std::task::Context;
+///
+/// // In a task of any executor: `poll_next` of a stream that is pinned. With the crate `futures` it is `stream.next().await`.
+/// fn poll(stream: &mut EventStream, context: &mut Context<'_>) -> bool {
+///     Pin::new(stream).poll_next(context).is_ready()
+/// }
+/// ```
 #[derive(Debug, Default)]
 pub struct EventStream {
     watch: Option<Arc<Watch>>,
@@ -45,7 +57,7 @@ impl Watch {
         self.is_over.load(Ordering::SeqCst)
     }
 
-    /// Waits until somebody is to be woken, and tells whether that is so: else the stream is gone.
+    /// Waits until a task is to be woken, and returns whether one is: else the stream is gone.
     fn wait_for_task(&self) -> bool {
         let mut task = self.lock();
         while task.waker.is_none() && !self.is_over() {

@@ -56,7 +56,7 @@ impl Colored {
     pub fn ansi_color_disabled_memoized() -> bool {
         if COLORS.load(Ordering::SeqCst) == UNKNOWN {
             let read = if Colored::ansi_color_disabled() { DISABLED } else { ENABLED };
-            // Where it was set meanwhile, that counts.
+            // If it was set meanwhile, that counts.
             let _ = COLORS.compare_exchange(UNKNOWN, read, Ordering::SeqCst, Ordering::SeqCst);
         }
         COLORS.load(Ordering::SeqCst) == DISABLED
@@ -68,7 +68,7 @@ impl Colored {
     }
 }
 
-/// The parameters of the sequence, as `38;5;9`; nothing where colours aren't written.
+/// The parameters of the sequence, as `38;5;9`; nothing if colours aren't written.
 impl fmt::Display for Colored {
     fn fmt(&self, f: &mut fmt::Formatter<'_>) -> fmt::Result {
         if Colored::ansi_color_disabled_memoized() {
@@ -82,7 +82,7 @@ impl fmt::Display for Colored {
     }
 }
 
-/// The colours of a text and of what is behind it, where they are there.
+/// The colours of a text and of what is behind it, if they are there.
 #[derive(Clone, Copy, Debug, PartialEq, Eq)]
 pub struct Colors {
     /// The text's colour.
@@ -97,7 +97,7 @@ impl Colors {
         Colors { foreground: Some(foreground), background: Some(background) }
     }
 
-    /// The other's colours, and this one's where the other has none.
+    /// The other's colours, and this one's if the other has none.
     pub fn then(&self, other: &Colors) -> Colors {
         Colors { foreground: other.foreground.or(self.foreground), background: other.background.or(self.background) }
     }

@@ -4,6 +4,14 @@ use crate::style::{Attributes, Color};
 use std::fmt::{self, Display};
 
 /// How a text looks.
+///
+/// ```
+/// use crossterm::style::{Color, ContentStyle, Stylize};
+///
+/// let warning = ContentStyle::new().yellow().underlined();
+/// assert_eq!(warning.foreground_color, Some(Color::Yellow));
+/// println!("{}", warning.apply("no space is left"));
+/// ```
 #[derive(Clone, Copy, Debug, Default, PartialEq, Eq)]
 pub struct ContentStyle {
     /// The text's colour.

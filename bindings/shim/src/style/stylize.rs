@@ -34,6 +34,12 @@ macro_rules! color_methods {
 }
 
 /// What a style is given to: texts, characters, styles, and values that have one.
+///
+/// ```
+/// use crossterm::style::Stylize;
+///
+/// assert_eq!("hi".red().bold().to_string(), "\x1b[38;5;9m\x1b[1mhi\x1b[0m");
+/// ```
 pub trait Stylize: Sized {
     /// What has the style then.
     type Styled: AsRef<ContentStyle> + AsMut<ContentStyle>;

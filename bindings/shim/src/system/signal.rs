@@ -31,7 +31,7 @@ extern "C" {
     fn __errno_location() -> *mut i32;
 }
 
-/// Whether a signal came that no event tells yet.
+/// Whether a signal came that no event reported yet.
 static RESIZED: AtomicBool = AtomicBool::new(false);
 /// The end of the pipe that is written to.
 static SENDER: AtomicI32 = AtomicI32::new(-1);
@@ -43,7 +43,7 @@ static BEFORE_FLAGS: AtomicI32 = AtomicI32::new(0);
 pub fn wake() {
     let fd = SENDER.load(Ordering::SeqCst);
     if fd >= 0 {
-        // SAFETY: one byte. Where the pipe is full, the wait ends anyway.
+        // SAFETY: one byte. If the pipe is full, the wait ends anyway.
         unsafe { write(fd, [0u8].as_ptr(), 1) };
     }
 }
@@ -56,7 +56,7 @@ extern "C" fn on_signal(signal: i32, info: *const u8, context: *const u8) {
     let before = BEFORE.load(Ordering::SeqCst);
     // 0 and 1 are the system's own ways, which do nothing at this signal.
     if before > 1 && BEFORE_FLAGS.load(Ordering::SeqCst) & SA_SIGINFO != 0 {
-        // SAFETY: the system told it as a handler of this shape.
+        // SAFETY: the system returned it as a handler of this shape.
         unsafe { std::mem::transmute::<usize, Informed>(before)(signal, info, context) };
     } else if before > 1 {
         // SAFETY: as above.

@@ -27,7 +27,7 @@ fn milliseconds(time: Option<Duration>) -> i32 {
 /// Which descriptors have bytes, or no more ever, within some time. A signal ends the wait, and then none has.
 pub fn wait_for<const N: usize>(fds: [RawFd; N], time: Option<Duration>) -> io::Result<[bool; N]> {
     let mut fds = fds.map(|fd| PollFd { fd, events: POLLIN, revents: 0 });
-    // SAFETY: as many `struct pollfd` as are told.
+    // SAFETY: the count is that of the array.
     match check(unsafe { poll(fds.as_mut_ptr(), N as u64, milliseconds(time)) }) {
         Ok(()) => Ok(fds.map(|fd| fd.revents != 0)),
         Err(e) if e.kind() == io::ErrorKind::Interrupted => Ok([false; N]),
@@ -35,7 +35,7 @@ pub fn wait_for<const N: usize>(fds: [RawFd; N], time: Option<Duration>) -> io::
     }
 }
 
-/// The bytes that a descriptor has, as far as there is room: `None` where it has none now. At the end of input it gives none.
+/// The bytes that a descriptor has, as far as there is room: `None` if it has none now. At the end of input they are no bytes.
 pub fn read_some(fd: RawFd, buffer: &mut [u8]) -> io::Result<Option<&[u8]>> {
     // SAFETY: the buffer's own length.
     let n = unsafe { read(fd, buffer.as_mut_ptr(), buffer.len()) };

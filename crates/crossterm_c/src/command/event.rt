@@ -1,4 +1,4 @@
-//! Commands that tell a terminal which events to report.
+//! Commands that say which events a terminal reports.
 ghost use Rattle.crossterm_c.specs.Command.{AnswersTo, event_text};
 
 use super::GelvanhCommand;
@@ -9,7 +9,7 @@ use crossterm::event::{
     PushKeyboardEnhancementFlags,
 };
 
-/// Writes a command that tells which events to report.
+/// Writes a command that says which events to report.
 pub(super) fn write_event(command: &GelvanhCommand, slice: &mut [u8]) -> Answer
     ensures { AnswersTo (event_text command.now) slice.old slice.new result.length result.outcome }
 {

@@ -12,7 +12,7 @@ use crossterm::style::{
     SetColors, SetForegroundColor, SetStyle, SetUnderlineColor,
 };
 
-/// The style of a command, where each of its parts is one.
+/// The style of a command, if each of its parts is one.
 pub(super) fn style_of(command: &GelvanhCommand) -> Option<ContentStyle>
     ensures { result ≡ style_at command.now }
 {
@@ -28,7 +28,7 @@ pub(super) fn style_of(command: &GelvanhCommand) -> Option<ContentStyle>
     })
 }
 
-/// The two colours of a command, where each is one or is missing.
+/// The two colours of a command, if each is one or is missing.
 fn colors_of(command: &GelvanhCommand) -> Option<Colors>
     ensures { result ≡ colors_at command.now }
 {
@@ -40,7 +40,7 @@ fn colors_of(command: &GelvanhCommand) -> Option<Colors>
     })
 }
 
-/// Writes a command, where the numbers name one.
+/// Writes a command, if the numbers name one.
 #[inline(always)]
 fn write_some<C: Command + Drop>(
     command: Option<C>,

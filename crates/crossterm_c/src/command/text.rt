@@ -15,7 +15,7 @@ use crossterm::style::{ColorOutput, PrintStyledContent};
 use crossterm::terminal::SetTitle;
 use std::fmt;
 
-/// Prints a text, in UTF-8: the command `Print`. It answers as `gelvanh_command` does, but never 3, and 2 where the text isn't UTF-8.
+/// Prints a text, in UTF-8: the command `Print`. It returns as `gelvanh_command` does, but never 3, and 2 if the text isn't UTF-8.
 #[unsafe(no_mangle)]
 pub extern "C" fn gelvanh_print(text: &[u8], slice: &mut [u8], length: &mut usize) -> u32
     ensures { IsSomeAnd (outcome_at result) (λ outcome. AnswersText text.now (Some text.now) slice.old slice.new length.new outcome × HasNotFailed outcome) }
@@ -27,7 +27,7 @@ pub extern "C" fn gelvanh_print(text: &[u8], slice: &mut [u8], length: &mut usiz
     answer.tell(length)
 }
 
-/// Sets the window's title, in UTF-8: the command `SetTitle`. It answers as `gelvanh_print` does.
+/// Sets the window's title, in UTF-8: the command `SetTitle`. It returns as `gelvanh_print` does.
 #[unsafe(no_mangle)]
 pub extern "C" fn gelvanh_set_title(title: &[u8], slice: &mut [u8], length: &mut usize) -> u32
     ensures { IsSomeAnd (outcome_at result) (λ outcome. AnswersText title.now (Some (text_of (set_title title.now))) slice.old slice.new length.new outcome) }
@@ -39,7 +39,7 @@ pub extern "C" fn gelvanh_set_title(title: &[u8], slice: &mut [u8], length: &mut
     answer.tell(length)
 }
 
-/// Prints a text in the style of a command, where it has one.
+/// Prints a text in the style of a command, if it has one.
 fn print_styled(style: &GelvanhCommand, text: &str, colors: ColorOutput, slice: &mut [u8]) -> Answer
     ensures { AnswersTo (printed colors style.now text.now) slice.old slice.new result.length result.outcome }
 {
@@ -50,7 +50,7 @@ fn print_styled(style: &GelvanhCommand, text: &str, colors: ColorOutput, slice: 
 }
 
 /// Prints a text, in UTF-8, in the style of a command's colours and attributes, and ends the style: the command `PrintStyledContent`. It
-/// answers as `gelvanh_print` does, and 2 too where the numbers are no style.
+/// returns as `gelvanh_print` does, and 2 too if the numbers are no style.
 #[unsafe(no_mangle)]
 pub extern "C" fn gelvanh_print_styled(
     style: &GelvanhCommand,
@@ -92,7 +92,7 @@ impl Command for CopyTo<'_> {
 }
 
 /// Copies bytes to the places of some letters, in UTF-8, as `c` for the clipboard and `p` for the primary selection: the command
-/// `CopyToClipboard`. It answers as `gelvanh_print` does.
+/// `CopyToClipboard`. It returns as `gelvanh_print` does.
 #[unsafe(no_mangle)]
 pub extern "C" fn gelvanh_copy_to_clipboard(
     content: &[u8],

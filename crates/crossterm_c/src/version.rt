@@ -1,0 +1,19 @@
+//! The version of the archive.
+ghost use Rattle.std.specs.Prelude.{◌≡◌, ◌+◌, ◌*◌};
+
+// The numbers of `GELVANH_VERSION` in the header.
+const MAJOR: u32 = 0;
+
+const MINOR: u32 = 3;
+
+const PATCH: u32 = 0;
+
+/// The version of the archive: the three numbers of `GELVANH_VERSION`, in a byte each, the last one lowest. 0.3.0 is 0x000300.
+///
+/// A program that finds the archive's functions by name compares it with its header's `GELVANH_VERSION_NUMBER`.
+#[unsafe(no_mangle)]
+pub extern "C" fn gelvanh_version() -> u32
+    ensures { result ≡ (0 * 256 + 3) * 256 + 0 }
+{
+    (MAJOR * 256 + MINOR) * 256 + PATCH
+}
