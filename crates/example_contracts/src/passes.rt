@@ -1,6 +1,6 @@
 //! What a program learns of two passes of one reader, by public contracts alone.
 //!
-//! `two_reads` and `two_threads` have two passes read, in one thread and in two. Then the passes meet, and this is known: both calls stand in
+//! `two_reads` and `two_threads` have two passes read, in one thread and in two. Then the passes meet, and this is known: both calls are in
 //! one legal history, at two places. No event went to both, and of a reader with no further pass none was lost between them. That two
 //! passes are of a reader with as many passes is what `EventReader::new` says of those that it gives.
 
@@ -100,6 +100,10 @@ pub struct Client<S: EventSource<A>, A: Allocator> {
 
 impl<S: EventSource<A>, A: Allocator + Clone> Client<S, A> {
     /// The next event within the limit, or `None`: a poll, and then a read, which is the next call of this pass.
+    ///
+    /// # Errors
+    ///
+    /// Those of the two calls: `UnexpectedEof` at the end of input, `OutOfMemory` if memory was refused, or the device's.
     pub fn next_within<C: Clock, R: Wait>(
         &mut self,
         rt: &R,

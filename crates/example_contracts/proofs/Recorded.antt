@@ -1,0 +1,42 @@
+-- Two reads of a reader whose device is recorded.
+use Rattle.std.specs.Prelude.{◌≡◌, ℕ, List, [], ◌∷◌, ◌++◌, map, Option, None, refl}
+use Rattle.std.proofs.Common.{ap, subst, sym, ◌∙◌, append-nil}
+use Rattle.crossterm_types.specs.Admitting.{admitted}
+use Rattle.crossterm_types.specs.declared.event.filter.AnyFilter.{AnyFilter}
+use Rattle.crossterm_read.specs.Answers.{SourceAnswer}
+use Rattle.crossterm_read.specs.Calls.{Plays, empty, joined}
+use Rattle.crossterm_read.specs.Device.{Answering}
+use Rattle.crossterm_read.specs.OverScripts.{IsNew}
+use Rattle.crossterm_read.specs.Replies.{Replied, Said, shown}
+use Rattle.crossterm_read.specs.Steps.{ReadStep, UpTo}
+use Rattle.crossterm_read.specs.Store.{EventStore}
+use Rattle.crossterm_read.specs.declared.read.call.Call.{Call}
+use Rattle.crossterm_read.specs.declared.read.call.Call.TheVariants as call
+use Rattle.crossterm_read.specs.inside.Turns.{Source, SourceDrawn, source_on}
+use Rattle.recorder.specs.Answering.{recorder_answering}
+use Rattle.recorder.specs.Recording.{Recording, Records, recorded}
+use Rattle.recorder.specs.Replaying.{PlaysAlike}
+use Rattle.example_contracts.specs.Recorded.{CallsReplay}
+
+reads : ℕ → AnyFilter → List Call
+reads tries f = call.Read tries f ∷ call.Read tries f ∷ []
+
+pub two_replay : {D W : Type 0} (contents : W → Option (List ℕ)) (answering : Answering D) → PlaysAlike contents answering.answered
+    → (tries : ℕ) (f : AnyFilter) (s m t : Source (Recording D W)) (one two : EventStore) (zs ys : List SourceAnswer) (p q : Replied) (a b : Said)
+    → IsNew s → s.device.stop ≡ None → t.device.stop ≡ None
+    → SourceDrawn (Records contents answering.answered) s zs m → ReadStep (UpTo tries) (admitted f) zs empty one p → a ≡ shown p
+    → SourceDrawn (Records contents answering.answered) m ys t → ReadStep (UpTo tries) (admitted f) ys one two q → b ≡ shown q
+    → CallsReplay contents answering.answered s.device t.device (call.Read tries f ∷ call.Read tries f ∷ []) (a ∷ b ∷ []) (map (λ h. h.0) two.held)
+unfolding reads
+two_replay {D} {W} contents answering law tries f s m t one two zs ys p q a b new begun still d e x u v y =
+    let r = law s t (reads tries f) (zs ∷ ys ∷ []) (p ∷ q ∷ []) two new begun still drawn (one, e, (two, v, refl)) in
+    (joined (zs ∷ ys ∷ []), r.0, λ ends. subst (λ (l : List Said). Plays (recorded r.0.given) (reads tries f) l (map (λ h. h.0) two.held)) (sym same) (r.1 ends))
+  where
+    both : SourceDrawn (Records contents answering.answered) s (zs ++ ys) t
+    both = source_on (recorder_answering contents answering).answered (recorder_answering contents answering).on s m t zs ys d u
+
+    drawn : SourceDrawn (Records contents answering.answered) s (joined (zs ∷ ys ∷ [])) t
+    drawn = subst (λ (l : List SourceAnswer). SourceDrawn (Records contents answering.answered) s (zs ++ l) t) (sym (append-nil ys)) both
+
+    same : a ∷ b ∷ [] ≡ map shown (p ∷ q ∷ [])
+    same = ap (λ c. c ∷ b ∷ []) x ∙ ap (λ c. shown p ∷ c ∷ []) y
