@@ -1,6 +1,6 @@
 """Runs `behave` in terminals of 24 x 80, types, resizes and answers, and compares the lines that it tells.
 
-behave.py PROGRAM [TEST..]: without a test's name it runs all that are of `behave`; `readme` is of the program in bindings/README.md.
+behave.py PROGRAM [TEST..]: without a test's name it runs all that are of `behave`; those whose names begin with `example_` are of the examples.
 """
 import fcntl
 import os
@@ -225,13 +225,40 @@ def streams(start):
     ]
 
 
-def readme(start):
+# Of the examples.
+
+
+def example_hello(start):
     t = start("")
     t.wait_shown(b"Esc ends it")
     assert t.is_raw()
     t.type("x\x1b")
     assert t.end() == []
     assert bytes(t.out) == b"\x1b[?1049h\x1b[38;5;10mEsc ends it\x1b[39m\x1b[?1049l", bytes(t.out)
+
+
+def example_event_read(start):
+    t = start("")
+    t.until(t.is_raw, "raw mode")
+    t.type("a")
+    t.wait_shown(b"Char('a')")
+    t.resize(100, 30)
+    t.wait_shown(b"Resize(100, 30)")
+    t.type("\x1b[200~two\x1b[201~\x1b[<0;20;10M\x1b[O")
+    t.wait_shown(b'Paste("two")')
+    t.wait_shown(b"column: 19, row: 9")
+    t.wait_shown(b"FocusLost")
+    t.type("\x1b")
+    assert t.end() == []
+
+
+def example_list(start):
+    for typed, told in (("\x1b[B\x1b[B\x1b[<65;1;1M\x1b[A\r", b"You chose cheese."), ("\x1b[F\r", b"You chose figs."), ("\x1b", b"You chose nothing.")):
+        t = start("")
+        t.wait_shown(b"figs")
+        t.type(typed)
+        assert t.end() == []
+        assert bytes(t.out).endswith(told + b"\r\n"), bytes(t.out)
 
 
 program, names = sys.argv[1], sys.argv[2:]
