@@ -6,13 +6,15 @@ use crate::variants::is_variants;
 /// An event that a user of the terminal brings about.
 ///
 /// ```
-/// use gelvanh::{Event, InternalEvent, KeyModifiers, Parser};
+/// use gelvanh::{InternalEvent, KeyModifiers, Parser};
 ///
 /// let mut parser = Parser::default();
-/// let events: Vec<InternalEvent> = parser.feed(b"\x1b[1;5C", false, true).collect();
-/// let InternalEvent::Event(event) = &events[0] else { unreachable!() };
-/// let key = event.as_key_press_event().unwrap();
-/// assert_eq!((key.code.to_string(), key.modifiers), ("Right".into(), KeyModifiers::CONTROL));
+/// for event in parser.feed(b"\x1b[1;5C", false, true) {
+///     if let InternalEvent::Event(event) = event {
+///         let key = event.as_key_press_event().unwrap();
+///         assert_eq!((key.code.to_string(), key.modifiers), ("Right".into(), KeyModifiers::CONTROL));
+///     }
+/// }
 /// ```
 #[derive(Clone, Debug, PartialEq, Eq, PartialOrd, Ord, Hash)]
 #[cfg_attr(not(feature = "bracketed-paste"), derive(Copy))]
