@@ -1,0 +1,103 @@
+"""Checks of what was read and of what was written."""
+import html.parser
+import os
+import re
+
+# Elements that have no end.
+VOID = set("meta link input br hr img wbr col".split())
+VISIBLE = ("fn", "struct", "enum", "trait", "mod", "const", "static", "type", "use")
+
+
+def public_tokens(source):
+    """How often `pub` stands before each kind of item in a source, by its tokens alone."""
+    found = dict.fromkeys(VISIBLE, 0)
+    tokens = [it for it in source.tokens if it.kind not in ("comment", "doc", "inner")]
+    for at, token in enumerate(tokens):
+        if token.text == "pub" and token.kind == "name" and at + 1 < len(tokens):
+            after = [it.text for it in tokens[at + 1 : at + 6]]
+            while len(after) > 1 and after[0] in ("final", "const", "unsafe") and after[1] in ("fn", "unsafe", "const"):
+                after.pop(0)
+            if after[0] in found:
+                found[after[0]] += 1
+    return found
+
+
+def public_items(items, found):
+    """How many items of each kind were read as `pub`."""
+    for item in items:
+        if item.is_public and item.kind in found:
+            found[item.kind] += 1
+        public_items(item.children, found)
+    return found
+
+
+def reading_faults(tree):
+    """A sentence for each kind of item of which a file has more than were read, or fewer. A function without `pub` counts too."""
+    faults = []
+    for path, source in tree.files.items():
+        items = next(it.items for it in tree.modules if it.source is source)
+        there, read = public_tokens(source), public_items(items, dict.fromkeys(VISIBLE, 0))
+        for kind in VISIBLE:
+            if there[kind] != read[kind]:
+                faults.append(f"{path}: it has {there[kind]} times `pub {kind}`, and {read[kind]} were read")
+    return faults
+
+
+class Parsed(html.parser.HTMLParser):
+    """A page's anchors and links, and whether its elements end as they begin."""
+
+    def __init__(self):
+        super().__init__()
+        self.open, self.anchors, self.links, self.faults = [], set(), [], []
+
+    def handle_starttag(self, tag, attrs):
+        for name, value in attrs:
+            if name == "id":
+                self.faults += [f"the anchor {value} stands there twice"] if value in self.anchors else []
+                self.anchors.add(value)
+            elif name in ("href", "src"):
+                self.links.append(value)
+        if tag not in VOID:
+            self.open.append(tag)
+        if tag == "a" and self.open.count("a") > 1:
+            self.faults.append(f"line {self.getpos()[0]} has a link within a link")
+
+    def handle_endtag(self, tag):
+        if not self.open or self.open.pop() != tag:
+            self.faults.append(f"line {self.getpos()[0]} ends a {tag} that isn't open")
+            self.open = []
+
+
+def parsed(folder):
+    """All pages of a folder, by their names."""
+    pages = {}
+    for name in sorted(os.listdir(folder)):
+        if name.endswith(".html"):
+            pages[name] = Parsed()
+            with open(f"{folder}/{name}", encoding="utf-8") as file:
+                pages[name].feed(file.read())
+            pages[name].close()
+            pages[name].faults += [f"a {tag} is never ended" for tag in pages[name].open]
+    return pages
+
+
+def page_faults(folder, site):
+    """A sentence for each page that isn't sound, each link that leads nowhere, and each public item without its place."""
+    pages = parsed(folder)
+    faults = [f"{name}: {sentence}" for name, page in pages.items() for sentence in page.faults]
+    for name, page in pages.items():
+        for target in page.links:
+            file, _, anchor = target.partition("#")
+            if re.match(r"[a-z]+:", target):
+                continue
+            if file and not os.path.exists(f"{folder}/{file}"):
+                faults.append(f"{name}: the link {target} leads to no file")
+            elif anchor and anchor not in pages[file or name].anchors:
+                faults.append(f"{name}: the link {target} leads to no place")
+    for module in site.places.on_page:
+        if module.page not in pages:
+            faults.append(f"the module {module.full} has no page")
+    for entry in site.places.all():
+        if entry.anchor not in pages[entry.home.page].anchors:
+            faults.append(f"{entry.full} has no place on {entry.home.page}")
+    return faults

@@ -1,0 +1,164 @@
+"""Which item a name means: by the `use` lines of its module, and else by its being the only public item of that name."""
+import re
+
+from .tree import Entry, Module
+
+# A path of Rust, with an argument list or a `!` after it.
+PATH = re.compile(r"^(?:&(?:mut )?)?((?:[A-Za-z_]\w*::)*[A-Za-z_]\w*)(?:!|\(.*\)|<.*>)?$")
+
+
+def path_of(tokens):
+    """The names of the path that some tokens of a type begin with: of `&'a fmt::Formatter<W>` those are fmt and Formatter."""
+    at = 0
+    while at < len(tokens) and (tokens[at].text in ("&", "mut") or tokens[at].kind == "lifetime"):
+        at += 1
+    names = []
+    while at < len(tokens) and tokens[at].kind == "name":
+        names.append(tokens[at].text)
+        if at + 1 >= len(tokens) or tokens[at + 1].text != "::":
+            break
+        at += 2
+    return names
+
+
+def generic_names(tokens):
+    """The names that generics declare: of `<'a, A: Allocator, const N: usize>` those are A and N."""
+    names, depth, is_first = set(), 0, True
+    for token in tokens:
+        if is_first and token.kind == "name" and token.text != "const":
+            names.add(token.text)
+            is_first = False
+        depth += (token.kind == "open" or token.text == "<") - (token.kind == "close" or token.text == ">")
+        is_first = is_first and token.kind != "lifetime" or (token.text == "," and depth == 0)
+    return names
+
+
+class Links:
+    """Resolves names in a tree, and gives each public item its home and its impls."""
+
+    def __init__(self, tree):
+        self.tree, self.by_name, self.blanket = tree, {}, []
+        self.settle_homes()
+        for module in tree.modules:
+            for item in module.items:
+                if item.kind == "impl":
+                    self.settle_impl(module, item)
+        self.enter_names()
+
+    def settle_homes(self):
+        """Gives each item that other crates can name its home."""
+        public = self.tree.public_modules()
+        for module in public:
+            for entry in module.entries:
+                if entry.item.is_public and entry.kind != "macro":
+                    entry.home = module
+        for module in self.tree.modules:
+            for entry in module.entries:
+                if entry.kind == "macro" and "#[macro_export]" in entry.item.attributes:
+                    entry.home = self.tree.roots[module.crate]
+        for module in public:
+            for _item, target, _name in self.public_uses(module):
+                if isinstance(target, Entry) and not target.owner and target.home is None and target.module.crate == module.crate:
+                    target.home = module
+
+    def public_uses(self, module):
+        """What a module names by `pub use`, with the line and the name; None for what is of no crate here."""
+        for name, found in module.uses.items():
+            for item, path in found:
+                if item.is_public:
+                    yield item, self.resolve(module, path), name
+
+    def named(self, module, name, seen):
+        """What a name means in a module, or None."""
+        if name in module.names:
+            return module.names[name][0]
+        if name in module.modules:
+            return module.modules[name]
+        for _item, path in module.uses.get(name, []):
+            if (module, name) not in seen:
+                return self.resolve(module, path, seen | {(module, name)})
+        for _item, path in module.globs:
+            target = self.resolve(module, path, seen)
+            if isinstance(target, Module) and target is not module and (target, name) not in seen:
+                found = self.named(target, name, seen | {(target, name)})
+                if found:
+                    return found
+        return None
+
+    def resolve(self, module, path, seen=frozenset()):
+        """What a path means in a module: a module or an entry, or None if it is of no crate here."""
+        first, rest = path[0], path[1:]
+        if first == "crate":
+            here = self.tree.roots[module.crate]
+        elif first == "self":
+            here = module
+        elif first == "super":
+            here = module.parent
+        else:
+            here = self.named(module, first, seen) or self.tree.roots.get(first)
+        for name in rest:
+            if isinstance(here, Module):
+                here = here.parent if name == "super" else self.named(here, name, seen)
+            elif isinstance(here, Entry):
+                here = here.members.get(name, [None])[0]
+            else:
+                return None
+        return here
+
+    def settle_impl(self, module, item):
+        """Enters an impl at its type, or at its trait if the type is of no crate here, or at a type that it speaks of."""
+        generics = generic_names(item.generics)
+        own = path_of(item.type)
+        owner = None if own and own[0] in generics else self.resolve(module, own) if own else None
+        trait = self.resolve(module, path_of(item.trait)) if item.trait else None
+        if not isinstance(owner, Entry) and not isinstance(trait, Entry):
+            paths = [[it.text] for it in [*item.trait, *item.type] if it.kind == "name" and it.text not in generics]
+            owner = next((it for it in (self.resolve(module, path) for path in paths) if isinstance(it, Entry)), None)
+        block = Entry(item, module)
+        block.trait, block.type = trait, owner
+        for place in (owner, trait):
+            if isinstance(place, Entry):
+                place.impls.append(block)
+        if isinstance(owner, Entry):
+            for child in item.children:
+                is_named = child.is_public or (item.trait and child.kind == "fn")
+                if child.kind in ("fn", "const", "type") and is_named:
+                    entry = Entry(child, module, owner)
+                    entry.block = block
+                    # A method of its own comes before one of a trait.
+                    owner.members.setdefault(child.name, []).insert(0 if not item.trait else len(owner.members[child.name]), entry)
+
+    def enter_names(self):
+        """Enters all public items by their last name, for mentions that no module's `use` line settles."""
+        for module in self.tree.public_modules():
+            self.by_name.setdefault(module.name, []).append(module)
+        for module in self.tree.modules:
+            for entry in module.entries:
+                if entry.home:
+                    self.by_name.setdefault(entry.name, []).append(entry)
+                    for found in entry.members.values():
+                        self.by_name.setdefault(found[0].name, []).append(found[0])
+
+    def mention(self, module, owner, text):
+        """What a span of prose names: what its type or its module knows by that path, or the only public item that has it."""
+        match = PATH.match(text)
+        if not match:
+            return None
+        path = match[1].split("::")
+        if path[0] == "Self" and owner:
+            path[:1] = [owner.name]
+        if owner and len(path) == 1 and path[0] in owner.members:
+            return reached(owner.members[path[0]][0])
+        found = reached(self.resolve(module, path))
+        if found:
+            return found
+        ends = "::" + "::".join(path)
+        fitting = [it for it in self.by_name.get(path[-1], []) if f"::{it.full}".endswith(ends) and reached(it)]
+        return fitting[0] if len(fitting) == 1 else None
+
+
+def reached(target):
+    """A target if it has a page, else None."""
+    if isinstance(target, Module):
+        return target if target.is_public else None
+    return target if isinstance(target, Entry) and target.home else None

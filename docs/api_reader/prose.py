@@ -1,0 +1,93 @@
+"""Doc comments as HTML: Markdown, with links on the names of public items in backticks."""
+import html
+import re
+
+from markdown_it import MarkdownIt
+
+from .code import escape, link
+
+GROUP = re.compile(r"^((?:\w+::)+)\{([\w\s,]+)\}$")
+LETTERS = re.compile(r"^[a-z_0-9]+$")
+
+
+class Prose:
+    """Writes doc comments of a tree as HTML."""
+
+    def __init__(self, code):
+        self.code, self.links = code, code.links
+        self.markdown = MarkdownIt("commonmark", {"html": False}).enable("table")
+
+    def whole(self, text, scope, level):
+        """All of a doc comment. Its headings begin at this level."""
+        tokens = self.markdown.parse(text)
+        for token in tokens:
+            if token.type in ("heading_open", "heading_close"):
+                token.tag = f"h{min(6, int(token.tag[1:]) + level - 1)}"
+            elif token.type in ("fence", "code_block"):
+                token.type, token.content = "html_block", self.example(token.content, scope)
+            elif token.type == "table_open":
+                token.type, token.content = "html_block", '<div class="wide"><table>\n'
+            elif token.type == "table_close":
+                token.type, token.content = "html_block", "</table></div>\n"
+            self.mend(token.children or [], scope)
+        return self.markdown.renderer.render(tokens, self.markdown.options, {})
+
+    def sentence(self, text, scope):
+        """The first sentence of a doc comment, without links in it."""
+        return self.markdown.renderInline(first_sentence(text))
+
+    def mend(self, children, scope):
+        """Makes links of the code in a paragraph, and plain text of links that lead to no page of the web."""
+        for child in children:
+            if child.type == "code_inline":
+                child.type, child.content = "html_inline", self.span(child.content, scope)
+            elif child.type == "link_open" and not re.match(r"https?:", child.attrGet("href") or ""):
+                child.attrs = {}
+
+    def example(self, text, scope):
+        """A block of code."""
+        return f'<pre class="example"><code>{self.code.block(text.rstrip(), scope, "example")}</code></pre>\n'
+
+    def span(self, text, scope):
+        """Code within a sentence."""
+        group = GROUP.match(text)
+        if group:
+            names = [it.strip() for it in group[2].split(",")]
+            inner = ", ".join(self.named(scope, group[1] + it, it) for it in names)
+            return f"<code>{self.named(scope, group[1][:-2], group[1][:-2])}::{{{inner}}}</code>"
+        target = self.mention(scope, text)
+        if target:
+            return f"<code>{link(target, escape(text))}</code>"
+        return f"<code>{self.code.inline(text, scope)}</code>"
+
+    def named(self, scope, path, text):
+        """A text that is a link if the path is a public item."""
+        target = self.mention(scope, path)
+        return link(target, escape(text)) if target else escape(text)
+
+    def mention(self, scope, text):
+        """What a span names. A word alone in small letters is no module and no field of another type, and one alone in others no variant, unless
+        of a type that the signature names."""
+        for entry in scope.near:
+            found = entry.members.get(text, [None])[0]
+            if found and found.kind == "variant":
+                return found
+        found = self.links.mention(scope.module, scope.owner, text)
+        if not found or "::" in text:
+            return found
+        is_own = found.kind == "mod" or found.owner is scope.owner
+        if found.kind == "mod" and found.path and LETTERS.match(text):
+            return None
+        return None if found.kind in ("field", "variant") and not is_own else found
+
+
+def first_sentence(text):
+    """The first sentence of Markdown, or its first paragraph if that ends without one."""
+    paragraph = " ".join(text.split("\n\n")[0].split())
+    match = re.match(r"((?:`[^`]*`|[^`.]|\.(?!\s|$))*\.)(?=\s|$)", paragraph)
+    return match[1] if match else paragraph.removesuffix(":")
+
+
+def plain(text):
+    """Markdown of a sentence as plain text."""
+    return re.sub(r"\[([^]]*)\]\([^)]*\)", r"\1", text.replace("`", "").replace("**", ""))
