@@ -5,41 +5,48 @@ import re
 
 # Elements that have no end.
 VOID = set("meta link input br hr img wbr col".split())
-VISIBLE = ("fn", "struct", "enum", "trait", "mod", "const", "static", "type", "use")
+VISIBLE = ("fn", "struct", "enum", "trait", "mod", "const", "static", "type", "use", "any fn")
 
 
-def public_tokens(source):
-    """How often `pub` stands before each kind of item in a source, by its tokens alone."""
+def counted_tokens(source, bodies):
+    """How often `pub` stands before each kind of item in a source, and `fn` before a name, by its tokens alone; those in bodies don't count."""
     found = dict.fromkeys(VISIBLE, 0)
     tokens = [it for it in source.tokens if it.kind not in ("comment", "doc", "inner")]
-    for at, token in enumerate(tokens):
-        if token.text == "pub" and token.kind == "name" and at + 1 < len(tokens):
-            after = [it.text for it in tokens[at + 1 : at + 6]]
+    tokens = [it for it in tokens if not any(first <= it.start < last for first, last in bodies)]
+    for at, token in enumerate(tokens[:-1]):
+        after = [it.text for it in tokens[at + 1 : at + 6]]
+        if token.text == "pub":
             while len(after) > 1 and after[0] in ("final", "const", "unsafe") and after[1] in ("fn", "unsafe", "const"):
                 after.pop(0)
             if after[0] in found:
                 found[after[0]] += 1
+        elif token.text == "fn" and tokens[at + 1].kind == "name":
+            found["any fn"] += 1
     return found
 
 
-def public_items(items, found):
-    """How many items of each kind were read as `pub`."""
+def counted_items(items, found, bodies):
+    """How many items of each kind were read as `pub`, and how many functions. Enters the places of their bodies."""
     for item in items:
         if item.is_public and item.kind in found:
             found[item.kind] += 1
-        public_items(item.children, found)
+        found["any fn"] += item.kind == "fn"
+        bodies += [item.body] if item.body else []
+        counted_items(item.children, found, bodies)
     return found
 
 
 def reading_faults(tree):
-    """A sentence for each kind of item of which a file has more than were read, or fewer. A function without `pub` counts too."""
+    """A sentence for each kind of item of which a file has more than were read, or fewer."""
     faults = []
     for path, source in tree.files.items():
-        items = next(it.items for it in tree.modules if it.source is source)
-        there, read = public_tokens(source), public_items(items, dict.fromkeys(VISIBLE, 0))
+        items, bodies = next(it.items for it in tree.modules if it.source is source), []
+        read = counted_items(items, dict.fromkeys(VISIBLE, 0), bodies)
+        there = counted_tokens(source, bodies)
         for kind in VISIBLE:
             if there[kind] != read[kind]:
-                faults.append(f"{path}: it has {there[kind]} times `pub {kind}`, and {read[kind]} were read")
+                words = kind if kind == "any fn" else f"pub {kind}"
+                faults.append(f"{path}: it has {there[kind]} times `{words}`, and {read[kind]} were read")
     return faults
 
 

@@ -53,7 +53,7 @@ class Code:
     def block(self, text, scope, kind=""):
         """Some lines of code, each in a span of its own. The kind is clause or example, or nothing for a signature."""
         lines = "".join(self.pieces(text, scope, kind)).split("\n")
-        return "".join(f'<span class="l">{line}\n</span>' for line in lines)
+        return "".join(f'<span class="l"{indented(line)}>{line}\n</span>' for line in lines)
 
     def inline(self, text, scope):
         """Code within a sentence."""
@@ -94,14 +94,17 @@ class Code:
         """A path, with a link on the longest front of it that is a public item."""
         names = path_of(tokens[at:])
         text = escape("::".join(names))
-        before = tokens[at - 1].text if at else ""
-        if kind == "clause" and before != "." and names[0] in scope.ghosts:
+        # After `x.` stands a field; after `λ x. ` stands anything.
+        is_field = at > 0 and tokens[at - 1].text == "." and tokens[at - 1].end == tokens[at].start
+        if kind == "clause" and not is_field and names[0] in scope.ghosts:
             return 1, f'<span class="g" title="{html.escape(scope.ghosts[names[0]])}">{escape(names[0])}</span>'
-        is_label = before == "." or follows(tokens, at + 2 * len(names) - 2) == ":" or names[0] in scope.generics
+        is_label = is_field or follows(tokens, at + 2 * len(names) - 2) == ":" or names[0] in scope.generics
         if is_label or (kind == "clause" and not re.match(r"[A-Z]\w", names[0])):
             return 2 * len(names) - 1, text
         for count in range(len(names), 0, -1):
             target = self.target(names[:count], scope, kind)
+            if not target and kind == "example" and follows(tokens, at) == "!":
+                target = next((it for it in self.links.by_name.get(names[0], []) if it.kind == "macro"), None)
             if target:
                 return 2 * count - 1, link(target, escape("::".join(names[:count])))
         if names[0] in KEYWORDS:
@@ -122,6 +125,12 @@ class Code:
             found = self.links.mention(scope.module, None, "::".join(names))
             return found if found and found.kind != "variant" or len(names) > 1 else None
         return found
+
+
+def indented(line):
+    """An attribute that tells how far a line is indented, so that the rest of it is too where it is wrapped."""
+    count = len(line) - len(line.lstrip(" "))
+    return f' style="--in: {count}"' if count else ""
 
 
 def follows(tokens, at):

@@ -31,13 +31,13 @@ class Cursor:
         self.at += 1
         return self.tokens[self.at - 1].text
 
-    def group(self):
-        """Steps over a bracket and what is in it; returns that text."""
+    def skip(self):
+        """Steps over a bracket and what is in it; returns where that begins and ends in the source."""
         if self.at not in self.source.closers:
             self.fail(f"a bracket has to open here, and not {self.peek() or 'the end'}")
         first, last = self.at, self.source.closers[self.at]
         self.at = last + 1
-        return self.source.text[self.tokens[first].end : self.tokens[last].start]
+        return self.tokens[first].start, self.tokens[last].end
 
     def until(self, *ends):
         """Steps on to one of these tokens outside of brackets, and returns the tokens before it."""
@@ -78,7 +78,7 @@ class Cursor:
             elif token.text == "#":
                 first = self.at
                 self.at += 2 if self.peek(1) == "!" else 1
-                self.group()
+                self.skip()
                 # An attribute of the whole file isn't one of the item below.
                 attributes += [self.cut(first)] if self.tokens[first + 1].text != "!" else []
             else:
@@ -91,5 +91,5 @@ class Cursor:
         if self.peek() == "pub":
             self.at += 1
             if self.peek() == "(" and self.peek(1) in ("crate", "super", "self", "in"):
-                self.group()
+                self.skip()
         return self.cut(first) if self.at > first else ""

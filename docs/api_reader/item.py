@@ -19,8 +19,8 @@ class Item:
         self.signature, self.clauses, self.children = "", [], []
         # The tokens of its generics; of an impl, those of its trait and of its type; of a use, its paths.
         self.generics, self.trait, self.type, self.paths = [], [], [], []
-        # Of a module whether it stands in a file of its own, and of a function whether it has a body.
-        self.has_file, self.has_body = False, False
+        # Of a module whether it stands in a file of its own; and where the text of a body begins and ends that wasn't read.
+        self.has_file, self.body = False, None
 
     @property
     def is_public(self):

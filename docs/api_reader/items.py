@@ -74,7 +74,7 @@ class Reader(Shapes):
                 self.fail(f"no clause begins with {token.text}")
             first = self.at
             self.until("{")
-            self.group()
+            self.skip()
             item.clauses.append(Clause(self.cut(first), note_text(notes)))
             notes = []
 
@@ -90,9 +90,8 @@ class Reader(Shapes):
         item.signature = self.cut(first, last).rstrip()
         self.at = last
         self.clauses(item)
-        item.has_body = self.peek() == "{"
-        if item.has_body:
-            self.group()
+        if self.peek() == "{":
+            item.body = self.skip()
         else:
             self.expect(";")
         return item
@@ -205,15 +204,16 @@ class Reader(Shapes):
         self.expect("macro_rules")
         self.expect("!")
         item = Item("macro", self.name(), self.source, self.tokens[first].start)
-        end = self.source.closers[self.at]
-        self.at += 1
+        end, first = self.source.closers[self.at], self.at
+        item.body = self.skip()
+        self.at = first + 1
         arms = []
         while self.at < end:
             arm = self.at
-            self.group()
+            self.skip()
             arms.append(self.cut(arm))
             self.expect("=>")
-            self.group()
+            self.skip()
             self.at += self.peek() == ";"
         self.at = end + 1
         item.signature = "\n".join(["macro_rules! " + item.name + " {", *(f"    {arm} => {{ .. }};" for arm in arms), "}"])
@@ -223,7 +223,7 @@ class Reader(Shapes):
         """A macro that writes items. What it writes isn't known here."""
         item = Item("call", self.name(), self.source, self.tokens[first].start)
         self.expect("!")
-        self.group()
+        item.body = self.skip()
         self.at += self.peek() == ";"
         item.signature = self.cut(first)
         return item

@@ -154,6 +154,9 @@ class Links:
             return found
         ends = "::" + "::".join(path)
         fitting = [it for it in self.by_name.get(path[-1], []) if f"::{it.full}".endswith(ends) and reached(it)]
+        # A name alone is rather an item of a module than a part of a type.
+        free = [it for it in fitting if not getattr(it, "owner", None)]
+        fitting = free if len(path) == 1 and free else fitting
         return fitting[0] if len(fitting) == 1 else None
 
 

@@ -39,7 +39,7 @@ class Pages:
         """What a module's page has in its main part."""
         scope = Scope(module)
         parts = [f'<h1><span class="kind">{kind_of(module)}</span> {crumbs(module)}</h1>']
-        parts.append(f'<p class="file">{module.source.path}</p>')
+        parts.append(f'<p class="file">{place(module.source.path)}</p>')
         parts.append(f'<div class="docs">{self.prose.whole(module.docs, scope, 2)}</div>' if module.docs else "")
         parts.append(self.overview(module))
         for heading, entries in self.places.sections(module):
@@ -86,7 +86,7 @@ class Pages:
         scope = self.scope(entry)
         item = entry.item
         name = escape(entry.name) + ("!" if entry.kind == "macro" else "")
-        where = f'<span class="file">{item.source.path}:{item.source.line(item.at)}</span>'
+        where = f' <span class="file">{place(f"{item.source.path}:{item.source.line(item.at)}")}</span>'
         head = f'<h3><span class="kind">{kind_of(entry)}</span> <a href="#{entry.anchor}">{name}</a></h3>{where}'
         parts = [f'<section class="item" id="{entry.anchor}">', head, self.signature(item, scope), self.docs(item, scope, 4)]
         if entry.kind in ("struct", "enum"):
@@ -148,7 +148,7 @@ class Pages:
     def method(self, member, scope, level=5):
         """A method, a constant or a type of a type or a trait."""
         item = member.item
-        word = "provided " if member.owner.kind == "trait" and item.has_body else ""
+        word = "provided " if member.owner.kind == "trait" and item.body else ""
         kind = word + ("associated type" if member.kind == "type" else kind_of(member))
         head = f'<h{level}><span class="kind">{kind}</span> <a href="#{member.anchor}">{escape(member.name)}</a></h{level}>'
         inner = self.signature(item, scope) + self.docs(item, scope, level + 1) + self.contracts.folded(clauses_of(item), scope, 6)
@@ -210,6 +210,11 @@ def private_gone(item):
             if not field.is_public:
                 text = re.sub(rf"(?<=[(\s]){re.escape(field.signature)}(?=[,)])", "_", text, count=1)
     return text
+
+
+def place(path):
+    """A path of a file, which a line may break after each slash."""
+    return escape(path).replace("/", "/<wbr>")
 
 
 def anchor_of(heading):

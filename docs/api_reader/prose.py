@@ -20,7 +20,10 @@ class Prose:
     def whole(self, text, scope, level):
         """All of a doc comment. Its headings begin at this level."""
         tokens = self.markdown.parse(text)
+        definitions = definition_cells(tokens)
         for token in tokens:
+            if token in definitions:
+                continue
             if token.type in ("heading_open", "heading_close"):
                 token.tag = f"h{min(6, int(token.tag[1:]) + level - 1)}"
             elif token.type in ("fence", "code_block"):
@@ -54,16 +57,18 @@ class Prose:
         if group:
             names = [it.strip() for it in group[2].split(",")]
             inner = ", ".join(self.named(scope, group[1] + it, it) for it in names)
-            return f"<code>{self.named(scope, group[1][:-2], group[1][:-2])}::{{{inner}}}</code>"
+            prefix = group[1].removesuffix("::")
+            above = self.links.mention(scope.module, scope.owner, prefix)
+            return f"<code>{link(above, broken(prefix)) if above else broken(prefix)}::<wbr>{{{inner}}}</code>"
         target = self.mention(scope, text)
         if target:
-            return f"<code>{link(target, escape(text))}</code>"
+            return f"<code>{link(target, broken(text))}</code>"
         return f"<code>{self.code.inline(text, scope)}</code>"
 
     def named(self, scope, path, text):
         """A text that is a link if the path is a public item."""
         target = self.mention(scope, path)
-        return link(target, escape(text)) if target else escape(text)
+        return link(target, broken(text)) if target else broken(text)
 
     def mention(self, scope, text):
         """What a span names. A word alone in small letters is no module and no field of another type, and one alone in others no variant, unless
@@ -79,6 +84,22 @@ class Prose:
         if found.kind == "mod" and found.path and LETTERS.match(text):
             return None
         return None if found.kind in ("field", "variant") and not is_own else found
+
+
+def definition_cells(tokens):
+    """The cells of tables that name files of definitions: the first of each row below the head `Definitions`. Such a name isn't an item's."""
+    found, is_definitions = [], False
+    for row, cell, inner in zip(tokens, tokens[1:], tokens[2:]):
+        if row.type == "tr_open" and cell.type == "th_open":
+            is_definitions = inner.content == "Definitions"
+        elif row.type == "tr_open" and is_definitions:
+            found.append(inner)
+    return found
+
+
+def broken(text):
+    """A path, which a line may break after each pair of colons."""
+    return escape(text).replace("::", "::<wbr>")
 
 
 def first_sentence(text):

@@ -29,12 +29,19 @@ function element(name, className, text) {
   return made;
 }
 
+// A path that a line may break after each pair of colons.
+function pathElement(path) {
+  const made = element("span", "path");
+  for (const part of path.split(/(?<=::)/)) made.append(part, element("wbr"));
+  return made;
+}
+
 function row([, path, kind, sentence, place]) {
   const made = element("li");
   const link = element("a");
   link.href = place;
   link.addEventListener("click", () => show(""));
-  link.append(element("span", "what", kind), element("span", "path", path));
+  link.append(element("span", "what", kind), pathElement(path));
   if (sentence) link.append(element("span", "sentence", sentence));
   made.append(link);
   return made;
