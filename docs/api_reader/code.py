@@ -122,8 +122,7 @@ class Code:
         if found and found.kind == "mod" and len(names) == 1:
             return None
         if not found and kind == "example" and names[0][0].isupper():
-            found = self.links.mention(scope.module, None, "::".join(names))
-            return found if found and found.kind != "variant" or len(names) > 1 else None
+            return self.links.mention(Scope(scope.module), "::".join(names))
         return found
 
 

@@ -139,25 +139,42 @@ class Links:
                     for found in entry.members.values():
                         self.by_name.setdefault(found[0].name, []).append(found[0])
 
-    def mention(self, module, owner, text):
-        """What a span of prose names: what its type or its module knows by that path, or the only public item that has it."""
+    def mention(self, scope, text):
+        """What a span of prose names, or None: a variant of a type in the signature, what its module or its type knows by that path, what its
+        crate's root knows, or the only public item that has it."""
         match = PATH.match(text)
         if not match:
             return None
-        path = match[1].split("::")
-        if path[0] == "Self" and owner:
-            path[:1] = [owner.name]
-        if owner and len(path) == 1 and path[0] in owner.members:
-            return reached(owner.members[path[0]][0])
-        found = reached(self.resolve(module, path))
-        if found:
-            return found
+        path, is_macro = match[1].split("::"), text[match.end(1) :].startswith("!")
+        if path[0] == "Self" and scope.owner:
+            path[:1] = [scope.owner.name]
+        if is_macro:
+            return next((it for it in self.by_name.get(path[-1], []) if it.kind == "macro"), None)
+        own = scope.owner.members.get(path[0], [None])[0] if scope.owner and len(path) == 1 else None
+        near = [it for entry in scope.near for it in entry.members.get(path[0], []) if it.kind == "variant" and len(path) == 1]
+        for found in (*near, self.resolve(scope.module, path), own, self.resolve(self.tree.roots[scope.module.crate], path)):
+            # A word alone is no module, but it may be a crate.
+            is_module = isinstance(found, Module) and len(path) == 1 and found.path
+            if reached(found) and not is_module:
+                return found
+        return self.only(scope.module, path)
+
+    def only(self, module, path):
+        """The only public item whose path ends so, or None. A word alone is no field and no variant, and an item of a module rather than a
+        method; in small letters, which may be any word, it is looked for in the modules above and below alone."""
         ends = "::" + "::".join(path)
-        fitting = [it for it in self.by_name.get(path[-1], []) if f"::{it.full}".endswith(ends) and reached(it)]
-        # A name alone is rather an item of a module than a part of a type.
-        free = [it for it in fitting if not getattr(it, "owner", None)]
-        fitting = free if len(path) == 1 and free else fitting
+        fitting = [it for it in self.by_name.get(path[-1], []) if f"::{it.full}".endswith(ends) and it.kind != "macro"]
+        if len(path) == 1:
+            fitting = [it for it in fitting if isinstance(it, Entry) and it.kind not in ("field", "variant")]
+            if path[0].islower():
+                fitting = [it for it in fitting if is_above(it.home, module) or is_above(module, it.home)]
+            fitting = [it for it in fitting if not it.owner] or fitting
         return fitting[0] if len(fitting) == 1 else None
+
+
+def is_above(module, other):
+    """Whether a module is another one, or has it in itself."""
+    return module.crate == other.crate and other.path[: len(module.path)] == module.path
 
 
 def reached(target):

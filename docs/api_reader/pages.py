@@ -45,6 +45,7 @@ class Pages:
         for heading, entries in self.places.sections(module):
             parts.append(f'<h2 id="{anchor_of(heading)}">{heading}</h2>')
             parts += [self.entry(it) for it in entries]
+        parts.append(self.calls(module))
         parts.append(self.unreached(module) if not module.path else "")
         return "\n".join(it for it in parts if it)
 
@@ -53,25 +54,34 @@ class Pages:
         parts = []
         modules = self.places.submodules(module)
         if modules:
-            parts.append(self.rows("Modules", [(link(it, it.name), it.docs, Scope(it)) for it in modules]))
+            parts.append(self.rows("Modules", [(link(it, it.name), it.docs) for it in modules]))
         named = []
         for _item, target, name in self.places.reexports(module):
             seen = reached(target)
             shown = f"{link(seen, escape(name))} <small>{kind_of(seen)} of {escape(seen.full.rpartition('::')[0] or seen.full)}</small>" if seen else escape(name)
             docs = (target.docs if target.kind == "mod" else target.item.docs) if target else ""
-            named.append((shown, docs, Scope(module)))
+            named.append((shown, docs))
         if named:
             parts.append(self.rows("Re-exports", named))
         for heading, entries in self.places.sections(module):
-            rows = [(link(it, escape(it.name) + ("!" if it.kind == "macro" else "")), it.item.docs, Scope(it.module)) for it in entries]
+            rows = [(link(it, escape(it.name) + ("!" if it.kind == "macro" else "")), it.item.docs) for it in entries]
             parts.append(self.rows(heading, rows))
         return f'<section class="overview" aria-label="Overview">{"".join(parts)}</section>'
 
     def rows(self, heading, rows):
         """A list of names with the first sentences of their docs."""
-        lines = "".join(f"<li><code>{name}</code> <span>{self.prose.sentence(docs, scope)}</span></li>" for name, docs, scope in rows)
+        lines = "".join(f"<li><code>{name}</code> <span>{self.prose.sentence(docs)}</span></li>" for name, docs in rows)
         anchor = f' id="{anchor_of(heading)}"' if heading in ("Modules", "Re-exports") else ""
         return f"<h2{anchor}>{heading}</h2><ul class=\"rows\">{lines}</ul>"
+
+    def calls(self, module):
+        """The macros that a module, or a private one in it, calls for items. What they write isn't known here."""
+        calls = self.places.calls(module)
+        if not calls:
+            return ""
+        scope = Scope(module)
+        rows = "".join(self.signature(it, scope) + self.docs(it, scope, 4) for it in calls)
+        return f"<h2>Written by macros</h2><p>These calls write items that aren't listed here.</p>{rows}"
 
     def unreached(self, module):
         """The items of a crate that are public in their module alone."""

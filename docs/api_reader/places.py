@@ -67,6 +67,11 @@ class Places:
             if not (isinstance(target, Entry) and target.home is module):
                 yield item, target, name
 
+    def calls(self, module):
+        """The macros that a module calls for items, and those that its private modules do."""
+        own = [it for it in module.items if it.kind == "call"]
+        return own + [call for it in module.modules.values() if not it.is_public for call in self.calls(it)]
+
     def counts(self):
         """How many public items there are of each kind, those of types and traits too."""
         found = {"mod": len(self.on_page), "method": 0, "variant": 0, "field": 0}

@@ -5,9 +5,9 @@ import re
 from markdown_it import MarkdownIt
 
 from .code import escape, link
+from .links import reached
 
 GROUP = re.compile(r"^((?:\w+::)+)\{([\w\s,]+)\}$")
-LETTERS = re.compile(r"^[a-z_0-9]+$")
 
 
 class Prose:
@@ -35,12 +35,15 @@ class Prose:
             self.mend(token.children or [], scope)
         return self.markdown.renderer.render(tokens, self.markdown.options, {})
 
-    def sentence(self, text, scope):
+    def sentence(self, text):
         """The first sentence of a doc comment, without links in it."""
-        return self.markdown.renderInline(first_sentence(text))
+        tokens = self.markdown.parseInline(first_sentence(text))
+        for token in tokens:
+            token.children = [it for it in token.children if it.type not in ("link_open", "link_close")]
+        return self.markdown.renderer.render(tokens, self.markdown.options, {})
 
     def mend(self, children, scope):
-        """Makes links of the code in a paragraph, and plain text of links that lead to no page of the web."""
+        """Makes links of the code in a paragraph. A link to a file of the repository loses its place, which isn't there beside these pages."""
         for child in children:
             if child.type == "code_inline":
                 child.type, child.content = "html_inline", self.span(child.content, scope)
@@ -58,32 +61,17 @@ class Prose:
             names = [it.strip() for it in group[2].split(",")]
             inner = ", ".join(self.named(scope, group[1] + it, it) for it in names)
             prefix = group[1].removesuffix("::")
-            above = self.links.mention(scope.module, scope.owner, prefix)
+            above = self.links.mention(scope, prefix) or reached(self.links.resolve(scope.module, prefix.split("::")))
             return f"<code>{link(above, broken(prefix)) if above else broken(prefix)}::<wbr>{{{inner}}}</code>"
-        target = self.mention(scope, text)
+        target = self.links.mention(scope, text)
         if target:
             return f"<code>{link(target, broken(text))}</code>"
         return f"<code>{self.code.inline(text, scope)}</code>"
 
     def named(self, scope, path, text):
         """A text that is a link if the path is a public item."""
-        target = self.mention(scope, path)
+        target = self.links.mention(scope, path)
         return link(target, broken(text)) if target else broken(text)
-
-    def mention(self, scope, text):
-        """What a span names. A word alone in small letters is no module and no field of another type, and one alone in others no variant, unless
-        of a type that the signature names."""
-        for entry in scope.near:
-            found = entry.members.get(text, [None])[0]
-            if found and found.kind == "variant":
-                return found
-        found = self.links.mention(scope.module, scope.owner, text)
-        if not found or "::" in text:
-            return found
-        is_own = found.kind == "mod" or found.owner is scope.owner
-        if found.kind == "mod" and found.path and LETTERS.match(text):
-            return None
-        return None if found.kind in ("field", "variant") and not is_own else found
 
 
 def definition_cells(tokens):

@@ -4,7 +4,7 @@ import json
 import os
 import shutil
 
-from .code import Code, Scope, kind_of, link
+from .code import Code, kind_of, link
 from .links import Links
 from .pages import Pages, anchor_of
 from .places import Places
@@ -94,7 +94,7 @@ class Site:
         for crate, module in self.tree.roots.items():
             own = [it for it in self.places.on_page if it.crate == crate]
             count = sum(len(self.places.on_page[it]) for it in own)
-            sentence = self.prose.sentence(module.docs, Scope(module))
+            sentence = self.prose.sentence(module.docs)
             inner = " ".join(link(it, f"<code>{html.escape('::'.join(it.path))}</code>") for it in sorted(own, key=lambda it: it.path) if it.path)
             below = f'<p class="modules">{inner}</p>' if inner else ""
             parts.append(f'<section class="crate" id="{crate}"><h2>{link(module, crate)} <small>{count} item{"s" if count != 1 else ""}</small></h2><p>{sentence}</p>{below}</section>')

@@ -83,8 +83,11 @@ class Tree:
         """The module of a file, and those in it."""
         if not os.path.exists(f"{self.root}/{file}"):
             raise SourceError(f"{file}: it has the module {'::'.join([crate, *path])}, and isn't there")
-        with open(f"{self.root}/{file}", encoding="utf-8") as opened:
-            source = Source(file, opened.read())
+        try:
+            with open(f"{self.root}/{file}", encoding="utf-8") as opened:
+                source = Source(file, opened.read())
+        except (OSError, UnicodeDecodeError) as error:
+            raise SourceError(f"{file}: it can't be read: {error}") from error
         self.files[file] = source
         inner, items = read_file(source)
         return self.fill(Module(crate, path, parent, inner or docs, items, source, is_public), os.path.dirname(file))
