@@ -47,8 +47,8 @@ def kind_of(target):
 class Code:
     """Writes code of a tree as HTML."""
 
-    def __init__(self, links):
-        self.links = links
+    def __init__(self, links, definitions):
+        self.links, self.definitions = links, definitions
 
     def block(self, text, scope, kind=""):
         """Some lines of code, each in a span of its own. The kind is clause or example, or nothing for a signature."""
@@ -97,7 +97,10 @@ class Code:
         # After `x.` stands a field; after `λ x. ` stands anything.
         is_field = at > 0 and tokens[at - 1].text == "." and tokens[at - 1].end == tokens[at].start
         if kind == "clause" and not is_field and names[0] in scope.ghosts:
-            return 1, f'<span class="g" title="{html.escape(scope.ghosts[names[0]])}">{escape(names[0])}</span>'
+            where = scope.ghosts[names[0]]
+            place, title = self.definitions.target(where), html.escape("::".join([*where[0].split("."), where[1]]))
+            start, end = (f'a href="{html.escape(place)}"', "a") if place else ("span", "span")
+            return 1, f'<{start} class="g" title="{title}">{escape(names[0])}</{end}>'
         is_label = is_field or follows(tokens, at + 2 * len(names) - 2) == ":" or names[0] in scope.generics
         if is_label or (kind == "clause" and not re.match(r"[A-Z]\w", names[0])):
             return 2 * len(names) - 1, text

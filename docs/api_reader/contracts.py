@@ -1,41 +1,26 @@
 """Contracts as HTML: clauses, what is above them, and the files that define their names."""
 import html
-import os
 import re
 
-GHOST_USE = re.compile(r"ghost use ([\w.]+?)(?:\.\{(.*)\}| as (\w+))?$", re.DOTALL)
-NAMES = re.compile(r"([^\W\d]\w*'*)(?: as ([^\W\d]\w*))?", re.UNICODE)
+from .definitions import imported
+
+NAMES = re.compile(r"[^\W\d]\w*'*", re.UNICODE)
 
 
-def ghosts_of(items, root):
-    """The names that contracts of these items import, each with the file of this tree that defines it, or with its path."""
+def ghosts_of(items):
+    """The names that contracts of these items import, each with the path and the name of its definition."""
     found = {}
     for item in items:
-        match = GHOST_USE.match(item.signature) if item.kind == "ghost use" else None
-        if match:
-            where = place_of(match[1], root)
-            names = [it.strip() for it in (match[2] or "").split(",")]
-            if match[2] is None:
-                names = [match[3] or match[1].split(".")[-1]]
-            for name in names:
-                word = NAMES.fullmatch(name)
-                if word:
-                    found[word[2] or word[1]] = where
+        if item.kind == "ghost use":
+            found.update(imported(item.signature))
     return found
-
-
-def place_of(path, root):
-    """Where the definitions of an imported path stand."""
-    parts = path.removeprefix("Rattle.").split(".")
-    file = f"crates/{parts[0]}/" + "/".join(parts[1:]) + ".antt"
-    return file if os.path.exists(f"{root}/{file}") else ".".join(parts)
 
 
 class Contracts:
     """Writes contracts as HTML."""
 
-    def __init__(self, code, prose, root):
-        self.code, self.prose, self.root = code, prose, root
+    def __init__(self, code, prose):
+        self.code, self.prose, self.definitions = code, prose, code.definitions
 
     def folded(self, clauses, scope, level, word="Contract"):
         """A contract that unfolds: pairs of a clause's text and what is said above it."""
@@ -54,17 +39,18 @@ class Contracts:
         files = {}
         for text, _note in clauses:
             for match in NAMES.finditer(text):
-                file = scope.ghosts.get(match[1], "")
-                if file.endswith(".antt"):
-                    files.setdefault(file, {})[match[1]] = True
-        if not files:
-            return ""
-        rows = "".join(f"<li>{names_text(names)}: <span class=\"file\">{html.escape(file)}</span></li>" for file, names in files.items())
-        return f'<p class="label">Defined in</p><ul class="defined">{rows}</ul>'
+                where = scope.ghosts.get(match[0])
+                target = self.definitions.target(where) if where else None
+                if target:
+                    files.setdefault(where[0], {})[match[0]] = target
+        rows = "".join(self.names(path, names) for path, names in files.items())
+        return f'<p class="label">Defined in</p><ul class="defined">{rows}</ul>' if rows else ""
 
-
-def names_text(names):
-    return ", ".join(f"<code>{html.escape(it)}</code>" for it in names)
+    def names(self, path, names):
+        """A file of definitions, and names that it defines."""
+        file = self.definitions.files[path]
+        links = ", ".join(f'<a href="{html.escape(target)}"><code>{html.escape(name)}</code></a>' for name, target in names.items())
+        return f'<li>{links}: <a class="file" href="{file.page}">{html.escape(file.file)}</a></li>'
 
 
 def clauses_of(item):

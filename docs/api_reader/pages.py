@@ -15,16 +15,16 @@ class Pages:
 
     def __init__(self, places, code, prose):
         self.places, self.links, self.code, self.prose = places, places.links, code, prose
-        self.contracts = Contracts(code, prose, places.tree.root)
+        self.contracts = Contracts(code, prose)
         self.ghosts = {}
 
     def scope(self, entry, block=None):
         """The scope of an item, or of an impl's or a trait's part."""
         module = entry.module
         if module not in self.ghosts:
-            self.ghosts[module] = ghosts_of(module.items, self.places.tree.root)
+            self.ghosts[module] = ghosts_of(module.items)
         above = block.item if block else entry.owner.item if entry.owner else entry.item
-        ghosts = {**self.ghosts[module], **ghosts_of(above.children, self.places.tree.root)}
+        ghosts = {**self.ghosts[module], **ghosts_of(above.children)}
         owner = entry.owner or (entry if entry.kind in ("struct", "enum", "trait") else None)
         scope = Scope(module, owner, (), ghosts, self.near(module, entry.item.signature)).inside(entry.item)
         return scope.inside(above)
@@ -66,12 +66,15 @@ class Pages:
         for heading, entries in self.places.sections(module):
             rows = [(link(it, escape(it.name) + ("!" if it.kind == "macro" else "")), it.item.docs) for it in entries]
             parts.append(self.rows(heading, rows))
+        files = [] if module.path else self.code.definitions.of(module.crate)
+        if files:
+            parts.append(self.rows("Definitions", [(link(it, escape(it.name)), it.docs) for it in files]))
         return f'<section class="overview" aria-label="Overview">{"".join(parts)}</section>'
 
     def rows(self, heading, rows):
         """A list of names with the first sentences of their docs."""
         lines = "".join(f"<li><code>{name}</code> <span>{self.prose.sentence(docs)}</span></li>" for name, docs in rows)
-        anchor = f' id="{anchor_of(heading)}"' if heading in ("Modules", "Re-exports") else ""
+        anchor = f' id="{anchor_of(heading)}"' if heading in ("Modules", "Re-exports", "Definitions") else ""
         return f"<h2{anchor}>{heading}</h2><ul class=\"rows\">{lines}</ul>"
 
     def calls(self, module):

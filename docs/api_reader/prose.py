@@ -23,6 +23,7 @@ class Prose:
         definitions = definition_cells(tokens)
         for token in tokens:
             if token in definitions:
+                self.mend_definition(token.children, scope)
                 continue
             if token.type in ("heading_open", "heading_close"):
                 token.tag = f"h{min(6, int(token.tag[1:]) + level - 1)}"
@@ -50,12 +51,22 @@ class Prose:
             elif child.type == "link_open" and not re.match(r"https?:", child.attrGet("href") or ""):
                 child.attrs = {}
 
+    def mend_definition(self, children, scope):
+        """Makes a link of the name of a file of definitions."""
+        for child in children:
+            if child.type == "code_inline":
+                file = self.code.definitions.files.get(f"{scope.module.crate}.specs.{child.content}")
+                child.type, child.content = "html_inline", f"<code>{link(file, escape(child.content)) if file else escape(child.content)}</code>"
+
     def example(self, text, scope):
         """A block of code."""
         return f'<pre class="example"><code>{self.code.block(text.rstrip(), scope, "example")}</code></pre>\n'
 
     def span(self, text, scope):
         """Code within a sentence."""
+        file = self.code.definitions.files.get(f"{scope.module.crate}.{text.removesuffix('.antt').replace('/', '.')}")
+        if file and text.endswith(".antt"):
+            return f"<code>{link(file, escape(text))}</code>"
         group = GROUP.match(text)
         if group:
             names = [it.strip() for it in group[2].split(",")]

@@ -8,8 +8,8 @@ const MOST = 60;
 
 // How well an item fits some words: 0 if one of them is nowhere in it, and else more for a match in its name than in its path or its sentence.
 function fitness(item, words) {
-  const [name, path, , sentence] = item.map((it) => it.toLowerCase());
-  let sum = 0;
+  const [name, path, kind, sentence] = item.map((it) => it.toLowerCase());
+  let sum = kind === "definition" ? 0 : 15;
   for (const word of words) {
     if (name === word) sum += 100;
     else if (name.startsWith(word)) sum += 60;

@@ -5,6 +5,7 @@ import os
 import shutil
 
 from .code import Code, kind_of, link
+from .definitions import Definitions
 from .links import Links
 from .pages import Pages, anchor_of
 from .places import Places
@@ -54,7 +55,8 @@ class Site:
         self.tree = Tree(root, crates)
         self.links = Links(self.tree)
         self.places = Places(self.tree, self.links)
-        self.code = Code(self.links)
+        self.definitions = Definitions(root, crates)
+        self.code = Code(self.links, self.definitions)
         self.prose = Prose(self.code)
         self.pages = Pages(self.places, self.code, self.prose)
 
@@ -64,6 +66,8 @@ class Site:
         files = {"index.html": self.index(), "names.js": self.names()}
         for module in self.places.on_page:
             files[module.page] = PAGE.format(title=html.escape(module.full), side=self.side(module), main=self.pages.module(module))
+        for file in self.definitions.files.values():
+            files[file.page] = PAGE.format(title=html.escape(file.full), side=self.definitions_side(file), main=self.definitions.main(file))
         for name in os.listdir(folder):
             if name.endswith(".html") and name not in files:
                 os.remove(f"{folder}/{name}")
@@ -84,8 +88,14 @@ class Site:
             parts.append(f'<h2><a href="#{anchor_of(heading)}">{heading}</a></h2><ul>{rows}</ul>')
         return f'<nav aria-label="Modules and items">{"".join(parts)}</nav>'
 
+    def definitions_side(self, file):
+        """The list beside a page of definitions: its crate, and that crate's files."""
+        rows = "".join(f"<li>{self.side_row(it, it is file)}</li>" for it in self.definitions.of(file.crate))
+        root = self.tree.roots[file.crate]
+        return f'<nav aria-label="Definitions"><h2>Crate</h2><ul><li>{self.side_row(root, False)}</li></ul><h2>Definitions</h2><ul>{rows}</ul></nav>'
+
     def side_row(self, module, is_here):
-        name = html.escape("::".join(module.path) or module.crate)
+        name = html.escape(module.name if module.kind == "definitions" else "::".join(module.path) or module.crate)
         return f'<a href="{module.page}" aria-current="page">{name}</a>' if is_here else f'<a href="{module.page}">{name}</a>'
 
     def index(self):
@@ -106,5 +116,9 @@ class Site:
         rows = [[it.name, it.full, kind_of(it), plain(first_sentence(it.docs)), it.href] for it in self.places.on_page]
         for entry in self.places.all():
             rows.append([entry.name, entry.full, kind_of(entry), plain(first_sentence(entry.item.docs)), entry.href])
+        for file in self.definitions.files.values():
+            for name, at in file.names.items():
+                sentence = first_sentence(file.above(at).replace("`", ""))
+                rows.append([name, f"{file.full}::{name}", "definition", sentence, f"{file.page}#{name}"])
         lines = ",\n".join(json.dumps(row, ensure_ascii=False) for row in rows)
         return f"const NAMES = [\n{lines}\n];\n"
