@@ -58,6 +58,7 @@ class Parsed(html.parser.HTMLParser):
         self.open, self.anchors, self.links, self.faults = [], set(), [], []
 
     def handle_starttag(self, tag, attrs):
+        """Notes what begins."""
         for name, value in attrs:
             if name == "id":
                 self.faults += [f"the anchor {value} stands there twice"] if value in self.anchors else []
@@ -70,6 +71,7 @@ class Parsed(html.parser.HTMLParser):
             self.faults.append(f"line {self.getpos()[0]} has a link within a link")
 
     def handle_endtag(self, tag):
+        """Notes what ends."""
         if not self.open or self.open.pop() != tag:
             self.faults.append(f"line {self.getpos()[0]} ends a {tag} that isn't open")
             self.open = []

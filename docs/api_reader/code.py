@@ -26,6 +26,7 @@ class Scope:
 
 
 def escape(text):
+    """A text as HTML."""
     return html.escape(text, quote=False)
 
 
@@ -36,7 +37,7 @@ def link(target, inner):
 
 def kind_of(target):
     """What a target is, in a word."""
-    words = {"mod": "module", "fn": "function", "const": "constant", "type": "type"}
+    words = {"mod": "module", "fn": "function", "const": "constant", "ghost": "ghost item"}
     if target.kind == "fn" and getattr(target, "owner", None):
         return "method"
     if target.kind == "mod" and not target.path:
@@ -98,7 +99,9 @@ class Code:
         is_field = at > 0 and tokens[at - 1].text == "." and tokens[at - 1].end == tokens[at].start
         if kind == "clause" and not is_field and names[0] in scope.ghosts:
             where = scope.ghosts[names[0]]
-            place, title = self.definitions.target(where), html.escape("::".join([*where[0].split("."), where[1]]))
+            declared = self.links.declared(where)
+            place = self.definitions.target(where) or (declared.href if declared else None)
+            title = html.escape("::".join([*where[0].split("."), where[1]]))
             start, end = (f'a href="{html.escape(place)}"', "a") if place else ("span", "span")
             return 1, f'<{start} class="g" title="{title}">{escape(names[0])}</{end}>'
         is_label = is_field or follows(tokens, at + 2 * len(names) - 2) == ":" or names[0] in scope.generics

@@ -23,21 +23,23 @@ class Contracts:
         self.code, self.prose, self.definitions = code, prose, code.definitions
 
     def folded(self, clauses, scope, level, word="Contract"):
-        """A contract that unfolds: pairs of a clause's text and what is said above it."""
+        """A contract that unfolds: of each clause its text, what is said above it, and its anchor if it has one."""
         if not clauses:
             return ""
         count = f"{len(clauses)} clause" + ("s" if len(clauses) != 1 else "")
-        inner = "".join(self.clause(text, note, scope, level) for text, note in clauses)
+        inner = "".join(self.clause(*clause, scope, level) for clause in clauses)
         return f'<details class="contract"><summary>{word} ({count})</summary>{inner}{self.defined(clauses, scope)}</details>\n'
 
-    def clause(self, text, note, scope, level):
+    def clause(self, text, note, anchor, scope, level):
+        """A clause below what is said above it."""
+        place = f' id="{anchor}"' if anchor else ""
         above = f'<div class="note">{self.prose.whole(note, scope, level)}</div>' if note else ""
-        return f'{above}<pre class="clause"><code>{self.code.block(text, scope, "clause")}</code></pre>'
+        return f'{above}<pre class="clause"{place}><code>{self.code.block(text, scope, "clause")}</code></pre>'
 
     def defined(self, clauses, scope):
         """The files that define names of these clauses."""
         files = {}
-        for text, _note in clauses:
+        for text, _note, _anchor in clauses:
             for match in NAMES.finditer(text):
                 where = scope.ghosts.get(match[0])
                 target = self.definitions.target(where) if where else None
@@ -53,10 +55,11 @@ class Contracts:
         return f'<li>{links}: <a class="file" href="{file.page}">{html.escape(file.file)}</a></li>'
 
 
-def clauses_of(item):
-    """The clauses of a function, and the ghost items of a trait or an impl."""
-    found = [(it.text, it.note) for it in item.clauses]
+def clauses_of(item, members=None):
+    """The clauses of a function, and the ghost items of a trait, an impl or a struct; with their anchors, if they are among these members."""
+    found = [(it.text, it.note, "") for it in item.clauses]
     for child in item.children:
         if child.kind == "ghost":
-            found.append((child.signature, child.docs or child.note))
+            anchor = members[child.name][0].anchor if members and child.name in members else ""
+            found.append((child.signature, child.docs or child.note, anchor))
     return found

@@ -64,8 +64,8 @@ class File:
 class Definitions:
     """All files of definitions of some crates."""
 
-    def __init__(self, root, crates):
-        self.files = {}
+    def __init__(self, root, crates, links):
+        self.files, self.links = {}, links
         for crate in crates:
             for folder, _folders, names in sorted(os.walk(f"{root}/crates/{crate}/specs")):
                 for name in sorted(names):
@@ -117,4 +117,7 @@ class Definitions:
         is_field = line[: match.start()].endswith(".") and not USES.match(line)
         where = (".".join(file.path), name) if name in file.own else file.scope.get(name)
         target = self.target(where) if where and not is_field else None
+        if where and not is_field and not target:
+            declared = self.links.declared(where)
+            target = declared.href if declared else None
         return f'<a href="{html.escape(target)}">{html.escape(name)}</a>' if target else html.escape(name)

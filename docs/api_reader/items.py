@@ -79,6 +79,7 @@ class Reader(Shapes):
             notes = []
 
     def read_fn(self, first):
+        """Reads a function, with its clauses."""
         while self.peek() != "fn":
             self.at += 1
         item = self.begun("fn", "fn", first)
@@ -97,6 +98,7 @@ class Reader(Shapes):
         return item
 
     def read_use(self, first):
+        """Reads a use line."""
         self.expect("use")
         item = Item("use", "", self.source, self.tokens[first].start)
         item.paths = list(self.use_tree([]))
@@ -138,6 +140,7 @@ class Reader(Shapes):
         return self.name()
 
     def read_mod(self, first):
+        """Reads a module."""
         item = self.begun("mod", "mod", first)
         item.has_file = self.peek() == ";"
         if item.has_file:
@@ -155,6 +158,7 @@ class Reader(Shapes):
         return found
 
     def read_trait(self, first):
+        """Reads a trait."""
         item = self.begun("trait", "trait", first)
         self.until("{")
         item.signature = self.cut(first)
@@ -162,6 +166,7 @@ class Reader(Shapes):
         return item
 
     def read_impl(self, first):
+        """Reads an impl."""
         self.expect("impl")
         item = Item("impl", "", self.source, self.tokens[first].start)
         item.generics = self.angles()
@@ -175,12 +180,15 @@ class Reader(Shapes):
         return item
 
     def read_const(self, first):
+        """Reads a constant."""
         return self.to_semicolon("const", first)
 
     def read_static(self, first):
+        """Reads a static."""
         return self.to_semicolon("static", first)
 
     def read_type(self, first):
+        """Reads a type alias."""
         return self.to_semicolon("type", first)
 
     def to_semicolon(self, kind, first):
@@ -192,6 +200,7 @@ class Reader(Shapes):
         return item
 
     def read_ghost(self, first):
+        """Reads a ghost item, or what contracts import."""
         self.expect("ghost")
         kind = "ghost use" if self.peek() == "use" else "ghost"
         item = Item(kind, self.peek(), self.source, self.tokens[first].start)
@@ -201,6 +210,7 @@ class Reader(Shapes):
         return item
 
     def read_macro(self, first):
+        """Reads a macro, with what it takes but not what it writes."""
         self.expect("macro_rules")
         self.expect("!")
         item = Item("macro", self.name(), self.source, self.tokens[first].start)

@@ -159,13 +159,26 @@ class Links:
                 return found
         return self.only(scope.module, path)
 
+    def declared(self, where):
+        """The public type, or its variant, that a contract imports by the path of its declaration, or None."""
+        crate, *path = where[0].split(".")
+        if path[:2] != ["specs", "declared"] or crate not in self.tree.roots:
+            return None
+        here = self.tree.roots[crate]
+        names = [it for it in path[2:] if it != "TheVariants"]
+        for name in names[:-1]:
+            here = here.modules.get(name) if here else None
+        entry = here.names.get(names[-1], [None])[0] if here else None
+        found = entry.members.get(where[1], [None])[0] if entry and path[-1] == "TheVariants" else entry
+        return reached(found)
+
     def only(self, module, path):
         """The only public item whose path ends so, or None. A word alone is no field and no variant, and an item of a module rather than a
         method; in small letters, which may be any word, it is looked for in the modules above and below alone."""
         ends = "::" + "::".join(path)
         fitting = [it for it in self.by_name.get(path[-1], []) if f"::{it.full}".endswith(ends) and it.kind != "macro"]
         if len(path) == 1:
-            fitting = [it for it in fitting if isinstance(it, Entry) and it.kind not in ("field", "variant")]
+            fitting = [it for it in fitting if isinstance(it, Entry) and it.kind not in ("field", "variant", "ghost")]
             if path[0].islower():
                 fitting = [it for it in fitting if is_above(it.home, module) or is_above(module, it.home)]
             fitting = [it for it in fitting if not it.owner] or fitting

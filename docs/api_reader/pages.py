@@ -7,8 +7,6 @@ from .contracts import Contracts, clauses_of, ghosts_of
 from .links import path_of, reached
 from .places import is_model, shown_at
 
-FIELDS = ("field", "variant")
-
 
 class Pages:
     """Writes the pages of a tree's modules."""
@@ -58,7 +56,7 @@ class Pages:
         named = []
         for _item, target, name in self.places.reexports(module):
             seen = reached(target)
-            shown = f"{link(seen, escape(name))} <small>{kind_of(seen)} of {escape(seen.full.rpartition('::')[0] or seen.full)}</small>" if seen else escape(name)
+            shown = f"{link(seen, escape(name))} <small>{kind_of(seen)} of {above(seen)}</small>" if seen else escape(name)
             docs = (target.docs if target.kind == "mod" else target.item.docs) if target else ""
             named.append((shown, docs))
         if named:
@@ -92,7 +90,8 @@ class Pages:
         if not entries:
             return ""
         rows = "".join(f"<li><code>{escape(it.full)}</code></li>" for it in entries)
-        return f'<details><summary>{len(entries)} more items are <code>pub</code>, and no other crate can name them</summary><ul>{rows}</ul></details>'
+        said = f"{len(entries)} more items are <code>pub</code>, and no other crate can name them"
+        return f"<details><summary>{said}</summary><ul>{rows}</ul></details>"
 
     def entry(self, entry):
         """An item with all that it has."""
@@ -122,14 +121,14 @@ class Pages:
         return f'<pre class="signature"><code>{self.code.block(text, scope)}</code></pre>'
 
     def docs(self, item, scope, level):
+        """The docs of an item, if it has some."""
         return f'<div class="docs">{self.prose.whole(item.docs, scope, level)}</div>' if item.docs else ""
 
     def type_parts(self, entry, scope):
         """The contract, fields or variants, methods and impls of a type."""
         blocks = sorted((it for it in entry.impls if shown_at(it) is entry), key=lambda it: it.item.source is not entry.item.source)
-        model = [pair for it in blocks if is_model(it) for pair in clauses_of(it.item)]
-        fields = [(it.signature, it.docs or it.note) for it in entry.item.children if it.kind == "ghost"]
-        parts = [self.contracts.folded(fields + model, scope, 5)]
+        model = [clause for it in blocks if is_model(it) for clause in clauses_of(it.item)]
+        parts = [self.contracts.folded(clauses_of(entry.item) + model, scope, 5)]
         for heading, kind in (("Fields", "field"), ("Variants", "variant")):
             own = [it for found in entry.members.values() for it in found if it.kind == kind]
             if own:
@@ -191,8 +190,8 @@ class Pages:
 
     def trait_parts(self, entry, scope):
         """The contract, the members and the implementors of a trait."""
-        parts = [self.contracts.folded(clauses_of(entry.item), scope, 5)]
-        own = [it for found in entry.members.values() for it in found]
+        parts = [self.contracts.folded(clauses_of(entry.item, entry.members), scope, 5)]
+        own = [it for found in entry.members.values() for it in found if it.kind != "ghost"]
         if own:
             parts.append("<h4>Members</h4>" + "\n".join(self.method(it, self.scope(it)) for it in own))
         there = [it for it in entry.impls if shown_at(it) and shown_at(it) is not entry]
@@ -225,12 +224,18 @@ def private_gone(item):
     return text
 
 
+def above(target):
+    """The path of what an item or a module stands in."""
+    return escape(target.full.rpartition("::")[0] or target.full)
+
+
 def place(path):
     """A path of a file, which a line may break after each slash."""
     return escape(path).replace("/", "/<wbr>")
 
 
 def anchor_of(heading):
+    """The anchor of a section."""
     return "section." + heading.replace(" ", "-").lower()
 
 

@@ -59,6 +59,7 @@ class Places:
                 yield heading, entries
 
     def submodules(self, module):
+        """The modules in a module that other crates can name."""
         return [it for it in module.modules.values() if it.is_public]
 
     def reexports(self, module):

@@ -7,6 +7,7 @@ class Shapes(Cursor):
     """Reads structs and enums."""
 
     def read_struct(self, first):
+        """Reads a struct, with its fields."""
         item = self.begun("struct", "struct", first)
         self.until("{", "(", ";")
         if self.peek() == "(":
@@ -79,6 +80,7 @@ class Shapes(Cursor):
         return item
 
     def read_enum(self, first):
+        """Reads an enum, with its variants."""
         item = self.begun("enum", "enum", first)
         self.until("{")
         item.signature = self.cut(first)

@@ -55,13 +55,13 @@ class Site:
         self.tree = Tree(root, crates)
         self.links = Links(self.tree)
         self.places = Places(self.tree, self.links)
-        self.definitions = Definitions(root, crates)
+        self.definitions = Definitions(root, crates, self.links)
         self.code = Code(self.links, self.definitions)
         self.prose = Prose(self.code)
         self.pages = Pages(self.places, self.code, self.prose)
 
     def write(self, folder):
-        """Writes all files into a folder, and takes pages away that it no longer has. Returns the names of the files."""
+        """Writes all files into a folder, and takes its pages away that it no longer has. Returns the names of the files."""
         os.makedirs(folder, exist_ok=True)
         files = {"index.html": self.index(), "names.js": self.names()}
         for module in self.places.on_page:
@@ -69,7 +69,7 @@ class Site:
         for file in self.definitions.files.values():
             files[file.page] = PAGE.format(title=html.escape(file.full), side=self.definitions_side(file), main=self.definitions.main(file))
         for name in os.listdir(folder):
-            if name.endswith(".html") and name not in files:
+            if name.endswith(".html") and name not in files and is_own(f"{folder}/{name}"):
                 os.remove(f"{folder}/{name}")
         for name, text in files.items():
             with open(f"{folder}/{name}", "w", encoding="utf-8") as file:
@@ -95,6 +95,7 @@ class Site:
         return f'<nav aria-label="Definitions"><h2>Crate</h2><ul><li>{self.side_row(root, False)}</li></ul><h2>Definitions</h2><ul>{rows}</ul></nav>'
 
     def side_row(self, module, is_here):
+        """A row of a list beside a page."""
         name = html.escape(module.name if module.kind == "definitions" else "::".join(module.path) or module.crate)
         return f'<a href="{module.page}" aria-current="page">{name}</a>' if is_here else f'<a href="{module.page}">{name}</a>'
 
@@ -107,9 +108,11 @@ class Site:
             sentence = self.prose.sentence(module.docs)
             inner = " ".join(link(it, f"<code>{html.escape('::'.join(it.path))}</code>") for it in sorted(own, key=lambda it: it.path) if it.path)
             below = f'<p class="modules">{inner}</p>' if inner else ""
-            parts.append(f'<section class="crate" id="{crate}"><h2>{link(module, crate)} <small>{count} item{"s" if count != 1 else ""}</small></h2><p>{sentence}</p>{below}</section>')
+            head = f'<h2>{link(module, crate)} <small>{count} item{"s" if count != 1 else ""}</small></h2>'
+            parts.append(f'<section class="crate" id="{crate}">{head}<p>{sentence}</p>{below}</section>')
         side = "".join(f'<li><a href="{it.page}">{crate}</a></li>' for crate, it in self.tree.roots.items())
-        return PAGE.format(title="Gelvanh API", side=f'<nav aria-label="Crates"><h2>Crates</h2><ul>{side}</ul></nav>', main="\n".join(parts))
+        side = f'<nav aria-label="Crates"><h2>Crates</h2><ul>{side}</ul></nav>'
+        return PAGE.format(title="Gelvanh API", side=side, main="\n".join(parts))
 
     def names(self):
         """A script with all names: of each its name, its path, its kind, its first sentence and its place."""
@@ -122,3 +125,9 @@ class Site:
                 rows.append([name, f"{file.full}::{name}", "definition", sentence, f"{file.page}#{name}"])
         lines = ",\n".join(json.dumps(row, ensure_ascii=False) for row in rows)
         return f"const NAMES = [\n{lines}\n];\n"
+
+
+def is_own(path):
+    """Whether a file is a page that this writes, so that it may be taken away."""
+    with open(path, encoding="utf-8", errors="replace") as file:
+        return '<link rel="stylesheet" href="api.css">' in file.read(1000)

@@ -30,6 +30,7 @@ class Module:
 
     @property
     def name(self):
+        """The last part of its path."""
         return self.path[-1] if self.path else self.crate
 
     @property
@@ -39,6 +40,7 @@ class Module:
 
     @property
     def href(self):
+        """The place that a link to it leads to."""
         return self.page
 
 
@@ -53,6 +55,7 @@ class Entry:
 
     @property
     def home(self):
+        """The module whose page shows it, or None."""
         return self.owner.home if self.owner else self._home
 
     @home.setter
@@ -67,6 +70,7 @@ class Entry:
 
     @property
     def href(self):
+        """The place that a link to it leads to."""
         return f"{self.home.page}#{self.anchor}"
 
 
@@ -121,7 +125,7 @@ class Tree:
         for child in entry.item.children:
             is_bare = child.kind == "field" and not child.name.isidentifier() and not child.docs
             if (entry.kind == "trait" or child.is_public) and not is_bare:
-                if child.kind in ("field", "variant", "fn", "const", "type"):
+                if child.kind in ("field", "variant", "fn", "const", "type") or (entry.kind, child.kind) == ("trait", "ghost"):
                     entry.members.setdefault(child.name, []).append(Entry(child, entry.module, entry))
 
     def all_read(self, crate):
