@@ -1,5 +1,6 @@
 """Checks of what was read and of what was written."""
 import html.parser
+import json
 import os
 import re
 
@@ -78,7 +79,7 @@ class Parsed(html.parser.HTMLParser):
 
 
 def parsed(folder):
-    """All pages of a folder, by their names."""
+    """All pages of a folder, by their names, and the places that the search leads to."""
     pages = {}
     for name in sorted(os.listdir(folder)):
         if name.endswith(".html"):
@@ -87,6 +88,9 @@ def parsed(folder):
                 pages[name].feed(file.read())
             pages[name].close()
             pages[name].faults += [f"a {tag} is never ended" for tag in pages[name].open]
+    with open(f"{folder}/names.js", encoding="utf-8") as file:
+        pages["names.js"] = Parsed()
+        pages["names.js"].links = [row[-1] for row in json.loads(file.read().removeprefix("const NAMES = ").removesuffix(";\n"))]
     return pages
 
 
@@ -101,12 +105,12 @@ def page_faults(folder, site):
                 continue
             if file and not os.path.exists(f"{folder}/{file}"):
                 faults.append(f"{name}: the link {target} leads to no file")
-            elif anchor and anchor not in pages[file or name].anchors:
+            elif anchor and (file or name) in pages and anchor not in pages[file or name].anchors:
                 faults.append(f"{name}: the link {target} leads to no place")
     for module in site.places.on_page:
         if module.page not in pages:
             faults.append(f"the module {module.full} has no page")
     for entry in site.places.all():
-        if entry.anchor not in pages[entry.home.page].anchors:
+        if entry.home.page in pages and entry.anchor not in pages[entry.home.page].anchors:
             faults.append(f"{entry.full} has no place on {entry.home.page}")
     return faults
