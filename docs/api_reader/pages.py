@@ -4,7 +4,7 @@ import re
 
 from .code import Scope, escape, kind_of, link
 from .contracts import Contracts, clauses_of, ghosts_of
-from .links import path_of, reached
+from .links import reached
 from .places import is_model, shown_at
 
 

@@ -93,6 +93,15 @@ addEventListener("keydown", (event) => {
   }
 });
 
+// Unfolds what stands around the place that the address names, and that place itself.
+function unfold() {
+  const place = document.getElementById(decodeURIComponent(location.hash.slice(1)));
+  for (let at = place; at; at = at.parentElement) if (at instanceof HTMLDetailsElement) at.open = true;
+  if (place) place.scrollIntoView();
+}
+addEventListener("hashchange", unfold);
+unfold();
+
 // `index.html?q=read` fills the field.
 const asked = new URLSearchParams(location.search).get("q");
 if (asked) {

@@ -15,6 +15,10 @@ from .tree import Tree
 HERE = os.path.dirname(os.path.abspath(__file__))
 # Files that are copied as they are.
 FILES = ("api.css", "search.js")
+ABOUT = (
+    "The public items of the libraries: signatures, what they do, their contracts, and the definitions that contracts cite. "
+    "Of a trait that an attribute derives, the name alone is told."
+)
 PAGE = """<!DOCTYPE html>
 <html lang="en">
 <head>
@@ -101,7 +105,7 @@ class Site:
 
     def index(self):
         """The page of all crates."""
-        parts = ["<h1>Gelvanh API</h1>", "<p>The public items of the libraries: signatures, what they do, and their contracts.</p>"]
+        parts = ["<h1>Gelvanh API</h1>", f"<p>{ABOUT}</p>"]
         for crate, module in self.tree.roots.items():
             own = [it for it in self.places.on_page if it.crate == crate]
             count = sum(len(self.places.on_page[it]) for it in own)
