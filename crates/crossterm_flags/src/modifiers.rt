@@ -278,7 +278,8 @@ impl FlagSet for KeyModifiers {
     ghost exact_law = { tt };
 }
 
-/// The names of the flags, and the bits without a name as one number: `KeyModifiers(SHIFT | CONTROL)`, and `KeyModifiers(0x0)` where there are none.
+/// The names of the flags, and the bits without a name as one number: `KeyModifiers(SHIFT | CONTROL)`, and `KeyModifiers(0x0)` if there are
+/// none.
 impl fmt::Debug for KeyModifiers {
     fn fmt<W: fmt::Write>(&self, f: &mut fmt::Formatter<W>) -> fmt::Result {
         shown::show(f, "KeyModifiers", self)

@@ -21,7 +21,7 @@ pub struct KeyEvent {
     pub modifiers: KeyModifiers,
     /// Whether the key was pressed, held or let go.
     pub kind: KeyEventKind,
-    /// What else the keyboard told. Only kitty's keyboard protocol tells it.
+    /// What else the keyboard reported. Only kitty's keyboard protocol reports it.
     pub state: KeyEventState,
 }
 

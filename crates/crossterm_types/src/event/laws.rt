@@ -17,8 +17,8 @@ use std::hash::Hash;
 
 /// The laws of a key's normal form, on which tables of key bindings rest. It does nothing when it runs.
 ///
-/// The normal form of a normal form is itself; keys are equal exactly where their normal forms are the same; they are equal
-/// exactly where their order says so; equal keys hash alike; and a key equals its normal form.
+/// The normal form of a normal form is itself; keys are equal exactly if their normal forms are the same; they are equal exactly if their
+/// order says so; equal keys hash alike; and a key equals its normal form.
 pub fn normal_form_laws()
     ensures twice { (key : KeyEvent) → normal (normal key) ≡ normal key }
     ensures equal { (a b : KeyEvent) → IsTrue (⟦<KeyEvent as PartialEq>⟧.eq a b) ↔ (normal a ≡ normal b) }
