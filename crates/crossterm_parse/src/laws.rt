@@ -12,7 +12,7 @@ pub fn unique_division()
 
 /// The law of cuttings: however the same marked bytes are cut into pieces, they give the same events, and an empty piece does nothing.
 ///
-/// Marks belong to the bytes: a cut at a pause isn't a cut where more bytes follow at once.
+/// Marks belong to the bytes: a cut at a pause isn't a cut after which more bytes follow at once.
 pub fn cuttings()
     ensures alike { CutsAlike }
     ensures empty { EmptyDoesNothing }
