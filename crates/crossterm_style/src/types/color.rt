@@ -38,10 +38,10 @@ pub enum Color {
 }
 
 impl Color {
-    /// Reads the SGR parameters that tell a colour (ECMA-48, 8.3.117; xterm's control sequences), after the number that sets its place:
-    /// `5;9` is `Red`, `5;16` is `AnsiValue(16)`, `2;1;2;3` is `Rgb { r: 1, g: 2, b: 3 }`.
+    /// Reads the SGR parameters that represent a colour (ECMA-48, 8.3.117; xterm's control sequences), after the number that sets its
+    /// place: `5;9` is `Red`, `5;16` is `AnsiValue(16)`, `2;1;2;3` is `Rgb { r: 1, g: 2, b: 3 }`.
     ///
-    /// A number is below 256, may begin with zeros, and a plus may stand before it.
+    /// A number is below 256, may begin with zeros, and a plus may precede it.
     pub fn parse_ansi(text: &str) -> Option<Color>
         ensures { IsColorRead text.now result }
     {
