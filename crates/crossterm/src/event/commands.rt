@@ -1,4 +1,4 @@
-//! Commands that tell a terminal which events to report.
+//! Commands that set which events a terminal reports.
 ghost use Rattle.std.specs.Prelude.{Some, codes};
 ghost use Rattle.crossterm_command.specs.Controls.{control, reset, set};
 ghost use Rattle.crossterm_command.specs.Tokens.{text_of};
@@ -47,7 +47,7 @@ impl Command for DisableMouseCapture {
     }
 }
 
-/// The terminal tells when it gains or loses the focus (xterm ctlseqs, mode 1004).
+/// The terminal reports when it gains or loses the focus (xterm ctlseqs, mode 1004).
 #[derive(Clone, Copy, PartialEq, Eq, Debug)]
 pub struct EnableFocusChange;
 
@@ -59,7 +59,7 @@ impl Command for EnableFocusChange {
     }
 }
 
-/// The focus isn't told any more (xterm ctlseqs, mode 1004).
+/// The focus isn't reported any more (xterm ctlseqs, mode 1004).
 #[derive(Clone, Copy, PartialEq, Eq, Debug)]
 pub struct DisableFocusChange;
 
@@ -95,7 +95,7 @@ impl Command for DisableBracketedPaste {
     }
 }
 
-/// Turns on flags of kitty's keyboard protocol, on top of those that stand (`CSI > flags u`).
+/// Turns on flags of kitty's keyboard protocol, on top of those that are set (`CSI > flags u`).
 #[derive(Clone, Copy, PartialEq, Eq, Debug)]
 pub struct PushKeyboardEnhancementFlags(pub KeyboardEnhancementFlags);
 
