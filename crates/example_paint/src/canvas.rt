@@ -10,7 +10,7 @@ use std::io::{self, Write};
 
 const COLORS: ColorOutput = ColorOutput::Enabled;
 
-/// The columns in which the colours stand, left of the picture.
+/// The columns of the colours, left of the picture.
 pub const LEFT: u16 = 4;
 
 const COLUMNS: u16 = 76;
@@ -19,7 +19,7 @@ const ROWS: u16 = 22;
 
 const HELP: &str = "drag: paint   right button: wipe   left: colours   x: blank   Esc: leave";
 
-/// A colour of the picture: one of the sixteen that every terminal has, or none where it is 0.
+/// A colour of the picture: one of the sixteen that every terminal has, or none if it is 0.
 pub type Ink = u8;
 
 /// A cell of the picture, and its colour.
@@ -46,7 +46,7 @@ fn color_of(ink: Ink) -> Color {
     }
 }
 
-// Writes cells that lie side by side, and each colour once where they have the same.
+// Writes cells that lie side by side, and each colour once if they have the same.
 fn draw_cells<W: Write>(w: &mut W, cells: &[Ink]) -> io::Result<()> {
     let mut last = None;
     for ink in cells {

@@ -16,7 +16,7 @@ use std::alloc::Global;
 use std::env;
 use std::io::{self, BufWriter, ErrorKind, Write};
 
-/// Does what the painter wants, and tells whether to go on.
+/// Does what the painter wants, and returns whether to go on.
 fn fulfil<W: Write>(canvas: &mut Canvas, w: &mut W, wish: Wish) -> io::Result<bool> {
     match wish {
         Wish::Nothing => {}
@@ -71,7 +71,7 @@ fn paint_here(rt: &HostRuntime, folder: &str) -> io::Result<()> {
     left
 }
 
-/// Serves guests at the port that this word tells.
+/// Serves guests at the port that this word names.
 fn serve(rt: &HostRuntime, port: &str) -> io::Result<()> {
     match port.parse::<u16>() {
         Ok(port) => guests::serve(rt, rt.alloc(), port),

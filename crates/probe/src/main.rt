@@ -13,7 +13,7 @@
 //! `probe bench keys BINDINGS` prints the least time that a key takes which is fed to a matcher of so
 //! many bound lists.
 //!
-//! Its code stands on `crossterm` and `keymap`, by their public calls.
+//! Its code is built on `crossterm` and `keymap`, by their public calls.
 #![tactic(auto)]
 
 use probe_modes::bench::mode::Mode;
@@ -46,7 +46,7 @@ enum Task {
     Bench(Mode),
 }
 
-/// The task of a word that stands alone.
+/// The task of a word that is alone.
 fn task_of(word: &str) -> Result<Task, Fault> {
     match word {
         "play" => Ok(Task::Play),
