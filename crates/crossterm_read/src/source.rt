@@ -19,9 +19,6 @@ mod reader;
 mod script;
 mod sizes;
 mod socket;
-/// # Errors
-///
-/// `OutOfMemory` if memory was refused.
 mod waker;
 mod watch;
 
@@ -74,6 +71,10 @@ pub trait EventSource<A: Allocator>: Drop {
         ensures { result ≡ failed self.now };
 
     /// A waker of the device.
+    ///
+    /// # Errors
+    ///
+    /// `OutOfMemory` if memory was refused.
     fn waker(&self) -> io::Result<Waker>
         ensures waker { IfOk result (wakes self.now) }
         ensures err { IfErr result (λ e. error_kind e ≡ OutOfMemory) };
