@@ -125,6 +125,11 @@ impl<T: AsSlice<u8> + Drop, A: Allocator> CopyToClipboard<T, A> {
     /// # Errors
     ///
     /// `OutOfMemory` if memory was refused. Then `content` is dropped.
+    ///
+    /// ```
+    /// let copy = CopyToClipboard::to_clipboard_from(alloc, "a text")?;
+    /// execute!(w, colors, copy)?;
+    /// ```
     pub fn to_clipboard_from(alloc: A, content: T) -> io::Result<CopyToClipboard<T, A>>
         ensures ok { IfOk result (λ c. (c.content ≡ content)
             × (c.destination.0.items ≡ ClipboardType.Clipboard ∷ [])) }

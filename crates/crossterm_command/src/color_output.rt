@@ -14,6 +14,13 @@ pub enum ColorOutput {
 
 impl ColorOutput {
     /// Returns `Disabled` if the value of `NO_COLOR` is there and not empty.
+    ///
+    /// ```
+    /// let colors = match env::var(rt, "NO_COLOR") {
+    ///     Ok(value) => ColorOutput::from_no_color(Some(value.as_str())),
+    ///     Err(_) => ColorOutput::Enabled,
+    /// };
+    /// ```
     pub fn from_no_color(no_color: Option<&str>) -> ColorOutput
         ensures { result ≡ (if is_set no_color.entry then ColorOutput.Disabled else ColorOutput.Enabled) }
     {

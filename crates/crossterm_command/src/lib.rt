@@ -1,8 +1,8 @@
 //! Commands for a terminal, and how their texts get to a writer: crossterm's `command`.
 //!
-//! It is built on the kit alone. The layers above use that a command which was written is exactly its text, or a beginning of it with an
-//! error (`specs/Writing.antt`), and that bytes read back as control functions and characters in one way at most (`specs/Tokens.antt`,
-//! whose law is `laws::one_reading`). Lemmas for their proofs are `proofs/Texts.antt` and `proofs/Readings.antt`.
+//! It is built on the kit alone. The layers above use two facts. A command that was written is exactly its text, or a beginning of it with
+//! an error (`specs/Writing.antt`). Bytes read back as control functions and characters in one way at most (`specs/Tokens.antt`, whose law
+//! is `laws::one_reading`). Lemmas for their proofs are `proofs/Texts.antt` and `proofs/Readings.antt`.
 //!
 //! What is proved, beyond safety:
 //!

@@ -88,6 +88,10 @@ pub trait QueueableCommand: io::Write {
     ///
     /// The writer's own if it alone failed (`WriteZero` if it took 0 bytes), and then a beginning of the text was written. One of kind
     /// `Other` if the command failed by itself.
+    ///
+    /// ```
+    /// w.queue(colors, MoveTo(0, 0))?.queue(colors, Print("ab"))?;
+    /// ```
     fn queue<C: Command + Drop>(&mut self, colors: ColorOutput, command: C) -> io::Result<&mut Self>
     where
         Self: Sized,
@@ -168,6 +172,10 @@ pub trait ExecutableCommand: io::Write {
     /// # Errors
     ///
     /// That of `queue`, or the flush's, and then the whole text was written.
+    ///
+    /// ```
+    /// w.execute(colors, Print("ab"))?;
+    /// ```
     fn execute<C: Command + Drop>(
         &mut self,
         colors: ColorOutput,

@@ -167,6 +167,12 @@ impl KeyModifiers {
     }
 
     /// Whether every bit of the other set is in this one.
+    ///
+    /// ```
+    /// if key.modifiers.contains(KeyModifiers::CONTROL | KeyModifiers::ALT) {
+    ///     leave();
+    /// }
+    /// ```
     pub fn contains(&self, other: KeyModifiers) -> bool
         ensures { result ≡ (bit_and self.now.0 other.0 == other.0) }
     {

@@ -12,6 +12,11 @@ use std::marker::Model;
 use std::ops::{BitAnd, BitOr, BitXor};
 
 /// A set of attributes: a bit for each, the first from bit 1 on.
+///
+/// ```
+/// let attributes = Attributes::none().with(Attribute::Bold).with(Attribute::Underlined);
+/// queue!(w, colors, SetAttributes(attributes), Print("ab"), SetAttribute(Attribute::Reset))?;
+/// ```
 #[derive(Clone, Copy, PartialEq, Eq, Default, Debug)]
 pub struct Attributes(u32);
 

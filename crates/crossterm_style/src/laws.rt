@@ -68,8 +68,8 @@ pub fn looks()
     ensures colors { ColorsShow }
 {}
 
-/// With colours, a content in its style leaves the plain style plain exactly if it has an attribute, or no colour of its underline but the
-/// terminal's own.
+/// With colours, a content in its style leaves the plain style plain in two cases, and in no other: it has an attribute, or no colour of
+/// its underline but the terminal's own.
 #[tactic(auto, using(crate::proofs::StyledLooks::styled_ends_plain))]
 pub fn styled_ends_plain()
     ensures { StyledEndsPlain }

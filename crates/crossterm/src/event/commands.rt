@@ -12,6 +12,12 @@ use std::fmt;
 
 /// The mouse is reported: buttons, drags and moves, as numbers and as far as 223 columns and beyond (xterm ctlseqs, modes 1000, 1002,
 /// 1003, 1015 and 1006).
+///
+/// ```
+/// execute!(w, colors, EnableMouseCapture)?;
+/// // Until this, clicks and moves come as `Event::Mouse`.
+/// execute!(w, colors, DisableMouseCapture)?;
+/// ```
 #[derive(Clone, Copy, PartialEq, Eq, Debug)]
 pub struct EnableMouseCapture;
 
@@ -96,6 +102,14 @@ impl Command for DisableBracketedPaste {
 }
 
 /// Turns on flags of kitty's keyboard protocol, on top of those that are set (`CSI > flags u`).
+///
+/// ```
+/// let flags = KeyboardEnhancementFlags::DISAMBIGUATE_ESCAPE_CODES
+///     | KeyboardEnhancementFlags::REPORT_EVENT_TYPES;
+/// execute!(w, colors, PushKeyboardEnhancementFlags(flags))?;
+/// // Until this, releases of keys come too.
+/// execute!(w, colors, PopKeyboardEnhancementFlags)?;
+/// ```
 #[derive(Clone, Copy, PartialEq, Eq, Debug)]
 pub struct PushKeyboardEnhancementFlags(pub KeyboardEnhancementFlags);
 

@@ -101,6 +101,10 @@ impl Command for SetUnderlineColor {
 /// Sets the colours of the text and behind it that are there, by one sequence.
 ///
 /// If colours are not written, this is `ESC [ ; m` for both and `ESC [ m` for one.
+///
+/// ```
+/// queue!(w, colors, SetColors(Colors::new(Color::White, Color::DarkBlue)), Print("ab"))?;
+/// ```
 #[derive(Clone, Copy, PartialEq, Eq, Debug)]
 pub struct SetColors(pub Colors);
 

@@ -11,6 +11,10 @@ use std::str::FromStr;
 /// A colour of text, of what is behind it, or of its underline.
 ///
 /// The sixteen names are the first colours of a terminal's palette; `AnsiValue` is any of its 256.
+///
+/// ```
+/// queue!(w, colors, SetForegroundColor(Color::Rgb { r: 255, g: 128, b: 0 }), Print("orange"))?;
+/// ```
 #[derive(Clone, Copy, PartialEq, Eq, PartialOrd, Ord, Hash, Debug)]
 pub enum Color {
     /// The terminal's own.

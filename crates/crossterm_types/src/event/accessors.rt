@@ -86,6 +86,12 @@ impl<A: Allocator> Event<A> {
     }
 
     /// The key, if one went down; else `None`.
+    ///
+    /// ```
+    /// if let Some(key) = event.as_key_press_event() {
+    ///     press(key.code, key.modifiers)?;
+    /// }
+    /// ```
     pub fn as_key_press_event(&self) -> Option<KeyEvent>
         ensures { (key : KeyEvent) → (result ≡ Some key) ↔ ((seen_event self.now ≡ seen.Key key) × (key.kind ≡ Press)) }
     {

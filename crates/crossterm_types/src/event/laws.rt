@@ -27,8 +27,8 @@ pub fn normal_form_laws()
     ensures fixed { (key : KeyEvent) → IsTrue (⟦<KeyEvent as PartialEq>⟧.eq (normal key) key) }
 {}
 
-/// The declared orders of keys and of the mouse, on which sorted tables of them rest: variants in the order of their ranks, two of one variant
-/// by what they hold, and structs by their fields in order, of keys those of the normal form. It does nothing when it runs.
+/// The declared orders of keys and of the mouse, on which sorted tables of them rest: variants are in the order of their ranks, two of one
+/// variant go by what they hold, and structs by their fields in order. Keys go by those of the normal form. It does nothing when it runs.
 pub fn declared_orders()
     ensures kinds { ComparesBy (rank_order kinds) ⟦<KeyEventKind as Ord>⟧.cmp ⟦<KeyEventKind as PartialOrd>⟧.partial_cmp }
     ensures media { ComparesBy (rank_order media_keys) ⟦<MediaKeyCode as Ord>⟧.cmp ⟦<MediaKeyCode as PartialOrd>⟧.partial_cmp }

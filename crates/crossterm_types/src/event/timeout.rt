@@ -24,6 +24,11 @@ pub trait Clock {
 /// The system's monotonic clock, from the moment on at which it is asked first.
 ///
 /// If the system can't report the time, `now` returns the last moment again.
+///
+/// ```
+/// let mut clock = SystemClock::new(&rt);
+/// let is_there = reader.poll(&rt, &mut pass, Duration::from_secs(1), &mut clock)?;
+/// ```
 #[derive(Drop)]
 pub struct SystemClock<'a, C> {
     system: &'a C,

@@ -205,11 +205,16 @@ impl<D: ModeDevice, A: Allocator + Clone> Terminal<D, A> {
         self.device.window_size()
     }
 
-    /// How many columns and rows the window has.
+    /// How many columns and rows the window has. If the device doesn't report that, they are read from `columns` and `lines`: what
+    /// `tput cols` and `tput lines` wrote.
     ///
     /// # Errors
     ///
     /// The device's, if `columns` and `lines` don't hold a size either.
+    ///
+    /// ```
+    /// let (columns, rows) = term.size(b"", b"")?;
+    /// ```
     pub fn size(&mut self, columns: &[u8], lines: &[u8]) -> io::Result<(u16, u16)>
         ensures size { (told : Result WindowSize Error) × D.answered self.old.device (Sizes told) self.new.device × (result ≡ told_size told columns.now lines.now) }
         ensures prior { self.new.prior ≡ self.old.prior }
@@ -245,6 +250,12 @@ pub(crate) fn send_query<W: io::Write>(out: &mut W, text: &str) -> io::Result<()
 /// # Errors
 ///
 /// Those of `query_keyboard_enhancement_flags`.
+///
+/// ```
+/// if supports_keyboard_enhancement(&rt, &mut term, &reader, &mut pass, &mut out, &mut clock)? {
+///     execute!(out, colors, PushKeyboardEnhancementFlags(flags))?;
+/// }
+/// ```
 pub fn supports_keyboard_enhancement<
     S: EventSource<A>,
     A: Allocator + Clone,
