@@ -18,14 +18,14 @@ pub fn cuttings()
     ensures empty { EmptyDoesNothing }
 {}
 
-/// The law of steps: over any list of calls that begins with no paste open, as with a new parser, and of which each takes its piece whole,
-/// the steps are at most twice the bytes.
+/// The law of steps: over a list of calls the steps are at most twice the bytes. The list begins with no paste open, as with a new parser,
+/// and each call takes its piece whole.
 pub fn two_steps_a_byte()
     ensures { TwoStepsAByte }
 {}
 
-/// The law of steps from below: over any list of calls, of which each took the whole of its piece or the front of it, the steps are at least
-/// the bytes taken.
+/// The law of steps from below: over any list of calls the steps are at least the bytes taken. Each call took the whole of its piece or the
+/// front of it.
 pub fn a_step_a_byte()
     ensures { AStepAByte }
 {}

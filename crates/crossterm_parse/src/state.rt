@@ -433,7 +433,7 @@ impl State {
         }
     }
 
-    /// Opens a sequence by the two bytes after ESC, and returns how many bytes it has then, three or two, or none if it isn't opened.
+    /// Opens a sequence by the two bytes after ESC. Returns how many bytes it has then, three or two, or none if it isn't opened.
     #[inline(always)]
     fn open_front(&mut self, second: u8, third: u8) -> usize
         requires { self.old ≡ State.Ground }

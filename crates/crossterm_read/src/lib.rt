@@ -5,13 +5,13 @@
 //! reader holds the events in the order of their arrival until they are taken (`read::InternalEventReader`). Threads share a reader
 //! (`read::EventReader`), each with a `read::Pass`. A task that may not wait polls a stream of the user's events (`stream::EventStream`).
 //!
-//! It is built on `crossbeam_queue`, for the slot of a shared reader, on `futures`, for its stream, on `mio`, for devices that wait within
-//! a limit, on `crossterm_parse`, for the division of bytes into sequences, and on `crossterm_types`, for events and filters.
+//! It is built on `crossterm_parse`, for the division of bytes into sequences, and on `crossterm_types`, for events and filters. Of the kit
+//! it uses `crossbeam_queue` for the slot of a shared reader, `futures` for its stream, and `mio` for devices that wait.
 //!
 //! The layers above use the steps of `InternalEventReader::{poll_within, read_within, take, position_within, keyboard_within}` over any
-//! `source::EventSource`, those of `poll` and `read`, which wait for a limit of time or without one, and the headline of `read::play`: what
-//! calls return is a run over the answers of a source, which come from those of its device. `laws::one_happening` says that the events of
-//! bytes are those of the only division of all bytes.
+//! `source::EventSource`. They use the steps of `poll` and `read`, which wait for a limit of time or without one, and the headline of
+//! `read::play`: what calls return is a run over the answers of a source, which come from those of its device. `laws::one_happening` says
+//! that the events of bytes are those of the only division of all bytes.
 //!
 //! What is proved, beyond safety:
 //!

@@ -172,8 +172,8 @@ impl<S: EventSource<A>, A: Allocator + Clone> InternalEventReader<S, A> {
         }
     }
 
-    /// Takes the first reply that reports the flags of the keyboard protocol, or the terminal's attributes alone, for which it returns
-    /// `None`, after so many questions to the source at most.
+    /// Takes the first reply that reports the flags of the keyboard protocol, after so many questions to the source at most. If the
+    /// terminal's attributes come first, it takes them and returns `None`.
     ///
     /// After the flags it polls as often for the attributes, and takes them if they came. The flags are returned in any case.
     ///
@@ -204,7 +204,7 @@ impl<S: EventSource<A>, A: Allocator + Clone> InternalEventReader<S, A> {
         }
     }
 
-    // Takes the reply to a query for the keyboard's flags within what is left of the limit, and gives the number of what was taken last.
+    // Takes the reply to a query for the keyboard's flags within what is left of the limit. Returns the number of what was taken last too.
     // After the flags it waits as long again for the attributes.
     pub(crate) fn keyboard_until<C: Clock, R: Wait>(
         &mut self,

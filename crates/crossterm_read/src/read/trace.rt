@@ -63,6 +63,12 @@ fn take_all<S: EventSource<A>, A: Allocator>(
 /// # Errors
 ///
 /// `OutOfMemory` if the trace can't grow. If memory is refused inside a call, that is the call's fault, and is in its reply.
+///
+/// ```
+/// let calls = [Call::Read { tries: 1, filter: AnyFilter::Event }];
+/// let trace = play(alloc, acts, &calls)?;
+/// let replies = trace.replies.as_slice();
+/// ```
 pub fn play<A: Allocator + Clone>(
     alloc: A,
     script: Vec<Act<A>, A>,

@@ -110,6 +110,12 @@ impl<S: EventSource<A>, A: Allocator + Clone> InternalEventReader<S, A> {
     ///
     /// Every fault of the source but a wake-up: `UnexpectedEof` at the end of input, or the device's. `OutOfMemory` only if the source's
     /// was, or if there was no room left for an event and none could be made. Events that came before stay held.
+    ///
+    /// ```
+    /// if reader.poll(&rt, Some(Duration::from_millis(100)), &mut clock, &EventFilter)? {
+    ///     let event = reader.take(&EventFilter);
+    /// }
+    /// ```
     pub fn poll<F: Filter, C: Clock, R: Wait>(
         &mut self,
         rt: &R,

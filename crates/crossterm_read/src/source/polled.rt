@@ -18,13 +18,17 @@ use std::os::fd::AsRawFd;
 use std::sync::Arc;
 use std::time::Duration;
 
-/// A device that reports what comes from a terminal, a pipe, a socket or a file, and waits for it as long as the limit says, and no longer.
+/// A device that reports what comes from a terminal, a pipe, a socket or a file. It waits as long as the limit says, and no longer.
 ///
 /// The descriptor may be one that blocks: it is read only if the system says that something is there, and what is there comes at once. A
 /// regular file can't be watched, and is read without waiting. A wake-up goes before a size, and that before bytes, however many come; what
 /// was passed over comes with a later answer. It answers `Idle` before the limit if a signal came, or sizes ended or had no whole line.
 ///
-/// A program reads its terminal so: `PolledDevice::new(&rt, rt.alloc(), rt.stdin(), raw, None)?`.
+/// ```
+/// let raw = RawFlag::new(alloc)?;
+/// let device = PolledDevice::new(&rt, alloc, rt.stdin(), raw.share()?, None)?;
+/// let source = DeviceSource::new(alloc, device);
+/// ```
 #[derive(Drop)]
 pub struct PolledDevice<R, A: Allocator = Global> {
     input: R,
@@ -38,8 +42,8 @@ impl<R: Read + AsRawFd + Drop, A: Allocator> PolledDevice<R, A> {
     /// A device that reports what this reader returns from here on, with the mode that the flag says then.
     ///
     /// `sizes` reports the sizes of the terminal, in lines `ROWS COLUMNS` as `stty size` writes them. A line that is no size is passed
-    /// over. If they end, as a FIFO does once nobody has it open for writing, or can't be read, no more come, and the input goes on.
-    /// `alloc` gives memory for what waits.
+    /// over. They may end, as a FIFO does once nobody has it open for writing. If they end or can't be read, no more come, and the input
+    /// goes on. `alloc` gives memory for what waits.
     ///
     /// # Errors
     ///

@@ -14,6 +14,11 @@ use std::time::Duration;
 ///
 /// Each answer is one read, which waits as the reader does, whatever the limit. Over a reader that never waits it doesn't either: if that
 /// returns `WouldBlock` or `Interrupted`, nothing came yet. So a program that serves many has one for each, and asks those that are ready.
+///
+/// ```
+/// let device = ReadDevice::new(input, RawFlag::new(alloc)?);
+/// let mut reader = InternalEventReader::new(alloc, DeviceSource::new(alloc, device));
+/// ```
 #[derive(Drop)]
 pub struct ReadDevice<R, A: Allocator = Global> {
     input: R,

@@ -32,6 +32,13 @@ pub enum Act<A: Allocator = Global> {
 }
 
 /// A device that reports what it was made of, and then the end of input.
+///
+/// ```
+/// let mut acts = Vec::new(alloc);
+/// acts.push(Act::Resize(80, 24))?;
+/// acts.push(Act::Piece { bytes: Vec::from_slice(alloc, b"\x1b[A")?, raw: true })?;
+/// let source = DeviceSource::new(alloc, Script::new(acts));
+/// ```
 #[derive(Drop)]
 pub struct Script<A: Allocator = Global> {
     acts: Vec<Act<A>, A>,

@@ -31,8 +31,8 @@ fn flagged(
 }
 
 impl<S: EventSource<A>, A: Allocator + Clone> EventReader<S, A> {
-    /// Takes the first reply that reports the flags of the keyboard protocol, or the terminal's attributes alone, for which it returns
-    /// `None`, within the limit, which counts from the beginning of the call.
+    /// Takes the first reply that reports the flags of the keyboard protocol, within the limit, which counts from the beginning of the
+    /// call. If the terminal's attributes come first, it takes them and returns `None`.
     ///
     /// After the flags it waits as long again for the attributes, and takes them if they come. The flags are returned in any case. Nothing
     /// is written.

@@ -78,6 +78,12 @@ impl<S: EventSource<A>, A: Allocator> EventReader<S, A> {
     /// # Errors
     ///
     /// `OutOfMemory` if no further share of the waker can be made.
+    ///
+    /// ```
+    /// let waker = reader.waker()?;
+    /// // In another thread, to end a poll:
+    /// waker.wake()?;
+    /// ```
     pub fn waker(&self) -> io::Result<Waker>
         ensures err { IfErr result (λ e. error_kind e ≡ OutOfMemory) }
     {
