@@ -1,7 +1,7 @@
 //! Paints with the mouse, in one's own terminal or, as a server, many guests on one picture.
 //!
-//! `terminal/with_terminal crates/example_paint/out/example_paint` starts it in a terminal; Esc ends it. `paint serve 7000` lets guests of this machine in
-//! at a port, by `telnet 127.0.0.1 7000` or `socat -,raw,echo=0 TCP:127.0.0.1:7000`, until a signal ends it, as Ctrl-C does.
+//! `terminal/with_terminal crates/example_paint/out/example_paint` starts it in a terminal; Esc ends it. `paint serve 7000` lets guests of
+//! this machine in at a port, by `telnet 127.0.0.1 7000` or `socat -,raw,echo=0 TCP:127.0.0.1:7000`. A signal ends it, as Ctrl-C does.
 #![tactic(auto)]
 
 mod canvas;

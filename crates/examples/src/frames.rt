@@ -9,8 +9,8 @@
 //! | `draw`, `draw COLUMN ROW` | draws the buffer, with the cursor hidden, or shown at a place |
 //! | `forget` | forgets what the terminal shows |
 //!
-//! A colour is given by parameters of SGR, as `5;9` and `2;1;2;3`, an attribute by its place in declared order, as `1,11` of bold and
-//! reverse; `-` means none. `strength/screens` draws so in a terminal, and compares each cell.
+//! A colour is given by parameters of SGR, as `5;9` and `2;1;2;3`. An attribute is given by its place in declared order, as `1,11` of bold
+//! and reverse. `-` means none. `strength/screens` draws so in a terminal, and compares each cell.
 
 use crossterm::style::{Attribute, Attributes, Color, ColorOutput, ContentStyle};
 use screen::{Buffer, CellFault, DrawFault, Screen};

@@ -21,8 +21,8 @@
 //! }
 //! ```
 //!
-//! The library opens nothing by itself, so the pipes of `with_terminal` are opened here. When a session is dropped, at the end of `main` or by
-//! a `?`, all that it switched on is off again, and the terminal's mode is the one from before.
+//! The library opens nothing by itself, so the pipes of `with_terminal` are opened here. A session is dropped at the end of `main` or by a
+//! `?`. Then all that it switched on is off again, and the terminal's mode is the one from before.
 #![tactic(auto)]
 
 mod feature;

@@ -109,6 +109,14 @@ impl<S: EventSource<Global>, D: ModeDevice, W: Write + Drop, C: Clock + Drop> Se
     /// # Errors
     ///
     /// `UnexpectedEof` at the end of input; the device's fault; `OutOfMemory`. No event is lost by any of them.
+    ///
+    /// ```
+    /// match tty.read(rt)? {
+    ///     Event::Key(key) => press(key)?,
+    ///     Event::Resize(columns, rows) => resize(columns, rows)?,
+    ///     _ => {}
+    /// }
+    /// ```
     pub fn read<R: Wait>(&mut self, rt: &R) -> io::Result<Event> {
         self.reader.read(rt, &mut self.pass)
     }
@@ -118,6 +126,12 @@ impl<S: EventSource<Global>, D: ModeDevice, W: Write + Drop, C: Clock + Drop> Se
     /// # Errors
     ///
     /// Those of `read`.
+    ///
+    /// ```
+    /// if tty.poll(rt, Duration::from_millis(100))? {
+    ///     let event = tty.read(rt)?;
+    /// }
+    /// ```
     pub fn poll<R: Wait>(&mut self, rt: &R, limit: Duration) -> io::Result<bool> {
         self.reader.poll(rt, &mut self.pass, limit, &mut self.clock)
     }
@@ -187,6 +201,12 @@ impl<S: EventSource<Global>, D: ModeDevice, W: Write + Drop, C: Clock + Drop> Se
     /// # Errors
     ///
     /// `OutOfMemory`, and nothing was written; the writer's.
+    ///
+    /// ```
+    /// tty.enable_raw_mode()?;
+    /// tty.turn_on(Feature::AlternateScreen)?;
+    /// tty.turn_on(Feature::MouseCapture)?;
+    /// ```
     pub fn turn_on(&mut self, feature: Feature) -> io::Result<()> {
         self.features.push(feature)?;
         feature.enter(&mut self.out)

@@ -236,7 +236,7 @@ fn run_statements<A: Allocator + Clone, H: Wait, W: Write>(
     }
 }
 
-/// Reads lines, checks them all, binds and steps as they say, and prints a line for each outcome and one for the fault at the end.
+/// Reads lines, checks them all, binds and steps as they say. Prints a line for each outcome and one for the fault at the end.
 ///
 /// # Errors
 ///

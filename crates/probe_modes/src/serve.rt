@@ -155,8 +155,8 @@ fn print<W: Write>(writer: &mut W, arrived: &[Arrived]) -> io::Result<()> {
     writer.flush()
 }
 
-/// Reads the first 4096 bytes of the input, sends them through a socket of its own, reads events there by two threads, and prints a line for
-/// each, in the order of their arrival. Replies of a terminal aren't printed.
+/// Reads the first 4096 bytes of the input, sends them through a socket of its own, and reads events there by two threads. Prints a line
+/// for each, in the order of their arrival. Replies of a terminal aren't printed.
 ///
 /// # Errors
 ///

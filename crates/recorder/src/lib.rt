@@ -9,8 +9,8 @@
 //! resize 80 24
 //! ```
 //!
-//! The acts are `piece HEX` and `raw HEX` (bytes, and bytes that came in raw mode), `resize COLUMNS ROWS`, `wake`, `idle` and `fault KIND`,
-//! with one blank between words. A line that begins with `#` is a comment; one with a number says how many milliseconds after the beginning
+//! The acts are `piece HEX` and `raw HEX` (bytes, and bytes that came in raw mode), `resize COLUMNS ROWS`, `wake`, `idle` and `fault KIND`.
+//! Between words is one blank. A line that begins with `#` is a comment; one with a number says how many milliseconds after the beginning
 //! what follows came. `reading::read_session` reads a recording, and a `Script` of its acts is a device again:
 //!
 //! ```

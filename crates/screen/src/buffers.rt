@@ -106,6 +106,13 @@ impl<A: Allocator> Buffer<A> {
     /// # Errors
     ///
     /// `AllocError` if memory was refused. Then nothing has changed.
+    ///
+    /// ```
+    /// if let Event::Resize(columns, rows) = event {
+    ///     buffer.resize(columns, rows)?;
+    ///     screen.resize(columns, rows)?;
+    /// }
+    /// ```
     pub fn resize(&mut self, width: u16, height: u16) -> Result<(), AllocError>
         ensures ok { OnOk result (self.new ≡ filled width height blank) }
         ensures err { OnErr result (self.new ≡ self.old) }

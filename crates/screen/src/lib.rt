@@ -10,10 +10,10 @@
 //! screen.draw(w, ColorOutput::Enabled, &buffer, None)?;
 //! ```
 //!
-//! The promise, for each terminal that does what `specs/Grids.antt` says and has the widths of the crate `unicode_width`: whatever grid of the
-//! screen's size shows the buffer that was drawn last, with any cursor and any style, what `draw` writes leads to a grid that shows the new
-//! buffer cell for cell, with the cursor where it was asked to be. At the beginning, after `resize`, `forget` and an error nothing is known
-//! of the cells, and the same holds for every grid of the size.
+//! The promise, for each terminal that does what `specs/Grids.antt` says and has the widths of the crate `unicode_width`: take any grid of
+//! the screen's size that shows the buffer that was drawn last, with any cursor and any style. What `draw` writes leads from it to a grid
+//! that shows the new buffer cell for cell. Its cursor is where it was asked to be. At the beginning, after `resize`, `forget` and an error
+//! nothing is known of the cells, and the same holds for every grid of the size.
 //!
 //! A cell of a buffer holds a character of one column. Control characters and those of no column or of two and more are refused by name
 //! (`CellFault`). The definitions and the proof of a frame have characters of two columns too, which cover the next cell; no buffer makes any yet.

@@ -170,6 +170,11 @@ impl<A: Allocator> Screen<A> {
     /// `Size` if the buffer has another size, and `Cursor` if the place is outside: then nothing was written and nothing changed. `Memory`:
     /// nothing was written. `Command`: a beginning of the frame was written. After these two nothing is known of the terminal, and the next
     /// frame writes all.
+    ///
+    /// ```
+    /// screen.draw(&mut tty.out, ColorOutput::Enabled, &buffer, Some((column, row)))?;
+    /// tty.out.flush()?;
+    /// ```
     pub fn draw<W: Write, B: Allocator>(
         &mut self,
         writer: &mut W,
