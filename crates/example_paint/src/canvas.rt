@@ -61,6 +61,10 @@ fn draw_cells<W: Write>(w: &mut W, cells: &[Ink]) -> io::Result<()> {
 
 impl Canvas {
     /// A blank picture.
+    ///
+    /// # Errors
+    ///
+    /// `AllocError` if memory was refused.
     pub fn new(alloc: Global) -> Result<Canvas, AllocError> {
         let cells = Vec::from_elem(alloc, 0, usize::from(COLUMNS) * usize::from(ROWS))?;
         Ok(Canvas { cells })
@@ -82,6 +86,10 @@ impl Canvas {
     }
 
     /// Writes the colours, the picture and a line of help.
+    ///
+    /// # Errors
+    ///
+    /// The writer's.
     pub fn draw<W: Write>(&self, w: &mut W) -> io::Result<()> {
         queue!(w, COLORS, ResetColor, Clear(ClearType::All))?;
         for ink in 1..16u8 {
@@ -100,6 +108,10 @@ impl Canvas {
 
 impl Dot {
     /// Writes this cell.
+    ///
+    /// # Errors
+    ///
+    /// The writer's.
     pub fn draw<W: Write>(self, w: &mut W) -> io::Result<()> {
         queue!(
             w,
@@ -112,11 +124,19 @@ impl Dot {
 }
 
 /// Begins to show a picture.
+///
+/// # Errors
+///
+/// The writer's.
 pub fn enter<W: Write>(w: &mut W) -> io::Result<()> {
     execute!(w, COLORS, EnterAlternateScreen, Hide, EnableMouseCapture)
 }
 
 /// Puts the screen back.
+///
+/// # Errors
+///
+/// The writer's.
 pub fn leave<W: Write>(w: &mut W) -> io::Result<()> {
     queue!(w, COLORS, DisableMouseCapture, ResetColor, Show)?;
     execute!(w, COLORS, LeaveAlternateScreen)

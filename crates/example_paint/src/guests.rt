@@ -217,6 +217,10 @@ fn wait(poll: &mut Poll, events: &mut Events, limit: Option<Duration>) -> io::Re
 }
 
 /// Serves guests at a port of this machine, until a signal ends the program. No guest ends it.
+///
+/// # Errors
+///
+/// The system's if it can't listen, watch or wait, and `OutOfMemory` if memory was refused at the beginning. No guest's fault is one.
 pub fn serve<N: Net>(rt: &N, alloc: Global, port: u16) -> io::Result<()> {
     let address = SocketAddr::from((Ipv4Addr::LOCALHOST, port));
     let mut listener = TcpListener::bind(rt, address)?;
