@@ -60,7 +60,11 @@ pub struct ClipboardSelection<A: Allocator = Global>(pub Vec<ClipboardType, A>);
 impl<A: Allocator> ClipboardSelection<A> {
     /// The places by their letters: `cp` is the clipboard and the primary selection.
     ///
-    /// It is no `FromStr`, which hands in no allocator. The error is `OutOfMemory`.
+    /// It is no `FromStr`, which hands in no allocator.
+    ///
+    /// # Errors
+    ///
+    /// `OutOfMemory` if memory was refused.
     pub fn from_str(alloc: A, text: &str) -> io::Result<ClipboardSelection<A>>
         ensures ok { IfOk result (λ selection. selection.0.items ≡ selection_of text.now) }
         ensures err { IfErr result (λ e. error_kind e ≡ ErrorKind.OutOfMemory) }
@@ -116,7 +120,16 @@ impl<T: AsSlice<u8>, A: Allocator> Command for CopyToClipboard<T, A> {
 }
 
 impl<T: AsSlice<u8> + Drop, A: Allocator> CopyToClipboard<T, A> {
-    /// A copy of `content` to the clipboard alone. The error is `OutOfMemory`, and `content` is dropped then.
+    /// A copy of `content` to the clipboard alone.
+    ///
+    /// # Errors
+    ///
+    /// `OutOfMemory` if memory was refused. Then `content` is dropped.
+    ///
+    /// ```
+    /// let copy = CopyToClipboard::to_clipboard_from(alloc, "a text")?;
+    /// execute!(w, colors, copy)?;
+    /// ```
     pub fn to_clipboard_from(alloc: A, content: T) -> io::Result<CopyToClipboard<T, A>>
         ensures ok { IfOk result (λ c. (c.content ≡ content)
             × (c.destination.0.items ≡ ClipboardType.Clipboard ∷ [])) }
@@ -128,7 +141,11 @@ impl<T: AsSlice<u8> + Drop, A: Allocator> CopyToClipboard<T, A> {
         })
     }
 
-    /// A copy of `content` to the primary selection alone. The error is `OutOfMemory`, and `content` is dropped then.
+    /// A copy of `content` to the primary selection alone.
+    ///
+    /// # Errors
+    ///
+    /// `OutOfMemory` if memory was refused. Then `content` is dropped.
     pub fn to_primary_from(alloc: A, content: T) -> io::Result<CopyToClipboard<T, A>>
         ensures ok { IfOk result (λ c. (c.content ≡ content)
             × (c.destination.0.items ≡ ClipboardType.Primary ∷ [])) }

@@ -18,6 +18,10 @@ pub use sys::unix::{position, position_within};
 /// Moves the cursor to a column and a row, both from 0 (CUP: ECMA-48, 8.3.21).
 ///
 /// The text counts from 1: `MoveTo(65535, 0)` writes `ESC [ 1 ; 65536 H`.
+///
+/// ```
+/// queue!(w, colors, MoveTo(2, 0), Print("in the third column"))?;
+/// ```
 #[derive(Clone, Copy, PartialEq, Eq, Debug)]
 pub struct MoveTo(pub u16, pub u16);
 
@@ -245,6 +249,12 @@ impl fmt::Display for RestorePosition {
 }
 
 /// Hides the cursor (DECTCEM: xterm ctlseqs, `CSI ? 25 l`).
+///
+/// ```
+/// execute!(w, colors, Hide)?;
+/// draw(w)?;
+/// execute!(w, colors, Show)?;
+/// ```
 #[derive(Clone, Copy, PartialEq, Eq, Debug)]
 pub struct Hide;
 
@@ -325,6 +335,10 @@ impl fmt::Display for DisableBlinking {
 }
 
 /// The cursor's shape (DECSCUSR: xterm ctlseqs, `CSI Ps SP q`).
+///
+/// ```
+/// execute!(w, colors, SetCursorStyle::SteadyBar)?;
+/// ```
 #[derive(Clone, Copy, PartialEq, Eq, Debug, Hash)]
 pub enum SetCursorStyle {
     /// The shape that the user has set.

@@ -7,15 +7,15 @@ ghost use Rattle.crossterm.specs.Values.{clears};
 use crate::terminal::ClearType;
 use std::cmp::{Ord, PartialOrd};
 
-/// Reading a selection's text gives the selection back, where `Other('c')` and `Other('p')` are the clipboard and the primary selection;
-/// and the selection of a text shows as that text.
+/// Reading a selection's text returns the selection, with the clipboard and the primary selection for `Other('c')` and `Other('p')`; and
+/// the selection of a text shows as that text.
 pub fn selections_read_back()
     ensures back { ReadsBack }
     ensures same { ReadsSame }
     ensures text { WritesBack }
 {}
 
-/// A terminal reads the text of a `CopyToClipboard` as one operating system command, where no letter of its destination is ESC or bell.
+/// A terminal reads the text of a `CopyToClipboard` as one operating system command, if no letter of its destination is ESC or bell.
 pub fn copies_read()
     ensures { CopiesRead }
 {}

@@ -1,8 +1,8 @@
 //! Terminal events and commands: crossterm 0.29.0's Unix and ANSI side, proved.
 //!
-//! Here are all modules under crossterm's names. Events stand in `crossterm_types`, bytes to events in `crossterm_parse`, devices, sources
+//! Here are all modules under crossterm's names. Events are in `crossterm_types`, bytes to events in `crossterm_parse`, devices, sources
 //! and readers in `crossterm_read`; how a command gets to a writer, and how a terminal reads it, in `crossterm_command`; `Print` in
-//! `crossterm_style`. What each promises stands in that crate. The commands themselves are here: what a terminal is told by them is
+//! `crossterm_style`. What each promises is in that crate. The commands themselves are here: what they ask of a terminal is
 //! `specs/Functions.antt`, and a command's text is the bytes of that.
 //!
 //! What is proved, beyond safety:
@@ -20,8 +20,8 @@
 //!
 //! | Definitions | Lines | Of | Contract |
 //! |---|---|---|---|
-//! | `Clipboard` | 67 | places of a copy, and what a copy tells | `CopyToClipboard` |
-//! | `Sequences` | 66 | what a terminal is told by commands that have fields | `Command::text` of each |
+//! | `Clipboard` | 67 | places of a copy, and what a copy writes | `CopyToClipboard` |
+//! | `Sequences` | 66 | what commands that have fields write | `Command::text` of each |
 //! | `Functions` | 77 | the same of all commands, by their fields | `write_commands`, `queue_all` |
 //! | `Painted` | 32 | what they do to the look | `write_commands`, `queue_all` (`shown`) |
 //! | `Updates` | 17 | an update that a terminal shows at once | `SynchronizedUpdate::sync_update` |
@@ -31,7 +31,7 @@
 //! | `Asking` | 36 | queries, and raw mode around them | `cursor::position`, `terminal::query_keyboard_enhancement_flags` |
 //! | `Values` | 14 | what is cleared, as JSON and in its order | `ClearType`; `laws::declared_order` |
 //!
-//! A function's proof stands in `proofs/` at the function's path; where there is no file, the prover found it by itself.
+//! A function's proof is in `proofs/` at the function's path; if there is no file, the prover found it by itself.
 #![tactic(auto)]
 
 pub mod clipboard;

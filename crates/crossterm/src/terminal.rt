@@ -48,6 +48,12 @@ impl Command for EnableLineWrap {
 }
 
 /// Saves the cursor and shows the alternate screen, cleared (xterm ctlseqs, `CSI ? 1049 h`).
+///
+/// ```
+/// execute!(w, colors, EnterAlternateScreen)?;
+/// draw(w)?;
+/// execute!(w, colors, LeaveAlternateScreen)?;
+/// ```
 #[derive(Clone, Copy, PartialEq, Eq, Debug)]
 pub struct EnterAlternateScreen;
 
@@ -89,6 +95,10 @@ pub enum ClearType {
 }
 
 /// Clears cells (ED and EL: ECMA-48, 8.3.39 and 8.3.41; `Purge`: xterm ctlseqs, `CSI 3 J`).
+///
+/// ```
+/// queue!(w, colors, MoveTo(0, 5), Clear(ClearType::UntilNewLine))?;
+/// ```
 #[derive(Clone, Copy, PartialEq, Eq, Debug)]
 pub struct Clear(pub ClearType);
 
@@ -185,6 +195,10 @@ impl fmt::Display for SetSize {
 /// Sets the window's title (xterm ctlseqs, `OSC 0`).
 ///
 /// The text is written as it is: one that holds an escape or a bell ends the title there.
+///
+/// ```
+/// execute!(w, colors, SetTitle("three files"))?;
+/// ```
 #[derive(Clone, Copy, PartialEq, Eq, Debug)]
 pub struct SetTitle<T>(pub T);
 

@@ -27,7 +27,7 @@
 //! | `Command` | 213 | commands as numbers, and their texts | `gelvanh_command`, `gelvanh_print` and the like |
 //! | `Outlet` | 9 | a slice that takes what fits | the same |
 //!
-//! A function's proof is in `proofs/` at the function's path; where there is no file, the prover found it by itself.
+//! A function's proof is in `proofs/` at the function's path; if there is no file, the prover found it by itself.
 #![tactic(auto)]
 
 mod color;

@@ -7,13 +7,20 @@ ghost use Rattle.crossterm_command.specs.Environment.{is_set};
 pub enum ColorOutput {
     /// Colours are written.
     Enabled,
-    /// Colours have no text, as where `NO_COLOR` is set: a command that sets some writes no parameters for them. `ESC [ m`, which is what is
-    /// left of one colour's sequence, takes attributes off too, as in the Rust crate.
+    /// Colours have no text, for when `NO_COLOR` is set: a command that sets some writes no parameters for them. `ESC [ m`, which is what
+    /// is left of one colour's sequence, takes attributes off too, as in the Rust crate.
     Disabled,
 }
 
 impl ColorOutput {
-    /// Gives `Disabled` where the value of `NO_COLOR` is there and not empty.
+    /// Returns `Disabled` if the value of `NO_COLOR` is there and not empty.
+    ///
+    /// ```
+    /// let colors = match env::var(rt, "NO_COLOR") {
+    ///     Ok(value) => ColorOutput::from_no_color(Some(value.as_str())),
+    ///     Err(_) => ColorOutput::Enabled,
+    /// };
+    /// ```
     pub fn from_no_color(no_color: Option<&str>) -> ColorOutput
         ensures { result ≡ (if is_set no_color.entry then ColorOutput.Disabled else ColorOutput.Enabled) }
     {

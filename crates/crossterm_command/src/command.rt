@@ -6,7 +6,7 @@ ghost use Rattle.crossterm_command.specs.Writing.{Writes};
 use crate::ColorOutput;
 use std::fmt;
 
-/// Something that a terminal is told by a text, mostly a control function of ECMA-48.
+/// Something that a text asks of a terminal, mostly a control function of ECMA-48.
 ///
 /// ```
 /// impl Command for Bell {
@@ -20,13 +20,17 @@ use std::fmt;
 pub trait Command {
     ghost use Rattle.crossterm_command.specs.declared.color_output.ColorOutput.{ColorOutput};
 
-    /// The text, or `None` where the command doesn't say it.
+    /// The text, or `None` if the command doesn't say it.
     ghost text: { Self → ColorOutput → Option (List ℕ) };
 
-    /// What the command tells where `write_ansi` answers an error: nothing, if it doesn't say more.
+    /// What the command says if `write_ansi` returns an error: nothing, if it doesn't say more.
     ghost fails: { Self → ColorOutput → Type 0 } = { λ _ _. ⊤ };
 
-    /// Writes the command's text. An error means that `f` failed, or the command by itself.
+    /// Writes the command's text.
+    ///
+    /// # Errors
+    ///
+    /// `fmt::Error` if `f` failed, or the command by itself.
     fn write_ansi<W: fmt::Write>(&self, f: &mut W, colors: ColorOutput) -> fmt::Result
         ensures ok { OnOk result (Writes W.write_str_gives f.old (text self.now colors) f.new) }
         ensures err { OnErr result (fails self.now colors) };

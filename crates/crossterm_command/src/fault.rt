@@ -18,7 +18,7 @@ pub enum CommandFault {
 impl From<CommandFault> for io::Error {
     ghost from_gives = { Answers };
 
-    /// The writer's own fault where it alone failed, else one of kind `Other`.
+    /// The writer's own fault if it alone failed, else one of kind `Other`.
     fn from(fault: CommandFault) -> io::Error {
         match fault {
             CommandFault::Writer(e) => e,

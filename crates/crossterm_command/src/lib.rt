@@ -1,15 +1,15 @@
 //! Commands for a terminal, and how their texts get to a writer: crossterm's `command`.
 //!
-//! It stands on the kit alone. The layers above use that a command which was written is exactly its text, or a beginning of it with an
-//! error (`specs/Writing.antt`), and that bytes read back as control functions and characters in one way at most (`specs/Tokens.antt`,
-//! whose law stands on `laws::one_reading`). Lemmas for their proofs are `proofs/Texts.antt` and `proofs/Readings.antt`.
+//! It is built on the kit alone. The layers above use two facts. A command that was written is exactly its text, or a beginning of it with
+//! an error (`specs/Writing.antt`). Bytes read back as control functions and characters in one way at most (`specs/Tokens.antt`, whose law
+//! is `laws::one_reading`). Lemmas for their proofs are `proofs/Texts.antt` and `proofs/Readings.antt`.
 //!
 //! What is proved, beyond safety:
 //!
 //! | Proved | By the contract of |
 //! |---|---|
 //! | on Ok exactly the command's text was written; on an Err of a kind other than `Other`, a prefix of it | `QueueableCommand::queue`, `ExecutableCommand::execute`, `queue_command`, `execute_command` |
-//! | an error of the writer is told from one of the command; bytes read back in one way at most | `write_command`, `send_command`, `write_text`; `laws::one_reading` |
+//! | an error of the writer is distinguished from one of the command; bytes read back in one way at most | `write_command`, `send_command`, `write_text`; `laws::one_reading` |
 //!
 //! What to believe, in the order in which it reads (`specs/`), and where it is proved:
 //!
@@ -21,7 +21,7 @@
 //! | `Faults` | 20 | why a command was stopped, and what was written | `CommandFault`, `send_command` |
 //! | `Environment` | 8 | values of environment variables | `ColorOutput::from_no_color` |
 //!
-//! A function's proof stands in `proofs/` at the function's path; where there is no file, the prover found it by itself.
+//! A function's proof is in `proofs/` at the function's path; if there is no file, the prover found it by itself.
 #![tactic(auto)]
 
 mod color_output;

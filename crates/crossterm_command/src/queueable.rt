@@ -39,10 +39,11 @@ fn execute_on<W: io::Write, C: Command + Drop>(
     }
 }
 
-/// Writes a command's text: `queue` where the writer isn't to be handed back.
+/// Writes a command's text: `queue` without handing the writer back.
 ///
 /// # Errors
-/// The writer's own where it alone failed, else one of kind `Other`. Where the kind isn't `Other` a beginning of the text was written.
+///
+/// The writer's own if it alone failed, else one of kind `Other`. If the kind isn't `Other`, a beginning of the text was written.
 pub fn queue_command<W: io::Write, C: Command + Drop>(
     writer: &mut W,
     colors: ColorOutput,
@@ -57,11 +58,12 @@ pub fn queue_command<W: io::Write, C: Command + Drop>(
     queue_on(writer, colors, command)
 }
 
-/// Writes a command's text and flushes: `execute` where the writer isn't to be handed back.
+/// Writes a command's text and flushes: `execute` without handing the writer back.
 ///
 /// # Errors
-/// The writer's own where it alone failed, else one of kind `Other`. Where the kind isn't `Other` a beginning of the text was written, and
-/// the whole where only the flush failed.
+///
+/// The writer's own if it alone failed, else one of kind `Other`. If the kind isn't `Other`, a beginning of the text was written, and the
+/// whole if only the flush failed.
 pub fn execute_command<W: io::Write, C: Command + Drop>(
     writer: &mut W,
     colors: ColorOutput,
@@ -80,8 +82,16 @@ pub fn execute_command<W: io::Write, C: Command + Drop>(
 pub trait QueueableCommand: io::Write {
     /// Writes a command's text, and gives the writer back.
     ///
-    /// A write that is interrupted is tried again, at most 64 times in a row. The error is the writer's own where it alone failed
-    /// (`WriteZero` where it took 0 bytes), and then a beginning of the text was written. It is of kind `Other` where the command failed by itself.
+    /// A write that is interrupted is tried again, at most 64 times in a row.
+    ///
+    /// # Errors
+    ///
+    /// The writer's own if it alone failed (`WriteZero` if it took 0 bytes), and then a beginning of the text was written. One of kind
+    /// `Other` if the command failed by itself.
+    ///
+    /// ```
+    /// w.queue(colors, MoveTo(0, 0))?.queue(colors, Print("ab"))?;
+    /// ```
     fn queue<C: Command + Drop>(&mut self, colors: ColorOutput, command: C) -> io::Result<&mut Self>
     where
         Self: Sized,
@@ -93,6 +103,7 @@ pub trait QueueableCommand: io::Write {
     /// Writes a command's text: what `queue!` does with all of its commands as one, on a `W` and on a `&mut W`.
     ///
     /// # Errors
+    ///
     /// Those of `queue_command`.
     fn queue_row<C: Command + Drop>(&mut self, colors: ColorOutput, command: C) -> io::Result<()>
     where
@@ -106,6 +117,7 @@ pub trait QueueableCommand: io::Write {
     /// Writes a command's text and flushes: what `execute!` does with all of its commands as one.
     ///
     /// # Errors
+    ///
     /// Those of `execute_command`.
     fn execute_row<C: Command + Drop>(&mut self, colors: ColorOutput, command: C) -> io::Result<()>
     where
@@ -116,7 +128,7 @@ pub trait QueueableCommand: io::Write {
         ensures cause { OnErr result (AppendsFrontOfText (Self.contents self.old) (Self.contents self.new) (C.text command colors)
             ⊎ C.fails command colors) };
 
-    /// The writer itself: what `queue!` and `execute!` look at where they have no command, so that they take a `W` and a `&mut W`.
+    /// The writer itself: what `queue!` and `execute!` look at if they have no command, so that they take a `W` and a `&mut W`.
     fn as_writer(&mut self) -> &mut Self
     where
         Self: Sized,
@@ -157,7 +169,13 @@ impl<W: io::Write> QueueableCommand for W {
 pub trait ExecutableCommand: io::Write {
     /// Writes a command's text, flushes, and gives the writer back.
     ///
-    /// The error is that of `queue`, or the flush's, and then the whole text was written.
+    /// # Errors
+    ///
+    /// That of `queue`, or the flush's, and then the whole text was written.
+    ///
+    /// ```
+    /// w.execute(colors, Print("ab"))?;
+    /// ```
     fn execute<C: Command + Drop>(
         &mut self,
         colors: ColorOutput,

@@ -22,7 +22,7 @@ impl Tries {
         Tries { left: TRIES }
     }
 
-    /// Takes a try, where the write was interrupted and one is left.
+    /// Takes a try, if the write was interrupted and one is left.
     pub(crate) fn take(&mut self, fault: &io::Error) -> bool
         ensures again { IsTrue result ↔ ((error_kind fault.now ≡ ErrorKind.Interrupted) × (0 < self.old.left)) }
         ensures one { IsTrue result → self.new.left + 1 ≡ self.old.left }

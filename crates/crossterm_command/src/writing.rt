@@ -10,7 +10,11 @@ use std::io::ErrorKind;
 use std::{fmt, io};
 
 /// Writes all of a text, however few bytes a call takes. An interrupted write is tried again at most 64 times in a row; a write that takes
-/// 0 bytes is `WriteZero`. At an error, which is the writer's own, a beginning was written.
+/// 0 bytes is `WriteZero`.
+///
+/// # Errors
+///
+/// The writer's own, and then a beginning of the text was written.
 pub fn write_text<W: io::Write>(writer: &mut W, text: &str) -> io::Result<()>
     ensures ok { OnOk result (Appends (W.contents writer.old) (W.contents writer.new) text.now) }
     ensures err { OnErr result (AppendsFront (W.contents writer.old) (W.contents writer.new) text.now) }
@@ -21,6 +25,7 @@ pub fn write_text<W: io::Write>(writer: &mut W, text: &str) -> io::Result<()>
 /// Writes all of some bytes, as `write_text` does a text.
 ///
 /// # Errors
+///
 /// Those of `write_text`; the writer has taken a front of the bytes then.
 pub fn write_bytes<W: io::Write>(writer: &mut W, bytes: &[u8]) -> io::Result<()>
     ensures ok { OnOk result (Appends (W.contents writer.old) (W.contents writer.new) bytes.now) }
@@ -63,7 +68,12 @@ impl<W: io::Write> fmt::Write for Adapter<'_, W> {
     }
 }
 
-/// Writes a command's text as it comes, without a copy and without memory: `queue` with an error that tells who failed.
+/// Writes a command's text as it comes, without a copy and without memory: `queue` with an error that says who failed.
+///
+/// # Errors
+///
+/// `Writer` if the writer alone failed, and then a beginning of the text was written. `Text` if the command failed by itself, and `Both` if
+/// both did.
 pub fn write_command<W: io::Write, C: Command>(
     writer: &mut W,
     colors: ColorOutput,
@@ -88,9 +98,11 @@ pub fn write_command<W: io::Write, C: Command>(
     }
 }
 
-/// Writes a command's text as `write_command` does, and flushes: `execute` with an error that tells who failed.
+/// Writes a command's text as `write_command` does, and flushes: `execute` with an error that says who failed.
 ///
-/// Where only the flush failed, which is the writer's fault, the whole text was written.
+/// # Errors
+///
+/// Those of `write_command`. If only the flush failed, it is `Writer`, and the whole text was written.
 pub fn send_command<W: io::Write, C: Command>(
     writer: &mut W,
     colors: ColorOutput,

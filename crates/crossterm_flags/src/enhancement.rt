@@ -21,7 +21,7 @@ impl KeyboardEnhancementFlags {
     /// Escape and modified keys come as `CSI u`, so that none reads as the start of another.
     pub const DISAMBIGUATE_ESCAPE_CODES: KeyboardEnhancementFlags = KeyboardEnhancementFlags(1);
 
-    /// Repeated and released keys are told apart from pressed ones.
+    /// Repeated and released keys are distinguished from pressed ones.
     pub const REPORT_EVENT_TYPES: KeyboardEnhancementFlags = KeyboardEnhancementFlags(2);
 
     /// The shifted character comes beside the key.
@@ -32,7 +32,7 @@ impl KeyboardEnhancementFlags {
         8,
     );
 
-    /// The text that a key gives comes beside it, where every key comes as `CSI u`.
+    /// The text that a key gives comes beside it, if every key comes as `CSI u`.
     pub const REPORT_ASSOCIATED_TEXT: KeyboardEnhancementFlags = KeyboardEnhancementFlags(16);
 
     const FLAGS: &'static [Flag<KeyboardEnhancementFlags>] = &[
@@ -230,7 +230,8 @@ impl FlagSet for KeyboardEnhancementFlags {
     ghost exact_law = { tt };
 }
 
-/// The names of the flags, and the bits without a name as one number: `KeyboardEnhancementFlags(REPORT_EVENT_TYPES)`, and `KeyboardEnhancementFlags(0x0)` where there are none.
+/// The names of the flags, and the bits without a name as one number: `KeyboardEnhancementFlags(REPORT_EVENT_TYPES)`, and
+/// `KeyboardEnhancementFlags(0x0)` if there are none.
 impl fmt::Debug for KeyboardEnhancementFlags {
     fn fmt<W: fmt::Write>(&self, f: &mut fmt::Formatter<W>) -> fmt::Result {
         shown::show(f, "KeyboardEnhancementFlags", self)

@@ -1,11 +1,11 @@
 //! Sets of bits of terminal events: the modifiers of a key, the state of a key, and the flags of kitty's keyboard protocol.
 //!
-//! Each is a byte by hand over `bitflags`; clauses see its bits. Their operations are written out for each: a macro of this repository may write
-//! no `impl`, and one generic set under three aliases would be another type in the clauses of every crate above.
+//! Each is a byte by hand over `bitflags`; clauses see its bits. Their operations are written out for each. A macro of this repository may
+//! write no `impl`. One generic set under three aliases would be another type in the clauses of every crate above.
 //!
-//! For the crates above stand here too what it means that a type's comparisons
-//! go by an order (`specs/Orders.antt`), the names and ranks of an enum's variants by one table (`specs/Variants.antt`), and the lemmas that
-//! an enum's derived comparisons go by ranks (`proofs/Ranks.antt`).
+//! The crates above use more of what is here. `specs/Orders.antt` says what it means that a type's comparisons go by an order.
+//! `specs/Variants.antt` has the names and ranks of an enum's variants by one table. `proofs/Ranks.antt` has the lemmas that an enum's
+//! derived comparisons go by ranks.
 //!
 //! What is proved, beyond safety:
 //!
@@ -25,7 +25,7 @@
 //! | `Orders` | 8 | what a type's comparisons answer | `laws` of the crates above |
 //! | `Values` | 66 | values as JSON | `to_value` and `from_value` of each |
 //!
-//! A function's proof stands in `proofs/` at the function's path; where there is no file, the prover found it by itself.
+//! A function's proof is in `proofs/` at the function's path; if there is no file, the prover found it by itself.
 #![tactic(auto)]
 
 mod enhancement;

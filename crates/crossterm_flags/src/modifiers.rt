@@ -167,6 +167,12 @@ impl KeyModifiers {
     }
 
     /// Whether every bit of the other set is in this one.
+    ///
+    /// ```
+    /// if key.modifiers.contains(KeyModifiers::CONTROL | KeyModifiers::ALT) {
+    ///     leave();
+    /// }
+    /// ```
     pub fn contains(&self, other: KeyModifiers) -> bool
         ensures { result ≡ (bit_and self.now.0 other.0 == other.0) }
     {
@@ -278,7 +284,8 @@ impl FlagSet for KeyModifiers {
     ghost exact_law = { tt };
 }
 
-/// The names of the flags, and the bits without a name as one number: `KeyModifiers(SHIFT | CONTROL)`, and `KeyModifiers(0x0)` where there are none.
+/// The names of the flags, and the bits without a name as one number: `KeyModifiers(SHIFT | CONTROL)`, and `KeyModifiers(0x0)` if there are
+/// none.
 impl fmt::Debug for KeyModifiers {
     fn fmt<W: fmt::Write>(&self, f: &mut fmt::Formatter<W>) -> fmt::Result {
         shown::show(f, "KeyModifiers", self)

@@ -13,12 +13,12 @@ use std::ops::{
     BitAnd, BitAndAssign, BitOr, BitOrAssign, BitXor, BitXorAssign, Not, Sub, SubAssign,
 };
 
-/// What else a keyboard tells of a key: whether it stands on the keypad, and which locks are on.
+/// What else a keyboard reports of a key: whether it is on the keypad, and which locks are on.
 #[derive(Clone, Copy, PartialEq, Eq, PartialOrd, Ord, Hash)]
 pub struct KeyEventState(u8);
 
 impl KeyEventState {
-    /// The key stands on the keypad.
+    /// The key is on the keypad.
     pub const KEYPAD: KeyEventState = KeyEventState(1);
 
     /// Caps Lock is on.
@@ -221,7 +221,8 @@ impl FlagSet for KeyEventState {
     ghost exact_law = { tt };
 }
 
-/// The names of the flags, and the bits without a name as one number: `KeyEventState(CAPS_LOCK)`, and `KeyEventState(0x0)` where there are none.
+/// The names of the flags, and the bits without a name as one number: `KeyEventState(CAPS_LOCK)`, and `KeyEventState(0x0)` if there are
+/// none.
 impl fmt::Debug for KeyEventState {
     fn fmt<W: fmt::Write>(&self, f: &mut fmt::Formatter<W>) -> fmt::Result {
         shown::show(f, "KeyEventState", self)

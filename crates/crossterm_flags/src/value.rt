@@ -32,7 +32,7 @@ impl From<AllocError> for ValueFault {
     }
 }
 
-/// A type of whose values a name alone tells some or all.
+/// A type of whose values some or all are known by a name alone.
 pub trait Named: Copy + PartialEq {
     // Those values with their names, in declared order.
     ghost rows: { List (List ℕ × Self) };
@@ -58,7 +58,7 @@ macro_rules! named_variants {
     };
 }
 
-/// The name of a value in a table, and nothing where it has none.
+/// The name of a value in a table, and the empty text if it has none.
 pub fn name_in<'a, T: Copy + PartialEq>(table: &[(&'a str, T)], value: T) -> &'a str
     ensures { result.now ≡ name_in ⟦<T as PartialEq>⟧.eq (rows_of table.now) value }
 {
@@ -93,6 +93,10 @@ pub fn read_named<T: Named>(value: &Value) -> Option<T>
 }
 
 /// The name of a value as JSON.
+///
+/// # Errors
+///
+/// `Memory` if memory for it was refused.
 pub fn tell_named<T: Named>(alloc: Global, value: T) -> Result<Value, ValueFault>
     ensures { Tells (string (name_in ⟦<T as PartialEq>⟧.eq T.rows value)) result }
 {
@@ -100,6 +104,10 @@ pub fn tell_named<T: Named>(alloc: Global, value: T) -> Result<Value, ValueFault
 }
 
 /// A text as JSON.
+///
+/// # Errors
+///
+/// `Memory` if memory for it was refused.
 pub fn tell_text(alloc: Global, text: &str) -> Result<Value, ValueFault>
     ensures { Tells (string text.now) result }
 {
@@ -110,6 +118,10 @@ pub fn tell_text(alloc: Global, text: &str) -> Result<Value, ValueFault>
 }
 
 /// An object with one member.
+///
+/// # Errors
+///
+/// `Memory` if memory for it was refused.
 pub fn tell_member(alloc: Global, name: &str, value: Value) -> Result<Value, ValueFault>
     ensures { Tells (one_member name.now (view value)) result }
 {
@@ -120,6 +132,10 @@ pub fn tell_member(alloc: Global, name: &str, value: Value) -> Result<Value, Val
 }
 
 /// What was read, or that the JSON has another shape.
+///
+/// # Errors
+///
+/// `Shape` if nothing was read.
 pub fn shaped<T: Drop>(reading: Option<T>) -> Result<T, ValueFault>
     ensures { Reads (λ x. x) reading result }
 {
@@ -163,7 +179,7 @@ pub fn read_member(value: &Value) -> Option<(&str, &Value)>
     }
 }
 
-/// The four members of an object that has these names, in their order, and no other: what stands there.
+/// The values of the four members of an object that has these names, in their order, and no other.
 pub fn read_four<'a>(
     value: &'a Value,
     a: &str,

@@ -12,7 +12,7 @@ use bstr::decode_utf8;
 /// The bytes of a character so far.
 #[derive(Clone, Copy)]
 pub struct Character {
-    /// Whether an escape stands before them.
+    /// Whether an escape precedes them.
     pub escaped: bool,
     pub begun: Begun,
 }
@@ -79,7 +79,7 @@ impl Character {
         }
     }
 
-    /// Takes one more byte, where the character goes on with it, and tells whether it does.
+    /// Takes one more byte, if the character goes on with it, and returns whether it does.
     pub fn put(&mut self, byte: u8) -> bool
         ensures yes { IsTrue result → grown self.old.escaped self.old.begun byte ≡ More self.new.begun }
         ensures escaped { self.new.escaped ≡ self.old.escaped }

@@ -54,7 +54,7 @@ impl Field {
         }
     }
 
-    /// The field as one number: none where it has a second part, for no number has a `:`.
+    /// The field as one number: none if it has a second part, for no number has a `:`.
     pub fn whole(&self) -> Number
         ensures { result ≡ whole_of self.now }
     {

@@ -124,7 +124,7 @@ fn modifier_key_of(point: u32) -> FunctionalKey
     }
 }
 
-/// The character of a code point, where it is one.
+/// The character of a code point, if it is one.
 pub fn character(point: u32) -> Option<char>
     ensures { result ≡ char_of point }
 {
@@ -149,7 +149,7 @@ fn text_key(point: u32, raw: bool, shift: bool) -> Option<KeyCode>
     }
 }
 
-/// The key of a code point, or nothing where it is no character.
+/// The key of a code point, or nothing if it is no character.
 pub fn key_of_point(point: u32, raw: bool, shift: bool) -> Option<FunctionalKey>
     ensures { result ≡ functional_key raw shift point }
 {

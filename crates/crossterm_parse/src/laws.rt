@@ -12,20 +12,20 @@ pub fn unique_division()
 
 /// The law of cuttings: however the same marked bytes are cut into pieces, they give the same events, and an empty piece does nothing.
 ///
-/// Marks belong to the bytes: a cut at a pause isn't a cut where more bytes follow at once.
+/// Marks belong to the bytes: a cut at a pause isn't a cut after which more bytes follow at once.
 pub fn cuttings()
     ensures alike { CutsAlike }
     ensures empty { EmptyDoesNothing }
 {}
 
-/// The law of steps: over any list of calls that begins with no paste open, as with a new parser, and of which each takes its piece whole,
-/// the steps are at most twice the bytes.
+/// The law of steps: over a list of calls the steps are at most twice the bytes. The list begins with no paste open, as with a new parser,
+/// and each call takes its piece whole.
 pub fn two_steps_a_byte()
     ensures { TwoStepsAByte }
 {}
 
-/// The law of steps from below: over any list of calls, of which each took the whole of its piece or the front of it, the steps are at least
-/// the bytes taken.
+/// The law of steps from below: over any list of calls the steps are at least the bytes taken. Each call took the whole of its piece or the
+/// front of it.
 pub fn a_step_a_byte()
     ensures { AStepAByte }
 {}

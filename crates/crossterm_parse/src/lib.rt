@@ -1,9 +1,9 @@
 //! From the bytes of a terminal to its events: crossterm's `event::sys::unix::parse`.
 //!
-//! It stands on `crossterm_types`. The layers above use that `Parser::advance` and `Parser::next` follow the only division of the bytes
+//! It is built on `crossterm_types`. The layers above use that `Parser::advance` and `Parser::next` follow the only division of the bytes
 //! into whole sequences (`specs/View.antt`). The grammar is `specs/Grammar.antt`, and what a sequence means `specs/Meaning.antt`.
 //!
-//! A sequence has one of these shapes, each by where it ends (ECMA-48, xterm's control sequences, kitty's keyboard protocol):
+//! A sequence has one of these shapes, each by the place where it ends (ECMA-48, xterm's control sequences, kitty's keyboard protocol):
 //!
 //! | Shape | Ends at |
 //! |---|---|
@@ -20,7 +20,7 @@
 //! | `ESC [ d w f`, d a digit, but not `ESC[200~` | f, the first byte of 64 to 126 |
 //! | `ESC[200~` and a text | the first `ESC[201~` |
 //!
-//! ESC alone is the Esc key where nothing came with it after it.
+//! ESC alone is the Esc key if nothing came with it after it.
 //!
 //! What is proved, beyond safety:
 //!
@@ -52,8 +52,8 @@
 //! | `View` | 96 | a parser as its callers see it, and what it makes of a piece | `Parser::advance`; `laws::{cuttings, two_steps_a_byte, a_step_a_byte}` |
 //! | `Giving` | 27 | its events, one after another | `Parser::{next, events}` |
 //!
-//! What only proofs and private clauses cite stands in `specs/inside/`. A function's proof stands in `proofs/` at the function's path;
-//! where there is no file, the prover found it by itself.
+//! What only proofs and private clauses cite is in `specs/inside/`. A function's proof is in `proofs/` at the function's path; if there is
+//! no file, the prover found it by itself.
 #![tactic(auto)]
 
 pub mod character;

@@ -1,6 +1,6 @@
-//! Bytes as a device told them.
+//! Bytes as a device reported them.
 
-/// A byte, with what the device told beside it.
+/// A byte, with what the device reported beside it.
 #[derive(Clone, Copy, Debug, PartialEq, Eq)]
 pub struct Marked {
     /// The byte.

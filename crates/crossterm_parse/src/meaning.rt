@@ -64,7 +64,7 @@ pub fn pressed_alone(code: KeyCode) -> Meaning
     pressed_key(code, KeyModifiers::NONE)
 }
 
-/// The key of a character that was typed: with SHIFT where it is upper case.
+/// The key of a character that was typed: with SHIFT if it is upper case.
 pub fn typed_key(c: char) -> KeyEvent
     ensures { Meaning.Key result ≡ typed c }
 {
@@ -210,7 +210,7 @@ pub fn meaning_of_linux_key(byte: u8) -> Option<Meaning>
     }
 }
 
-/// The flags that a reply tells by the number that its text is: none where that isn't one of 8 bits.
+/// The flags that a reply reports by the number that its text is: none if that isn't one of 8 bits.
 pub fn meaning_of_flags(number: Number) -> Option<Meaning>
     ensures { result ≡ flags_reply (reading number) }
 {
@@ -222,7 +222,7 @@ pub fn meaning_of_flags(number: Number) -> Option<Meaning>
     }
 }
 
-/// What the bytes of a character mean: that character, or nothing where they are none.
+/// What the bytes of a character mean: that character, or nothing if they are none.
 pub fn meaning_of_character(bytes: &[u8]) -> Option<Meaning>
     ensures { result ≡ decoded_character (decoded bytes.now).char }
 {

@@ -5,7 +5,7 @@ ghost use Rattle.crossterm_parse.specs.ModifierField.{mask_modifiers, mask_state
 
 use crossterm_types::event::{KeyEventKind, KeyEventState, KeyModifiers};
 
-/// What the modifier field tells.
+/// What the modifier field means.
 #[derive(Clone, Copy)]
 pub struct ModifierField {
     pub modifiers: KeyModifiers,
@@ -13,7 +13,7 @@ pub struct ModifierField {
     pub state: KeyEventState,
 }
 
-/// A value where a bit is there, else nothing.
+/// A value if a bit is there, else nothing.
 pub fn value_of_bit(bits: u8, bit: u8, value: u8) -> u8
     ensures { result ≡ where_bit bits bit value }
 {
@@ -61,7 +61,7 @@ impl ModifierField {
         }
     }
 
-    /// What a mask and a kind tell, or nothing where there is no mask.
+    /// What a mask and a kind mean, or nothing if there is no mask.
     pub fn read(mask: Option<u8>, kind: Option<u8>) -> Option<ModifierField>
         ensures { result ≡ modifier_field mask kind }
     {
@@ -75,7 +75,7 @@ impl ModifierField {
         }
     }
 
-    /// What the last byte tells where the field can't be read: it is the mask, where it is a digit.
+    /// What the last byte means if the field can't be read: it is the mask, if it is a digit.
     pub fn fallback(last: u8) -> Option<ModifierField>
         ensures { result ≡ fallback last }
     {

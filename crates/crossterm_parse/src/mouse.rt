@@ -86,7 +86,7 @@ fn event_at(code: u8, column: u16, row: u16) -> Option<MouseEvent>
     }
 }
 
-/// What a code means at a place, where all three are there.
+/// What a code means at a place, if all three are there.
 pub fn report(code: Option<u8>, column: Option<u16>, row: Option<u16>) -> Option<MouseEvent>
     ensures { result ≡ mouse_report code column row }
 {
@@ -96,7 +96,7 @@ pub fn report(code: Option<u8>, column: Option<u16>, row: Option<u16>) -> Option
     }
 }
 
-/// A byte less an amount, where it isn't below.
+/// A byte less an amount, if it isn't below.
 pub fn byte_less(amount: u8, byte: u8) -> Option<u8>
     ensures { result ≡ less amount byte }
 {
@@ -132,7 +132,7 @@ pub fn ended_by(last: u8, event: MouseEvent) -> MouseEvent
 }
 
 impl X10Report {
-    /// Takes one more byte, where the report goes on with it, and tells whether it does.
+    /// Takes one more byte, if the report goes on with it, and returns whether it does.
     #[inline(never)]
     pub fn put(&mut self, byte: u8) -> bool
         ensures yes { IsTrue result → x10_after self.old byte ≡ Open (X10 self.new) }

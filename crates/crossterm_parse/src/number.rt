@@ -46,7 +46,7 @@ impl Number {
         }
     }
 
-    /// Reads one more byte. Where the value only grows, nothing but it is written.
+    /// Reads one more byte. If the value only grows, nothing but it is written.
     #[inline(always)]
     pub fn read(&mut self, byte: u8)
         ensures { self.new ≡ number_after self.old byte }
@@ -84,7 +84,7 @@ impl Number {
         }
     }
 
-    /// The number, where it is one.
+    /// The number, if it is one.
     pub fn value(self) -> Option<u32>
         ensures { result ≡ reading self }
     {
@@ -94,7 +94,7 @@ impl Number {
         }
     }
 
-    /// The number, where it is one of 8 bits.
+    /// The number, if it is one of 8 bits.
     pub fn byte(self) -> Option<u8>
         ensures { result ≡ at_most 255 (reading self) }
     {
@@ -104,7 +104,7 @@ impl Number {
         }
     }
 
-    /// The number, where it is one of 16 bits.
+    /// The number, if it is one of 16 bits.
     pub fn short(self) -> Option<u16>
         ensures { result ≡ at_most 65535 (reading self) }
     {

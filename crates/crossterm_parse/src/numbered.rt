@@ -86,7 +86,7 @@ pub fn is_mouse_final(byte: u8) -> bool
     matches!(byte, b'M' | b'm')
 }
 
-/// A key of a code point, with its modifier field, and with its alternate where SHIFT is.
+/// A key of a code point, with its modifier field, and with its alternate if SHIFT is there.
 fn meaning_of_functional(
     modifier_field: ModifierField,
     alternate: Option<u32>,
@@ -150,8 +150,8 @@ impl Parameters {
         self.validity.read(byte);
     }
 
-    /// Reads the digits in front that change no number, and returns how many. A sequence has them where it has more digits than a
-    /// number can, or zeros before one.
+    /// Reads the digits in front that change no number, and returns how many. A sequence has them if it has more digits than a number can,
+    /// or zeros before one.
     pub fn read_idle(&mut self, bytes: &[u8]) -> usize
         ensures within { result ≤ length bytes.now }
         ensures numbered { Opens (state.Numbered self.old opening.Not) (state.Numbered self.new opening.Not) (take result bytes.now) }

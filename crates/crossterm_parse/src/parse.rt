@@ -39,7 +39,7 @@ pub use events::Events;
 ///
 /// ```
 /// let mut parser = Parser::new(rt.alloc());
-/// // Where the piece is full, more bytes may follow at once, so that ESC at its end is no key yet.
+/// // If the piece is full, more bytes may follow at once, so that ESC at its end is no key yet.
 /// if parser.feed(&piece[..count], count == piece.len(), true) < count {
 ///     return Err(io::Error::from(ErrorKind::OutOfMemory));
 /// }
@@ -105,7 +105,9 @@ impl<A: Allocator + Clone> Parser<A> {
 
     /// Makes room for the events of so many more bytes.
     ///
-    /// Where memory is refused, the answer is `OutOfMemory` and nothing has changed.
+    /// # Errors
+    ///
+    /// `OutOfMemory` if memory was refused. Then nothing has changed.
     pub fn reserve(&mut self, count: usize) -> io::Result<()>
         ensures ok { OnOk result (count ≤ self.new.room) }
         ensures err { IfErr result (λ e. error_kind e ≡ OutOfMemory) }
@@ -151,7 +153,7 @@ impl<A: Allocator + Clone> Parser<A> {
         Ok(())
     }
 
-    /// Gives the event of a character that was typed, where the bytes are one.
+    /// Gives the event of a character that was typed, if the bytes are one.
     fn give_character(&mut self, c: Option<char>) -> Result<(), AllocError>
         ensures state { self.new.state ≡ self.old.state }
         ensures text { self.new.text ≡ self.old.text }
@@ -302,10 +304,11 @@ impl<A: Allocator + Clone> Parser<A> {
         }
     }
 
-    /// Takes the bytes of a piece, and tells how many: fewer than the piece has only where memory was refused, and then the others are handed in again later.
+    /// Takes the bytes of a piece, and returns how many: fewer than the piece has only if memory was refused, and then the others are
+    /// handed in again later.
     ///
-    /// `more` says that bytes of the same answer follow at once, so that ESC at the end is no Esc key yet. `raw` is the mode that the
-    /// bytes came in: there a line feed is Ctrl-J, and Enter otherwise.
+    /// `more` says that bytes of the same answer follow at once, so that ESC at the end is no Esc key yet. `raw` says whether the bytes
+    /// came in raw mode: then a line feed is Ctrl-J, and else Enter.
     pub fn advance<L: Ledger>(
         &mut self,
         piece: &[u8],
@@ -318,12 +321,12 @@ impl<A: Allocator + Clone> Parser<A> {
         ensures divided { AdvancesOver self.old self.new (take result (marked piece.now more raw)) }
         // A piece that ends no event, with no paste open after it, takes no memory.
         ensures quiet { EndsNoEvent self.old (marked piece.now more raw) → result ≡ length piece.now }
-        // Where there is room, neither does a piece that opens no paste.
+        // If there is room, neither does a piece that opens no paste.
         ensures reserved { length piece.now ≤ self.old.room → OpensNoPaste self.old (marked piece.now more raw) → result ≡ length piece.now }
         // It stops only at a byte that ends an event, or is of a paste.
         ensures stops { result < length piece.now → ¬ EndsNoEvent self.new (take 1 (drop result (marked piece.now more raw))) }
         ensures room { self.old.room ≤ self.new.room + result }
-        // Where all are taken, the steps and the open paste's length are at most its length before and twice the bytes.
+        // If all are taken, the steps and the open paste's length are at most its length before and twice the bytes.
         ensures steps { result ≡ length piece.now → TakesSteps self.old self.new steps.old steps.new result }
         // Each byte taken is a step at least.
         ensures counted { steps.old + result ≤ steps.new }
@@ -356,7 +359,7 @@ impl<A: Allocator + Clone> Parser<A> {
         advance_uncounted::<Brand, A>(self, piece, more, raw, Blank::new(1))
     }
 
-    /// The first event not yet given, or `None` where there is none. This takes no memory.
+    /// The first event not yet given, or `None` if there is none. This takes no memory.
     pub fn next(&mut self) -> Option<InternalEvent<A>>
         ensures none { IfNone result ((self.old.waiting ≡ []) × (self.new.waiting ≡ [])) }
         ensures some { IfSome result (λ event. self.old.waiting ≡ seen event ∷ self.new.waiting) }

@@ -71,7 +71,7 @@ pub enum Met {
 }
 
 impl Met {
-    /// Takes one more byte, where the paste goes on with it, and tells whether it does.
+    /// Takes one more byte, if the paste goes on with it, and returns whether it does.
     pub(crate) fn put(&mut self, byte: u8) -> bool
         ensures yes { IsTrue result → met_after self.old byte ≡ Open (Paste self.new) }
         ensures no { IsFalse result → met_after self.old byte ≡ Closed }
@@ -90,7 +90,7 @@ impl Met {
     }
 }
 
-/// How many bytes stand before the first ESC.
+/// How many bytes precede the first ESC.
 pub fn before_escape(bytes: &[u8]) -> usize
     ensures most { result ≤ length bytes.now }
     ensures none { AllByRecursion (λ b. b == 27 ≡ false) (take result bytes.now) }
@@ -130,7 +130,11 @@ impl<A: Allocator + Clone> PasteText<A> {
         self.bytes.len()
     }
 
-    /// Joins a byte at the end. Where memory is refused, nothing has changed.
+    /// Joins a byte at the end.
+    ///
+    /// # Errors
+    ///
+    /// `AllocError` if memory was refused. Then nothing has changed.
     pub fn push(&mut self, byte: u8) -> Result<(), AllocError>
         ensures ok { OnOk result (self.new ≡ self.old ++ byte ∷ []) }
         ensures err { OnErr result (self.new ≡ self.old) }
@@ -140,7 +144,11 @@ impl<A: Allocator + Clone> PasteText<A> {
         Ok(())
     }
 
-    /// Joins the bytes before the next ESC at the end, and tells how many. Where memory is refused, nothing has changed.
+    /// Joins the bytes before the next ESC at the end, and returns how many.
+    ///
+    /// # Errors
+    ///
+    /// `AllocError` if memory was refused. Then nothing has changed.
     #[inline(never)]
     pub fn extend<L: Ledger>(
         &mut self,
@@ -158,7 +166,7 @@ impl<A: Allocator + Clone> PasteText<A> {
         Ok(count)
     }
 
-    /// The byte at a place, where there is one.
+    /// The byte at a place, if there is one.
     pub fn look<L: Ledger>(&self, place: usize, steps: &mut Steps<L>) -> Option<u8>
         ensures byte { result ≡ slice_get self.now place }
         ensures steps { steps.new ≡ steps.old + 1 }
@@ -170,6 +178,10 @@ impl<A: Allocator + Clone> PasteText<A> {
     /// The text without the begun end, which has five bytes, and with U+FFFD for each maximal part that isn't UTF-8.
     ///
     /// Each byte of it is looked at once.
+    ///
+    /// # Errors
+    ///
+    /// `AllocError` if memory for the text was refused. The paste is as it was.
     pub fn close<L: Ledger>(&self, steps: &mut Steps<L>) -> Result<String<A>, AllocError>
         ensures text { IfOk result (λ text. string_bytes text ≡ encode_utf8_all (lossy_chars (take (length self.now - 5) self.now))) }
         ensures steps { steps.new ≡ steps.old + (length self.now - 5) }

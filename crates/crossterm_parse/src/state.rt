@@ -45,7 +45,7 @@ pub enum State {
     Reply(Number),
     /// `ESC [`, a digit and more.
     Numbered(Parameters, Opening),
-    /// `ESC[200~` and a text, which stands elsewhere.
+    /// `ESC[200~` and a text, which is kept elsewhere.
     Paste(Met),
     /// A character in UTF-8, with an escape before it or none.
     Utf8(Character),
@@ -72,7 +72,7 @@ pub(crate) fn is_letter(byte: u8) -> bool
     matches!(byte, 32..=126)
 }
 
-/// How many letters stand in front.
+/// How many letters are in front.
 #[inline(always)]
 fn letters_in(bytes: &[u8]) -> usize
     ensures within { result ≤ length bytes.now }
@@ -86,7 +86,7 @@ fn letters_in(bytes: &[u8]) -> usize
     bytes.len()
 }
 
-/// Reads a byte with which a numbered sequence goes on, and tells whether it does.
+/// Reads a byte with which a numbered sequence goes on, and returns whether it does.
 #[inline(always)]
 fn read_number(parameters: &mut Parameters, opening: &mut Opening, byte: u8) -> bool
     ensures yes { IsTrue result → (raw pause : Bool) → state_after (State.Numbered parameters.old opening.old) byte raw pause ≡ Open (State.Numbered parameters.new opening.new) }
@@ -103,7 +103,7 @@ fn read_number(parameters: &mut Parameters, opening: &mut Opening, byte: u8) -> 
     true
 }
 
-/// Reads a byte with which a report of the mouse goes on, and tells whether it does.
+/// Reads a byte with which a report of the mouse goes on, and returns whether it does.
 #[inline(always)]
 fn read_report(parameters: &mut Parameters, byte: u8) -> bool
     ensures yes { IsTrue result → (raw pause : Bool) → state_after (State.Sgr parameters.old) byte raw pause ≡ Open (State.Sgr parameters.new) }
@@ -117,7 +117,7 @@ fn read_report(parameters: &mut Parameters, byte: u8) -> bool
     true
 }
 
-/// Reads a byte with which a reply goes on, and tells whether it does.
+/// Reads a byte with which a reply goes on, and returns whether it does.
 #[inline(always)]
 fn read_reply(number: &mut Number, byte: u8) -> bool
     ensures { Reads (State.Reply number.old) (State.Reply number.new) byte result }
@@ -131,7 +131,7 @@ fn read_reply(number: &mut Number, byte: u8) -> bool
     true
 }
 
-/// Reads the bytes in front with which a numbered sequence goes on, one by one, and tells how many.
+/// Reads the bytes in front with which a numbered sequence goes on, one by one, and returns how many.
 #[inline(always)]
 fn read_few_numbers(parameters: &mut Parameters, opening: &mut Opening, bytes: &[u8]) -> usize
     ensures within { result ≤ length bytes.now }
@@ -145,7 +145,7 @@ fn read_few_numbers(parameters: &mut Parameters, opening: &mut Opening, bytes: &
     bytes.len()
 }
 
-/// Reads the bytes in front with which a report of the mouse goes on, one by one, and tells how many.
+/// Reads the bytes in front with which a report of the mouse goes on, one by one, and returns how many.
 #[inline(always)]
 fn read_few_reports(parameters: &mut Parameters, bytes: &[u8]) -> usize
     ensures within { result ≤ length bytes.now }
@@ -159,7 +159,7 @@ fn read_few_reports(parameters: &mut Parameters, bytes: &[u8]) -> usize
     bytes.len()
 }
 
-/// Reads the bytes in front with which a long numbered sequence goes on, and tells how many. Digits that change no number are skipped.
+/// Reads the bytes in front with which a long numbered sequence goes on, and returns how many. Digits that change no number are skipped.
 #[inline(never)]
 fn read_more_numbers(parameters: &mut Parameters, opening: &mut Opening, bytes: &[u8]) -> usize
     ensures within { result ≤ length bytes.now }
@@ -174,7 +174,7 @@ fn read_more_numbers(parameters: &mut Parameters, opening: &mut Opening, bytes: 
     }
 }
 
-/// Reads the bytes in front with which a long report of the mouse goes on, and tells how many. Digits that change no number are skipped.
+/// Reads the bytes in front with which a long report of the mouse goes on, and returns how many. Digits that change no number are skipped.
 #[inline(never)]
 fn read_more_reports(parameters: &mut Parameters, bytes: &[u8]) -> usize
     ensures within { result ≤ length bytes.now }
@@ -184,7 +184,7 @@ fn read_more_reports(parameters: &mut Parameters, bytes: &[u8]) -> usize
     count + read_few_reports(parameters, &bytes[count..])
 }
 
-/// Reads the bytes in front with which a numbered sequence goes on, and tells how many.
+/// Reads the bytes in front with which a numbered sequence goes on, and returns how many.
 fn read_numbers(parameters: &mut Parameters, opening: &mut Opening, bytes: &[u8]) -> usize
     ensures within { result ≤ length bytes.now }
     ensures opens { Opens (State.Numbered parameters.old opening.old) (State.Numbered parameters.new opening.new) (take result bytes.now) }
@@ -196,7 +196,7 @@ fn read_numbers(parameters: &mut Parameters, opening: &mut Opening, bytes: &[u8]
     count + read_more_numbers(parameters, opening, &bytes[count..])
 }
 
-/// Reads the bytes in front with which a report of the mouse goes on, and tells how many.
+/// Reads the bytes in front with which a report of the mouse goes on, and returns how many.
 fn read_reports(parameters: &mut Parameters, bytes: &[u8]) -> usize
     ensures within { result ≤ length bytes.now }
     ensures opens { Opens (State.Sgr parameters.old) (State.Sgr parameters.new) (take result bytes.now) }
@@ -216,7 +216,7 @@ impl State {
         matches!(self, State::Paste(_))
     }
 
-    /// Goes to the ground state, where the sequence is whole and its event is kept.
+    /// Goes to the ground state, if the sequence is whole and its event is kept.
     #[inline(always)]
     pub fn end(&mut self)
         ensures { self.new ≡ State.Ground }
@@ -224,7 +224,7 @@ impl State {
         *self = State::Ground;
     }
 
-    /// Takes one more byte. Where the sequence goes on the state has changed; where it ends, it hasn't yet.
+    /// Takes one more byte. If the sequence goes on, the state has changed; if it ends, it hasn't yet.
     #[inline(always)]
     pub fn put<L: Ledger>(&mut self, byte: u8, pause: bool, steps: &mut Steps<L>) -> Progress
         ensures open { result ≡ Progress.Open → (raw : Bool) → state_after self.old byte raw pause ≡ Open self.new }
@@ -250,7 +250,7 @@ impl State {
         }
     }
 
-    /// Takes one more byte outside of a paste, where the sequence goes on with it, and tells whether it does.
+    /// Takes one more byte outside of a paste, if the sequence goes on with it, and returns whether it does.
     #[inline(always)]
     fn goes_on(&mut self, byte: u8, pause: bool) -> bool
         requires { is_paste self.old ≡ false }
@@ -397,7 +397,7 @@ impl State {
         }
     }
 
-    /// Puts the printable letters in front into the ground state, and tells how many. Each is whole by itself.
+    /// Puts the printable letters in front into the ground state, and returns how many. Each is whole by itself.
     #[inline(always)]
     pub fn put_letters<L: Ledger>(&self, bytes: &[u8], steps: &mut Steps<L>) -> usize
         requires { self.now ≡ State.Ground }
@@ -410,9 +410,9 @@ impl State {
         count
     }
 
-    /// Puts the character in UTF-8 in front into the ground state, which it is a sequence of: gives it, and how many bytes it has.
+    /// Puts the character in UTF-8 in front into the ground state, which it is a sequence of: returns it, and how many bytes it has.
     ///
-    /// Where there is none of two bytes or more, nothing is put.
+    /// If there is none of two bytes or more, nothing is put.
     #[inline(always)]
     pub fn put_character<L: Ledger>(
         &self,
@@ -433,7 +433,7 @@ impl State {
         }
     }
 
-    /// Opens a sequence by the two bytes after ESC, and tells how many bytes it has then, three or two, or none where it isn't opened.
+    /// Opens a sequence by the two bytes after ESC. Returns how many bytes it has then, three or two, or none if it isn't opened.
     #[inline(always)]
     fn open_front(&mut self, second: u8, third: u8) -> usize
         requires { self.old ≡ State.Ground }
@@ -456,8 +456,8 @@ impl State {
         }
     }
 
-    /// Puts the front of a sequence after ESC into the ground state, with the numbers that it has, and tells how many bytes: none where
-    /// no such sequence is in front, or fewer than three bytes.
+    /// Puts the front of a sequence after ESC into the ground state, with the numbers that it has, and returns how many bytes: none if no
+    /// such sequence is in front, or fewer than three bytes.
     #[inline(always)]
     pub fn open<L: Ledger>(&mut self, bytes: &[u8], steps: &mut Steps<L>) -> usize
         requires { self.old ≡ State.Ground }
@@ -477,7 +477,7 @@ impl State {
         3 + self.put_numbers(&bytes[3..], steps)
     }
 
-    /// Puts the bytes in front with which the numbers of a sequence go on, and tells how many.
+    /// Puts the bytes in front with which the numbers of a sequence go on, and returns how many.
     #[inline(never)]
     pub fn put_numbers<L: Ledger>(&mut self, bytes: &[u8], steps: &mut Steps<L>) -> usize
         ensures within { result ≤ length bytes.now }

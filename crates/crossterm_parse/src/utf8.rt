@@ -23,7 +23,7 @@ fn continues_one(byte: u8) -> bool
     matches!(byte, 0x80..=0xBF)
 }
 
-/// Whether the byte may stand second after the lead.
+/// Whether the byte may be the second after the lead.
 fn is_second(lead: u8, byte: u8) -> bool
     ensures { result ≡ second lead byte }
 {
@@ -85,7 +85,7 @@ impl Validity {
         }
     }
 
-    /// Reads one more byte. Where the bytes stay sound, nothing is written.
+    /// Reads one more byte. If the bytes stay sound, nothing is written.
     pub fn read(&mut self, byte: u8)
         ensures { self.new ≡ utf8_after self.old byte }
     {

@@ -18,7 +18,7 @@ pub fn scripts_are_told()
     ensures { ScriptsAreTold }
 {}
 
-/// The law of histories over a script, whichever threads made their calls: what the source answered comes of the script's answers, and the
+/// The law of histories over a script, whichever threads made their calls: what the source answered comes of the script's answers. The
 /// events that were taken and those that are held are, each once, the first ones of all that happens by the script.
 pub fn histories_are_told()
     ensures { HistoriesAreTold }

@@ -1,18 +1,17 @@
 //! From a device to the events that one thread reads, or many, or a task: crossterm's `event::source`, `event::read` and `event::stream`.
 //!
-//! A device answers with bytes, resizes and wake-ups (`source::Device`): those of a script, of a reader (`source::ReadDevice`), or of what the
-//! system can watch (`source::PolledDevice`). A source hands the bytes to the parser and gives events
-//! (`source::DeviceSource`). A reader holds the events in the order of their arrival until they are taken
-//! (`read::InternalEventReader`). Threads share a reader (`read::EventReader`), each with a `read::Pass`. A task that may not wait polls a
-//! stream of the user's events (`stream::EventStream`).
+//! A device answers with bytes, resizes and wake-ups (`source::Device`): those of a script, of a reader (`source::ReadDevice`), or of what
+//! the system can watch (`source::PolledDevice`). A source hands the bytes to the parser and returns events (`source::DeviceSource`). A
+//! reader holds the events in the order of their arrival until they are taken (`read::InternalEventReader`). Threads share a reader
+//! (`read::EventReader`), each with a `read::Pass`. A task that may not wait polls a stream of the user's events (`stream::EventStream`).
 //!
-//! It stands on `crossbeam_queue`, for the slot of a shared reader, on `futures`, for its stream, on `mio`, for devices that wait within
-//! a limit, on `crossterm_parse`, for the division of bytes into sequences, and on `crossterm_types`, for events and filters.
+//! It is built on `crossterm_parse`, for the division of bytes into sequences, and on `crossterm_types`, for events and filters. Of the kit
+//! it uses `crossbeam_queue` for the slot of a shared reader, `futures` for its stream, and `mio` for devices that wait.
 //!
-//! The layers above use the steps of `InternalEventReader::{poll_within, read_within, take, position_within, keyboard_within}` over
-//! any `source::EventSource`, those of `poll` and `read`, which wait for a limit of time or without one, and
-//! the headline of `read::play`: what calls answer is a run over the answers of a source, which come of those of its device.
-//! `laws::one_happening` says that the events of bytes are those of the only division of all bytes.
+//! The layers above use the steps of `InternalEventReader::{poll_within, read_within, take, position_within, keyboard_within}` over any
+//! `source::EventSource`. They use the steps of `poll` and `read`, which wait for a limit of time or without one, and the headline of
+//! `read::play`: what calls return is a run over the answers of a source, which come from those of its device. `laws::one_happening` says
+//! that the events of bytes are those of the only division of all bytes.
 //!
 //! What is proved, beyond safety:
 //!
@@ -52,8 +51,8 @@
 //! | `Shared` | 15 | what it says of a share | `EventReader::{new, share}` |
 //! | `Streams` | 32 | what a stream answers, and what its worker does | `EventStream::{poll_event, poll_next}` |
 //!
-//! What only proofs and private clauses cite stands in `specs/inside/`. A function's proof stands in `proofs/` at the function's path;
-//! where there is no file, the prover found it by itself.
+//! What only proofs and private clauses cite is in `specs/inside/`. A function's proof is in `proofs/` at the function's path; if there is
+//! no file, the prover found it by itself.
 #![tactic(auto)]
 
 pub mod laws;

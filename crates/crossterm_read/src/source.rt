@@ -1,4 +1,4 @@
-//! Where events come from.
+//! What events come from.
 ghost use Rattle.std.specs.Prelude.{◌≡◌, ◌⊎◌, ◌-◌, ◌==◌, ◌≤◌, ◌<◌, ℕ, List, [], ◌∷◌, ◌++◌, take, drop, Option, IfOk, IfErr, OnOk, ⊤};
 ghost use Rattle.std.specs.IoError.{error_kind};
 ghost use Rattle.std.specs.declared.io.ErrorKind.TheVariants.{OutOfMemory};
@@ -52,14 +52,16 @@ pub trait EventSource<A: Allocator>: Drop {
 
     /// The next event, or `None`: nothing came within the limit, or bytes came that ended no event, perhaps long before it.
     ///
-    /// The error is `OutOfMemory` where memory was refused, `UnexpectedEof` at the end of input, `Interrupted` where the source
-    /// was woken, and else the device's. After each of them the source goes on where it stood.
+    /// # Errors
+    ///
+    /// `OutOfMemory` if memory was refused, `UnexpectedEof` at the end of input, `Interrupted` if the source was woken, and else the
+    /// device's. After each of them the source goes on from where it was.
     fn try_read(&mut self, limit: Option<Duration>) -> io::Result<Option<InternalEvent<A>>>
-        // What it answers is drawn.
+        // What it returns is drawn.
         ensures drawn { drawn self.old (answer_of result ∷ []) self.new }
         // The device is asked once at most, with this very limit.
         ensures asked { AsksWith limit (asked self.old) (asked self.new) }
-        // An error that isn't a source's own comes only where the device's failures rose. They never fall, and rise at no other answer.
+        // An error that isn't a source's own comes only if the device's failures rose. They never fall, and rise at no other answer.
         ensures rise { failed self.old ≤ failed self.new }
         ensures ok { OnOk result (failed self.new ≡ failed self.old) }
         ensures err { IfErr result (λ e. IsOwn (error_kind e) ⊎ (failed self.old < failed self.new)) };
@@ -69,11 +71,15 @@ pub trait EventSource<A: Allocator>: Drop {
         ensures { result ≡ failed self.now };
 
     /// A waker of the device.
+    ///
+    /// # Errors
+    ///
+    /// `OutOfMemory` if memory was refused.
     fn waker(&self) -> io::Result<Waker>
         ensures waker { IfOk result (wakes self.now) }
         ensures err { IfErr result (λ e. error_kind e ≡ OutOfMemory) };
 
-    // Where nothing is drawn nothing changes, and what is drawn in two runs is drawn in one.
+    // If nothing is drawn, nothing changes, and what is drawn in two runs is drawn in one.
     ghost none_drawn: { (s : Self) → drawn s [] s };
 
     ghost drawn_on: { (s t u : Self) (xs ys : List SourceAnswer) → drawn s xs t → drawn t ys u → drawn s (xs ++ ys) u };

@@ -26,11 +26,11 @@ use std::{io, thread};
 
 /// The events of the user, one after another, for a task that may not wait.
 ///
-/// A poll never waits for an event: it takes one that is held or that the device tells at once. Where there is none a thread of the
-/// stream's own, the worker, polls the reader by a pass of its own and wakes the task. The stream never ends: it gives `Err` for each
-/// fault of the source, as `UnexpectedEof` where the input ended.
+/// A poll never waits for an event: it takes one that is held or that the device reports at once. If there is none, a thread of the
+/// stream's own, the worker, polls the reader by a pass of its own and wakes the task. The stream never ends: it returns `Err` for each
+/// fault of the source, as `UnexpectedEof` if the input ended.
 ///
-/// When it is dropped the worker is asked to end, and the reader is woken by its waker, which ends the worker's poll. Nobody waits for
+/// When it is dropped, the worker is asked to end, and the reader is woken by its waker, which ends the worker's poll. Nobody waits for
 /// that. If that wake-up comes to another pass that has the reader just then, the worker goes on until its next poll ends.
 ///
 /// ```
@@ -56,7 +56,9 @@ where
 {
     /// A stream that reads by one pass, and whose worker polls by the other.
     ///
-    /// The error is `OutOfMemory`, also where the worker's thread couldn't be started. Then both passes are gone, and neither has the
+    /// # Errors
+    ///
+    /// `OutOfMemory` if memory was refused, or if the worker's thread couldn't be started. Then both passes are gone, and neither has the
     /// reader.
     pub fn new(
         rt: R,
@@ -104,9 +106,9 @@ where
 impl<S: EventSource<A>, R: Wait + Drop, A: Allocator + Clone> EventStream<S, R, A> {
     /// The next event of the user, or a fault.
     ///
-    /// A fault that the worker met is given first, once. Else the task's waker is registered, in the place of an older one, and the
-    /// reader is asked once, with limit zero. Where nothing came, or another has the reader, the worker has a task from then on, and the
-    /// answer is pending.
+    /// A fault that the worker met is returned first, once. Else the task's waker is registered, in the place of an older one, and the
+    /// reader is asked once, with limit zero. If nothing came, or another has the reader, the worker has a task from then on, and the poll
+    /// is pending.
     pub fn poll_event(&mut self, cx: &mut Context<'_>) -> Poll<io::Result<Event<A>>>
         ensures item { IfReady result (GivesItem S.drawn S.asked (knows self.old.pass) (knows self.new.pass)) }
         ensures nothing { OnPending result (GivesNothing S.drawn S.asked (knows self.old.pass) (knows self.new.pass)) }
@@ -135,7 +137,7 @@ impl<S: EventSource<A>, R: Wait + Drop, A: Allocator + Clone> Stream for EventSt
 
     ghost needs = { λ stream s. s ≡ (arc_value stream.hub).source.id };
 
-    /// What `poll_event` answers. The stream never ends.
+    /// What `poll_event` returns. The stream never ends.
     fn poll_next(&mut self, cx: &mut Context<'_>) -> Poll<Option<io::Result<Event<A>>>>
         ensures item { IfReady result (λ o. IsSomeAnd o (GivesItem S.drawn S.asked (knows self.old.pass) (knows self.new.pass))) }
         ensures nothing { OnPending result (GivesNothing S.drawn S.asked (knows self.old.pass) (knows self.new.pass)) }
@@ -164,7 +166,7 @@ impl<S: EventSource<A>, R: Wait + Drop, A: Allocator> EventStream<S, R, A> {
             waker,
         } = self;
         hub.end(&rt);
-        // Where the device can't be woken the worker ends after its poll.
+        // If the device can't be woken, the worker ends after its poll.
         let _woken = waker.wake();
         pass
     }

@@ -12,6 +12,11 @@ use std::marker::Model;
 use std::ops::{BitAnd, BitOr, BitXor};
 
 /// A set of attributes: a bit for each, the first from bit 1 on.
+///
+/// ```
+/// let attributes = Attributes::none().with(Attribute::Bold).with(Attribute::Underlined);
+/// queue!(w, colors, SetAttributes(attributes), Print("ab"), SetAttribute(Attribute::Reset))?;
+/// ```
 #[derive(Clone, Copy, PartialEq, Eq, Default, Debug)]
 pub struct Attributes(u32);
 
@@ -120,7 +125,7 @@ impl From<Attribute> for Attributes {
 impl From<&[Attribute]> for Attributes {
     ghost from_gives = { λ all r. r.0 ≡ of_list all.now };
 
-    /// The set of these attributes; one that stands twice counts once.
+    /// The set of these attributes; one that is there twice counts once.
     fn from(all: &[Attribute]) -> Attributes {
         let mut attributes = Attributes::none();
         for attribute in all {
@@ -190,7 +195,7 @@ impl BitXor<Attribute> for Attributes {
 
     ghost bitxor_gives = { λ a b r. r.0 ≡ bit_xor a.0 (bit_of b) };
 
-    /// The attributes of the set but this one, and this one where the set doesn't have it.
+    /// The attributes of the set but this one, and this one if the set doesn't have it.
     fn bitxor(self, attribute: Attribute) -> Attributes {
         Attributes(self.0 ^ attribute.bytes())
     }

@@ -45,6 +45,10 @@ impl ContentStyle {
 }
 
 /// A content in the empty style.
+///
+/// ```
+/// queue!(w, colors, PrintStyledContent(style("warning").yellow().bold()))?;
+/// ```
 pub fn style<D>(content: D) -> StyledContent<D>
     ensures style { result.style ≡ no_style }
     ensures content { result.content ≡ content }

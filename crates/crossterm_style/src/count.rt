@@ -2,7 +2,7 @@
 ghost use Rattle.std.specs.Prelude.{◌≡◌, IsTrue, ◌↔◌, codes};
 ghost use Rattle.crossterm_style.specs.Counts.{CountsColors, CountsColorsOf, HasPart};
 
-/// How many where nothing is known.
+/// How many, if nothing is known.
 const FEW: u16 = 8;
 
 /// Whether a text has a part.
@@ -25,9 +25,9 @@ fn count_by_name(name: &str) -> u16
     }
 }
 
-/// How many colours a terminal has, by the values of `COLORTERM` and `TERM`, of which the first that is there tells.
+/// How many colours a terminal has, by the values of `COLORTERM` and `TERM`, of which the first that is there decides.
 ///
-/// `24bit` and `truecolor` mean 65535, which stands for all; `256` means 256, anything else 8.
+/// `24bit` and `truecolor` mean 65535, which represents all; `256` means 256, anything else 8.
 pub fn available_color_count(colorterm: Option<&str>, term: Option<&str>) -> u16
     ensures { CountsColorsOf colorterm.entry term.entry result }
 {

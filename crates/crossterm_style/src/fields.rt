@@ -83,7 +83,7 @@ impl<'a> Fields<'a> {
         }
     }
 
-    /// The colour that the last fields tell.
+    /// The colour that the last fields represent.
     pub(crate) fn sgr(self) -> Option<SgrColor>
         ensures { MatchOption result ((sgr : SgrColor) → ReadsInk (fields_left self.entry.rest) sgr → ⊥)
             (λ sgr. ReadsInk (fields_left self.entry.rest) sgr) }

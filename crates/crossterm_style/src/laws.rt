@@ -30,7 +30,7 @@ pub fn sets()
     ensures listed { (all : List Attribute) (a : Attribute) → IsTrue (has (of_list all) a) ↔ Contains all a }
 {}
 
-/// Two sets of `Attributes` are equal exactly where their members are the same. It does nothing when it runs.
+/// Two sets of `Attributes` are equal exactly if their members are the same. It does nothing when it runs.
 pub fn sets_are_their_members(left: Attributes, right: Attributes)
     ensures { (left ≡ right) ↔ ((a : Attribute) → has left.0 a ≡ has right.0 a) }
 {
@@ -62,21 +62,21 @@ pub fn declared_orders()
     ensures colored { ComparesBy colored_order ⟦<Colored as Ord>⟧.cmp ⟦<Colored as PartialOrd>⟧.partial_cmp }
 {}
 
-/// What a terminal is told shows as commands paint, from any style: of acts one after another, and of two colours by one sequence.
+/// What a terminal receives shows as commands paint, from any style: of acts one after another, and of two colours by one sequence.
 pub fn looks()
     ensures acts { ActsShow }
     ensures colors { ColorsShow }
 {}
 
-/// With colours, a content in its style leaves the plain style plain exactly where it has an attribute, or no colour of its underline but
-/// the terminal's own.
+/// With colours, a content in its style leaves the plain style plain in two cases, and in no other: it has an attribute, or no colour of
+/// its underline but the terminal's own.
 #[tactic(auto, using(crate::proofs::StyledLooks::styled_ends_plain))]
 pub fn styled_ends_plain()
     ensures { StyledEndsPlain }
 {}
 
-/// Some looks: the palette's 9 is red; a colour that isn't written makes all plain; `Reset` of a set comes first; of two underlines the later
-/// stands alone; an underline's colour outlives its content.
+/// Some looks: the palette's 9 is red; a colour that isn't written makes all plain; `Reset` of a set comes first; of two underlines only
+/// the later stays; an underline's colour outlives its content.
 #[tactic(auto, using(crate::proofs::StyledLooks::said))]
 pub fn some_looks()
     ensures indexed { IndexedHasNames }

@@ -14,19 +14,19 @@
 //! |---|---|---|---|
 //! | `Attributes` | 71 | names, parameters and bits of attributes, and sets of them | `Attribute`, `laws::{sets, sets_are_their_members}` |
 //! | `AttributeSet` | 6 | a set as a clause sees it | `Attributes` |
-//! | `Colors` | 134 | what terminals are told of colours, and how it reads | `Colored`, `Colors`, `laws` |
+//! | `Colors` | 134 | what terminals receive for colours, and how it reads | `Colored`, `Colors`, `laws` |
 //! | `ColorNames` | 45 | the names of colours | `Color::from_str` |
 //! | `Fields` | 73 | the fields of a text | `fields.rt` |
 //! | `Reading` | 36 | how SGR parameters read as colours | `Color::parse_ansi`, `Colored::parse_ansi` |
 //! | `Counts` | 20 | how many colours a terminal has | `available_color_count` |
 //! | `Ranks` | 45 | the declared orders | `laws::declared_orders` |
-//! | `Styles` | 52 | what a terminal is told by the commands of style | `Command::text` of each |
-//! | `Looks` | 203 | how a terminal shows what it is told | `laws::looks` |
+//! | `Styles` | 52 | what the commands of style write | `Command::text` of each |
+//! | `Looks` | 203 | how a terminal shows what it receives | `laws::looks` |
 //! | `Acts` | 131 | what commands do to the look | `laws::some_looks` |
-//! | `Appearance` | 76 | what terminals are told shows as commands paint | `laws::{looks, styled_ends_plain}` |
+//! | `Appearance` | 76 | what terminals receive shows as commands paint | `laws::{looks, styled_ends_plain}` |
 //! | `Values` | 166 | colours and attributes as JSON | `to_value` and `from_value` of each |
 //!
-//! A function's proof stands in `proofs/` at the function's path; where there is no file, the prover found it by itself.
+//! A function's proof is in `proofs/` at the function's path; if there is no file, the prover found it by itself.
 #![tactic(auto)]
 
 mod attributes;

@@ -4,9 +4,14 @@ use crossterm_command::{ColorOutput, Command, execute_fmt};
 use std::fmt;
 use std::fmt::Display;
 
-/// Prints a value as `{}` shows it, at the cursor and in the style that stands.
+/// Prints a value as `{}` shows it, at the cursor and in the style that is set.
 ///
 /// The text is written as it is: one that holds an escape may read as something else than characters.
+///
+/// ```
+/// let text = format!(in alloc; "{count} files")?;
+/// queue!(w, colors, Print(text))?;
+/// ```
 #[derive(Clone, Copy, PartialEq, Eq, Debug)]
 pub struct Print<T>(pub T);
 

@@ -1,4 +1,4 @@
-//! JSON values of attributes and colours: what is told of a value reads back as it (`specs/Values.antt`).
+//! JSON values of attributes and colours: what is written of a value reads back as that value (`specs/Values.antt`).
 
 mod attributes;
 mod colors;

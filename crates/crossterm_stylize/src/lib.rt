@@ -14,7 +14,7 @@
 //! |---|---|---|---|
 //! | `Styling` | 23 | one field of a style changes | each method of `Stylize` |
 //!
-//! A function's proof stands in `proofs/` at the function's path; where there is no file, the prover found it by itself.
+//! A function's proof is in `proofs/` at the function's path; if there is no file, the prover found it by itself.
 #![tactic(auto)]
 
 mod styled;

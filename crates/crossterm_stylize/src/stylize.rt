@@ -20,7 +20,7 @@ pub trait Stylize: Sized {
     // The same with its style, which is the empty one at first.
     ghost styled: { Self → Self.Styled };
 
-    /// What has the style: the same with the empty style, where it has none.
+    /// What has the style: the same with the empty style, if it has none.
     fn stylize(self) -> Self::Styled
         ensures { result ≡ styled self };
 

@@ -1,7 +1,7 @@
-//! What a terminal tells: keys, mouse, pastes, focus, resizes and the replies to queries, under crossterm's names.
+//! What a terminal reports: keys, mouse, pastes, focus, resizes and the replies to queries, under crossterm's names.
 //!
-//! It stands on `crossterm_flags`. The layers above use that equality, order and hash of a `KeyEvent` are those of its normal form
-//! (`specs/Normal.antt`, `specs/Compared.antt`; its laws stand on `event::laws::normal_form_laws`), see events through
+//! It is built on `crossterm_flags`. The layers above use that equality, order and hash of a `KeyEvent` are those of its normal form
+//! (`specs/Normal.antt`, `specs/Compared.antt`; its laws are the contract of `event::laws::normal_form_laws`), see events through
 //! `specs/Seen.antt`, and know exactly which events a filter admits (`specs/Admitting.antt`).
 //!
 //! What is proved, beyond safety:
@@ -28,7 +28,7 @@
 //! | `Timing` | 22 | limits of time | `PollTimeout` |
 //! | `Values` | 169 | events as JSON | `to_value` and `from_value` of each |
 //!
-//! A function's proof stands in `proofs/` at the function's path; where there is no file, the prover found it by itself.
+//! A function's proof is in `proofs/` at the function's path; if there is no file, the prover found it by itself.
 #![tactic(auto)]
 
 pub mod event;

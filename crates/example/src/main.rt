@@ -15,7 +15,7 @@ by itself: frames, keylog, own_command, table
   replay FILE, replay FILE --speed N, replay FILE --probe, replay FILE --cast
 by terminal/with_terminal: browse, edit, events, keys, keys FILE, record FILE";
 
-/// Runs an example on standard input and output. Where there is none of the name, standard error lists them.
+/// Runs an example on standard input and output. If there is none of the name, standard error lists them.
 fn run_plain(rt: &HostRuntime, name: &str, words: &[String]) -> io::Result<()> {
     let alloc = rt.alloc();
     let mut out = BufWriter::new(alloc, io::writer(rt))?;
@@ -32,7 +32,7 @@ fn run_plain(rt: &HostRuntime, name: &str, words: &[String]) -> io::Result<()> {
     }
 }
 
-/// Runs an example in a terminal: `keys`, with the bindings of a file, where the name is none of the other three.
+/// Runs an example in a terminal: `keys`, with the bindings of a file, if the name is none of the other three.
 fn run_in_terminal<R: AllocGlobal + Files + Wait>(
     rt: &R,
     tty: &mut Tty<'_>,

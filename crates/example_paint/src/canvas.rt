@@ -10,7 +10,7 @@ use std::io::{self, Write};
 
 const COLORS: ColorOutput = ColorOutput::Enabled;
 
-/// The columns in which the colours stand, left of the picture.
+/// The columns of the colours, left of the picture.
 pub const LEFT: u16 = 4;
 
 const COLUMNS: u16 = 76;
@@ -19,7 +19,7 @@ const ROWS: u16 = 22;
 
 const HELP: &str = "drag: paint   right button: wipe   left: colours   x: blank   Esc: leave";
 
-/// A colour of the picture: one of the sixteen that every terminal has, or none where it is 0.
+/// A colour of the picture: one of the sixteen that every terminal has, or none if it is 0.
 pub type Ink = u8;
 
 /// A cell of the picture, and its colour.
@@ -46,7 +46,7 @@ fn color_of(ink: Ink) -> Color {
     }
 }
 
-// Writes cells that lie side by side, and each colour once where they have the same.
+// Writes cells that lie side by side, and each colour once if they have the same.
 fn draw_cells<W: Write>(w: &mut W, cells: &[Ink]) -> io::Result<()> {
     let mut last = None;
     for ink in cells {
@@ -61,6 +61,10 @@ fn draw_cells<W: Write>(w: &mut W, cells: &[Ink]) -> io::Result<()> {
 
 impl Canvas {
     /// A blank picture.
+    ///
+    /// # Errors
+    ///
+    /// `AllocError` if memory was refused.
     pub fn new(alloc: Global) -> Result<Canvas, AllocError> {
         let cells = Vec::from_elem(alloc, 0, usize::from(COLUMNS) * usize::from(ROWS))?;
         Ok(Canvas { cells })
@@ -82,6 +86,10 @@ impl Canvas {
     }
 
     /// Writes the colours, the picture and a line of help.
+    ///
+    /// # Errors
+    ///
+    /// The writer's.
     pub fn draw<W: Write>(&self, w: &mut W) -> io::Result<()> {
         queue!(w, COLORS, ResetColor, Clear(ClearType::All))?;
         for ink in 1..16u8 {
@@ -100,6 +108,10 @@ impl Canvas {
 
 impl Dot {
     /// Writes this cell.
+    ///
+    /// # Errors
+    ///
+    /// The writer's.
     pub fn draw<W: Write>(self, w: &mut W) -> io::Result<()> {
         queue!(
             w,
@@ -112,11 +124,19 @@ impl Dot {
 }
 
 /// Begins to show a picture.
+///
+/// # Errors
+///
+/// The writer's.
 pub fn enter<W: Write>(w: &mut W) -> io::Result<()> {
     execute!(w, COLORS, EnterAlternateScreen, Hide, EnableMouseCapture)
 }
 
 /// Puts the screen back.
+///
+/// # Errors
+///
+/// The writer's.
 pub fn leave<W: Write>(w: &mut W) -> io::Result<()> {
     queue!(w, COLORS, DisableMouseCapture, ResetColor, Show)?;
     execute!(w, COLORS, LeaveAlternateScreen)

@@ -28,7 +28,7 @@ const PASTE: usize = 1_048_576;
 /// How many milliseconds the door stays shut after the system couldn't let somebody in.
 const PAUSE: u64 = 100;
 
-/// What somebody is told for whom there is no room.
+/// What somebody sees for whom there is no room.
 const FULL: &[u8] = b"paint: there is no room, come again later\r\n";
 
 /// One terminal: where its events come from, and where its picture goes.
@@ -55,7 +55,7 @@ impl Guest {
         })
     }
 
-    /// What the next event means, where one came. A guest who is cut off leaves.
+    /// What the next event means, if one came. A guest who is cut off leaves.
     fn wish(&mut self) -> Option<Wish> {
         match self.source.try_read(Some(Duration::ZERO)) {
             Ok(Some(event)) => Some(self.painter.wish(&event)),
@@ -64,7 +64,7 @@ impl Guest {
         }
     }
 
-    /// Has the system tell whether bytes are there, also where it told before.
+    /// Has the system report whether bytes are there, also if it reported them before.
     fn watch(&mut self, registry: &Registry, token: Token) -> io::Result<()> {
         self.is_busy = false;
         let fd = self.out.as_raw_fd();
@@ -178,7 +178,7 @@ impl Studio {
         self.dismiss(key)
     }
 
-    /// Gives those another turn whose last one ended too early, and tells whether there still are such guests.
+    /// Gives those another turn whose last one ended too early, and returns whether there still are such guests.
     fn serve_busy(&mut self, registry: &Registry) -> bool {
         for key in 0..GUESTS {
             if self.guests.get(key).is_some_and(|guest| guest.is_busy) {
@@ -188,8 +188,8 @@ impl Studio {
         self.guests.iter().any(|(_, guest)| guest.is_busy)
     }
 
-    /// Lets in those who knock, so many at a time. Returns after how long the door is to be looked at again, and `None` where nobody knocks
-    /// any more: the system tells of a knock only once.
+    /// Lets in those who knock, so many at a time. Returns after how long the door is to be looked at again, and `None` if nobody knocks
+    /// any more: the system reports a knock only once.
     fn open_door(&mut self, registry: &Registry, listener: &TcpListener) -> Option<Duration> {
         for _ in 0..GUESTS {
             match listener.accept() {
@@ -217,6 +217,10 @@ fn wait(poll: &mut Poll, events: &mut Events, limit: Option<Duration>) -> io::Re
 }
 
 /// Serves guests at a port of this machine, until a signal ends the program. No guest ends it.
+///
+/// # Errors
+///
+/// The system's if it can't listen, watch or wait, and `OutOfMemory` if memory was refused at the beginning. No guest's fault is one.
 pub fn serve<N: Net>(rt: &N, alloc: Global, port: u16) -> io::Result<()> {
     let address = SocketAddr::from((Ipv4Addr::LOCALHOST, port));
     let mut listener = TcpListener::bind(rt, address)?;

@@ -1,7 +1,7 @@
 //! Paints with the mouse, in one's own terminal or, as a server, many guests on one picture.
 //!
-//! `terminal/with_terminal crates/example_paint/out/example_paint` starts it in a terminal; Esc ends it. `paint serve 7000` lets guests of this machine in
-//! at a port, by `telnet 127.0.0.1 7000` or `socat -,raw,echo=0 TCP:127.0.0.1:7000`, until a signal ends it, as Ctrl-C does.
+//! `terminal/with_terminal crates/example_paint/out/example_paint` starts it in a terminal; Esc ends it. `paint serve 7000` lets guests of
+//! this machine in at a port, by `telnet 127.0.0.1 7000` or `socat -,raw,echo=0 TCP:127.0.0.1:7000`. A signal ends it, as Ctrl-C does.
 #![tactic(auto)]
 
 mod canvas;
@@ -16,7 +16,7 @@ use std::alloc::Global;
 use std::env;
 use std::io::{self, BufWriter, ErrorKind, Write};
 
-/// Does what the painter wants, and tells whether to go on.
+/// Does what the painter wants, and returns whether to go on.
 fn fulfil<W: Write>(canvas: &mut Canvas, w: &mut W, wish: Wish) -> io::Result<bool> {
     match wish {
         Wish::Nothing => {}
@@ -71,7 +71,7 @@ fn paint_here(rt: &HostRuntime, folder: &str) -> io::Result<()> {
     left
 }
 
-/// Serves guests at the port that this word tells.
+/// Serves guests at the port that this word names.
 fn serve(rt: &HostRuntime, port: &str) -> io::Result<()> {
     match port.parse::<u16>() {
         Ok(port) => guests::serve(rt, rt.alloc(), port),

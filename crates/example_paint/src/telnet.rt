@@ -6,7 +6,7 @@ use crossterm::event::source::{Answer, Device, Waker};
 use std::io;
 use std::time::Duration;
 
-/// What a client is told first: the server echoes, nobody says 'go ahead', and window sizes are wanted.
+/// What is sent to a client first: the server echoes, nobody says 'go ahead', and window sizes are wanted.
 ///
 /// So a telnet client sends each key as it is typed. Who connects by another program sees these nine bytes as rubbish, until the screen is
 /// drawn.
@@ -50,11 +50,11 @@ struct Wire {
     place: Place,
     // The last five bytes of an open subnegotiation.
     sub: [u8; 5],
-    // Columns and rows that weren't told yet.
+    // Columns and rows that weren't reported yet.
     size: Option<(u16, u16)>,
 }
 
-/// A device over another one whose bytes are a telnet client's: it tells the terminal's bytes among them, and the window's sizes.
+/// A device over another one whose bytes are a telnet client's: it reports the terminal's bytes among them, and the window's sizes.
 ///
 /// A size goes before the bytes that came with it, so that none waits behind bytes that end no event.
 #[derive(Drop)]
@@ -94,7 +94,7 @@ impl<D: Device> Telnet<D> {
         self.late_raw = raw;
     }
 
-    // Tells the bytes that were kept.
+    // Reports the bytes that were kept.
     fn tell_late(&mut self, buf: &mut [u8]) -> Answer
         ensures count { CountWithin result (length buf.new) }
         ensures device { self.new.device ≡ self.old.device }
@@ -138,7 +138,7 @@ impl Wire {
         }
     }
 
-    // Goes on by a byte, and tells whether it is the terminal's.
+    // Goes on by a byte, and returns whether it is the terminal's.
     fn put(&mut self, byte: u8) -> bool {
         let (place, is_data) = match self.place {
             Place::Sub if byte == IAC => (Place::SubCommand, false),
@@ -156,7 +156,7 @@ impl Wire {
         is_data
     }
 
-    // Moves the terminal's bytes to the front, and tells how many they are.
+    // Moves the terminal's bytes to the front, and returns how many they are.
     fn strip(&mut self, buf: &mut [u8], count: usize) -> usize
         ensures { result ≤ length buf.new }
     {

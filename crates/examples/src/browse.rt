@@ -114,7 +114,7 @@ impl Browser {
         }
     }
 
-    /// Does what an event means, and tells whether to go on.
+    /// Does what an event means, and returns whether to go on.
     fn take(&mut self, event: &Event) -> Result<bool, AllocError> {
         match event {
             Event::Key(key) if key.code == KeyCode::Esc => return Ok(false),
@@ -146,6 +146,11 @@ fn turn(rt: &impl Wait, tty: &mut Tty<'_>, browser: &mut Browser) -> io::Result<
 }
 
 /// Browses until Esc, or the end of input.
+///
+/// # Errors
+///
+/// Those of the terminal and its writer, but for the end of input, and `OutOfMemory` if memory was refused. What was turned on is turned
+/// off when the terminal is dropped.
 pub fn run(rt: &impl Wait, tty: &mut Tty<'_>) -> io::Result<()> {
     let mut browser = Browser::new(tty.alloc, tty.size()?)?;
     enter(tty)?;

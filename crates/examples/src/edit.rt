@@ -95,6 +95,10 @@ fn show(tty: &mut Tty<'_>, line: &Line) -> io::Result<()> {
 }
 
 /// Reads lines and prints each, until a key or the end of input ends it. Raw mode stays on between them, so that no key is lost.
+///
+/// # Errors
+///
+/// Those of the terminal and its writer, but for the end of input, and `OutOfMemory` if memory was refused.
 pub fn run(rt: &impl Wait, tty: &mut Tty<'_>) -> io::Result<()> {
     tty.enable_raw_mode()?;
     tty.turn_on(Feature::BracketedPaste)?;

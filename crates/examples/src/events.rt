@@ -15,7 +15,7 @@ fn is_quit(key: &KeyEvent) -> bool {
     key.code == KeyCode::Esc || *key == KeyEvent::new(KeyCode::Char('c'), KeyModifiers::CONTROL)
 }
 
-/// Tells where the cursor stands.
+/// Shows where the cursor is.
 fn tell_place(rt: &impl Wait, tty: &mut Tty<'_>) -> io::Result<()> {
     let (column, row) = tty.position(rt)?;
     write!(
@@ -63,6 +63,10 @@ fn enter(rt: &impl Wait, tty: &mut Tty<'_>) -> io::Result<()> {
 }
 
 /// Shows events until the last one, or the end of input.
+///
+/// # Errors
+///
+/// Those of the terminal and its writer, but for the end of input.
 pub fn run(rt: &impl Wait, tty: &mut Tty<'_>) -> io::Result<()> {
     enter(rt, tty)?;
     tty.out.write_all(HELP.as_bytes())?;

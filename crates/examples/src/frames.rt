@@ -1,6 +1,6 @@
-//! Draws frames, as lines tell.
+//! Draws frames, as lines say.
 //!
-//! `example frames < FILE` draws on standard output what the file's lines tell:
+//! `example frames < FILE` draws on standard output what the file's lines say:
 //!
 //! | Line | What it does |
 //! |---|---|
@@ -9,8 +9,8 @@
 //! | `draw`, `draw COLUMN ROW` | draws the buffer, with the cursor hidden, or shown at a place |
 //! | `forget` | forgets what the terminal shows |
 //!
-//! A colour is told by parameters of SGR, as `5;9` and `2;1;2;3`, an attribute by its place in declared order, as `1,11` of bold and reverse;
-//! `-` stands for none. `strength/screens` draws so in a terminal, and compares each cell.
+//! A colour is given by parameters of SGR, as `5;9` and `2;1;2;3`. An attribute is given by its place in declared order, as `1,11` of bold
+//! and reverse. `-` means none. `strength/screens` draws so in a terminal, and compares each cell.
 
 use crossterm::style::{Attribute, Attributes, Color, ColorOutput, ContentStyle};
 use screen::{Buffer, CellFault, DrawFault, Screen};
@@ -133,7 +133,7 @@ impl Frames {
         }
     }
 
-    /// Does what a line tells.
+    /// Does what a line says.
     fn take<W: Write>(&mut self, out: &mut W, line: &str) -> Result<(), Wrong> {
         let (word, rest) = line.split_once(' ').unwrap_or((line, ""));
         match word {
@@ -149,7 +149,12 @@ impl Frames {
     }
 }
 
-/// Draws what each line tells, until one that can't be done. Standard error says why.
+/// Draws what each line says, until one that can't be done. Standard error says why.
+///
+/// # Errors
+///
+/// `InvalidInput` if a line can't be done, after what the lines before it drew. Else those of the input and the output, and `OutOfMemory`
+/// if memory was refused.
 pub fn run<I: BufRead + Drop, W: Write>(
     rt: &impl Eprint,
     alloc: Global,

@@ -1,6 +1,6 @@
 //! Prints a line for each event of the bytes that a terminal sends, by its names.
 //!
-//! `example keylog < FILE` reads them as they were recorded, in raw mode; the last line tells where a sequence is open at the end.
+//! `example keylog < FILE` reads them as they were recorded, in raw mode; a last line says so if a sequence is open at the end.
 
 use crossterm::event::sys::unix::parse::Parser;
 use crossterm::event::{Event, InternalEvent, KeyEvent, KeyEventKind, MouseEvent};
@@ -49,6 +49,10 @@ impl fmt::Display for Line<'_> {
 }
 
 /// Reads to the end, and writes the lines.
+///
+/// # Errors
+///
+/// Those of the input and the output, and `OutOfMemory` if memory was refused.
 pub fn run<R: Read, W: Write>(alloc: Global, input: &mut R, out: &mut W) -> io::Result<()> {
     let mut parser = Parser::new(alloc);
     let mut piece = [0u8; 1024];
@@ -57,7 +61,7 @@ pub fn run<R: Read, W: Write>(alloc: Global, input: &mut R, out: &mut W) -> io::
         if count == 0 {
             break;
         }
-        // Where the piece is full, more bytes may follow at once, so that ESC at its end is no key yet.
+        // If the piece is full, more bytes may follow at once, so that ESC at its end is no key yet.
         if parser.feed(&piece[..count], count == piece.len(), true) < count {
             return Err(io::Error::from(ErrorKind::OutOfMemory));
         }

@@ -20,10 +20,10 @@ use std::time::Duration;
 
 const COLORS: ColorOutput = ColorOutput::Enabled;
 
-/// The bindings where no file is named.
+/// The bindings if no file is named.
 const BINDINGS: &str = "g = go\ng g = top\nctrl-x ctrl-s = save\nctrl-x ctrl-c = quit\n";
 
-/// Binds each line that isn't empty, and tells which ones can't be bound, and why.
+/// Binds each line that isn't empty, and says which ones can't be bound, and why.
 fn read_keymap<W: Write>(alloc: Global, text: &str, out: &mut W) -> io::Result<Keymap> {
     let mut keymap = Keymap::new(alloc);
     for (before, line) in text.lines().enumerate() {
@@ -111,6 +111,11 @@ fn enter(rt: &impl Wait, tty: &mut Tty<'_>) -> io::Result<()> {
 }
 
 /// Shows what keys are bound to, by the bindings of a file, or by some of its own.
+///
+/// # Errors
+///
+/// Those of the file, of the terminal and its writer, but for the end of input, and `OutOfMemory` if memory was refused. A line that can't
+/// be bound is shown, and is no error.
 pub fn run<R: AllocGlobal + Files + Wait>(
     rt: &R,
     tty: &mut Tty<'_>,

@@ -18,7 +18,7 @@
 //! | `table` | a painted table |
 //! | `keylog` | the names of events in recorded bytes |
 //! | `own_command` | commands and devices of one's own |
-//! | `frames` | frames on a screen of cells, as lines tell |
+//! | `frames` | frames on a screen of cells, as lines say |
 //! | `replay` | the events of a recording |
 //!
 //! Each has a function `run`. What it reads and writes are its parameters, which the `main` of `example` opens.

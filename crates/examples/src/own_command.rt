@@ -43,7 +43,7 @@ impl Command for Again {
     }
 }
 
-/// Tells some pieces in order, and then the end of input. It never fails, and claims nothing of what it tells.
+/// Reports some pieces in order, and then the end of input. It never fails, and claims nothing of what it reports.
 #[derive(Drop)]
 struct Pieces {
     pieces: &'static [&'static [u8]],
@@ -73,7 +73,7 @@ impl Device for Pieces {
     }
 }
 
-/// Tells what a reader gives, and may fail as it does: then it counts its failures, and says so.
+/// Reports what a reader returns, and may fail as it does: then it counts its failures, and says so.
 #[derive(Drop)]
 struct Input<R> {
     reader: R,
@@ -91,7 +91,7 @@ impl<R: Read + Drop> Device for Input<R> {
                     self.failures = failures;
                     Err(error)
                 }
-                // An error may be told only where the count rises.
+                // An error may be returned only if the count rises.
                 None => Ok(Answer::Idle),
             },
         }
@@ -134,6 +134,10 @@ fn answer_all<D: Device, W: Write>(alloc: Global, device: D, w: &mut W) -> io::R
 }
 
 /// Answers the keys of some pieces, and then those of a reader.
+///
+/// # Errors
+///
+/// Those of the reader and the output, and `OutOfMemory` if memory was refused.
 pub fn run<R: Read + Drop, W: Write>(alloc: Global, reader: R, out: &mut W) -> io::Result<()> {
     let pieces = Pieces {
         pieces: &[b"ab\x1b[", b"Ab"],

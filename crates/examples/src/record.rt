@@ -40,6 +40,10 @@ struct View {
 }
 
 /// Opens the terminal, with a recorder over what it reports, and a watch that reports why the recording ended.
+///
+/// # Errors
+///
+/// Those of the file and of `own_terminal::open`, and `OutOfMemory` if memory was refused.
 pub fn open<'a, R>(
     rt: &'a R,
     input: Stdin,
@@ -107,6 +111,10 @@ fn turn(
 }
 
 /// Shows events until the last one, or the end of input.
+///
+/// # Errors
+///
+/// Those of the terminal and its writer, but for the end of input. A recording that ended is shown, and is no error.
 pub fn run(rt: &impl Wait, tty: &mut Recorded<'_>, watch: &Watch) -> io::Result<()> {
     tty.enable_raw_mode()?;
     tty.turn_on(Feature::BracketedPaste)?;

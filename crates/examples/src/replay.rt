@@ -40,7 +40,7 @@ fn read_form(words: &[String]) -> Option<Form> {
     }
 }
 
-/// A script that knows when each of its answers came, and waits for that where it has a speed.
+/// A script that knows when each of its answers came, and waits for that if it has a speed.
 #[derive(Drop)]
 struct Player<'a, C> {
     clock: &'a C,
@@ -218,6 +218,11 @@ fn write<R: AllocGlobal + Clock, W: Write>(
 }
 
 /// Writes the recording of a file in the form that some words ask for.
+///
+/// # Errors
+///
+/// `InvalidInput` if the words name no form, and `InvalidData` if the file is no recording: then standard error says why. Else those of the
+/// file and the output, and `OutOfMemory` if memory was refused.
 pub fn run<R: AllocGlobal + Files + Clock + Eprint, W: Write>(
     rt: &R,
     file: &str,

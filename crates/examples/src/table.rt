@@ -1,6 +1,6 @@
-//! Paints a small table: a styled heading, rows in turn on two backgrounds, and figures whose colour tells a rise from a fall.
+//! Paints a small table: a styled heading, rows in turn on two backgrounds, and figures whose colour distinguishes a rise from a fall.
 //!
-//! `example table` runs it, without colours where `NO_COLOR` is set. The screen is shown at once, when all of it is written.
+//! `example table` runs it, without colours if `NO_COLOR` is set. The screen is shown at once, when all of it is written.
 
 use crossterm::cursor::{Hide, MoveTo, Show};
 use crossterm::style::{
@@ -99,6 +99,10 @@ fn colors(rt: &(impl Env + Alloc)) -> ColorOutput {
 }
 
 /// Paints the table. Give it a writer with a buffer: without one each command is a write of its own.
+///
+/// # Errors
+///
+/// The writer's.
 pub fn run<W: Write>(rt: &(impl Env + Alloc), out: &mut W) -> io::Result<()> {
     let colors = colors(rt);
     out.sync_update(|w| paint(w, colors))?

@@ -17,7 +17,7 @@ pub(crate) struct Match {
     pub(crate) count: usize,
 }
 
-// What stands after some chords: the number of the list that is bound to just them, and whether a longer one begins with them.
+// What some chords lead to: the number of the list that is bound to just them, and whether a longer one begins with them.
 #[derive(Clone, Copy)]
 pub(crate) struct Place {
     pub(crate) number: Option<usize>,

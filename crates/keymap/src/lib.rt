@@ -1,7 +1,7 @@
 //! Key bindings above a shared reader: lists of chords are bound to actions, and keys as they come are cut into the longest bound lists.
 //!
-//! A chord is a key with its modifiers. Keys are fed to a `Matcher`, which gives an outcome as soon as it is decided: the action of a bound
-//! list, or a key that begins none. `Matcher::step` reads the keys from a `crossterm_read::read::EventReader`.
+//! A chord is a key with its modifiers. Keys are fed to a `Matcher`, which returns an outcome as soon as it is decided: the action of a
+//! bound list, or a key that begins none. `Matcher::step` reads the keys from a `crossterm_read::read::EventReader`.
 //!
 //! ```
 //! let mut keymap = Keymap::new(alloc);
@@ -13,8 +13,8 @@
 //!
 //! `read_chord` reads a chord as people write it, as `ctrl-x`, and `Spelled` shows one so.
 //!
-//! It stands on `crossterm_types`, for keys and their equality, on `crossterm_flags`, for tables of names, and on `crossterm_read`, for a reader
-//! that threads share, by their public contracts alone.
+//! It is built on `crossterm_types`, for keys and their equality, on `crossterm_flags`, for tables of names, and on `crossterm_read`, for a
+//! reader that threads share. It uses their public contracts alone.
 //!
 //! What is proved, beyond safety:
 //!
@@ -42,7 +42,7 @@
 //! | `Spelling` | chords as people write them, and what reads as one | `read_chord`, `Spelled`, `laws::spelled` |
 //! | `Rows` | some keys, and what they are cut into | `rows::some_cuts` |
 //!
-//! A function's proof stands in `proofs/` at the function's path; where there is no file, the prover found it by itself.
+//! A function's proof is in `proofs/` at the function's path; if there is no file, the prover found it by itself.
 #![tactic(auto)]
 
 mod bindings;

@@ -64,7 +64,7 @@ fn first_of(keys: &[KeyEvent]) -> KeyEvent
     keys[0]
 }
 
-// What stands where a list is matched or not.
+// The outcome of a place, whether a list is matched there or not.
 fn outcome_of<A: Allocator>(key: KeyEvent, found: Option<Match>) -> Outcome<A>
     ensures { told result ≡ told_of key found }
 {
@@ -74,7 +74,7 @@ fn outcome_of<A: Allocator>(key: KeyEvent, found: Option<Match>) -> Outcome<A>
     }
 }
 
-// How many keys belong to a place: one where no list is matched.
+// How many keys belong to a place: one if no list is matched.
 fn count_of(found: Option<Match>) -> usize
     ensures { result ≡ more_of found + 1 }
 {
@@ -84,7 +84,7 @@ fn count_of(found: Option<Match>) -> usize
     }
 }
 
-// Gives what stands at the first place, and goes past it.
+// Gives the outcome of the first place, and goes past it.
 fn give_first<A: Allocator>(
     keymap: &Keymap<A>,
     keys: &mut FewKeys,
@@ -157,8 +157,8 @@ impl<A: Allocator> Matcher<A> {
 
     /// A matcher that was fed nothing.
     ///
-    /// In its `step` each event but a press flushes. So where a terminal reports releases (`REPORT_EVENT_TYPES`), no list of two chords can
-    /// match: the release of the first key flushes. And where it reports all keys (`REPORT_ALL_KEYS_AS_ESCAPE_CODES`), a press of Shift alone
+    /// In its `step` each event but a press flushes. So if a terminal reports releases (`REPORT_EVENT_TYPES`), no list of two chords can
+    /// match: the release of the first key flushes. And if it reports all keys (`REPORT_ALL_KEYS_AS_ESCAPE_CODES`), a press of Shift alone
     /// breaks a sequence of keys. `passing` makes a matcher without these two.
     ///
     /// ```
@@ -170,8 +170,8 @@ impl<A: Allocator> Matcher<A> {
         Matcher::with(alloc, keymap, false)
     }
 
-    /// A matcher that was fed nothing, and that passes releases and modifier keys on: in its `step` a key that is let go, and a modifier key
-    /// that is pressed alone, stands as `Outcome::Event` without a flush. The keys before it wait as they did.
+    /// A matcher that was fed nothing, and that passes releases and modifier keys on: in its `step` a key that is let go, and a modifier
+    /// key that is pressed alone, becomes an `Outcome::Event` without a flush. The keys before it wait as they did.
     ///
     /// A list that binds a modifier key itself never matches in its `step`. `feed` is the same for both matchers.
     ///
@@ -197,7 +197,7 @@ impl<A: Allocator> Matcher<A> {
 
     /// The keys that wait for a decision, in the order in which they were fed: fewer than 8.
     ///
-    /// A program shows them while it waits for the next key, and needs no limit of `step` where there are none.
+    /// A program shows them while it waits for the next key, and needs no limit of `step` if there are none.
     ///
     /// ```
     /// for key in matcher.undecided() {
@@ -212,7 +212,7 @@ impl<A: Allocator> Matcher<A> {
         self.undecided.as_slice()
     }
 
-    /// Takes the first outcome that waits, or gives `None` where there is none. This takes no memory.
+    /// Takes the first outcome that waits, or returns `None` if there is none. This takes no memory.
     ///
     /// ```
     /// while let Some(outcome) = matcher.next() {
@@ -231,7 +231,8 @@ impl<A: Allocator> Matcher<A> {
     /// doesn't count: a release that is fed matches as a press does.
     ///
     /// # Errors
-    /// `Memory` where memory was refused. Then nothing has changed.
+    ///
+    /// `Memory` if memory was refused. Then nothing has changed.
     ///
     /// ```
     /// matcher.feed(KeyEvent::new(KeyCode::Char('x'), KeyModifiers::CONTROL))?;
@@ -253,7 +254,8 @@ impl<A: Allocator> Matcher<A> {
     /// Gives the rest of the cut of the keys since the last flush. The matching begins anew.
     ///
     /// # Errors
-    /// `Memory` where memory was refused. Then nothing has changed.
+    ///
+    /// `Memory` if memory was refused. Then nothing has changed.
     ///
     /// ```
     /// matcher.flush()?;

@@ -1,4 +1,4 @@
-//! The table behind a keymap: what stands after some chords, found by their hash. So a look takes as long for a thousand lists as for ten.
+//! The table behind a keymap: what some chords lead to, found by their hash. So a look takes as long for a thousand lists as for ten.
 ghost use Rattle.std.specs.Prelude.{◌≡◌, ◌≤◌, ◌<◌, ◌+◌, ◌++◌, ◌∷◌, [], false, length, cond, take, min, List, OnOk};
 ghost use Rattle.std.specs.HashMap.{spare};
 ghost use Rattle.std.specs.List.{list_any};
@@ -14,10 +14,10 @@ use std::alloc::{AllocError, Allocator};
 use std::collections::HashMap;
 use std::hash::{BuildHasherDefault, FoldHasher};
 
-// What stands after some chords, for all that a bound list begins with.
+// What some chords lead to, for all that a bound list begins with.
 pub(crate) type Places<A> = HashMap<FewKeys, Place, BuildHasherDefault<FoldHasher>, A>;
 
-// What stands after the chords of some keys.
+// What the chords of some keys lead to.
 pub(crate) fn place_at<A: Allocator>(places: &Places<A>, keys: &[KeyEvent]) -> Place
     requires { length keys.now ≤ 8 }
     ensures { result ≡ spec.place_at places.now keys.now }
@@ -31,7 +31,7 @@ pub(crate) fn place_at<A: Allocator>(places: &Places<A>, keys: &[KeyEvent]) -> P
     }
 }
 
-// Puts a place after the chords of some keys, where there is room for one more.
+// Puts a place after the chords of some keys, if there is room for one more.
 fn put<A: Allocator + Clone>(places: &mut Places<A>, keys: &[KeyEvent], place: Place)
     requires few { length keys.now ≤ 8 }
     requires room { 0 < spare places.old }
@@ -41,7 +41,7 @@ fn put<A: Allocator + Clone>(places: &mut Places<A>, keys: &[KeyEvent], place: P
     let _ = places.insert(FewKeys::chords_of(keys), place);
 }
 
-// A list is bound: after what it begins with a longer one begins, and after all of it stands its number.
+// A list is bound: what it begins with leads to a longer one, and all of it leads to its number.
 pub(crate) fn bind_at<A: Allocator + Clone>(
     places: &mut Places<A>,
     chords: &[KeyEvent],
@@ -88,7 +88,7 @@ pub(crate) fn longest_at<A: Allocator>(places: &Places<A>, keys: &[KeyEvent]) ->
     None
 }
 
-// Makes room for so many more places, in a table of its own where there is none.
+// Makes room for so many more places, in a table of its own if there is none.
 pub(crate) fn make_room<A: Allocator + Clone>(
     places: &mut Option<Places<A>>,
     alloc: &A,

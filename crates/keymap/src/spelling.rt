@@ -21,7 +21,7 @@ pub enum ChordFault {
     /// There is no key: the text is empty, or ends behind a modifier.
     #[error("no key")]
     Empty,
-    /// What stands before a hyphen is no modifier.
+    /// What precedes a hyphen is no modifier.
     #[error("unknown modifier")]
     UnknownModifier,
     /// The key has no such name.
@@ -140,7 +140,7 @@ fn value_in<T: Copy>(table: &[(&'static str, T)], word: &str) -> Option<T>
     None
 }
 
-// A number below 256, where so much was read before.
+// A number below 256, after so much of it was read.
 fn number_after(n: u8, digits: &[u8]) -> Option<u8>
     ensures { result ≡ spec.number_after n digits.now }
 {
@@ -237,12 +237,14 @@ fn read_parts(bits: u8, text: &str) -> Result<KeyEvent, ChordFault>
 
 /// The chord that a text spells, as `ctrl-x`, `shift-f5`, `G`, `space` or `-`.
 ///
-/// Modifiers stand first, each before a hyphen, in any order: `shift`, `ctrl`, `alt`, `super`, `hyper`, `meta`. The key is a character, `f` and a
-/// number below 256, or its variant's name in small letters, as `pageup` and `esc`. A blank is `space`, and a media key has `media` before its name,
-/// as `mediaplay`. A large letter needs no `shift`. Words are told apart by case, and a modifier that is said twice counts once.
+/// Modifiers come first, each before a hyphen, in any order: `shift`, `ctrl`, `alt`, `super`, `hyper`, `meta`. The key is a character, `f`
+/// and a number below 256, or its variant's name in small letters, as `pageup` and `esc`. A blank is `space`, and a media key has `media`
+/// before its name, as `mediaplay`. A large letter needs no `shift`. Words are distinguished by case, and a modifier that is said twice
+/// counts once.
 ///
 /// # Errors
-/// `Empty` where there is no key, `UnknownModifier` where what stands before a hyphen is no modifier, and `UnknownKey` where the rest is no key.
+///
+/// `Empty` if there is no key, `UnknownModifier` if what precedes a hyphen is no modifier, and `UnknownKey` if the rest is no key.
 ///
 /// ```
 /// let save = keymap.bind(&[read_chord("ctrl-x")?, read_chord("ctrl-s")?], "save")?;

@@ -18,14 +18,15 @@ use std::sync::Wait;
 use std::time::Duration;
 
 impl<A: Allocator + Clone> Matcher<A> {
-    /// Gives an outcome that waits. Else it polls the reader with the limit: where an event is there it reads one, and where none came within the
-    /// limit it flushes. Then it gives the first outcome, or `None`.
+    /// Returns an outcome that waits. Else it polls the reader with the limit: if an event is there, it reads one, and if none came within
+    /// the limit, it flushes. Then it returns the first outcome, or `None`.
     ///
-    /// A key that isn't let go is fed. Any other event flushes, and then stands as an outcome of its own; a matcher made by `passing` passes
-    /// releases and modifier keys on without a flush. The read waits where another pass took the event before. With no limit the poll waits.
+    /// A key that isn't let go is fed. Any other event flushes, and then becomes an outcome of its own; a matcher made by `passing` passes
+    /// releases and modifier keys on without a flush. The read waits if another pass took the event before. With no limit the poll waits.
     ///
     /// # Errors
-    /// Those of the poll and of the read, which change nothing in the matcher, and `OutOfMemory` where there was no room for what may come.
+    ///
+    /// Those of the poll and of the read, which change nothing in the matcher, and `OutOfMemory` if there was no room for what may come.
     /// Then nothing was asked.
     ///
     /// ```

@@ -21,8 +21,8 @@
 //! }
 //! ```
 //!
-//! The library opens nothing by itself, so the pipes of `with_terminal` are opened here. When a session is dropped, at the end of `main` or by
-//! a `?`, all that it switched on is off again, and the terminal's mode is the one from before.
+//! The library opens nothing by itself, so the pipes of `with_terminal` are opened here. A session is dropped at the end of `main` or by a
+//! `?`. Then all that it switched on is off again, and the terminal's mode is the one from before.
 #![tactic(auto)]
 
 mod feature;
@@ -69,6 +69,7 @@ fn pipe<R: Files<File = File>>(
 /// The terminal that the program was started in. `folder` is the program's last argument, and holds the pipes.
 ///
 /// # Errors
+///
 /// `OutOfMemory`; the system's error if a pipe can't be opened or watched; that of `SttyDevice::new` if the helper doesn't answer.
 pub fn open<R: Files<File = File> + Net>(
     rt: &R,
@@ -89,6 +90,7 @@ pub fn open<R: Files<File = File> + Net>(
 /// The session with the terminal that `terminal/with_terminal` started the program in. Its output is buffered.
 ///
 /// # Errors
+///
 /// `InvalidInput` if the program has no argument, since `with_terminal` didn't start it, and standard error says so; else those of `open`.
 pub fn start<'a, R>(rt: &'a R, input: Stdin, out: Stdout) -> io::Result<Tty<'a, R>>
 where

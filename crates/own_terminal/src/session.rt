@@ -1,4 +1,4 @@
-//! A terminal with its events, and where a program writes.
+//! A terminal with its events, and the writer of a program.
 
 ghost use Rattle.crossterm_read.specs.Shared.{IsPassOf};
 
@@ -16,7 +16,7 @@ use std::net::Net;
 use std::sync::Wait;
 use std::time::Duration;
 
-/// A terminal, its events, where is written, and the clock that limits are measured by.
+/// A terminal, its events, its writer, and the clock that limits are measured by.
 ///
 /// When it is dropped, what was turned on is turned off, the last one first, and raw mode ends.
 pub struct Session<S: EventSource<Global>, D: ModeDevice, W: Write + Drop, C: Clock + Drop> {
@@ -28,7 +28,7 @@ pub struct Session<S: EventSource<Global>, D: ModeDevice, W: Write + Drop, C: Cl
     pub reader: EventReader<S>,
     /// The pass that they are read by.
     pub pass: Pass<S>,
-    /// Where is written. What is written arrives when it is flushed, as `execute!` does.
+    /// The writer. What is written arrives when it is flushed, as `execute!` does.
     pub out: W,
     /// The clock.
     pub clock: C,
@@ -57,6 +57,7 @@ impl<W: Write + Drop, C: Clock + Drop> Session<DeviceSource<Input>, SttyDevice<F
     /// Opens the terminal that the program was started in, as `open` does. What is written goes to `out`.
     ///
     /// # Errors
+    ///
     /// Those of `open`, and `OutOfMemory`.
     pub fn open<R: Files<File = File> + Net + Wait>(
         rt: &R,
@@ -75,6 +76,7 @@ impl<I: Device, D: ModeDevice, W: Write + Drop, C: Clock + Drop> Session<DeviceS
     /// The session of a terminal whose events are those of a device, as of a recorder over what `open` returns.
     ///
     /// # Errors
+    ///
     /// `OutOfMemory`.
     pub fn over<R: Wait>(
         rt: &R,
@@ -105,7 +107,16 @@ impl<S: EventSource<Global>, D: ModeDevice, W: Write + Drop, C: Clock + Drop> Se
     /// The next event. This waits for it as long as it takes.
     ///
     /// # Errors
+    ///
     /// `UnexpectedEof` at the end of input; the device's fault; `OutOfMemory`. No event is lost by any of them.
+    ///
+    /// ```
+    /// match tty.read(rt)? {
+    ///     Event::Key(key) => press(key)?,
+    ///     Event::Resize(columns, rows) => resize(columns, rows)?,
+    ///     _ => {}
+    /// }
+    /// ```
     pub fn read<R: Wait>(&mut self, rt: &R) -> io::Result<Event> {
         self.reader.read(rt, &mut self.pass)
     }
@@ -113,7 +124,14 @@ impl<S: EventSource<Global>, D: ModeDevice, W: Write + Drop, C: Clock + Drop> Se
     /// Whether an event comes within this limit. The next `read` returns it at once.
     ///
     /// # Errors
+    ///
     /// Those of `read`.
+    ///
+    /// ```
+    /// if tty.poll(rt, Duration::from_millis(100))? {
+    ///     let event = tty.read(rt)?;
+    /// }
+    /// ```
     pub fn poll<R: Wait>(&mut self, rt: &R, limit: Duration) -> io::Result<bool> {
         self.reader.poll(rt, &mut self.pass, limit, &mut self.clock)
     }
@@ -121,6 +139,7 @@ impl<S: EventSource<Global>, D: ModeDevice, W: Write + Drop, C: Clock + Drop> Se
     /// The cursor's place, as column and row, both counted from 0. This asks the terminal, and waits two seconds at most.
     ///
     /// # Errors
+    ///
     /// `Other` if no answer came in time; else those of `read` and of the writer.
     pub fn position<R: Wait>(&mut self, rt: &R) -> io::Result<(u16, u16)> {
         cursor::position(
@@ -136,6 +155,7 @@ impl<S: EventSource<Global>, D: ModeDevice, W: Write + Drop, C: Clock + Drop> Se
     /// Whether the terminal has the kitty keyboard protocol, which `Feature::Keyboard` needs. This asks it, and waits four seconds at most.
     ///
     /// # Errors
+    ///
     /// `Other` if no answer came in time; else those of `read` and of the writer.
     pub fn supports_keyboard_enhancement<R: Wait>(&mut self, rt: &R) -> io::Result<bool> {
         supports_keyboard_enhancement(
@@ -151,6 +171,7 @@ impl<S: EventSource<Global>, D: ModeDevice, W: Write + Drop, C: Clock + Drop> Se
     /// How many columns and rows the window has. An `Event::Resize` reports each change.
     ///
     /// # Errors
+    ///
     /// The helper's: `Other` if it doesn't know the size.
     pub fn size(&mut self) -> io::Result<(u16, u16)> {
         let size = self.term.window_size()?;
@@ -160,6 +181,7 @@ impl<S: EventSource<Global>, D: ModeDevice, W: Write + Drop, C: Clock + Drop> Se
     /// Switches raw mode on: keys come one by one, and aren't shown. It ends with the session.
     ///
     /// # Errors
+    ///
     /// The helper's. Raw mode is off then.
     pub fn enable_raw_mode(&mut self) -> io::Result<()> {
         self.term.enable_raw_mode()
@@ -168,6 +190,7 @@ impl<S: EventSource<Global>, D: ModeDevice, W: Write + Drop, C: Clock + Drop> Se
     /// Sets the mode from before raw mode.
     ///
     /// # Errors
+    ///
     /// The helper's.
     pub fn disable_raw_mode(&mut self) -> io::Result<()> {
         self.term.disable_raw_mode()
@@ -176,7 +199,14 @@ impl<S: EventSource<Global>, D: ModeDevice, W: Write + Drop, C: Clock + Drop> Se
     /// Turns something on in the terminal until the session ends.
     ///
     /// # Errors
+    ///
     /// `OutOfMemory`, and nothing was written; the writer's.
+    ///
+    /// ```
+    /// tty.enable_raw_mode()?;
+    /// tty.turn_on(Feature::AlternateScreen)?;
+    /// tty.turn_on(Feature::MouseCapture)?;
+    /// ```
     pub fn turn_on(&mut self, feature: Feature) -> io::Result<()> {
         self.features.push(feature)?;
         feature.enter(&mut self.out)
@@ -185,6 +215,7 @@ impl<S: EventSource<Global>, D: ModeDevice, W: Write + Drop, C: Clock + Drop> Se
     /// Turns all off that is turned on, the last one first, and ends raw mode, as the session's end does.
     ///
     /// # Errors
+    ///
     /// The first of the writer's and the helper's. All is tried, whichever fails.
     pub fn leave(&mut self) -> io::Result<()> {
         let mut left = Ok(());

@@ -5,15 +5,14 @@
 //! and `colors on|off`, and writes the commands' bytes. `probe serve` sends its input through a socket of its own, and prints the events
 //! there. `probe keys` reads bindings (`bind NAME CHORD,..`) and acts, and prints what their keys are cut into.
 //!
-//! `probe bench` reads standard input to its end, hands it to the parser in pieces of 1024 bytes, and prints the bytes and the events by kind.
-//! `probe bench frame` writes the commands of one frame into memory, and prints how many bytes and commands they are. With `--time` each does
-//! so again and again for about a second, and prints the least time. `probe bench make NAME BYTES` writes an input of a kind:
+//! `probe bench` reads standard input to its end, and hands it to the parser in pieces of 1024 bytes. It prints the bytes and the events by
+//! kind. `probe bench frame` writes the commands of one frame into memory, and prints how many bytes and commands they are. With `--time`
+//! each does so again and again for about a second, and prints the least time. `probe bench make NAME BYTES` writes an input of a kind:
 //! `letters`, `utf8`, `keys`, `mouse`, `paste` or `hostile`. `probe bench held REPLIES` prints the least time in which a key comes and is
 //! taken while so many replies are held. `probe bench recorded` prints the least time of a key with a recorder and without one.
-//! `probe bench keys BINDINGS` prints the least time that a key takes which is fed to a matcher of so
-//! many bound lists.
+//! `probe bench keys BINDINGS` prints the least time that a key takes which is fed to a matcher of so many bound lists.
 //!
-//! Its code stands on `crossterm` and `keymap`, by their public calls.
+//! Its code is built on `crossterm` and `keymap`, by their public calls.
 #![tactic(auto)]
 
 use probe_modes::bench::mode::Mode;
@@ -46,7 +45,7 @@ enum Task {
     Bench(Mode),
 }
 
-/// The task of a word that stands alone.
+/// The task of a word that is alone.
 fn task_of(word: &str) -> Result<Task, Fault> {
     match word {
         "play" => Ok(Task::Play),

@@ -19,7 +19,7 @@ use std::io::{self, ErrorKind, Read, Write};
 use std::sync::Wait;
 use std::time::Duration;
 
-/// A clock that stands still.
+/// A clock that never moves.
 #[derive(Drop)]
 struct Still;
 
@@ -236,11 +236,12 @@ fn run_statements<A: Allocator + Clone, H: Wait, W: Write>(
     }
 }
 
-/// Reads lines, checks them all, binds and steps as they say, and prints a line for each outcome and one for the fault at the end.
+/// Reads lines, checks them all, binds and steps as they say. Prints a line for each outcome and one for the fault at the end.
 ///
 /// # Errors
-/// `TooLong`, `NotUtf8`, `UnknownWord` and `BadArgument` come before anything runs, `ReadFailed` and `WriteFailed` where the reader
-/// or the writer failed, `OutOfMemory` where memory was refused.
+///
+/// `TooLong`, `NotUtf8`, `UnknownWord` and `BadArgument` come before anything runs, `ReadFailed` and `WriteFailed` if the reader or the
+/// writer failed, `OutOfMemory` if memory was refused.
 pub fn run_keys<A: Allocator + Clone, H: Wait, R: Read, W: Write>(
     rt: &H,
     alloc: A,

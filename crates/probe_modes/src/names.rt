@@ -17,7 +17,7 @@ impl Write for Left<'_> {
     }
 }
 
-/// Whether a value is told by this name.
+/// Whether a value has this name.
 pub fn is_named<T: Debug>(value: &T, name: &str) -> bool {
     let mut left = Left(Some(name));
     write!(left, "{value:?}").is_ok() && left.0 == Some("")

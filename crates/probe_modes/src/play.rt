@@ -285,8 +285,9 @@ fn run_statements<A: Allocator + Clone, W: Write>(
 /// Reads lines, checks them all, runs the calls over the acts, and prints a line for each call and for each event still held.
 ///
 /// # Errors
-/// `TooLong`, `NotUtf8`, `UnknownWord` and `BadArgument` come before anything runs, `ReadFailed` and `WriteFailed` where the reader
-/// or the writer failed, `OutOfMemory` where memory was refused.
+///
+/// `TooLong`, `NotUtf8`, `UnknownWord` and `BadArgument` come before anything runs, `ReadFailed` and `WriteFailed` if the reader or the
+/// writer failed, `OutOfMemory` if memory was refused.
 pub fn run_play<A: Allocator + Clone, R: Read, W: Write>(
     alloc: A,
     reader: &mut R,

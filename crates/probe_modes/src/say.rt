@@ -85,8 +85,9 @@ fn write<A: Allocator, W: Write>(writer: &mut W, speech: &Speech<A>) -> io::Resu
 /// Reads lines, checks them all, and writes the bytes of the commands that they name.
 ///
 /// # Errors
-/// `TooLong`, `NotUtf8`, `UnknownWord` and `BadArgument` come before anything is written, `ReadFailed` and `WriteFailed` where the reader
-/// or the writer failed, `OutOfMemory` where memory was refused.
+///
+/// `TooLong`, `NotUtf8`, `UnknownWord` and `BadArgument` come before anything is written, `ReadFailed` and `WriteFailed` if the reader or
+/// the writer failed, `OutOfMemory` if memory was refused.
 pub fn run_say<A: Allocator + Clone, R: Read, W: Write>(
     alloc: A,
     reader: &mut R,

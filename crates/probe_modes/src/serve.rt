@@ -31,6 +31,7 @@ const STRANGERS: u32 = 64;
 /// The connection that came from this address. Others on this machine may connect to the port before: those are closed.
 ///
 /// # Errors
+///
 /// `ConnectionRefused` if too many others came first; else that of `accept`.
 pub fn accepted_from(
     listener: &net::TcpListener,
@@ -59,7 +60,7 @@ fn far_end<N: Net>(rt: &N, bytes: &[u8]) -> io::Result<TcpStream> {
 
 type Source = DeviceSource<SocketDevice>;
 
-/// A device that tells these bytes, and then the end of input.
+/// A device that reports these bytes, and then the end of input.
 fn device<N: Net>(rt: &N, alloc: Global, bytes: &[u8]) -> io::Result<SocketDevice> {
     let raw = RawFlag::new(alloc)?;
     SocketDevice::new(rt, alloc, far_end(rt, bytes)?, raw)
@@ -68,7 +69,7 @@ fn device<N: Net>(rt: &N, alloc: Global, bytes: &[u8]) -> io::Result<SocketDevic
 /// An arrival number, and the event that has it.
 type Arrived = (u64, InternalEvent);
 
-/// Reads until a fault, which is the end of input where all goes well.
+/// Reads until a fault, which is the end of input if all goes well.
 fn drain<R: Wait>(
     rt: &R,
     alloc: Global,
@@ -154,11 +155,12 @@ fn print<W: Write>(writer: &mut W, arrived: &[Arrived]) -> io::Result<()> {
     writer.flush()
 }
 
-/// Reads the first 4096 bytes of the input, sends them through a socket of its own, reads events there by two threads, and prints a line for
-/// each, in the order of their arrival. Replies of a terminal aren't printed.
+/// Reads the first 4096 bytes of the input, sends them through a socket of its own, and reads events there by two threads. Prints a line
+/// for each, in the order of their arrival. Replies of a terminal aren't printed.
 ///
 /// # Errors
-/// `ReadFailed` and `WriteFailed` where the reader or the writer failed, `SocketFailed` where the socket did, `OutOfMemory` where memory was
+///
+/// `ReadFailed` and `WriteFailed` if the reader or the writer failed, `SocketFailed` if the socket did, `OutOfMemory` if memory was
 /// refused.
 pub fn run_serve<H: Net + Threads + Wait + Sync, R: Read, W: Write>(
     rt: &H,

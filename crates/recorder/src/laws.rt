@@ -15,8 +15,8 @@ pub fn reads_back()
     ensures acts { LinesReadBack }
 {}
 
-/// The law of recordings: what a new source over a recorder answers comes of a script of the recording, as long as the recording wasn't
-/// stopped, and nothing came after the end of input.
+/// The law of recordings: what a new source over a recorder answers comes of a script of the recording. That holds as long as the recording
+/// wasn't stopped, and nothing came after the end of input.
 pub fn replays<D: Device, W: Write>()
     ensures replays { Replays W.contents D.answering.answered }
     ensures plays { PlaysAlike W.contents D.answering.answered }
@@ -24,9 +24,9 @@ pub fn replays<D: Device, W: Write>()
     scripts_are_told();
 }
 
-/// The law of recordings that a shared reader made: the events that its passes took, whichever threads they were on, and those that it
-/// holds are, each once, the first ones of all that happens by a script of the recording. It was not stopped, and nothing came after the
-/// end of input.
+/// The law of recordings that a shared reader made: the events that its passes took or that it holds are, each once, the first of all that
+/// happens by a script of the recording. It doesn't matter on which threads the passes were. That holds as long as the recording wasn't
+/// stopped, and nothing came after the end of input.
 pub fn histories_replay<D: Device, W: Write>()
     ensures { HistoriesReplay W.contents D.answering.answered }
 {

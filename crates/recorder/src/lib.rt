@@ -9,8 +9,8 @@
 //! resize 80 24
 //! ```
 //!
-//! The acts are `piece HEX` and `raw HEX` (bytes, and bytes that came in raw mode), `resize COLUMNS ROWS`, `wake`, `idle` and `fault KIND`,
-//! with one blank between words. A line that begins with `#` is a comment; one with a number says how many milliseconds after the beginning
+//! The acts are `piece HEX` and `raw HEX` (bytes, and bytes that came in raw mode), `resize COLUMNS ROWS`, `wake`, `idle` and `fault KIND`.
+//! Between words is one blank. A line that begins with `#` is a comment; one with a number says how many milliseconds after the beginning
 //! what follows came. `reading::read_session` reads a recording, and a `Script` of its acts is a device again:
 //!
 //! ```
@@ -18,7 +18,7 @@
 //! let mut reader = InternalEventReader::new(alloc, DeviceSource::new(alloc, Script::new(session.acts)));
 //! ```
 //!
-//! It stands on `crossterm_read`, for devices and scripts, and on the crates below it, by their public contracts alone.
+//! It is built on `crossterm_read`, for devices and scripts, and on the crates below it, by their public contracts alone.
 //!
 //! What is proved, beyond safety:
 //!
@@ -42,7 +42,7 @@
 //! | `Replaying` | what a recording replays | `laws::{replays, histories_replay, answers_as_told}` |
 //! | `Stopping` | what a recording says that ended early | `laws::{one_list, stops}` |
 //!
-//! A function's proof is in `proofs/` at the function's path; where there is no file, the prover found it by itself.
+//! A function's proof is in `proofs/` at the function's path; if there is no file, the prover found it by itself.
 #![tactic(auto)]
 
 mod kinds;

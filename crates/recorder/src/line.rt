@@ -149,6 +149,7 @@ fn said<A: Allocator>(act: &Act<A>) -> Told<'_>
 /// ```
 ///
 /// # Errors
+///
 /// Memory was refused, and then the text may end with a part of the line.
 pub fn write_act<A: Allocator, B: Allocator>(
     out: &mut Vec<u8, B>,

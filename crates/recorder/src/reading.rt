@@ -49,7 +49,7 @@ pub struct BadLine {
     pub reason: Wrong,
 }
 
-// What stands before the first byte of a value, and behind it.
+// What precedes the first byte of a value, and what follows it.
 fn cut_at(bytes: &[u8], c: u8) -> Option<(&[u8], &[u8])>
     ensures { CutsAt c bytes.now result }
 {
@@ -172,7 +172,7 @@ fn read_fault<A: Allocator>(words: Option<&[u8]>) -> Result<Act<A>, Wrong>
     }
 }
 
-// Reads the words behind one that stands alone.
+// Reads the words behind one that takes none.
 fn read_woken<A: Allocator>(words: Option<&[u8]>) -> Result<Act<A>, Wrong>
     ensures { IsRead (spec.read_alone Woken (words_of words.entry)) result }
 {
@@ -223,6 +223,7 @@ fn read_words<A: Allocator + Clone>(
 /// Reads an act of one line, without its end.
 ///
 /// # Errors
+///
 /// Why it is none.
 pub fn read_act<A: Allocator + Clone>(alloc: &A, line: &[u8]) -> Result<Act<A>, Wrong>
     ensures { IsRead (spec.read_line line.now) result }
@@ -322,6 +323,7 @@ impl<A: Allocator + Clone> Session<A> {
 /// ```
 ///
 /// # Errors
+///
 /// The first line that is no act, and why: an unknown word, other words than its own, or a last line without an end. Or memory was refused.
 pub fn read_session<A: Allocator + Clone>(alloc: &A, text: &[u8]) -> Result<Session<A>, BadLine>
     ensures ok { IfOk result (λ s. spec.read_text text.now ≡ Ok (session_of s)) }

@@ -76,7 +76,7 @@ fn line_of<'a>(answer: &io::Result<Answer>, buf: &'a [u8]) -> Option<Told<'a>>
     }
 }
 
-// The milliseconds that a clock tells.
+// The milliseconds that a clock reports.
 fn moment<C: Clock>(clock: &mut C) -> u32
     ensures time { result ≡ millis (C.told clock.new) }
     ensures later { millis (C.told clock.old) ≤ millis (C.told clock.new) }
@@ -151,7 +151,7 @@ fn record<W: Write, C: Clock, A: Allocator>(
 }
 
 impl<D: Device, W: Write + Drop, C: Clock + Drop, A: Allocator> Recorder<D, W, C, A> {
-    /// A recorder that has written nothing yet. Times count from where its clock begins.
+    /// A recorder that has written nothing yet. Times count from the time of its clock.
     pub fn new(alloc: A, device: D, writer: W, clock: C) -> Self
         ensures { result ≡ record { device = device; writer = writer; clock = C.told clock; room = None; stop = None } }
     {

@@ -27,7 +27,11 @@ pub struct Watch<A: Allocator = Global> {
 }
 
 impl<A: Allocator> Watch<A> {
-    /// A watch that reports nothing yet. The error is `OutOfMemory`.
+    /// A watch that reports nothing yet.
+    ///
+    /// # Errors
+    ///
+    /// `OutOfMemory` if memory was refused.
     pub fn new(alloc: A) -> io::Result<Watch<A>>
         ensures { IfErr result (λ e. error_kind e ≡ OutOfMemory) }
     {
@@ -48,7 +52,11 @@ impl<A: Allocator> Watch<A> {
 }
 
 impl<A: Allocator + Clone> Watch<A> {
-    /// The same watch, for a recorder or for another thread. The error is `OutOfMemory`.
+    /// The same watch, for a recorder or for another thread.
+    ///
+    /// # Errors
+    ///
+    /// `OutOfMemory` if no further share can be made.
     pub fn share(&self) -> io::Result<Watch<A>>
         ensures { IfErr result (λ e. error_kind e ≡ OutOfMemory) }
     {

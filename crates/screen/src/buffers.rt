@@ -58,7 +58,7 @@ pub(crate) fn fill(cells: &mut [Cell], cell: Cell)
     cells.fill(cell);
 }
 
-/// Makes so many blank cells. Where memory is refused the cells stay.
+/// Makes so many blank cells. If memory is refused, the cells stay.
 fn make_blank<A: Allocator>(cells: &mut Vec<Cell, A>, count: usize) -> Result<(), AllocError>
     ensures ok { OnOk result (cells.new.items ≡ replicate count blank) }
     ensures err { OnErr result (cells.new.items ≡ cells.old.items) }
@@ -85,6 +85,10 @@ pub(crate) fn set_blank<A: Allocator>(
 
 impl<A: Allocator> Buffer<A> {
     /// Blank cells: spaces in the empty style.
+    ///
+    /// # Errors
+    ///
+    /// `AllocError` if memory was refused.
     pub fn new(alloc: A, width: u16, height: u16) -> Result<Buffer<A>, AllocError>
         ensures { IfOk result (λ buffer. buffer ≡ filled width height blank) }
     {
@@ -97,7 +101,18 @@ impl<A: Allocator> Buffer<A> {
         })
     }
 
-    /// Takes another size. All cells are blank then; where memory is refused nothing changes.
+    /// Takes another size. All cells are blank then.
+    ///
+    /// # Errors
+    ///
+    /// `AllocError` if memory was refused. Then nothing has changed.
+    ///
+    /// ```
+    /// if let Event::Resize(columns, rows) = event {
+    ///     buffer.resize(columns, rows)?;
+    ///     screen.resize(columns, rows)?;
+    /// }
+    /// ```
     pub fn resize(&mut self, width: u16, height: u16) -> Result<(), AllocError>
         ensures ok { OnOk result (self.new ≡ filled width height blank) }
         ensures err { OnErr result (self.new ≡ self.old) }
@@ -138,6 +153,7 @@ impl<A: Allocator> Buffer<A> {
     /// Makes all cells the same.
     ///
     /// # Errors
+    ///
     /// Those of the character: `Control`, `NoWidth`, `Wide`. Then nothing changes.
     pub fn fill(&mut self, symbol: char, style: ContentStyle) -> Result<(), CellFault>
         ensures ok { OnOk result ((symbol_fault symbol ≡ None)
@@ -154,6 +170,7 @@ impl<A: Allocator> Buffer<A> {
     /// Sets a cell, by its column and its row from 0.
     ///
     /// # Errors
+    ///
     /// `Outside`, and else those of the character: `Control`, `NoWidth`, `Wide`. Then nothing changes.
     pub fn set(
         &mut self,
@@ -186,8 +203,9 @@ impl<A: Allocator> Buffer<A> {
     /// ```
     ///
     /// # Errors
-    /// `Outside` where there is no such row, and else that of the first character which can't stand in a cell, shown or not: `Control`,
-    /// `NoWidth`, `Wide`. Then nothing changes.
+    ///
+    /// `Outside` if there is no such row, and else that of the first character which no cell can hold, shown or not: `Control`, `NoWidth`,
+    /// `Wide`. Then nothing changes.
     pub fn print(
         &mut self,
         column: u16,

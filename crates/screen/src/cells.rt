@@ -34,7 +34,7 @@ impl Cell {
     }
 }
 
-/// Why a character can't stand in a cell, where it can't: by its width (`unicode_width`).
+/// Why a cell can't hold a character, if it can't: by its width (`unicode_width`).
 pub(crate) fn symbol_fault(symbol: char) -> Option<CellFault>
     ensures value { result ≡ symbol_fault symbol }
     ensures fits { result ≡ None → Fits symbol }
@@ -101,7 +101,7 @@ fn has_parts(parts: (u8, u8, u8), right: Color) -> bool
     }
 }
 
-/// The same where there may be none.
+/// The same if there may be none.
 fn is_same_choice(left: Option<Color>, right: Option<Color>) -> bool
     ensures { IsTrue result ↔ (left ≡ right) }
 {
@@ -164,7 +164,7 @@ pub(crate) fn is_wide(cell: &Cell) -> bool
     }
 }
 
-/// Whether a character has to be printed where one cell stands and another one is to be.
+/// Whether a character has to be printed at a place where one cell is and another one is to be.
 pub(crate) fn has_to_be_printed(before: &Cell, after: &Cell) -> bool
     ensures printed { IsTrue result ↔ HasToBePrinted before.now after.now }
     ensures kept { result ≡ false → is_covered after.now ≡ false → before.now ≡ after.now }

@@ -32,7 +32,7 @@ pub enum DrawFault {
     /// Memory was refused. Nothing was written.
     #[error("out of memory")]
     Memory,
-    /// A command wasn't written. Where the writer failed, a beginning of the frame was written.
+    /// A command wasn't written. If the writer failed, a beginning of the frame was written.
     #[error("a frame that wasn't written whole")]
     Command(CommandFault),
 }

@@ -1,7 +1,7 @@
 //! A screen above crossterm: a program fills a `Buffer`, and `Screen::draw` writes what makes the terminal show it.
 //!
-//! Only cells that changed are written, side by side without a move between them, and a style only where it changes. Each frame stands
-//! within synchronized output.
+//! Only cells that changed are written, side by side without a move between them, and a style only where it changes. Each frame is within
+//! synchronized output.
 //!
 //! ```
 //! let mut buffer = Buffer::new(alloc, 80, 24)?;
@@ -10,15 +10,15 @@
 //! screen.draw(w, ColorOutput::Enabled, &buffer, None)?;
 //! ```
 //!
-//! The promise, for each terminal that does what `specs/Grids.antt` says and has the widths of the crate `unicode_width`: whatever grid of the
-//! screen's size shows the buffer that was drawn last, with any cursor and any style, what `draw` writes leads to a grid that shows the new
-//! buffer cell for cell, with the cursor where it was asked to be. At the beginning, after `resize`, `forget` and an error nothing is known
-//! of the cells, and the same holds for every grid of the size.
+//! The promise, for each terminal that does what `specs/Grids.antt` says and has the widths of the crate `unicode_width`: take any grid of
+//! the screen's size that shows the buffer that was drawn last, with any cursor and any style. What `draw` writes leads from it to a grid
+//! that shows the new buffer cell for cell. Its cursor is where it was asked to be. At the beginning, after `resize`, `forget` and an error
+//! nothing is known of the cells, and the same holds for every grid of the size.
 //!
 //! A cell of a buffer holds a character of one column. Control characters and those of no column or of two and more are refused by name
 //! (`CellFault`). The definitions and the proof of a frame have characters of two columns too, which cover the next cell; no buffer makes any yet.
 //!
-//! Where a frame broke off within a control sequence, the next one begins with ESC, which ends such a sequence at a terminal. The definitions
+//! If a frame broke off within a control sequence, the next one begins with ESC, which ends such a sequence at a terminal. The definitions
 //! speak of whole sequences and don't say so.
 //!
 //! Memory is taken by `new`, by `resize`, and by a frame with more strokes than any before it. A stroke is a move, a style, a character, or
@@ -44,7 +44,7 @@
 //!
 //! `specs/inside/` says the same of a frame's parts, and no public clause cites it.
 //!
-//! A function's proof stands in `proofs/` at the function's path; where there is no file, the prover found it by itself.
+//! A function's proof is in `proofs/` at the function's path; if there is no file, the prover found it by itself.
 #![tactic(auto)]
 
 mod buffers;

@@ -199,7 +199,7 @@ fn add_last<A: Allocator>(
     Ok(())
 }
 
-/// The strokes that turn cells that are shown, or any where they aren't known, into others.
+/// The strokes that turn cells that are shown, or any if they aren't known, into others.
 pub(crate) fn plan<A: Allocator>(
     strokes: &mut Vec<Stroke, A>,
     is_known: bool,

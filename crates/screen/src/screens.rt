@@ -27,7 +27,7 @@ use std::marker::Model;
 pub struct Screen<A: Allocator = Global> {
     width: u16,
     height: u16,
-    // The choice of colours that `shown` was drawn with, and none where nothing is known of the terminal.
+    // The choice of colours that `shown` was drawn with, and none if nothing is known of the terminal.
     drawn: Option<ColorOutput>,
     shown: Vec<Cell, A>,
     strokes: Vec<Stroke, A>,
@@ -71,7 +71,7 @@ fn is_inside(cursor: Option<(u16, u16)>, width: u16, height: u16) -> bool
     }
 }
 
-/// Makes the cells blank that aren't known, and tells whether they are.
+/// Makes the cells blank that aren't known, and returns whether they are known.
 fn prepare_cells<A: Allocator>(
     cells: &mut Vec<Cell, A>,
     drawn: Option<ColorOutput>,
@@ -88,7 +88,7 @@ fn prepare_cells<A: Allocator>(
     false
 }
 
-/// The same, with what follows of cells that are paired where they were drawn.
+/// The same, with what follows from it for cells that are paired if they were drawn.
 fn prepare<A: Allocator>(
     cells: &mut Vec<Cell, A>,
     drawn: Option<ColorOutput>,
@@ -105,6 +105,10 @@ fn prepare<A: Allocator>(
 
 impl<A: Allocator + Copy> Screen<A> {
     /// A screen of a size. Nothing is known of the terminal yet.
+    ///
+    /// # Errors
+    ///
+    /// `AllocError` if memory was refused.
     pub fn new(alloc: A, width: u16, height: u16) -> Result<Screen<A>, AllocError>
         ensures { IfOk result (λ screen. screen ≡ record { width = width; height = height; drawn = None }) }
     {
@@ -143,7 +147,11 @@ impl<A: Allocator> Screen<A> {
         self.drawn = None;
     }
 
-    /// Takes another size, after which nothing is known of the terminal. Where memory is refused nothing changes.
+    /// Takes another size, after which nothing is known of the terminal.
+    ///
+    /// # Errors
+    ///
+    /// `AllocError` if memory was refused. Then nothing has changed.
     pub fn resize(&mut self, width: u16, height: u16) -> Result<(), AllocError>
         ensures ok { OnOk result (self.new ≡ record { width = width; height = height; drawn = None }) }
         ensures err { OnErr result (self.new ≡ self.old) }
@@ -158,9 +166,15 @@ impl<A: Allocator> Screen<A> {
     /// Writes what makes the terminal show the buffer, with the cursor at a column and a row from 0, or hidden.
     ///
     /// # Errors
-    /// `Size` where the buffer has another size, and `Cursor` where the place is outside: then nothing was written and nothing changed.
-    /// `Memory`: nothing was written. `Command`: a beginning of the frame was written. After these two nothing is known of the terminal, and the
-    /// next frame writes all.
+    ///
+    /// `Size` if the buffer has another size, and `Cursor` if the place is outside: then nothing was written and nothing changed. `Memory`:
+    /// nothing was written. `Command`: a beginning of the frame was written. After these two nothing is known of the terminal, and the next
+    /// frame writes all.
+    ///
+    /// ```
+    /// screen.draw(&mut tty.out, ColorOutput::Enabled, &buffer, Some((column, row)))?;
+    /// tty.out.flush()?;
+    /// ```
     pub fn draw<W: Write, B: Allocator>(
         &mut self,
         writer: &mut W,

@@ -12,7 +12,7 @@ use crossterm_command::{ColorOutput, Command, CommandFault, write_command};
 use crossterm_style::ContentStyle;
 use std::{fmt, io};
 
-/// One thing that a terminal is told.
+/// One thing that is asked of a terminal.
 #[derive(Clone, Copy, Debug)]
 pub(crate) enum Stroke {
     /// What follows is shown at once, up to the end.
@@ -22,7 +22,7 @@ pub(crate) enum Stroke {
     Erase,
     /// Moves the cursor to a column and a row.
     Move(u16, u16),
-    /// Sets a style, whatever stood before.
+    /// Sets a style, whatever was set before.
     Style(ContentStyle),
     /// Prints a character.
     Print(char),

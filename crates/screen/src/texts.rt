@@ -8,7 +8,7 @@ use crate::cells::{Cell, symbol_fault};
 use crate::faults::CellFault;
 use crossterm_style::ContentStyle;
 
-/// Why a text can't stand in cells, where it can't: its first character that can't.
+/// Why cells can't hold a text, if they can't: its first character that they can't hold.
 pub(crate) fn text_fault(text: &str) -> Option<CellFault>
     ensures fault { result ≡ text_fault (chars text.now) }
     ensures fits { result ≡ None → All Fits (chars text.now) }

@@ -1,5 +1,5 @@
 //! Tests of the devices, the parser, the source and the reader by their public calls: each call once, and tables that come from outside.
-//! Beside them stands the slow program of the grammar's definitions (`plain`), which the parser is compared with.
+//! Beside them is the slow program of the grammar's definitions (`plain`), which the parser is compared with.
 //!
 //! What is proved, beyond safety:
 //!

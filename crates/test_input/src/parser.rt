@@ -19,7 +19,7 @@ enum Coming {
     Raw,
 }
 
-/// What a device told at once.
+/// What a device reported at once.
 type Piece<'a> = (&'a [u8], Coming);
 
 fn mark(all: &mut Vec<Marked>, piece: &Piece<'_>) -> Result<(), AllocError> {
@@ -69,7 +69,7 @@ fn ends_with(parser: &mut Parser, marked: &Marked) -> bool {
     !parser.is_undecided()
 }
 
-/// Whether the parser, given the bytes one by one, is between two sequences exactly where they have these lengths.
+/// Whether the parser, given the bytes one by one, is between two sequences exactly at the ends of these lengths.
 fn is_divided(parser: &mut Parser, bytes: &[Marked], lengths: &[usize]) -> bool {
     let mut lengths = lengths.iter();
     let mut length = lengths.next();

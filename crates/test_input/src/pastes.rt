@@ -26,7 +26,7 @@ fn is_pasted(event: Option<InternalEvent>, want: &str) -> bool {
     }
 }
 
-/// Whether a paste is one event where its bytes are cut by these bits, but its first two stand together.
+/// Whether a paste is one event if its bytes are cut by these bits, but its first two are together.
 fn pastes_hi(alloc: Global, cuts: u32) -> bool {
     let mut parser: Parser<Global> = Parser::new(alloc);
     let mut left = cuts;
@@ -158,7 +158,7 @@ fn keeps<L: Ledger>(alloc: Global, steps: &mut Steps<L>) -> Result<bool, AllocEr
     Ok(joined && seen && closed.as_str() == "a")
 }
 
-/// Whether a letter is taken where the steps are counted.
+/// Whether a letter is taken if the steps are counted.
 fn advances<L: Ledger>(alloc: Global, steps: &mut Steps<L>) -> bool {
     let mut parser: Parser<Global> = Parser::new(alloc);
     parser.advance(b"a", false, false, steps) == 1 && parser.next().is_some()

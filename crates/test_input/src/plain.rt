@@ -93,7 +93,7 @@ fn ends_the_reply(bytes: &[u8]) -> bool
     }
 }
 
-/// Whether what stands after `ESC [ ?` ends a reply, which a `u` at once doesn't.
+/// Whether what follows `ESC [ ?` ends a reply, which a `u` at once doesn't.
 fn ends_after_question(bytes: &[u8]) -> bool
     ensures { result ≡ ends_private bytes.now }
 {
@@ -141,7 +141,7 @@ fn ends_after_digit(bytes: &[u8]) -> bool
     }
 }
 
-/// Whether what stands after `ESC [` ends a sequence.
+/// Whether what follows `ESC [` ends a sequence.
 fn ends_after_csi(bytes: &[u8]) -> bool
     ensures { result ≡ ends_csi bytes.now }
 {
@@ -156,7 +156,7 @@ fn ends_after_csi(bytes: &[u8]) -> bool
     }
 }
 
-/// Whether what stands after ESC ends a sequence.
+/// Whether what follows ESC ends a sequence.
 fn ends_after_escape(bytes: &[u8]) -> bool
     ensures { result ≡ ends_escape bytes.now }
 {
@@ -179,7 +179,7 @@ fn is_sequence(bytes: &[u8]) -> bool
     }
 }
 
-/// Whether bytes that have no whole front are a whole sequence, where `pause` tells of a pause after them.
+/// Whether bytes that have no whole front are a whole sequence, if `pause` says that a pause follows them.
 fn is_whole_part(bytes: &[u8], pause: bool) -> bool
     ensures { result ≡ is_decided bytes.now pause }
 {
@@ -208,7 +208,7 @@ fn event_of<A: Allocator + Clone>(
     }
 }
 
-/// Joins the event that a whole sequence means to the others, where there is one.
+/// Joins the event that a whole sequence means to the others, if there is one.
 fn give<A: Allocator + Clone>(
     events: &mut Vec<InternalEvent<A>, A>,
     bytes: &[u8],

@@ -96,7 +96,7 @@ fn gives_three(parser: &mut Poor<'_>) -> bool {
     gives_them && !gives(parser)
 }
 
-/// Whether the room that a parser reserved stays its own, where all the rest is used up.
+/// Whether the room that a parser reserved stays its own, if all the rest is used up.
 fn keeps_its_room(alloc: Global, heap: &LocalHeap) -> bool {
     let mut parser = Parser::new(heap);
     let reserved = parser.reserve(3).is_ok();

@@ -59,7 +59,7 @@ static ACTS: [Part; 5] = [
     Part::Text(b"b", 1, false),
 ];
 
-/// The script of a session: letters stand in one piece with its first part.
+/// The script of a session: letters are in one piece with its first part.
 fn script_of(alloc: Global, session: &Session) -> Result<Script, AllocError> {
     let mut acts = acts_of(alloc, session.0)?;
     if let Some(Act::Piece { bytes, .. }) = acts.as_mut_slice().first_mut() {
@@ -70,7 +70,7 @@ fn script_of(alloc: Global, session: &Session) -> Result<Script, AllocError> {
     Ok(Script::new(acts))
 }
 
-/// A number by which the events of these sessions are told apart.
+/// A number that distinguishes the events of these sessions.
 fn number_of<A: Allocator>(event: &InternalEvent<A>) -> u32 {
     match event {
         InternalEvent::Event(Event::Key(key)) => match key.code {
@@ -85,7 +85,7 @@ fn number_of<A: Allocator>(event: &InternalEvent<A>) -> u32 {
     }
 }
 
-/// What no event and a fault are told by.
+/// The number of no event and of a fault.
 const NONE: u32 = 0x11_0006;
 
 const FAULT: u32 = 0x11_0007;

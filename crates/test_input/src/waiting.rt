@@ -98,7 +98,7 @@ fn no_time_asks_once(rt: HostRuntime) -> Result<(), AllocError> {
     Ok(())
 }
 
-/// What is left of 4 ms, where the clock goes on by 1 ms each time that it is looked at.
+/// What is left of 4 ms, if the clock goes on by 1 ms each time that it is looked at.
 static LEFT: [Option<u64>; 2] = [Some(3), Some(1)];
 
 static ENDLESS: [Option<u64>; 2] = [None, None];
@@ -162,7 +162,7 @@ fn holds_the_letter(reader: &Reader<Script>) -> bool {
     count_of(reader.held()) == 1
 }
 
-/// Whether the cursor's place is told within these tries, and the letter stays.
+/// Whether the cursor's place is returned within these tries, and the letter stays.
 fn is_placed(alloc: Global, tries: u32, want: Option<(u16, u16)>) -> Result<bool, AllocError> {
     let mut reader = script_of(alloc, &LETTER_AND_PLACE)?;
     let place = match reader.position_within(tries) {

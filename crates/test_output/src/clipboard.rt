@@ -10,7 +10,7 @@ use std::io;
 use std::test::Fail;
 use test_support::{expect, is_text};
 
-/// Letters, and the places that they stand for.
+/// Letters, and the places that they represent.
 static SPELLED: [(&str, &[ClipboardType]); 7] = [
     ("", &[]),
     ("c", &[ClipboardType::Clipboard]),

@@ -114,7 +114,7 @@ fn is_made(alloc: Global) -> bool {
     called && matches!(outcome, Ok(7)) && tape.holds(b"\x1b[?2026hx\x1b[?2026l", 1)
 }
 
-/// Whether an update that fails after so many bytes is told, and whether it was called.
+/// Whether an update that fails after so many bytes is reported, and whether it was called.
 fn is_told(alloc: Global, room: usize, bytes: &[u8], makes: bool) -> bool {
     let mut tape = Tape::failing_at(alloc, room);
     let (outcome, called) = update(&mut tape);

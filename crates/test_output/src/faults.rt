@@ -28,7 +28,7 @@ static KINDS: [ErrorKind; 5] = [
     ErrorKind::WouldBlock,
 ];
 
-/// The kind of the writer's own fault. Another fault is told by a kind that no writer here fails with.
+/// The kind of the writer's own fault. Another fault is shown by a kind that no writer here fails with.
 fn own_kind(outcome: Result<(), CommandFault>) -> Option<ErrorKind> {
     match outcome {
         Ok(()) => None,
@@ -76,7 +76,7 @@ fn goes<C: Command>(way: Way, w: &mut Witness, command: &C) -> Option<ErrorKind>
     }
 }
 
-/// What is wanted where a text goes, with so many flushes after it, to a writer that fails after so many bytes: the answer, and what the
+/// What is wanted if a text goes, with so many flushes after it, to a writer that fails after so many bytes: the answer, and what the
 /// writer saw.
 fn is_seen(
     w: &Witness,
@@ -97,7 +97,7 @@ fn is_seen(
     answer == want && w.saw(text, flushes, 0)
 }
 
-/// Whether a command stops on its way where the writer does, and arrives where the writer takes all.
+/// Whether a command stops on its way if the writer does, and arrives if the writer takes all.
 fn stops<C: Command>(
     alloc: Global,
     command: &C,
@@ -188,7 +188,7 @@ fn go(way: ListWay, w: &mut Witness, five: &Five) -> Option<ErrorKind> {
     }
 }
 
-/// Whether five commands stop on their way where the writer does, and arrive where the writer takes all.
+/// Whether five commands stop on their way if the writer does, and arrive if the writer takes all.
 fn stop(alloc: Global, five: &Five, way: &(ListWay, u32), fault: ErrorKind) -> bool {
     let text = five.1.as_bytes();
     for room in 0..text.len() + 2 {
@@ -219,12 +219,12 @@ fn update(w: &mut Witness) -> io::Result<Option<ErrorKind>> {
 
 const UPDATE: &[u8] = b"\x1b[?2026hx\x1b[?2026l";
 
-/// Whether an update stops where the writer does, and isn't made where its beginning failed.
+/// Whether an update stops if the writer does, and isn't made if its beginning failed.
 fn update_stops(alloc: Global, fault: ErrorKind) -> bool {
     for room in 0..UPDATE.len() + 2 {
         let mut w = Witness::new(alloc, room, fault);
         let answer = kind(update(&mut w));
-        // Where the letter fails the update doesn't: its closure was answered that, and its end comes.
+        // If the letter fails, the update doesn't: its closure got that error, and its end comes.
         if room != 8 && !is_seen(&w, answer, UPDATE, 1, room, fault) {
             return false;
         }
@@ -232,7 +232,7 @@ fn update_stops(alloc: Global, fault: ErrorKind) -> bool {
     true
 }
 
-/// Whether the end of an update comes where its closure met the fault, and the closure's answer is given.
+/// Whether the end of an update comes if its closure met the fault, and the closure's result is returned.
 fn end_comes(alloc: Global, fault: ErrorKind) -> bool {
     let mut w = Witness::new(alloc, 8, fault);
     let is_told = matches!(update(&mut w), Ok(Some(e)) if e == fault);

@@ -142,7 +142,7 @@ fn all_commands(alloc: Global) -> io::Result<Vec<AnyCommand>> {
     Ok(commands)
 }
 
-/// Whether a writer in this heap has a beginning of the text, and is refused memory exactly where that isn't all of it. It tells how many
+/// Whether a writer in this heap has a beginning of the text, and is refused memory exactly if that isn't all of it. It returns how many
 /// bytes it has.
 fn is_beginning(heap: &LocalHeap, commands: &[AnyCommand], want: &[u8]) -> Option<usize> {
     let mut out: Vec<u8, &LocalHeap> = Vec::new(heap);
@@ -183,7 +183,7 @@ fn each_growth_is_refused_in_turn(rt: HostRuntime) -> io::Result<()> {
     Ok(())
 }
 
-/// Whether a way writes `Show` where it is interrupted 64 times in a row, and is answered so where 65 times, with nothing written.
+/// Whether a way writes `Show` if it is interrupted 64 times in a row, and returns that if 65 times, with nothing written.
 macro_rules! tries {
     ($rt:expr, $text:expr, $w:ident => $call:expr) => {
         let mut tape = Tape::interrupted($rt.alloc(), 64);

@@ -1,6 +1,6 @@
 //! Tests of commands, the macros, updates, writers, the clipboard and screens by their public calls, and tables that come from outside.
 //!
-//! What a line of `probe say` can tell of a command, its bytes, stands in the tables of `probe` alone.
+//! What a line of `probe say` can show of a command, its bytes, is in the tables of `probe` alone.
 #![tactic(auto)]
 
 #[cfg(test)]

@@ -35,7 +35,7 @@ fn is_denied<T: Drop>(answer: io::Result<T>) -> bool {
     matches!(answer, Err(error) if error.kind() == ErrorKind::PermissionDenied)
 }
 
-/// Raw mode on and off. Where it wasn't on, both leave the mode that stood before.
+/// Raw mode on and off. If it wasn't on, both leave the mode that was set before.
 fn raw_and_back<D: ModeDevice>(terminal: &mut Terminal<D>) -> io::Result<()>
     ensures { OnOk result (terminal.old.prior ≡ None → D.stands terminal.new.device ≡ D.stands terminal.old.device) }
 {
@@ -62,7 +62,7 @@ fn raw_mode_is_switched_on_and_off(rt: HostRuntime) -> io::Result<()> {
     Ok(())
 }
 
-/// A device of modes that never fails, and claims no more than which mode stands.
+/// A device of modes that never fails, and claims no more than which mode is set.
 #[derive(Drop)]
 struct Plain {
     mode: u8,
@@ -107,7 +107,7 @@ fn a_device_needs_no_claims(rt: HostRuntime) -> io::Result<()> {
     Ok(())
 }
 
-/// Whether a device that refuses to tell its mode, or to set the raw one, leaves raw mode off.
+/// Whether a device that refuses to report its mode, or to set the raw one, leaves raw mode off.
 fn stays_cooked(alloc: Global, refused: Call) -> io::Result<bool> {
     let calls = AtomicU32::new(0);
     let (mut terminal, flag) = terminal_of(alloc, &calls, Some(refused))?;
@@ -115,7 +115,7 @@ fn stays_cooked(alloc: Global, refused: Call) -> io::Result<bool> {
     Ok(denied && is_cooked(&terminal, &flag))
 }
 
-/// Whether a device that refuses to set the mode that stood before leaves raw mode on, each time.
+/// Whether a device that refuses to set the mode that was set before leaves raw mode on, each time.
 fn stays_raw(alloc: Global) -> io::Result<bool> {
     let calls = AtomicU32::new(0);
     let (mut terminal, flag) = terminal_of(alloc, &calls, Some(Call::SetMode))?;
@@ -138,7 +138,7 @@ fn is_size(size: io::Result<(u16, u16)>, want: (u16, u16)) -> bool {
     matches!(size, Ok(size) if size == want)
 }
 
-/// Whether the window's size is told.
+/// Whether the window's size is returned.
 fn tells_its_window(alloc: Global) -> io::Result<bool> {
     let calls = AtomicU32::new(0);
     let (mut terminal, _flag) = terminal_of(alloc, &calls, None)?;
@@ -146,7 +146,7 @@ fn tells_its_window(alloc: Global) -> io::Result<bool> {
     Ok(window && is_size(terminal.size(b"132", b"50"), (80, 24)))
 }
 
-/// Whether both texts of `tput` are told where the window's size isn't.
+/// Whether both texts of `tput` are used if the window's size isn't reported.
 fn tells_tput(alloc: Global) -> io::Result<bool> {
     let calls = AtomicU32::new(0);
     let (mut terminal, _flag) = terminal_of(alloc, &calls, Some(Call::WindowSize))?;
@@ -162,7 +162,7 @@ fn sizes_are_told_by_the_window_or_by_tput(rt: HostRuntime) -> io::Result<()> {
     Ok(())
 }
 
-/// What `tput` wrote, and the number that it tells.
+/// What `tput` wrote, and the number that it means.
 static TPUT: [(&[u8], Option<u16>); 8] = [
     (b"80\n", Some(80)),
     (b"1a2", Some(12)),

@@ -18,7 +18,7 @@ pub enum Call {
     WindowSize,
 }
 
-/// The digit that stands for a call.
+/// The digit that represents a call.
 fn digit(call: Call) -> u32 {
     match call {
         Call::Mode => 1,
@@ -47,7 +47,7 @@ pub struct Noted<'a> {
 }
 
 impl Noted<'_> {
-    /// Notes a call, and fails where it is refused.
+    /// Notes a call, and fails if it is refused.
     fn note(&mut self, call: Call) -> io::Result<()>
         ensures mode { self.new.mode ≡ self.old.mode }
         ensures rise { self.old.failures ≤ self.new.failures }

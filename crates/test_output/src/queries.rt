@@ -65,7 +65,7 @@ fn willing(alloc: Global) -> Witness {
     Witness::new(alloc, usize::MAX, ErrorKind::Other)
 }
 
-/// Whether the place is told, with raw mode on before and off after, and the query was written and flushed once.
+/// Whether the place is returned, with raw mode on before and off after, and the query was written and flushed once.
 fn is_told<R: Wait>(rt: &R, alloc: Global) -> io::Result<bool> {
     let mut out = willing(alloc);
     let met = asked_place(rt, alloc, Act::Idle, None, &mut out)?;
@@ -154,7 +154,7 @@ fn takes_one<R: Wait>(rt: &R, seat: &mut Seat<Source>) -> bool {
     matches!(stale, Ok((1, 0))) && fails(none, ErrorKind::Other)
 }
 
-/// Whether the true place is told once such reports were taken.
+/// Whether the true place is returned once such reports were taken.
 fn is_told_after<R: Wait>(rt: &R, alloc: Global) -> io::Result<bool> {
     let calls = AtomicU32::new(0);
     let mut term = terminal_by(RawFlag::new(alloc)?, &calls, None);
@@ -173,7 +173,7 @@ fn reports_from_before_a_query_can_be_taken(rt: HostRuntime) -> io::Result<()> {
     Ok(())
 }
 
-/// Whether the flags are told, and what was written for them.
+/// Whether the flags are returned, and what was written for them.
 fn tells_flags<R: Wait>(rt: &R, alloc: Global) -> io::Result<bool> {
     let calls = AtomicU32::new(0);
     let mut term = terminal_by(RawFlag::new(alloc)?, &calls, None);
@@ -186,7 +186,7 @@ fn tells_flags<R: Wait>(rt: &R, alloc: Global) -> io::Result<bool> {
     Ok(told && calls.load(Ordering::SeqCst) == 123 && out.saw(b"\x1b[?u\x1b[c", 1, 0))
 }
 
-/// Whether attributes alone tell that there are no flags.
+/// Whether attributes alone mean that there are no flags.
 fn tells_no_support<R: Wait>(rt: &R, alloc: Global) -> io::Result<bool> {
     let calls = AtomicU32::new(0);
     let mut term = terminal_by(RawFlag::new(alloc)?, &calls, None);

@@ -1,4 +1,4 @@
-//! What a command's way to a writer answers and leaves, where the writer takes little or fails, and where the command does.
+//! What a command's way to a writer returns and leaves, if the writer takes little or fails, and if the command does.
 ghost use Rattle.std.specs.Prelude.{None};
 
 use crate::tape::Tape;
@@ -128,7 +128,7 @@ fn writers_take_a_beginning(rt: HostRuntime) {
     one_reading();
 }
 
-/// Whether a command that fails by itself is told after what it wrote, on each way.
+/// Whether a command that fails by itself is reported after what it wrote, on each way.
 fn is_torn(alloc: Global) -> bool {
     let mut tape = Tape::new(alloc);
     let w = &mut tape;
@@ -147,7 +147,7 @@ fn is_torn(alloc: Global) -> bool {
     is_text && is_told && tape.holds(b"ababababababab", 0)
 }
 
-/// Whether it is told alone where the writer fails first.
+/// Whether it is reported alone if the writer fails first.
 fn is_torn_after_all(alloc: Global) -> bool {
     let mut tape = Tape::failing_at(alloc, 1);
     let queued = kind(tape.queue(ON, Torn));
@@ -182,7 +182,7 @@ fn is_flushed_once(alloc: Global) -> bool {
     queued && executed && tape.holds(b"\x1b[1;1H\x1b[2;3H", 1)
 }
 
-/// Whether a flush that fails is told.
+/// Whether a flush that fails is reported.
 fn is_stuck(alloc: Global) -> bool {
     let mut tape = Tape::new(alloc);
     tape.is_stuck = true;

@@ -147,7 +147,7 @@ fn large_copies_are_written(rt: HostRuntime) -> Result<(), Fail> {
     Ok(())
 }
 
-/// Whether letters come back from the places that they stand for, and name these in a copy.
+/// Whether letters come back from the places that they represent, and name these in a copy.
 fn letters_come_back(alloc: Global, letters: &str) -> io::Result<bool> {
     let destination = ClipboardSelection::from_str(alloc, letters)?;
     let is_whole = destination.0.len() == 1000;

@@ -30,7 +30,7 @@ fn a_helper_is_asked_by_lines(rt: HostRuntime) {
     expect!(rt; requests.as_slice() == REQUESTS);
 }
 
-/// Whether the writer's fault is told where it takes so many bytes of the requests, and it is left alone then. Each line is flushed.
+/// Whether the writer's fault is returned if it takes so many bytes of the requests, and it is left alone then. Each line is flushed.
 fn stops(alloc: Global, room: usize, fault: ErrorKind) -> bool {
     let mut w = Witness::new(alloc, room, fault);
     let answer = kind(use_all(alloc, ANSWERS, &mut w));
@@ -81,7 +81,7 @@ fn refusals_are_told(rt: HostRuntime) {
     }
 }
 
-/// The mode that stands after raw mode was set and the first one wasn't, and the kind of that fault.
+/// The mode that is kept after raw mode was set and the first one wasn't, and the kind of that fault.
 fn mode_after(alloc: Global, answers: &[u8]) -> io::Result<(SttyMode, Option<ErrorKind>)> {
     let mut device = SttyDevice::new(answers, Vec::new(alloc))?;
     let first = device.mode()?;

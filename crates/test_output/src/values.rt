@@ -6,7 +6,7 @@ use serde_json::Value;
 use std::alloc::Global;
 use test_support::expect;
 
-/// Whether a text tells this, and this is told as that text.
+/// Whether a text represents this, and this is written as that text.
 fn is_carried(alloc: Global, text: &str, cleared: ClearType) -> bool {
     match (Value::try_from_str(alloc, text), cleared.to_value(alloc)) {
         (Ok(value), Ok(told)) => told == value && ClearType::from_value(&value) == Ok(cleared),

@@ -36,7 +36,7 @@ impl Witness {
         self.bytes.as_slice() == bytes && self.flushes == flushes && self.later == later
     }
 
-    /// Fails where nothing more is taken, once.
+    /// Fails if nothing more is taken, once.
     fn fail_at_end(&mut self) -> io::Result<()> {
         if self.has_failed {
             self.later = self.later.saturating_add(1);

@@ -41,8 +41,8 @@ fn answer(rt: &HostRuntime, line: &str) -> Result<Vec<u8>, AllocError> {
     Ok(output)
 }
 
-/// A case to a line: words of a command line, and what is printed. For what is made, that is what it is counted as. `USAGE` and
-/// `ALONE` stand for the texts below.
+/// A case to a line: words of a command line, and what is printed. For what is made, that is what it is counted as. `USAGE` and `ALONE`
+/// represent the texts below.
 const LINES: &str = "\
 frame -> bytes 390984 commands 40000
 make letters 100 -> bytes 100 keys 100 ALONE
@@ -70,7 +70,7 @@ count -> USAGE";
 const USAGE: &str =
     "probe: usage: probe bench [frame] [--time] | probe bench held REPLIES | probe bench recorded | probe bench keys BINDINGS | probe bench make letters|utf8|keys|mouse|paste|hostile BYTES";
 
-/// What is counted where nothing but keys came.
+/// What is counted if nothing but keys came.
 const ALONE: &str = "mouse 0 pastes 0 focus 0 resizes 0 replies 0";
 
 /// Whether this is printed for a line, as the table writes it.

@@ -8,7 +8,7 @@ mod failing;
 #[cfg(test)]
 mod probe;
 
-/// Fails the test where something doesn't hold, and says of what. A test's proof grows with its branches, so they stand here.
+/// Fails the test if something doesn't hold, and says of what. A test's proof grows with its branches, so they are here.
 #[cfg(test)]
 fn expect(rt: &impl std::process::Abort, holds: bool, what: &str) {
     assert!(rt; holds, "{what}");

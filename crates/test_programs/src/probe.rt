@@ -228,7 +228,7 @@ fn is_refused(alloc: Global, lines: &str, want: &str) -> Result<bool, AllocError
     Ok(is_played(alloc, input.as_bytes(), want.as_bytes()))
 }
 
-/// Whether a case is as it says: lines of acts and calls, or, where they are faulty, a line that is refused.
+/// Whether a case is as it says: lines of acts and calls, or, if they are faulty, a line that is refused.
 fn holds(alloc: Global, case: &str, is_faulty: bool) -> bool {
     let Some((input, want)) = case.split_once(" -> ") else {
         return false;
@@ -355,7 +355,7 @@ fn names_the_reader(mode: Mode, alloc: Global) -> bool {
     matches!(fault, Err(Fault::ReadFailed)) && output.is_empty()
 }
 
-/// Whether a writer that fails is named, where an input has something written.
+/// Whether a writer that fails is named, if an input has something written.
 fn names_the_writer(mode: Mode, alloc: Global, input: &[u8]) -> bool {
     let mut reader = input;
     let fault = run(mode, alloc, &mut reader, &mut Failing);
@@ -387,7 +387,7 @@ const FAULTS: [(Fault, &str); 9] = [
     (Fault::SocketFailed, "probe: socket failed"),
 ];
 
-/// Whether a fault is told by this line.
+/// Whether a fault is reported by this line.
 fn is_told_by(alloc: Global, fault: Fault, want: &str) -> bool {
     match format!(in alloc; "{fault}") {
         Ok(line) => line.as_str() == want,

@@ -1,4 +1,4 @@
-//! Devices for streams: they live as long as the stream's worker, and tell by flags what becomes of them.
+//! Devices for streams: they live as long as the stream's worker, and report by flags what becomes of them.
 
 ghost use Rattle.std.specs.Prelude.{◌≡◌, length};
 ghost use Rattle.crossterm_read.specs.Device.{CountWithin};
@@ -12,7 +12,7 @@ use std::sync::{Arc, Wait};
 use std::time::Duration;
 use test_support::{TURNS, is_raised_within, nap, rest};
 
-/// What a test and its device tell each other.
+/// What a test and its device report to each other.
 #[derive(Drop)]
 pub struct Gate {
     is_open: AtomicBool,
@@ -30,7 +30,7 @@ impl Gate {
         }
     }
 
-    /// Lets the device tell its letter.
+    /// Lets the device report its letter.
     pub fn open(&self) {
         self.is_open.store(true, Ordering::SeqCst);
     }
@@ -46,8 +46,8 @@ impl Gate {
     }
 }
 
-/// A device that tells the letter `a` once its gate is open, and only to who asks without a limit. Its waker wakes it. After its turns the
-/// input ends.
+/// A device that reports the letter `a` once its gate is open, and only to who asks without a limit. Its waker wakes it. After its turns
+/// the input ends.
 pub struct Gated<R: Drop> {
     rt: R,
     gate: Arc<Gate>,
@@ -116,8 +116,8 @@ impl<R: Wait + Drop> Device for Gated<R> {
     }
 }
 
-/// A device that fails once when it is asked without a limit, tells the letter `a` once when it is asked so again, and else is idle. Its waker
-/// wakes it. After its turns the input ends.
+/// A device that fails once when it is asked without a limit, reports the letter `a` once when it is asked so again, and else is idle. Its
+/// waker wakes it. After its turns the input ends.
 #[derive(Drop)]
 pub struct FailsOnce<R> {
     rt: R,

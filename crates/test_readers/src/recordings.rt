@@ -1,4 +1,4 @@
-//! Recordings from outside: what is written of a session, what reads as one, and what is left where the writer fails or the room is used up.
+//! Recordings from outside: what is written of a session, what reads as one, and what is left if the writer fails or the room is used up.
 
 use crossterm_read::read::InternalEventReader;
 use crossterm_read::source::{Answer, Device, DeviceSource, Script};
@@ -114,7 +114,7 @@ fn asked(alloc: Global, device: &mut impl Device) -> Option<String> {
 /// What the session's answers are, whatever becomes of its recording.
 const ANSWERS: &str = "prswifpipf..";
 
-/// What is written where a writer takes so many bytes, and why the recording ended. All must be answered as it should be, and watches must
+/// What is written if a writer takes so many bytes, and why the recording ended. All must be answered as it should be, and watches must
 /// report what the recorder does.
 fn written(alloc: Global, recorder: Recording) -> Option<(Vec<u8>, Option<Stop>)> {
     let (watch, late) = (Watch::new(alloc).ok()?, Watch::new(alloc).ok()?);

@@ -16,7 +16,7 @@ use std::thread::Threads;
 use std::{io, thread};
 use test_support::{Reader, Seat, TURNS, expect, nap, script_of};
 
-/// How many events there are, and how many each of the three takes at most: together they take all only where each takes its part.
+/// How many events there are, and how many each of the three takes at most: together they take all only if each takes its part.
 const EVENTS: u16 = 300;
 
 const PART: usize = 100;

@@ -3,7 +3,7 @@
 use crossterm_types::event::timeout::Clock;
 use std::time::Duration;
 
-/// A clock that stands still.
+/// A clock that never moves.
 #[derive(Drop)]
 pub struct Still;
 
@@ -26,7 +26,7 @@ pub struct Ticking {
 }
 
 impl Ticking {
-    /// A clock that has told nothing yet.
+    /// A clock that wasn't asked yet.
     pub fn new() -> Ticking {
         Ticking { millis: 0 }
     }

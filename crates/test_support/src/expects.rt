@@ -2,7 +2,7 @@
 
 ghost use Rattle.std.specs.Prelude.{◌≡◌, ◌↔◌, IsTrue, IsOkAnd};
 
-/// Fails a test where something doesn't hold, and says what: `expect!(rt; size > 0)`, or `expect!(rt; size > 0, "a size")` in other words.
+/// Fails a test if something doesn't hold, and says what: `expect!(rt; size > 0)`, or `expect!(rt; size > 0, "a size")` in other words.
 ///
 /// It makes one call, without a branch and without a text formatted in the test itself: a test's proof grows with both.
 ///

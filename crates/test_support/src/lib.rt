@@ -1,7 +1,7 @@
 //! What the crates of tests have in common: `expect!`, readers over devices and scripts, passes for threads, and waits that end.
 //!
-//! A crate with tests is proved twice, with them and without. So tests stand in crates of their own, `test_values` to `test_programs`, and what
-//! they share in this one, which has none.
+//! A crate with tests is proved twice, with them and without. So tests are in crates of their own, `test_values` to `test_programs`, and
+//! what they share in this one, which has none.
 #![tactic(auto)]
 
 ghost use Rattle.std.specs.Prelude.{ℕ};
@@ -53,7 +53,7 @@ pub fn is_raised_within<R: Wait>(rt: &R, flag: &AtomicBool, turns: u32) -> bool 
     false
 }
 
-/// What a device answers that has nothing to tell: it is idle for its turns, and then the input ends.
+/// What a device answers that has nothing to report: it is idle for its turns, and then the input ends.
 pub fn rest(turns: &mut u32) -> Answer
     ensures { (size : ℕ) → CountWithin result size }
 {
@@ -72,7 +72,7 @@ pub fn reader_of<D: Device>(alloc: Global, device: D) -> Reader<D> {
     InternalEventReader::new(alloc, DeviceSource::new(alloc, device))
 }
 
-/// An act of a script that tells this text.
+/// An act of a script that reports this text.
 pub fn text(alloc: Global, bytes: &[u8]) -> Result<Act, AllocError> {
     Ok(Act::Piece {
         bytes: Vec::from_slice(alloc, bytes)?,
@@ -85,7 +85,7 @@ pub fn script_of(alloc: Global, acts: Vec<Act>) -> Reader<Script> {
     reader_of(alloc, Script::new(acts))
 }
 
-/// A reader over a script that tells this text, in one piece.
+/// A reader over a script that reports this text, in one piece.
 pub fn telling(alloc: Global, bytes: &[u8]) -> Result<Reader<Script>, AllocError> {
     let mut acts = Vec::new(alloc);
     acts.push(text(alloc, bytes)?)?;

@@ -49,7 +49,7 @@ impl<S: EventSource<Global>> Seat<S> {
         letter_in(self.read(rt))
     }
 
-    /// What a poll for such events answers, by a clock that stands still.
+    /// What a poll for such events returns, by a clock that never moves.
     pub fn poll<R: Wait>(
         &mut self,
         rt: &R,
@@ -60,7 +60,7 @@ impl<S: EventSource<Global>> Seat<S> {
             .poll_by(rt, &mut self.pass, limit, &mut Still, filter)
     }
 
-    /// Gives the reader back, where no other share of it is left.
+    /// Gives the reader back, if no other share of it is left.
     pub fn close<R: Wait>(self, rt: &R) -> Option<InternalEventReader<S>> {
         let Seat { shared, mut pass } = self;
         shared.close(rt, &mut pass)

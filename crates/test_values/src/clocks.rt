@@ -11,7 +11,7 @@ fn ms(count: u64) -> Duration {
     Duration::from_millis(count)
 }
 
-/// A clock of a system that tells 5 s, fails, goes back to 3 s, and goes on to 9 s.
+/// A clock of a system that reports 5 s, fails, goes back to 3 s, and goes on to 9 s.
 #[derive(Drop)]
 struct Faltering {
     asked: Cell<u32>,
@@ -34,7 +34,7 @@ impl rt::Clock for Faltering {
     }
 }
 
-/// Whether the moments of a system that falters are told as far as they go on.
+/// Whether the moments of a system that falters are returned as far as they go on.
 fn keeps_going(clock: &mut SystemClock<'_, Faltering>) -> bool {
     let still = clock.now() == ms(0) && clock.now() == ms(0) && clock.now() == ms(0);
     still && clock.now() == ms(4_000) && clock.last() == ms(4_000)

@@ -30,7 +30,7 @@ fn is_named(name: &str, color: Color) -> bool {
     Color::try_from(name) == Ok(color) && name.parse() == Ok(color)
 }
 
-/// What no colour is called: it is none, or white where some colour is to be.
+/// What no colour is called: it is none, or white if some colour is to be.
 fn is_no_name(name: &str) -> bool {
     Color::try_from(name) == Err(()) && name.parse() == Ok(Color::White)
 }
@@ -60,7 +60,7 @@ static TEXTS: [(Colored, &str); 8] = [
     (Colored::ForegroundColor(Color::AnsiValue(255)), "38;5;255"),
 ];
 
-/// Whether a colour has this text, shows as it and is read from it, and has none where colours are not written.
+/// Whether a colour has this text, shows as it and is read from it, and has none if colours are not written.
 fn is_told_by(alloc: Global, colored: Colored, want: &str) -> bool {
     is_text(colored.text(alloc, ColorOutput::Enabled), want)
         && is_text(colored.text(alloc, ColorOutput::Disabled), "")
@@ -75,7 +75,7 @@ fn colors_have_texts(rt: HostRuntime) {
     }
 }
 
-/// Texts that tell no colour.
+/// Texts that represent no colour.
 static NOT_READ: [&str; 46] = [
     "",
     ";",
@@ -125,7 +125,7 @@ static NOT_READ: [&str; 46] = [
     "38;5;9m",
 ];
 
-/// Texts of a colour alone, and what they tell.
+/// Texts of a colour alone, and what they represent.
 static READ: [(&str, Color); 4] = [
     ("5;9", Color::Red),
     ("+5;009", Color::Red),
@@ -133,7 +133,7 @@ static READ: [(&str, Color); 4] = [
     ("2;0;2;25", Color::Rgb { r: 0, g: 2, b: 25 }),
 ];
 
-/// Whether a text tells no colour, alone or at its place.
+/// Whether a text represents no colour, alone or at its place.
 fn tells_nothing(text: &str) -> bool {
     Colored::parse_ansi(text).is_none() && Color::parse_ansi(text).is_none()
 }
@@ -200,7 +200,7 @@ static AFTER: [(&[u8; 2], &[(&[u8; 2], &[u8; 2])]); 6] = [
     (b"-g", &[(b"--", b"-g")]),
 ];
 
-/// Whether colours of these letters are those of the last ones, where the second are set after the first.
+/// Whether colours of these letters are those of the last ones, if the second are set after the first.
 fn win(first: &[u8; 2], second: &[u8; 2], both: &[u8; 2]) -> bool {
     pair(first).then(&pair(second)) == pair(both)
 }
@@ -226,7 +226,7 @@ fn later_colors_win(rt: HostRuntime) {
     expect!(rt; has_its_side(Color::Grey));
 }
 
-/// Values of `COLORTERM` and `TERM`, and how many colours they tell.
+/// Values of `COLORTERM` and `TERM`, and how many colours they mean.
 static COUNTS: [(Option<&str>, Option<&str>, u16); 8] = [
     (Some("truecolor"), Some("xterm-256color"), u16::MAX),
     (None, Some("xterm-24bits"), u16::MAX),

@@ -1,4 +1,4 @@
-//! JSON values of events, keys, the mouse and flags: rows of texts, each read and told again.
+//! JSON values of events, keys, the mouse and flags: rows of texts, each read and written again.
 
 use crossterm_types::event::{
     Event, KeyCode, KeyEvent, KeyEventKind, KeyEventState, KeyModifiers, KeyboardEnhancementFlags,
@@ -9,7 +9,7 @@ use serde_json::Value;
 use std::alloc::{AllocError, Global};
 use test_support::expect;
 
-/// JSON texts and the keys that they tell.
+/// JSON texts and the keys that they represent.
 static KEY_EVENTS: [(&str, KeyEvent); 2] = [
     (
         "{\"Key\":{\"code\":{\"Char\":\"a\"},\"modifiers\":0,\"kind\":\"Press\",\"state\":0}}",
@@ -53,7 +53,7 @@ static MOUSE_EVENTS: [(&str, MouseEvent); 2] = [
     ),
 ];
 
-/// JSON texts that tell no event.
+/// JSON texts that represent no event.
 static NONE: [&str; 14] = [
     "{\"Key\":{\"code\":{\"Char\":\"a\"},\"modifiers\":0,\"kind\":\"Press\",\"state\":0,\"more\":0}}",
     "{\"Key\":{\"code\":{\"Char\":\"a\"},\"modifiers\":0,\"kind\":\"Press\"}}",
@@ -71,7 +71,7 @@ static NONE: [&str; 14] = [
     "null",
 ];
 
-/// Whether a JSON text tells this event, and the event is told as that JSON.
+/// Whether a JSON text represents this event, and the event is written as that JSON.
 fn carries(alloc: Global, text: &str, event: &Event) -> bool {
     match (Value::from_str(alloc, text), event.to_value(alloc)) {
         (Ok(value), Ok(told)) => {
@@ -85,7 +85,7 @@ fn carries(alloc: Global, text: &str, event: &Event) -> bool {
     }
 }
 
-/// Whether a JSON text tells no event.
+/// Whether a JSON text represents no event.
 fn tells_none(alloc: Global, text: &str) -> bool {
     match Value::from_str(alloc, text) {
         Ok(value) => matches!(Event::from_value(alloc, &value), Err(ValueFault::Shape)),
@@ -128,7 +128,7 @@ fn is_read<T: PartialEq + Drop>(read: Result<T, ValueFault>, value: &T) -> bool 
     }
 }
 
-// Whether what a value is told as reads as it.
+// Whether what a value is written as reads as that value.
 macro_rules! carried {
     ($told:expr; $type:ident, $value:expr) => {
         match $told {
@@ -138,7 +138,7 @@ macro_rules! carried {
     };
 }
 
-/// Keys that are told in each form.
+/// Keys that are written in each form.
 static KEYS: [KeyCode; 6] = [
     KeyCode::F(0),
     KeyCode::Char('\u{10ffff}'),

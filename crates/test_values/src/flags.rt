@@ -45,7 +45,7 @@ fn constants_have_their_bits(rt: HostRuntime) {
     expect!(rt; KeyEventState::NONE.bits() == 0);
 }
 
-/// The bits of the next part of a set, where there is one.
+/// The bits of the next part of a set, if there is one.
 fn next_bits<F: FlagSet>(parts: &mut FlagIter<F>) -> Option<u8> {
     match parts.next() {
         Some(part) => Some(part.bits()),
@@ -53,7 +53,7 @@ fn next_bits<F: FlagSet>(parts: &mut FlagIter<F>) -> Option<u8> {
     }
 }
 
-/// The bits of the first five parts of a set, where there are so many.
+/// The bits of the first five parts of a set, if there are so many.
 fn five<F: FlagSet>(mut parts: FlagIter<F>) -> [Option<u8>; 5] {
     let parts = &mut parts;
     [

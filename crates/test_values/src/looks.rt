@@ -7,7 +7,7 @@ use serde_json::Value;
 use std::alloc::Global;
 use test_support::expect;
 
-/// Texts beside the names, and the colours that they tell.
+/// Texts beside the names, and the colours that they represent.
 static READ: [(&str, Color); 14] = [
     ("Reset", Color::Reset),
     ("Red", Color::Red),
@@ -60,7 +60,7 @@ static READ: [(&str, Color); 14] = [
     ("#010203", Color::Rgb { r: 1, g: 2, b: 3 }),
 ];
 
-/// Texts that tell no colour.
+/// Texts that represent no colour.
 static NONE: [&str; 17] = [
     "unknown",
     "",
@@ -81,7 +81,7 @@ static NONE: [&str; 17] = [
     "#éfff",
 ];
 
-/// Whether a text tells a colour.
+/// Whether a text represents a colour.
 fn tells(alloc: Global, text: &str, color: Color) -> bool {
     match Value::try_from_str(alloc, text) {
         Ok(value) => Color::from_value(alloc, &value) == Ok(color),
@@ -89,7 +89,7 @@ fn tells(alloc: Global, text: &str, color: Color) -> bool {
     }
 }
 
-/// Whether a text tells no colour.
+/// Whether a text represents no colour.
 fn tells_none(alloc: Global, text: &str) -> bool {
     match Value::try_from_str(alloc, text) {
         Ok(value) => Color::from_value(alloc, &value) == Err(ValueFault::Shape),
@@ -97,7 +97,7 @@ fn tells_none(alloc: Global, text: &str) -> bool {
     }
 }
 
-/// Whether a colour is told as a value that tells it.
+/// Whether a colour is written as a value that represents it.
 fn is_carried(alloc: Global, color: Color) -> bool {
     match color.to_value(alloc) {
         Ok(value) => Color::from_value(alloc, &value) == Ok(color),
@@ -122,7 +122,7 @@ fn other_texts_are_no_colors(rt: HostRuntime) {
     }
 }
 
-/// Whether a JSON text tells this, and this is told as that JSON.
+/// Whether a JSON text represents this, and this is written as that JSON.
 fn is_place(alloc: Global, text: &str, colored: Colored) -> bool {
     match (Value::from_str(alloc, text), colored.to_value(alloc)) {
         (Ok(value), Ok(told)) => {

@@ -131,9 +131,12 @@ fn known<A: Allocator>(command: &AnyCommand<A>)
     }
 }
 
-/// Writes the commands, one after another, up to the first that fails: `queue_all` with an error that tells who failed.
+/// Writes the commands, one after another, up to the first that fails: `queue_all` with an error that says who failed.
 ///
-/// Where the writer alone failed, whatever its error's kind, a beginning of the text was written and nothing after it.
+/// # Errors
+///
+/// `Writer` if the writer alone failed, whatever its error's kind: then a beginning of the text was written and nothing after it. `Text` if
+/// a command failed by itself, and `Both` if both did.
 pub fn write_commands<A: Allocator, W: io::Write>(
     writer: &mut W,
     colors: ColorOutput,
@@ -159,10 +162,21 @@ pub fn write_commands<A: Allocator, W: io::Write>(
 
 /// Queues the commands, one after another, up to the first that fails.
 ///
-/// What was written reads back as the functions of the commands, in order, and as nothing else, where no printed text holds an escape,
-/// and no title and no letter of a clipboard's places an escape or a bell. Each character in it stands in the colours and attributes that the
-/// commands before it set, whatever style stood before. The error is the writer's own; where its kind isn't `Other`,
-/// a beginning of the text was written.
+/// What was written reads back as the functions of the commands, in order, and as nothing else. That holds if no printed text holds an
+/// escape, and no title and no letter of a clipboard's places an escape or a bell. Each character in it has the colours and attributes that
+/// the commands before it set, whatever style was set before.
+///
+/// # Errors
+///
+/// The writer's own if it alone failed, else one of kind `Other`. If the kind isn't `Other`, a beginning of the text was written.
+///
+/// ```
+/// let commands: [AnyCommand; 2] = [
+///     AnyCommand::MoveTo(MoveTo(0, 0)),
+///     AnyCommand::Clear(Clear(ClearType::FromCursorDown)),
+/// ];
+/// queue_all(w, ColorOutput::Enabled, &commands)?;
+/// ```
 pub fn queue_all<A: Allocator, W: io::Write>(
     writer: &mut W,
     colors: ColorOutput,

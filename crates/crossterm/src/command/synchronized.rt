@@ -24,10 +24,17 @@ fn end_update<W: io::Write>(writer: &mut W) -> io::Result<()>
 
 /// Shows several writes at once.
 pub trait SynchronizedUpdate: io::Write {
-    /// Writes the beginning of an update, calls the closure once on the writer as it then stands, and writes the update's end after what
-    /// the closure left, and flushes. It gives what the closure gave.
+    /// Writes the beginning of an update, and calls the closure once on the writer as it then is. After what the closure left it writes the
+    /// update's end, and flushes. It returns what the closure returned.
     ///
-    /// Where the beginning fails the closure isn't called. The error is the writer's own, of whatever kind.
+    /// # Errors
+    ///
+    /// The writer's own, of whatever kind. If the beginning failed, the closure wasn't called.
+    ///
+    /// ```
+    /// let painted = out.sync_update(|w| queue!(w, colors, Clear(ClearType::All), Print("ab")))?;
+    /// painted?;
+    /// ```
     fn sync_update<T: Drop, F: FnOnce(&mut Self) -> T>(&mut self, operations: F) -> io::Result<T>
     where
         Self: Sized,

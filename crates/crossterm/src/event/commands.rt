@@ -1,4 +1,4 @@
-//! Commands that tell a terminal which events to report.
+//! Commands that set which events a terminal reports.
 ghost use Rattle.std.specs.Prelude.{Some, codes};
 ghost use Rattle.crossterm_command.specs.Controls.{control, reset, set};
 ghost use Rattle.crossterm_command.specs.Tokens.{text_of};
@@ -12,6 +12,12 @@ use std::fmt;
 
 /// The mouse is reported: buttons, drags and moves, as numbers and as far as 223 columns and beyond (xterm ctlseqs, modes 1000, 1002,
 /// 1003, 1015 and 1006).
+///
+/// ```
+/// execute!(w, colors, EnableMouseCapture)?;
+/// // Until this, clicks and moves come as `Event::Mouse`.
+/// execute!(w, colors, DisableMouseCapture)?;
+/// ```
 #[derive(Clone, Copy, PartialEq, Eq, Debug)]
 pub struct EnableMouseCapture;
 
@@ -47,7 +53,7 @@ impl Command for DisableMouseCapture {
     }
 }
 
-/// The terminal tells when it gains or loses the focus (xterm ctlseqs, mode 1004).
+/// The terminal reports when it gains or loses the focus (xterm ctlseqs, mode 1004).
 #[derive(Clone, Copy, PartialEq, Eq, Debug)]
 pub struct EnableFocusChange;
 
@@ -59,7 +65,7 @@ impl Command for EnableFocusChange {
     }
 }
 
-/// The focus isn't told any more (xterm ctlseqs, mode 1004).
+/// The focus isn't reported any more (xterm ctlseqs, mode 1004).
 #[derive(Clone, Copy, PartialEq, Eq, Debug)]
 pub struct DisableFocusChange;
 
@@ -95,7 +101,15 @@ impl Command for DisableBracketedPaste {
     }
 }
 
-/// Turns on flags of kitty's keyboard protocol, on top of those that stand (`CSI > flags u`).
+/// Turns on flags of kitty's keyboard protocol, on top of those that are set (`CSI > flags u`).
+///
+/// ```
+/// let flags = KeyboardEnhancementFlags::DISAMBIGUATE_ESCAPE_CODES
+///     | KeyboardEnhancementFlags::REPORT_EVENT_TYPES;
+/// execute!(w, colors, PushKeyboardEnhancementFlags(flags))?;
+/// // Until this, releases of keys come too.
+/// execute!(w, colors, PopKeyboardEnhancementFlags)?;
+/// ```
 #[derive(Clone, Copy, PartialEq, Eq, Debug)]
 pub struct PushKeyboardEnhancementFlags(pub KeyboardEnhancementFlags);
 

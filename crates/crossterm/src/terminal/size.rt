@@ -9,13 +9,13 @@ pub struct WindowSize {
     pub rows: u16,
     /// In columns of cells.
     pub columns: u16,
-    /// In pixels, or 0 where that isn't known.
+    /// In pixels, or 0 if that isn't known.
     pub width: u16,
-    /// In pixels, or 0 where that isn't known.
+    /// In pixels, or 0 if that isn't known.
     pub height: u16,
 }
 
-// The greatest number that is told apart from those above it.
+// The greatest number that is distinguished from those above it.
 const ABOVE: u32 = 65_536;
 
 // A number with one more byte: a digit joins it, and any other byte is passed over. It stays at `ABOVE` or below.
@@ -30,7 +30,7 @@ fn with_byte(number: u32, byte: u8) -> u32
     }
 }
 
-// The number of the digits among some bytes, or `ABOVE` where it is above 65535.
+// The number of the digits among some bytes, or `ABOVE` if it is above 65535.
 fn digits(bytes: &[u8]) -> u32
     ensures { result ≡ number_in bytes.now }
 {
@@ -43,7 +43,7 @@ fn digits(bytes: &[u8]) -> u32
 
 /// The number of columns or lines that `tput cols` and `tput lines` write: the ASCII digits among the bytes, read as one number.
 ///
-/// It is `None` for 0 and above 65535, and where there is no digit.
+/// It is `None` for 0 and above 65535, and if there is no digit.
 pub fn tput_value(bytes: &[u8]) -> Option<u16>
     ensures { result ≡ size_in bytes.now }
 {
@@ -53,7 +53,7 @@ pub fn tput_value(bytes: &[u8]) -> Option<u16>
     }
 }
 
-/// Columns and rows as `tput` writes them, where both are there.
+/// Columns and rows as `tput` writes them, if both are there.
 pub(crate) fn tput_size(columns: &[u8], lines: &[u8]) -> Option<(u16, u16)>
     ensures { result ≡ both (size_in columns.now) (size_in lines.now) }
 {

@@ -33,7 +33,8 @@ impl ClearType {
     /// Its variant as a JSON text.
     ///
     /// # Errors
-    /// `Memory` where memory for it was refused.
+    ///
+    /// `Memory` if memory for it was refused.
     #[tactic(auto, using(crate::proofs::ValueLaws::clear_back, crossterm_flags::proofs::ValueLaws::told_back))]
     pub fn to_value(&self, alloc: Global) -> Result<Value, ValueFault>
         ensures tells { Tells (string (variant clears self.now)) result }
@@ -45,7 +46,8 @@ impl ClearType {
     /// What is cleared, whose variant a JSON text is. It takes no memory.
     ///
     /// # Errors
-    /// `Shape` where the JSON is no such text.
+    ///
+    /// `Shape` if the JSON is no such text.
     pub fn from_value(value: &Value) -> Result<ClearType, ValueFault>
         ensures { Reads (λ x. x) (reads_variant clears (view value.now)) result }
     {

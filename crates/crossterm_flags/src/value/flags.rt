@@ -9,6 +9,10 @@ use serde_json::Value;
 
 impl KeyModifiers {
     /// Its bits as a JSON number. It takes no memory.
+    ///
+    /// # Errors
+    ///
+    /// None: it is a `Result` as every other `to_value` is.
     pub fn to_value(&self) -> Result<Value, ValueFault>
         ensures { MatchResult result (λ v. view v ≡ number_value self.now.0) (λ _. ⊥) }
     {
@@ -18,7 +22,8 @@ impl KeyModifiers {
     /// The modifiers whose bits a JSON number below 256 is, those without a name too. It takes no memory.
     ///
     /// # Errors
-    /// `Shape` where the JSON is nothing of that kind.
+    ///
+    /// `Shape` if the JSON is nothing of that kind.
     pub fn from_value(value: &Value) -> Result<KeyModifiers, ValueFault>
         ensures { Reads (λ set. set.0) (reads_below 256 (view value.now)) result }
     {
@@ -31,6 +36,10 @@ impl KeyModifiers {
 
 impl KeyEventState {
     /// Its bits as a JSON number. It takes no memory.
+    ///
+    /// # Errors
+    ///
+    /// None: it is a `Result` as every other `to_value` is.
     pub fn to_value(&self) -> Result<Value, ValueFault>
         ensures { MatchResult result (λ v. view v ≡ number_value self.now.0) (λ _. ⊥) }
     {
@@ -40,7 +49,8 @@ impl KeyEventState {
     /// The state whose bits a JSON number below 256 is, those without a name too. It takes no memory.
     ///
     /// # Errors
-    /// `Shape` where the JSON is nothing of that kind.
+    ///
+    /// `Shape` if the JSON is nothing of that kind.
     pub fn from_value(value: &Value) -> Result<KeyEventState, ValueFault>
         ensures { Reads (λ set. set.0) (reads_below 256 (view value.now)) result }
     {
@@ -53,6 +63,10 @@ impl KeyEventState {
 
 impl KeyboardEnhancementFlags {
     /// Its bits as a JSON number. It takes no memory.
+    ///
+    /// # Errors
+    ///
+    /// None: it is a `Result` as every other `to_value` is.
     pub fn to_value(&self) -> Result<Value, ValueFault>
         ensures { MatchResult result (λ v. view v ≡ number_value self.now.0) (λ _. ⊥) }
     {
@@ -62,7 +76,8 @@ impl KeyboardEnhancementFlags {
     /// The flags whose bits a JSON number below 256 is, those without a name too. It takes no memory.
     ///
     /// # Errors
-    /// `Shape` where the JSON is nothing of that kind.
+    ///
+    /// `Shape` if the JSON is nothing of that kind.
     pub fn from_value(value: &Value) -> Result<KeyboardEnhancementFlags, ValueFault>
         ensures { Reads (λ set. set.0) (reads_below 256 (view value.now)) result }
     {

@@ -1,5 +1,5 @@
-//! Runs: bytes that are put in at once, with what comes of putting in each by itself. Where there is no room, and none can be made, a
-//! run takes fewer.
+//! Runs: bytes that are put in at once, with what comes of putting in each by itself. If there is no room, and none can be made, a run
+//! takes fewer.
 ghost use Rattle.std.specs.Prelude.{◌≡◌, ◌+◌, ◌*◌, ◌≤◌, ◌<◌, [], length, take, IsTrue};
 ghost use Rattle.crossterm_parse.specs.inside.Putting.{TakesFront, Gives, PutsAll, PutsOn};
 
@@ -13,7 +13,7 @@ use std::alloc::Allocator;
 use std::sync::ledger::Ledger;
 
 impl<A: Allocator + Clone> Parser<A> {
-    /// Whether there is room for an event, which is made where there is none.
+    /// Whether there is room for an event, which is made if there is none.
     #[inline(always)]
     fn has_room(&mut self) -> bool
         ensures still { PutsAll self.old self.new [] }
@@ -42,7 +42,7 @@ impl<A: Allocator + Clone> Parser<A> {
             .push_back_reserved(InternalEvent::Event(Event::Key(key)));
     }
 
-    /// Gives the events of the letters in front, and tells how many: as many as there is room for, which is made for one at least.
+    /// Gives the events of the letters in front, and returns how many: as many as there is room for, which is made for one at least.
     fn give_letters<L: Ledger>(&mut self, bytes: &[u8], steps: &mut Steps<L>) -> usize
         requires { self.old.state ≡ State.Ground }
         ensures front { TakesFront self.old self.new bytes.now result steps.old steps.new }
@@ -60,7 +60,7 @@ impl<A: Allocator + Clone> Parser<A> {
         count
     }
 
-    /// Gives the event of the character in UTF-8 in front, where there is room for it, and tells how many bytes it has.
+    /// Gives the event of the character in UTF-8 in front, if there is room for it, and returns how many bytes it has.
     #[inline(always)]
     fn give_utf8<L: Ledger>(&mut self, bytes: &[u8], steps: &mut Steps<L>) -> usize
         requires { self.old.state ≡ State.Ground }
@@ -78,7 +78,7 @@ impl<A: Allocator + Clone> Parser<A> {
         size
     }
 
-    /// Joins the bytes of the open paste before the next ESC, and tells how many: none where memory is refused.
+    /// Joins the bytes of the open paste before the next ESC, and returns how many: none if memory is refused.
     fn keep_all<L: Ledger>(&mut self, bytes: &[u8], steps: &mut Steps<L>) -> usize
         requires { self.old.state ≡ State.Paste Met.Nothing }
         ensures within { result ≤ length bytes.now }
@@ -96,7 +96,7 @@ impl<A: Allocator + Clone> Parser<A> {
         count
     }
 
-    /// Puts in the bytes in front with which the numbers of a sequence go on, and tells how many.
+    /// Puts in the bytes in front with which the numbers of a sequence go on, and returns how many.
     fn put_numbers<L: Ledger>(&mut self, bytes: &[u8], steps: &mut Steps<L>) -> usize
         ensures within { result ≤ length bytes.now }
         ensures puts { PutsOn self.old self.new (take result bytes.now) }
@@ -107,7 +107,7 @@ impl<A: Allocator + Clone> Parser<A> {
         self.state.put_numbers(bytes, steps)
     }
 
-    /// Gives the events of the letters in front, or that of the character in UTF-8, and tells how many bytes they have.
+    /// Gives the events of the letters in front, or that of the character in UTF-8, and returns how many bytes they have.
     #[inline(always)]
     fn give_front<L: Ledger>(&mut self, bytes: &[u8], steps: &mut Steps<L>) -> usize
         requires ground { self.old.state ≡ State.Ground }
@@ -123,7 +123,7 @@ impl<A: Allocator + Clone> Parser<A> {
         }
     }
 
-    /// Gives the events of the letters and of the characters in UTF-8 in front, and tells how many bytes they have.
+    /// Gives the events of the letters and of the characters in UTF-8 in front, and returns how many bytes they have.
     fn give_text<L: Ledger>(&mut self, bytes: &[u8], steps: &mut Steps<L>) -> usize
         requires { self.old.state ≡ State.Ground }
         ensures front { TakesFront self.old self.new bytes.now result steps.old steps.new }
@@ -141,7 +141,7 @@ impl<A: Allocator + Clone> Parser<A> {
         place
     }
 
-    /// Opens the sequence in front with the numbers that it has, and tells how many bytes: none where no such sequence is in front.
+    /// Opens the sequence in front with the numbers that it has, and returns how many bytes: none if no such sequence is in front.
     #[inline(always)]
     fn open<L: Ledger>(&mut self, bytes: &[u8], steps: &mut Steps<L>) -> usize
         requires { self.old.state ≡ State.Ground }
@@ -151,7 +151,7 @@ impl<A: Allocator + Clone> Parser<A> {
         self.state.open(bytes, steps)
     }
 
-    /// Gives the events of the text in front, and opens the sequence behind it. Tells how many bytes they have.
+    /// Gives the events of the text in front, and opens the sequence behind it. Returns how many bytes they have.
     #[inline(always)]
     fn begin<L: Ledger>(&mut self, bytes: &[u8], steps: &mut Steps<L>) -> usize
         requires { self.old.state ≡ State.Ground }
@@ -162,8 +162,8 @@ impl<A: Allocator + Clone> Parser<A> {
         count + self.open(&bytes[count..], steps)
     }
 
-    /// Puts in the bytes in front that a run takes, and tells how many: text where no sequence is open, or what a sequence's numbers or
-    /// a paste go on with.
+    /// Puts in the bytes in front that a run takes, and returns how many: text if no sequence is open, or what a sequence's numbers or a
+    /// paste go on with.
     #[inline(always)]
     pub(super) fn run<L: Ledger>(&mut self, bytes: &[u8], steps: &mut Steps<L>) -> usize
         ensures within { result ≤ length bytes.now }

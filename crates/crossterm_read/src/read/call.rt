@@ -51,11 +51,11 @@ pub enum Call {
 pub enum Reply<A: Allocator = Global> {
     /// Whether an admitted event is held.
     Poll(bool),
-    /// The event that was taken, where there was one.
+    /// The event that was taken, if there was one.
     Event(Option<InternalEvent<A>>),
     /// The cursor's place: its column and row.
     Position(u16, u16),
-    /// The flags of the keyboard protocol, where the terminal has it.
+    /// The flags of the keyboard protocol, if the terminal has it.
     Keyboard(Option<KeyboardEnhancementFlags>),
     /// A fault of this kind.
     Fault(io::ErrorKind),

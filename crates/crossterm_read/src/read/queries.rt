@@ -29,7 +29,7 @@ use std::io;
 use std::sync::Wait;
 use std::time::Duration;
 
-// The cursor's place that a reply tells: column and row.
+// The cursor's place that a reply reports: column and row.
 pub(crate) fn place<A: Allocator>(event: &InternalEvent<A>) -> (u16, u16)
     requires { is_cursor_position (seen event.now) ≡ true }
     ensures { seen event.now ≡ CursorPosition result.0 result.1 }
@@ -40,7 +40,7 @@ pub(crate) fn place<A: Allocator>(event: &InternalEvent<A>) -> (u16, u16)
     }
 }
 
-// The flags that a reply tells, or `None` where it tells the attributes alone.
+// The flags that a reply reports, or `None` if it reports the attributes alone.
 fn flags_of<A: Allocator>(event: &InternalEvent<A>) -> Option<KeyboardEnhancementFlags>
     requires { is_flags_reply (seen event.now) ≡ true }
     ensures { seen event.now ≡ flags_seen result }
@@ -130,9 +130,13 @@ impl<S: EventSource<A>, A: Allocator + Clone> InternalEventReader<S, A> {
         self.reply_taken(ready, filter)
     }
 
-    /// Takes the first reply that tells the cursor's place, after so many questions to the source at most: its column and row.
+    /// Takes the first reply that reports the cursor's place, after so many questions to the source at most: its column and row.
     ///
-    /// It polls as `poll_within` does. The error is `Other` where that is false, and else that poll's.
+    /// It polls as `poll_within` does.
+    ///
+    /// # Errors
+    ///
+    /// `Other` if that poll returns false, and else the poll's error.
     pub fn position_within(&mut self, tries: u32) -> io::Result<(u16, u16)>
         ensures step { (zs : List SourceAnswer) × (r : Replied) × S.drawn self.old.source zs self.new.source
             × QueryStep is_cursor_position (UpTo tries) zs self.old.store self.new.store r × (position_said result ≡ shown r)
@@ -168,11 +172,14 @@ impl<S: EventSource<A>, A: Allocator + Clone> InternalEventReader<S, A> {
         }
     }
 
-    /// Takes the first reply that tells the flags of the keyboard protocol, or the terminal's attributes alone, for which the
-    /// answer is `None`, after so many questions to the source at most.
+    /// Takes the first reply that reports the flags of the keyboard protocol, after so many questions to the source at most. If the
+    /// terminal's attributes come first, it takes them and returns `None`.
     ///
-    /// After the flags it polls as often for the attributes, and takes them where they came. The flags are the answer in any case.
-    /// The error is `Other` where the first poll is false, and else that poll's.
+    /// After the flags it polls as often for the attributes, and takes them if they came. The flags are returned in any case.
+    ///
+    /// # Errors
+    ///
+    /// `Other` if the first poll returns false, and else that poll's error. An error of the second poll isn't returned.
     pub fn keyboard_within(&mut self, tries: u32) -> io::Result<Option<KeyboardEnhancementFlags>>
         ensures step { (zs : List SourceAnswer) × (r : Replied) × S.drawn self.old.source zs self.new.source
             × KeyboardStep (UpTo tries) (UpTo tries) zs self.old.store self.new.store r × (keyboard_said result ≡ shown r)
@@ -197,7 +204,7 @@ impl<S: EventSource<A>, A: Allocator + Clone> InternalEventReader<S, A> {
         }
     }
 
-    // Takes the reply to a query for the keyboard's flags within what is left of the limit, and gives the number of what was taken last.
+    // Takes the reply to a query for the keyboard's flags within what is left of the limit. Returns the number of what was taken last too.
     // After the flags it waits as long again for the attributes.
     pub(crate) fn keyboard_until<C: Clock, R: Wait>(
         &mut self,

@@ -231,9 +231,13 @@ impl<S: EventSource<A>, A: Allocator + Clone> InternalEventReader<S, A> {
 
     /// Whether an event is held that the filter admits, after so many questions to the source at most.
     ///
-    /// Where one is held already the answer is true at once. Else the source is asked with limit zero. The answer is true at the
-    /// first admitted event, and false after a wake-up or the last try. Every other fault is answered. Events that came are held.
-    /// The error is `OutOfMemory` only where the source's was, or where there was no room left for an event and none could be made.
+    /// If one is held already, it returns true at once. Else it asks the source with limit zero. It returns true at the first admitted
+    /// event, and false after a wake-up or the last try. Events that came are held.
+    ///
+    /// # Errors
+    ///
+    /// Every fault of the source but a wake-up: `UnexpectedEof` at the end of input, or the device's. `OutOfMemory` only if the source's
+    /// was, or if there was no room left for an event and none could be made. Events that came before stay held.
     pub fn poll_within<F: Filter>(&mut self, tries: u32, filter: &F) -> io::Result<bool>
         ensures step { (zs : List SourceAnswer) × S.drawn self.old.source zs self.new.source
             × PollStep (UpTo tries) (F.admits filter.now) zs self.old.store self.new.store (poll_reply result)
@@ -242,7 +246,7 @@ impl<S: EventSource<A>, A: Allocator + Clone> InternalEventReader<S, A> {
         ensures at_once { AsksAtOnce (S.asked self.old.source) (S.asked self.new.source) }
         // No room is lost.
         ensures room { capacity self.old ≤ capacity self.new }
-        // Failures never fall, and where an event is there none was new.
+        // Failures never fall, and if an event is there, none was new.
         ensures rise { S.failed self.old.source ≤ S.failed self.new.source }
         ensures steady { IfOk result (λ ready. IsTrue ready → S.failed self.new.source ≡ S.failed self.old.source) }
         ensures err { IfErr result (λ e. IsOwn (error_kind e) ⊎ (S.failed self.old.source < S.failed self.new.source)) }
@@ -261,6 +265,10 @@ impl<S: EventSource<A>, A: Allocator + Clone> InternalEventReader<S, A> {
     /// Takes the first event that the filter admits, after so many questions to the source at most, or `None` after the last.
     ///
     /// It asks as `poll_within` does, but goes on after a wake-up, which is a try.
+    ///
+    /// # Errors
+    ///
+    /// Those of `poll_within`.
     pub fn read_within<F: Filter>(
         &mut self,
         tries: u32,

@@ -60,13 +60,21 @@ fn take_all<S: EventSource<A>, A: Allocator>(
 
 /// The replies to all calls of one reader over a script, and the events that it holds after them.
 ///
-/// The error is `OutOfMemory`, where the trace can't grow. A refusal inside a call is that call's fault.
+/// # Errors
+///
+/// `OutOfMemory` if the trace can't grow. If memory is refused inside a call, that is the call's fault, and is in its reply.
+///
+/// ```
+/// let calls = [Call::Read { tries: 1, filter: AnyFilter::Event }];
+/// let trace = play(alloc, acts, &calls)?;
+/// let replies = trace.replies.as_slice();
+/// ```
 pub fn play<A: Allocator + Clone>(
     alloc: A,
     script: Vec<Act<A>, A>,
     calls: &[Call],
 ) -> io::Result<Trace<A>>
-    // There are lists of a source's answers, one a call, which joined are told by the script, and the trace is the calls' run over them.
+    // There are lists of a source's answers, one a call, which joined come from the script, and the trace is the calls' run over them.
     ensures run { IfOk result (λ trace. Plays (device_answers script.items) calls.now (map said trace.replies.items) (map seen trace.held.items)) }
     // So the events taken and those held are the first ones of all that happens by the script, each once.
     ensures account { IfOk result (λ trace. Accounts (device_answers script.items) (map said trace.replies.items) (map seen trace.held.items)) }

@@ -23,7 +23,7 @@ use std::io;
 use std::sync::Wait;
 use std::time::Duration;
 
-// The clock of a call that has no limit. It stands still.
+// The clock of a call that has no limit. It never moves.
 #[derive(Drop)]
 pub(crate) struct Still;
 
@@ -102,10 +102,20 @@ impl<S: EventSource<A>, A: Allocator + Clone> InternalEventReader<S, A> {
 
     /// Whether an event is held that the filter admits, within the limit.
     ///
-    /// Where one is held already the answer is true at once. Else the source is asked, each time with what is left of the limit,
-    /// until that has passed: at least once, and with limit zero no more than that. The answer is true at the first admitted event,
-    /// and false after a wake-up or the limit. Every other fault is answered. Events that came are held. The error is `OutOfMemory`
-    /// only where the source's was, or where there was no room left for an event and none could be made.
+    /// If one is held already, it returns true at once. Else it asks the source, each time with what is left of the limit, until that has
+    /// passed: at least once, and with limit zero no more than that. It returns true at the first admitted event, and false after a wake-up
+    /// or the limit. Events that came are held.
+    ///
+    /// # Errors
+    ///
+    /// Every fault of the source but a wake-up: `UnexpectedEof` at the end of input, or the device's. `OutOfMemory` only if the source's
+    /// was, or if there was no room left for an event and none could be made. Events that came before stay held.
+    ///
+    /// ```
+    /// if reader.poll(&rt, Some(Duration::from_millis(100)), &mut clock, &EventFilter)? {
+    ///     let event = reader.take(&EventFilter);
+    /// }
+    /// ```
     pub fn poll<F: Filter, C: Clock, R: Wait>(
         &mut self,
         rt: &R,
@@ -122,7 +132,7 @@ impl<S: EventSource<A>, A: Allocator + Clone> InternalEventReader<S, A> {
         ensures later { C.told clock.old ≤ C.told clock.new }
         // No room is lost.
         ensures room { capacity self.old ≤ capacity self.new }
-        // Failures never fall, and where an event is there none was new.
+        // Failures never fall, and if an event is there, none was new.
         ensures rise { S.failed self.old.source ≤ S.failed self.new.source }
         ensures steady { IfOk result (λ ready. IsTrue ready → S.failed self.new.source ≡ S.failed self.old.source) }
         ensures err { IfErr result (λ e. IsOwn (error_kind e) ⊎ (S.failed self.old.source < S.failed self.new.source)) }
@@ -161,9 +171,13 @@ impl<S: EventSource<A>, A: Allocator + Clone> InternalEventReader<S, A> {
         }
     }
 
-    /// Takes the first event that the filter admits. Where none is held the source is asked until there is one, without a limit.
+    /// Takes the first event that the filter admits. If none is held, it asks the source until there is one, without a limit.
     ///
-    /// It goes on after a wake-up. Every other fault is answered.
+    /// It goes on after a wake-up.
+    ///
+    /// # Errors
+    ///
+    /// Those of `poll`.
     pub fn read<F: Filter, R: Wait>(&mut self, rt: &R, filter: &F) -> io::Result<InternalEvent<A>>
         ensures step { (past : ℕ) × (zs : List SourceAnswer) × (r : Replied) × S.drawn self.old.source zs self.new.source
             × ReadStep (Within None past) (F.admits filter.now) zs self.old.store self.new.store r × (read_said result ≡ shown r)

@@ -1,4 +1,4 @@
-//! Where bytes come from.
+//! What bytes come from.
 ghost use Rattle.std.specs.Prelude.{◌≡◌, ◌≤◌, ◌+◌, ℕ, List, [], ◌∷◌, ◌++◌, length, Option, IfOk, IfErr, OnOk, OnErr, ⊤};
 ghost use Rattle.std.specs.IoError.{error_kind};
 ghost use Rattle.std.specs.declared.io.ErrorKind.{ErrorKind};
@@ -14,8 +14,8 @@ use std::time::Duration;
 /// One answer of a device.
 #[derive(Clone, Copy, Debug)]
 pub enum Answer {
-    /// So many bytes stand at the beginning of the buffer, at most as many as it holds; none is the end of input. `raw` is the
-    /// mode that the terminal was in when they were typed: there a line feed is Ctrl-J, and Enter otherwise.
+    /// So many bytes are at the beginning of the buffer, at most as many as it holds; none is the end of input. `raw` is the mode that the
+    /// terminal was in when they were typed: in raw mode a line feed is Ctrl-J, and else Enter.
     Bytes {
         /// How many bytes.
         count: usize,
@@ -30,10 +30,10 @@ pub enum Answer {
     Idle,
 }
 
-/// Tells bytes, resizes and wake-ups: from where a program's events come.
+/// Reports bytes, resizes and wake-ups: what a program's events come from.
 ///
-/// One that never fails, and claims nothing of what it tells, writes its three calls alone. One that may fail counts its failures, and says
-/// so by `ghost failed = { λ input. input.failures };`.
+/// One that never fails, and claims nothing of what it reports, writes its three calls alone. One that may fail counts its failures, and
+/// says so by `ghost failed = { λ input. input.failures };`.
 ///
 /// ```
 /// impl Device for Pieces {
@@ -57,7 +57,7 @@ pub enum Answer {
 /// }
 /// ```
 pub trait Device: Drop {
-    /// What the device tells, of which there are two laws: nothing, if it doesn't say more.
+    /// What the device reports, of which there are two laws: nothing, if it doesn't say more.
     ghost answering: { Answering Self } = { anything };
 
     /// How often the device failed: never, if it doesn't say more.
@@ -72,18 +72,19 @@ pub trait Device: Drop {
     /// The wakers of this device: any, if it doesn't say more.
     ghost wakes: { Self → Waker → Type 0 } = { λ _ _. ⊤ };
 
-    /// Answers once, after the limit at the latest where there is one. Bytes are put into `buf`, which holds 1024.
+    /// Answers once, after the limit at the latest, if there is one. Bytes are put into `buf`, which holds 1024.
     ///
     /// # Errors
+    ///
     /// The device's own, and then `failed` has risen by one.
     fn answer(&mut self, buf: &mut [u8], limit: Option<Duration>) -> io::Result<Answer>
         requires { length buf.now ≡ 1024 }
-        // What it answers is told.
+        // What it answers is among what it may report.
         ensures answered { answering.answered self.old (device_answer result buf.new ∷ []) self.new }
         ensures count { IfOk result (λ a. CountWithin a (length buf.new)) }
         // It was asked with this limit, and with no other.
         ensures asked { AsksWith limit (asked self.old) (asked self.new) }
-        // Its failures rise by one where it answers an error, and there alone.
+        // Its failures rise by one if it returns an error, and only then.
         ensures rise { failed self.old ≤ failed self.new }
         ensures ok { OnOk result (failed self.new ≡ failed self.old) }
         ensures err { OnErr result (failed self.new ≡ failed self.old + 1) }
@@ -94,6 +95,10 @@ pub trait Device: Drop {
         ensures { result ≡ failed self.now };
 
     /// A waker of this device.
+    ///
+    /// # Errors
+    ///
+    /// `OutOfMemory` if memory was refused.
     fn waker(&self) -> io::Result<Waker>
         ensures waker { IfOk result (wakes self.now) }
         ensures err { IfErr result (λ e. error_kind e ≡ OutOfMemory) };

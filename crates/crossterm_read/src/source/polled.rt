@@ -18,14 +18,17 @@ use std::os::fd::AsRawFd;
 use std::sync::Arc;
 use std::time::Duration;
 
-/// A device that tells what comes from a terminal, a pipe, a socket or a file, and waits for it as long as the limit says, and no longer.
+/// A device that reports what comes from a terminal, a pipe, a socket or a file. It waits as long as the limit says, and no longer.
 ///
-/// The descriptor may be one that blocks: it is read only where the system says that something is there, and what is there comes at
-/// once. A regular file can't be watched, and is read without waiting. A wake-up goes before a size, and that before bytes, however many
-/// come; what was passed over comes with a later answer. It answers `Idle` before the limit where a signal came, or sizes ended or had
-/// no whole line.
+/// The descriptor may be one that blocks: it is read only if the system says that something is there, and what is there comes at once. A
+/// regular file can't be watched, and is read without waiting. A wake-up goes before a size, and that before bytes, however many come; what
+/// was passed over comes with a later answer. It answers `Idle` before the limit if a signal came, or sizes ended or had no whole line.
 ///
-/// A program reads its terminal so: `PolledDevice::new(&rt, rt.alloc(), rt.stdin(), raw, None)?`.
+/// ```
+/// let raw = RawFlag::new(alloc)?;
+/// let device = PolledDevice::new(&rt, alloc, rt.stdin(), raw.share()?, None)?;
+/// let source = DeviceSource::new(alloc, device);
+/// ```
 #[derive(Drop)]
 pub struct PolledDevice<R, A: Allocator = Global> {
     input: R,
@@ -36,12 +39,15 @@ pub struct PolledDevice<R, A: Allocator = Global> {
 }
 
 impl<R: Read + AsRawFd + Drop, A: Allocator> PolledDevice<R, A> {
-    /// A device that tells what this reader gives from here on, with the mode that the flag says then.
+    /// A device that reports what this reader returns from here on, with the mode that the flag says then.
     ///
-    /// `sizes` tells the sizes of the terminal, in lines `ROWS COLUMNS` as `stty size` writes them. A line that is no size is passed over.
-    /// Where they end, as a FIFO does once nobody has it open for writing, or can't be read, no more come, and the input goes on. `alloc`
-    /// gives memory for what waits. The error is `OutOfMemory`, or the system's where it can't watch them. Then all that was handed in is
-    /// gone.
+    /// `sizes` reports the sizes of the terminal, in lines `ROWS COLUMNS` as `stty size` writes them. A line that is no size is passed
+    /// over. They may end, as a FIFO does once nobody has it open for writing. If they end or can't be read, no more come, and the input
+    /// goes on. `alloc` gives memory for what waits.
+    ///
+    /// # Errors
+    ///
+    /// `OutOfMemory` if memory was refused, or the system's if it can't watch the input or the sizes. Then all that was handed in is gone.
     pub fn new<N: Net>(
         rt: &N,
         alloc: Global,
@@ -93,7 +99,7 @@ impl<R: Read + AsRawFd + Drop, A: Allocator + Clone> PolledDevice<R, A> {
         self.watch.wait(limit)
     }
 
-    // Columns and rows that were told last.
+    // Columns and rows that were reported last.
     fn read_size(&mut self) -> io::Result<Option<(u16, u16)>>
         ensures input { self.new.input ≡ self.old.input }
         ensures failures { self.new.failures ≡ self.old.failures }
@@ -141,7 +147,7 @@ impl<R: Read + AsRawFd + Drop, A: Allocator + Clone> PolledDevice<R, A> {
 }
 
 impl<R: Read + AsRawFd + Drop, A: Allocator + Clone> Device for PolledDevice<R, A> {
-    // What it tells are its reader's next bytes, wherever the reader says what it gives.
+    // What it reports are its reader's next bytes, if the reader says what it returns.
     ghost answering = { reading_answering (λ s. R.remaining s.input) };
 
     ghost failed = { λ s. s.failures };

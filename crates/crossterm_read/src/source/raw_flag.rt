@@ -8,7 +8,7 @@ use std::io;
 use std::sync::Arc;
 use std::sync::atomic::{AtomicBool, Ordering};
 
-/// Whether a terminal is in raw mode: a truth value that a terminal shares with the device that tells its bytes.
+/// Whether a terminal is in raw mode: a truth value that a terminal shares with the device that reports its bytes.
 ///
 /// It is false at first. What it says at a moment isn't claimed, since another thread may have set it.
 #[derive(Drop)]
@@ -17,7 +17,11 @@ pub struct RawFlag<A: Allocator = Global> {
 }
 
 impl<A: Allocator + Clone> RawFlag<A> {
-    /// A flag that is false. The error is `OutOfMemory`.
+    /// A flag that is false.
+    ///
+    /// # Errors
+    ///
+    /// `OutOfMemory` if memory was refused.
     pub fn new(alloc: A) -> io::Result<RawFlag<A>>
         ensures { IfErr result (λ e. error_kind e ≡ OutOfMemory) }
     {
@@ -26,7 +30,11 @@ impl<A: Allocator + Clone> RawFlag<A> {
         })
     }
 
-    /// The same flag, for another who reads or sets it. The error is `OutOfMemory`.
+    /// The same flag, for another who reads or sets it.
+    ///
+    /// # Errors
+    ///
+    /// `OutOfMemory` if no further share can be made.
     pub fn share(&self) -> io::Result<RawFlag<A>>
         ensures { IfErr result (λ e. error_kind e ≡ OutOfMemory) }
     {

@@ -10,10 +10,15 @@ use std::alloc::{Allocator, Global};
 use std::io::{self, Read};
 use std::time::Duration;
 
-/// A device that tells the bytes of a reader, as they come.
+/// A device that reports the bytes of a reader, as they come.
 ///
-/// Each answer is one read, which waits as the reader does, whatever the limit. Over a reader that never waits it doesn't either: where that
-/// answers `WouldBlock` or `Interrupted`, nothing came yet. So a program that serves many has one for each, and asks those that are ready.
+/// Each answer is one read, which waits as the reader does, whatever the limit. Over a reader that never waits it doesn't either: if that
+/// returns `WouldBlock` or `Interrupted`, nothing came yet. So a program that serves many has one for each, and asks those that are ready.
+///
+/// ```
+/// let device = ReadDevice::new(input, RawFlag::new(alloc)?);
+/// let mut reader = InternalEventReader::new(alloc, DeviceSource::new(alloc, device));
+/// ```
 #[derive(Drop)]
 pub struct ReadDevice<R, A: Allocator = Global> {
     input: R,
@@ -22,7 +27,7 @@ pub struct ReadDevice<R, A: Allocator = Global> {
 }
 
 impl<R: Read + Drop, A: Allocator> ReadDevice<R, A> {
-    /// A device that tells what this reader gives from here on, with the mode that the flag says then.
+    /// A device that reports what this reader returns from here on, with the mode that the flag says then.
     pub fn new(input: R, raw: RawFlag<A>) -> Self
         ensures input { result.input ≡ input }
         ensures failures { result.failures ≡ 0 }
@@ -52,7 +57,7 @@ pub(crate) fn read_once<R: Read + Drop, A: Allocator + Clone>(
 }
 
 impl<R: Read + Drop, A: Allocator + Clone> Device for ReadDevice<R, A> {
-    // What it tells are its reader's next bytes, wherever the reader says what it gives.
+    // What it reports are its reader's next bytes, if the reader says what it returns.
     ghost answering = { reading_answering (λ s. R.remaining s.input) };
 
     ghost failed = { λ s. s.failures };

@@ -31,11 +31,18 @@ pub enum Act<A: Allocator = Global> {
     Fault(io::ErrorKind),
 }
 
-/// A device that tells what it was made of, and then the end of input.
+/// A device that reports what it was made of, and then the end of input.
+///
+/// ```
+/// let mut acts = Vec::new(alloc);
+/// acts.push(Act::Resize(80, 24))?;
+/// acts.push(Act::Piece { bytes: Vec::from_slice(alloc, b"\x1b[A")?, raw: true })?;
+/// let source = DeviceSource::new(alloc, Script::new(acts));
+/// ```
 #[derive(Drop)]
 pub struct Script<A: Allocator = Global> {
     acts: Vec<Act<A>, A>,
-    // The act that is told next, and how many of its bytes were told.
+    // The act that is reported next, and how many of its bytes were reported.
     next: usize,
     at: usize,
     failures: u64,
@@ -50,7 +57,7 @@ impl<A: Allocator> Model for Script<A> {
 }
 
 impl<A: Allocator> Script<A> {
-    /// A device that tells these acts in order.
+    /// A device that reports these acts in order.
     pub fn new(acts: Vec<Act<A>, A>) -> Self
         ensures { result ≡ record { left = device_answers acts.items; failed = 0 } }
     {
@@ -63,7 +70,7 @@ impl<A: Allocator> Script<A> {
     }
 }
 
-// Fills a buffer with the first bytes, and tells how many.
+// Fills a buffer with the first bytes, and returns how many.
 fn tell(bytes: &[u8], buf: &mut [u8]) -> usize
     requires { length buf.now ≡ 1024 }
     ensures count { result ≡ min 1024 (length bytes.now) }

@@ -1,10 +1,10 @@
-//! Sizes of a terminal that someone else tells, a line each.
+//! Sizes of a terminal that someone else reports, a line each.
 
 use std::fs::File;
 use std::io::{self, ErrorKind, Read};
 use std::os::fd::{AsRawFd, RawFd};
 
-/// A descriptor that tells sizes, in lines `ROWS COLUMNS` as `stty size` writes them.
+/// A descriptor that reports sizes, in lines `ROWS COLUMNS` as `stty size` writes them.
 #[derive(Drop)]
 pub(crate) struct Sizes {
     file: File,
@@ -22,7 +22,7 @@ enum Line {
     Wrong,
 }
 
-// A number with one more digit, where that fits.
+// A number with one more digit, if that fits.
 fn with_digit(number: Option<u16>, byte: u8) -> Option<u16> {
     let digit = u16::from(byte).checked_sub(u16::from(b'0'))?;
     number.unwrap_or(0).checked_mul(10)?.checked_add(digit)
@@ -44,7 +44,7 @@ impl Line {
         longer.unwrap_or(Line::Wrong)
     }
 
-    // Columns and rows, where it is whole.
+    // Columns and rows, if it is whole.
     fn size(self) -> Option<(u16, u16)> {
         match self {
             Line::Columns(rows, Some(columns)) => Some((columns, rows)),
@@ -54,7 +54,7 @@ impl Line {
 }
 
 impl Sizes {
-    /// The sizes that are told from here on.
+    /// The sizes that are reported from here on.
     pub(crate) fn new(file: File) -> Sizes {
         Sizes {
             file,

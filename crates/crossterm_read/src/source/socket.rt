@@ -9,7 +9,7 @@ use std::io;
 use std::net::Net;
 use std::time::Duration;
 
-/// A device that tells what comes from a TCP stream of `mio`, and waits for it as long as the limit says, and no longer: a `PolledDevice`
+/// A device that reports what comes from a TCP stream of `mio`, and waits for it as long as the limit says, and no longer: a `PolledDevice`
 /// over the stream, and no sizes.
 #[derive(Drop)]
 pub struct SocketDevice<A: Allocator = Global> {
@@ -17,9 +17,13 @@ pub struct SocketDevice<A: Allocator = Global> {
 }
 
 impl<A: Allocator> SocketDevice<A> {
-    /// A device that tells what this stream gives from here on, with the mode that the flag says then.
+    /// A device that reports what this stream returns from here on, with the mode that the flag says then.
     ///
-    /// `alloc` gives memory for what waits. The error is `OutOfMemory`, or the system's. Then the stream and the flag are dropped.
+    /// `alloc` gives memory for what waits.
+    ///
+    /// # Errors
+    ///
+    /// `OutOfMemory` if memory was refused, or the system's if it can't watch the stream. Then the stream and the flag are dropped.
     pub fn new<N: Net>(
         rt: &N,
         alloc: Global,

@@ -51,7 +51,11 @@ impl Waker {
         }
     }
 
-    /// The same waker, for another who wakes. The error is `OutOfMemory`.
+    /// The same waker, for another who wakes.
+    ///
+    /// # Errors
+    ///
+    /// `OutOfMemory` if no further share can be made.
     pub fn share(&self) -> io::Result<Waker>
         ensures same { IfOk result (WakesAs self.now) }
         ensures err { IfErr result (λ e. error_kind e ≡ OutOfMemory) }
@@ -63,8 +67,11 @@ impl Waker {
         }
     }
 
-    /// Wakes who waits, or who waits next. It waits for nobody. A waker that is sure never fails, and one of `mio` by an error of the
-    /// system alone.
+    /// Wakes who waits, or who waits next. It waits for nobody.
+    ///
+    /// # Errors
+    ///
+    /// The system's, of a waker of `mio`. Every other waker is sure, and never fails.
     pub fn wake(&self) -> io::Result<()>
         ensures { IsSure self.now → IsOk result }
     {

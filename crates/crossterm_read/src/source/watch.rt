@@ -8,10 +8,10 @@ use std::os::fd::RawFd;
 use std::sync::Arc;
 use std::time::Duration;
 
-/// The descriptor that tells bytes.
+/// The descriptor that reports bytes.
 pub(crate) const INPUT: Token = Token(0);
 
-/// The descriptor that tells sizes.
+/// The descriptor that reports sizes.
 pub(crate) const SIZES: Token = Token(1);
 
 const WAKER: Token = Token(2);
@@ -88,7 +88,7 @@ impl Watch {
         }
     }
 
-    /// Asks anew whether a descriptor is ready, also where the system has said so.
+    /// Asks anew whether a descriptor is ready, also if the system has said so.
     pub(crate) fn ask(&self, fd: RawFd, token: Token) -> io::Result<()> {
         if self.always.has(token) {
             return Ok(());

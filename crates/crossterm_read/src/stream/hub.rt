@@ -6,7 +6,7 @@ use futures::task::{Context, Poll, Source, Waker};
 use std::io;
 use std::sync::{Condvar, Mutex, Wait};
 
-// What stands under the lock.
+// What is under the lock.
 #[derive(Drop)]
 struct State {
     // The newest waker that was registered.
@@ -17,7 +17,7 @@ struct State {
     is_over: bool,
 }
 
-/// Where a stream gives its worker tasks, and the worker wakes who waits for the stream.
+/// The place where a stream gives its worker tasks, and where the worker wakes who waits for the stream.
 #[derive(Drop)]
 pub struct Hub {
     pub(crate) source: Source,
@@ -40,7 +40,7 @@ impl Hub {
         }
     }
 
-    // The fault that the worker kept, which is then gone. Where there is none, the waker is registered as the newest.
+    // The fault that the worker kept, which is then gone. If there is none, the waker is registered as the newest.
     pub(crate) fn register<R: Wait>(&self, rt: &R, cx: &mut Context<'_>) -> Option<io::Error>
         ensures registered { IfNone result (Covers cx.new (λ s. s ≡ self.now.source.id)) }
         ensures kept { Keeps cx.old cx.new }
@@ -54,8 +54,8 @@ impl Hub {
         None
     }
 
-    // Gives the worker a task, if none runs. Where a fault came since the waker was registered, the waker was woken, and the fault is to
-    // be taken first.
+    // Gives the worker a task, if none runs. If a fault came since the waker was registered, the waker was woken, and the fault is to be
+    // taken first.
     pub(crate) fn give_task<R: Wait>(&self, rt: &R) {
         let mut state = self.state.lock(rt);
         if state.fault.is_none() {
@@ -64,7 +64,7 @@ impl Hub {
         }
     }
 
-    // Waits for a task: false where the stream is over.
+    // Waits for a task: false if the stream is over.
     pub(crate) fn await_task<R: Wait>(&self, rt: &R) -> bool {
         let state = self
             .changed

@@ -1,4 +1,4 @@
-//! The worker of a stream, which waits where the stream may not.
+//! The worker of a stream, which waits when the stream may not.
 ghost use Rattle.crossterm_read.specs.Seats.{knows};
 ghost use Rattle.crossterm_read.specs.Shared.{IsPassOf};
 ghost use Rattle.crossterm_read.specs.Streams.{OnlyPolls};

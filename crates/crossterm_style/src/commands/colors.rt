@@ -40,7 +40,7 @@ fn write_both<W: fmt::Write>(
     f.write_str(text.as_str())
 }
 
-/// Sets the colour of the text. Where colours are not written, this is `ESC [ m`.
+/// Sets the colour of the text. If colours are not written, this is `ESC [ m`.
 #[derive(Clone, Copy, PartialEq, Eq, Debug)]
 pub struct SetForegroundColor(pub Color);
 
@@ -62,7 +62,7 @@ impl fmt::Display for SetForegroundColor {
     }
 }
 
-/// Sets the colour behind the text. Where colours are not written, this is `ESC [ m`.
+/// Sets the colour behind the text. If colours are not written, this is `ESC [ m`.
 #[derive(Clone, Copy, PartialEq, Eq, Debug)]
 pub struct SetBackgroundColor(pub Color);
 
@@ -84,7 +84,7 @@ impl fmt::Display for SetBackgroundColor {
     }
 }
 
-/// Sets the colour of the line below the text. Where colours are not written, this is `ESC [ m`.
+/// Sets the colour of the line below the text. If colours are not written, this is `ESC [ m`.
 #[derive(Clone, Copy, PartialEq, Eq, Debug)]
 pub struct SetUnderlineColor(pub Color);
 
@@ -100,7 +100,11 @@ impl Command for SetUnderlineColor {
 
 /// Sets the colours of the text and behind it that are there, by one sequence.
 ///
-/// Where colours are not written, this is `ESC [ ; m` for both and `ESC [ m` for one.
+/// If colours are not written, this is `ESC [ ; m` for both and `ESC [ m` for one.
+///
+/// ```
+/// queue!(w, colors, SetColors(Colors::new(Color::White, Color::DarkBlue)), Print("ab"))?;
+/// ```
 #[derive(Clone, Copy, PartialEq, Eq, Debug)]
 pub struct SetColors(pub Colors);
 

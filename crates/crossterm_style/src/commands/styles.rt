@@ -53,7 +53,7 @@ fn set_underline<W: fmt::Write>(f: &mut W, colors: ColorOutput, color: Option<Co
     }
 }
 
-/// Sets a style: its background, foreground, underline colour and attributes, in this order, where they are there.
+/// Sets a style: its background, foreground, underline colour and attributes, in this order, each if it is there.
 #[derive(Clone, Copy, PartialEq, Eq, Debug)]
 pub struct SetStyle(pub ContentStyle);
 
@@ -68,7 +68,7 @@ impl Command for SetStyle {
     }
 }
 
-/// The terminal's own colour, where one is to be set.
+/// The terminal's own colour, if one is to be set.
 fn reset_where(there: bool) -> Option<Color>
     ensures { result ≡ reset_where there }
 {
@@ -85,7 +85,7 @@ fn either_there(color: Option<Color>, other: Option<Color>) -> bool
     }
 }
 
-/// Sets the terminal's own background, and its own foreground, where each is to be.
+/// Sets the terminal's own background, and its own foreground, each if it is to be set.
 fn reset_colors<W: fmt::Write>(
     f: &mut W,
     colors: ColorOutput,
@@ -98,7 +98,7 @@ fn reset_colors<W: fmt::Write>(
     set_foreground(f, colors, reset_where(foreground))
 }
 
-/// Ends a style: all is reset where it has attributes, else a background, and then the foreground where it or the underline has a colour.
+/// Ends a style: all is reset if it has attributes, else a background, and then the foreground if it or the underline has a colour.
 fn end_style<W: fmt::Write>(f: &mut W, colors: ColorOutput, style: ContentStyle) -> fmt::Result
     ensures { OnOk result (Writes W.write_str_gives f.old (Some (text_of (told colors (end_acts style)))) f.new) }
 {

@@ -172,7 +172,8 @@ impl Attribute {
     /// The SGR parameter that sets it, as a text: `1` of `Bold`, `4:5` of `Underdashed`.
     ///
     /// # Errors
-    /// `OutOfMemory` where memory for the text was refused.
+    ///
+    /// `OutOfMemory` if memory for the text was refused.
     pub fn sgr<A: Allocator>(self, alloc: A) -> io::Result<String<A>>
         ensures ok { IfOk result (λ text. string_bytes text ≡ code_of self) }
         ensures err { IfErr result (λ e. error_kind e ≡ ErrorKind.OutOfMemory) }

@@ -11,6 +11,10 @@ use std::str::FromStr;
 /// A colour of text, of what is behind it, or of its underline.
 ///
 /// The sixteen names are the first colours of a terminal's palette; `AnsiValue` is any of its 256.
+///
+/// ```
+/// queue!(w, colors, SetForegroundColor(Color::Rgb { r: 255, g: 128, b: 0 }), Print("orange"))?;
+/// ```
 #[derive(Clone, Copy, PartialEq, Eq, PartialOrd, Ord, Hash, Debug)]
 pub enum Color {
     /// The terminal's own.
@@ -38,10 +42,10 @@ pub enum Color {
 }
 
 impl Color {
-    /// Reads the SGR parameters that tell a colour (ECMA-48, 8.3.117; xterm's control sequences), after the number that sets its place:
-    /// `5;9` is `Red`, `5;16` is `AnsiValue(16)`, `2;1;2;3` is `Rgb { r: 1, g: 2, b: 3 }`.
+    /// Reads the SGR parameters that represent a colour (ECMA-48, 8.3.117; xterm's control sequences), after the number that sets its
+    /// place: `5;9` is `Red`, `5;16` is `AnsiValue(16)`, `2;1;2;3` is `Rgb { r: 1, g: 2, b: 3 }`.
     ///
-    /// A number is below 256, may begin with zeros, and a plus may stand before it.
+    /// A number is below 256, may begin with zeros, and a plus may precede it.
     pub fn parse_ansi(text: &str) -> Option<Color>
         ensures { IsColorRead text.now result }
     {

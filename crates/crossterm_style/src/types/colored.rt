@@ -1,4 +1,4 @@
-//! Colours and where they stand.
+//! Colours and their places.
 ghost use Rattle.std.specs.Prelude.{◌≡◌, ◌+◌, ◌≤◌, ◌++◌, Some, length, IfOk, IfErr, MatchOption};
 ghost use Rattle.std.specs.IoError.{error_kind};
 ghost use Rattle.std.specs.String.{string_bytes};
@@ -16,7 +16,7 @@ use std::alloc::Allocator;
 use std::string::String;
 use std::{fmt, io};
 
-/// A colour and where it stands.
+/// A colour and its place.
 ///
 /// It shows (`Display`) as its SGR parameters (ECMA-48, 8.3.117; xterm's control sequences for 38 and 48; kitty's underlines for 58), as
 /// `38;5;9` for a red text. The named colours are the palette's first sixteen.
@@ -34,7 +34,7 @@ impl Colored {
     /// Reads the SGR parameters of a colour at its place, and nothing else: `38;5;9` is `ForegroundColor(Red)`, `49` is
     /// `BackgroundColor(Reset)`.
     ///
-    /// A number is below 256, may begin with zeros, and a plus may stand before it.
+    /// A number is below 256, may begin with zeros, and a plus may precede it.
     pub fn parse_ansi(text: &str) -> Option<Colored>
         ensures { IsColoredRead text.now result }
     {
@@ -81,7 +81,11 @@ impl Colored {
         ColorOutput::from_no_color(no_color) == ColorOutput::Disabled
     }
 
-    /// Its SGR parameters, or nothing where colours are not written. Memory that is refused is `OutOfMemory`.
+    /// Its SGR parameters, or nothing if colours are not written.
+    ///
+    /// # Errors
+    ///
+    /// `OutOfMemory` if memory for the text was refused.
     pub fn text<A: Allocator>(self, alloc: A, colors: ColorOutput) -> io::Result<String<A>>
         ensures ok { IfOk result (λ s. string_bytes s ≡ colored_text colors self) }
         ensures err { IfErr result (λ e. error_kind e ≡ OutOfMemory) }
@@ -94,7 +98,7 @@ impl Colored {
         }
     }
 
-    /// Pushes its SGR parameters, or nothing where colours are not written.
+    /// Pushes its SGR parameters, or nothing if colours are not written.
     pub(crate) fn push_to<const N: usize>(self, text: &mut ArrayString<N>, colors: ColorOutput)
         requires { array_string_len text.old + 16 ≤ N }
         ensures pushed { text.new.bytes ≡ text.old.bytes ++ colored_text colors self }

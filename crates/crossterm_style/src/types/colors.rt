@@ -4,7 +4,7 @@ ghost use Rattle.crossterm_style.specs.Colors.{colors_of, later};
 
 use crate::{Color, Colored};
 
-/// A foreground and a background, each where it is there.
+/// A foreground and a background, each if it is there.
 #[derive(Clone, Copy, PartialEq, Eq, Debug)]
 pub struct Colors {
     /// The colour of the text.
@@ -24,7 +24,7 @@ impl Colors {
         }
     }
 
-    /// These colours with others set after them: at each place the later colour, where it is there.
+    /// These colours with others set after them: at each place the later colour, if it is there.
     pub fn then(&self, other: &Colors) -> Colors
         ensures { result ≡ later self.now other.now }
     {

@@ -1,4 +1,4 @@
-//! What a terminal is told of a colour.
+//! What a terminal receives for a colour.
 ghost use Rattle.std.specs.Prelude.{◌≡◌, ◌+◌, ◌≤◌, ◌++◌, length};
 ghost use Rattle.arrayvec.specs.ArrayString.{array_string_len};
 ghost use Rattle.crossterm_style.specs.Colors.{color_of, sgr_of, sgr_text};
@@ -16,7 +16,7 @@ pub(crate) enum SgrColor {
 }
 
 impl SgrColor {
-    /// What a terminal is told of a colour.
+    /// What a terminal receives for a colour.
     pub(crate) fn of(color: Color) -> SgrColor
         ensures { result ≡ sgr_of color }
     {

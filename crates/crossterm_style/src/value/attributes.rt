@@ -16,7 +16,8 @@ impl Attribute {
     /// Its variant as a JSON text.
     ///
     /// # Errors
-    /// `Memory` where memory for it was refused.
+    ///
+    /// `Memory` if memory for it was refused.
     #[tactic(auto, using(crate::proofs::ValueLaws::attribute_back, crossterm_flags::proofs::ValueLaws::told_back))]
     pub fn to_value(&self, alloc: Global) -> Result<Value, ValueFault>
         ensures tells { Tells (string (variant attributes self.now)) result }
@@ -28,7 +29,8 @@ impl Attribute {
     /// The attribute whose variant a JSON text is. It takes no memory.
     ///
     /// # Errors
-    /// `Shape` where the JSON is no such text.
+    ///
+    /// `Shape` if the JSON is no such text.
     pub fn from_value(value: &Value) -> Result<Attribute, ValueFault>
         ensures { Reads (λ x. x) (reads_variant attributes (view value.now)) result }
     {

@@ -23,7 +23,8 @@ impl Color {
     /// The colour as a JSON text: `red`, `ansi_(9)` or `rgb_(1,2,3)`.
     ///
     /// # Errors
-    /// `Memory` where memory for it was refused.
+    ///
+    /// `Memory` if memory for it was refused.
     #[tactic(auto, using(crate::proofs::ColorBack::color_back, crossterm_flags::proofs::ValueLaws::told_back))]
     pub fn to_value(&self, alloc: Global) -> Result<Value, ValueFault>
         ensures tells { Tells (string (color_text self.now)) result }
@@ -44,11 +45,12 @@ impl Color {
         }
     }
 
-    /// The colour that a JSON text tells: by its name, with ASCII letters of either case, as `ansi_(9)`, as `rgb_(1,2,3)`, or as
-    /// `#` and six hexadecimal digits.
+    /// The colour that a JSON text represents: by its name, with ASCII letters of either case, as `ansi_(9)`, as `rgb_(1,2,3)`, or as `#`
+    /// and six hexadecimal digits.
     ///
     /// # Errors
-    /// `Shape` where the JSON tells no colour, and `Memory` where memory for a copy of the text was refused.
+    ///
+    /// `Shape` if the JSON represents no colour, and `Memory` if memory for a copy of the text was refused.
     pub fn from_value<A: Allocator + Copy>(alloc: A, value: &Value) -> Result<Color, ValueFault>
         ensures { ReadsOrRefused (copies_some (as_str (view value.now))) (reads_color (view value.now)) result }
     {
@@ -58,7 +60,7 @@ impl Color {
         }
     }
 
-    /// The colour that a text tells.
+    /// The colour that a text represents.
     fn read<A: Allocator + Copy>(alloc: A, text: &str) -> Result<Color, ValueFault>
         ensures { ReadsOrRefused (copies text.now) (read_color text.now) result }
     {
@@ -68,7 +70,7 @@ impl Color {
         }
     }
 
-    /// The colour that a text tells which is no name.
+    /// The colour that a text represents which is no name.
     fn unnamed<A: Allocator + Copy>(alloc: A, text: &str) -> Result<Color, ValueFault>
         ensures { ReadsOrRefused (holds (codes "ansi") text.now || holds (codes "rgb") text.now) (unnamed text.now) result }
     {
@@ -106,7 +108,8 @@ impl Colored {
     /// The colour and its place as JSON: `{"ForegroundColor":"red"}`.
     ///
     /// # Errors
-    /// `Memory` where memory for it was refused.
+    ///
+    /// `Memory` if memory for it was refused.
     #[tactic(auto, using(crate::proofs::ColorBack::colored_back, crossterm_flags::proofs::ValueLaws::told_back))]
     pub fn to_value(&self, alloc: Global) -> Result<Value, ValueFault>
         ensures tells { Tells (colored_value self.now) result }
@@ -133,10 +136,11 @@ impl Colored {
         }
     }
 
-    /// The colour at its place that a JSON object of one member tells, whose name is the place and whose value is a colour's.
+    /// The colour at its place that a JSON object of one member represents, whose name is the place and whose value is a colour's.
     ///
     /// # Errors
-    /// `Shape` where the JSON is no such object, and `Memory` where memory for a copy of the colour's text was refused.
+    ///
+    /// `Shape` if the JSON is no such object, and `Memory` if memory for a copy of the colour's text was refused.
     pub fn from_value<A: Allocator + Copy>(alloc: A, value: &Value) -> Result<Colored, ValueFault>
         ensures { ReadsOrRefused (copies_member (reads_member (view value.now))) (reads_colored (view value.now)) result }
     {

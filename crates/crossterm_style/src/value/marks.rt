@@ -14,7 +14,7 @@ pub(crate) fn holds(text: &str, part: &str) -> bool
     text.contains(part)
 }
 
-/// A text without a part, wherever it stands.
+/// A text without a part, wherever it is.
 pub(crate) fn without<A: Allocator>(
     alloc: A,
     text: &str,
@@ -26,7 +26,7 @@ pub(crate) fn without<A: Allocator>(
     text.replace(alloc, part, "")
 }
 
-/// A number below 256 in decimal digits, before which a plus may stand.
+/// A number below 256 in decimal digits, which a plus may precede.
 pub(crate) fn byte(text: &str) -> Option<u8>
     ensures { result ≡ byte_of text.now }
 {

@@ -1,4 +1,4 @@
-//! What an event is: tests, and the key, mouse event, text or size that it tells.
+//! What an event is: tests, and the key, mouse event, text or size that it holds.
 ghost use Rattle.std.specs.Prelude.{◌≡◌, ◌≢◌, ◌↔◌, ℕ, IsTrue, MatchOption};
 
 use crate::event::{Event, KeyEvent, MouseEvent};
@@ -75,7 +75,7 @@ impl<A: Allocator> Event<A> {
         matches!(self, Event::Resize(_, _))
     }
 
-    /// The key, where one was pressed, held or let go; else `None`.
+    /// The key, if one was pressed, held or let go; else `None`.
     pub fn as_key_event(&self) -> Option<KeyEvent>
         ensures { (key : KeyEvent) → (result ≡ Some key) ↔ (seen_event self.now ≡ seen.Key key) }
     {
@@ -85,7 +85,13 @@ impl<A: Allocator> Event<A> {
         }
     }
 
-    /// The key, where one went down; else `None`.
+    /// The key, if one went down; else `None`.
+    ///
+    /// ```
+    /// if let Some(key) = event.as_key_press_event() {
+    ///     press(key.code, key.modifiers)?;
+    /// }
+    /// ```
     pub fn as_key_press_event(&self) -> Option<KeyEvent>
         ensures { (key : KeyEvent) → (result ≡ Some key) ↔ ((seen_event self.now ≡ seen.Key key) × (key.kind ≡ Press)) }
     {
@@ -95,7 +101,7 @@ impl<A: Allocator> Event<A> {
         }
     }
 
-    /// The key, where one went up; else `None`.
+    /// The key, if one went up; else `None`.
     pub fn as_key_release_event(&self) -> Option<KeyEvent>
         ensures { (key : KeyEvent) → (result ≡ Some key) ↔ ((seen_event self.now ≡ seen.Key key) × (key.kind ≡ Release)) }
     {
@@ -105,7 +111,7 @@ impl<A: Allocator> Event<A> {
         }
     }
 
-    /// The key, where one was held; else `None`.
+    /// The key, if one was held; else `None`.
     pub fn as_key_repeat_event(&self) -> Option<KeyEvent>
         ensures { (key : KeyEvent) → (result ≡ Some key) ↔ ((seen_event self.now ≡ seen.Key key) × (key.kind ≡ Repeat)) }
     {
@@ -115,7 +121,7 @@ impl<A: Allocator> Event<A> {
         }
     }
 
-    /// What the mouse did, where it did something; else `None`.
+    /// What the mouse did, if it did something; else `None`.
     pub fn as_mouse_event(&self) -> Option<MouseEvent>
         ensures { (mouse : MouseEvent) → (result ≡ Some mouse) ↔ (seen_event self.now ≡ seen.Mouse mouse) }
     {
@@ -125,7 +131,7 @@ impl<A: Allocator> Event<A> {
         }
     }
 
-    /// The text, where one was pasted; else `None`.
+    /// The text, if one was pasted; else `None`.
     pub fn as_paste_event(&self) -> Option<&str>
         ensures { MatchOption result ((text : List ℕ) → seen_event self.now ≢ seen.Paste text) (λ text. seen_event self.now ≡ seen.Paste text.now) }
     {
@@ -135,7 +141,7 @@ impl<A: Allocator> Event<A> {
         }
     }
 
-    /// The terminal's new size in columns and rows, where it has one; else `None`.
+    /// The terminal's new size in columns and rows, if it has one; else `None`.
     pub fn as_resize_event(&self) -> Option<(u16, u16)>
         ensures { (columns rows : ℕ) → (result ≡ Some (columns, rows)) ↔ (seen_event self.now ≡ seen.Resize columns rows) }
     {

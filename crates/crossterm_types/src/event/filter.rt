@@ -10,11 +10,11 @@ use std::alloc::Allocator;
 pub struct Classes {
     /// What a user brought about: `InternalEvent::Event`.
     pub event: bool,
-    /// Replies that tell the cursor's place: `InternalEvent::CursorPosition`.
+    /// Replies that report the cursor's place: `InternalEvent::CursorPosition`.
     pub cursor: bool,
-    /// Replies that tell the flags of the keyboard protocol: `InternalEvent::KeyboardEnhancementFlags`.
+    /// Replies that report the flags of the keyboard protocol: `InternalEvent::KeyboardEnhancementFlags`.
     pub flags: bool,
-    /// Replies that tell the terminal's attributes: `InternalEvent::PrimaryDeviceAttributes`.
+    /// Replies that report the terminal's attributes: `InternalEvent::PrimaryDeviceAttributes`.
     pub attributes: bool,
 }
 
@@ -41,16 +41,16 @@ pub trait Filter {
 #[derive(Clone, Copy, Debug)]
 pub struct EventFilter;
 
-/// Admits the replies that tell the cursor's place.
+/// Admits the replies that report the cursor's place.
 #[derive(Clone, Copy, Debug)]
 pub struct CursorPositionFilter;
 
-/// Admits the replies that tell the flags of the keyboard protocol, and those that tell the terminal's attributes: a terminal
-/// without that protocol answers to the query with its attributes alone.
+/// Admits the replies that report the flags of the keyboard protocol, and those that report the terminal's attributes: a terminal without
+/// that protocol answers to the query with its attributes alone.
 #[derive(Clone, Copy, Debug)]
 pub struct KeyboardEnhancementFlagsFilter;
 
-/// Admits the replies that tell the terminal's attributes.
+/// Admits the replies that report the terminal's attributes.
 #[derive(Clone, Copy, Debug)]
 pub struct PrimaryDeviceAttributesFilter;
 

@@ -11,8 +11,8 @@ use crossterm_flags::{KeyEventState, KeyModifiers};
 
 /// A key that was pressed, held or let go.
 ///
-/// Equality, order and hash are those of the normal form, in which an ASCII upper case character has Shift and with Shift
-/// an ASCII lower case character is upper case: `A`, `A` with Shift and `a` with Shift are one key.
+/// Equality, order and hash are those of the normal form. In it an ASCII upper case character has Shift, and an ASCII lower case character
+/// with Shift is upper case: `A`, `A` with Shift and `a` with Shift are one key.
 #[derive(Clone, Copy, Debug)]
 pub struct KeyEvent {
     /// The key.
@@ -21,7 +21,7 @@ pub struct KeyEvent {
     pub modifiers: KeyModifiers,
     /// Whether the key was pressed, held or let go.
     pub kind: KeyEventKind,
-    /// What else the keyboard told. Only kitty's keyboard protocol tells it.
+    /// What else the keyboard reported. Only kitty's keyboard protocol reports it.
     pub state: KeyEventState,
 }
 
@@ -110,6 +110,13 @@ pub enum KeyCode {
 
 impl KeyEvent {
     /// A key that is pressed with these modifiers.
+    ///
+    /// ```
+    /// let save = KeyEvent::new(KeyCode::Char('s'), KeyModifiers::CONTROL);
+    /// if event == Event::Key(save) {
+    ///     store(&file)?;
+    /// }
+    /// ```
     pub fn new(code: KeyCode, modifiers: KeyModifiers) -> KeyEvent
         ensures { result ≡ pressed code modifiers }
     {

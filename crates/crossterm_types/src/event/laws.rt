@@ -17,8 +17,8 @@ use std::hash::Hash;
 
 /// The laws of a key's normal form, on which tables of key bindings rest. It does nothing when it runs.
 ///
-/// The normal form of a normal form is itself; keys are equal exactly where their normal forms are the same; they are equal
-/// exactly where their order says so; equal keys hash alike; and a key equals its normal form.
+/// The normal form of a normal form is itself; keys are equal exactly if their normal forms are the same; they are equal exactly if their
+/// order says so; equal keys hash alike; and a key equals its normal form.
 pub fn normal_form_laws()
     ensures twice { (key : KeyEvent) → normal (normal key) ≡ normal key }
     ensures equal { (a b : KeyEvent) → IsTrue (⟦<KeyEvent as PartialEq>⟧.eq a b) ↔ (normal a ≡ normal b) }
@@ -27,8 +27,8 @@ pub fn normal_form_laws()
     ensures fixed { (key : KeyEvent) → IsTrue (⟦<KeyEvent as PartialEq>⟧.eq (normal key) key) }
 {}
 
-/// The declared orders of keys and of the mouse, on which sorted tables of them rest: variants in the order of their ranks, two of one variant
-/// by what they hold, and structs by their fields in order, of keys those of the normal form. It does nothing when it runs.
+/// The declared orders of keys and of the mouse, on which sorted tables of them rest: variants are in the order of their ranks, two of one
+/// variant go by what they hold, and structs by their fields in order. Keys go by those of the normal form. It does nothing when it runs.
 pub fn declared_orders()
     ensures kinds { ComparesBy (rank_order kinds) ⟦<KeyEventKind as Ord>⟧.cmp ⟦<KeyEventKind as PartialOrd>⟧.partial_cmp }
     ensures media { ComparesBy (rank_order media_keys) ⟦<MediaKeyCode as Ord>⟧.cmp ⟦<MediaKeyCode as PartialOrd>⟧.partial_cmp }

@@ -6,9 +6,9 @@ ghost use Rattle.crossterm_types.specs.Timing.{HasElapsed, gone, left_over};
 
 use std::time::{Duration, Instant};
 
-/// Tells the time since some moment, and never goes back.
+/// Reports the time since some moment, and never goes back.
 pub trait Clock {
-    /// What `now` told last, in nanoseconds; 0 at first.
+    /// What `now` returned last, in nanoseconds; 0 at first.
     ghost told: { Self → ℕ };
 
     /// The time that it is.
@@ -16,14 +16,19 @@ pub trait Clock {
         ensures told { as_nanos result ≡ told self.new }
         ensures later { told self.old ≤ told self.new };
 
-    /// What `now` told last, and zero where it has told nothing yet.
+    /// What `now` returned last, and zero if it wasn't asked yet.
     fn last(&self) -> Duration
         ensures { as_nanos result ≡ told self.now };
 }
 
 /// The system's monotonic clock, from the moment on at which it is asked first.
 ///
-/// Where the system can't tell the time, `now` tells the last moment again.
+/// If the system can't report the time, `now` returns the last moment again.
+///
+/// ```
+/// let mut clock = SystemClock::new(&rt);
+/// let is_there = reader.poll(&rt, &mut pass, Duration::from_secs(1), &mut clock)?;
+/// ```
 #[derive(Drop)]
 pub struct SystemClock<'a, C> {
     system: &'a C,
@@ -32,7 +37,7 @@ pub struct SystemClock<'a, C> {
 }
 
 impl<'a, C: std::rt::Clock> SystemClock<'a, C> {
-    /// A clock that has told nothing yet.
+    /// A clock that wasn't asked yet.
     pub fn new(system: &'a C) -> Self
         ensures { as_nanos result.last ≡ 0 }
     {
@@ -43,7 +48,7 @@ impl<'a, C: std::rt::Clock> SystemClock<'a, C> {
         }
     }
 
-    /// The time since the first moment, where the system tells it.
+    /// The time since the first moment, if the system reports it.
     fn gone(&mut self) -> Option<Duration>
         ensures { self.new.last ≡ self.old.last }
     {
@@ -91,7 +96,7 @@ impl PollTimeout {
         PollTimeout { limit, start: now }
     }
 
-    /// The time that has gone from the start to a moment; zero where the moment stands before it.
+    /// The time that has gone from the start to a moment; zero if the moment is before it.
     fn gone(self, now: Duration) -> Duration
         ensures { as_nanos result ≡ gone self (as_nanos now) }
     {
@@ -108,7 +113,7 @@ impl PollTimeout {
         }
     }
 
-    /// What is left of the limit at this moment, zero where it has passed; `None` without a limit.
+    /// What is left of the limit at this moment, zero if it has passed; `None` without a limit.
     pub fn leftover(&self, now: Duration) -> Option<Duration>
         ensures { option_map as_nanos result ≡ left_over self.now (as_nanos now) }
     {

@@ -1,4 +1,4 @@
-//! JSON values of events: what is told of a value reads back as it (`specs/Values.antt`).
+//! JSON values of events: what is written of a value reads back as that value (`specs/Values.antt`).
 ghost use Rattle.std.specs.Prelude.{◌≡◌, IfOk, Some};
 ghost use Rattle.std.specs.Option.{option_map};
 ghost use Rattle.serde_json.specs.View.{view};
@@ -34,14 +34,15 @@ impl<A: Allocator> Event<A> {
         }
     }
 
-    /// The event as JSON: its variant, and where it holds something an object of the variant and that, as `{"Resize":[80,24]}`.
+    /// The event as JSON: its variant, and if it holds something, an object of the variant and that, as `{"Resize":[80,24]}`.
     ///
     /// ```
     /// let value = event.to_value(alloc)?;
     /// ```
     ///
     /// # Errors
-    /// `Memory` where memory for it was refused.
+    ///
+    /// `Memory` if memory for it was refused.
     #[tactic(auto, using(crate::proofs::ValueLaws::event_back, crossterm_flags::proofs::ValueLaws::told_back))]
     pub fn to_value(&self, alloc: Global) -> Result<Value, ValueFault>
         ensures tells { Tells (event_value self.now) result }
@@ -68,10 +69,11 @@ impl<A: Allocator> Event<A> {
         }
     }
 
-    /// The event that JSON tells.
+    /// The event that JSON represents.
     ///
     /// # Errors
-    /// `Shape` where the JSON tells no event, and `Memory` where memory for the text of a paste was refused.
+    ///
+    /// `Shape` if the JSON represents no event, and `Memory` if memory for the text of a paste was refused.
     pub fn from_value(alloc: A, value: &Value) -> Result<Event<A>, ValueFault>
         ensures { ReadsEvent (reads_event (view value.now)) result }
     {

@@ -84,6 +84,10 @@ impl Line {
     }
 
     /// Inserts a text, as a paste brings it, without what isn't shown.
+    ///
+    /// # Errors
+    ///
+    /// `AllocError` if memory was refused. What was inserted before stays.
     pub fn insert_all(&mut self, text: &str) -> Result<(), AllocError> {
         for c in text.chars() {
             if !c.is_control() {
@@ -105,7 +109,11 @@ impl Line {
         is_there
     }
 
-    /// Does what a key says, and tells what comes then.
+    /// Does what a key says, and returns what comes then.
+    ///
+    /// # Errors
+    ///
+    /// `AllocError` if memory for a character was refused. Then nothing has changed.
     pub fn press(&mut self, key: &KeyEvent) -> Result<Then, AllocError> {
         match key.code {
             KeyCode::Enter => return Ok(Then::Done),
@@ -133,10 +141,10 @@ impl Line {
         Ok(Then::GoOn)
     }
 
-    /// The characters that are shown where there is room for so many columns, and the column among them at which the line goes on.
+    /// The characters that are shown if there is room for so many columns, and the column among them at which the line goes on.
     ///
-    /// They begin where the place in the line is within the room, and one column is left for it. However long the line is, no more of it is
-    /// looked at than is shown.
+    /// They begin so that the place in the line is within the room, and one column is left for it. However long the line is, no more of it
+    /// is looked at than is shown.
     pub fn shown(&self, room: usize) -> (&[char], usize) {
         let before = &self.chars.as_slice()[..self.at.min(self.chars.len())];
         let (back, column) = last_fitting(before, room.saturating_sub(1));

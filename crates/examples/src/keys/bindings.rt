@@ -10,7 +10,7 @@ pub enum LineFault {
     /// There is no `=`, or nothing behind it.
     #[error("no action")]
     NoAction,
-    /// What stands before the `=` isn't a list of chords.
+    /// What precedes the `=` isn't a list of chords.
     #[error("{0}")]
     Chord(#[from] ChordFault),
     /// The chords can't be bound.
@@ -21,7 +21,8 @@ pub enum LineFault {
 /// Binds the chords of a line to its action, and returns the binding's number. The last `=` divides them, so that `ctrl-= = zoom` binds that key.
 ///
 /// # Errors
-/// `NoAction`; `Chord` with the first chord's fault; `Keymap` where the list is refused. Then nothing is bound.
+///
+/// `NoAction`; `Chord` with the first chord's fault; `Keymap` if the list is refused. Then nothing is bound.
 pub fn bind_line(alloc: Global, keymap: &mut Keymap, line: &str) -> Result<usize, LineFault> {
     let (list, action) = line.rsplit_once('=').ok_or(LineFault::NoAction)?;
     let action = action.trim();

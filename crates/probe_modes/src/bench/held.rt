@@ -10,7 +10,7 @@ use std::alloc::Allocator;
 use std::io::{self, Read, Write};
 use std::rt::Clock;
 
-/// A reply that tells the cursor's place.
+/// A reply that reports the cursor's place.
 const REPLY: &[u8] = b"\x1b[1;1R";
 
 /// So many replies, and letters without end after them.

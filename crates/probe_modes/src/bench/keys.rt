@@ -22,7 +22,7 @@ fn length_of(number: u32) -> usize {
     3 + (number % 6) as usize
 }
 
-/// The chord of a list at a place: three chords tell up to 17,576 lists apart, and the others are the last of these.
+/// The chord of a list at a place: three chords distinguish up to 17,576 lists, and the others are the last of these.
 fn chord_of(number: u32, place: usize) -> KeyEvent {
     let rest = match place {
         0 => number,
@@ -95,7 +95,7 @@ impl<A: Allocator> Work for Typed<A> {
     }
 }
 
-/// Prints the least time that a key takes where so many lists are bound, each of which is typed in turn. Up to 17,576 lists are.
+/// Prints the least time that a key takes if so many lists are bound, each of which is typed in turn. Up to 17,576 lists are.
 pub fn time<C: Clock, A: Allocator + Clone, W: Write>(
     clock: &C,
     alloc: A,

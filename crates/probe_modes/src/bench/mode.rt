@@ -22,7 +22,7 @@ pub enum Mode {
     TimeHeld(u32),
     /// Times a key with a recorder and without one.
     TimeRecorded,
-    /// Times a key where so many lists are bound.
+    /// Times a key with so many lists bound.
     TimeKeys(u32),
     /// Writes so many bytes of a workload.
     Make(Workload, usize),

@@ -44,7 +44,7 @@ fn measure<W: Work>(clock: &impl Clock, work: &mut W, times: u64) -> Result<u64,
 
 /// The least time of one of the units that each run has, in about a second.
 ///
-/// Where a run has few units, several are measured as one, since a look at the clock takes time too.
+/// If a run has few units, several are measured as one, since a look at the clock takes time too.
 pub fn least<W: Work>(clock: &impl Clock, work: &mut W, units: usize) -> Result<Nanos, Fault> {
     let units = (units as u64).max(1);
     let times = (65_536 / units).max(1);

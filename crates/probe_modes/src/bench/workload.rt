@@ -1,6 +1,6 @@
 //! Inputs of a kind and of a size.
 //!
-//! Whole sequences stand one after another while the next one fits, and letters `a` fill what is left.
+//! Whole sequences follow one another while the next one fits, and letters `a` fill what is left.
 
 use crate::fault::Fault;
 use std::alloc::{AllocError, Allocator};
@@ -61,7 +61,7 @@ fn fill<A: Allocator>(
     Ok(())
 }
 
-/// Puts a front, parts as many as fit, and a back after some bytes, where front and back fit below an end.
+/// Puts a front, parts as many as fit, and a back after some bytes, if front and back fit below an end.
 fn enclose<A: Allocator>(
     bytes: &mut Vec<u8, A>,
     end: usize,

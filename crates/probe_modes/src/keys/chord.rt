@@ -1,4 +1,4 @@
-//! Chords, as the lines of events tell them.
+//! Chords, as the lines of events spell them.
 
 use crate::fault::Wrong;
 use crate::input::number;

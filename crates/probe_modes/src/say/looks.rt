@@ -15,7 +15,7 @@ fn part(word: &str) -> Result<u8, Wrong> {
     number(word).ok_or(Wrong::Argument)
 }
 
-/// What stands before and after a mark.
+/// What is before and after a mark.
 fn cut(words: &str, mark: char) -> Result<(&str, &str), Wrong> {
     words.split_once(mark).ok_or(Wrong::Argument)
 }

@@ -149,7 +149,7 @@ fn textual<A: Allocator + Clone>(
     }
 }
 
-/// A command that stands alone; one whose word is known, with what it lacks.
+/// A command without arguments; one whose word is known, with what it lacks.
 fn alone<A: Allocator>(word: &str) -> Option<AnyCommand<A>> {
     match plain(word) {
         Some(command) => Some(command),
@@ -157,7 +157,7 @@ fn alone<A: Allocator>(word: &str) -> Option<AnyCommand<A>> {
     }
 }
 
-/// A command, where its arguments are what it takes.
+/// A command, if its arguments are what it takes.
 fn complete<A: Allocator>(
     command: AnyCommand<A>,
     is_complete: bool,

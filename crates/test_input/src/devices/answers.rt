@@ -12,7 +12,7 @@ pub fn long() -> Option<Duration> {
     Some(Duration::from_secs(10))
 }
 
-/// Whether these bytes are told next.
+/// Whether these bytes are reported next.
 pub fn tells<D: Device>(device: &mut D, limit: Option<Duration>, want: &[u8]) -> bool {
     let mut buf = [0u8; 1024];
     match device.answer(&mut buf, limit) {
@@ -21,7 +21,7 @@ pub fn tells<D: Device>(device: &mut D, limit: Option<Duration>, want: &[u8]) ->
     }
 }
 
-/// Whether so many bytes are told next, all of them this one.
+/// Whether so many bytes are reported next, all of them this one.
 pub fn tells_many<D: Device>(
     device: &mut D,
     limit: Option<Duration>,

@@ -13,7 +13,7 @@ use std::{thread, time};
 /// A device over a pipe, with the end that feeds it.
 pub type Piped = (PolledDevice<PipeReader>, PipeWriter);
 
-/// A device over a pipe, and one that tells its sizes, with the ends that feed both.
+/// A device over a pipe, and one that reports its sizes, with the ends that feed both.
 #[derive(Drop)]
 pub struct SizedEnds {
     /// The device.

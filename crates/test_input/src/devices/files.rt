@@ -13,7 +13,7 @@ use test_support::expect;
 // A regular file that is there: the test itself.
 const REGULAR: &str = "/proc/self/exe";
 
-/// Whether a device over a regular file tells its first bytes, as a read of the file gives them, and without waiting.
+/// Whether a device over a regular file reports its first bytes, as a read of the file returns them, and without waiting.
 fn tells_a_file<R: Net + Files<File = File>>(rt: &R, alloc: Global) -> io::Result<bool> {
     let mut device = PolledDevice::new(rt, alloc, File::open(rt, REGULAR)?, cooked(alloc)?, None)?;
     let mut file = File::open(rt, REGULAR)?;
@@ -29,7 +29,7 @@ fn tells_a_file<R: Net + Files<File = File>>(rt: &R, alloc: Global) -> io::Resul
     Ok(is_woken(&mut device, None) && tells(&mut device, NOW, &want))
 }
 
-/// Whether a device over what is empty tells the end at once, and again.
+/// Whether a device over what is empty reports the end at once, and again.
 fn tells_nothing<R: Net + Files<File = File>>(rt: &R, alloc: Global) -> io::Result<bool> {
     let file = File::open(rt, "/dev/null")?;
     let mut device = PolledDevice::new(rt, alloc, file, cooked(alloc)?, None)?;

@@ -22,12 +22,12 @@ struct Came {
     is_over: bool,
 }
 
-/// The byte that stands at this place.
+/// The byte at this place.
 fn byte_at(place: usize) -> u8 {
     (place % 251) as u8
 }
 
-/// Fills a piece with the bytes that stand from this place on, and tells the place after it.
+/// Fills a piece with the bytes from this place on, and returns the place after it.
 fn fill(piece: &mut [u8], from: usize) -> usize {
     let mut at = from;
     for byte in piece {

@@ -13,7 +13,7 @@ use std::net::Net;
 use std::time::Clock;
 use test_support::expect;
 
-/// Whether bytes are told once, as they came, and nothing before and after.
+/// Whether bytes are reported once, as they came, and nothing before and after.
 fn tells_what_came<D: Device, W: Write>(device: &mut D, far: &mut W) -> io::Result<bool> {
     let empty = is_idle(device, NOW);
     far.write_all(b"abc")?;
@@ -25,7 +25,7 @@ fn tells_what_came<D: Device, W: Write>(device: &mut D, far: &mut W) -> io::Resu
     Ok(empty && came && full && more && is_idle(device, NOW))
 }
 
-/// Whether bytes that come one at a time are told one at a time.
+/// Whether bytes that come one at a time are reported one at a time.
 fn tells_each<D: Device, W: Write>(device: &mut D, far: &mut W) -> io::Result<bool> {
     for byte in 0..200u8 {
         far.write_all(&[byte])?;
@@ -51,7 +51,7 @@ fn keeps_limits<D: Device, W: Write, R: Clock>(
     Ok(before && came && after && burst && waits_out(rt, device, 50)?)
 }
 
-/// Whether what came before the end is told, and then the end for good, at once.
+/// Whether what came before the end is reported, and then the end for good, at once.
 fn tells_the_end<D: Device, W: Write + Drop>(device: &mut D, far: W) -> io::Result<bool> {
     let mut far = far;
     far.write_all(b"yz")?;
@@ -60,7 +60,7 @@ fn tells_the_end<D: Device, W: Write + Drop>(device: &mut D, far: W) -> io::Resu
     Ok(rest && tells(device, None, b"") && tells(device, None, b"") && device.failures() == 0)
 }
 
-/// Whether bytes come at once, limits are waited out, and the end is told.
+/// Whether bytes come at once, limits are waited out, and the end is reported.
 fn waits_and_tells<D: Device, W: Write + Drop, R: Clock>(
     rt: &R,
     device: &mut D,

@@ -8,7 +8,7 @@ use std::alloc::Global;
 use std::io::{self, Cursor, ErrorKind, Read};
 use test_support::expect;
 
-/// Whether a device over a list of bytes tells them, and then the end for good.
+/// Whether a device over a list of bytes reports them, and then the end for good.
 fn tells_a_list(alloc: Global) -> io::Result<bool> {
     let mut device = ReadDevice::new(&b"abc"[..], cooked(alloc)?);
     Ok(
@@ -18,7 +18,7 @@ fn tells_a_list(alloc: Global) -> io::Result<bool> {
     )
 }
 
-/// Whether a buffer at a time is told.
+/// Whether a buffer at a time is reported.
 fn tells_by_buffers(alloc: Global) -> io::Result<bool> {
     let mut device = ReadDevice::new(Cursor::new([7u8; 1025]), cooked(alloc)?);
     Ok(
@@ -59,7 +59,7 @@ impl Read for Faulty {
     }
 }
 
-/// Whether an error is a failure where it says more than that nothing came.
+/// Whether an error is a failure if it says more than that nothing came.
 fn tells_faults(alloc: Global) -> io::Result<bool> {
     let mut device = ReadDevice::new(Faulty { reads: 0 }, cooked(alloc)?);
     let idle = is_idle(&mut device, None) && is_idle(&mut device, None) && device.failures() == 0;

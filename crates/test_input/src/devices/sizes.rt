@@ -11,7 +11,7 @@ use std::os::fd::AsRawFd;
 use std::time::Clock;
 use test_support::expect;
 
-/// Whether the last whole line is told, and one that isn't whole once it is.
+/// Whether the last whole line is reported, and one that isn't whole once it is.
 fn tells_last_lines<R: Net + Files<File = File>>(rt: &R, alloc: Global) -> io::Result<bool> {
     let mut ends = sized(rt, alloc)?;
     let device = &mut ends.device;
@@ -104,7 +104,7 @@ fn sizes_and_bytes_come_in_turn(rt: HostRuntime) -> io::Result<()> {
     Ok(())
 }
 
-/// A file that is ready, and can't be read: the end of a pipe that is written to, where nobody reads it.
+/// A file that is ready, and can't be read: the end of a pipe that is written to, which nobody reads.
 fn unreadable<R: Files<File = File>>(rt: &R, alloc: Global) -> io::Result<File> {
     let (_reader, writer) = io::pipe(rt)?;
     let fd = writer.as_raw_fd();
@@ -112,7 +112,7 @@ fn unreadable<R: Files<File = File>>(rt: &R, alloc: Global) -> io::Result<File> 
     OpenOptions::new().write(true).open(rt, path.as_str())
 }
 
-/// Whether a failure of sizes is told once, and the input goes on.
+/// Whether a failure of sizes is reported once, and the input goes on.
 fn outlives_a_failure<R: Net + Files<File = File> + Clock>(
     rt: &R,
     alloc: Global,
@@ -125,7 +125,7 @@ fn outlives_a_failure<R: Net + Files<File = File> + Clock>(
     Ok(failed && tells(&mut device, None, b"ab") && waits_out(rt, &mut device, 30)?)
 }
 
-/// Whether a failure of the input is told each time.
+/// Whether a failure of the input is reported each time.
 fn fails_again<R: Net + Files<File = File>>(rt: &R, alloc: Global) -> io::Result<bool> {
     let input = unreadable(rt, alloc)?;
     let mut device = PolledDevice::new(rt, alloc, input, cooked(alloc)?, None)?;

@@ -88,7 +88,7 @@ fn meaning_of_reply(bytes: &[u8]) -> Option<Meaning>
     }
 }
 
-/// What is meant by what stands after `ESC [`.
+/// What is meant by what follows `ESC [`.
 fn meaning_of_csi(bytes: &[u8], raw: bool) -> Option<Meaning>
     ensures { result ≡ csi_meaning raw bytes.now }
 {
@@ -103,7 +103,7 @@ fn meaning_of_csi(bytes: &[u8], raw: bool) -> Option<Meaning>
     }
 }
 
-/// What is meant by what stands after ESC: by nothing, the Esc key.
+/// What is meant by what follows ESC: by nothing, the Esc key.
 fn meaning_after_escape(bytes: &[u8], raw: bool) -> Option<Meaning>
     ensures { result ≡ escape_meaning raw bytes.now }
 {

@@ -7,7 +7,7 @@ use screen::{Buffer, DrawFault, Screen};
 use std::alloc::{AllocError, Global};
 use test_support::{Calls, Came, expect, is_refused_below_a_size};
 
-/// Resizes both, and then draws. Where memory is refused the sizes stay, and nothing is written.
+/// Resizes both, and then draws. If memory is refused, the sizes stay, and nothing is written.
 fn grows(alloc: Global, screen: &mut Screen<&LocalHeap>, buffer: &mut Buffer<&LocalHeap>) -> Came {
     if buffer.resize(9, 4).is_err() {
         return if buffer.width() == 3 && buffer.height() == 2 {

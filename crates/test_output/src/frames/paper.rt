@@ -4,7 +4,7 @@ use crossterm_style::{Attribute, Attributes, Color, ContentStyle};
 use screen::Buffer;
 use std::alloc::{AllocError, Global};
 
-/// How a cell looks: colours of the palette, where 256 is the terminal's own, and two attributes.
+/// How a cell looks: colours of the palette, with 256 for the terminal's own, and two attributes.
 #[derive(Clone, Copy, PartialEq, Eq, Debug)]
 pub struct Look {
     pub front: u32,
@@ -27,7 +27,7 @@ pub struct Mark {
     pub look: Look,
 }
 
-/// Where the bytes stand.
+/// Where the bytes are.
 #[derive(Clone, Copy, PartialEq, Eq)]
 enum At {
     Ground,
@@ -153,7 +153,7 @@ impl Paper {
         self.printed = self.printed.saturating_add(1);
     }
 
-    // SGR, where a colour is one of the palette.
+    // SGR, if a colour is one of the palette.
     fn set_look(&mut self) {
         match self.numbers {
             [0, ..] => self.look = PLAIN,
@@ -318,7 +318,7 @@ impl Sheet {
         })
     }
 
-    /// Sets a character in a style, and tells whether it is as it should be.
+    /// Sets a character in a style, and returns whether it is as it should be.
     pub fn set(&mut self, column: u16, row: u16, symbol: char, style: u32) -> bool {
         let width = usize::from(self.buffer.width());
         let at = usize::from(row)

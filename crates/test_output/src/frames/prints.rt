@@ -5,7 +5,7 @@ use screen::{Buffer, CellFault};
 use std::alloc::{AllocError, Global};
 use test_support::expect;
 
-/// A column, a row and a text; the columns that it takes, or why it is refused; what stands in two rows of five columns then.
+/// A column, a row and a text; the columns that it takes, or why it is refused; what is in two rows of five columns then.
 type Row = (u16, u16, &'static str, Result<u16, CellFault>, &'static str);
 
 const ROWS: [Row; 9] = [

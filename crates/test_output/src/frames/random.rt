@@ -21,7 +21,7 @@ fn number(state: &mut u32, below: u16) -> u16 {
     ((*state >> 16) as u16).checked_rem(below).unwrap_or(0)
 }
 
-/// Sets some cells, and tells whether each was set as it should be.
+/// Sets some cells, and returns whether each was set as it should be.
 fn change(sheet: &mut Sheet, state: &mut u32) -> bool {
     let mut is_right = true;
     for _ in 0..number(state, 9) {
@@ -45,7 +45,7 @@ fn count_changed(old: &Sheet, new: &Sheet) -> u32 {
     count
 }
 
-/// Draws frames one after another on one paper, and tells whether each is shown, and how many characters were printed for it.
+/// Draws frames one after another on one paper, and returns whether each is shown, and how many characters were printed for it.
 fn are_shown(alloc: Global) -> io::Result<bool> {
     let mut state = SEED;
     let mut screen = Screen::new(alloc, 11, 5)?;

@@ -6,7 +6,7 @@ use screen::{Buffer, CellFault, DrawFault, Screen};
 use std::alloc::{AllocError, Global};
 use test_support::expect;
 
-/// Characters, and why they can't stand in a cell (Unicode Standard Annex 11; ECMA-48 for the control characters).
+/// Characters, and why no cell can hold them (Unicode Standard Annex 11; ECMA-48 for the control characters).
 const ROWS: [(char, Option<CellFault>); 10] = [
     ('\u{0}', Some(CellFault::Control)),
     ('\u{1b}', Some(CellFault::Control)),

@@ -144,7 +144,7 @@ fn is_refused<H: Wait>(rt: &H, alloc: Global, lines: &str, want: &str) -> Result
     Ok(is_answer(rt, alloc, input.as_bytes(), want.as_bytes()))
 }
 
-/// Whether a case is as it says: lines of bindings and acts, or, where they are faulty, a line that is refused.
+/// Whether a case is as it says: lines of bindings and acts, or, if they are faulty, a line that is refused.
 fn holds<H: Wait>(rt: &H, alloc: Global, case: &str, is_faulty: bool) -> bool {
     let Some((input, want)) = case.split_once(" -> ") else {
         return false;
@@ -157,7 +157,7 @@ fn holds<H: Wait>(rt: &H, alloc: Global, case: &str, is_faulty: bool) -> bool {
     holds.unwrap_or(false)
 }
 
-/// Fails the test where a case isn't as it says, or where there are more or fewer than so many.
+/// Fails the test if a case isn't as it says, or if there are more or fewer than so many.
 fn expect_all<H: Wait + Abort>(rt: &H, alloc: Global, cases: &str, is_faulty: bool, count: usize) {
     let mut seen = 0usize;
     for case in cases.split('\n') {
@@ -210,10 +210,10 @@ fn bindings_have_their_limit(rt: HostRuntime) -> Result<(), Fail> {
 const BOUND: &[u8] =
     b"bind top Char:67/0,Char:67/0\nbind go Char:67/0\npiece 6767\nidle\npiece 67\nresize 80 24\n";
 
-/// All that comes of it, where no memory is refused.
+/// All that comes of it, if no memory is refused.
 const WHOLE: &[u8] = b"action top\naction go\nresize 80 24\nfault UnexpectedEof\n";
 
-/// The lines that stand before the last one, and the last one.
+/// The lines before the last one, and the last one.
 fn last_line(output: &[u8]) -> (&[u8], &[u8]) {
     let text = output.strip_suffix(b"\n").unwrap_or(output);
     match text.iter().rposition(|byte| *byte == b'\n') {
@@ -222,7 +222,7 @@ fn last_line(output: &[u8]) -> (&[u8], &[u8]) {
     }
 }
 
-/// Whether this may come of it where memory is refused: a beginning of the lines, and then that there is none.
+/// Whether this may come of it if memory is refused: a beginning of the lines, and then that there is none.
 fn is_refused_memory(output: &[u8]) -> bool {
     let (before, last) = last_line(output);
     let is_named = last == b"probe: out of memory".as_slice()
@@ -230,7 +230,7 @@ fn is_refused_memory(output: &[u8]) -> bool {
     is_named && WHOLE.starts_with(before)
 }
 
-/// Whether all comes of it over a heap of this size; else `None`, where memory is refused. Afterwards none is in use.
+/// Whether all comes of it over a heap of this size; else `None`, if memory is refused. Afterwards none is in use.
 fn is_whole<H: Wait>(rt: &H, alloc: Global, size: usize) -> Result<Option<bool>, AllocError> {
     let heap = LocalHeap::new(alloc, size)?;
     let output = answer(rt, &heap, alloc, BOUND)?;

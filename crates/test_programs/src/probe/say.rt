@@ -7,7 +7,8 @@ use std::alloc::{AllocError, Global};
 use std::io::{self, ErrorKind, Write};
 use std::process::Abort;
 
-/// A case to a line, which is its name: lines, and what comes of them, where `^[` is ESC and `^G` the bell. A second blank before the arrow is the input's. Where nothing is after the arrow, nothing is written.
+/// A case to a line, which is its name: lines, and what comes of them, with `^[` for ESC and `^G` for the bell. A second blank before the
+/// arrow is the input's. If nothing is after the arrow, nothing is written.
 const LINES: &str = "\
 MoveTo 0 0 -> ^[[1;1H
 MoveTo 2 1 -> ^[[2;3H
@@ -144,7 +145,7 @@ fn holds(alloc: Global, case: &str) -> bool {
     }
 }
 
-/// Fails the test where a case isn't as it says, or where there are more or fewer than so many.
+/// Fails the test if a case isn't as it says, or if there are more or fewer than so many.
 fn expect_all(rt: &impl Abort, alloc: Global, cases: &str, count: usize) {
     let mut seen = 0usize;
     for case in cases.split('\n') {

@@ -13,7 +13,7 @@ use std::net::{self, Ipv4Addr, Net, OpenStream, SocketAddr};
 use std::sync::Wait;
 use std::thread::Threads;
 
-/// What comes of an input, and nothing where it fails.
+/// What comes of an input, and nothing if it fails.
 fn served<H: Net + Threads + Wait + Sync>(rt: &H, alloc: Global, input: &[u8]) -> Option<Vec<u8>> {
     let mut output = Vec::new(alloc);
     let mut reader = input;
@@ -46,12 +46,12 @@ fn bytes_are_served(rt: HostRuntime) {
 /// How many events a piece of the scripts has at most.
 const MOST: u32 = 32;
 
-/// Whether a line that is played tells an event.
+/// Whether a line that is played shows an event.
 fn is_event(line: &str) -> bool {
     !line.is_empty() && line != "none" && !line.starts_with("fault")
 }
 
-/// The lines of a piece's events, where it is played by itself.
+/// The lines of a piece's events, if it is played by itself.
 fn played(alloc: Global, hex: &str) -> Result<String, AllocError> {
     let mut input = format!(in alloc; "piece {hex}\n")?;
     for _ in 0..MOST {
@@ -123,7 +123,7 @@ fn faults_of_serve_are_named(rt: HostRuntime) {
     );
 }
 
-/// What comes of our connection where so many others came before it: the error's kind, or none.
+/// What comes of our connection if so many others came before it: the error's kind, or none.
 fn comes_after<N: Net>(rt: &N, alloc: Global, count: usize) -> io::Result<Option<ErrorKind>> {
     let any = SocketAddr::from((Ipv4Addr::LOCALHOST, 0));
     let listener = net::TcpListener::from(TcpListener::bind(rt, any)?);

@@ -6,7 +6,7 @@ use linked_list_allocator::LocalHeap;
 use std::alloc::AllocError;
 use test_support::{Calls, Came, expect, is_refused_below_a_size};
 
-/// Binds a list that is to have this number. Where memory is refused there may be no binding of that number.
+/// Binds a list that is to have this number. If memory is refused, there may be no binding of that number.
 fn binds(keymap: &mut Keymap<&LocalHeap>, chords: &[KeyEvent], number: usize) -> Came {
     match keymap.bind(chords, "go") {
         Ok(bound) => {
@@ -27,7 +27,7 @@ fn binds(keymap: &mut Keymap<&LocalHeap>, chords: &[KeyEvent], number: usize) ->
     }
 }
 
-/// Feeds a key that is bound and may become longer, and flushes. Where memory is refused nothing may wait.
+/// Feeds a key that is bound and may become longer, and flushes. If memory is refused, nothing may wait.
 fn feeds(matcher: &mut Matcher<&LocalHeap>, key: KeyEvent) -> Came {
     if matcher.feed(key) == Err(KeymapFault::Memory) {
         return if matcher.next().is_none() {

@@ -9,8 +9,8 @@ use std::sync::Wait;
 use std::time::Duration;
 use test_support::{Seat, Still, alone, expect, telling};
 
-/// What a terminal tells that reports releases and all keys, and what comes of it where `gg` is 0 and `g` is 1: `^` is a key that is let
-/// go, `m` a modifier key, and `!` another event.
+/// What a terminal sends that reports releases and all keys, and what comes of it if `gg` is 0 and `g` is 1: `^` is a key that is let go,
+/// `m` a modifier key, and `!` another event.
 static ROWS: [(&str, &str); 8] = [
     ("g\x1b[103;1:3ug", "^0"),
     ("g\x1b[103;1:3ux\x1b[120;1:3u", "^1x^"),

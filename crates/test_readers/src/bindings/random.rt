@@ -36,7 +36,7 @@ fn typed(alloc: Global, state: &mut u32, letters: &[u8]) -> Result<Vec<u8>, Allo
     Ok(typed)
 }
 
-/// What stands at the first place of these letters, and how many belong to it: the longest list, or one letter.
+/// What is at the first place of these letters, and how many belong to it: the longest list, or one letter.
 fn first_place(lists: &[&str], rest: &[u8]) -> (char, usize) {
     let letter = *rest.first().unwrap_or(&b'?');
     let mut place = (char::from(letter), 1);

@@ -43,7 +43,7 @@ fn call(matcher: &mut Poor<'_>, letter: char) -> Result<(), KeymapFault> {
     }
 }
 
-/// Calls while a heap has nothing left, and once more with room where that is refused. Returns whether it was.
+/// Calls while a heap has nothing left, and once more with room if that is refused. Returns whether it was.
 fn calls_without_room(
     alloc: Global,
     heap: &LocalHeap,
@@ -114,7 +114,7 @@ struct Stepper<'a> {
 }
 
 impl<'a> Stepper<'a> {
-    /// A matcher where `gg` is 0 and `g` is 1, over a script of these pieces.
+    /// A matcher with `gg` as 0 and `g` as 1, over a script of these pieces.
     fn new<R: Wait>(
         rt: &R,
         alloc: Global,
@@ -157,7 +157,7 @@ fn is_refused(came: &Came<'_>) -> bool {
     }
 }
 
-/// Steps while a heap has nothing left, and once more with room where that is refused: then a `-` is shown.
+/// Steps while a heap has nothing left, and once more with room if that is refused: then a `-` is shown.
 fn step_without_room<'a, R: Wait>(
     rt: &R,
     alloc: Global,
@@ -194,7 +194,7 @@ fn step_all<'a, R: Wait>(
     Ok(())
 }
 
-/// What comes of a key that was fed before and of a script, where each step is refused memory that it asks for.
+/// What comes of a key that was fed before and of a script, if each step is refused memory that it asks for.
 fn stepped<R: Wait>(rt: &R, alloc: Global) -> io::Result<String> {
     let heap = LocalHeap::new(alloc, SIZE)?;
     let mut stepper = Stepper::new(rt, alloc, &heap, &["g", "x", "g\x1b[I", "g"])?;

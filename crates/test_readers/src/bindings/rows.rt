@@ -117,7 +117,7 @@ fn keys_are_cut_into_the_longest_lists(rt: HostRuntime) {
     }
 }
 
-/// Binds each list, and tells why the last one is refused.
+/// Binds each list, and returns why the last one is refused.
 fn refusal_of(alloc: Global, lists: &[&str]) -> Option<KeymapFault> {
     let mut keymap = Keymap::new(alloc);
     let mut last = None;

@@ -33,7 +33,7 @@ fn matcher(alloc: Global) -> Option<Matcher> {
     Some(Matcher::new(alloc, keymap))
 }
 
-/// Steps once, and tells whether that gave the action; `None` is a fault.
+/// Steps once, and returns whether that gave the action; `None` is a fault.
 fn step_once<R: Wait>(rt: &R, seat: &mut Seat<Source>, matcher: &mut Matcher) -> Option<bool> {
     let limit = Some(Duration::ZERO);
     match matcher.step(rt, &seat.shared, &mut seat.pass, limit, &mut Still) {

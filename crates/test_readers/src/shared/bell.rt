@@ -8,7 +8,7 @@ use std::sync::{Arc, Wait};
 use std::time::Duration;
 use test_support::{TURNS, is_raised_within, nap, rest};
 
-/// What a device tells its test.
+/// What a device reports to its test.
 #[derive(Drop)]
 pub struct Signs {
     asked: AtomicBool,
@@ -48,7 +48,7 @@ fn is_raised<R: Wait>(rt: &R, flag: &AtomicBool) -> bool {
     is_raised_within(rt, flag, TURNS)
 }
 
-/// A device that is idle until its bell rings. Then it is woken, and tells `ab` once. After its turns the input ends.
+/// A device that is idle until its bell rings. Then it is woken, and reports `ab` once. After its turns the input ends.
 #[derive(Drop)]
 pub struct Bell<'a, R> {
     rt: &'a R,

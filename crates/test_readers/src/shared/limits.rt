@@ -1,4 +1,4 @@
-//! Polls with a limit, where nobody else has the reader.
+//! Polls with a limit, while nobody else has the reader.
 
 use crossterm_read::source::{Act, Script};
 use crossterm_types::event::filter::AnyFilter;
@@ -9,7 +9,7 @@ use std::sync::Wait;
 use std::time::Duration;
 use test_support::{Reader, Seat, Ticking, alone, expect, letter_in, script_of, text};
 
-/// A reader over a script that is idle so many times, and then tells the letter `a`.
+/// A reader over a script that is idle so many times, and then reports the letter `a`.
 fn idle_and_letter(alloc: Global, times: u32) -> Result<Reader<Script>, AllocError> {
     let mut acts = Vec::new(alloc);
     for _ in 0..times {

@@ -35,7 +35,7 @@ type Source = DeviceSource<Script>;
 /// What one thread read: the arrival numbers of its letters.
 type Drained = Result<Vec<u64>, AllocError>;
 
-/// The arrival number of the letter that was read last, and `u64::MAX` where the script has another letter there.
+/// The arrival number of the letter that was read last, and `u64::MAX` if the script has another letter there.
 fn number_of(letter: char, last: Option<u64>) -> u64 {
     match last {
         Some(number) if letter == char::from(letter_at(number)) => number,

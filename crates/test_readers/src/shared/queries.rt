@@ -64,7 +64,7 @@ fn is_first(flags: io::Result<Option<KeyboardEnhancementFlags>>) -> bool {
     matches!(flags, Ok(Some(flags)) if flags.bits() == 1)
 }
 
-/// Whether flags are told and the attributes after them are taken, and attributes alone are no flags.
+/// Whether flags are returned and the attributes after them are taken, and attributes alone are no flags.
 fn is_flagged<R: Wait>(rt: &R, alloc: Global) -> io::Result<bool> {
     let reader = telling(alloc, b"\x1b[?1u\x1b[?62c\x1b[?62c")?;
     let mut seat = alone(rt, alloc, reader)?;
@@ -87,7 +87,7 @@ fn after(alloc: Global, act: Act) -> Result<Reader<Script>, AllocError> {
     Ok(script_of(alloc, acts))
 }
 
-/// Whether a query for the place fails at this act, and the next one is answered. The clock stands still, so that no limit passes.
+/// Whether a query for the place fails at this act, and the next one is answered. The clock never moves, so that no limit passes.
 fn fails_once<R: Wait>(rt: &R, alloc: Global, act: Act) -> io::Result<bool> {
     let mut seat = alone(rt, alloc, after(alloc, act)?)?;
     let failed = fails(place(rt, &mut seat, &mut Still));
@@ -128,7 +128,7 @@ fn ends_in_time<R: Wait>(rt: &R, alloc: Global) -> io::Result<bool> {
     Ok(unplaced && unflagged && seat.pass.last().is_none())
 }
 
-/// Whether flags are told where no attributes follow in time.
+/// Whether flags are returned if no attributes follow in time.
 fn needs_no_attributes<R: Wait>(rt: &R, alloc: Global) -> io::Result<bool> {
     let mut seat = alone(rt, alloc, then_idle(alloc, b"\x1b[?1u")?)?;
     Ok(is_first(flags(rt, &mut seat, &mut Ticking::new())) && seat.pass.last() == Some(0))
@@ -141,11 +141,11 @@ fn limits_end_queries(rt: HostRuntime) -> io::Result<()> {
     Ok(())
 }
 
-/// With how many milliseconds a query for the flags asks each time, and what it is told then: the clock goes on by one each time that it is looked at, and
-/// the wait for the attributes is as long again.
+/// With how many milliseconds a query for the flags asks each time, and what it gets then: the clock goes on by one each time that it is
+/// looked at, and the wait for the attributes is as long again.
 static QUESTIONS: [(u64, &[u8]); 4] = [(49, b""), (47, b"\x1b[?1u"), (49, b""), (47, b"\x1b[?62c")];
 
-/// A device that counts the questions that have the limits of these. It is idle where nothing is told.
+/// A device that counts the questions that have the limits of these. It is idle if it has nothing to report.
 #[derive(Drop)]
 struct Asked<'a> {
     turn: usize,

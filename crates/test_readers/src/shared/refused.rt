@@ -36,7 +36,7 @@ fn open<'a, R: Wait>(
     EventReader::new(rt, heap, reader, passes)
 }
 
-/// What came of it, where three passes are wanted.
+/// What came of it, if three passes are wanted.
 fn came_of(opened: io::Result<Opened<'_>>) -> Came {
     match opened {
         Ok((_shared, passes)) if passes.len() == 3 => Came::Done,

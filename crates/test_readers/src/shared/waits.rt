@@ -12,7 +12,7 @@ use std::time::Duration;
 use std::{io, thread};
 use test_support::{Seat, TURNS, expect, is_raised_within, reader_of, sleep};
 
-/// A device that sleeps at the first question, then is woken, and then tells the letter `a` at each.
+/// A device that sleeps at the first question, then is woken, and then reports the letter `a` at each.
 #[derive(Drop)]
 struct Sleeper<'a, R> {
     rt: &'a R,
@@ -45,7 +45,7 @@ impl<R: Wait> Device for Sleeper<'_, R> {
     }
 }
 
-/// What a poll by a clock that stands still comes to: each of its waits takes the whole limit.
+/// What a poll by a clock that never moves comes to: each of its waits takes the whole limit.
 fn polls<S: EventSource<Global>, R: Wait>(
     rt: &R,
     mut seat: Seat<S>,

@@ -19,7 +19,7 @@ fn wakes<S: EventSource<Global>>(shared: &EventReader<S>) -> bool {
     }
 }
 
-/// Whether a poll with this limit answers so, by a clock that stands still.
+/// Whether a poll with this limit returns this, by a clock that never moves.
 fn polls_within<S: EventSource<Global>, R: Wait>(
     rt: &R,
     seat: &mut Seat<S>,

@@ -24,12 +24,13 @@ use std::io;
 use std::sync::Wait;
 use std::time::Duration;
 
-/// The cursor's column and row, from 0, by the first reply that tells them, after so many questions to the source at most.
+/// The cursor's column and row, from 0, by the first reply that reports them, after so many questions to the source at most.
 ///
 /// It writes nothing: who asks the terminal (DSR `CSI 6 n`: ECMA-48, 8.3.35) did so before. The reply is taken, and all other events are held.
 ///
 /// # Errors
-/// `Other` where no reply came within the tries, or the source was woken; else that of `InternalEventReader::poll_within`.
+///
+/// `Other` if no reply came within the tries, or the source was woken; else that of `InternalEventReader::poll_within`.
 pub fn position_within<S: EventSource<A>, A: Allocator + Clone>(
     reader: &mut InternalEventReader<S, A>,
     tries: u32,
@@ -48,15 +49,16 @@ pub fn position_within<S: EventSource<A>, A: Allocator + Clone>(
 /// The cursor's column and row, from 0 (DSR `CSI 6 n`: ECMA-48, 8.3.35).
 ///
 /// It writes the query, flushes, and waits 2000 ms for the reply, which it takes; one that was held already is taken first. All other
-/// events are held. Where the terminal isn't in raw mode that is switched on before and off after.
+/// events are held. If the terminal isn't in raw mode, that is switched on before and off after.
 ///
 /// ```
 /// let (column, row) = cursor::position(&rt, &mut term, &reader, &mut pass, &mut out, &mut clock)?;
 /// ```
 ///
 /// # Errors
-/// The device's where a switch was refused, in place of all else. The writer's where the query couldn't be written. `Other` where no reply
-/// came in time, where other threads had the reader until then, and after a wake-up. Else the source's.
+///
+/// The device's if a switch was refused, in place of all else. The writer's if the query couldn't be written. `Other` if no reply came in
+/// time, if other threads had the reader until then, and after a wake-up. Else the source's.
 pub fn position<
     S: EventSource<A>,
     A: Allocator + Clone,

@@ -5,7 +5,7 @@
 //!
 //! | Request | Answer |
 //! |---|---|
-//! | `mode` | the mode that stands, as `stty -g` writes it |
+//! | `mode` | the mode that is set, as `stty -g` writes it |
 //! | `raw` | the same, after raw mode was set |
 //! | `set MODE` | the same, after this mode was set |
 //! | `size` | two lines: the rows, the columns |
@@ -33,9 +33,9 @@ pub struct SttyMode {
     pub text: ArrayString<LONGEST>,
 }
 
-/// Switches a terminal's modes and tells its size by a helper that runs `stty`: requests are written, and answers are read.
+/// Switches a terminal's modes and reports its size by a helper that runs `stty`: requests are written, and answers are read.
 ///
-/// The mode that stands is the one that the helper told last. What someone else sets in between isn't seen.
+/// Its mode is the one that the helper reported last. What someone else sets in between isn't seen.
 #[derive(Drop)]
 pub struct SttyDevice<R, W> {
     answers: R,
@@ -79,11 +79,12 @@ fn read_mode<R: Read>(answers: &mut R) -> io::Result<SttyMode>
 }
 
 impl<R: Read + Drop, W: Write + Drop> SttyDevice<R, W> {
-    /// A device over a helper, which is asked for the mode that stands.
+    /// A device over a helper, which is asked for the mode that is set.
     ///
     /// # Errors
-    /// Those of the reader and the writer, `UnexpectedEof` where the helper is gone among them; `InvalidData` where what it answers is no
-    /// line; `Other` where it refuses.
+    ///
+    /// Those of the reader and the writer, `UnexpectedEof` if the helper is gone among them; `InvalidData` if what it answers is no line;
+    /// `Other` if it refuses.
     pub fn new(mut answers: R, mut requests: W) -> io::Result<Self>
         ensures { IfOk result (λ s. Appends (W.contents requests) (W.contents s.requests) (line (codes "mode"))
             × Consumes (R.remaining answers) (R.remaining s.answers) (line s.mode.text.bytes) × IsMode s.mode.text.bytes × (s.failures ≡ 0)) }
@@ -98,7 +99,7 @@ impl<R: Read + Drop, W: Write + Drop> SttyDevice<R, W> {
         })
     }
 
-    // Asks by a line, and keeps the mode that is told for it.
+    // Asks by a line, and keeps the mode that is reported for it.
     fn ask_mode(&mut self, request: &str) -> io::Result<()>
         ensures ok { OnOk result (Appends (W.contents self.old.requests) (W.contents self.new.requests) request.now
             × Consumes (R.remaining self.old.answers) (R.remaining self.new.answers) (line self.new.mode.text.bytes) × IsMode self.new.mode.text.bytes) }
@@ -110,7 +111,7 @@ impl<R: Read + Drop, W: Write + Drop> SttyDevice<R, W> {
         Ok(())
     }
 
-    // Sets a mode, and asks whether it stands.
+    // Sets a mode, and asks whether it is set.
     fn try_set_mode(&mut self, mode: &SttyMode) -> io::Result<()>
         ensures asked { stty_answered R.remaining W.contents self.old (Sets mode.now result) self.new }
         ensures failures { self.new.failures ≡ self.old.failures }
@@ -162,7 +163,7 @@ impl<R: Read + Drop, W: Write + Drop> ModeDevice for SttyDevice<R, W> {
         Ok(self.mode)
     }
 
-    /// Asks the helper to set raw mode, and reads the mode that stands then.
+    /// Asks the helper to set raw mode, and reads the mode that is set then.
     fn set_raw(&mut self, _mode: &SttyMode) -> io::Result<()> {
         let done = self.ask_mode("raw\n");
         if done.is_err() {
@@ -171,7 +172,7 @@ impl<R: Read + Drop, W: Write + Drop> ModeDevice for SttyDevice<R, W> {
         done
     }
 
-    /// Asks the helper to set a mode. It's `Other` where another stands then.
+    /// Asks the helper to set a mode. It's `Other` if another is set then.
     fn set_mode(&mut self, mode: &SttyMode) -> io::Result<()> {
         let done = self.try_set_mode(mode);
         if done.is_err() {

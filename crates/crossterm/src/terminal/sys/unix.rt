@@ -24,15 +24,15 @@ use std::marker::Model;
 use std::sync::Wait;
 use std::time::Duration;
 
-/// Switches a terminal's modes, and tells its size: what stands in the place of termios.
+/// Switches a terminal's modes, and reports its size: what is here in the place of termios.
 ///
-/// One that never fails, and claims no more of its calls, says which mode stands, by `ghost stands = { λ device. device.mode };`, and writes
-/// the calls. One that may fail counts its failures, and says so by `ghost failed = { λ device. device.failures };`.
+/// One that never fails, and claims no more of its calls, says which mode is set, by `ghost stands = { λ device. device.mode };`, and
+/// writes the calls. One that may fail counts its failures, and says so by `ghost failed = { λ device. device.failures };`.
 pub trait ModeDevice: Drop {
     /// A mode, as it can be set again.
     type Mode: Drop;
 
-    /// The mode that stands.
+    /// The mode that is set.
     ghost stands: { Self → Self.Mode };
 
     /// From one state to another, it was called so and answered so: nothing, if it doesn't say more.
@@ -41,7 +41,11 @@ pub trait ModeDevice: Drop {
     /// How often it failed: never, if it doesn't say more.
     ghost failed: { Self → ℕ } = { λ _. 0 };
 
-    /// The mode that stands.
+    /// The mode that is set.
+    ///
+    /// # Errors
+    ///
+    /// The device's own, and then its failures have risen, unless no more can be counted.
     fn mode(&mut self) -> io::Result<Self::Mode>
         ensures mode { IfOk result (λ mode. mode ≡ stands self.old) }
         ensures asked { answered self.old (Tells result) self.new }
@@ -49,12 +53,20 @@ pub trait ModeDevice: Drop {
         ensures err { OnErr result (Refuses (failed self.old) (failed self.new)) };
 
     /// Sets the raw mode that a mode becomes: no echo, no lines, no signals by keys.
+    ///
+    /// # Errors
+    ///
+    /// The device's own, and then its failures have risen, unless no more can be counted.
     fn set_raw(&mut self, mode: &Self::Mode) -> io::Result<()>
         ensures asked { answered self.old (SetsRaw mode.now result) self.new }
         ensures rise { failed self.old ≤ failed self.new }
         ensures err { OnErr result (Refuses (failed self.old) (failed self.new)) };
 
     /// Sets a mode.
+    ///
+    /// # Errors
+    ///
+    /// The device's own, and then its failures have risen, unless no more can be counted.
     fn set_mode(&mut self, mode: &Self::Mode) -> io::Result<()>
         ensures mode { OnOk result (stands self.new ≡ mode.now) }
         ensures asked { answered self.old (Sets mode.now result) self.new }
@@ -62,6 +74,10 @@ pub trait ModeDevice: Drop {
         ensures err { OnErr result (Refuses (failed self.old) (failed self.new)) };
 
     /// How large the window is.
+    ///
+    /// # Errors
+    ///
+    /// The device's own, and then its failures have risen, unless no more can be counted.
     fn window_size(&mut self) -> io::Result<WindowSize>
         ensures asked { answered self.old (Sizes result) self.new }
         ensures rise { failed self.old ≤ failed self.new }
@@ -83,7 +99,7 @@ pub trait ModeDevice: Drop {
 #[derive(Drop)]
 pub struct Terminal<D: ModeDevice, A: Allocator = Global> {
     device: D,
-    // The mode that stood before raw mode was switched on, while it is on.
+    // The mode that was set before raw mode was switched on, while it is on.
     prior: Option<D::Mode>,
     flag: RawFlag<A>,
 }
@@ -107,14 +123,22 @@ impl<D: ModeDevice, A: Allocator + Clone> Terminal<D, A> {
         }
     }
 
-    /// Whether raw mode is on: always `Ok`.
+    /// Whether raw mode is on.
+    ///
+    /// # Errors
+    ///
+    /// None: it is a `Result` as in crossterm.
     pub fn is_raw_mode_enabled(&self) -> io::Result<bool>
         ensures { IsOkAnd result (λ raw. raw ≡ is_some self.now.prior) }
     {
         Ok(self.prior.is_some())
     }
 
-    /// Switches raw mode on, and keeps the mode that stood before. Where it is on already nothing is done.
+    /// Switches raw mode on, and keeps the mode that was set before. If it is on already, nothing is done.
+    ///
+    /// # Errors
+    ///
+    /// The device's. Then raw mode counts as off.
     pub fn enable_raw_mode(&mut self) -> io::Result<()>
         ensures already { IsTrue (is_some self.old.prior) → IsOk result × (self.new ≡ self.old) }
         ensures ok { OnOk result (self.old.prior ≡ None → self.new.prior ≡ Some (D.stands self.old.device)) }
@@ -140,7 +164,11 @@ impl<D: ModeDevice, A: Allocator + Clone> Terminal<D, A> {
         }
     }
 
-    /// Sets the mode that stood before raw mode. Where raw mode isn't on nothing is done.
+    /// Sets the mode that was set before raw mode. If raw mode isn't on, nothing is done.
+    ///
+    /// # Errors
+    ///
+    /// The device's. Then raw mode counts as on, as before.
     pub fn disable_raw_mode(&mut self) -> io::Result<()>
         ensures already { self.old.prior ≡ None → IsOk result × (self.new ≡ self.old) }
         ensures prior { OnOk result (self.new.prior ≡ None) }
@@ -164,6 +192,10 @@ impl<D: ModeDevice, A: Allocator + Clone> Terminal<D, A> {
     }
 
     /// How large the window is.
+    ///
+    /// # Errors
+    ///
+    /// The device's.
     pub fn window_size(&mut self) -> io::Result<WindowSize>
         ensures asked { D.answered self.old.device (Sizes result) self.new.device }
         ensures prior { self.new.prior ≡ self.old.prior }
@@ -173,7 +205,16 @@ impl<D: ModeDevice, A: Allocator + Clone> Terminal<D, A> {
         self.device.window_size()
     }
 
-    /// How many columns and rows the window has.
+    /// How many columns and rows the window has. If the device doesn't report that, they are read from `columns` and `lines`: what
+    /// `tput cols` and `tput lines` wrote.
+    ///
+    /// # Errors
+    ///
+    /// The device's, if `columns` and `lines` don't hold a size either.
+    ///
+    /// ```
+    /// let (columns, rows) = term.size(b"", b"")?;
+    /// ```
     pub fn size(&mut self, columns: &[u8], lines: &[u8]) -> io::Result<(u16, u16)>
         ensures size { (told : Result WindowSize Error) × D.answered self.old.device (Sizes told) self.new.device × (result ≡ told_size told columns.now lines.now) }
         ensures prior { self.new.prior ≡ self.old.prior }
@@ -207,7 +248,14 @@ pub(crate) fn send_query<W: io::Write>(out: &mut W, text: &str) -> io::Result<()
 /// Whether the terminal knows the keyboard protocol: whether `query_keyboard_enhancement_flags` gives flags.
 ///
 /// # Errors
+///
 /// Those of `query_keyboard_enhancement_flags`.
+///
+/// ```
+/// if supports_keyboard_enhancement(&rt, &mut term, &reader, &mut pass, &mut out, &mut clock)? {
+///     execute!(out, colors, PushKeyboardEnhancementFlags(flags))?;
+/// }
+/// ```
 pub fn supports_keyboard_enhancement<
     S: EventSource<A>,
     A: Allocator + Clone,
@@ -237,15 +285,16 @@ pub fn supports_keyboard_enhancement<
     }
 }
 
-/// The flags of the keyboard protocol that stand (kitty keyboard, `CSI ? u`), or `None` where the terminal doesn't know it.
+/// The flags of the keyboard protocol that are set (kitty keyboard, `CSI ? u`), or `None` if the terminal doesn't know it.
 ///
 /// It writes the query and after it one for the terminal's attributes (DA `CSI c`: ECMA-48, 8.3.24), which every terminal answers, flushes,
 /// and waits 2000 ms for the first of both replies. After the flags it waits as long again for the attributes. Replies are taken, and all
-/// other events are held. Where the terminal isn't in raw mode that is switched on before and off after.
+/// other events are held. If the terminal isn't in raw mode, that is switched on before and off after.
 ///
 /// # Errors
-/// The device's where a switch was refused, in place of all else. The writer's where the query couldn't be written. `Other` where no reply
-/// came in time, where other threads had the reader until then, and after a wake-up. Else the source's.
+///
+/// The device's if a switch was refused, in place of all else. The writer's if the query couldn't be written. `Other` if no reply came in
+/// time, if other threads had the reader until then, and after a wake-up. Else the source's.
 pub fn query_keyboard_enhancement_flags<
     S: EventSource<A>,
     A: Allocator + Clone,

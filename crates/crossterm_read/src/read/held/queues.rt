@@ -20,7 +20,7 @@ pub(crate) struct Member<A: Allocator> {
     pub(crate) order: u64,
 }
 
-// A member that stands at its place in the queue of this kind.
+// A member at its place in the queue of this kind.
 #[derive(Clone, Copy)]
 pub(crate) struct Front<'a, A: Allocator> {
     pub(crate) kind: Kind,
@@ -117,7 +117,7 @@ impl<A: Allocator> Queues<A> {
         }
     }
 
-    // The member of this kind at its place, where the kind is wanted.
+    // The member of this kind at its place, if the kind is wanted.
     fn front(&self, wanted: Classes, at: Places, kind: Kind) -> Option<Front<'_, A>>
         ensures { IsEarliest (behind (queue_of self.now) at) (has wanted) (kind ∷ []) result }
     {
@@ -175,7 +175,7 @@ impl<A: Allocator> Queues<A> {
         None
     }
 
-    // Makes room for more than so many members in each queue, and tells for how many there is room.
+    // Makes room for more than so many members in each queue, and returns for how many there is room.
     pub(crate) fn reserve_beyond(&mut self, count: usize) -> Result<usize, AllocError>
         requires { (kind : Kind) → length (queue_of self.old kind) ≤ count }
         ensures same { SameQueues self.old self.new }
@@ -249,7 +249,7 @@ impl<A: Allocator> Queues<A> {
         }
     }
 
-    // An order number above those of all members: the next one, or, where that is the greatest, one after they were numbered anew.
+    // An order number above those of all members: the next one, or, if that is the greatest, one after they were numbered anew.
     pub(crate) fn order_from(&mut self, next: u64) -> u64
         requires { AreJoined (queue_of self.old) × AllByRecursion (λ m. m.order < next) (joined (queue_of self.old)) × (length (joined (queue_of self.old)) < 2 ^ 64 - 1) }
         ensures joins { AreJoined (queue_of self.new) }
@@ -264,7 +264,7 @@ impl<A: Allocator> Queues<A> {
         self.renumber()
     }
 
-    // Numbers the members anew, from 0, in their order, and tells the next number.
+    // Numbers the members anew, from 0, in their order, and returns the next number.
     fn renumber(&mut self) -> u64
         requires { AreJoined (queue_of self.old) × (length (joined (queue_of self.old)) < 2 ^ 64) }
         ensures order { Joins (numbered_anew 0 (joined (queue_of self.old))) (queue_of self.new) }

@@ -57,7 +57,11 @@ pub(crate) fn users<A: Allocator>(event: InternalEvent<A>) -> Event<A>
 impl<S: EventSource<A>, A: Allocator + Clone> EventReader<S, A> {
     /// Takes the first event that the filter admits. It waits for the reader, and then for the event, without a limit.
     ///
-    /// It goes on after a wake-up. Every other fault of the source is answered, and what came until then is held.
+    /// It goes on after a wake-up.
+    ///
+    /// # Errors
+    ///
+    /// Every fault of the source but a wake-up, as `InternalEventReader::read` returns it. What came until then is held.
     pub fn read_by<R: Wait>(
         &self,
         rt: &R,
@@ -79,7 +83,11 @@ impl<S: EventSource<A>, A: Allocator + Clone> EventReader<S, A> {
 
     /// Whether an event is held that the filter admits, within the limit, which counts from the beginning of the call.
     ///
-    /// Where the reader isn't there in time the answer is false, and nothing was asked. Else it is as `InternalEventReader::poll`'s.
+    /// If the reader isn't there in time, it returns false, and nothing was asked. Else it returns what `InternalEventReader::poll` does.
+    ///
+    /// # Errors
+    ///
+    /// Those of `InternalEventReader::poll`. If the reader isn't there in time, that is no error.
     pub fn poll_by<C: Clock, R: Wait>(
         &self,
         rt: &R,
@@ -111,6 +119,7 @@ impl<S: EventSource<A>, A: Allocator + Clone> EventReader<S, A> {
     /// Takes the first event of the user, as `read_by` does by `AnyFilter::Event`.
     ///
     /// # Errors
+    ///
     /// The source's, but a wake-up.
     pub fn read<R: Wait>(&self, rt: &R, pass: &mut Pass<S, A>) -> io::Result<Event<A>>
         requires { IsPassOf self.now pass.old }
@@ -126,6 +135,7 @@ impl<S: EventSource<A>, A: Allocator + Clone> EventReader<S, A> {
     /// Whether an event of the user is held within the limit, as `poll_by` by `AnyFilter::Event`.
     ///
     /// # Errors
+    ///
     /// The source's, but a wake-up, which ends the poll with `false`.
     pub fn poll<C: Clock, R: Wait>(
         &self,

@@ -31,11 +31,15 @@ fn flagged(
 }
 
 impl<S: EventSource<A>, A: Allocator + Clone> EventReader<S, A> {
-    /// Takes the first reply that tells the flags of the keyboard protocol, or the terminal's attributes alone, for which the answer
-    /// is `None`, within the limit, which counts from the beginning of the call.
+    /// Takes the first reply that reports the flags of the keyboard protocol, within the limit, which counts from the beginning of the
+    /// call. If the terminal's attributes come first, it takes them and returns `None`.
     ///
-    /// After the flags it waits as long again for the attributes, and takes them where they come. The flags are the answer in any
-    /// case. Nothing is written. Errors are those of `position_by`.
+    /// After the flags it waits as long again for the attributes, and takes them if they come. The flags are returned in any case. Nothing
+    /// is written.
+    ///
+    /// # Errors
+    ///
+    /// Those of `position_by`. An error of the second wait isn't returned.
     pub fn keyboard_by<C: Clock, R: Wait>(
         &self,
         rt: &R,

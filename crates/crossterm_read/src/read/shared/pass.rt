@@ -8,8 +8,8 @@ use std::alloc::{Allocator, Global};
 
 /// What one thread holds of a shared reader, and hands in at each call.
 ///
-/// In proofs it carries what the thread knows: the calls that it has seen, of its own and of other passes, in the order of the one
-/// history in which all calls stand.
+/// In proofs it carries what the thread knows: the calls that it has seen, of its own and of other passes, in the order of the one history
+/// of all calls.
 #[derive(Drop)]
 pub struct Pass<S, A: Allocator = Global> {
     pub(crate) seat: Seat<S, A>,

@@ -34,11 +34,15 @@ fn placed<A: Allocator>(taken: io::Result<(InternalEvent<A>, u64)>) -> io::Resul
 }
 
 impl<S: EventSource<A>, A: Allocator + Clone> EventReader<S, A> {
-    /// Takes the first reply that tells the cursor's place, within the limit, which counts from the beginning of the call: column
-    /// and row.
+    /// Takes the first reply that reports the cursor's place, within the limit, which counts from the beginning of the call: column and
+    /// row.
     ///
-    /// Nothing is written. The error is `Other` where no reply came in time, where the reader wasn't there in time, and after a wake-up,
-    /// and else the source's.
+    /// Nothing is written.
+    ///
+    /// # Errors
+    ///
+    /// `Other` if no reply came in time, if the reader wasn't there in time, and after a wake-up; `OutOfMemory` if memory was refused; and
+    /// else the source's.
     pub fn position_by<C: Clock, R: Wait>(
         &self,
         rt: &R,

@@ -18,7 +18,7 @@ use std::sync::{Arc, Wait};
 
 /// A reader that threads share: each call takes the reader, makes one call of it, and puts it back.
 ///
-/// Whoever calls hands in a pass. The calls of all passes stand in one history, which one reader of one thread could have made.
+/// Whoever calls hands in a pass. The calls of all passes are in one history, which one reader of one thread could have made.
 ///
 /// ```
 /// let (reader, mut passes) = EventReader::new(&rt, alloc, reader, 1)?;
@@ -37,7 +37,9 @@ pub struct EventReader<S: EventSource<A>, A: Allocator = Global> {
 impl<S: EventSource<A>, A: Allocator + Clone> EventReader<S, A> {
     /// A reader to share, and so many passes for it, which are numbered from 0.
     ///
-    /// The error is `OutOfMemory`. Then the reader is gone, with all that it holds.
+    /// # Errors
+    ///
+    /// `OutOfMemory` if memory was refused. Then the reader is gone, with all that it holds.
     pub fn new<R: Wait>(
         rt: &R,
         alloc: A,
@@ -55,7 +57,11 @@ impl<S: EventSource<A>, A: Allocator + Clone> EventReader<S, A> {
         Ok((EventReader { room }, made))
     }
 
-    /// The same reader, for another thread. The error is `OutOfMemory`.
+    /// The same reader, for another thread.
+    ///
+    /// # Errors
+    ///
+    /// `OutOfMemory` if no further share can be made.
     pub fn share(&self) -> io::Result<EventReader<S, A>>
         ensures ok { IfOk result (λ r. IsShareOf r self.now) }
         ensures err { IfErr result (λ e. error_kind e ≡ OutOfMemory) }
@@ -67,7 +73,17 @@ impl<S: EventSource<A>, A: Allocator + Clone> EventReader<S, A> {
 }
 
 impl<S: EventSource<A>, A: Allocator> EventReader<S, A> {
-    /// A waker of the device, which ends a poll with `false`. It waits for nobody, whoever has the reader. The error is `OutOfMemory`.
+    /// A waker of the device, which ends a poll with `false`. It waits for nobody, whoever has the reader.
+    ///
+    /// # Errors
+    ///
+    /// `OutOfMemory` if no further share of the waker can be made.
+    ///
+    /// ```
+    /// let waker = reader.waker()?;
+    /// // In another thread, to end a poll:
+    /// waker.wake()?;
+    /// ```
     pub fn waker(&self) -> io::Result<Waker>
         ensures err { IfErr result (λ e. error_kind e ≡ OutOfMemory) }
     {
@@ -76,7 +92,7 @@ impl<S: EventSource<A>, A: Allocator> EventReader<S, A> {
 
     /// Two passes meet: the one takes in what the other has seen, and the other is gone.
     ///
-    /// So a program knows that the calls of both stand in one history, at different places.
+    /// So a program knows that the calls of both are in one history, at different places.
     pub fn meet(&self, one: &mut Pass<S, A>, other: Pass<S, A>)
         requires passes { IsPassOf self.now one.old × IsPassOf self.now other }
         ensures pass { IsPassOf self.now one.new }
@@ -86,9 +102,9 @@ impl<S: EventSource<A>, A: Allocator> EventReader<S, A> {
         self.room.meet::<Brand>(&mut one.seat, seat);
     }
 
-    /// Takes the reader out for good, where no other share of it is left, and else gives `None`.
+    /// Takes the reader out for good, if no other share of it is left, and else returns `None`.
     ///
-    /// The reader holds what was left, and goes on where the last call ended. After that the pass is of no more use. Where `None` is given
+    /// The reader holds what was left, and goes on where the last call ended. After that the pass is of no more use. If it returns `None`,
     /// the pass is as it was, and the other shares take it.
     pub fn close<R: Wait>(self, rt: &R, pass: &mut Pass<S, A>) -> Option<InternalEventReader<S, A>>
         requires { IsPassOf self pass.old }

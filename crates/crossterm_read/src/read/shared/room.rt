@@ -1,4 +1,4 @@
-//! The slot in which a shared reader stands, and the room in which callers wait for it.
+//! The slot that holds a shared reader, and the room in which callers wait for it.
 ghost use Rattle.std.specs.Prelude.{◌≡◌, ◌≤◌, ◌<◌, ◌-◌, ℕ, suc, All, map, Option, Some, None, IfSome, IfNone, IfOk, IfErr};
 ghost use Rattle.std.specs.IoError.{error_kind};
 ghost use Rattle.std.specs.List.{range_with_len};
@@ -25,7 +25,7 @@ use std::io;
 use std::sync::{Condvar, Wait};
 use std::time::Duration;
 
-/// The slot in which the reader stands, and beside it what is told of each put.
+/// The slot that holds the reader, and beside it what reports each put.
 #[derive(Drop)]
 pub struct Room<S: EventSource<A>, A: Allocator> {
     pub(crate) slot: Slot<S, A>,
@@ -35,7 +35,7 @@ pub struct Room<S: EventSource<A>, A: Allocator> {
 }
 
 impl<S: EventSource<A>, A: Allocator + Clone> Room<S, A> {
-    // The reader stands in the slot. The first pass stands for so many others.
+    // The reader is in the slot. The first pass represents so many others.
     pub(crate) fn new<M: Others, R: Wait>(
         rt: &R,
         alloc: A,
@@ -90,7 +90,7 @@ impl<S: EventSource<A>, A: Allocator> Room<S, A> {
         Ok(made)
     }
 
-    // One of the passes for which the first one stands.
+    // One of the passes that the first one represents.
     pub(crate) fn another(&self, first: &mut Seat<S, A>) -> Pass<S, A>
         requires seat { queue.IsPassOf self.now.slot first.old }
         requires first { (o : ReaderState S) × (others : ℕ) × (left : ℕ) × (left < others) × (view first.old ≡ first_of o others (suc left)) }
@@ -167,7 +167,7 @@ impl<S: EventSource<A>, A: Allocator> Room<S, A> {
         }
     }
 
-    // Takes the reader out, where it is there. It waits for nobody.
+    // Takes the reader out, if it is there. It waits for nobody.
     pub(crate) fn try_take<R: Wait>(
         &self,
         rt: &R,

@@ -1,4 +1,4 @@
-//! The rule of the slot, and what each step on it tells.
+//! The rule of the slot, and what each step on it says.
 ghost use Rattle.std.specs.Prelude.{◌≡◌, ℕ, List, [], ⊤};
 ghost use Rattle.crossterm_read.specs.History.{Entry};
 ghost use Rattle.crossterm_read.specs.inside.Slot.{Kept, Learnt, Put, Taken, first_of, newcomer, one_less, one_more, taught};
@@ -11,7 +11,7 @@ use crossbeam_queue::{Pass, RuledArrayQueue};
 use std::alloc::Allocator;
 use std::marker::{Brand, PhantomData};
 
-/// All calls stand in one legal history.
+/// All calls are in one legal history.
 pub struct OneHistory;
 
 impl<S: EventSource<A>, A: Allocator> Protocol<InternalEventReader<S, A>, View<S>> for OneHistory {
@@ -20,7 +20,7 @@ impl<S: EventSource<A>, A: Allocator> Protocol<InternalEventReader<S, A>, View<S
     ghost first = { newcomer };
 }
 
-/// For how many passes besides itself the first one stands.
+/// How many passes besides itself the first one represents.
 pub trait Others {
     ghost others: { ℕ };
 }

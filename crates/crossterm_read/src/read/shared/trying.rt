@@ -45,9 +45,9 @@ fn users_tried<A: Allocator>(
 }
 
 impl<S: EventSource<A>, A: Allocator + Clone> EventReader<S, A> {
-    // Takes the first event of the user, where one is held or comes at once: the device is asked once at most, with limit zero.
+    // Takes the first event of the user, if one is held or comes at once: the device is asked once at most, with limit zero.
     //
-    // It waits for nobody: where another has the reader, the answer is `None`.
+    // It waits for nobody: if another has the reader, it returns `None`.
     pub(crate) fn try_read<R: Wait>(
         &self,
         rt: &R,

@@ -2,7 +2,7 @@
 
 use std::marker::{Model, PhantomData};
 
-/// What a pass knows of the reader that it shares. It stands in proofs alone: no value of it is made.
+/// What a pass knows of the reader that it shares. It is used in proofs alone: no value of it is made.
 pub struct View<S>(PhantomData<S>);
 
 impl<S> Model for View<S> {

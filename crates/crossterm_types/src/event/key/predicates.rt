@@ -64,7 +64,7 @@ impl KeyCode {
         matches!(self, KeyCode::Char(m) if *m == c)
     }
 
-    /// The character, where the key is one; else `None`.
+    /// The character, if the key is one; else `None`.
     pub fn as_char(&self) -> Option<char>
         ensures { (c : ℕ) → (result ≡ Some c) ↔ (self.now ≡ KeyCode.Char c) }
     {

@@ -29,10 +29,11 @@ impl KeyCode {
         ensures { FitsCode self }
     {}
 
-    /// The key as JSON: its variant, and where it holds something an object of the variant and that, as `{"F":5}` and `{"Char":"a"}`.
+    /// The key as JSON: its variant, and if it holds something, an object of the variant and that, as `{"F":5}` and `{"Char":"a"}`.
     ///
     /// # Errors
-    /// `Memory` where memory for it was refused.
+    ///
+    /// `Memory` if memory for it was refused.
     #[tactic(auto, using(crate::proofs::ValueLaws::code_back, crossterm_flags::proofs::ValueLaws::told_back))]
     pub fn to_value(&self, alloc: Global) -> Result<Value, ValueFault>
         ensures tells { Tells (code_value self.now) result }
@@ -71,7 +72,7 @@ impl KeyCode {
         }
     }
 
-    /// The key that JSON tells.
+    /// The key that JSON represents.
     fn read(value: &Value) -> Option<KeyCode>
         ensures { result ≡ reads_code (view value.now) }
     {
@@ -84,10 +85,11 @@ impl KeyCode {
         }
     }
 
-    /// The key that JSON tells. It takes no memory.
+    /// The key that JSON represents. It takes no memory.
     ///
     /// # Errors
-    /// `Shape` where the JSON tells no key.
+    ///
+    /// `Shape` if the JSON represents no key.
     pub fn from_value(value: &Value) -> Result<KeyCode, ValueFault>
         ensures { Reads (λ x. x) (reads_code (view value.now)) result }
     {
@@ -106,7 +108,8 @@ impl KeyEvent {
     /// The key as a JSON object of its fields, as they are, and not in the normal form.
     ///
     /// # Errors
-    /// `Memory` where memory for it was refused.
+    ///
+    /// `Memory` if memory for it was refused.
     #[tactic(auto, using(crate::proofs::ValueLaws::key_back, crossterm_flags::proofs::ValueLaws::told_back))]
     pub fn to_value(&self, alloc: Global) -> Result<Value, ValueFault>
         ensures tells { Tells (key_value self.now) result }
@@ -120,17 +123,18 @@ impl KeyEvent {
         Ok(json!(in alloc; {"code": code, "kind": kind, "modifiers": modifiers, "state": state})?)
     }
 
-    /// The key that a JSON object of the fields `code`, `modifiers`, `kind` and `state` and no other tells. It takes no memory.
+    /// The key that a JSON object represents which has the fields `code`, `modifiers`, `kind` and `state` and no other. It takes no memory.
     ///
     /// # Errors
-    /// `Shape` where the JSON is no such object.
+    ///
+    /// `Shape` if the JSON is no such object.
     pub fn from_value(value: &Value) -> Result<KeyEvent, ValueFault>
         ensures { Reads (λ x. x) (reads_key (view value.now)) result }
     {
         shaped(KeyEvent::read(value))
     }
 
-    /// The key that JSON tells.
+    /// The key that JSON represents.
     pub(crate) fn read(value: &Value) -> Option<KeyEvent>
         ensures { result ≡ reads_key (view value.now) }
     {

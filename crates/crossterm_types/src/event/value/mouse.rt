@@ -16,7 +16,8 @@ impl MouseEventKind {
     /// What the mouse did as JSON: its variant, and with a button an object of the variant and the button, as `{"Down":"Left"}`.
     ///
     /// # Errors
-    /// `Memory` where memory for it was refused.
+    ///
+    /// `Memory` if memory for it was refused.
     #[tactic(auto, using(crate::proofs::ValueLaws::mouse_kind_back, crossterm_flags::proofs::ValueLaws::told_back))]
     pub fn to_value(&self, alloc: Global) -> Result<Value, ValueFault>
         ensures tells { Tells (mouse_kind_value self.now) result }
@@ -42,7 +43,7 @@ impl MouseEventKind {
         }
     }
 
-    /// What the mouse did, as JSON tells it.
+    /// What the mouse did, by its JSON.
     fn read(value: &Value) -> Option<MouseEventKind>
         ensures { result ≡ reads_mouse_kind (view value.now) }
     {
@@ -55,10 +56,11 @@ impl MouseEventKind {
         }
     }
 
-    /// What the mouse did, as JSON tells it. It takes no memory.
+    /// What the mouse did, by its JSON. It takes no memory.
     ///
     /// # Errors
-    /// `Shape` where the JSON tells nothing that the mouse does.
+    ///
+    /// `Shape` if the JSON represents nothing that the mouse does.
     pub fn from_value(value: &Value) -> Result<MouseEventKind, ValueFault>
         ensures { Reads (λ x. x) (reads_mouse_kind (view value.now)) result }
     {
@@ -75,7 +77,8 @@ impl MouseEvent {
     /// The mouse event as a JSON object of its fields.
     ///
     /// # Errors
-    /// `Memory` where memory for it was refused.
+    ///
+    /// `Memory` if memory for it was refused.
     #[tactic(auto, using(crate::proofs::ValueLaws::mouse_back, crossterm_flags::proofs::ValueLaws::told_back))]
     pub fn to_value(&self, alloc: Global) -> Result<Value, ValueFault>
         ensures tells { Tells (mouse_value self.now) result }
@@ -89,17 +92,19 @@ impl MouseEvent {
         Ok(json!(in alloc; {"column": column, "kind": kind, "modifiers": modifiers, "row": row})?)
     }
 
-    /// The mouse event that a JSON object of the fields `kind`, `column`, `row` and `modifiers` and no other tells. It takes no memory.
+    /// The mouse event that a JSON object represents which has the fields `kind`, `column`, `row` and `modifiers` and no other. It takes no
+    /// memory.
     ///
     /// # Errors
-    /// `Shape` where the JSON is no such object.
+    ///
+    /// `Shape` if the JSON is no such object.
     pub fn from_value(value: &Value) -> Result<MouseEvent, ValueFault>
         ensures { Reads (λ x. x) (reads_mouse (view value.now)) result }
     {
         shaped(MouseEvent::read(value))
     }
 
-    /// The mouse event that JSON tells.
+    /// The mouse event that JSON represents.
     pub(crate) fn read(value: &Value) -> Option<MouseEvent>
         ensures { result ≡ reads_mouse (view value.now) }
     {

@@ -1,4 +1,4 @@
-//! JSON values of enums whose variants hold nothing, and the names of variants by which others are told.
+//! JSON values of enums whose variants hold nothing, and the names of those variants of other enums that hold nothing.
 ghost use Rattle.std.specs.Prelude.{◌≡◌, IfOk, Some};
 ghost use Rattle.serde_json.specs.Data.{string};
 ghost use Rattle.serde_json.specs.View.{view};
@@ -26,7 +26,8 @@ impl KeyEventKind {
     /// Its variant as a JSON text.
     ///
     /// # Errors
-    /// `Memory` where memory for it was refused.
+    ///
+    /// `Memory` if memory for it was refused.
     #[tactic(auto, using(crate::proofs::ValueLaws::kind_back, crossterm_flags::proofs::ValueLaws::told_back))]
     pub fn to_value(&self, alloc: Global) -> Result<Value, ValueFault>
         ensures tells { Tells (string (variant kinds self.now)) result }
@@ -38,7 +39,8 @@ impl KeyEventKind {
     /// The kind whose variant a JSON text is. It takes no memory.
     ///
     /// # Errors
-    /// `Shape` where the JSON is no such text.
+    ///
+    /// `Shape` if the JSON is no such text.
     pub fn from_value(value: &Value) -> Result<KeyEventKind, ValueFault>
         ensures { Reads (λ x. x) (reads_variant kinds (view value.now)) result }
     {
@@ -61,7 +63,8 @@ impl MediaKeyCode {
     /// Its variant as a JSON text.
     ///
     /// # Errors
-    /// `Memory` where memory for it was refused.
+    ///
+    /// `Memory` if memory for it was refused.
     #[tactic(auto, using(crate::proofs::ValueLaws::media_back, crossterm_flags::proofs::ValueLaws::told_back))]
     pub fn to_value(&self, alloc: Global) -> Result<Value, ValueFault>
         ensures tells { Tells (string (variant media_keys self.now)) result }
@@ -73,7 +76,8 @@ impl MediaKeyCode {
     /// The key whose variant a JSON text is. It takes no memory.
     ///
     /// # Errors
-    /// `Shape` where the JSON is no such text.
+    ///
+    /// `Shape` if the JSON is no such text.
     pub fn from_value(value: &Value) -> Result<MediaKeyCode, ValueFault>
         ensures { Reads (λ x. x) (reads_variant media_keys (view value.now)) result }
     {
@@ -96,7 +100,8 @@ impl ModifierKeyCode {
     /// Its variant as a JSON text.
     ///
     /// # Errors
-    /// `Memory` where memory for it was refused.
+    ///
+    /// `Memory` if memory for it was refused.
     #[tactic(auto, using(crate::proofs::ValueLaws::modifier_back, crossterm_flags::proofs::ValueLaws::told_back))]
     pub fn to_value(&self, alloc: Global) -> Result<Value, ValueFault>
         ensures tells { Tells (string (variant modifier_keys self.now)) result }
@@ -108,7 +113,8 @@ impl ModifierKeyCode {
     /// The key whose variant a JSON text is. It takes no memory.
     ///
     /// # Errors
-    /// `Shape` where the JSON is no such text.
+    ///
+    /// `Shape` if the JSON is no such text.
     pub fn from_value(value: &Value) -> Result<ModifierKeyCode, ValueFault>
         ensures { Reads (λ x. x) (reads_variant modifier_keys (view value.now)) result }
     {
@@ -128,7 +134,8 @@ impl MouseButton {
     /// Its variant as a JSON text.
     ///
     /// # Errors
-    /// `Memory` where memory for it was refused.
+    ///
+    /// `Memory` if memory for it was refused.
     #[tactic(auto, using(crate::proofs::ValueLaws::button_back, crossterm_flags::proofs::ValueLaws::told_back))]
     pub fn to_value(&self, alloc: Global) -> Result<Value, ValueFault>
         ensures tells { Tells (string (variant buttons self.now)) result }
@@ -140,7 +147,8 @@ impl MouseButton {
     /// The button whose variant a JSON text is. It takes no memory.
     ///
     /// # Errors
-    /// `Shape` where the JSON is no such text.
+    ///
+    /// `Shape` if the JSON is no such text.
     pub fn from_value(value: &Value) -> Result<MouseButton, ValueFault>
         ensures { Reads (λ x. x) (reads_variant buttons (view value.now)) result }
     {
