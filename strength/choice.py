@@ -64,6 +64,12 @@ def outside_functions(text):
     return by_heads(ITEM, kept + text[at:])
 
 
+def without_comments(file, text):
+    """A source, or a file of specs or proofs, without the lines that are comments: these change no answer."""
+    mark = "//" if file.endswith(".rt") else "--"
+    return re.sub(rf"^[ \t]*{mark}.*\n", "", text, flags=re.M)
+
+
 def definitions(text):
     """The definitions of a file of specs or proofs by their names."""
     return by_heads(DEFINED, text)
@@ -118,8 +124,8 @@ class Changes:
 
     @functools.lru_cache(maxsize=None)
     def differing(self, file, reads):
-        """The names under which a file reads otherwise than it did."""
-        old, new = reads(self.then(file)), reads(self.now(file))
+        """The names under which a file reads otherwise than it did, but for its comments."""
+        old, new = (reads(without_comments(file, text)) for text in (self.then(file), self.now(file)))
         return {it for it in {*old, *new} if old.get(it) != new.get(it)}
 
     def changed_names(self, file):

@@ -18,8 +18,8 @@ use Rattle.recorder.specs.Recording.{Recording, Records, recorded}
 use Rattle.recorder.specs.Replaying.{PlaysAlike}
 use Rattle.example_contracts.specs.Recorded.{CallsReplay}
 
-reads : ℕ → AnyFilter → List Call
-reads tries f = call.Read tries f ∷ call.Read tries f ∷ []
+two_calls : ℕ → AnyFilter → List Call
+two_calls tries f = call.Read tries f ∷ call.Read tries f ∷ []
 
 pub two_replay : {D W : Type 0} (contents : W → Option (List ℕ)) (answering : Answering D) → PlaysAlike contents answering.answered
     → (tries : ℕ) (f : AnyFilter) (s m t : Source (Recording D W)) (one two : EventStore) (zs ys : List SourceAnswer) (p q : Replied) (a b : Said)
@@ -27,10 +27,10 @@ pub two_replay : {D W : Type 0} (contents : W → Option (List ℕ)) (answering 
     → SourceDrawn (Records contents answering.answered) s zs m → ReadStep (UpTo tries) (admitted f) zs empty one p → a ≡ shown p
     → SourceDrawn (Records contents answering.answered) m ys t → ReadStep (UpTo tries) (admitted f) ys one two q → b ≡ shown q
     → CallsReplay contents answering.answered s.device t.device (call.Read tries f ∷ call.Read tries f ∷ []) (a ∷ b ∷ []) (map (λ h. h.0) two.held)
-unfolding reads
+unfolding two_calls
 two_replay {D} {W} contents answering law tries f s m t one two zs ys p q a b new begun still d e x u v y =
-    let r = law s t (reads tries f) (zs ∷ ys ∷ []) (p ∷ q ∷ []) two new begun still drawn (one, e, (two, v, refl)) in
-    (joined (zs ∷ ys ∷ []), r.0, λ ends. subst (λ (l : List Said). Plays (recorded r.0.given) (reads tries f) l (map (λ h. h.0) two.held)) (sym same) (r.1 ends))
+    let r = law s t (two_calls tries f) (zs ∷ ys ∷ []) (p ∷ q ∷ []) two new begun still drawn (one, e, (two, v, refl)) in
+    (joined (zs ∷ ys ∷ []), r.0, λ ends. subst (λ (l : List Said). Plays (recorded r.0.given) (two_calls tries f) l (map (λ h. h.0) two.held)) (sym same) (r.1 ends))
   where
     both : SourceDrawn (Records contents answering.answered) s (zs ++ ys) t
     both = source_on (recorder_answering contents answering).answered (recorder_answering contents answering).on s m t zs ys d u
