@@ -212,7 +212,7 @@ impl<A: Allocator> Matcher<A> {
         self.undecided.as_slice()
     }
 
-    /// Takes the first outcome that waits, or returns `None` if there is none. This takes no memory.
+    /// Takes the first outcome that waits, or returns `None` if there is none. It asks for no memory, as is only tested.
     ///
     /// ```
     /// while let Some(outcome) = matcher.next() {

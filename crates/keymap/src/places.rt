@@ -1,4 +1,5 @@
-//! The table behind a keymap: what some chords lead to, found by their hash. So a look takes as long for a thousand lists as for ten.
+//! The table behind a keymap: what some chords lead to, found by their hash. So a look is meant to take as long for a thousand lists as for ten; its
+//! steps aren't counted by a contract.
 ghost use Rattle.std.specs.Prelude.{◌≡◌, ◌≤◌, ◌<◌, ◌+◌, ◌++◌, ◌∷◌, [], false, length, cond, take, min, List, OnOk};
 ghost use Rattle.std.specs.HashMap.{spare};
 ghost use Rattle.std.specs.List.{list_any};

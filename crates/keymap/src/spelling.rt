@@ -237,7 +237,8 @@ fn read_parts(bits: u8, text: &str) -> Result<KeyEvent, ChordFault>
 
 /// The chord that a text spells, as `ctrl-x`, `shift-f5`, `G`, `space` or `-`.
 ///
-/// Modifiers come first, each before a hyphen, in any order: `shift`, `ctrl`, `alt`, `super`, `hyper`, `meta`. The key is a character, `f`
+/// Modifiers come first, each before a hyphen, in any order: `shift`, `ctrl`, `alt`, `super`, `hyper`, `meta`, and
+/// for the two bits that have no name `mod64` and `mod128`. The key is a character, `f`
 /// and a number below 256, or its variant's name in small letters, as `pageup` and `esc`. A blank is `space`, and a media key has `media`
 /// before its name, as `mediaplay`. A large letter needs no `shift`. Words are distinguished by case, and a modifier that is said twice
 /// counts once.

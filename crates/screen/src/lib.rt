@@ -1,7 +1,7 @@
 //! A screen above crossterm: a program fills a `Buffer`, and `Screen::draw` writes what makes the terminal show it.
 //!
-//! Only cells that changed are written, side by side without a move between them, and a style only where it changes. Each frame is within
-//! synchronized output.
+//! Only cells that changed are written. Neighbours are written without a move between them, and a style if it is another than before. Each
+//! frame is within synchronized output. Of this only the count of characters is proved; the rest is tested.
 //!
 //! ```
 //! let mut buffer = Buffer::new(alloc, 80, 24)?;
@@ -21,14 +21,14 @@
 //! If a frame broke off within a control sequence, the next one begins with ESC, which ends such a sequence at a terminal. The definitions
 //! speak of whole sequences and don't say so.
 //!
-//! Memory is taken by `new`, by `resize`, and by a frame with more strokes than any before it. A stroke is a move, a style, a character, or
-//! one of a handful at the frame's ends.
+//! `new` and `resize` take memory, and so does a frame with more strokes than any before it, as is only tested. A stroke is a move, a style,
+//! a character, or one of a handful at the frame's ends.
 //!
 //! What is proved, beyond safety:
 //!
 //! | Proved | By the contract of |
 //! |---|---|
-//! | a frame shows the buffer (the fourth theorem): it leads from each grid that shows the last one to a grid that shows this one, with the cursor where it was asked to be, and prints one character for each cell that differs and no other; an error says what was written, and then nothing is known of the cells | `Screen::draw` |
+//! | a frame shows the buffer (the fourth theorem): it leads from each grid that shows the last one to a grid that shows this one, with the cursor where it was asked to be, and prints one character for each cell that differs and no other; a wrong size or place changes nothing; at a writer's error a beginning of the frame was written, and after that, or refused memory, nothing is known of the cells | `Screen::draw` |
 //! | a character that doesn't take one column is refused by name, and a refusal changes nothing; a text is printed into a row up to the last column, and the columns that it took are returned | `Buffer::{new, resize, fill, set, print}` |
 //!
 //! What to believe, in the order in which it reads (`specs/`), and where it is proved:
