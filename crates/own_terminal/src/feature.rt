@@ -1,5 +1,14 @@
 //! What a program switches on in its terminal, and off again.
 
+ghost use Rattle.std.specs.Prelude.{◌≡◌, [], IfSome, OnErr, OnOk};
+ghost use Rattle.std.specs.Io.KnownBytes.{Appends};
+ghost use Rattle.crossterm_command.specs.Tokens.{text_of};
+ghost use Rattle.crossterm_command.specs.Writing.{AppendsFront};
+ghost use Rattle.crossterm_command.specs.declared.color_output.ColorOutput.TheVariants.{Enabled};
+ghost use Rattle.own_terminal.specs.Features.{EndsOffered, all_off, off, on};
+
+use arrayvec::ArrayString;
+use crossterm::Command;
 use crossterm::cursor::{Hide, Show};
 use crossterm::event::{
     DisableBracketedPaste, DisableFocusChange, DisableMouseCapture, EnableBracketedPaste,
@@ -8,10 +17,9 @@ use crossterm::event::{
 };
 use crossterm::style::ColorOutput;
 use crossterm::terminal::{EnterAlternateScreen, LeaveAlternateScreen};
-use crossterm::{QueueableCommand, execute};
-use std::io::{self, Write};
-
-const COLORS: ColorOutput = ColorOutput::Enabled;
+use crossterm_command::write_text;
+use std::fmt;
+use std::io::{self, ErrorKind, Write};
 
 /// What a program switches on in its terminal. A session switches it off again when it ends.
 #[derive(Clone, Copy, PartialEq, Eq, Debug)]
@@ -30,30 +38,70 @@ pub enum Feature {
     Keyboard(KeyboardEnhancementFlags),
 }
 
+/// Writes a text, and flushes.
+fn write_flushed<W: Write>(out: &mut W, text: &str) -> io::Result<()>
+    ensures ok { OnOk result (Appends (W.contents out.old) (W.contents out.new) text.now) }
+    ensures err { OnErr result (AppendsFront (W.contents out.old) (W.contents out.new) text.now) }
+{
+    match write_text(out, text) {
+        Ok(()) => out.flush(),
+        Err(error) => Err(error),
+    }
+}
+
+/// Writes a command of a short text, and flushes. At an error a beginning was written.
+fn send<W: Write, C: Command>(out: &mut W, command: &C) -> io::Result<()>
+    ensures ok { OnOk result (IfSome (C.text command.now Enabled) (Appends (W.contents out.old) (W.contents out.new))) }
+    ensures err { OnErr result (IfSome (C.text command.now Enabled) (AppendsFront (W.contents out.old) (W.contents out.new))) }
+{
+    let mut text = ArrayString::<48>::new();
+    match command.write_ansi(&mut text, ColorOutput::Enabled) {
+        Ok(()) => write_flushed(out, text.as_str()),
+        Err(fmt::Error) => Err(io::Error::from(ErrorKind::Other)),
+    }
+}
+
 impl Feature {
     /// Switches it on.
-    pub(crate) fn enter<W: Write>(self, out: &mut W) -> io::Result<()> {
+    pub(crate) fn enter<W: Write>(self, out: &mut W) -> io::Result<()>
+        ensures ok { OnOk result (Appends (W.contents out.old) (W.contents out.new) (text_of (on self))) }
+        ensures err { OnErr result (AppendsFront (W.contents out.old) (W.contents out.new) (text_of (on self))) }
+    {
         match self {
-            Feature::AlternateScreen => execute!(out, COLORS, EnterAlternateScreen),
-            Feature::HiddenCursor => execute!(out, COLORS, Hide),
-            Feature::MouseCapture => execute!(out, COLORS, EnableMouseCapture),
-            Feature::BracketedPaste => execute!(out, COLORS, EnableBracketedPaste),
-            Feature::FocusChange => execute!(out, COLORS, EnableFocusChange),
-            Feature::Keyboard(flags) => {
-                execute!(out, COLORS, PushKeyboardEnhancementFlags(flags))
-            }
+            Feature::AlternateScreen => send(out, &EnterAlternateScreen),
+            Feature::HiddenCursor => send(out, &Hide),
+            Feature::MouseCapture => send(out, &EnableMouseCapture),
+            Feature::BracketedPaste => send(out, &EnableBracketedPaste),
+            Feature::FocusChange => send(out, &EnableFocusChange),
+            Feature::Keyboard(flags) => send(out, &PushKeyboardEnhancementFlags(flags)),
         }
     }
 
     /// Switches it off.
-    pub(crate) fn leave<W: Write>(self, out: &mut W) -> io::Result<()> {
+    pub(crate) fn leave<W: Write>(self, out: &mut W) -> io::Result<()>
+        ensures ok { OnOk result (Appends (W.contents out.old) (W.contents out.new) (text_of (off self))) }
+        ensures err { OnErr result (AppendsFront (W.contents out.old) (W.contents out.new) (text_of (off self))) }
+    {
         match self {
-            Feature::AlternateScreen => execute!(out, COLORS, LeaveAlternateScreen),
-            Feature::HiddenCursor => execute!(out, COLORS, Show),
-            Feature::MouseCapture => execute!(out, COLORS, DisableMouseCapture),
-            Feature::BracketedPaste => execute!(out, COLORS, DisableBracketedPaste),
-            Feature::FocusChange => execute!(out, COLORS, DisableFocusChange),
-            Feature::Keyboard(_) => execute!(out, COLORS, PopKeyboardEnhancementFlags),
+            Feature::AlternateScreen => send(out, &LeaveAlternateScreen),
+            Feature::HiddenCursor => send(out, &Show),
+            Feature::MouseCapture => send(out, &DisableMouseCapture),
+            Feature::BracketedPaste => send(out, &DisableBracketedPaste),
+            Feature::FocusChange => send(out, &DisableFocusChange),
+            Feature::Keyboard(_) => send(out, &PopKeyboardEnhancementFlags),
         }
     }
+}
+
+/// Switches features off, the last one first, and takes them from their list. All are tried, and the error is the first one's.
+pub(crate) fn switch_off<W: Write>(features: &mut Vec<Feature>, out: &mut W) -> io::Result<()>
+    ensures none { features.new.items ≡ [] }
+    ensures offered { EndsOffered features.old.items (W.contents out.old) (W.contents out.new) }
+    ensures ok { OnOk result (Appends (W.contents out.old) (W.contents out.new) (all_off features.old.items)) }
+{
+    let mut left = Ok(());
+    while let Some(feature) = features.pop() {
+        left = left.and(feature.leave(out));
+    }
+    left
 }

@@ -23,7 +23,25 @@
 //!
 //! The library opens nothing by itself, so the pipes of `with_terminal` are opened here. A session is dropped at the end of `main` or by a
 //! `?`. Then all that it switched on is off again, and the terminal's mode is the one from before.
+//!
+//! What is proved, beyond safety:
+//!
+//! | Proved | By the contract of |
+//! |---|---|
+//! | a feature that is turned on writes exactly its text, and is listed, also if the writer fails; leaving empties the list, writes what turns each off, the last one first, and sets the mode from before; at an error it says what the writer and the device were left with | `Session::{turn_on, leave, enable_raw_mode, disable_raw_mode}` |
+//! | events are read by the calls of the only pass of a new reader; polls, queries and sizes are those of the libraries, and change nothing else | `Session::{over, read, poll, position, supports_keyboard_enhancement, size}` |
+//!
+//! What to believe, in the order in which it reads (`specs/`), and where it is proved:
+//!
+//! | Definitions | Of | Contract |
+//! |---|---|---|
+//! | `Features` | the texts that switch features on and off | `Session::{turn_on, leave}` |
+//! | `Sessions` | the mode that a session ends, and how it begins | `Session::{over, leave, disable_raw_mode}` |
+//!
+//! A function's proof is in `proofs/` at the function's path; if there is no file, the prover found it by itself.
 #![tactic(auto)]
+
+ghost use Rattle.std.specs.Prelude.{◌≡◌, [], IfOk, None};
 
 mod feature;
 mod session;
@@ -76,7 +94,9 @@ pub fn open<R: Files<File = File> + Net>(
     alloc: Global,
     input: Stdin,
     folder: &str,
-) -> io::Result<(Input, Modes)> {
+) -> io::Result<(Input, Modes)>
+    ensures { IfOk result (λ both. both.1.prior ≡ None) }
+{
     let raw = RawFlag::new(alloc)?;
     let sizes = pipe(rt, alloc, folder, "sizes")?;
     let input = PolledDevice::new(rt, alloc, input, raw.share()?, Some(sizes))?;
@@ -95,6 +115,7 @@ pub fn open<R: Files<File = File> + Net>(
 pub fn start<'a, R>(rt: &'a R, input: Stdin, out: Stdout) -> io::Result<Tty<'a, R>>
 where
     R: Runtime + Alloc<A = Global> + Files<File = File> + Net + Wait,
+    ensures nothing { IfOk result (λ s. (s.features.items ≡ []) × (s.term.prior ≡ None)) }
 {
     let alloc = rt.alloc();
     let Some(folder) = env::args(rt)?.skip(1).last() else {

@@ -1,17 +1,35 @@
 //! A terminal with its events, and the writer of a program.
 
+ghost use Rattle.std.specs.Prelude.{◌≡◌, ◌≤◌, ◌⊎◌, ◌++◌, ◌∷◌, [], IfErr, IfOk, IsOk, IsTrue, None, OnErr, OnOk, Option, Result, Some, is_some};
+ghost use Rattle.std.specs.IoError.{error_kind};
+ghost use Rattle.std.specs.Io.KnownBytes.{Appends, Keeps};
+ghost use Rattle.std.specs.Result.{result_map_both};
+ghost use Rattle.std.specs.declared.io.Error.{Error};
+ghost use Rattle.std.specs.declared.io.ErrorKind.TheVariants.{OutOfMemory};
+ghost use Rattle.crossterm_types.specs.declared.event.filter.AnyFilter.TheVariants as filters;
+ghost use Rattle.crossterm_read.specs.Entries.{AsksKeyboard, AsksPosition, Polls, Reads};
+ghost use Rattle.crossterm_read.specs.Replies.{event_said};
+ghost use Rattle.crossterm_read.specs.Seats.{knows};
 ghost use Rattle.crossterm_read.specs.Shared.{IsPassOf};
+ghost use Rattle.crossterm_command.specs.Tokens.{text_of};
+ghost use Rattle.crossterm_command.specs.Writing.{AppendsFront};
+ghost use Rattle.crossterm.specs.Asking.{InRawMode, InTwoSeconds, Queries, keyboard_query, position_query};
+ghost use Rattle.crossterm.specs.Modes.{Refuses, Sizes, SwitchesOff, SwitchesOn};
+ghost use Rattle.crossterm.specs.declared.terminal.size.WindowSize.{WindowSize};
+ghost use Rattle.own_terminal.specs.Features.{EndsOffered, all_off, on};
+ghost use Rattle.own_terminal.specs.Sessions.{Begins, EndsRaw};
 
-use crate::{Feature, Input, open};
+use crate::feature::{Feature, switch_off};
+use crate::{Input, open};
 use crossterm::cursor;
 use crossterm::event::read::InternalEventReader;
 use crossterm::event::source::{Device, DeviceSource, EventSource};
 use crossterm::event::timeout::Clock;
-use crossterm::event::{Event, EventReader, Pass};
+use crossterm::event::{Event, EventReader, KeyboardEnhancementFlags, Pass};
 use crossterm::terminal::{ModeDevice, SttyDevice, Terminal, supports_keyboard_enhancement};
 use std::alloc::Global;
 use std::fs::{File, Files};
-use std::io::{self, ErrorKind, Stdin, Write};
+use std::io::{self, Stdin, Write};
 use std::net::Net;
 use std::sync::Wait;
 use std::time::Duration;
@@ -66,7 +84,10 @@ impl<W: Write + Drop, C: Clock + Drop> Session<DeviceSource<Input>, SttyDevice<F
         folder: &str,
         out: W,
         clock: C,
-    ) -> io::Result<Session<DeviceSource<Input>, SttyDevice<File, File>, W, C>> {
+    ) -> io::Result<Session<DeviceSource<Input>, SttyDevice<File, File>, W, C>>
+        ensures out { IfOk result (λ s. s.out ≡ out) }
+        ensures nothing { IfOk result (λ s. (s.features.items ≡ []) × (s.term.prior ≡ None)) }
+    {
         let (device, term) = open(rt, alloc, input, folder)?;
         Session::over(rt, alloc, device, term, out, clock)
     }
@@ -85,7 +106,11 @@ impl<I: Device, D: ModeDevice, W: Write + Drop, C: Clock + Drop> Session<DeviceS
         term: Terminal<D>,
         out: W,
         clock: C,
-    ) -> io::Result<Session<DeviceSource<I>, D, W, C>> {
+    ) -> io::Result<Session<DeviceSource<I>, D, W, C>>
+        ensures parts { IfOk result (λ s. (s.term ≡ term) × (s.out ≡ out) × (s.clock ≡ clock) × (s.features.items ≡ [])) }
+        ensures begins { IfOk result (λ s. Begins device (knows s.pass)) }
+        ensures err { IfErr result (λ e. error_kind e ≡ OutOfMemory) }
+    {
         let reader = InternalEventReader::new(alloc, DeviceSource::new(alloc, device));
         let (reader, mut passes) = EventReader::new(rt, alloc, reader, 1)?;
         match passes.pop() {
@@ -98,7 +123,7 @@ impl<I: Device, D: ModeDevice, W: Write + Drop, C: Clock + Drop> Session<DeviceS
                 clock,
                 features: Vec::new(alloc),
             }),
-            None => Err(io::Error::from(ErrorKind::NotFound)),
+            None => unreachable!(),
         }
     }
 }
@@ -117,7 +142,10 @@ impl<S: EventSource<Global>, D: ModeDevice, W: Write + Drop, C: Clock + Drop> Se
     ///     _ => {}
     /// }
     /// ```
-    pub fn read<R: Wait>(&mut self, rt: &R) -> io::Result<Event> {
+    pub fn read<R: Wait>(&mut self, rt: &R) -> io::Result<Event>
+        ensures call { Reads S.drawn S.asked filters.Event (knows self.old.pass) (knows self.new.pass) (event_said result) }
+        ensures others { (self.new.out ≡ self.old.out) × (self.new.term ≡ self.old.term) × (self.new.features ≡ self.old.features) }
+    {
         self.reader.read(rt, &mut self.pass)
     }
 
@@ -132,7 +160,11 @@ impl<S: EventSource<Global>, D: ModeDevice, W: Write + Drop, C: Clock + Drop> Se
     ///     let event = tty.read(rt)?;
     /// }
     /// ```
-    pub fn poll<R: Wait>(&mut self, rt: &R, limit: Duration) -> io::Result<bool> {
+    pub fn poll<R: Wait>(&mut self, rt: &R, limit: Duration) -> io::Result<bool>
+        ensures call { Polls S.drawn S.asked filters.Event (Some limit) (C.told self.old.clock) (C.told self.new.clock) (knows self.old.pass) (knows self.new.pass) result }
+        ensures later { C.told self.old.clock ≤ C.told self.new.clock }
+        ensures others { (self.new.out ≡ self.old.out) × (self.new.term ≡ self.old.term) × (self.new.features ≡ self.old.features) }
+    {
         self.reader.poll(rt, &mut self.pass, limit, &mut self.clock)
     }
 
@@ -141,7 +173,12 @@ impl<S: EventSource<Global>, D: ModeDevice, W: Write + Drop, C: Clock + Drop> Se
     /// # Errors
     ///
     /// `Other` if no answer came in time; else those of `read` and of the writer.
-    pub fn position<R: Wait>(&mut self, rt: &R) -> io::Result<(u16, u16)> {
+    pub fn position<R: Wait>(&mut self, rt: &R) -> io::Result<(u16, u16)>
+        ensures query { InRawMode D.stands D.answered D.failed self.old.term self.new.term ((W.contents self.new.out ≡ W.contents self.old.out) × (knows self.new.pass ≡ knows self.old.pass))
+            (Queries (W.contents self.old.out) (W.contents self.new.out) position_query (knows self.new.pass ≡ knows self.old.pass)
+            (λ r. InTwoSeconds (λ limit. AsksPosition S.drawn S.asked limit (C.told self.old.clock) (C.told self.new.clock) (knows self.old.pass) (knows self.new.pass) r))) result }
+        ensures others { self.new.features ≡ self.old.features }
+    {
         cursor::position(
             rt,
             &mut self.term,
@@ -157,7 +194,13 @@ impl<S: EventSource<Global>, D: ModeDevice, W: Write + Drop, C: Clock + Drop> Se
     /// # Errors
     ///
     /// `Other` if no answer came in time; else those of `read` and of the writer.
-    pub fn supports_keyboard_enhancement<R: Wait>(&mut self, rt: &R) -> io::Result<bool> {
+    pub fn supports_keyboard_enhancement<R: Wait>(&mut self, rt: &R) -> io::Result<bool>
+        ensures query { (flags : Result (Option KeyboardEnhancementFlags) Error) × (result_map_both is_some (λ e. e) flags ≡ result)
+            × InRawMode D.stands D.answered D.failed self.old.term self.new.term ((W.contents self.new.out ≡ W.contents self.old.out) × (knows self.new.pass ≡ knows self.old.pass))
+            (Queries (W.contents self.old.out) (W.contents self.new.out) keyboard_query (knows self.new.pass ≡ knows self.old.pass)
+            (λ r. InTwoSeconds (λ limit. AsksKeyboard S.drawn S.asked limit (C.told self.old.clock) (C.told self.new.clock) (knows self.old.pass) (knows self.new.pass) r))) flags }
+        ensures others { self.new.features ≡ self.old.features }
+    {
         supports_keyboard_enhancement(
             rt,
             &mut self.term,
@@ -173,17 +216,30 @@ impl<S: EventSource<Global>, D: ModeDevice, W: Write + Drop, C: Clock + Drop> Se
     /// # Errors
     ///
     /// The helper's: `Other` if it doesn't know the size.
-    pub fn size(&mut self) -> io::Result<(u16, u16)> {
-        let size = self.term.window_size()?;
-        Ok((size.columns, size.rows))
+    pub fn size(&mut self) -> io::Result<(u16, u16)>
+        ensures asked { (told : Result WindowSize Error) × D.answered self.old.term.device (Sizes told) self.new.term.device
+            × (result ≡ result_map_both (λ size. (size.columns, size.rows)) (λ e. e) told) }
+        ensures mode { self.new.term.prior ≡ self.old.term.prior }
+        ensures others { (self.new.out ≡ self.old.out) × (self.new.pass ≡ self.old.pass) × (self.new.features ≡ self.old.features) }
+    {
+        match self.term.window_size() {
+            Ok(size) => Ok((size.columns, size.rows)),
+            Err(error) => Err(error),
+        }
     }
 
     /// Switches raw mode on: keys come one by one, and aren't shown. It ends with the session.
     ///
     /// # Errors
     ///
-    /// The helper's. Raw mode is off then.
-    pub fn enable_raw_mode(&mut self) -> io::Result<()> {
+    /// The helper's. Then raw mode counts as off. If the helper's answer alone was lost, the terminal may be in raw mode all the same.
+    pub fn enable_raw_mode(&mut self) -> io::Result<()>
+        ensures already { IsTrue (is_some self.old.term.prior) → IsOk result × (self.new.term ≡ self.old.term) }
+        ensures ok { OnOk result (self.old.term.prior ≡ None → self.new.term.prior ≡ Some (D.stands self.old.term.device)) }
+        ensures asked { self.old.term.prior ≡ None → SwitchesOn D.answered self.old.term result self.new.term }
+        ensures refused { OnErr result (self.new.term.prior ≡ None) }
+        ensures others { (self.new.out ≡ self.old.out) × (self.new.pass ≡ self.old.pass) × (self.new.features ≡ self.old.features) }
+    {
         self.term.enable_raw_mode()
     }
 
@@ -191,8 +247,13 @@ impl<S: EventSource<Global>, D: ModeDevice, W: Write + Drop, C: Clock + Drop> Se
     ///
     /// # Errors
     ///
-    /// The helper's.
-    pub fn disable_raw_mode(&mut self) -> io::Result<()> {
+    /// The helper's. Then raw mode counts as on, as before.
+    pub fn disable_raw_mode(&mut self) -> io::Result<()>
+        ensures off { OnOk result (self.new.term.prior ≡ None) }
+        ensures mode { EndsRaw D.stands D.answered self.old.term result self.new.term }
+        ensures refused { OnErr result (self.new.term.prior ≡ self.old.term.prior) }
+        ensures others { (self.new.out ≡ self.old.out) × (self.new.pass ≡ self.old.pass) × (self.new.features ≡ self.old.features) }
+    {
         self.term.disable_raw_mode()
     }
 
@@ -200,16 +261,25 @@ impl<S: EventSource<Global>, D: ModeDevice, W: Write + Drop, C: Clock + Drop> Se
     ///
     /// # Errors
     ///
-    /// `OutOfMemory`, and nothing was written; the writer's.
+    /// `OutOfMemory`, and nothing was written or listed. Else the writer's: a beginning was written, and the session's end turns it off.
     ///
     /// ```
     /// tty.enable_raw_mode()?;
     /// tty.turn_on(Feature::AlternateScreen)?;
     /// tty.turn_on(Feature::MouseCapture)?;
     /// ```
-    pub fn turn_on(&mut self, feature: Feature) -> io::Result<()> {
-        self.features.push(feature)?;
-        feature.enter(&mut self.out)
+    pub fn turn_on(&mut self, feature: Feature) -> io::Result<()>
+        ensures ok { OnOk result (Appends (W.contents self.old.out) (W.contents self.new.out) (text_of (on feature))) }
+        ensures err { OnErr result (AppendsFront (W.contents self.old.out) (W.contents self.new.out) (text_of (on feature))) }
+        ensures listed { OnOk result (self.new.features.items ≡ self.old.features.items ++ feature ∷ []) }
+        ensures unlisted { IfErr result (λ e. (self.new.features.items ≡ self.old.features.items ++ feature ∷ [])
+            ⊎ ((error_kind e ≡ OutOfMemory) × (self.new.features.items ≡ self.old.features.items) × (self.new.out ≡ self.old.out))) }
+        ensures others { (self.new.term ≡ self.old.term) × (self.new.pass ≡ self.old.pass) }
+    {
+        match self.features.push(feature) {
+            Ok(()) => feature.enter(&mut self.out),
+            Err(error) => Err(io::Error::from(error)),
+        }
     }
 
     /// Turns all off that is turned on, the last one first, and ends raw mode, as the session's end does.
@@ -217,12 +287,17 @@ impl<S: EventSource<Global>, D: ModeDevice, W: Write + Drop, C: Clock + Drop> Se
     /// # Errors
     ///
     /// The first of the writer's and the helper's. All is tried, whichever fails.
-    pub fn leave(&mut self) -> io::Result<()> {
-        let mut left = Ok(());
-        for feature in self.features.iter().rev() {
-            left = left.and(feature.leave(&mut self.out));
-        }
-        self.features.clear();
-        left.and(self.out.flush()).and(self.term.disable_raw_mode())
+    pub fn leave(&mut self) -> io::Result<()>
+        ensures none { self.new.features.items ≡ [] }
+        ensures offered { EndsOffered self.old.features.items (W.contents self.old.out) (W.contents self.new.out) }
+        ensures ok { OnOk result (Appends (W.contents self.old.out) (W.contents self.new.out) (all_off self.old.features.items)) }
+        ensures mode { (switched : Result (Unit {0}) Error) × EndsRaw D.stands D.answered self.old.term switched self.new.term × OnOk result (IsOk switched) }
+        ensures cooked { OnOk result (self.new.term.prior ≡ None) }
+        ensures pass { self.new.pass ≡ self.old.pass }
+    {
+        let off = switch_off(&mut self.features, &mut self.out);
+        let flushed = self.out.flush();
+        let cooked = self.term.disable_raw_mode();
+        off.and(flushed).and(cooked)
     }
 }

@@ -26,6 +26,8 @@ mod queueing;
 #[cfg(test)]
 mod refused;
 #[cfg(test)]
+mod session;
+#[cfg(test)]
 mod shown;
 #[cfg(test)]
 mod sizes;

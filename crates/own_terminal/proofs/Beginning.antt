@@ -1,0 +1,23 @@
+-- The only element of a list.
+use Rattle.std.specs.Prelude.{◌≡◌, ◌++◌, ◌∷◌, [], ℕ, All, List, length, map}
+use Rattle.std.proofs.Common.{ap, arith, subst, sym, ◌∙◌}
+use Rattle.std.proofs.lemmas.List.{length-map, length-append}
+
+first_or : ℕ → List ℕ → ℕ
+first_or d [] = d
+first_or d (x ∷ xs) = x
+
+-- A list with one number has the last element alone, and that has this number.
+pub only : {X : Type 0} (f : X → ℕ) (items front : List X) (x : X) → items ≡ front ++ x ∷ [] → map f items ≡ 0 ∷ [] → (items ≡ x ∷ []) × (f x ≡ 0)
+unfolding first_or
+only f items [] x e n = (e, ap (first_or 1) (sym (ap (map f) e) ∙ n))
+only {X} f items (y ∷ ys) x e n =
+    let one : length (map f items) ≡ 1 = ap (λ (l : List ℕ). length l) n in
+    let same = length-map items f in
+    let all = ap (λ (l : List X). length l) e in
+    let more = length-append ys (x ∷ []) in
+    absurd (omega (arith, one, same, all, more))
+
+-- What holds of all elements holds of the only one.
+pub all_only : {X : Type 0} (P : X → Type 0) (items : List X) (x : X) → items ≡ x ∷ [] → All P items → P x
+all_only P items x e all = subst (λ l. All P l) e all 0 x (omega arith)

@@ -1,0 +1,18 @@
+-- What a session does to its terminal's mode, and how it begins.
+use Rattle.std.specs.Prelude.{◌≡◌, ◌⊎◌, Some, None, Result, IsOk, IsTrue, OnOk, is_some}
+use Rattle.std.specs.declared.io.Error.{Error}
+use Rattle.crossterm_read.specs.Calls.{empty}
+use Rattle.crossterm_read.specs.History.{Known, opened}
+use Rattle.crossterm_read.specs.OverScripts.{IsNew}
+use Rattle.crossterm_read.specs.Store.{ReaderState}
+use Rattle.crossterm_read.specs.inside.Turns.{Source}
+use Rattle.crossterm.specs.Modes.{ModeCall, Modes, SwitchesOff}
+
+-- Raw mode ends, if it is on: the device was asked to set the mode from before, and answered this.
+abbrev pub EndsRaw : {D M : Type 0} → (D → M) → (D → ModeCall M → D → Type 0) → Modes D M → Result (Unit {0}) Error → Modes D M → Type 0
+EndsRaw stands answered old r new =
+    ((old.prior ≡ None) × IsOk r × (new ≡ old)) ⊎ (IsTrue (is_some old.prior) × SwitchesOff answered old r new × OnOk r (Some (stands new.device) ≡ old.prior))
+
+-- The only pass of a reader over a device that was asked for nothing yet.
+abbrev pub Begins : {D : Type 0} → D → Known (Source D) → Type 0
+Begins {D} device pass = (o : ReaderState (Source D)) × IsNew o.source × (o.source.device ≡ device) × (o.store ≡ empty) × (pass ≡ opened o 1 0)
