@@ -3,15 +3,15 @@ use Rattle.std.specs.Prelude.{◌≡◌, ◌++◌, ◌∷◌, [], ℕ, All, List
 use Rattle.std.proofs.Common.{ap, arith, subst, sym, ◌∙◌}
 use Rattle.std.proofs.lemmas.List.{length-map, length-append}
 
-first_or : ℕ → List ℕ → ℕ
-first_or d [] = d
-first_or d (x ∷ xs) = x
+head_number : ℕ → List ℕ → ℕ
+head_number d [] = d
+head_number d (x ∷ xs) = x
 
 -- A list with one number has the last element alone, and that has this number.
-pub only : {X : Type 0} (f : X → ℕ) (items front : List X) (x : X) → items ≡ front ++ x ∷ [] → map f items ≡ 0 ∷ [] → (items ≡ x ∷ []) × (f x ≡ 0)
-unfolding first_or
-only f items [] x e n = (e, ap (first_or 1) (sym (ap (map f) e) ∙ n))
-only {X} f items (y ∷ ys) x e n =
+pub only_one : {X : Type 0} (f : X → ℕ) (items front : List X) (x : X) → items ≡ front ++ x ∷ [] → map f items ≡ 0 ∷ [] → (items ≡ x ∷ []) × (f x ≡ 0)
+unfolding head_number
+only_one f items [] x e n = (e, ap (head_number 1) (sym (ap (map f) e) ∙ n))
+only_one {X} f items (y ∷ ys) x e n =
     let one : length (map f items) ≡ 1 = ap (λ (l : List ℕ). length l) n in
     let same = length-map items f in
     let all = ap (λ (l : List X). length l) e in

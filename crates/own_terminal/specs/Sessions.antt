@@ -14,5 +14,5 @@ EndsRaw stands answered old r new =
     ((old.prior ≡ None) × IsOk r × (new ≡ old)) ⊎ (IsTrue (is_some old.prior) × SwitchesOff answered old r new × OnOk r (Some (stands new.device) ≡ old.prior))
 
 -- The only pass of a reader over a device that was asked for nothing yet.
-abbrev pub Begins : {D : Type 0} → D → Known (Source D) → Type 0
-Begins {D} device pass = (o : ReaderState (Source D)) × IsNew o.source × (o.source.device ≡ device) × (o.store ≡ empty) × (pass ≡ opened o 1 0)
+abbrev pub BeginsOver : {D : Type 0} → D → Known (Source D) → Type 0
+BeginsOver {D} device pass = (o : ReaderState (Source D)) × IsNew o.source × (o.source.device ≡ device) × (o.store ≡ empty) × (pass ≡ opened o 1 0)

@@ -5,7 +5,7 @@ ghost use Rattle.std.specs.Io.KnownBytes.{Appends};
 ghost use Rattle.crossterm_command.specs.Tokens.{text_of};
 ghost use Rattle.crossterm_command.specs.Writing.{AppendsFront};
 ghost use Rattle.crossterm_command.specs.declared.color_output.ColorOutput.TheVariants.{Enabled};
-ghost use Rattle.own_terminal.specs.Features.{EndsOffered, all_off, off, on};
+ghost use Rattle.own_terminal.specs.Features.{EndsOffered, all_switched_off, switches_off, switches_on};
 
 use arrayvec::ArrayString;
 use crossterm::Command;
@@ -64,8 +64,8 @@ fn send<W: Write, C: Command>(out: &mut W, command: &C) -> io::Result<()>
 impl Feature {
     /// Switches it on.
     pub(crate) fn enter<W: Write>(self, out: &mut W) -> io::Result<()>
-        ensures ok { OnOk result (Appends (W.contents out.old) (W.contents out.new) (text_of (on self))) }
-        ensures err { OnErr result (AppendsFront (W.contents out.old) (W.contents out.new) (text_of (on self))) }
+        ensures ok { OnOk result (Appends (W.contents out.old) (W.contents out.new) (text_of (switches_on self))) }
+        ensures err { OnErr result (AppendsFront (W.contents out.old) (W.contents out.new) (text_of (switches_on self))) }
     {
         match self {
             Feature::AlternateScreen => send(out, &EnterAlternateScreen),
@@ -79,8 +79,8 @@ impl Feature {
 
     /// Switches it off.
     pub(crate) fn leave<W: Write>(self, out: &mut W) -> io::Result<()>
-        ensures ok { OnOk result (Appends (W.contents out.old) (W.contents out.new) (text_of (off self))) }
-        ensures err { OnErr result (AppendsFront (W.contents out.old) (W.contents out.new) (text_of (off self))) }
+        ensures ok { OnOk result (Appends (W.contents out.old) (W.contents out.new) (text_of (switches_off self))) }
+        ensures err { OnErr result (AppendsFront (W.contents out.old) (W.contents out.new) (text_of (switches_off self))) }
     {
         match self {
             Feature::AlternateScreen => send(out, &LeaveAlternateScreen),
@@ -97,7 +97,7 @@ impl Feature {
 pub(crate) fn switch_off<W: Write>(features: &mut Vec<Feature>, out: &mut W) -> io::Result<()>
     ensures none { features.new.items ≡ [] }
     ensures offered { EndsOffered features.old.items (W.contents out.old) (W.contents out.new) }
-    ensures ok { OnOk result (Appends (W.contents out.old) (W.contents out.new) (all_off features.old.items)) }
+    ensures ok { OnOk result (Appends (W.contents out.old) (W.contents out.new) (all_switched_off features.old.items)) }
 {
     let mut left = Ok(());
     while let Some(feature) = features.pop() {

@@ -16,8 +16,8 @@ ghost use Rattle.crossterm_command.specs.Writing.{AppendsFront};
 ghost use Rattle.crossterm.specs.Asking.{InRawMode, InTwoSeconds, Queries, keyboard_query, position_query};
 ghost use Rattle.crossterm.specs.Modes.{Refuses, Sizes, SwitchesOff, SwitchesOn};
 ghost use Rattle.crossterm.specs.declared.terminal.size.WindowSize.{WindowSize};
-ghost use Rattle.own_terminal.specs.Features.{EndsOffered, all_off, on};
-ghost use Rattle.own_terminal.specs.Sessions.{Begins, EndsRaw};
+ghost use Rattle.own_terminal.specs.Features.{EndsOffered, all_switched_off, switches_on};
+ghost use Rattle.own_terminal.specs.Sessions.{BeginsOver, EndsRaw};
 
 use crate::feature::{Feature, switch_off};
 use crate::{Input, open};
@@ -108,7 +108,7 @@ impl<I: Device, D: ModeDevice, W: Write + Drop, C: Clock + Drop> Session<DeviceS
         clock: C,
     ) -> io::Result<Session<DeviceSource<I>, D, W, C>>
         ensures parts { IfOk result (λ s. (s.term ≡ term) × (s.out ≡ out) × (s.clock ≡ clock) × (s.features.items ≡ [])) }
-        ensures begins { IfOk result (λ s. Begins device (knows s.pass)) }
+        ensures begins { IfOk result (λ s. BeginsOver device (knows s.pass)) }
         ensures err { IfErr result (λ e. error_kind e ≡ OutOfMemory) }
     {
         let reader = InternalEventReader::new(alloc, DeviceSource::new(alloc, device));
@@ -269,8 +269,8 @@ impl<S: EventSource<Global>, D: ModeDevice, W: Write + Drop, C: Clock + Drop> Se
     /// tty.turn_on(Feature::MouseCapture)?;
     /// ```
     pub fn turn_on(&mut self, feature: Feature) -> io::Result<()>
-        ensures ok { OnOk result (Appends (W.contents self.old.out) (W.contents self.new.out) (text_of (on feature))) }
-        ensures err { OnErr result (AppendsFront (W.contents self.old.out) (W.contents self.new.out) (text_of (on feature))) }
+        ensures ok { OnOk result (Appends (W.contents self.old.out) (W.contents self.new.out) (text_of (switches_on feature))) }
+        ensures err { OnErr result (AppendsFront (W.contents self.old.out) (W.contents self.new.out) (text_of (switches_on feature))) }
         ensures listed { OnOk result (self.new.features.items ≡ self.old.features.items ++ feature ∷ []) }
         ensures unlisted { IfErr result (λ e. (self.new.features.items ≡ self.old.features.items ++ feature ∷ [])
             ⊎ ((error_kind e ≡ OutOfMemory) × (self.new.features.items ≡ self.old.features.items) × (self.new.out ≡ self.old.out))) }
@@ -290,7 +290,7 @@ impl<S: EventSource<Global>, D: ModeDevice, W: Write + Drop, C: Clock + Drop> Se
     pub fn leave(&mut self) -> io::Result<()>
         ensures none { self.new.features.items ≡ [] }
         ensures offered { EndsOffered self.old.features.items (W.contents self.old.out) (W.contents self.new.out) }
-        ensures ok { OnOk result (Appends (W.contents self.old.out) (W.contents self.new.out) (all_off self.old.features.items)) }
+        ensures ok { OnOk result (Appends (W.contents self.old.out) (W.contents self.new.out) (all_switched_off self.old.features.items)) }
         ensures mode { (switched : Result (Unit {0}) Error) × EndsRaw D.stands D.answered self.old.term switched self.new.term × OnOk result (IsOk switched) }
         ensures cooked { OnOk result (self.new.term.prior ≡ None) }
         ensures pass { self.new.pass ≡ self.old.pass }

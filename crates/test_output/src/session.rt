@@ -36,9 +36,9 @@ fn turn_on(session: &mut Seen<'_>) -> io::Result<()> {
 const TURNED_ON: &[u8] = b"\x1b[?1049h\x1b[?25l\x1b[>2u";
 
 // The end of the keyboard's flags, which comes first, is cut.
-const CUT: &[u8] = b"\x1b[?1049h\x1b[?25l\x1b[>2u\x1b[\x1b[?25h\x1b[?1049l";
+const WITH_ONE_END_CUT: &[u8] = b"\x1b[?1049h\x1b[?25l\x1b[>2u\x1b[\x1b[?25h\x1b[?1049l";
 
-const ALL: &[u8] = b"\x1b[?1049h\x1b[?25l\x1b[>2u\x1b[<1u\x1b[?25h\x1b[?1049l";
+const TURNED_ON_AND_OFF: &[u8] = b"\x1b[?1049h\x1b[?25l\x1b[>2u\x1b[<1u\x1b[?25h\x1b[?1049l";
 
 #[test]
 fn a_session_that_ends_turns_off_what_it_turned_on(rt: HostRuntime) -> io::Result<()> {
@@ -49,7 +49,7 @@ fn a_session_that_ends_turns_off_what_it_turned_on(rt: HostRuntime) -> io::Resul
     turn_on(&mut session)?;
     drop(session);
     // Each feature is flushed as it is turned on and off, and the end once more; then the mode from before is set.
-    expect!(rt; out.saw(ALL, 7, 0));
+    expect!(rt; out.saw(TURNED_ON_AND_OFF, 7, 0));
     expect!(rt; calls.load(Ordering::SeqCst) == 123);
     Ok(())
 }
@@ -63,7 +63,7 @@ fn a_session_that_left_turns_nothing_off_at_its_end(rt: HostRuntime) -> io::Resu
     turn_on(&mut session)?;
     session.leave()?;
     drop(session);
-    expect!(rt; out.saw(ALL, 8, 0));
+    expect!(rt; out.saw(TURNED_ON_AND_OFF, 8, 0));
     expect!(rt; calls.load(Ordering::SeqCst) == 123);
     Ok(())
 }
@@ -81,7 +81,7 @@ fn a_writer_that_fails_once_is_offered_all_else(rt: HostRuntime) -> io::Result<(
     let left = session.leave();
     drop(session);
     expect!(rt; left.is_ok());
-    expect!(rt; out.saw(ALL, 8, 8));
+    expect!(rt; out.saw(TURNED_ON_AND_OFF, 8, 8));
     expect!(rt; calls.load(Ordering::SeqCst) == 123);
     Ok(())
 }
@@ -96,7 +96,7 @@ fn an_end_that_fails_keeps_no_other_from_being_written(rt: HostRuntime) -> io::R
     let left = session.leave();
     drop(session);
     expect!(rt; matches!(left, Err(error) if error.kind() == ErrorKind::BrokenPipe));
-    expect!(rt; out.saw(CUT, 7, 6));
+    expect!(rt; out.saw(WITH_ONE_END_CUT, 7, 6));
     expect!(rt; calls.load(Ordering::SeqCst) == 123);
     Ok(())
 }

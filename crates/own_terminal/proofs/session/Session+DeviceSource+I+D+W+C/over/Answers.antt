@@ -4,7 +4,7 @@ use Rattle.crossterm_read.specs.History.{opened}
 use Rattle.crossterm_read.specs.OverScripts.{IsNew}
 use Rattle.crossterm_read.specs.Seats.{knows, number}
 use Rattle.crossterm_read.specs.Shared.{IsPassOf}
-use Rattle.own_terminal.proofs.Beginning.{all_only, only}
+use Rattle.own_terminal.proofs.Beginning.{all_only, only_one}
 use Rattle.own_terminal.proofs.session.Session+DeviceSource+I+D+W+C.over.Goals as goal
 
 pub returns-clause-begins : goal.returns-clause-begins
@@ -14,7 +14,7 @@ returns-clause-begins g c =
     let reader = c.new-reader.result in
     let pass = c.in-Some.pass in
     let passes = c.in_ok-reader.passes.items in
-    let one = only number passes c.pop.new.self.items pass c.in-Some.ensures.items c.in_ok-reader.ensures.numbers in
+    let one = only_one number passes c.pop.new.self.items pass c.in-Some.ensures.items c.in_ok-reader.ensures.numbers in
     let first = all_only (λ p. IsPassOf c.in_ok-reader.reader p × (knows p ≡ opened reader 1 (number p))) passes pass one.0 c.in_ok-reader.ensures.passes in (
       reader,
       subst IsNew (sym source) (record { waiting = new.waiting; represents = new.represents; untaken = new.untaken }),
