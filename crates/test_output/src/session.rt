@@ -12,7 +12,7 @@ use std::sync::atomic::{AtomicU32, Ordering};
 use test_support::{Still, expect};
 
 /// The session of a script without an act, that writes to a witness.
-type Seen<'a> = Session<DeviceSource<Script>, Noted<'a>, &'a mut Witness, Still>;
+type Witnessed<'a> = Session<DeviceSource<Script>, Noted<'a>, &'a mut Witness, Still>;
 
 /// A session in which nothing is turned on yet.
 fn begun<'a, R: Wait>(
@@ -20,13 +20,13 @@ fn begun<'a, R: Wait>(
     alloc: Global,
     calls: &'a AtomicU32,
     out: &'a mut Witness,
-) -> io::Result<Seen<'a>> {
+) -> io::Result<Witnessed<'a>> {
     let term = terminal_by(RawFlag::new(alloc)?, calls, None);
     Session::over(rt, alloc, Script::new(Vec::new(alloc)), term, out, Still)
 }
 
 /// Raw mode and three features are turned on, in this order.
-fn turn_on(session: &mut Seen<'_>) -> io::Result<()> {
+fn turn_on(session: &mut Witnessed<'_>) -> io::Result<()> {
     session.enable_raw_mode()?;
     session.turn_on(Feature::AlternateScreen)?;
     session.turn_on(Feature::HiddenCursor)?;
