@@ -1,4 +1,6 @@
 //! The first three fields of a sequence that is open, as numbers.
+//!
+//! Only crates of this tree use this module, which may change with each version.
 ghost use Rattle.std.specs.Prelude.{◌≡◌, ◌≤◌, ◌<◌, ◌+◌, ℕ};
 ghost use Rattle.crossterm_parse.specs.inside.Fields.{fields_of, field_after, fields_after, whole_of};
 ghost use Rattle.crossterm_parse.specs.inside.Numbers.{number_after};

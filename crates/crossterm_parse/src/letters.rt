@@ -1,4 +1,6 @@
 //! The keys of final letters, which `ESC O b`, `ESC [ b` and a numbered sequence have in common (xterm, "PC-Style Function Keys").
+//!
+//! Only crates of this tree use this module, which may change with each version.
 ghost use Rattle.std.specs.Prelude.{◌≡◌};
 ghost use Rattle.crossterm_parse.specs.Letters.{letter_key};
 

@@ -1,4 +1,6 @@
 //! Reports of the mouse.
+//!
+//! Only crates of this tree use this module, which may change with each version.
 ghost use Rattle.std.specs.Prelude.{◌≡◌, ◌<◌, IsTrue, IsFalse};
 ghost use Rattle.crossterm_types.specs.Keys.{modifiers_of};
 ghost use Rattle.crossterm_parse.specs.Mouse.{button_of, pressed_button, dragged_button, mouse_kind, mouse_modifiers, mouse_event, mouse_report, less, let_go, released};

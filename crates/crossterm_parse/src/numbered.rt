@@ -1,4 +1,6 @@
 //! A numbered sequence `ESC [ d w f`, with d a digit.
+//!
+//! Only crates of this tree use this module, which may change with each version.
 ghost use Rattle.std.specs.Prelude.{◌≡◌, ◌≤◌, length, take, true};
 ghost use Rattle.crossterm_parse.specs.Bytes.{is_digit};
 ghost use Rattle.crossterm_parse.specs.inside.Recognizer.{is_final, is_mouse_end};

@@ -1,4 +1,6 @@
 //! The state of an open sequence, of a fixed size.
+//!
+//! Only crates of this tree use this module, which may change with each version.
 ghost use Rattle.std.specs.Prelude.{◌≡◌, ◌≢◌, ◌+◌, ◌<◌, ◌≤◌, ◌∷◌, [], Bool, true, false, length, take, IfNone, IfSome, IsTrue, IsFalse};
 ghost use Rattle.std.specs.List.{AllByRecursion};
 ghost use Rattle.crossterm_parse.specs.inside.Automaton.{Reads, IsCharacterOf, IsLetter, Opens, OpensWith, is_paste, meaning_with, state_after};

@@ -1,4 +1,6 @@
 //! A count of steps, which has no bytes and costs nothing.
+//!
+//! Only crates of this tree use this module, which may change with each version.
 ghost use Rattle.std.specs.Prelude.{◌≡◌, ℕ, ◌+◌, ◌<◌};
 
 use std::marker::Model;

@@ -1,4 +1,6 @@
 //! Whether bytes that come one by one are UTF-8 so far.
+//!
+//! Only crates of this tree use this module, which may change with each version.
 ghost use Rattle.std.specs.Prelude.{◌≡◌};
 ghost use Rattle.bstr.specs.Utf8.{second, continues};
 ghost use Rattle.crossterm_parse.specs.inside.Utf8.{utf8_after, begun_after};
