@@ -1,5 +1,5 @@
 //! The reader's calls: what `InternalEventReader` holds, in a table that its caller keeps.
-ghost use Rattle.std.specs.Prelude.{◌≡◌, ℕ, false, List, [], ◌∷◌, length, is_some, IsTrue, nat_lt};
+ghost use Rattle.std.specs.Prelude.{◌≡◌, ℕ, false, List, [], ◌∷◌, ◌++◌, length, is_some, IsTrue, nat_lt};
 ghost use Rattle.crossterm_types.specs.Admitting.{is_of};
 ghost use Rattle.crossterm_read.specs.Answers.{Gave};
 ghost use Rattle.crossterm_read.specs.Store.{Arrives};
@@ -21,6 +21,8 @@ pub extern "C" fn gelvanh_hold(
 ) -> bool
     ensures room { result ≡ nat_lt (length (held_in reader.old table.old)) (length table.old) }
     ensures held { IsTrue result → (texts : ℕ → List ℕ) → Arrives (store_at texts reader.old table.old) (Gave (event_at (texts reader.old.arrivals) event.now) ∷ []) (store_at texts reader.new table.new) }
+    // The event is held as it is, whatever its numbers are, and the others as they were.
+    ensures kept { IsTrue result → held_in reader.new table.new ≡ held_in reader.old table.old ++ record { event = event.now; arrival = reader.old.arrivals } ∷ [] }
     ensures full { result ≡ false → (reader.new ≡ reader.old) × (table.new ≡ table.old) }
 {
     let (first, held) = span(reader, table);
