@@ -167,6 +167,8 @@ fn chained() -> io::Result<()> {
 
 /// Reads from a terminal that is gone: no call waits for it.
 fn hangup() -> io::Result<()> {
+    // The terminal is open from here on.
+    poll(Duration::ZERO)?;
     tell!("ready");
     for _ in 0..3 {
         tell!("{:?}", read().map_err(|e| e.kind()));
