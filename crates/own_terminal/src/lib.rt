@@ -28,8 +28,8 @@
 //!
 //! | Proved | By the contract of |
 //! |---|---|
-//! | a feature that is turned on writes exactly its text, and is listed, also if the writer fails; leaving empties the list, writes what turns each off, the last one first, and sets the mode from before; at an error it says what the writer and the device were left with | `Session::{turn_on, leave, enable_raw_mode, disable_raw_mode}` |
-//! | events are read by the calls of the only pass of a new reader; polls, queries and sizes are those of the libraries, and change nothing else | `Session::{over, read, poll, position, supports_keyboard_enhancement, size}` |
+//! | a feature that is turned on writes exactly its text, and is listed, also if the writer fails; leaving empties the list, and if it succeeds it wrote what turns each off, the last one first, and set the mode from before; at an error each end was written whole, in part or not at all, and the device did what its clause says | `Session::{turn_on, leave, enable_raw_mode, disable_raw_mode}` |
+//! | events are read by the calls of the only pass of a new reader; polls, queries and sizes are those of the libraries, and leave the list of features alone | `Session::{over, read, poll, position, supports_keyboard_enhancement, size}` |
 //!
 //! What to believe, in the order in which it reads (`specs/`), and where it is proved:
 //!
