@@ -1,8 +1,8 @@
 -- What a table has after keys that are alike, and after a list is bound.
-use Rattle.std.proofs.Common.{◌≡◌, ℕ, suc, zero, ◌+◌, ◌<◌, ◌≤◌, Bool, true, false, cond, ◌&&◌, ◌||◌, nat_eq, nat_lt, List, [], ◌∷◌, ◌++◌, length, map, take, Option, Some, None, refl, sym, ap, subst, ◌∙◌, arith}
+use Rattle.std.proofs.Common.{◌≡◌, ℕ, suc, zero, ◌+◌, ◌<◌, Bool, true, false, cond, ◌&&◌, ◌||◌, nat_eq, nat_lt, List, [], ◌∷◌, ◌++◌, length, map, take, Option, Some, None, refl, sym, ap, subst, ◌∙◌, arith}
 use Rattle.std.specs.Cmp.{IsEquivalence}
 use Rattle.std.specs.Cmp.Lexicographic.{pointwise, lists_equiv}
-use Rattle.std.specs.HashMap.{HashMap, get}
+use Rattle.std.specs.HashMap.{HashMap}
 use Rattle.std.specs.List.{list_any}
 use Rattle.std.specs.Map.{lookup}
 use Rattle.std.specs.Option.{is_some, unwrap_or}
@@ -13,7 +13,7 @@ use Rattle.crossterm_types.specs.contracts.event.key.normal.KeyEventEq.TheImpl.L
 use Rattle.crossterm_types.specs.declared.event.key.KeyEvent.{KeyEvent}
 use Rattle.keymap.specs.Bindings.{are_same, bound_of}
 use Rattle.keymap.specs.Chords.{Bound, chord, same_chord, is_front, goes_beyond, is_begun}
-use Rattle.keymap.specs.inside.Places.{BindsAt, Tells, TellsOf, are_alike, nowhere, number_from, place_at, place_of, with_list}
+use Rattle.keymap.specs.inside.Places.{BindsAt, Tells, TellsOf, are_alike, nowhere, number_from, place_at, with_list}
 use Rattle.keymap.specs.declared.inside.BoundList.{BoundList}
 use Rattle.keymap.specs.declared.inside.Place.{Place}
 use Rattle.keymap.specs.inside.Bindings.{binding}

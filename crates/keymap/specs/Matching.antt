@@ -1,12 +1,11 @@
 -- A matcher, and what it is fed.
-use Rattle.std.specs.Prelude.{◌≡◌, ◌<◌, Bool, List, [], ◌∷◌, ◌++◌, Option, Some, None, length}
+use Rattle.std.specs.Prelude.{◌≡◌, ◌<◌, ◌+◌, ℕ, Bool, if◌then◌else◌, nat_le, max, List, [], ◌∷◌, ◌++◌, Option, Some, None, length}
 use Rattle.crossterm_types.specs.declared.event.key.KeyEvent.{KeyEvent}
 use Rattle.keymap.specs.Bindings.{Binding, bound_of}
 use Rattle.keymap.specs.Cut.{cut, given, left}
 use Rattle.keymap.specs.Told.{Told}
 
--- A matcher as its callers see it: the bindings, whether it passes releases and modifier keys on, the keys that are undecided, and the outcomes
--- that wait.
+-- What a matcher matches: the bindings, whether it passes releases and modifier keys on, the keys that are undecided, and the outcomes that wait.
 pub record Matching : Type 0 where
   pub keymap : List Binding
   pub passes : Bool
@@ -48,3 +47,21 @@ pub record IsFlushed (m n : Matching) : Type 0 where
 abbrev pub TakesFirst : Matching → Option Told → Matching → Type 0
 TakesFirst m None n = (m.waiting ≡ []) × (n ≡ m)
 TakesFirst m (Some x) n = (m.waiting ≡ x ∷ n.waiting) × (n ≡ record m { waiting = n.waiting })
+
+-- A matcher as its callers see it: what it matches, and for how many more outcomes it has room without memory.
+pub record MatcherState : Type 0 where
+  pub matching : Matching
+  pub room : ℕ
+
+-- How many outcomes it holds at most without memory: those that wait, and those for which it has room.
+abbrev pub capacity : MatcherState → ℕ
+capacity m = length m.matching.waiting + m.room
+
+-- Room for so many more outcomes, where so much is there and so many wait. It stays as it is where it is enough. Else it is made for 16, or for
+-- as many as wait where these are more.
+abbrev pub room_made : ℕ → ℕ → ℕ → ℕ
+room_made count room waiting = if nat_le count room then room else max 16 waiting
+
+-- The matcher with room for so many more outcomes.
+abbrev pub with_room : ℕ → MatcherState → MatcherState
+with_room count m = record m { room = room_made count m.room (length m.matching.waiting) }

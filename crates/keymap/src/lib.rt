@@ -21,8 +21,10 @@
 //! | Proved | By the contract of |
 //! |---|---|
 //! | the outcomes of keys are the cut of these keys into the longest bound lists, given exactly as far as no further key can change it, and the rest at a flush; a refusal changes nothing | `Keymap::bind`, `Matcher::{feed, flush, next, step}`, `laws::{runs, turns, given}` |
-//! | a step polls and reads by its pass's next calls in the one legal history; an error leaves the matcher unchanged | `Matcher::step` |
+//! | a step polls and reads by its pass's next calls in the one legal history; an error leaves the matcher unchanged but for room | `Matcher::step` |
+//! | memory is refused only if there is room for fewer outcomes than may come; how much room is there after each call; taking an outcome takes no memory | `Matcher::{new, passing, feed, flush, next, step}` |
 //! | a text reads as a chord exactly as its definition says; what a chord is spelled as reads as the same chord | `read_chord`, `Display` of `Spelled`; `laws::spelled` |
+//! | as an `io::Error`, refused memory has the kind `OutOfMemory`, and each other fault has `InvalidInput` | `From<KeymapFault>` and `From<ChordFault>` of `io::Error` |
 //!
 //! What to believe, in the order in which it reads (`specs/`), and where it is proved:
 //!
@@ -34,7 +36,7 @@
 //! | `Parts` | what makes a cut the only one | `laws::unique_cut` |
 //! | `Deciding` | what is given is exactly what no further key can change | `laws::given` |
 //! | `Bindings` | what a keymap binds, and what it refuses | `Keymap` |
-//! | `Matching` | a matcher, and what it is fed | `Matcher::{new, passing, feed, flush, next}` |
+//! | `Matching` | a matcher, what it is fed, and its room for outcomes | `Matcher::{new, passing, feed, flush, next}` |
 //! | `Runs` | any run of feeding, flushing and taking | `laws::runs` |
 //! | `Taking` | what becomes of an event | `Matcher::step` |
 //! | `Turns` | any run of events, rests and outcomes | `laws::turns` |
@@ -53,6 +55,7 @@ pub mod laws;
 mod matching;
 mod outcome;
 mod places;
+mod room;
 pub mod rows;
 mod spelling;
 mod stepping;

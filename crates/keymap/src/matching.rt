@@ -5,7 +5,7 @@ ghost use Rattle.std.specs.VecDeque.{deque_len, deque_capacity};
 ghost use Rattle.keymap.specs.Bindings.{bound_of, AreShort};
 ghost use Rattle.keymap.specs.Chords.{longest};
 ghost use Rattle.keymap.specs.Cut.{cut, given, left, told_of, more_of};
-ghost use Rattle.keymap.specs.Matching.{IsFed, IsFlushed, StandsFor, TakesFirst};
+ghost use Rattle.keymap.specs.Matching.{IsFed, IsFlushed, StandsFor, TakesFirst, capacity, with_room};
 ghost use Rattle.keymap.specs.Told.{told};
 ghost use Rattle.keymap.specs.inside.Giving.{after_first, told_first};
 ghost use Rattle.keymap.specs.declared.fault.KeymapFault.TheVariants.{Memory};
@@ -15,6 +15,7 @@ use crate::fault::KeymapFault;
 use crate::few_keys::{FewKeys, LIMIT};
 use crate::inside::Match;
 use crate::outcome::Outcome;
+use crate::room::{make_room, no_outcomes};
 use crossterm_types::event::KeyEvent;
 use std::alloc::{Allocator, Global};
 use std::collections::VecDeque;
@@ -23,6 +24,9 @@ use std::marker::Model;
 /// Cuts keys into bound lists as they come, and gives each outcome as soon as it is decided.
 ///
 /// It keeps at most 7 undecided keys, for which it takes no memory. Its bindings stay as they are.
+///
+/// Outcomes wait in room that is made before they come: for 16, or for as many as wait if these are more. Memory is asked for only if there
+/// is room for fewer than may come of a call: 8 of `feed` and `step`, 7 of `flush`. Room that was made stays.
 ///
 /// A program that reads the terminal by `step` wants `Matcher::passing`: there a key that is let go breaks no sequence of keys.
 ///
@@ -44,13 +48,13 @@ pub struct Matcher<A: Allocator = Global> {
 }
 
 impl<A: Allocator> Model for Matcher<A> {
-    ghost use Rattle.std.specs.Prelude.{map, length, ◌<◌};
-    ghost use Rattle.keymap.specs.Matching.{Matching};
-    ghost use Rattle.keymap.specs.Told.{told};
+    ghost use Rattle.std.specs.Prelude.{length, ◌<◌};
+    ghost use Rattle.keymap.specs.Matching.{MatcherState};
+    ghost use Rattle.keymap.specs.inside.Room.{matcher_of};
 
-    ghost Value = { Matching };
+    ghost Value = { MatcherState };
 
-    ghost view = { λ m. record { keymap = m.keymap; passes = m.passes; undecided = m.undecided; waiting = map told m.waiting.items } };
+    ghost view = { λ m. matcher_of m.keymap m.passes m.undecided m.waiting };
 
     ghost invariant = { λ m. length m.undecided < 8 };
 }
@@ -145,17 +149,17 @@ pub(crate) fn give_all<A: Allocator>(
 impl<A: Allocator> Matcher<A> {
     // A matcher that was fed nothing, and passes releases and modifier keys on or not.
     fn with(alloc: A, keymap: Keymap<A>, passes: bool) -> Self
-        ensures { result ≡ record { keymap = keymap; passes = passes; undecided = []; waiting = [] } }
+        ensures { result ≡ record { matching = record { keymap = keymap; passes = passes; undecided = []; waiting = [] }; room = 0 } }
     {
         Matcher {
             keymap,
             passes,
             undecided: FewKeys::new(),
-            waiting: VecDeque::new(alloc),
+            waiting: no_outcomes(alloc),
         }
     }
 
-    /// A matcher that was fed nothing.
+    /// A matcher that was fed nothing. It has no room for outcomes yet.
     ///
     /// In its `step` each event but a press flushes. So if a terminal reports releases (`REPORT_EVENT_TYPES`), no list of two chords can
     /// match: the release of the first key flushes. And if it reports all keys (`REPORT_ALL_KEYS_AS_ESCAPE_CODES`), a press of Shift alone
@@ -165,7 +169,7 @@ impl<A: Allocator> Matcher<A> {
     /// let mut matcher = Matcher::new(alloc, keymap);
     /// ```
     pub fn new(alloc: A, keymap: Keymap<A>) -> Self
-        ensures { result ≡ record { keymap = keymap; passes = false; undecided = []; waiting = [] } }
+        ensures { result ≡ record { matching = record { keymap = keymap; passes = false; undecided = []; waiting = [] }; room = 0 } }
     {
         Matcher::with(alloc, keymap, false)
     }
@@ -179,7 +183,7 @@ impl<A: Allocator> Matcher<A> {
     /// let mut matcher = Matcher::passing(alloc, keymap);
     /// ```
     pub fn passing(alloc: A, keymap: Keymap<A>) -> Self
-        ensures { result ≡ record { keymap = keymap; passes = true; undecided = []; waiting = [] } }
+        ensures { result ≡ record { matching = record { keymap = keymap; passes = true; undecided = []; waiting = [] }; room = 0 } }
     {
         Matcher::with(alloc, keymap, true)
     }
@@ -190,7 +194,7 @@ impl<A: Allocator> Matcher<A> {
     /// let action = matcher.keymap().action(0);
     /// ```
     pub fn keymap(&self) -> &Keymap<A>
-        ensures { result.now ≡ self.now.keymap }
+        ensures { result.now ≡ self.now.matching.keymap }
     {
         &self.keymap
     }
@@ -206,13 +210,14 @@ impl<A: Allocator> Matcher<A> {
     /// }
     /// ```
     pub fn undecided(&self) -> &[KeyEvent]
-        ensures keys { result.now ≡ self.now.undecided }
+        ensures keys { result.now ≡ self.now.matching.undecided }
         ensures few { length result.now < 8 }
     {
         self.undecided.as_slice()
     }
 
-    /// Takes the first outcome that waits, or returns `None` if there is none. It asks for no memory, as is only tested.
+    /// Takes the first outcome that waits, or returns `None` if there is none. It takes no memory and gives none back: an outcome that is
+    /// taken leaves room for one more.
     ///
     /// ```
     /// while let Some(outcome) = matcher.next() {
@@ -220,7 +225,8 @@ impl<A: Allocator> Matcher<A> {
     /// }
     /// ```
     pub fn next(&mut self) -> Option<Outcome<A>>
-        ensures { TakesFirst self.old (option_map told result) self.new }
+        ensures first { TakesFirst self.old.matching (option_map told result) self.new.matching }
+        ensures room { capacity self.new ≡ capacity self.old }
     {
         self.waiting.pop_front()
     }
@@ -232,17 +238,19 @@ impl<A: Allocator> Matcher<A> {
     ///
     /// # Errors
     ///
-    /// `Memory` if memory was refused. Then nothing has changed.
+    /// `Memory` if there was room for fewer than 8 more outcomes and memory was refused. Then nothing has changed.
     ///
     /// ```
     /// matcher.feed(KeyEvent::new(KeyCode::Char('x'), KeyModifiers::CONTROL))?;
     /// ```
     pub fn feed(&mut self, key: KeyEvent) -> Result<(), KeymapFault>
-        ensures ok { OnOk result (IsFed self.old key self.new) }
+        ensures ok { OnOk result (IsFed self.old.matching key self.new.matching) }
+        ensures room { OnOk result (capacity self.new ≡ capacity (with_room 8 self.old)) }
         ensures err { OnErr result (self.new ≡ self.old) }
+        ensures full { OnErr result (self.old.room < 8) }
         ensures fault { IfErr result (λ fault. fault ≡ Memory) }
     {
-        match self.waiting.reserve(LIMIT) {
+        match make_room(&mut self.waiting, LIMIT) {
             Ok(()) => {}
             Err(_) => return Err(KeymapFault::Memory),
         }
@@ -255,17 +263,19 @@ impl<A: Allocator> Matcher<A> {
     ///
     /// # Errors
     ///
-    /// `Memory` if memory was refused. Then nothing has changed.
+    /// `Memory` if there was room for fewer than 7 more outcomes and memory was refused. Then nothing has changed.
     ///
     /// ```
     /// matcher.flush()?;
     /// ```
     pub fn flush(&mut self) -> Result<(), KeymapFault>
-        ensures ok { OnOk result (IsFlushed self.old self.new) }
+        ensures ok { OnOk result (IsFlushed self.old.matching self.new.matching) }
+        ensures room { OnOk result (capacity self.new ≡ capacity (with_room 7 self.old)) }
         ensures err { OnErr result (self.new ≡ self.old) }
+        ensures full { OnErr result (self.old.room < 7) }
         ensures fault { IfErr result (λ fault. fault ≡ Memory) }
     {
-        match self.waiting.reserve(LIMIT) {
+        match make_room(&mut self.waiting, LIMIT - 1) {
             Ok(()) => {}
             Err(_) => return Err(KeymapFault::Memory),
         }

@@ -1,5 +1,7 @@
 //! Chords as people write them: what is read as one, and how one is spelled.
 ghost use Rattle.std.specs.Prelude.{◌≡◌, ◌==◌, ℕ, [], ◌++◌, if◌then◌else◌, Some, bit_and, bit_or};
+ghost use Rattle.std.specs.declared.io.ErrorKind.TheVariants.{InvalidInput};
+ghost use Rattle.std.specs.IoError.{error_kind};
 ghost use Rattle.crossterm_flags.specs.Variants.{name_in, rows_of, value_in};
 ghost use Rattle.crossterm_types.specs.Values.{only_char};
 ghost use Rattle.crossterm_types.specs.contracts.event.key.KeyCodePartialEq.TheImpl as code_eq;
@@ -8,10 +10,11 @@ ghost use Rattle.keymap.specs.inside.Part.{part_text};
 
 use crossterm_flags::value::name_in;
 use crossterm_types::event::{KeyCode, KeyEvent, KeyModifiers, MediaKeyCode, ModifierKeyCode};
-use std::fmt;
+use std::io::ErrorKind;
+use std::{fmt, io};
 use thiserror::Error;
 
-/// Why a text is no chord.
+/// Why a text is no chord. As an `io::Error` it has the kind `InvalidInput`.
 ///
 /// ```
 /// assert_eq!(read_chord("control-x"), Err(ChordFault::UnknownModifier));
@@ -27,6 +30,15 @@ pub enum ChordFault {
     /// The key has no such name.
     #[error("unknown key")]
     UnknownKey,
+}
+
+impl From<ChordFault> for io::Error {
+    ghost from_gives = { λ fault error. error_kind error ≡ InvalidInput };
+
+    /// Of the kind `InvalidInput`.
+    fn from(_fault: ChordFault) -> io::Error {
+        io::Error::from(ErrorKind::InvalidInput)
+    }
 }
 
 // Keys by their words.

@@ -7,6 +7,7 @@ ghost use Rattle.keymap.specs.Stepping.{Steps, step_answer};
 use crate::few_keys::LIMIT;
 use crate::matching::Matcher;
 use crate::outcome::Outcome;
+use crate::room::make_room;
 use crate::taking::{flush, pop, take_event};
 use crossterm_read::read::{EventReader, Pass};
 use crossterm_read::source::EventSource;
@@ -26,8 +27,8 @@ impl<A: Allocator + Clone> Matcher<A> {
     ///
     /// # Errors
     ///
-    /// Those of the poll and of the read, which change nothing in the matcher, and `OutOfMemory` if there was no room for what may come.
-    /// Then nothing was asked.
+    /// Those of the poll and of the read, after which the matcher has room for what may come, and is else as it was. `OutOfMemory` if there
+    /// was room for fewer than 8 outcomes and memory was refused: then nothing has changed, and nothing was asked.
     ///
     /// ```
     /// let outcome = matcher.step(&rt, &reader, &mut pass, Some(Duration::from_millis(500)), &mut clock)?;
@@ -49,7 +50,7 @@ impl<A: Allocator + Clone> Matcher<A> {
             Some(outcome) => return Ok(Some(outcome)),
             None => {}
         }
-        match self.waiting.reserve(LIMIT + 1) {
+        match make_room(&mut self.waiting, LIMIT) {
             Ok(()) => {}
             Err(_) => return Err(io::Error::from(io::ErrorKind::OutOfMemory)),
         }

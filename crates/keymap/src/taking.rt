@@ -59,7 +59,8 @@ fn way_of<A: Allocator>(passes: bool, event: &Event<A>) -> Way
 // An event joins the outcomes that wait.
 fn pass_on<A: Allocator>(waiting: &mut VecDeque<Outcome<A>, A>, event: Event<A>)
     requires { deque_len waiting.old < deque_capacity waiting.old }
-    ensures { map told waiting.new.items ≡ map told waiting.old.items ++ Told.Event (seen_event event) ∷ [] }
+    ensures event { map told waiting.new.items ≡ map told waiting.old.items ++ Told.Event (seen_event event) ∷ [] }
+    ensures capacity { deque_capacity waiting.new ≡ deque_capacity waiting.old }
 {
     waiting.push_back_reserved(Outcome::Event(event));
 }
@@ -74,6 +75,7 @@ fn follow<A: Allocator>(
     requires { deque_len waiting.old + length keys.old < deque_capacity waiting.old }
     ensures followed { (passes : Bool) → IsFollowed (state_of keymap.now passes keys.old waiting.old.items) (seen_event event) (state_of keymap.now passes keys.new waiting.new.items) }
     ensures keys { keys.new ≡ [] }
+    ensures capacity { deque_capacity waiting.new ≡ deque_capacity waiting.old }
 {
     give_all(keymap, keys, waiting);
     pass_on(waiting, event);
@@ -90,6 +92,7 @@ fn take_key<A: Allocator>(
     requires room { deque_len waiting.old + length keys.old < deque_capacity waiting.old }
     ensures fed { (passes : Bool) → IsFed (state_of keymap.now passes keys.old waiting.old.items) key (state_of keymap.now passes keys.new waiting.new.items) }
     ensures short { length keys.new < 8 }
+    ensures capacity { deque_capacity waiting.new ≡ deque_capacity waiting.old }
 {
     keys.push(key);
     give_decided(keymap, keys, waiting);
@@ -107,6 +110,7 @@ pub(crate) fn take_event<A: Allocator>(
     requires room { deque_len waiting.old + length keys.old < deque_capacity waiting.old }
     ensures taken { TakesEvent (state_of keymap.now passes keys.old waiting.old.items) (seen_event event) (state_of keymap.now passes keys.new waiting.new.items) }
     ensures short { length keys.new < 8 }
+    ensures capacity { deque_capacity waiting.new ≡ deque_capacity waiting.old }
 {
     match way_of(passes, &event) {
         Way::Feed(key) => take_key(keymap, keys, waiting, key),
@@ -124,6 +128,7 @@ pub(crate) fn flush<A: Allocator>(
     requires { deque_len waiting.old + length keys.old ≤ deque_capacity waiting.old }
     ensures flushed { (passes : Bool) → IsFlushed (state_of keymap.now passes keys.old waiting.old.items) (state_of keymap.now passes keys.new waiting.new.items) }
     ensures keys { keys.new ≡ [] }
+    ensures capacity { deque_capacity waiting.new ≡ deque_capacity waiting.old }
 {
     give_all(keymap, keys, waiting);
 }
@@ -132,6 +137,7 @@ pub(crate) fn flush<A: Allocator>(
 pub(crate) fn pop<A: Allocator>(waiting: &mut VecDeque<Outcome<A>, A>) -> Option<Outcome<A>>
     ensures first { TakesFirstOf (map told waiting.old.items) (option_map told result) (map told waiting.new.items) }
     ensures none { IfNone result (deque_len waiting.new ≡ 0) }
+    ensures capacity { deque_capacity waiting.new ≡ deque_capacity waiting.old }
 {
     waiting.pop_front()
 }

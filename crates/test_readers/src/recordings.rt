@@ -2,6 +2,7 @@
 
 use crossterm_read::read::InternalEventReader;
 use crossterm_read::source::{Answer, Device, DeviceSource, Script};
+use crossterm_types::event::InternalEvent;
 use crossterm_types::event::filter::EventFilter;
 use linked_list_allocator::LocalHeap;
 use recorder::reading::{Session, Wrong, read_session};
@@ -232,19 +233,24 @@ fn a_text_reads_as_a_session_or_names_its_bad_line(rt: HostRuntime) {
     }
 }
 
+/// What was read, as a line.
+fn line_of(alloc: Global, came: io::Result<Option<InternalEvent>>) -> Result<String, AllocError> {
+    match came {
+        Ok(event) => format!(in alloc; "{event:?}\n"),
+        Err(fault) => {
+            let kind = fault.kind();
+            format!(in alloc; "{kind:?}\n")
+        }
+    }
+}
+
 /// What a reader reads of a session's acts, an event or a fault on each line, up to the end of input.
 fn played(alloc: Global, session: Session) -> Result<String, AllocError> {
     let source = DeviceSource::new(alloc, Script::new(session.acts));
     let mut reader = InternalEventReader::new(alloc, source);
     let mut lines = String::new(alloc);
     for _ in 0..12u32 {
-        let line = match reader.read_within(9, &EventFilter) {
-            Ok(event) => format!(in alloc; "{event:?}\n")?,
-            Err(fault) => {
-                let kind = fault.kind();
-                format!(in alloc; "{kind:?}\n")?
-            }
-        };
+        let line = line_of(alloc, reader.read_within(9, &EventFilter))?;
         lines.push_str(line.as_str())?;
     }
     Ok(lines)

@@ -1,9 +1,10 @@
 //! Bindings and matchers whose memory is refused.
 
+use crate::bindings::rows::keymap_of;
 use crossterm_types::event::{KeyCode, KeyEvent};
 use keymap::{Keymap, KeymapFault, Matcher, Outcome};
 use linked_list_allocator::LocalHeap;
-use std::alloc::AllocError;
+use std::alloc::{AllocError, Global};
 use test_support::{Calls, Came, expect, is_refused_below_a_size};
 
 /// Binds a list that is to have this number. If memory is refused, there may be no binding of that number.
@@ -73,5 +74,22 @@ impl Calls for Bindings {
 #[test]
 fn refused_memory_changes_nothing(rt: HostRuntime) -> Result<(), AllocError> {
     expect!(rt; is_refused_below_a_size(rt.alloc(), &Bindings)?);
+    Ok(())
+}
+
+/// How many bytes of a heap some lists take, or `None` if one isn't bound.
+fn bytes_of(alloc: Global, heap: &LocalHeap) -> Option<usize> {
+    let _keymap = keymap_of(alloc, heap, &["g", "gg", "ab", "abcdefgh"])?;
+    Some(heap.used())
+}
+
+/// Four lists are bound over a heap of 16 MB, of which they need a few thousand bytes.
+#[test]
+fn lists_take_little_memory(rt: HostRuntime) -> Result<(), AllocError> {
+    let heap = LocalHeap::new(rt.alloc(), 16_777_216)?;
+    match bytes_of(rt.alloc(), &heap) {
+        Some(bytes) => expect!(rt; 0 < bytes && bytes < 32_768),
+        None => expect!(rt; false),
+    }
     Ok(())
 }

@@ -74,11 +74,17 @@ fn fed(alloc: Global, lists: &[&str], typed: &str) -> Option<(String, String)> {
     Some((refused, signs))
 }
 
-/// Lists, what is typed, which calls are refused, and what comes of all. The room for outcomes grows to 8, to 16, and to 32.
-static ROWS: [(&[&str], &str, &str, &str); 3] = [
-    (&["abc", "b"], "xxxxxxxaba|", "xx|", "xxxxxxxa1a"),
+/// Lists, what is typed, which calls are refused, and what comes of all. The room for outcomes grows to 16, to 25, and to 36.
+static ROWS: [(&[&str], &str, &str, &str); 4] = [
+    (&["abc", "b"], "xxxxxxxxaba|", "x|", "xxxxxxxxa1a"),
     (&["abc", "b"], "|ab|", "|", "a1"),
-    (&["gg", "g"], "ggggggggggggggggggg|", "ggg", "0000000001"),
+    (&["gg", "g"], "ggggggggggggggggggg|", "gg", "0000000001"),
+    (
+        &["gg"],
+        "xxxxxxxxxxxxxxxxxxxx",
+        "xxx",
+        "xxxxxxxxxxxxxxxxxxxx",
+    ),
 ];
 
 /// Whether that is refused, and that comes.
@@ -194,21 +200,19 @@ fn step_all<'a, R: Wait>(
     Ok(())
 }
 
-/// What comes of a key that was fed before and of a script, if each step is refused memory that it asks for.
+/// What comes of a script, if each step is refused memory that it asks for.
 fn stepped<R: Wait>(rt: &R, alloc: Global) -> io::Result<String> {
     let heap = LocalHeap::new(alloc, SIZE)?;
-    let mut stepper = Stepper::new(rt, alloc, &heap, &["g", "x", "g\x1b[I", "g"])?;
+    let mut stepper = Stepper::new(rt, alloc, &heap, &["g", "g", "x", "g\x1b[I", "g"])?;
     let mut signs = String::new(alloc);
-    if call(&mut stepper.matcher, 'g').is_ok() {
-        step_all(rt, alloc, &heap, &mut stepper, &mut signs)?;
-    }
+    step_all(rt, alloc, &heap, &mut stepper, &mut signs)?;
     if call(&mut stepper.matcher, '|').is_ok() {
         take_all(&mut stepper.matcher, &mut signs)?;
     }
     Ok(signs)
 }
 
-/// The first step is refused, since it makes more room than the key took.
+/// The first step is refused, since there is no room yet. Then there is room for each step.
 #[test]
 fn a_step_that_is_refused_loses_nothing(rt: HostRuntime) -> io::Result<()> {
     let signs = stepped(&rt, rt.alloc())?;

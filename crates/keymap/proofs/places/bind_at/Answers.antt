@@ -1,7 +1,7 @@
-use Rattle.std.proofs.Common.{◌≡◌, ◌+◌, length, take, Some, refl, ap, ◌∙◌, arith, true, cond}
+use Rattle.std.proofs.Common.{◌≡◌, length, take, Some, refl, ap, ◌∙◌, arith, true, cond}
 use Rattle.keymap.specs.inside.Places.{are_alike, place_at}
 use Rattle.keymap.specs.declared.inside.Place.{Place}
-use Rattle.keymap.proofs.Placing.{all_marked, marked_to, none_marked, one_marked, place_alike}
+use Rattle.keymap.proofs.Placing.{all_marked, marked_to, one_marked, place_alike}
 use Rattle.keymap.proofs.places.bind_at.Goals as goal
 
 pub loop-count-preserved : goal.loop-count-preserved

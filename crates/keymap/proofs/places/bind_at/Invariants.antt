@@ -1,4 +1,4 @@
-use Rattle.std.proofs.Common.{◌≡◌, ◌≤◌, ◌<◌, ◌+◌, length, List}
+use Rattle.std.proofs.Common.{◌≡◌, ◌<◌, ◌+◌, length, List}
 use Rattle.std.specs.HashMap.{spare}
 use Rattle.crossterm_types.specs.declared.event.key.KeyEvent.{KeyEvent}
 use Rattle.keymap.specs.inside.Places.{place_at}

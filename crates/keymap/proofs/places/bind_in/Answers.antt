@@ -1,4 +1,4 @@
-use Rattle.std.proofs.Common.{◌≡◌, ℕ, length, sym, ◌∙◌, subst}
+use Rattle.std.proofs.Common.{sym, ◌∙◌, subst}
 use Rattle.keymap.specs.inside.Places.{BindsAt}
 use Rattle.keymap.proofs.Placing.{tells_more, tells_some}
 use Rattle.keymap.proofs.places.bind_in.Goals as goal

@@ -1,4 +1,4 @@
-use Rattle.std.proofs.Common.{ℕ, ◌-◌, Option, take, sym, ap, ◌∙◌, arith}
+use Rattle.std.proofs.Common.{ℕ, Option, take, sym, ap, ◌∙◌, arith}
 use Rattle.keymap.specs.inside.Places.{place_at}
 use Rattle.keymap.specs.declared.inside.Place.{Place}
 use Rattle.keymap.proofs.Deepest.{deepest_less}

@@ -1,4 +1,4 @@
-use Rattle.std.proofs.Common.{◌≡◌, ◌<◌, ◌≤◌, length, map, take, ℕ}
+use Rattle.std.proofs.Common.{◌≡◌, length, map, take}
 use Rattle.keymap.specs.Chords.{chord}
 use Rattle.keymap.proofs.few_keys.FewKeys.chords_of.Given as goal
 

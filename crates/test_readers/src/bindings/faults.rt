@@ -1,0 +1,75 @@
+//! Texts of faults, and errors that a step returns as they are.
+
+use crate::bindings::rows::matcher_of;
+use crossterm_read::read::InternalEventReader;
+use crossterm_read::source::{DeviceSource, RawFlag, ReadDevice};
+use keymap::{ChordFault, KeymapFault, Matcher};
+use std::alloc::Global;
+use std::io::{self, ErrorKind, Read};
+use std::sync::Wait;
+use std::time::Duration;
+use test_support::{Seat, Still, alone, expect, is_text};
+
+static KEYMAP_FAULTS: [(KeymapFault, &str); 4] = [
+    (KeymapFault::Memory, "out of memory"),
+    (KeymapFault::Empty, "no chord"),
+    (KeymapFault::TooLong, "more than 8 chords"),
+    (KeymapFault::Taken, "the same chords are bound"),
+];
+
+static CHORD_FAULTS: [(ChordFault, &str); 3] = [
+    (ChordFault::Empty, "no key"),
+    (ChordFault::UnknownModifier, "unknown modifier"),
+    (ChordFault::UnknownKey, "unknown key"),
+];
+
+#[test]
+fn faults_have_their_texts(rt: HostRuntime) {
+    for (fault, want) in KEYMAP_FAULTS.iter() {
+        expect!(rt; is_text(format!(in rt.alloc(); "{fault}"), want), want);
+    }
+    for (fault, want) in CHORD_FAULTS.iter() {
+        expect!(rt; is_text(format!(in rt.alloc(); "{fault}"), want), want);
+    }
+}
+
+/// A reader that fails with a number of the system that has no kind of its own.
+#[derive(Drop)]
+struct Broken;
+
+/// EREMOTEIO.
+const NUMBER: i32 = 121;
+
+impl Read for Broken {
+    fn read(&mut self, _buf: &mut [u8]) -> io::Result<usize> {
+        Err(io::Error::from_raw_os_error(NUMBER))
+    }
+}
+
+type Source = DeviceSource<ReadDevice<Broken>>;
+
+/// The number of the system in the error of a step.
+fn number_of<R: Wait>(rt: &R, seat: &mut Seat<Source>, matcher: &mut Matcher) -> Option<i32> {
+    let limit = Some(Duration::ZERO);
+    match matcher.step(rt, &seat.shared, &mut seat.pass, limit, &mut Still) {
+        Ok(_) => None,
+        Err(error) => error.raw_os_error(),
+    }
+}
+
+/// The number of the system in the error of a step over that reader.
+fn number_of_broken<R: Wait>(rt: &R, alloc: Global) -> io::Result<Option<i32>> {
+    let device = ReadDevice::new(Broken, RawFlag::new(alloc)?);
+    let source = DeviceSource::new(alloc, device);
+    let mut seat = alone(rt, alloc, InternalEventReader::new(alloc, source))?;
+    match matcher_of(alloc, &["g"]) {
+        Some(mut matcher) => Ok(number_of(rt, &mut seat, &mut matcher)),
+        None => Err(io::Error::from(ErrorKind::OutOfMemory)),
+    }
+}
+
+#[test]
+fn an_error_of_the_system_is_returned_as_it_is(rt: HostRuntime) -> io::Result<()> {
+    expect!(rt; number_of_broken(&rt, rt.alloc())? == Some(NUMBER));
+    Ok(())
+}
