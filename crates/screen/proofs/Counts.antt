@@ -13,7 +13,8 @@ use Rattle.crossterm_style.specs.Styles.{no_style, told}
 use Rattle.screen.specs.declared.cells.Cell.{Cell}
 use Rattle.screen.specs.declared.strokes.Stroke.{Stroke}
 use Rattle.screen.specs.declared.strokes.Stroke.TheVariants as stroke
-use Rattle.screen.specs.Drawings.{DifferAt, HasToBePrinted, printed}
+use Rattle.screen.specs.Drawings.{DifferAt, printed}
+use Rattle.screen.specs.Updates.{HasToBePrinted}
 use Rattle.screen.specs.inside.Strokes.{cell_strokes, cursor_strokes, first_strokes, last_strokes, tokens, tokens_of}
 use Rattle.screen.proofs.Runs.{SetsStyle, style_sets}
 

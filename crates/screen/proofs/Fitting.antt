@@ -12,11 +12,14 @@ space_takes_one : takes_one 32 ≡ true
 unfolding char_width
 space_takes_one = refl
 
+pub space_fits : Fits 32
+space_fits = (refl, space_takes_one)
+
 pub all_fit : (n : ℕ) (c : Cell) → Fits c.symbol → All (λ b. Fits b.symbol) (replicate n c)
 all_fit n c f k d lt = subst (λ b. Fits b.symbol) (sym (get_or-replicate n k c d (subst (λ m. k < m) (length-replicate n c) lt))) f
 
 pub all_blank : (n : ℕ) (xs : List Cell) → xs ≡ replicate n blank → All (λ b. Fits b.symbol) xs
-all_blank n xs e = subst (All (λ b. Fits b.symbol)) (sym e) (all_fit n blank (refl, space_takes_one))
+all_blank n xs e = subst (All (λ b. Fits b.symbol)) (sym e) (all_fit n blank space_fits)
 
 pub count_blank : (n : ℕ) (xs : List Cell) → xs ≡ replicate n blank → length xs ≡ n
 count_blank n xs e = ap length e ∙ length-replicate n blank

@@ -10,13 +10,15 @@ use Rattle.screen.specs.declared.strokes.Stroke.{Stroke}
 use Rattle.screen.specs.declared.strokes.Stroke.TheVariants as stroke
 use Rattle.screen.specs.Buffers.{Picture}
 use Rattle.screen.specs.Cells.{ArePaired, blank, seen}
-use Rattle.screen.specs.Drawings.{DifferAt, HasCursor, HasSize, IsFrame, MayShow, cells_before, printed}
+use Rattle.screen.specs.Drawings.{DifferAt, HasCursor, HasSize, IsFrame, MayShow, cells_before, knows_cells, printed}
+use Rattle.screen.specs.Updates.{IsSparing}
 use Rattle.screen.specs.Screens.{View}
 use Rattle.screen.specs.Grids.{Grid, run}
 use Rattle.screen.specs.inside.Scans.{IsPairedIf, Planned, StartsWith, Visited, is_known}
 use Rattle.screen.specs.inside.Strokes.{AreFitting, IsFitting, last_strokes, tokens, tokens_of}
 use Rattle.screen.proofs.Counts.{last_prints, strokes_printed}
 use Rattle.screen.proofs.Runs.{moved, plain_set, run_then, runs_then}
+use Rattle.screen.proofs.Spares.{sparing, updated}
 use Rattle.screen.proofs.Squares.{blanks_paired}
 
 -- The cursor's place is within a size.
@@ -62,6 +64,8 @@ planned known width height before after cursor strokes ws hs inside visited = re
       let same : printed (tokens_of colors (strokes ++ last_strokes cursor)) ≡ printed (tokens_of colors strokes) =
       strokes_printed colors strokes (last_strokes cursor) ∙ ap (λ n. printed (tokens_of colors strokes) + n) (last_prints colors cursor) ∙ (omega arith) in
       subst (DifferAt before after) (sym same) (visited.count colors);
+  update = updated known width before after cursor strokes visited.spares;
+  sparing = sparing known width before after cursor strokes visited.spares;
 }
 
 last_fitting : (cursor : Option (ℕ × ℕ)) → AreFitting (last_strokes cursor)
@@ -74,51 +78,59 @@ fitting strokes cursor all = all_joined IsFitting strokes (last_strokes cursor) 
 -- ---- a screen's frame
 
 -- a screen by its parts
-abbrev pub view_of : ℕ → ℕ → Option ColorOutput → List Cell → View
-view_of width height drawn shown = record { width = width; height = height; drawn = option_map (λ colors. record { colors = colors; cells = shown }) drawn }
+abbrev pub view_of : ℕ → ℕ → Option ColorOutput → List Cell → ℕ → View
+view_of width height drawn shown room = record { width = width; height = height; drawn = option_map (λ colors. record { colors = colors; cells = shown }) drawn; room = room }
 
 -- the cells that a frame begins with
 abbrev Begun : ℕ → ℕ → Option ColorOutput → List Cell → ColorOutput → List Cell → Type 0
 Begun width height drawn shown colors before = before ≡ (if is_known drawn colors then shown else replicate (width * height) blank)
 
-started : (width height : ℕ) (drawn : Option ColorOutput) (shown : List Cell) (colors : ColorOutput) (before : List Cell) → Begun width height drawn shown colors before
-    → (g : Grid) → MayShow (view_of width height drawn shown) g → StartsWith (is_known drawn colors) colors width height before g
-started width height None shown colors before e g m = m.0
-started width height (Some Enabled) shown Enabled before e g m = (m.0, m.1 ∙ ap (map (seen Enabled)) (sym e))
-started width height (Some Disabled) shown Disabled before e g m = (m.0, m.1 ∙ ap (map (seen Disabled)) (sym e))
-started width height (Some Enabled) shown Disabled before e g m = m.0
-started width height (Some Disabled) shown Enabled before e g m = m.0
+started : (width height : ℕ) (drawn : Option ColorOutput) (shown : List Cell) (room : ℕ) (colors : ColorOutput) (before : List Cell) → Begun width height drawn shown colors before
+    → (g : Grid) → MayShow (view_of width height drawn shown room) g → StartsWith (is_known drawn colors) colors width height before g
+started width height None shown room colors before e g m = m.0
+started width height (Some Enabled) shown room Enabled before e g m = (m.0, m.1 ∙ ap (map (seen Enabled)) (sym e))
+started width height (Some Disabled) shown room Disabled before e g m = (m.0, m.1 ∙ ap (map (seen Disabled)) (sym e))
+started width height (Some Enabled) shown room Disabled before e g m = m.0
+started width height (Some Disabled) shown room Enabled before e g m = m.0
 
-begun : (width height : ℕ) (drawn : Option ColorOutput) (shown : List Cell) (colors : ColorOutput) (before : List Cell) → Begun width height drawn shown colors before
-    → before ≡ cells_before (view_of width height drawn shown) colors
-begun width height None shown colors before e = e
-begun width height (Some c) shown colors before e = e
+begun : (width height : ℕ) (drawn : Option ColorOutput) (shown : List Cell) (room : ℕ) (colors : ColorOutput) (before : List Cell) → Begun width height drawn shown colors before
+    → before ≡ cells_before (view_of width height drawn shown room) colors
+begun width height None shown room colors before e = e
+begun width height (Some c) shown room colors before e = e
+
+knows : (width height : ℕ) (drawn : Option ColorOutput) (shown : List Cell) (room : ℕ) (colors : ColorOutput) → is_known drawn colors ≡ knows_cells (view_of width height drawn shown room).drawn colors
+knows width height None shown room colors = refl
+knows width height (Some c) shown room colors = refl
 
 sized : (p : Picture) (width height : ℕ) (g : Grid) → p.width ≡ width → p.height ≡ height → HasSize width height g → HasSize p.width p.height g
 sized p width height g w h s = (s.0 ∙ sym w, s.1 ∙ sym h, s.2 ∙ ap (λ n. n * height) (sym w) ∙ ap (λ n. p.width * n) (sym h))
 
 -- What was planned is a frame of the screen.
-pub framed : (width height : ℕ) (drawn : Option ColorOutput) (shown before : List Cell) (colors : ColorOutput) (p : Picture) (cursor : Option (ℕ × ℕ)) (strokes : List Stroke)
+pub framed : (width height : ℕ) (drawn : Option ColorOutput) (shown before : List Cell) (room : ℕ) (colors : ColorOutput) (p : Picture) (cursor : Option (ℕ × ℕ)) (strokes : List Stroke)
     → p.width ≡ width → p.height ≡ height → before ≡ (if is_known drawn colors then shown else replicate (width * height) blank)
-    → Planned (is_known drawn colors) width height before p.cells cursor strokes → IsFrame (view_of width height drawn shown) colors p cursor (tokens_of colors strokes)
-framed width height drawn shown before colors p cursor strokes w h e plan = record {
+    → Planned (is_known drawn colors) width height before p.cells cursor strokes → IsFrame (view_of width height drawn shown room) colors p cursor (tokens_of colors strokes)
+framed width height drawn shown before room colors p cursor strokes w h e plan = record {
   turns = λ g m.
-      let (i, ran, shows) = plan.leads colors g (started width height drawn shown colors before e g m) in
+      let (i, ran, shows) = plan.leads colors g (started width height drawn shown room colors before e g m) in
       (i, ran, (sized p width height i w h shows.0, shows.1, shows.2, shows.3));
-  count = subst (λ l. DifferAt l p.cells (printed (tokens_of colors strokes))) (begun width height drawn shown colors before e) (plan.count colors);
+  count = subst (λ l. DifferAt l p.cells (printed (tokens_of colors strokes))) (begun width height drawn shown room colors before e) (plan.count colors);
+  update = plan.update colors;
+  sparing = subst (λ l. IsSparing (knows_cells (view_of width height drawn shown room).drawn colors) p.width l p.cells cursor (tokens_of colors strokes)) (begun width height drawn shown room colors before e)
+      (subst (λ n. IsSparing (knows_cells (view_of width height drawn shown room).drawn colors) n before p.cells cursor (tokens_of colors strokes)) (sym w)
+      (subst (λ y. IsSparing y width before p.cells cursor (tokens_of colors strokes)) (knows width height drawn shown room colors) (plan.sparing colors)));
 }
 
 -- The same, by what the parts are known to be.
-pub frame_of : (s : View) (width height : ℕ) (drawn : Option ColorOutput) (shown prepared before after : List Cell) (colors : ColorOutput) (p : Picture) (cursor : Option (ℕ × ℕ)) (known : Bool) (strokes said : List Stroke)
-    → view_of width height drawn shown ≡ s → p.width ≡ width → p.height ≡ height → after ≡ p.cells → known ≡ is_known drawn colors
-    → prepared ≡ (if is_known drawn colors then shown else replicate (length shown) blank) → before ≡ prepared → length shown ≡ width * height → said ≡ strokes
-    → Planned known width height before after cursor strokes → IsFrame s colors p cursor (tokens_of colors said)
-frame_of s width height drawn shown prepared before after colors p cursor known strokes said view w h a k prep b len told plan =
+pub frame_of : (s : View) (width height : ℕ) (drawn : Option ColorOutput) (shown prepared before after : List Cell) (room : ℕ) (colors : ColorOutput) (p : Picture) (cursor : Option (ℕ × ℕ)) (known : Bool) (strokes : List Stroke)
+    → view_of width height drawn shown room ≡ s → p.width ≡ width → p.height ≡ height → after ≡ p.cells → known ≡ is_known drawn colors
+    → prepared ≡ (if is_known drawn colors then shown else replicate (length shown) blank) → before ≡ prepared → length shown ≡ width * height
+    → Planned known width height before after cursor strokes → IsFrame s colors p cursor (tokens_of colors strokes)
+frame_of s width height drawn shown prepared before after room colors p cursor known strokes view w h a k prep b len plan =
     let sure : before ≡ (if is_known drawn colors then shown else replicate (width * height) blank) =
     b ∙ prep ∙ ap (λ n. if is_known drawn colors then shown else replicate n blank) len in
     let cells : Planned (is_known drawn colors) width height before p.cells cursor strokes =
     subst (λ l. Planned (is_known drawn colors) width height before l cursor strokes) a (subst (λ y. Planned y width height before after cursor strokes) k plan) in
-    subst (λ l. IsFrame s colors p cursor (tokens_of colors l)) (sym told) (subst (λ v. IsFrame v colors p cursor (tokens_of colors strokes)) view (framed width height drawn shown before colors p cursor strokes w h sure cells))
+    subst (λ v. IsFrame v colors p cursor (tokens_of colors strokes)) view (framed width height drawn shown before room colors p cursor strokes w h sure cells)
 
 -- Cells that a frame begins with are paired.
 pub prepared_paired : (drawn : Option ColorOutput) (colors : ColorOutput) (shown now : List Cell) (n : ℕ) → now ≡ (if is_known drawn colors then shown else replicate n blank) → IsPairedIf drawn shown → ArePaired false now

@@ -4,5 +4,7 @@ pub mod Squares
 pub mod Runs
 pub mod Counts
 pub mod Scans
+pub mod Putting
+pub mod Spares
 pub mod Frames
 pub mod Written

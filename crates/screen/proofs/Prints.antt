@@ -1,12 +1,11 @@
 -- Texts in cells.
-use Rattle.std.proofs.Common.{◌≡◌, ℕ, zero, suc, ◌+◌, ◌<◌, ◌≤◌, List, [], ◌∷◌, ◌++◌, Some, None, sym, ap, ◌∙◌, subst, arith, append_assoc, length, set, take, drop, get_or}
-use Rattle.std.specs.List.{All}
-use Rattle.std.proofs.lemmas.List.{at_drop_more, drop_more, length-append, length-map, length-take-le, map-append, set_at, take-append-drop, take_more}
-use Rattle.std.proofs.lemmas.List.Elements.{All-append, All-drop, All-map, All-take}
+use Rattle.std.proofs.Common.{◌≡◌, ℕ, ◌+◌, ◌<◌, ◌≤◌, List, [], ◌∷◌, ◌++◌, Option, Some, None, refl, sym, ap, ◌∙◌, arith, append_assoc, length, set, take, drop, get_or}
+use Rattle.std.proofs.lemmas.List.{at_drop_more, drop_more, get_or-map, length-append, length-map, length-take-le, map-append, set_at, take-append-drop, take_more}
 use Rattle.crossterm_style.specs.declared.content_style.ContentStyle.{ContentStyle}
 use Rattle.screen.specs.declared.cells.Cell.{Cell}
-use Rattle.screen.specs.Texts.{cells_of, text_fault, with_cells}
-use Rattle.screen.specs.Cells.{Fits, symbol_fault}
+use Rattle.screen.specs.declared.faults.CellFault.{CellFault}
+use Rattle.screen.specs.Texts.{cells_of, fitting, replaced, text_fault, with_cells}
+use Rattle.screen.specs.Cells.{symbol_fault}
 
 -- a character's cell
 abbrev cell_of : ContentStyle → ℕ → Cell
@@ -50,24 +49,21 @@ pub fault_from : (text : List ℕ) (n c : ℕ) → n < length text → c ≡ get
     → text_fault (drop n text) ≡ elim (symbol_fault c) [ Some fault ↦ Some fault | None ↦ text_fault (drop (n + 1) text) ]
 fault_from text n c lt e = at_drop_more text_fault text n c lt ∙ ap (λ d. elim (symbol_fault d) [ Some fault ↦ Some fault | None ↦ text_fault (drop (n + 1) text) ]) (sym e)
 
--- ---- cells that fit
+none_from : (replacement c : ℕ) (text : List ℕ) (o : Option CellFault) → (text_fault text ≡ None → replaced replacement text ≡ text)
+    → ◌≡◌ {A = Option CellFault} (elim o [ Some fault ↦ Some fault | None ↦ text_fault text ]) None
+    → elim o [ Some fault ↦ replacement | None ↦ c ] ∷ replaced replacement text ≡ c ∷ text
+none_from r c text (Some fault) more bad = cc
+none_from r c text None more rest = ap (λ l. c ∷ l) (more rest)
 
--- Cells that fit, with others that do.
-with_fits : (cells others : List Cell) (at : ℕ) → All (λ c. Fits c.symbol) cells → All (λ c. Fits c.symbol) others → All (λ c. Fits c.symbol) (with_cells cells at others)
-with_fits cells others at a b =
-    let fits = λ (c : Cell). Fits c.symbol in
-    All-append fits (take at cells) (others ++ drop (at + length others) cells) (All-take fits at cells a) (All-append fits others (drop (at + length others) cells) b (All-drop fits (at + length others) cells a))
+-- A text that cells can hold has nothing to replace.
+pub none_replaced : (replacement : ℕ) (text : List ℕ) → text_fault text ≡ None → replaced replacement text ≡ text
+none_replaced r [] e = refl
+none_replaced r (c ∷ text) e = none_from r c text (symbol_fault c) (none_replaced r text) e
 
--- Cells that fit, with a text's that does.
-pub text_fits : (s : ContentStyle) (text : List ℕ) (cells after : List Cell) (at room : ℕ) → All (λ c. Fits c.symbol) cells → All Fits text
-    → after ≡ with_cells cells at (cells_of s (take room text)) → All (λ c. Fits c.symbol) after
-text_fits s text cells after at room a b e =
-    let fits = λ (c : Cell). Fits c.symbol in
-    subst (All fits) (sym e) (with_fits cells (cells_of s (take room text)) at a (All-map fits (cell_of s) (take room text) (All-take Fits room text b)))
+-- One character more of a text in which some are replaced.
+pub replaced_at : (replacement : ℕ) (text : List ℕ) (n c shown : ℕ) → n < length text → c ≡ get_or text n c → shown ≡ fitting replacement c
+    → shown ≡ get_or (replaced replacement text) n shown
+replaced_at r text n c shown lt e f = f ∙ ap (fitting r) e ∙ sym (get_or-map (fitting r) text n c shown lt)
 
-one_fits : (c : ℕ) → Fits c → All Fits (c ∷ [])
-one_fits c f zero d lt = f
-one_fits c f (suc k) d lt = absurd (omega (arith, lt))
-
-pub fits_more : (text : List ℕ) (c : ℕ) → All Fits text → Fits c → All Fits (text ++ c ∷ [])
-fits_more text c a f = All-append Fits text (c ∷ []) a (one_fits c f)
+pub replaced_length : (replacement : ℕ) (text : List ℕ) → length (replaced replacement text) ≡ length text
+replaced_length r text = length-map text (fitting r)

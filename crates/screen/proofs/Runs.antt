@@ -29,10 +29,9 @@ use Rattle.crossterm.specs.Sequences.{move_to}
 use Rattle.screen.specs.declared.cells.Cell.{Cell}
 use Rattle.screen.specs.declared.strokes.Stroke.{Stroke}
 use Rattle.screen.specs.declared.strokes.Stroke.TheVariants as stroke
-use Rattle.screen.specs.Cells.{is_wide, look}
+use Rattle.screen.specs.Cells.{is_wide, last_of, look}
 use Rattle.screen.specs.Grids.{Grid, is_last, is_width, move_cursor, number, overwritten, place, place_told, print_at, print_one, print_two, right_of, run, step, takes_one, takes_two}
 use Rattle.screen.specs.Grids.Square.{Whole, First, Second}
-use Rattle.screen.specs.inside.Scans.{last_of}
 use Rattle.screen.specs.inside.Strokes.{cell_strokes, move_strokes, style_strokes, tokens, tokens_of}
 use Rattle.screen.proofs.Squares.{squares}
 

@@ -12,11 +12,12 @@ use Rattle.crossterm_style.specs.Styles.{no_style}
 use Rattle.screen.specs.declared.cells.Cell.{Cell}
 use Rattle.screen.specs.declared.strokes.Stroke.{Stroke}
 use Rattle.screen.specs.declared.strokes.Stroke.TheVariants as stroke
-use Rattle.screen.specs.Cells.{ArePaired, IsPrinted, Stands, blank, is_covered, is_wide, look, seen}
-use Rattle.screen.specs.Drawings.{DifferAt, HasToBePrinted, printed}
+use Rattle.screen.specs.Cells.{ArePaired, IsPrinted, Stands, blank, is_covered, is_wide, last_of, look, seen}
+use Rattle.screen.specs.Drawings.{DifferAt, printed}
+use Rattle.screen.specs.Updates.{HasToBePrinted}
 use Rattle.screen.specs.Grids.{Grid, Square, begun, blank_square, is_last, overwritten, right_of, run}
 use Rattle.screen.specs.Grids.Square.{Whole}
-use Rattle.screen.specs.inside.Scans.{Counts, IsWithin, Reaches, Visited, last_of, rest}
+use Rattle.screen.specs.inside.Scans.{Counts, IsWithin, Reaches, Spares, Visited, rest}
 use Rattle.screen.specs.inside.Strokes.{AreFitting, IsFitting, cell_strokes, first_strokes, tokens, tokens_of}
 use Rattle.screen.proofs.Counts.{cell_prints, first_prints, other_at, same_at, strokes_printed}
 use Rattle.screen.proofs.Runs.{cell_painted, looks_plain, painted, plain_set, run_then, runs_then}
@@ -34,11 +35,11 @@ pub within_length : (known : Bool) (width height : ℕ) (before : List Cell) →
 within_length true width height before w = w
 within_length false width height before w = ap length w ∙ length-replicate (width * height) blank
 
-pub starts : (known : Bool) (width height : ℕ) (before after : List Cell) (strokes : List Stroke) → strokes ≡ first_strokes known → IsWithin known width height before
-    → ArePaired false before → ArePaired false after → Reaches known width height before after 0 None None strokes
-starts true width height before after strokes e w b a = subst (Reaches true width height before after 0 None None) (sym e)
+pub starts : (known : Bool) (width height : ℕ) (before after : List Cell) → IsWithin known width height before
+    → ArePaired false before → ArePaired false after → Reaches known width height before after 0 None None (first_strokes known)
+starts true width height before after w b a =
     (λ colors g s. (g, refl, record { size = s.0; cells = s.1 ∙ sym (rest_same colors false after before a b); place = λ n y. cc; set = λ t y. cc }))
-starts false width height before after strokes e w b a = subst (Reaches false width height before after 0 None None) (sym e)
+starts false width height before after w b a =
     (λ colors g s.
     let g1 : Grid = record g { style = plain } in
     let h : Grid = record g1 { cells = map (λ c. blank_square) g.cells } in
@@ -47,12 +48,12 @@ starts false width height before after strokes e w b a = subst (Reaches false wi
     let cells : h.cells ≡ map (seen colors) before = erased_cells colors g.cells ∙ ap (λ n. map (seen colors) (replicate n blank)) s.2 ∙ ap (map (seen colors)) (sym w) in
     (h, ran, record { size = (s.0, s.1, length-map g.cells (λ c. blank_square) ∙ s.2); cells = cells ∙ sym (rest_same colors false after before a b); place = λ n y. cc; set = λ t y. cc }))
 
-pub starts_counted : (known : Bool) (before after : List Cell) (strokes : List Stroke) → strokes ≡ first_strokes known → Counts before after 0 strokes
-starts_counted known before after strokes e = subst (Counts before after 0) (sym e) (λ colors. first_prints colors known)
+pub starts_counted : (known : Bool) (before after : List Cell) → Counts before after 0 (first_strokes known)
+starts_counted known before after = λ colors. first_prints colors known
 
-pub starts_fitting : (known : Bool) (strokes : List Stroke) → strokes ≡ first_strokes known → AreFitting strokes
-starts_fitting true strokes e = subst AreFitting (sym e) (tt, tt)
-starts_fitting false strokes e = subst AreFitting (sym e) (tt, (tt, (tt, tt)))
+pub starts_fitting : (known : Bool) → AreFitting (first_strokes known)
+starts_fitting true = (tt, tt)
+starts_fitting false = (tt, (tt, (tt, tt)))
 
 -- ---- a cell
 
@@ -182,8 +183,8 @@ paints_fitting strokes there right column row c f all = all_joined IsFitting str
 
 -- At the end all are shown.
 pub ends : (known : Bool) (k width height : ℕ) (before after : List Cell) (cursor : Option ℕ) (style : Option ContentStyle) (strokes : List Stroke) → length before ≡ width * height → length after ≡ width * height → width * height ≤ k
-    → Reaches known width height before after k cursor style strokes → Counts before after k strokes → Visited known width height before after strokes
-ends known k width height before after cursor style strokes lb la le reached counts = record {
+    → Reaches known width height before after k cursor style strokes → Counts before after k strokes → Spares known width before after strokes → Visited known width height before after strokes
+ends known k width height before after cursor style strokes lb la le reached counts few = record {
   leads = λ colors g s.
       let (h, ran, scanned) = reached colors g s in
       let new = map (seen colors) after in
@@ -201,4 +202,5 @@ ends known k width height before after cursor style strokes lb la le reached cou
   count = λ colors.
       subst (λ l. DifferAt l after (printed (tokens_of colors strokes))) (take_all k before (subst (λ n. n ≤ k) (sym lb) le))
       (subst (λ l. DifferAt (take k before) l (printed (tokens_of colors strokes))) (take_all k after (subst (λ n. n ≤ k) (sym la) le)) (counts colors));
+  spares = few;
 }

@@ -1,13 +1,10 @@
 -- Strokes that are written read as their tokens.
-use Rattle.std.proofs.Common.{◌≡◌, ℕ, ◌+◌, true, false, List, [], ◌∷◌, ◌++◌, Option, ◌⊎◌, inl, inr, refl, sym, ap, ◌∙◌, codes}
+use Rattle.std.proofs.Common.{◌≡◌, ℕ, ◌+◌, true, false, List, [], ◌∷◌, ◌++◌, ◌⊎◌, inl, inr, refl, sym, ap, ◌∙◌, codes}
 use Rattle.std.specs.Fmt.{decimal}
 use Rattle.std.specs.List.{AllByRecursion}
 use Rattle.unicode_width.specs.Width.{char_width}
 use Rattle.crossterm_command.specs.Tokens.{IsParameter, IsPlain, IsWellFormed, Reads, text_of}
 use Rattle.crossterm_command.specs.declared.color_output.ColorOutput.{ColorOutput}
-use Rattle.crossterm_command.specs.declared.fault.CommandFault.{CommandFault}
-use Rattle.crossterm_command.specs.declared.fault.CommandFault.TheVariants.{Writer, Text, Both}
-use Rattle.crossterm_command.specs.Faults.{Stopped}
 use Rattle.crossterm_command.proofs.Readings.{all_joined, control_formed, decimal_is_parameters, known_formed, parameters_at}
 use Rattle.crossterm_style.specs.declared.types.attribute.Attribute.TheVariants.{Reset}
 use Rattle.crossterm_style.specs.Acts.{style_acts}
@@ -57,9 +54,3 @@ strokes_formed colors (s ∷ strokes) f = all_joined IsWellFormed (tokens colors
 -- Their text reads as their tokens.
 pub strokes_read : (colors : ColorOutput) (strokes : List Stroke) → AreFitting strokes → Reads (text_of (tokens_of colors strokes)) (tokens_of colors strokes)
 strokes_read colors strokes f = (strokes_formed colors strokes f, refl)
-
--- the same, whatever is said of a command that failed by itself
-pub stopped_so : (fault : CommandFault) (text : Option (List ℕ)) (failed other : Type 0) (old new : Option (List ℕ)) → (failed → other) → Stopped fault text failed old new → Stopped fault text other old new
-stopped_so (Writer e) text failed other old new f s = s
-stopped_so Text text failed other old new f s = f s
-stopped_so (Both e) text failed other old new f s = f s

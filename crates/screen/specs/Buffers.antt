@@ -5,17 +5,19 @@ use Rattle.screen.specs.declared.cells.Cell.{Cell}
 use Rattle.screen.specs.declared.faults.CellFault.{CellFault}
 use Rattle.screen.specs.declared.faults.CellFault.TheVariants.{Outside}
 use Rattle.screen.specs.Cells.{symbol_fault}
-use Rattle.screen.specs.Texts.{cells_of, text_fault, with_cells}
+use Rattle.screen.specs.Texts.{cells_of, with_cells}
 
 -- Cells stand row by row, from the top left one.
 pub record Picture : Type 0 where
   pub width : ℕ
   pub height : ℕ
   pub cells : List Cell
+  -- how many cells there is memory for
+  pub room : ℕ
 
 -- a picture of one cell everywhere
-abbrev pub filled : ℕ → ℕ → Cell → Picture
-filled width height c = record { width = width; height = height; cells = replicate (width * height) c }
+abbrev pub filled : ℕ → ℕ → Cell → ℕ → Picture
+filled width height c room = record { width = width; height = height; cells = replicate (width * height) c; room = room }
 
 -- whether the picture has a column and a row
 abbrev pub has : Picture → ℕ → ℕ → Bool
@@ -31,9 +33,9 @@ with_cell p column row c = record p { cells = set p.cells (row * p.width + colum
 
 -- ---- texts
 
--- why a text isn't printed in a row, where it isn't: first the row, then the text
-abbrev pub print_refusal : Picture → ℕ → List ℕ → Option CellFault
-print_refusal p row text = if nat_lt row p.height then text_fault text else Some Outside
+-- why nothing is printed in a row, where nothing is: first the row, then another fault
+abbrev pub print_refusal : Picture → ℕ → Option CellFault → Option CellFault
+print_refusal p row other = if nat_lt row p.height then other else Some Outside
 
 -- what a text shows from a column on: as many characters as have room in the row
 abbrev pub clipped : Picture → ℕ → List ℕ → List ℕ

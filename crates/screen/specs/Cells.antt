@@ -29,6 +29,10 @@ is_covered c = c.symbol == 0
 abbrev pub is_wide : Cell → Bool
 is_wide c = takes_two c.symbol
 
+-- the last place that the character at a place takes
+abbrev pub last_of : ℕ → Cell → ℕ
+last_of at c = if is_wide c then at + 1 else at
+
 -- how a cell looks
 abbrev pub seen : ColorOutput → Cell → Square
 seen colors c = if is_covered c then Second else (if is_wide c then First c.symbol (look colors c.style) else Whole c.symbol (look colors c.style))

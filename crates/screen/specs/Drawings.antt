@@ -1,18 +1,23 @@
 -- What a frame does to a terminal.
-use Rattle.std.specs.Prelude.{◌≡◌, ◌≢◌, ◌⊎◌, ⊤, IfSome, ℕ, ◌+◌, ◌*◌, ◌<◌, Bool, true, false, List, [], ◌∷◌, Option, Some, None, if◌then◌else◌, length, map, replicate}
-use Rattle.crossterm_command.specs.Faults.{Stopped}
+use Rattle.std.specs.Prelude.{◌≡◌, ◌⊎◌, ⊤, IfSome, ℕ, ◌+◌, ◌*◌, ◌<◌, Bool, true, false, List, [], ◌∷◌, Option, Some, None, if◌then◌else◌, length, map, replicate}
+use Rattle.std.specs.declared.io.Error.{Error}
+use Rattle.std.specs.declared.io.ErrorKind.TheVariants.{InvalidInput}
+use Rattle.std.specs.IoError.{error_kind}
+use Rattle.crossterm_command.specs.Faults as command
 use Rattle.crossterm_command.specs.Tokens.{Token, text_of}
 use Rattle.crossterm_command.specs.Tokens.Token.{Char}
+use Rattle.crossterm_command.specs.Writing.{AppendsFront}
 use Rattle.crossterm_command.specs.declared.color_output.ColorOutput.{ColorOutput}
 use Rattle.crossterm_command.specs.declared.color_output.ColorOutput.TheVariants.{Enabled, Disabled}
 use Rattle.crossterm_style.specs.Looks.{plain}
 use Rattle.screen.specs.declared.cells.Cell.{Cell}
 use Rattle.screen.specs.declared.faults.DrawFault.{DrawFault}
-use Rattle.screen.specs.declared.faults.DrawFault.TheVariants.{Size, Cursor, Memory, Command}
+use Rattle.screen.specs.declared.faults.DrawFault.TheVariants.{Size, Cursor, Command}
 use Rattle.screen.specs.Buffers.{Picture}
-use Rattle.screen.specs.Cells.{blank, is_covered, seen}
+use Rattle.screen.specs.Cells.{blank, seen}
 use Rattle.screen.specs.Grids.{Grid, run}
 use Rattle.screen.specs.Screens.{Drawn, View}
+use Rattle.screen.specs.Updates.{HasToBePrinted, IsOneUpdate, IsSparing}
 
 -- ---- what is shown
 
@@ -54,10 +59,6 @@ printed [] = 0
 printed (Char c ∷ ts) = printed ts + 1
 printed (t ∷ ts) = printed ts
 
--- A cell differs and isn't covered, so that a character has to be printed for it.
-abbrev pub HasToBePrinted : Cell → Cell → Type 0
-HasToBePrinted before after = (is_covered after ≡ false) × (before ≢ after)
-
 -- In two lists of cells so many have to be printed.
 abbrev pub DifferAt : List Cell → List Cell → ℕ → Type 0
 DifferAt [] [] n = n ≡ 0
@@ -78,16 +79,24 @@ abbrev pub cells_drawn : View → Option Drawn → ColorOutput → List Cell
 cells_drawn s None colors = blanks s
 cells_drawn s (Some drawn) colors = if same_output drawn.colors colors then drawn.cells else blanks s
 
+-- whether a frame begins with cells that are known
+abbrev pub knows_cells : Option Drawn → ColorOutput → Bool
+knows_cells None colors = false
+knows_cells (Some drawn) colors = same_output drawn.colors colors
+
 -- The cells that a frame begins with: those drawn last with the same choice of colours. Otherwise all is erased, and they are blank.
 abbrev pub cells_before : View → ColorOutput → List Cell
 cells_before s colors = cells_drawn s s.drawn colors
 
 -- ---- a frame
 
--- The tokens of a frame: they show the picture, and print a character for each place where the cells differ, and no other.
+-- The tokens of a frame: they show the picture, and print a character for each place where the cells differ, and no other. They are one
+-- synchronized update, and sparing.
 pub record IsFrame (s : View) (colors : ColorOutput) (p : Picture) (cursor : Option (ℕ × ℕ)) (ts : List Token) : Type 0 where
   pub turns : Turns s colors p cursor ts
   pub count : DifferAt (cells_before s colors) p.cells (printed ts)
+  pub update : IsOneUpdate ts
+  pub sparing : IsSparing (knows_cells s.drawn colors) p.width (cells_before s colors) p.cells cursor ts
 
 -- ---- what is refused
 
@@ -106,11 +115,16 @@ with_drawn s colors cells = record s { drawn = Some (record { colors = colors; c
 abbrev pub forgotten : View → View
 forgotten s = record s { drawn = None }
 
--- Why a frame wasn't drawn, what the screen is then, and what was written: nothing, or a beginning of a frame where the writer failed.
+-- Why a frame wasn't drawn, what the screen is then, and what was written: nothing, or a beginning of a frame and nothing else.
 abbrev pub NotDrawn : DrawFault → View → View → ColorOutput → Picture → Option (ℕ × ℕ) → Option (List ℕ) → Option (List ℕ) → Type 0
 NotDrawn Size s t colors p cursor old new = (IsSameSize s p → ⊥) × (t ≡ s) × (new ≡ old)
 NotDrawn Cursor s t colors p cursor old new = IsSameSize s p × (CursorFits s cursor → ⊥) × (t ≡ s) × (new ≡ old)
-NotDrawn Memory s t colors p cursor old new = IsSameSize s p × CursorFits s cursor × (t ≡ forgotten s) × (new ≡ old)
 NotDrawn (Command fault) s t colors p cursor old new =
     IsSameSize s p × CursorFits s cursor × (t ≡ forgotten s)
-    × (ts : List Token) × IsFrame s colors p cursor ts × Stopped fault (Some (text_of ts)) ⊤ old new
+    × (ts : List Token) × IsFrame s colors p cursor ts × AppendsFront old new (text_of ts)
+
+-- The error that stands for it: what a command's fault becomes, else one of the kind `InvalidInput`.
+abbrev pub Answers : DrawFault → Error → Type 0
+Answers Size answer = error_kind answer ≡ InvalidInput
+Answers Cursor answer = error_kind answer ≡ InvalidInput
+Answers (Command fault) answer = command.Answers fault answer

@@ -13,3 +13,5 @@ pub record View : Type 0 where
   pub width : ℕ
   pub height : ℕ
   pub drawn : Option Drawn
+  -- how many cells there is memory for
+  pub room : ℕ

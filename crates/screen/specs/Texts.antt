@@ -14,6 +14,14 @@ abbrev pub text_fault : List ℕ → Option CellFault
 text_fault [] = None
 text_fault (c ∷ text) = elim (symbol_fault c) [ Some fault ↦ Some fault | None ↦ text_fault text ]
 
+-- the character, or another one where no cell can hold it
+abbrev pub fitting : ℕ → ℕ → ℕ
+fitting replacement c = elim (symbol_fault c) [ Some fault ↦ replacement | None ↦ c ]
+
+-- a text with another character in the place of each that no cell can hold
+abbrev pub replaced : ℕ → List ℕ → List ℕ
+replaced replacement text = map (fitting replacement) text
+
 -- cells with others in the place of those from a place on
 abbrev pub with_cells : List Cell → ℕ → List Cell → List Cell
 with_cells cells at others = take at cells ++ (others ++ drop (at + length others) cells)

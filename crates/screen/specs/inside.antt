@@ -1,2 +1,3 @@
 pub mod Strokes
 pub mod Scans
+pub mod Pens

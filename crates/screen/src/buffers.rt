@@ -1,8 +1,9 @@
 //! Buffers: the cells that a program wants to show.
-ghost use Rattle.std.specs.Prelude.{◌≡◌, ◌+◌, ◌*◌, false, OnOk, OnErr, IfOk, IfErr, None, Some, chars, length, replicate};
+ghost use Rattle.std.specs.Prelude.{◌≡◌, ◌+◌, ◌*◌, ◌<◌, ◌≤◌, false, OnOk, OnErr, IsOk, IfOk, IfErr, None, Some, chars, length, replicate, vec_capacity};
 ghost use Rattle.std.specs.List.{All};
 ghost use Rattle.screen.specs.Buffers.{clipped, filled, print_refusal, refusal, with_cell, with_text};
 ghost use Rattle.screen.specs.Cells.{ArePaired, Fits, StayInRows, Stands, blank, symbol_fault};
+ghost use Rattle.screen.specs.Texts.{replaced, text_fault};
 
 use crate::cells::{Cell, symbol_fault};
 use crate::faults::CellFault;
@@ -25,14 +26,14 @@ pub struct Buffer<A: Allocator = Global> {
 }
 
 impl<A: Allocator> Model for Buffer<A> {
-    ghost use Rattle.std.specs.Prelude.{◌≡◌, ◌*◌, length};
+    ghost use Rattle.std.specs.Prelude.{◌≡◌, ◌*◌, length, vec_capacity};
     ghost use Rattle.std.specs.List.{All};
     ghost use Rattle.screen.specs.Buffers.{Picture};
     ghost use Rattle.screen.specs.Cells.{Fits};
 
     ghost Value = { Picture };
 
-    ghost view = { λ b. record { width = b.width; height = b.height; cells = b.cells.items } };
+    ghost view = { λ b. record { width = b.width; height = b.height; cells = b.cells.items; room = vec_capacity b.cells } };
 
     ghost invariant = { λ b. (length b.cells.items ≡ b.width * b.height) × All (λ c. Fits c.symbol) b.cells.items };
 }
@@ -62,6 +63,9 @@ pub(crate) fn fill(cells: &mut [Cell], cell: Cell)
 fn make_blank<A: Allocator>(cells: &mut Vec<Cell, A>, count: usize) -> Result<(), AllocError>
     ensures ok { OnOk result (cells.new.items ≡ replicate count blank) }
     ensures err { OnErr result (cells.new.items ≡ cells.old.items) }
+    ensures succeeds { count ≤ vec_capacity cells.old → IsOk result }
+    ensures holds { OnOk result (count ≤ vec_capacity cells.new) }
+    ensures room { vec_capacity cells.old ≤ vec_capacity cells.new }
 {
     cells.resize(count, Cell::blank())?;
     fill(cells, Cell::blank());
@@ -78,6 +82,9 @@ pub(crate) fn set_blank<A: Allocator>(
     ensures count { OnOk result (length cells.new.items ≡ count) }
     ensures fits { OnOk result (All (λ c. Fits c.symbol) cells.new.items) }
     ensures err { OnErr result (cells.new.items ≡ cells.old.items) }
+    ensures succeeds { count ≤ vec_capacity cells.old → IsOk result }
+    ensures holds { OnOk result (count ≤ vec_capacity cells.new) }
+    ensures room { vec_capacity cells.old ≤ vec_capacity cells.new }
 {
     make_blank(cells, count)?;
     Ok(())
@@ -90,7 +97,8 @@ impl<A: Allocator> Buffer<A> {
     ///
     /// `AllocError` if memory was refused.
     pub fn new(alloc: A, width: u16, height: u16) -> Result<Buffer<A>, AllocError>
-        ensures { IfOk result (λ buffer. buffer ≡ filled width height blank) }
+        ensures new { IfOk result (λ buffer. buffer ≡ filled width height blank buffer.room) }
+        ensures room { IfOk result (λ buffer. width * height ≤ buffer.room) }
     {
         let mut cells = Vec::new(alloc);
         set_blank(&mut cells, count_of(width, height))?;
@@ -101,11 +109,11 @@ impl<A: Allocator> Buffer<A> {
         })
     }
 
-    /// Takes another size. All cells are blank then.
+    /// Takes another size. All cells are blank then. No memory is given back, so no size is refused that it had before.
     ///
     /// # Errors
     ///
-    /// `AllocError` if memory was refused. Then nothing has changed.
+    /// `AllocError` if memory was refused for more cells than there is memory for. Then nothing has changed.
     ///
     /// ```
     /// if let Event::Resize(columns, rows) = event {
@@ -114,8 +122,11 @@ impl<A: Allocator> Buffer<A> {
     /// }
     /// ```
     pub fn resize(&mut self, width: u16, height: u16) -> Result<(), AllocError>
-        ensures ok { OnOk result (self.new ≡ filled width height blank) }
-        ensures err { OnErr result (self.new ≡ self.old) }
+        ensures ok { OnOk result (self.new ≡ filled width height blank self.new.room) }
+        ensures err { OnErr result (self.new ≡ record self.old { room = self.new.room }) }
+        ensures fits { width * height ≤ self.old.room → IsOk result }
+        ensures holds { OnOk result (width * height ≤ self.new.room) }
+        ensures room { self.old.room ≤ self.new.room }
     {
         set_blank(&mut self.cells, count_of(width, height))?;
         self.width = width;
@@ -157,7 +168,7 @@ impl<A: Allocator> Buffer<A> {
     /// Those of the character: `Control`, `NoWidth`, `Wide`. Then nothing changes.
     pub fn fill(&mut self, symbol: char, style: ContentStyle) -> Result<(), CellFault>
         ensures ok { OnOk result ((symbol_fault symbol ≡ None)
-            × (self.new ≡ filled self.old.width self.old.height (record { symbol = symbol; style = style }))) }
+            × (self.new ≡ filled self.old.width self.old.height (record { symbol = symbol; style = style }) self.old.room)) }
         ensures err { IfErr result (λ fault. (symbol_fault symbol ≡ Some fault) × (self.new ≡ self.old)) }
     {
         if let Some(fault) = symbol_fault(symbol) {
@@ -194,6 +205,39 @@ impl<A: Allocator> Buffer<A> {
         Ok(())
     }
 
+    /// Why nothing is printed in a row: there is none, or another fault.
+    fn print_fault(&self, row: u16, other: Option<CellFault>) -> Option<CellFault>
+        ensures { result ≡ print_refusal self.now row other }
+    {
+        if row >= self.height {
+            return Some(CellFault::Outside);
+        }
+        other
+    }
+
+    /// Sets the cells of a row that there is, as `print_replacing` does.
+    fn print_at(
+        &mut self,
+        column: u16,
+        row: u16,
+        text: &str,
+        replacement: char,
+        style: &ContentStyle,
+    ) -> u16
+        requires row { row < self.old.height }
+        requires replacement { Fits replacement }
+        ensures used { result ≡ length (clipped self.old column (replaced replacement (chars text.now))) }
+        ensures picture { self.new ≡ with_text self.old column row (replaced replacement (chars text.now)) style.now }
+    {
+        if column >= self.width {
+            return 0;
+        }
+        let room = (self.width - column) as usize;
+        let at = place_at(self.width, column, row);
+        let used = write_text(&mut self.cells, at, room, text, replacement, style);
+        used as u16
+    }
+
     /// Sets the cells of a row, from a column on, to a text's characters, and returns how many columns these take. Characters behind the last
     /// column are left out, and a column behind it leaves out all.
     ///
@@ -205,7 +249,8 @@ impl<A: Allocator> Buffer<A> {
     /// # Errors
     ///
     /// `Outside` if there is no such row, and else that of the first character which no cell can hold, shown or not: `Control`, `NoWidth`,
-    /// `Wide`. Then nothing changes.
+    /// `Wide`. Then nothing changes. `print_replacing` takes any text.
+    #[tactic(auto, using(crate::proofs::Prints::none_replaced, crate::proofs::Fitting::space_fits))]
     pub fn print(
         &mut self,
         column: u16,
@@ -214,22 +259,45 @@ impl<A: Allocator> Buffer<A> {
         style: ContentStyle,
     ) -> Result<u16, CellFault>
         ensures used { IfOk result (λ used. used ≡ length (clipped self.old column (chars text.now))) }
-        ensures ok { OnOk result ((print_refusal self.old row (chars text.now) ≡ None)
+        ensures ok { OnOk result ((print_refusal self.old row (text_fault (chars text.now)) ≡ None)
             × (self.new ≡ with_text self.old column row (chars text.now) style)) }
-        ensures err { IfErr result (λ fault. (print_refusal self.old row (chars text.now) ≡ Some fault) × (self.new ≡ self.old)) }
+        ensures err { IfErr result (λ fault. (print_refusal self.old row (text_fault (chars text.now)) ≡ Some fault) × (self.new ≡ self.old)) }
     {
-        if row >= self.height {
-            return Err(CellFault::Outside);
-        }
-        if let Some(fault) = text_fault(text) {
+        if let Some(fault) = self.print_fault(row, text_fault(text)) {
             return Err(fault);
         }
-        if column >= self.width {
-            return Ok(0);
+        // Nothing in it is to be replaced.
+        Ok(self.print_at(column, row, text, ' ', &style))
+    }
+
+    /// Sets the cells of a row to any text's characters as `print` does, and returns how many columns these take. Each character that no
+    /// cell can hold is replaced by another one, which takes one column: control characters, those of no column, and those of two or more.
+    ///
+    /// ```
+    /// let used = buffer.print_replacing(0, 2, "a\tb", '?', ContentStyle::new())?;
+    /// assert_eq!(used, 3);
+    /// ```
+    ///
+    /// # Errors
+    ///
+    /// `Outside` if there is no such row, and else that of the character that is to replace others, needed or not: `Control`, `NoWidth`,
+    /// `Wide`. Then nothing changes.
+    pub fn print_replacing(
+        &mut self,
+        column: u16,
+        row: u16,
+        text: &str,
+        replacement: char,
+        style: ContentStyle,
+    ) -> Result<u16, CellFault>
+        ensures used { IfOk result (λ used. used ≡ length (clipped self.old column (replaced replacement (chars text.now)))) }
+        ensures ok { OnOk result ((print_refusal self.old row (symbol_fault replacement) ≡ None)
+            × (self.new ≡ with_text self.old column row (replaced replacement (chars text.now)) style)) }
+        ensures err { IfErr result (λ fault. (print_refusal self.old row (symbol_fault replacement) ≡ Some fault) × (self.new ≡ self.old)) }
+    {
+        if let Some(fault) = self.print_fault(row, symbol_fault(replacement)) {
+            return Err(fault);
         }
-        let room = (self.width - column) as usize;
-        let at = place_at(self.width, column, row);
-        let used = write_text(&mut self.cells, at, room, text, &style);
-        Ok(used as u16)
+        Ok(self.print_at(column, row, text, replacement, &style))
     }
 }

@@ -2,7 +2,7 @@
 ghost use Rattle.std.specs.Prelude.{◌≡◌, ◌↔◌, IsTrue, false};
 ghost use Rattle.crossterm_style.specs.declared.types.color.Color.TheVariants.{Rgb};
 ghost use Rattle.screen.specs.Cells.{Fits, blank, is_covered, is_wide, symbol_fault};
-ghost use Rattle.screen.specs.Drawings.{HasToBePrinted};
+ghost use Rattle.screen.specs.Updates.{HasToBePrinted};
 ghost use Rattle.std.specs.Prelude.{None};
 
 use crate::faults::CellFault;

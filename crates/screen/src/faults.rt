@@ -1,9 +1,15 @@
 //! Why a cell isn't set, and why a frame isn't drawn.
+ghost use Rattle.std.specs.Prelude.{◌≡◌};
+ghost use Rattle.std.specs.declared.io.ErrorKind.TheVariants.{InvalidInput};
+ghost use Rattle.std.specs.IoError.{error_kind};
+ghost use Rattle.screen.specs.Drawings.{Answers};
 
 use crossterm_command::CommandFault;
+use std::io;
+use std::io::ErrorKind;
 use thiserror::Error;
 
-/// Why a character isn't set in a buffer. Then the buffer hasn't changed.
+/// Why a character isn't set in a buffer. Then the buffer hasn't changed. As an `io::Error` it has the kind `InvalidInput`.
 #[derive(Clone, Copy, Debug, PartialEq, Eq, Error)]
 pub enum CellFault {
     /// The buffer has no such column or row.
@@ -20,7 +26,7 @@ pub enum CellFault {
     Wide,
 }
 
-/// Why a frame isn't drawn.
+/// Why a frame isn't drawn. As an `io::Error`, `Command` is the error that its fault becomes, and the others have the kind `InvalidInput`.
 #[derive(Debug, Drop, Error)]
 pub enum DrawFault {
     /// The buffer has another size than the screen. Nothing was written.
@@ -29,10 +35,29 @@ pub enum DrawFault {
     /// The cursor's place is outside the screen. Nothing was written.
     #[error("a cursor outside the screen")]
     Cursor,
-    /// Memory was refused. Nothing was written.
-    #[error("out of memory")]
-    Memory,
-    /// A command wasn't written. If the writer failed, a beginning of the frame was written.
+    /// The writer failed. A beginning of the frame was written, and nothing else.
     #[error("a frame that wasn't written whole")]
     Command(CommandFault),
+}
+
+impl From<CellFault> for io::Error {
+    ghost from_gives = { λ fault error. error_kind error ≡ InvalidInput };
+
+    /// Of the kind `InvalidInput`.
+    fn from(_fault: CellFault) -> io::Error {
+        io::Error::from(ErrorKind::InvalidInput)
+    }
+}
+
+impl From<DrawFault> for io::Error {
+    ghost from_gives = { Answers };
+
+    /// What a command's fault becomes, else an error of the kind `InvalidInput`.
+    fn from(fault: DrawFault) -> io::Error {
+        match fault {
+            DrawFault::Size => io::Error::from(ErrorKind::InvalidInput),
+            DrawFault::Cursor => io::Error::from(ErrorKind::InvalidInput),
+            DrawFault::Command(fault) => io::Error::from(fault),
+        }
+    }
 }

@@ -1,7 +1,7 @@
 //! A screen above crossterm: a program fills a `Buffer`, and `Screen::draw` writes what makes the terminal show it.
 //!
-//! Only cells that changed are written. Neighbours are written without a move between them, and a style if it is another than before. Each
-//! frame is within synchronized output. Of this only the count of characters is proved; the rest is tested.
+//! Only cells that changed are written. Neighbours are written without a move between them, and a style only if it is another than before.
+//! Each frame is one synchronized update.
 //!
 //! ```
 //! let mut buffer = Buffer::new(alloc, 80, 24)?;
@@ -16,31 +16,37 @@
 //! nothing is known of the cells, and the same holds for every grid of the size.
 //!
 //! A cell of a buffer holds a character of one column. Control characters and those of no column or of two and more are refused by name
-//! (`CellFault`). The definitions and the proof of a frame have characters of two columns too, which cover the next cell; no buffer makes any yet.
+//! (`CellFault`), and `Buffer::print_replacing` replaces them. The definitions and the proof of a frame have characters of two columns too,
+//! which cover the next cell; no buffer makes any yet.
 //!
 //! If a frame broke off within a control sequence, the next one begins with ESC, which ends such a sequence at a terminal. The definitions
 //! speak of whole sequences and don't say so.
 //!
-//! `new` and `resize` take memory, and so does a frame with more strokes than any before it, as is only tested. A stroke is a move, a style,
-//! a character, or one of a handful at the frame's ends.
+//! `new` and `resize` take memory. `draw` needs none: it gathers a frame in 4,096 bytes on the stack, and gives them to the writer as they fill.
 //!
 //! What is proved, beyond safety:
 //!
 //! | Proved | By the contract of |
 //! |---|---|
-//! | a frame shows the buffer (the fourth theorem): it leads from each grid that shows the last one to a grid that shows this one, with the cursor where it was asked to be, and prints one character for each cell that differs and no other; a wrong size or place changes nothing; at a writer's error a beginning of the frame was written, and after that, or refused memory, nothing is known of the cells | `Screen::draw` |
+//! | a frame shows the buffer (the fourth theorem): it leads from each grid that shows the last one to a grid that shows this one, with the cursor where it was asked to be, and prints one character for each cell that differs and no other | `Screen::draw` |
+//! | a frame is one synchronized update; it has at most one move for each run of characters side by side, one setting of the style for each run of characters in one style, and a handful at its ends | `Screen::draw` |
+//! | a screen has as much memory after a frame as before; screens and buffers give none back, and a size that they have memory for isn't refused | `Screen::{draw, new, resize}`, `Buffer::{new, resize, fill, set, print, print_replacing}` |
+//! | a wrong size or place writes nothing and changes nothing; at any other error a beginning of the frame was written and nothing else, and nothing is known of the cells | `Screen::draw` |
 //! | a character that doesn't take one column is refused by name, and a refusal changes nothing; a text is printed into a row up to the last column, and the columns that it took are returned | `Buffer::{new, resize, fill, set, print}` |
+//! | of any text, each character that doesn't take one column is replaced by a given one | `Buffer::print_replacing` |
+//! | as an `io::Error`, a fault has the kind `InvalidInput`; the fault of a command is the error that it becomes by itself | `From<CellFault>` and `From<DrawFault>` of `io::Error` |
 //!
 //! What to believe, in the order in which it reads (`specs/`), and where it is proved:
 //!
 //! | Definitions | Lines | Of | Contract |
 //! |---|---|---|---|
 //! | `Grids` | 158 | a terminal as a grid of cells, and what each token does to it | |
-//! | `Cells` | 64 | how a cell looks, which cells are paired, and which characters fit | `Cell::blank`, `Buffer::{cells, set}` |
-//! | `Texts` | 19 | the cells of a text's characters | `Buffer::print` |
-//! | `Buffers` | 44 | the pictures that buffers hold | `Buffer` |
-//! | `Screens` | 15 | a screen, and what it drew last | `Screen` |
-//! | `Drawings` | 116 | what a frame does to each grid, how many characters it prints, and what is refused | `Screen::draw` |
+//! | `Cells` | 68 | how a cell looks, which cells are paired, and which characters fit | `Cell::blank`, `Buffer::{cells, set}` |
+//! | `Texts` | 27 | the cells of a text's characters, and what is replaced in it | `Buffer::{print, print_replacing}` |
+//! | `Buffers` | 46 | the pictures that buffers hold | `Buffer` |
+//! | `Screens` | 17 | a screen, and what it drew last | `Screen` |
+//! | `Updates` | 116 | which characters have to be printed, and how few moves and styles do it | `Screen::draw` |
+//! | `Drawings` | 130 | what a frame does to each grid, how many characters it prints, and what is refused | `Screen::draw`, `From<DrawFault>` of `io::Error` |
 //!
 //! `specs/inside/` says the same of a frame's parts, and no public clause cites it.
 //!
@@ -50,6 +56,7 @@
 mod buffers;
 mod cells;
 mod faults;
+mod pens;
 mod planning;
 mod screens;
 mod strokes;

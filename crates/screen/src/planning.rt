@@ -1,19 +1,25 @@
 //! The strokes of a frame.
-ghost use Rattle.std.specs.Prelude.{◌≡◌, ◌++◌, ◌+◌, ◌*◌, ◌<◌, ◌≤◌, ◌^◌, ◌↔◌, ⊤, OnOk, IfSome, IsTrue, ◌∷◌, [], length, slice_get, true, false, Some};
+ghost use Rattle.std.specs.Prelude.{◌≡◌, ◌++◌, ◌+◌, ◌*◌, ◌<◌, ◌≤◌, ◌^◌, ◌↔◌, ⊤, OnErr, OnOk, IfSome, IsTrue, List, ◌∷◌, [], length, slice_get, true, false, Some};
+ghost use Rattle.std.specs.Io.KnownBytes.{Appends};
 ghost use Rattle.std.specs.List.{All, AllByRecursion};
+ghost use Rattle.crossterm_command.specs.Tokens.{text_of};
+ghost use Rattle.crossterm_command.specs.Writing.{AppendsFront};
 ghost use Rattle.crossterm_style.specs.Acts.{style_acts};
 ghost use Rattle.crossterm_style.specs.Appearance.{FitsAct};
-ghost use Rattle.screen.specs.Cells.{ArePaired, StayInRows, Stands};
-ghost use Rattle.screen.specs.inside.Scans.{last_of};
+ghost use Rattle.screen.specs.Cells.{ArePaired, StayInRows, Stands, last_of};
 ghost use Rattle.screen.specs.Grids.{right_of};
+ghost use Rattle.screen.specs.declared.strokes.Stroke.{Stroke};
+ghost use Rattle.screen.specs.inside.Pens.{Puts};
 ghost use Rattle.screen.specs.inside.Scans.{IsWithin, Planned, Visited};
-ghost use Rattle.screen.specs.inside.Strokes.{AreFitting, cell_strokes, cursor_strokes, first_strokes, last_strokes, move_strokes, style_strokes};
+ghost use Rattle.screen.specs.inside.Strokes.{AreFitting, cell_strokes, cursor_strokes, first_strokes, last_strokes, move_strokes, style_strokes, tokens_of};
 
 use crate::cells::{Cell, has_to_be_printed, is_same_style, is_wide};
+use crate::pens::{Pen, finish, put};
 use crate::strokes::Stroke;
+use crossterm_command::{ColorOutput, CommandFault};
 use crossterm_style::ContentStyle;
 use crossterm_style::laws::style_fits;
-use std::alloc::{AllocError, Allocator};
+use std::io;
 
 /// The column and the row of a place.
 fn place_of(at: usize, width: u16, height: u16) -> (u16, u16)
@@ -26,58 +32,46 @@ fn place_of(at: usize, width: u16, height: u16) -> (u16, u16)
     ((at % width) as u16, (at / width) as u16)
 }
 
-/// Adds what moves the cursor, unless it is there.
-fn add_move<A: Allocator>(
-    strokes: &mut Vec<Stroke, A>,
-    there: bool,
-    place: (u16, u16),
-) -> Result<(), AllocError>
-    ensures { OnOk result (strokes.new.items ≡ strokes.old.items ++ move_strokes there place.0 place.1) }
+/// Moves the cursor, unless it is there.
+fn put_move<W: io::Write>(writer: &mut W, pen: &mut Pen, there: bool, place: (u16, u16))
+    ensures { Puts (move_strokes there place.0 place.1) (W.contents writer.old) pen.old (W.contents writer.new) pen.new }
 {
-    if there {
-        return Ok(());
+    if !there {
+        put(writer, pen, Stroke::Move(place.0, place.1));
     }
-    strokes.push(Stroke::Move(place.0, place.1))?;
-    Ok(())
 }
 
-/// Adds what sets a style, unless it is set.
-fn add_style<A: Allocator>(
-    strokes: &mut Vec<Stroke, A>,
-    there: bool,
-    style: &ContentStyle,
-) -> Result<(), AllocError>
+/// Sets a style, unless it is set.
+fn put_style<W: io::Write>(writer: &mut W, pen: &mut Pen, there: bool, style: &ContentStyle)
     ensures fits { AllByRecursion FitsAct (style_acts style.now) }
-    ensures told { OnOk result (strokes.new.items ≡ strokes.old.items ++ style_strokes there style.now) }
+    ensures puts { Puts (style_strokes there style.now) (W.contents writer.old) pen.old (W.contents writer.new) pen.new }
 {
     style_fits(*style);
-    if there {
-        return Ok(());
+    if !there {
+        put(writer, pen, Stroke::Style(*style));
     }
-    strokes.push(Stroke::Style(*style))?;
-    Ok(())
 }
 
-/// Adds what paints a cell, by whether the cursor is there and the style is set.
-fn paint<A: Allocator>(
-    strokes: &mut Vec<Stroke, A>,
+/// Paints a cell, by whether the cursor is there and the style is set.
+fn paint<W: io::Write>(
+    writer: &mut W,
+    pen: &mut Pen,
     there: bool,
     right: bool,
     place: (u16, u16),
     cell: &Cell,
-) -> Result<(), AllocError>
-    ensures fits { OnOk result (AllByRecursion FitsAct (style_acts cell.now.style)) }
-    ensures told { OnOk result (strokes.new.items ≡ strokes.old.items ++ cell_strokes there right place.0 place.1 cell.now) }
+)
+    ensures fits { AllByRecursion FitsAct (style_acts cell.now.style) }
+    ensures puts { Puts (cell_strokes there right place.0 place.1 cell.now) (W.contents writer.old) pen.old (W.contents writer.new) pen.new }
 {
-    add_move(strokes, there, place)?;
-    add_style(strokes, right, &cell.style)?;
-    strokes.push(Stroke::Print(cell.symbol))?;
-    Ok(())
+    put_move(writer, pen, there, place);
+    put_style(writer, pen, right, &cell.style);
+    put(writer, pen, Stroke::Print(cell.symbol));
 }
 
 /// Whether the cursor is known to be at a place.
 fn is_at(cursor: Option<usize>, at: usize) -> bool
-    ensures { result ≡ true → cursor ≡ Some at }
+    ensures { IsTrue result ↔ (cursor ≡ Some at) }
 {
     match cursor {
         None => false,
@@ -87,7 +81,7 @@ fn is_at(cursor: Option<usize>, at: usize) -> bool
 
 /// Whether a style is known to be set.
 fn has_style(set: Option<ContentStyle>, style: ContentStyle) -> bool
-    ensures { result ≡ true → set ≡ Some style }
+    ensures { IsTrue result ↔ (set ≡ Some style) }
 {
     match set {
         None => false,
@@ -118,96 +112,84 @@ fn last_of(at: usize, cell: &Cell) -> usize
     if is_wide(cell) { at + 1 } else { at }
 }
 
-/// Adds what paints each cell that has to be printed, and no other.
-fn scan<A: Allocator>(
-    strokes: &mut Vec<Stroke, A>,
+/// Begins a frame.
+fn put_first<W: io::Write>(writer: &mut W, pen: &mut Pen, is_known: bool)
+    ensures { Puts (first_strokes is_known) (W.contents writer.old) pen.old (W.contents writer.new) pen.new }
+{
+    put(writer, pen, Stroke::Begin);
+    if !is_known {
+        put(writer, pen, Stroke::Style(ContentStyle::new()));
+        put(writer, pen, Stroke::Erase);
+    }
+}
+
+/// Begins a frame, and paints each cell that has to be printed, and no other.
+fn scan<W: io::Write>(
+    writer: &mut W,
+    pen: &mut Pen,
     is_known: bool,
     size: (u16, u16),
     before: &[Cell],
     after: &[Cell],
-) -> Result<(), AllocError>
-    requires first { strokes.old.items ≡ first_strokes is_known }
+)
     requires before { IsWithin is_known size.0 size.1 before.now }
     requires length { length after.now ≡ size.0 * size.1 }
     requires fits { All Stands after.now }
     requires before_paired { ArePaired false before.now }
     requires after_paired { ArePaired false after.now }
     requires rows { StayInRows size.0 after.now }
-    ensures visited { OnOk result (Visited is_known size.0 size.1 before.now after.now strokes.new.items) }
-    ensures fitting { OnOk result (AreFitting strokes.new.items) }
+    ensures { (strokes : List Stroke) × Visited is_known size.0 size.1 before.now after.now strokes × AreFitting strokes
+        × Puts strokes (W.contents writer.old) pen.old (W.contents writer.new) pen.new }
 {
     let (width, height) = size;
     let mut cursor: Option<usize> = None;
     let mut style: Option<ContentStyle> = None;
+    put_first(writer, pen, is_known);
     for at in 0..after.len() {
         let cell = &after[at];
         if has_to_be_printed(&before[at], cell) {
             let place = place_of(at, width, height);
             let there = is_at(cursor, at);
             let right = has_style(style, cell.style);
-            paint(strokes, there, right, place, cell)?;
+            paint(writer, pen, there, right, place, cell);
             cursor = right_of(last_of(at, cell), width);
             style = Some(cell.style);
         }
     }
-    Ok(())
 }
 
-/// Adds what begins a frame.
-fn add_first<A: Allocator>(strokes: &mut Vec<Stroke, A>, is_known: bool) -> Result<(), AllocError>
-    ensures { OnOk result (strokes.new.items ≡ strokes.old.items ++ first_strokes is_known) }
-{
-    strokes.push(Stroke::Begin)?;
-    if is_known {
-        return Ok(());
-    }
-    strokes.push(Stroke::Style(ContentStyle::new()))?;
-    strokes.push(Stroke::Erase)?;
-    Ok(())
-}
-
-/// Adds what puts the cursor where it is asked to be.
-fn add_cursor<A: Allocator>(
-    strokes: &mut Vec<Stroke, A>,
-    cursor: Option<(u16, u16)>,
-) -> Result<(), AllocError>
-    ensures { OnOk result (strokes.new.items ≡ strokes.old.items ++ cursor_strokes cursor) }
+/// Puts the cursor where it is asked to be.
+fn put_cursor<W: io::Write>(writer: &mut W, pen: &mut Pen, cursor: Option<(u16, u16)>)
+    ensures { Puts (cursor_strokes cursor) (W.contents writer.old) pen.old (W.contents writer.new) pen.new }
 {
     match cursor {
-        None => {
-            strokes.push(Stroke::Hide)?;
-            Ok(())
-        }
-        Some((column, row)) => {
-            strokes.push(Stroke::Move(column, row))?;
-            strokes.push(Stroke::Show)?;
-            Ok(())
+        None => put(writer, pen, Stroke::Hide),
+        Some(asked) => {
+            put(writer, pen, Stroke::Move(asked.0, asked.1));
+            put(writer, pen, Stroke::Show);
         }
     }
 }
 
-/// Adds what ends a frame.
-fn add_last<A: Allocator>(
-    strokes: &mut Vec<Stroke, A>,
-    cursor: Option<(u16, u16)>,
-) -> Result<(), AllocError>
-    ensures { OnOk result (strokes.new.items ≡ strokes.old.items ++ last_strokes cursor) }
+/// Ends a frame.
+fn put_last<W: io::Write>(writer: &mut W, pen: &mut Pen, cursor: Option<(u16, u16)>)
+    ensures { Puts (last_strokes cursor) (W.contents writer.old) pen.old (W.contents writer.new) pen.new }
 {
-    strokes.push(Stroke::Style(ContentStyle::new()))?;
-    add_cursor(strokes, cursor)?;
-    strokes.push(Stroke::End)?;
-    Ok(())
+    put(writer, pen, Stroke::Style(ContentStyle::new()));
+    put_cursor(writer, pen, cursor);
+    put(writer, pen, Stroke::End);
 }
 
-/// The strokes that turn cells that are shown, or any if they aren't known, into others.
-pub(crate) fn plan<A: Allocator>(
-    strokes: &mut Vec<Stroke, A>,
+/// Writes the strokes that turn cells that are shown, or any if they aren't known, into others.
+pub(crate) fn write_frame<W: io::Write>(
+    writer: &mut W,
+    colors: ColorOutput,
     is_known: bool,
     size: (u16, u16),
     before: &[Cell],
     after: &[Cell],
     cursor: Option<(u16, u16)>,
-) -> Result<(), AllocError>
+) -> Result<(), CommandFault>
     requires before { IsWithin is_known size.0 size.1 before.now }
     requires length { length after.now ≡ size.0 * size.1 }
     requires fits { All Stands after.now }
@@ -215,12 +197,16 @@ pub(crate) fn plan<A: Allocator>(
     requires after_paired { ArePaired false after.now }
     requires rows { StayInRows size.0 after.now }
     requires cursor { IfSome cursor (λ place. (place.0 < size.0) × (place.1 < size.1)) }
-    ensures planned { OnOk result (Planned is_known size.0 size.1 before.now after.now cursor strokes.new.items) }
-    ensures fitting { OnOk result (AreFitting strokes.new.items) }
+    ensures ok { OnOk result ((strokes : List Stroke) × Planned is_known size.0 size.1 before.now after.now cursor strokes × AreFitting strokes
+        × Appends (W.contents writer.old) (W.contents writer.new) (text_of (tokens_of colors strokes))) }
+    ensures err { OnErr result ((strokes : List Stroke) × Planned is_known size.0 size.1 before.now after.now cursor strokes
+        × AppendsFront (W.contents writer.old) (W.contents writer.new) (text_of (tokens_of colors strokes))) }
 {
-    strokes.clear();
-    add_first(strokes, is_known)?;
-    scan(strokes, is_known, size, before, after)?;
-    add_last(strokes, cursor)?;
-    Ok(())
+    let mut pen = Pen::new(colors);
+    scan(writer, &mut pen, is_known, size, before, after);
+    put_last(writer, &mut pen, cursor);
+    match finish(writer, &mut pen) {
+        Ok(()) => Ok(()),
+        Err(fault) => Err(fault),
+    }
 }

@@ -1,5 +1,5 @@
 //! Screens: what the terminal shows, and how it is made to show a buffer.
-ghost use Rattle.std.specs.Prelude.{◌≡◌, ◌*◌, ◌<◌, ◌↔◌, OnOk, OnErr, IfOk, IfErr, IfSome, IsTrue, List, None, Some, if◌then◌else◌, false, length, replicate};
+ghost use Rattle.std.specs.Prelude.{◌≡◌, ◌*◌, ◌<◌, ◌≤◌, ◌↔◌, OnOk, OnErr, IsOk, IfOk, IfErr, IfSome, IsTrue, List, None, Some, if◌then◌else◌, false, length, replicate, vec_capacity};
 ghost use Rattle.std.specs.Option.{option_map};
 ghost use Rattle.crossterm.specs.Functions.{AppendsReading};
 ghost use Rattle.crossterm_command.specs.Tokens.{Token};
@@ -10,8 +10,7 @@ ghost use Rattle.screen.specs.inside.Scans.{IsPairedIf, is_known};
 use crate::buffers::{Buffer, count_of, fill};
 use crate::cells::Cell;
 use crate::faults::DrawFault;
-use crate::planning::plan;
-use crate::strokes::{Stroke, write_strokes};
+use crate::planning::write_frame;
 use crossterm_command::ColorOutput;
 use std::alloc::{AllocError, Allocator, Global};
 use std::io::Write;
@@ -30,11 +29,10 @@ pub struct Screen<A: Allocator = Global> {
     // The choice of colours that `shown` was drawn with, and none if nothing is known of the terminal.
     drawn: Option<ColorOutput>,
     shown: Vec<Cell, A>,
-    strokes: Vec<Stroke, A>,
 }
 
 impl<A: Allocator> Model for Screen<A> {
-    ghost use Rattle.std.specs.Prelude.{◌≡◌, ◌*◌, length};
+    ghost use Rattle.std.specs.Prelude.{◌≡◌, ◌*◌, length, vec_capacity};
     ghost use Rattle.std.specs.Option.{option_map};
     ghost use Rattle.screen.specs.Screens.{View};
     ghost use Rattle.screen.specs.inside.Scans.{IsPairedIf};
@@ -45,6 +43,7 @@ impl<A: Allocator> Model for Screen<A> {
       width = s.width;
       height = s.height;
       drawn = option_map (λ colors. record { colors = colors; cells = s.shown.items }) s.drawn;
+      room = vec_capacity s.shown;
     } };
 
     ghost invariant = { λ s. (length s.shown.items ≡ s.width * s.height) × IsPairedIf s.drawn s.shown.items };
@@ -80,6 +79,7 @@ fn prepare_cells<A: Allocator>(
     ensures known { result ≡ is_known drawn colors }
     ensures cells { cells.new.items ≡ (if is_known drawn colors then cells.old.items else replicate (length cells.old.items) blank) }
     ensures count { length cells.new.items ≡ length cells.old.items }
+    ensures room { vec_capacity cells.new ≡ vec_capacity cells.old }
 {
     if is_known(drawn, colors) {
         return true;
@@ -98,21 +98,22 @@ fn prepare<A: Allocator>(
     ensures known { result ≡ is_known drawn colors }
     ensures cells { cells.new.items ≡ (if is_known drawn colors then cells.old.items else replicate (length cells.old.items) blank) }
     ensures count { length cells.new.items ≡ length cells.old.items }
+    ensures room { vec_capacity cells.new ≡ vec_capacity cells.old }
     ensures paired { ArePaired false cells.new.items }
 {
     prepare_cells(cells, drawn, colors)
 }
 
-impl<A: Allocator + Copy> Screen<A> {
+impl<A: Allocator> Screen<A> {
     /// A screen of a size. Nothing is known of the terminal yet.
     ///
     /// # Errors
     ///
     /// `AllocError` if memory was refused.
     pub fn new(alloc: A, width: u16, height: u16) -> Result<Screen<A>, AllocError>
-        ensures { IfOk result (λ screen. screen ≡ record { width = width; height = height; drawn = None }) }
+        ensures new { IfOk result (λ screen. screen ≡ record { width = width; height = height; drawn = None; room = screen.room }) }
+        ensures room { IfOk result (λ screen. width * height ≤ screen.room) }
     {
-        let strokes = Vec::new(alloc);
         let mut shown = Vec::new(alloc);
         shown.resize(count_of(width, height), Cell::blank())?;
         Ok(Screen {
@@ -120,12 +121,9 @@ impl<A: Allocator + Copy> Screen<A> {
             height,
             drawn: None,
             shown,
-            strokes,
         })
     }
-}
 
-impl<A: Allocator> Screen<A> {
     /// How many columns there are.
     pub fn width(&self) -> u16
         ensures { result ≡ self.now.width }
@@ -147,14 +145,17 @@ impl<A: Allocator> Screen<A> {
         self.drawn = None;
     }
 
-    /// Takes another size, after which nothing is known of the terminal.
+    /// Takes another size, after which nothing is known of the terminal. No memory is given back, so no size is refused that it had before.
     ///
     /// # Errors
     ///
-    /// `AllocError` if memory was refused. Then nothing has changed.
+    /// `AllocError` if memory was refused for more cells than there is memory for. Then nothing has changed.
     pub fn resize(&mut self, width: u16, height: u16) -> Result<(), AllocError>
-        ensures ok { OnOk result (self.new ≡ record { width = width; height = height; drawn = None }) }
-        ensures err { OnErr result (self.new ≡ self.old) }
+        ensures ok { OnOk result (self.new ≡ record { width = width; height = height; drawn = None; room = self.new.room }) }
+        ensures err { OnErr result (self.new ≡ record self.old { room = self.new.room }) }
+        ensures fits { width * height ≤ self.old.room → IsOk result }
+        ensures holds { OnOk result (width * height ≤ self.new.room) }
+        ensures room { self.old.room ≤ self.new.room }
     {
         self.shown.resize(count_of(width, height), Cell::blank())?;
         self.drawn = None;
@@ -163,13 +164,14 @@ impl<A: Allocator> Screen<A> {
         Ok(())
     }
 
-    /// Writes what makes the terminal show the buffer, with the cursor at a column and a row from 0, or hidden.
+    /// Writes what makes the terminal show the buffer, with the cursor at a column and a row from 0, or hidden. The screen has as much memory
+    /// afterwards as before.
     ///
     /// # Errors
     ///
-    /// `Size` if the buffer has another size, and `Cursor` if the place is outside: then nothing was written and nothing changed. `Memory`:
-    /// nothing was written. `Command`: a beginning of the frame was written. After these two nothing is known of the terminal, and the next
-    /// frame writes all.
+    /// `Size` if the buffer has another size, and `Cursor` if the place is outside. Then nothing was written, nothing changed, and what the
+    /// terminal shows is known as before. `Command` if the writer failed: a beginning of the frame was written, and nothing else. Then nothing
+    /// is known of the terminal, and the next frame writes all.
     ///
     /// ```
     /// screen.draw(&mut tty.out, ColorOutput::Enabled, &buffer, Some((column, row)))?;
@@ -199,17 +201,7 @@ impl<A: Allocator> Screen<A> {
         self.drawn = None;
         let size = (self.width, self.height);
         let after = buffer.cells();
-        if let Err(_) = plan(
-            &mut self.strokes,
-            is_known,
-            size,
-            &self.shown,
-            after,
-            cursor,
-        ) {
-            return Err(DrawFault::Memory);
-        }
-        match write_strokes(writer, colors, &self.strokes) {
+        match write_frame(writer, colors, is_known, size, &self.shown, after, cursor) {
             Ok(()) => {
                 self.shown.copy_from_slice(after);
                 self.drawn = Some(colors);

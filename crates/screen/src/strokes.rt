@@ -1,16 +1,14 @@
 //! Strokes: what a frame is written by.
-ghost use Rattle.std.specs.Prelude.{◌≡◌, ◌++◌, ◌∷◌, [], ⊤, OnOk, IfErr, Some};
-ghost use Rattle.crossterm_command.specs.Faults.{Stopped};
+ghost use Rattle.std.specs.Prelude.{Some};
 ghost use Rattle.crossterm_command.specs.Tokens.{text_of};
-ghost use Rattle.crossterm.specs.Functions.{AppendsReading};
-ghost use Rattle.screen.specs.inside.Strokes.{AreFitting, tokens, tokens_of};
+ghost use Rattle.screen.specs.inside.Strokes.{tokens};
 
 use crossterm::cursor::{Hide, MoveTo, Show};
 use crossterm::style::{Attribute, Print, SetAttribute, SetStyle};
 use crossterm::terminal::{BeginSynchronizedUpdate, Clear, ClearType, EndSynchronizedUpdate};
-use crossterm_command::{ColorOutput, Command, CommandFault, write_command};
+use crossterm_command::{ColorOutput, Command};
 use crossterm_style::ContentStyle;
-use std::{fmt, io};
+use std::fmt;
 
 /// One thing that is asked of a terminal.
 #[derive(Clone, Copy, Debug)]
@@ -48,23 +46,4 @@ impl Command for Stroke {
             Stroke::Hide => Hide.write_ansi(f, colors),
         }
     }
-}
-
-/// Writes strokes, one after another, up to the first that fails.
-pub(crate) fn write_strokes<W: io::Write>(
-    writer: &mut W,
-    colors: ColorOutput,
-    strokes: &[Stroke],
-) -> Result<(), CommandFault>
-    requires { AreFitting strokes.now }
-    ensures reads { OnOk result (AppendsReading (W.contents writer.old) (W.contents writer.new) (tokens_of colors strokes.now)) }
-    ensures err { IfErr result (λ fault. Stopped fault (Some (text_of (tokens_of colors strokes.now))) ⊤
-        (W.contents writer.old) (W.contents writer.new)) }
-{
-    for stroke in strokes {
-        if let Err(fault) = write_command(writer, colors, stroke) {
-            return Err(fault);
-        }
-    }
-    Ok(())
 }

@@ -1,14 +1,17 @@
 -- A frame's way over the cells.
-use Rattle.std.specs.Prelude.{⊤, ◌≡◌, ℕ, ◌+◌, ◌*◌, Bool, true, false, List, [], ◌∷◌, ◌++◌, Option, Some, None, drop, length, map, replicate, take, if◌then◌else◌}
+use Rattle.std.specs.List.{AllByRecursion}
+use Rattle.std.specs.Prelude.{⊤, ◌≡◌, ◌↔◌, ◌≤◌, ℕ, ◌+◌, ◌*◌, Bool, true, false, List, [], ◌∷◌, ◌++◌, Option, Some, None, drop, length, map, replicate, take, if◌then◌else◌}
 use Rattle.crossterm_command.specs.declared.color_output.ColorOutput.{ColorOutput}
 use Rattle.crossterm_style.specs.declared.content_style.ContentStyle.{ContentStyle}
 use Rattle.screen.specs.declared.cells.Cell.{Cell}
 use Rattle.screen.specs.declared.strokes.Stroke.{Stroke}
-use Rattle.screen.specs.Cells.{ArePaired, blank, is_covered, is_wide, look, seen}
+use Rattle.screen.specs.declared.strokes.Stroke.TheVariants.{Begin}
+use Rattle.screen.specs.Cells.{ArePaired, blank, is_covered, look, seen}
 use Rattle.screen.specs.Drawings.{DifferAt, HasSize, Shows, ShowsCells, printed, same_output}
 use Rattle.screen.specs.Grids.{Grid, Square, begun, run}
 use Rattle.screen.specs.Grids.Square.{Second}
-use Rattle.screen.specs.inside.Strokes.{tokens_of}
+use Rattle.screen.specs.Updates.{ArePrinted, HasSameStyle, IsBeside, IsOneUpdate, IsSparing, Placed, Runs, end_others, end_styles, how_many}
+use Rattle.screen.specs.inside.Strokes.{IsInner, is_move_stroke, is_other_stroke, is_style_stroke, tokens_of}
 
 -- Whether colours are written as they were.
 abbrev pub is_known : Option ColorOutput → ColorOutput → Bool
@@ -29,10 +32,6 @@ StartsWith false colors width height cells g = HasSize width height g
 abbrev pub IsWithin : Bool → ℕ → ℕ → List Cell → Type 0
 IsWithin true width height cells = length cells ≡ width * height
 IsWithin false width height cells = cells ≡ replicate (width * height) blank
-
--- the last place that the character at a place takes
-abbrev pub last_of : ℕ → Cell → ℕ
-last_of at c = if is_wide c then at + 1 else at
 
 -- Whether the first of some cells is covered.
 abbrev pub begins_covered : List Cell → Bool
@@ -64,12 +63,36 @@ Reaches known width height before after k cursor style strokes =
 abbrev pub Counts : List Cell → List Cell → ℕ → List Stroke → Type 0
 Counts before after k strokes = (colors : ColorOutput) → DifferAt (take k before) (take k after) (printed (tokens_of colors strokes))
 
+-- The beginning of a frame, with as few strokes as its characters need; one style and two other strokes are left for its end.
+pub record Spares (known : Bool) (width : ℕ) (before after : List Cell) (strokes : List Stroke) : Type 0 where
+  pub all : List Placed
+  pub printed : ArePrinted 0 before after all
+  pub moves : (n : ℕ) × Runs (IsBeside width) all n × (how_many is_move_stroke strokes ≤ n)
+  pub styles : (n : ℕ) × Runs HasSameStyle all n × (how_many is_style_stroke strokes + 1 ≤ n + end_styles known)
+  pub others : how_many is_other_stroke strokes + 2 ≤ end_others known
+  pub begun : (within : List Stroke) × (strokes ≡ Begin ∷ within) × AllByRecursion IsInner within
+
+-- The last element stands in the relation to another one.
+abbrev pub Continues : {X : Type 0} → (X → X → Type 0) → List X → X → Type 0
+Continues R [] y = ⊥
+Continues R (x ∷ []) y = R x y
+Continues R (x ∷ z ∷ xs) y = Continues R (z ∷ xs) y
+
+-- Before a place the strokes are as few. The cursor and the style are known by the last character.
+pub record Sparing (known : Bool) (width : ℕ) (before after : List Cell) (k : ℕ) (cursor : Option ℕ) (style : Option ContentStyle) (strokes : List Stroke) : Type 0 where
+  pub spares : Spares known width (take k before) (take k after) strokes
+  pub beside : (x : Placed) → Continues (IsBeside width) spares.all x ↔ (cursor ≡ Some x.at)
+  pub same : (x : Placed) → Continues HasSameStyle spares.all x ↔ (style ≡ Some x.cell.style)
+
 -- All cells were visited.
 pub record Visited (known : Bool) (width height : ℕ) (before after : List Cell) (strokes : List Stroke) : Type 0 where
   pub leads : LeadsTo known width height before strokes (λ colors h. HasSize width height h × ShowsCells colors after h)
   pub count : (colors : ColorOutput) → DifferAt before after (printed (tokens_of colors strokes))
+  pub spares : Spares known width before after strokes
 
 -- A frame is planned: its strokes show the new cells with the cursor where it was asked to be.
 pub record Planned (known : Bool) (width height : ℕ) (before after : List Cell) (cursor : Option (ℕ × ℕ)) (strokes : List Stroke) : Type 0 where
-  pub leads : LeadsTo known width height before strokes (λ colors. Shows colors (record { width = width; height = height; cells = after }) cursor)
+  pub leads : LeadsTo known width height before strokes (λ colors. Shows colors (record { width = width; height = height; cells = after; room = 0 }) cursor)
   pub count : (colors : ColorOutput) → DifferAt before after (printed (tokens_of colors strokes))
+  pub update : (colors : ColorOutput) → IsOneUpdate (tokens_of colors strokes)
+  pub sparing : (colors : ColorOutput) → IsSparing known width before after cursor (tokens_of colors strokes)

@@ -1,5 +1,5 @@
 -- What a terminal is told by strokes.
-use Rattle.std.specs.Prelude.{⊤, ℕ, Bool, List, [], ◌∷◌, ◌++◌, Option, Some, None, if◌then◌else◌, flat_map}
+use Rattle.std.specs.Prelude.{⊤, ℕ, Bool, true, false, List, [], ◌∷◌, ◌++◌, Option, Some, None, if◌then◌else◌, flat_map}
 use Rattle.std.specs.List.{AllByRecursion}
 use Rattle.crossterm_command.specs.Controls.{reset, set}
 use Rattle.crossterm_command.specs.Tokens.{Token}
@@ -38,6 +38,29 @@ IsFitting s = ⊤
 
 abbrev pub AreFitting : List Stroke → Type 0
 AreFitting strokes = AllByRecursion IsFitting strokes
+
+-- ---- kinds of strokes
+
+abbrev pub is_move_stroke : Stroke → Bool
+is_move_stroke (stroke.Move column row) = true
+is_move_stroke s = false
+
+abbrev pub is_style_stroke : Stroke → Bool
+is_style_stroke (stroke.Style s) = true
+is_style_stroke s = false
+
+-- neither of these, and no character
+abbrev pub is_other_stroke : Stroke → Bool
+is_other_stroke (stroke.Move column row) = false
+is_other_stroke (stroke.Style s) = false
+is_other_stroke (stroke.Print c) = false
+is_other_stroke s = true
+
+-- It neither begins an update nor ends one.
+abbrev pub IsInner : Stroke → Type 0
+IsInner stroke.Begin = ⊥
+IsInner stroke.End = ⊥
+IsInner s = ⊤
 
 -- ---- the strokes of a cell
 

@@ -1,7 +1,7 @@
-//! A writer that fails at each byte of a frame, and the frame after it.
+//! A writer that fails at each byte of a frame, and at some of a long one, and the frame after it.
 
 use crate::frames::paper::{Paper, Sheet};
-use crossterm_command::ColorOutput;
+use crossterm_command::{ColorOutput, CommandFault};
 use screen::{DrawFault, Screen};
 use std::alloc::{AllocError, Global};
 use std::io::{self, ErrorKind, Write};
@@ -38,19 +38,28 @@ enum Came {
     Wrong,
 }
 
-fn sheet(alloc: Global, symbol: char, style: u32) -> Result<Sheet, AllocError> {
-    let mut sheet = Sheet::new(alloc, 4, 2)?;
-    for column in 0..3u16 {
+/// A sheet of two rows with a character in all cells of the second but the last.
+fn sheet(alloc: Global, width: u16, symbol: char, style: u32) -> Result<Sheet, AllocError> {
+    let mut sheet = Sheet::new(alloc, width, 2)?;
+    for column in 0..width.saturating_sub(1) {
         sheet.set(column, 1, symbol, style);
     }
     Ok(sheet)
 }
 
+/// The kind of the writer's own error. Another fault is shown by a kind that no writer here fails with.
+fn own_kind(fault: DrawFault) -> ErrorKind {
+    match fault {
+        DrawFault::Command(CommandFault::Writer(error)) => error.kind(),
+        _ => ErrorKind::InvalidData,
+    }
+}
+
 /// Draws a frame that breaks off after so many bytes, and then another one, which has to be shown.
-fn breaks_at(alloc: Global, room: usize) -> Result<Came, AllocError> {
-    let mut screen = Screen::new(alloc, 4, 2)?;
-    let mut paper = Paper::new(alloc, 4, 2)?;
-    let first = sheet(alloc, 'Ж', 3)?;
+fn breaks_at(alloc: Global, width: u16, room: usize) -> Result<Came, AllocError> {
+    let mut screen = Screen::new(alloc, width, 2)?;
+    let mut paper = Paper::new(alloc, width, 2)?;
+    let first = sheet(alloc, width, 'Ж', 3)?;
     let mut short = Short {
         bytes: Vec::new(alloc),
         room,
@@ -58,12 +67,12 @@ fn breaks_at(alloc: Global, room: usize) -> Result<Came, AllocError> {
     let cursor = Some((3, 1));
     let drawn = screen.draw(&mut short, ColorOutput::Enabled, &first.buffer, cursor);
     paper.write(&short.bytes);
-    match drawn {
-        Ok(()) if paper.shows(&first.marks, cursor) => return Ok(Came::Whole),
-        Err(DrawFault::Command(_)) if short.bytes.len() == room => {}
+    match drawn.err().map(own_kind) {
+        None if paper.shows(&first.marks, cursor) => return Ok(Came::Whole),
+        Some(ErrorKind::BrokenPipe) if short.bytes.len() == room => {}
         _ => return Ok(Came::Wrong),
     }
-    let second = sheet(alloc, 'x', 1)?;
+    let second = sheet(alloc, width, 'x', 1)?;
     let mut bytes: Vec<u8> = Vec::new(alloc);
     let drawn = screen.draw(&mut bytes, ColorOutput::Enabled, &second.buffer, None);
     paper.is_spoilt = false;
@@ -77,7 +86,7 @@ fn breaks_at(alloc: Global, room: usize) -> Result<Came, AllocError> {
 /// Whether each frame is shown that comes after a broken one, and how many bytes a whole one has.
 fn are_shown(alloc: Global) -> Result<bool, AllocError> {
     for room in 0..1000usize {
-        match breaks_at(alloc, room)? {
+        match breaks_at(alloc, 4, room)? {
             Came::Broken => {}
             Came::Whole => return Ok(room > 40),
             Came::Wrong => return Ok(false),
@@ -86,8 +95,19 @@ fn are_shown(alloc: Global) -> Result<bool, AllocError> {
     Ok(false)
 }
 
+/// Whether frames are that come after a long one, which is given to the writer in parts.
+fn are_long_shown(alloc: Global) -> Result<bool, AllocError> {
+    for room in [0, 1, 3000, 4095, 4096, 4097, 7000, 8191] {
+        if breaks_at(alloc, 5000, room)? != Came::Broken {
+            return Ok(false);
+        }
+    }
+    Ok(true)
+}
+
 #[test]
 fn frames_after_a_broken_one_are_shown(rt: HostRuntime) -> Result<(), AllocError> {
     expect!(rt; are_shown(rt.alloc())?);
+    expect!(rt; are_long_shown(rt.alloc())?);
     Ok(())
 }

@@ -3,11 +3,11 @@
 use crossterm_command::ColorOutput;
 use crossterm_style::ContentStyle;
 use linked_list_allocator::LocalHeap;
-use screen::{Buffer, DrawFault, Screen};
+use screen::{Buffer, Screen};
 use std::alloc::{AllocError, Global};
 use test_support::{Calls, Came, expect, is_refused_below_a_size};
 
-/// Resizes both, and then draws. If memory is refused, the sizes stay, and nothing is written.
+/// Resizes both, and then draws, which takes no memory of the heap. If memory is refused, the sizes stay.
 fn grows(alloc: Global, screen: &mut Screen<&LocalHeap>, buffer: &mut Buffer<&LocalHeap>) -> Came {
     if buffer.resize(9, 4).is_err() {
         return if buffer.width() == 3 && buffer.height() == 2 {
@@ -31,7 +31,6 @@ fn grows(alloc: Global, screen: &mut Screen<&LocalHeap>, buffer: &mut Buffer<&Lo
     let mut bytes: Vec<u8> = Vec::new(alloc);
     match screen.draw(&mut bytes, ColorOutput::Enabled, &*buffer, None) {
         Ok(()) => Came::Done,
-        Err(DrawFault::Memory) if bytes.is_empty() => Came::Refused,
         Err(_) => Came::Wrong,
     }
 }

@@ -1,4 +1,4 @@
-//! Texts in a buffer: clipped at the last column, or refused whole.
+//! Texts in a buffer: clipped at the last column, and refused whole if a cell can't hold a character, or with such ones replaced.
 
 use crossterm_style::ContentStyle;
 use screen::{Buffer, CellFault};
@@ -21,20 +21,67 @@ const ROWS: [Row; 9] = [
     (4, 0, "a漢", Err(CellFault::Wide), ".........."),
 ];
 
-/// Whether a text is printed so.
-fn is_printed(alloc: Global, row: &Row) -> Result<bool, AllocError> {
-    let (column, line, text, result, wanted) = *row;
+/// A column, a row, a text, and what replaces its characters that no cell can hold; the columns, or why it is refused; the two rows then.
+type Replacing = (
+    u16,
+    u16,
+    &'static str,
+    char,
+    Result<u16, CellFault>,
+    &'static str,
+);
+
+const REPLACING: [Replacing; 10] = [
+    (0, 0, "a\tb\u{1b}", '?', Ok(4), "a?b?......"),
+    (0, 1, "e\u{301}漢😀", '_', Ok(4), ".....e___."),
+    (3, 0, "\u{7f}漢a", '?', Ok(2), "...??....."),
+    (5, 0, "漢", '?', Ok(0), ".........."),
+    (0, 0, "hé", '?', Ok(2), "hé........"),
+    (0, 0, "", ' ', Ok(0), ".........."),
+    (0, 2, "a", '漢', Err(CellFault::Outside), ".........."),
+    // Refused, though there is nothing to replace.
+    (0, 0, "a", '漢', Err(CellFault::Wide), ".........."),
+    (0, 0, "a", '\n', Err(CellFault::Control), ".........."),
+    (
+        0,
+        0,
+        "\u{301}",
+        '\u{301}',
+        Err(CellFault::NoWidth),
+        "..........",
+    ),
+];
+
+/// Two rows of five dots.
+fn dots(alloc: Global) -> Result<Buffer, AllocError> {
     let mut buffer = Buffer::new(alloc, 5, 2)?;
-    if buffer.fill('.', ContentStyle::new()).is_err() {
-        return Ok(false);
-    }
-    let came = buffer.print(column, line, text, ContentStyle::new());
-    let is_shown = buffer
+    let _ = buffer.fill('.', ContentStyle::new());
+    Ok(buffer)
+}
+
+/// Whether these are the buffer's characters.
+fn shows(buffer: &Buffer, wanted: &str) -> bool {
+    buffer
         .cells()
         .iter()
         .map(|cell| cell.symbol)
-        .eq(wanted.chars());
-    Ok(came == result && is_shown)
+        .eq(wanted.chars())
+}
+
+/// Whether a text is printed so.
+fn is_printed(alloc: Global, row: &Row) -> Result<bool, AllocError> {
+    let (column, line, text, result, wanted) = *row;
+    let mut buffer = dots(alloc)?;
+    let came = buffer.print(column, line, text, ContentStyle::new());
+    Ok(came == result && shows(&buffer, wanted))
+}
+
+/// Whether a text is printed so, with what is replaced in it.
+fn is_replaced(alloc: Global, row: &Replacing) -> Result<bool, AllocError> {
+    let (column, line, text, replacement, result, wanted) = *row;
+    let mut buffer = dots(alloc)?;
+    let came = buffer.print_replacing(column, line, text, replacement, ContentStyle::new());
+    Ok(came == result && shows(&buffer, wanted))
 }
 
 fn are_printed(alloc: Global) -> Result<bool, AllocError> {
@@ -43,11 +90,16 @@ fn are_printed(alloc: Global) -> Result<bool, AllocError> {
             return Ok(false);
         }
     }
+    for row in &REPLACING {
+        if !is_replaced(alloc, row)? {
+            return Ok(false);
+        }
+    }
     Ok(true)
 }
 
 #[test]
-fn texts_are_clipped_or_refused(rt: HostRuntime) -> Result<(), AllocError> {
+fn texts_are_clipped_replaced_or_refused(rt: HostRuntime) -> Result<(), AllocError> {
     expect!(rt; are_printed(rt.alloc())?);
     Ok(())
 }

@@ -1,10 +1,12 @@
 //! What is refused, by name.
 
-use crossterm_command::ColorOutput;
+use crossterm_command::{ColorOutput, CommandFault};
 use crossterm_style::ContentStyle;
 use screen::{Buffer, CellFault, DrawFault, Screen};
 use std::alloc::{AllocError, Global};
-use test_support::expect;
+use std::format;
+use std::io::{self, ErrorKind};
+use test_support::{expect, is_text};
 
 /// Characters, and why no cell can hold them (Unicode Standard Annex 11; ECMA-48 for the control characters).
 const ROWS: [(char, Option<CellFault>); 10] = [
@@ -61,5 +63,57 @@ fn are_frames_refused(alloc: Global) -> Result<bool, AllocError> {
 fn faults_have_names(rt: HostRuntime) -> Result<(), AllocError> {
     expect!(rt; are_refused(rt.alloc())?);
     expect!(rt; are_frames_refused(rt.alloc())?);
+    Ok(())
+}
+
+/// What a program prints of each fault.
+const TEXTS: [(CellFault, &str); 4] = [
+    (CellFault::Outside, "outside the buffer"),
+    (CellFault::Control, "a control character"),
+    (CellFault::NoWidth, "a character of width 0"),
+    (CellFault::Wide, "a character of width 2 or more"),
+];
+
+fn is_shown(alloc: Global, fault: &DrawFault, want: &str) -> bool {
+    is_text(format!(in alloc; "{fault}"), want)
+}
+
+fn have_texts(alloc: Global) -> bool {
+    let are_cells_right = TEXTS.iter().all(|(fault, want)| is_text(
+        format!(in alloc; "{fault}"),
+        want,
+    ));
+    are_cells_right
+        && is_shown(alloc, &DrawFault::Size, "a buffer of another size")
+        && is_shown(alloc, &DrawFault::Cursor, "a cursor outside the screen")
+        && is_shown(
+            alloc,
+            &DrawFault::Command(CommandFault::Text),
+            "a frame that wasn't written whole",
+        )
+}
+
+#[test]
+fn faults_have_texts(rt: HostRuntime) -> Result<(), AllocError> {
+    expect!(rt; have_texts(rt.alloc()));
+    Ok(())
+}
+
+/// Whether each fault becomes an error of its kind. A writer's own error stays as it is.
+fn have_kinds() -> bool {
+    let writer = io::Error::from(ErrorKind::BrokenPipe);
+    let broken = DrawFault::Command(CommandFault::Writer(writer));
+    let text = DrawFault::Command(CommandFault::Text);
+    io::Error::from(CellFault::Outside).kind() == ErrorKind::InvalidInput
+        && io::Error::from(CellFault::Wide).kind() == ErrorKind::InvalidInput
+        && io::Error::from(DrawFault::Size).kind() == ErrorKind::InvalidInput
+        && io::Error::from(DrawFault::Cursor).kind() == ErrorKind::InvalidInput
+        && io::Error::from(broken).kind() == ErrorKind::BrokenPipe
+        && io::Error::from(text).kind() == ErrorKind::Other
+}
+
+#[test]
+fn faults_become_errors(rt: HostRuntime) -> Result<(), AllocError> {
+    expect!(rt; have_kinds());
     Ok(())
 }

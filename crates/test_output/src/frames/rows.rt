@@ -1,9 +1,14 @@
 //! Frames by their bytes, written by hand from ECMA-48.
 
+use crossterm::cursor::{Hide, MoveTo};
+use crossterm::style::{Attribute, Attributes, Print, SetAttribute, SetStyle};
+use crossterm::terminal::{BeginSynchronizedUpdate, Clear, ClearType, EndSynchronizedUpdate};
+use crossterm::{QueueableCommand, queue};
 use crossterm_command::ColorOutput;
 use crossterm_style::{Color, ContentStyle};
 use screen::{Buffer, Screen};
 use std::alloc::{AllocError, Global};
+use std::io;
 use test_support::expect;
 
 /// What begins each frame, and what ends one whose cursor is hidden.
@@ -48,5 +53,54 @@ fn are_written(alloc: Global) -> Result<bool, AllocError> {
 #[test]
 fn neighbours_are_grouped_and_the_rest_is_left(rt: HostRuntime) -> Result<(), AllocError> {
     expect!(rt; are_written(rt.alloc())?);
+    Ok(())
+}
+
+/// A style with all that there is, whose text is the longest.
+fn longest(color: u8) -> ContentStyle {
+    let color = Some(Color::Rgb {
+        r: 255,
+        g: 200,
+        b: color,
+    });
+    let mut attributes = Attributes::none();
+    for attribute in Attribute::iterator() {
+        attributes.set(attribute);
+    }
+    ContentStyle {
+        foreground_color: color,
+        background_color: color,
+        underline_color: color,
+        attributes,
+    }
+}
+
+/// Whether a row in which each cell has the longest style, and another one than its neighbours, is written as by commands.
+fn are_long_written(alloc: Global) -> io::Result<bool> {
+    let mut screen = Screen::new(alloc, 60, 1)?;
+    let mut buffer = Buffer::new(alloc, 60, 1)?;
+    let mut wanted: Vec<u8> = Vec::new(alloc);
+    let colors = ColorOutput::Enabled;
+    queue!(wanted, colors, BeginSynchronizedUpdate)?;
+    queue!(wanted, colors, SetAttribute(Attribute::Reset))?;
+    queue!(wanted, colors, Clear(ClearType::All), MoveTo(0, 0))?;
+    for column in 0..60u8 {
+        let style = longest(column);
+        if buffer.set(u16::from(column), 0, 'x', style).is_err() {
+            return Ok(false);
+        }
+        queue!(wanted, colors, SetAttribute(Attribute::Reset))?;
+        queue!(wanted, colors, SetStyle(style), Print('x'))?;
+    }
+    queue!(wanted, colors, SetAttribute(Attribute::Reset), Hide)?;
+    queue!(wanted, colors, EndSynchronizedUpdate)?;
+    let mut bytes: Vec<u8> = Vec::new(alloc);
+    let drawn = screen.draw(&mut bytes, colors, &buffer, None);
+    Ok(drawn.is_ok() && bytes == wanted && bytes.len() > 8192)
+}
+
+#[test]
+fn the_longest_styles_are_written(rt: HostRuntime) -> io::Result<()> {
+    expect!(rt; are_long_written(rt.alloc())?);
     Ok(())
 }

@@ -1,11 +1,10 @@
-use Rattle.std.proofs.Common.{◌≡◌, ◌+◌, None, Some, chars, drop, length, ap, sym, subst, ◌∙◌, arith, map-id}
-use Rattle.std.specs.List.{All}
+use Rattle.std.proofs.Common.{◌≡◌, ◌+◌, None, Some, chars, drop, length, ap, sym, ◌∙◌, arith}
 use Rattle.std.proofs.lemmas.Iterator.{YieldsList-from_chars}
 use Rattle.std.proofs.lemmas.Iterator.Consumers.{YieldsList-turn, YieldsList-end}
 use Rattle.std.proofs.lemmas.List.{drop_all, length_push}
 use Rattle.screen.specs.Texts.{text_fault}
-use Rattle.screen.specs.Cells.{Fits, symbol_fault}
-use Rattle.screen.proofs.Prints.{fault_from, fits_more}
+use Rattle.screen.specs.Cells.{symbol_fault}
+use Rattle.screen.proofs.Prints.{fault_from}
 use Rattle.screen.proofs.texts.text_fault.Goals as goal
 
 pub loop-symbol-preserved : goal.loop-symbol-preserved
@@ -17,10 +16,7 @@ loop-symbol-preserved c =
     let none : symbol_fault symbol ≡ None = sym c.symbol_fault.ensures.value ∙ c.in_default.is in
     let rest : text_fault (drop n text) ≡ text_fault (drop (n + 1) text) =
     fault_from text n symbol turn.0 turn.1 ∙ ap (λ o. elim o [ Some fault ↦ Some fault | None ↦ text_fault (drop (n + 1) text) ]) none in
-    record {
-      fault = ap (λ m. text_fault (drop m text)) (length_push c.loop-symbol.yielded symbol) ∙ sym rest ∙ c.loop-symbol.invariant.fault;
-      fits = fits_more c.loop-symbol.yielded symbol c.loop-symbol.invariant.fits (c.symbol_fault.ensures.fits c.in_default.is);
-    }
+    ap (λ m. text_fault (drop m text)) (length_push c.loop-symbol.yielded symbol) ∙ sym rest ∙ c.loop-symbol.invariant
 
 pub returns-in-Some-symbol_fault : goal.returns-in-Some-symbol_fault
 returns-in-Some-symbol_fault c =
@@ -28,18 +24,11 @@ returns-in-Some-symbol_fault c =
     let n = length c.loop-symbol.yielded in
     let turn = YieldsList-turn (YieldsList-from_chars c.args.text.now c.utf8.text cc) c.loop-symbol.yielded _ c.loop-symbol.yielded_by _ _ c.in-Some.symbol c.in-Some.is c.next.ensures.steps in
     let some : symbol_fault c.in-Some.symbol ≡ Some c.in-Some-symbol_fault.fault = sym c.symbol_fault.ensures.value ∙ c.in-Some-symbol_fault.is in
-    record {
-      fault = sym (sym c.loop-symbol.invariant.fault ∙ fault_from text n c.in-Some.symbol turn.0 turn.1
-          ∙ ap (λ o. elim o [ Some fault ↦ Some fault | None ↦ text_fault (drop (n + 1) text) ]) some);
-      fits = λ e. cc;
-    }
+    sym (sym c.loop-symbol.invariant ∙ fault_from text n c.in-Some.symbol turn.0 turn.1
+    ∙ ap (λ o. elim o [ Some fault ↦ Some fault | None ↦ text_fault (drop (n + 1) text) ]) some)
 
 pub returns : goal.returns
 returns c =
     let text = chars c.args.text.now in
     let end = YieldsList-end (YieldsList-from_chars c.args.text.now c.utf8.text cc) c.loop-symbol.yielded _ c.loop-symbol.yielded_by _ _ c.in-None.is c.next.ensures.steps in
-    let all : c.loop-symbol.yielded ≡ text = sym (map-id c.loop-symbol.yielded) ∙ end.0 in
-    record {
-      fault = sym (sym c.loop-symbol.invariant.fault ∙ ap text_fault (drop_all (length c.loop-symbol.yielded) text (omega (arith, end.1))));
-      fits = λ e. subst (All Fits) all c.loop-symbol.invariant.fits;
-    }
+    sym (sym c.loop-symbol.invariant ∙ ap text_fault (drop_all (length c.loop-symbol.yielded) text (omega (arith, end.1))))

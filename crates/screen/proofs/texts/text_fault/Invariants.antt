@@ -1,12 +1,7 @@
 -- The characters so far can stand in cells.
 use Rattle.std.proofs.Common.{◌≡◌, chars, drop, length}
-use Rattle.std.specs.List.{All}
 use Rattle.screen.specs.Texts.{text_fault}
-use Rattle.screen.specs.Cells.{Fits}
 use Rattle.screen.proofs.texts.text_fault.Given as goal
 
 abbrev pub invariant-loop-symbol : goal.invariant-loop-symbol
-invariant-loop-symbol l = record {
-  fault : text_fault (drop (length l.yielded) (chars l.text)) ≡ text_fault (chars l.text);
-  fits : All Fits l.yielded;
-}
+invariant-loop-symbol l = text_fault (drop (length l.yielded) (chars l.text)) ≡ text_fault (chars l.text)

@@ -1,0 +1,432 @@
+-- How few moves and styles a frame has.
+use Rattle.std.proofs.Common.{◌≡◌, ◌↔◌, inl, inr, ℕ, suc, ◌+◌, ◌*◌, ◌<◌, ◌≤◌, ◌==◌, ◌&&◌, ◌||◌, not, Bool, true, false, cond, List, [], ◌∷◌, ◌++◌, Option, Some, None, refl, sym, ap, ◌∙◌, subst, arith, append_assoc, codes, bytes_eq, get_or, length, map, take}
+use Rattle.std.specs.List.{AllByRecursion}
+use Rattle.std.proofs.lemmas.List.{length-append, length-map, length-take-le, take_all, take_more}
+use Rattle.std.proofs.lemmas.List.Sums.{count_by-le-length, length-filter}
+use Rattle.std.proofs.lemmas.List.Concat.{flat_map-append}
+use Rattle.crossterm_command.specs.Tokens.{Token}
+use Rattle.crossterm_command.specs.Tokens.Token.{Csi}
+use Rattle.crossterm_command.specs.declared.color_output.ColorOutput.{ColorOutput}
+use Rattle.crossterm_command.proofs.Readings.{all_joined}
+use Rattle.crossterm_style.specs.declared.content_style.ContentStyle.{ContentStyle}
+use Rattle.crossterm_style.specs.Acts.{Act, style_acts, where_there}
+use Rattle.crossterm_style.specs.Acts.Act.{Prints, Colors, Takes}
+use Rattle.crossterm_style.specs.Attributes.{all_attributes, has, members}
+use Rattle.crossterm_style.specs.Styles.{no_style, told}
+use Rattle.crossterm_style.specs.declared.types.color.Color.{Color}
+use Rattle.crossterm_style.specs.declared.types.colored.Colored.{Colored}
+use Rattle.crossterm_style.specs.declared.types.colored.Colored.TheVariants.{ForegroundColor, BackgroundColor, UnderlineColor}
+use Rattle.screen.specs.declared.cells.Cell.{Cell}
+use Rattle.screen.specs.declared.strokes.Stroke.{Stroke}
+use Rattle.screen.specs.declared.strokes.Stroke.TheVariants as stroke
+use Rattle.screen.specs.Cells.{last_of}
+use Rattle.screen.specs.Grids.{right_of}
+use Rattle.screen.specs.Updates.{ArePrinted, HasSameStyle, HasToBePrinted, IsBeside, IsBetween, IsOneUpdate, IsSparing, Placed, Runs, begin_update, begins_with_style, changes, end_moves, end_styles, how_many, is_move, is_other, is_style, longest_style}
+use Rattle.screen.specs.inside.Scans.{Continues, Spares, Sparing}
+use Rattle.screen.specs.inside.Strokes.{IsInner, cell_strokes, cursor_strokes, first_strokes, is_move_stroke, is_other_stroke, is_style_stroke, last_strokes, tokens, tokens_of}
+use Rattle.screen.proofs.Runs.{SetsStyle, style_sets}
+
+-- ---- counts
+
+pub how_many_joined : {X : Type 0} (kind : X → Bool) (xs ys : List X) → how_many kind (xs ++ ys) ≡ how_many kind xs + how_many kind ys
+how_many_joined kind [] ys = omega arith
+how_many_joined kind (x ∷ xs) ys =
+    let more = how_many_joined kind xs ys in
+    elim (kind x) as (λ b. cond b (how_many kind (xs ++ ys) + 1) (how_many kind (xs ++ ys)) ≡ cond b (how_many kind xs + 1) (how_many kind xs) + how_many kind ys) [
+      | true ↦ omega (arith, more)
+      | false ↦ more
+    ]
+
+-- Where none is of the kind.
+none_of : {X : Type 0} (kind : X → Bool) (xs : List X) → AllByRecursion (λ x. kind x ≡ false) xs → how_many kind xs ≡ 0
+none_of kind [] a = refl
+none_of kind (x ∷ xs) a = ap (λ b. cond b (how_many kind xs + 1) (how_many kind xs)) a.0 ∙ none_of kind xs a.1
+
+-- ---- the tokens of a style
+
+-- What holds of each SGR holds of each token of a style.
+told_all : (P : Token → Type 0) → ((text : List ℕ) → P (Csi text [] 0x6D)) → (colors : ColorOutput) (acts : List Act) → AllByRecursion SetsStyle acts → AllByRecursion P (told colors acts)
+told_all P p colors [] h = tt
+told_all P p colors (Prints cs ∷ acts) h = absurd h.0
+told_all P p colors (Colors c ∷ acts) h = (p _, told_all P p colors acts h.1)
+told_all P p colors (Takes a ∷ acts) h = (p _, told_all P p colors acts h.1)
+
+style_all : (P : Token → Type 0) → ((text : List ℕ) → P (Csi text [] 0x6D)) → (colors : ColorOutput) (s : ContentStyle) → AllByRecursion P (tokens colors (stroke.Style s))
+style_all P p colors s = (p _, told_all P p colors (style_acts s) (style_sets s))
+
+-- ---- strokes for tokens
+
+of_strokes : (kind : Token → Bool) (sort : Stroke → Bool) → ((colors : ColorOutput) (s : Stroke) → how_many kind (tokens colors s) ≡ how_many sort (s ∷ []))
+    → (colors : ColorOutput) (strokes : List Stroke) → how_many kind (tokens_of colors strokes) ≡ how_many sort strokes
+of_strokes kind sort each colors [] = refl
+of_strokes kind sort each colors (s ∷ strokes) =
+    how_many_joined kind (tokens colors s) (tokens_of colors strokes) ∙ ap (λ n. n + how_many kind (tokens_of colors strokes)) (each colors s)
+    ∙ ap (λ n. how_many sort (s ∷ []) + n) (of_strokes kind sort each colors strokes) ∙ sym (how_many_joined sort (s ∷ []) strokes)
+
+moves_each : (colors : ColorOutput) (s : Stroke) → how_many is_move (tokens colors s) ≡ how_many is_move_stroke (s ∷ [])
+moves_each colors stroke.Begin = refl
+moves_each colors stroke.End = refl
+moves_each colors stroke.Erase = refl
+moves_each colors (stroke.Move column row) = refl
+moves_each colors (stroke.Style s) = none_of is_move (tokens colors (stroke.Style s)) (style_all (λ t. is_move t ≡ false) (λ text. refl) colors s)
+moves_each colors (stroke.Print c) = refl
+moves_each colors stroke.Show = refl
+moves_each colors stroke.Hide = refl
+
+others_each : (colors : ColorOutput) (s : Stroke) → how_many is_other (tokens colors s) ≡ how_many is_other_stroke (s ∷ [])
+others_each colors stroke.Begin = refl
+others_each colors stroke.End = refl
+others_each colors stroke.Erase = refl
+others_each colors (stroke.Move column row) = refl
+others_each colors (stroke.Style s) = none_of is_other (tokens colors (stroke.Style s)) (style_all (λ t. is_other t ≡ false) (λ text. refl) colors s)
+others_each colors (stroke.Print c) = refl
+others_each colors stroke.Show = refl
+others_each colors stroke.Hide = refl
+
+-- ---- changes of style
+
+changes_step : (a b : Bool) (m n p : ℕ) → m ≤ n + p → cond (a && not b) (m + 1) m ≤ cond (a && not b) (n + 1) n + p
+changes_step true true m n p h = h
+changes_step true false m n p h = omega (arith, h)
+changes_step false b m n p h = h
+
+changes_first : (a b : Bool) (n : ℕ) → cond (a && not b) (n + 1) n ≤ cond (a && true) (0 + 1) 0 + n
+changes_first true true n = omega arith
+changes_first true false n = omega arith
+changes_first false b n = omega arith
+
+changes_joined : (ts us : List Token) → changes (ts ++ us) ≤ changes ts + changes us
+changes_joined [] us = omega arith
+changes_joined (t ∷ []) us = changes_first (is_style t) (begins_with_style us) (changes us)
+changes_joined (t ∷ u ∷ ts) us = changes_step (is_style t) (is_style u) (changes (u ∷ (ts ++ us))) (changes (u ∷ ts)) (changes us) (changes_joined (u ∷ ts) us)
+
+one_change : (ts : List Token) → AllByRecursion (λ t. is_style t ≡ true) ts → changes ts ≤ 1
+one_change [] a = omega arith
+one_change (t ∷ []) a = subst (λ b. cond (b && true) (0 + 1) 0 ≤ 1) (sym a.0) (omega arith)
+one_change (t ∷ u ∷ ts) a =
+    subst (λ b. cond (is_style t && not b) (changes (u ∷ ts) + 1) (changes (u ∷ ts)) ≤ 1) (sym a.1.0)
+    (elim (is_style t) as (λ b. cond (b && false) (changes (u ∷ ts) + 1) (changes (u ∷ ts)) ≤ 1) [
+      | true ↦ one_change (u ∷ ts) a.1
+      | false ↦ one_change (u ∷ ts) a.1
+    ])
+
+changes_each : (colors : ColorOutput) (s : Stroke) → changes (tokens colors s) ≤ how_many is_style_stroke (s ∷ [])
+changes_each colors stroke.Begin = omega arith
+changes_each colors stroke.End = omega arith
+changes_each colors stroke.Erase = omega arith
+changes_each colors (stroke.Move column row) = omega arith
+changes_each colors (stroke.Style s) = one_change (tokens colors (stroke.Style s)) (style_all (λ t. is_style t ≡ true) (λ text. refl) colors s)
+changes_each colors (stroke.Print c) = omega arith
+changes_each colors stroke.Show = omega arith
+changes_each colors stroke.Hide = omega arith
+
+changes_of : (colors : ColorOutput) (strokes : List Stroke) → changes (tokens_of colors strokes) ≤ how_many is_style_stroke strokes
+changes_of colors [] = omega arith
+changes_of colors (s ∷ strokes) =
+    omega (arith, changes_joined (tokens colors s) (tokens_of colors strokes), changes_each colors s, changes_of colors strokes, how_many_joined is_style_stroke (s ∷ []) strokes)
+
+-- ---- how long a style is
+
+-- Where all are of the kind.
+all_of : {X : Type 0} (kind : X → Bool) (xs : List X) → how_many kind xs ≤ length xs
+all_of kind [] = omega arith
+all_of kind (x ∷ xs) =
+    let more = all_of kind xs in
+    elim (kind x) as (λ b. cond b (how_many kind xs + 1) (how_many kind xs) ≤ length (x ∷ xs)) [
+      | true ↦ omega (arith, more)
+      | false ↦ omega (arith, more)
+    ]
+
+told_length : (colors : ColorOutput) (acts : List Act) → AllByRecursion SetsStyle acts → length (told colors acts) ≡ length acts
+told_length colors [] h = refl
+told_length colors (Prints cs ∷ acts) h = absurd h.0
+told_length colors (Colors c ∷ acts) h = ap (λ n. suc n) (told_length colors acts h.1)
+told_length colors (Takes a ∷ acts) h = ap (λ n. suc n) (told_length colors acts h.1)
+
+few_members : (bits : ℕ) → length (members bits) ≤ 28
+unfolding members
+few_members bits =
+    let all : length all_attributes ≡ 28 = refl in
+    omega (arith, length-filter (has bits) all_attributes, count_by-le-length (has bits) all_attributes, all)
+
+one_color : (at : Color → Colored) (o : Option Color) → length (where_there at o) ≤ 1
+one_color at None = omega arith
+one_color at (Some c) = omega arith
+
+few_acts : (s : ContentStyle) → length (style_acts s) ≤ 31
+few_acts s =
+    let back = where_there BackgroundColor s.background_color in
+    let front = where_there ForegroundColor s.foreground_color in
+    let under = where_there UnderlineColor s.underline_color in
+    let takes = map Takes (members s.attributes.0) in
+    omega (
+      arith,
+      length-append back (front ++ (under ++ takes)),
+      length-append front (under ++ takes),
+      length-append under takes,
+      length-map (members s.attributes.0) Takes,
+      one_color BackgroundColor s.background_color,
+      one_color ForegroundColor s.foreground_color,
+      one_color UnderlineColor s.underline_color,
+      few_members s.attributes.0,
+    )
+
+style_each : (colors : ColorOutput) (s : Stroke) → how_many is_style (tokens colors s) ≤ longest_style * how_many is_style_stroke (s ∷ [])
+style_each colors stroke.Begin = omega arith
+style_each colors stroke.End = omega arith
+style_each colors stroke.Erase = omega arith
+style_each colors (stroke.Move column row) = omega arith
+style_each colors (stroke.Style s) = omega (arith, all_of is_style (told colors (style_acts s)), told_length colors (style_acts s) (style_sets s), few_acts s)
+style_each colors (stroke.Print c) = omega arith
+style_each colors stroke.Show = omega arith
+style_each colors stroke.Hide = omega arith
+
+style_of : (colors : ColorOutput) (strokes : List Stroke) → how_many is_style (tokens_of colors strokes) ≤ longest_style * how_many is_style_stroke strokes
+style_of colors [] = omega arith
+style_of colors (s ∷ strokes) =
+    omega (arith, how_many_joined is_style (tokens colors s) (tokens_of colors strokes), style_each colors s, style_of colors strokes, how_many_joined is_style_stroke (s ∷ []) strokes)
+
+-- ---- one update
+
+bounds : Token → Bool
+bounds (Csi text [] final) = (final == 0x68 || final == 0x6C) && bytes_eq text (codes "?2026")
+bounds t = false
+
+between : (t : Token) → bounds t ≡ false → IsBetween t
+unfolding bounds
+between t e = (
+  λ b. let no : true ≡ false = sym (ap bounds b) ∙ e in cc,
+  λ b. let no : true ≡ false = sym (ap bounds b) ∙ e in cc,
+)
+
+inner_each : (colors : ColorOutput) (s : Stroke) → IsInner s → AllByRecursion IsBetween (tokens colors s)
+unfolding bounds
+inner_each colors stroke.Begin i = absurd i
+inner_each colors stroke.End i = absurd i
+inner_each colors stroke.Erase i = (between _ refl, tt)
+inner_each colors (stroke.Move column row) i = (between _ refl, tt)
+inner_each colors (stroke.Style s) i = style_all IsBetween (λ text. between _ refl) colors s
+inner_each colors (stroke.Print c) i = (between _ refl, tt)
+inner_each colors stroke.Show i = (between _ refl, tt)
+inner_each colors stroke.Hide i = (between _ refl, tt)
+
+inner_all : (colors : ColorOutput) (strokes : List Stroke) → AllByRecursion IsInner strokes → AllByRecursion IsBetween (tokens_of colors strokes)
+inner_all colors [] a = tt
+inner_all colors (s ∷ strokes) a = all_joined IsBetween (tokens colors s) (tokens_of colors strokes) (inner_each colors s a.0) (inner_all colors strokes a.1)
+
+one_update : (colors : ColorOutput) (strokes within : List Stroke) → strokes ≡ stroke.Begin ∷ (within ++ (stroke.End ∷ [])) → AllByRecursion IsInner within → IsOneUpdate (tokens_of colors strokes)
+one_update colors strokes within e a = (
+  tokens_of colors within,
+  ap (tokens_of colors) e ∙ ap (λ l. begin_update ∷ l) (flat_map-append (tokens colors) within (stroke.End ∷ [])),
+  inner_all colors within a,
+)
+
+-- ---- runs
+
+runs_more : {X : Type 0} (R : X → X → Type 0) (xs : List X) (y : X) (n : ℕ) → Continues R xs y → Runs R xs n → Runs R (xs ++ y ∷ []) n
+runs_more R [] y n c r = absurd c
+runs_more R (x ∷ []) y n c r = inl (c, r)
+runs_more R (x ∷ z ∷ xs) y n c r = elim r [
+  | inl p ↦ inl (p.0, runs_more R (z ∷ xs) y n c p.1)
+  | inr q ↦ inr (q.0, q.1, q.2, runs_more R (z ∷ xs) y q.1 c q.3)
+]
+
+runs_new : {X : Type 0} (R : X → X → Type 0) (xs : List X) (y : X) (n : ℕ) → (Continues R xs y → ⊥) → Runs R xs n → Runs R (xs ++ y ∷ []) (n + 1)
+runs_new R [] y n c r = omega (arith, r)
+runs_new R (x ∷ []) y n c r = inr (c, 1, omega (arith, r), refl)
+runs_new R (x ∷ z ∷ xs) y n c r = elim r [
+  | inl p ↦ inl (p.0, runs_new R (z ∷ xs) y n c p.1)
+  | inr q ↦ inr (q.0, q.1 + 1, ap (λ k. k + 1) q.2, runs_new R (z ∷ xs) y q.1 c q.3)
+]
+
+continues_to : {X : Type 0} (R : X → X → Type 0) (xs : List X) (x y : X) → Continues R (xs ++ x ∷ []) y → R x y
+continues_to R [] x y c = c
+continues_to R (a ∷ []) x y c = c
+continues_to R (a ∷ b ∷ xs) x y c = continues_to R (b ∷ xs) x y c
+
+continues_from : {X : Type 0} (R : X → X → Type 0) (xs : List X) (x y : X) → R x y → Continues R (xs ++ x ∷ []) y
+continues_from R [] x y c = c
+continues_from R (a ∷ []) x y c = c
+continues_from R (a ∷ b ∷ xs) x y c = continues_from R (b ∷ xs) x y c
+
+-- One more, by whether the last one stands in the relation to it, and a count that is one more only where it doesn't.
+runs_push : {X : Type 0} (R : X → X → Type 0) (xs : List X) (y : X) (n m e : ℕ) (there : Bool) → (there ≡ true → Continues R xs y) → (Continues R xs y → there ≡ true) → Runs R xs n → m ≤ n + e
+    → (k : ℕ) × Runs R (xs ++ y ∷ []) k × (m + cond there 0 1 ≤ k + e)
+runs_push R xs y n m e true goes back r le = (n, runs_more R xs y n (goes refl) r, omega (arith, le))
+runs_push R xs y n m e false goes back r le = (n + 1, runs_new R xs y n (λ c. let f : false ≡ true = back c in cc) r, omega (arith, le))
+
+-- ---- what has to be printed
+
+printed_same : (at : ℕ) (xs ys : List Cell) (x y : Cell) (all : List Placed) → (HasToBePrinted x y → ⊥) → ArePrinted at xs ys all → ArePrinted at (xs ++ x ∷ []) (ys ++ y ∷ []) all
+printed_same at [] [] x y all e d = inl (e, d)
+printed_same at [] (b ∷ ys) x y all e d = absurd d
+printed_same at (a ∷ xs) [] x y all e d = absurd d
+printed_same at (a ∷ xs) (b ∷ ys) x y all e d = elim d [
+  | inl p ↦ inl (p.0, printed_same (at + 1) xs ys x y all e p.1)
+  | inr q ↦ inr (q.0, q.1, q.2, printed_same (at + 1) xs ys x y q.1 e q.3)
+]
+
+abbrev placed : ℕ → Cell → Placed
+placed at c = record { at = at; cell = c }
+
+printed_more : (at k : ℕ) (xs ys : List Cell) (x y : Cell) (all : List Placed) → at + length xs ≡ k → HasToBePrinted x y → ArePrinted at xs ys all
+    → ArePrinted at (xs ++ x ∷ []) (ys ++ y ∷ []) (all ++ placed k y ∷ [])
+printed_more at k [] [] x y all long e d =
+    let here : at ≡ k = omega (arith, long) in
+    inr (e, [], ap (λ l. l ++ placed k y ∷ []) d ∙ ap (λ n. placed n y ∷ []) (sym here), refl)
+printed_more at k [] (b ∷ ys) x y all long e d = absurd d
+printed_more at k (a ∷ xs) [] x y all long e d = absurd d
+printed_more at k (a ∷ xs) (b ∷ ys) x y all long e d = elim d [
+  | inl p ↦ inl (p.0, printed_more (at + 1) k xs ys x y all (omega (arith, long)) e p.1)
+  | inr q ↦ inr (q.0, q.1 ++ placed k y ∷ [], ap (λ l. l ++ placed k y ∷ []) q.2, printed_more (at + 1) k xs ys x y q.1 (omega (arith, long)) e q.3)
+]
+
+grown : (xs : List Cell) (k : ℕ) (x : Cell) → k < length xs → get_or xs k x ≡ x → take (k + 1) xs ≡ take k xs ++ x ∷ []
+grown xs k x lt e = take_more xs k x lt ∙ ap (λ y. take k xs ++ (y ∷ [])) e
+
+-- ---- strokes so far
+
+-- The strokes that begin a frame.
+pub spares_start : (known : Bool) (width : ℕ) (before after : List Cell) → Sparing known width before after 0 None None (first_strokes known)
+spares_start true width before after = record {
+  spares = record { all = []; printed = refl; moves = (0, refl, omega arith); styles = (0, refl, omega arith); others = omega arith; begun = ([], refl, tt) };
+  beside = λ x. ((λ c. absurd c), (λ e. cc));
+  same = λ x. ((λ c. absurd c), (λ e. cc));
+}
+spares_start false width before after = record {
+  spares = record { all = []; printed = refl; moves = (0, refl, omega arith); styles = (0, refl, omega arith); others = omega arith; begun = (stroke.Style no_style ∷ stroke.Erase ∷ [], refl, (tt, (tt, tt))) };
+  beside = λ x. ((λ c. absurd c), (λ e. cc));
+  same = λ x. ((λ c. absurd c), (λ e. cc));
+}
+
+-- A place for which nothing is printed.
+pub spares_kept : (known : Bool) (width : ℕ) (before after : List Cell) (k : ℕ) (cursor : Option ℕ) (style : Option ContentStyle) (strokes : List Stroke) (b c : Cell)
+    → k < length before → k < length after → get_or before k b ≡ b → get_or after k c ≡ c → (HasToBePrinted b c → ⊥)
+    → Sparing known width before after k cursor style strokes → Sparing known width before after (k + 1) cursor style strokes
+spares_kept known width before after k cursor style strokes b c lb la eb ec e s = record {
+  spares = record {
+    all = s.spares.all;
+    printed = subst (λ l. ArePrinted 0 l (take (k + 1) after) s.spares.all) (sym (grown before k b lb eb))
+        (subst (λ l. ArePrinted 0 (take k before ++ b ∷ []) l s.spares.all) (sym (grown after k c la ec)) (printed_same 0 (take k before) (take k after) b c s.spares.all e s.spares.printed));
+    moves = s.spares.moves;
+    styles = s.spares.styles;
+    others = s.spares.others;
+    begun = s.spares.begun;
+  };
+  beside = s.beside;
+  same = s.same;
+}
+
+some_same : {X : Type 0} (x y : X) → Some x ≡ Some y → x ≡ y
+some_same {X} x y e = ap (λ o. elim o [ None ↦ x | Some z ↦ z ]) e
+
+cell_moves : (there right : Bool) (column row : ℕ) (c : Cell) → how_many is_move_stroke (cell_strokes there right column row c) ≡ cond there 0 1
+cell_moves true true column row c = refl
+cell_moves true false column row c = refl
+cell_moves false true column row c = refl
+cell_moves false false column row c = refl
+
+cell_styles : (there right : Bool) (column row : ℕ) (c : Cell) → how_many is_style_stroke (cell_strokes there right column row c) ≡ cond right 0 1
+cell_styles true true column row c = refl
+cell_styles true false column row c = refl
+cell_styles false true column row c = refl
+cell_styles false false column row c = refl
+
+cell_others : (there right : Bool) (column row : ℕ) (c : Cell) → how_many is_other_stroke (cell_strokes there right column row c) ≡ 0
+cell_others true true column row c = refl
+cell_others true false column row c = refl
+cell_others false true column row c = refl
+cell_others false false column row c = refl
+
+cell_inner : (there right : Bool) (column row : ℕ) (c : Cell) → AllByRecursion IsInner (cell_strokes there right column row c)
+cell_inner true true column row c = (tt, tt)
+cell_inner true false column row c = (tt, (tt, tt))
+cell_inner false true column row c = (tt, (tt, tt))
+cell_inner false false column row c = (tt, (tt, (tt, tt)))
+
+-- A place for which a character is printed: it is moved to and its style is set only where that has to be.
+pub spares_painted : (known : Bool) (width : ℕ) (before after : List Cell) (k : ℕ) (cursor : Option ℕ) (style : Option ContentStyle) (strokes : List Stroke) (b c : Cell) (there right : Bool) (column row : ℕ)
+    → k < length before → k < length after → get_or before k b ≡ b → get_or after k c ≡ c → HasToBePrinted b c → (there ≡ true) ↔ (cursor ≡ Some k) → (right ≡ true) ↔ (style ≡ Some c.style)
+    → Sparing known width before after k cursor style strokes
+    → Sparing known width before after (k + 1) (right_of width (last_of k c)) (Some c.style) (strokes ++ cell_strokes there right column row c)
+spares_painted known width before after k cursor style strokes b c there right column row lb la eb ec e at set s =
+    let more = cell_strokes there right column row c in
+    let all = s.spares.all in
+    let x = placed k c in
+    let long : 0 + length (take k before) ≡ k = omega (arith, length-take-le k before (omega (arith, lb))) in
+    let moves : (n : ℕ) × Runs (IsBeside width) all n × (how_many is_move_stroke strokes ≤ n) = s.spares.moves in
+    let styles : (n : ℕ) × Runs HasSameStyle all n × (how_many is_style_stroke strokes + 1 ≤ n + end_styles known) = s.spares.styles in
+    let begun : (within : List Stroke) × (strokes ≡ stroke.Begin ∷ within) × AllByRecursion IsInner within = s.spares.begun in
+    let moved : (i : ℕ) × Runs (IsBeside width) (all ++ x ∷ []) i × (how_many is_move_stroke strokes + cond there 0 1 ≤ i + 0) =
+    runs_push (IsBeside width) all x moves.0 (how_many is_move_stroke strokes) 0 there (λ y. (s.beside x).1 (at.0 y)) (λ y. at.1 ((s.beside x).0 y)) moves.1 (omega (arith, moves.2)) in
+    let styled : (i : ℕ) × Runs HasSameStyle (all ++ x ∷ []) i × (how_many is_style_stroke strokes + 1 + cond right 0 1 ≤ i + end_styles known) =
+    runs_push HasSameStyle all x styles.0 (how_many is_style_stroke strokes + 1) (end_styles known) right (λ y. (s.same x).1 (set.0 y)) (λ y. set.1 ((s.same x).0 y)) styles.1 styles.2 in
+    record {
+      spares = record {
+        all = all ++ x ∷ [];
+        printed = subst (λ l. ArePrinted 0 l (take (k + 1) after) (all ++ x ∷ [])) (sym (grown before k b lb eb))
+            (subst (λ l. ArePrinted 0 (take k before ++ b ∷ []) l (all ++ x ∷ [])) (sym (grown after k c la ec)) (printed_more 0 k (take k before) (take k after) b c all long e s.spares.printed));
+        moves = (moved.0, moved.1, omega (arith, moved.2, how_many_joined is_move_stroke strokes more, cell_moves there right column row c));
+        styles = (styled.0, styled.1, omega (arith, styled.2, how_many_joined is_style_stroke strokes more, cell_styles there right column row c));
+        others = omega (arith, s.spares.others, how_many_joined is_other_stroke strokes more, cell_others there right column row c);
+        begun = (begun.0 ++ more, ap (λ l. l ++ more) begun.1, all_joined IsInner begun.0 more begun.2 (cell_inner there right column row c));
+      };
+      beside = λ y. ((λ r. continues_to (IsBeside width) all x y r), (λ r. continues_from (IsBeside width) all x y r));
+      same = λ y. ((λ r. ap Some (continues_to HasSameStyle all x y r)), (λ r. continues_from HasSameStyle all x y (some_same c.style y.cell.style r)));
+    }
+
+-- At the end these are all.
+pub spares_all : (known : Bool) (width k : ℕ) (before after : List Cell) (cursor : Option ℕ) (style : Option ContentStyle) (strokes : List Stroke) → length before ≤ k → length after ≤ k
+    → Sparing known width before after k cursor style strokes → Spares known width before after strokes
+spares_all known width k before after cursor style strokes lb la s =
+    subst (λ l. Spares known width l after strokes) (take_all k before lb) (subst (λ l. Spares known width (take k before) l strokes) (take_all k after la) s.spares)
+
+-- ---- the end of a frame
+
+last_moves : (cursor : Option (ℕ × ℕ)) → how_many is_move_stroke (last_strokes cursor) ≡ end_moves cursor
+last_moves None = refl
+last_moves (Some place) = refl
+
+last_styles : (cursor : Option (ℕ × ℕ)) → how_many is_style_stroke (last_strokes cursor) ≡ 1
+last_styles None = refl
+last_styles (Some place) = refl
+
+last_others : (cursor : Option (ℕ × ℕ)) → how_many is_other_stroke (last_strokes cursor) ≡ 2
+last_others None = refl
+last_others (Some place) = refl
+
+-- the last strokes before the update's end
+abbrev closing : Option (ℕ × ℕ) → List Stroke
+closing cursor = stroke.Style no_style ∷ cursor_strokes cursor
+
+closing_inner : (cursor : Option (ℕ × ℕ)) → AllByRecursion IsInner (closing cursor)
+closing_inner None = (tt, (tt, tt))
+closing_inner (Some place) = (tt, (tt, (tt, tt)))
+
+pub updated : (known : Bool) (width : ℕ) (before after : List Cell) (cursor : Option (ℕ × ℕ)) (strokes : List Stroke) → Spares known width before after strokes → (colors : ColorOutput)
+    → IsOneUpdate (tokens_of colors (strokes ++ last_strokes cursor))
+updated known width before after cursor strokes s colors =
+    let begun : (within : List Stroke) × (strokes ≡ stroke.Begin ∷ within) × AllByRecursion IsInner within = s.begun in
+    one_update colors (strokes ++ last_strokes cursor) (begun.0 ++ closing cursor)
+    (ap (λ l. l ++ last_strokes cursor) begun.1 ∙ ap (λ l. stroke.Begin ∷ l) (sym (append_assoc begun.0 (closing cursor) (stroke.End ∷ []))))
+    (all_joined IsInner begun.0 (closing cursor) begun.2 (closing_inner cursor))
+
+pub sparing : (known : Bool) (width : ℕ) (before after : List Cell) (cursor : Option (ℕ × ℕ)) (strokes : List Stroke) → Spares known width before after strokes → (colors : ColorOutput)
+    → IsSparing known width before after cursor (tokens_of colors (strokes ++ last_strokes cursor))
+sparing known width before after cursor strokes s colors =
+    let ends = last_strokes cursor in
+    let all = strokes ++ ends in
+    let moves : (n : ℕ) × Runs (IsBeside width) s.all n × (how_many is_move_stroke strokes ≤ n) = s.moves in
+    let styles : (n : ℕ) × Runs HasSameStyle s.all n × (how_many is_style_stroke strokes + 1 ≤ n + end_styles known) = s.styles in
+    record {
+      all = s.all;
+      printed = s.printed;
+      moves = (moves.0, moves.1, omega (arith, moves.2, of_strokes is_move is_move_stroke moves_each colors all, how_many_joined is_move_stroke strokes ends, last_moves cursor));
+      styles = (
+        styles.0,
+        styles.1,
+        omega (arith, styles.2, changes_of colors all, how_many_joined is_style_stroke strokes ends, last_styles cursor),
+        omega (arith, styles.2, style_of colors all, how_many_joined is_style_stroke strokes ends, last_styles cursor),
+      );
+      others = omega (arith, s.others, of_strokes is_other is_other_stroke others_each colors all, how_many_joined is_other_stroke strokes ends, last_others cursor);
+    }

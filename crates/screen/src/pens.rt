@@ -1,0 +1,91 @@
+//! Pens: strokes on their way to a writer.
+ghost use Rattle.std.specs.Prelude.{◌≡◌, ◌∷◌, [], List, None, OnErr, OnOk, Option, ℕ};
+ghost use Rattle.screen.specs.inside.Pens.{Breaks, Ends, Puts};
+
+use crate::strokes::Stroke;
+use arrayvec::ArrayString;
+use crossterm_command::{ColorOutput, Command, CommandFault, write_text};
+use std::io;
+
+/// More than the longest stroke, which is a style: a reset of 4 bytes, three colours of 19, and 28 attributes of 6.
+const LONGEST: usize = 512;
+
+/// A text that waits to be written, and the first fault. Nothing is written after that.
+#[derive(Drop)]
+pub(crate) struct Pen {
+    colors: ColorOutput,
+    waiting: ArrayString<4096>,
+    fault: Option<CommandFault>,
+}
+
+impl Pen {
+    /// A pen of nothing.
+    pub(crate) fn new(colors: ColorOutput) -> Pen
+        ensures colors { result.colors ≡ colors }
+        ensures waiting { result.waiting.bytes ≡ [] }
+        ensures fault { result.fault ≡ None }
+    {
+        Pen {
+            colors,
+            waiting: ArrayString::new(),
+            fault: None,
+        }
+    }
+}
+
+/// Writes what waits.
+fn hand_on<W: io::Write>(writer: &mut W, pen: &mut Pen)
+    ensures { Puts [] (W.contents writer.old) pen.old (W.contents writer.new) pen.new }
+{
+    match pen.fault {
+        Some(_) => {}
+        None => match write_text(writer, pen.waiting.as_str()) {
+            Ok(()) => pen.waiting.clear(),
+            Err(error) => pen.fault = Some(CommandFault::Writer(error)),
+        },
+    }
+}
+
+/// Writes what waits if the longest stroke has no room behind it.
+fn make_room<W: io::Write>(writer: &mut W, pen: &mut Pen)
+    ensures { Puts [] (W.contents writer.old) pen.old (W.contents writer.new) pen.new }
+{
+    if pen.waiting.remaining_capacity() < LONGEST {
+        hand_on(writer, pen);
+    }
+}
+
+/// Puts a stroke behind what waits.
+fn take(pen: &mut Pen, stroke: &Stroke)
+    ensures { (known : Option (List ℕ)) → Puts (stroke.now ∷ []) known pen.old known pen.new }
+{
+    match pen.fault {
+        Some(_) => {}
+        None => match stroke.write_ansi(&mut pen.waiting, pen.colors) {
+            Ok(()) => {}
+            Err(_) => pen.fault = Some(CommandFault::Text),
+        },
+    }
+}
+
+/// Puts a stroke behind the ones before.
+pub(crate) fn put<W: io::Write>(writer: &mut W, pen: &mut Pen, stroke: Stroke)
+    ensures { Puts (stroke ∷ []) (W.contents writer.old) pen.old (W.contents writer.new) pen.new }
+{
+    make_room(writer, pen);
+    take(pen, &stroke);
+}
+
+/// Writes the last of what waits, and returns the first fault.
+pub(crate) fn finish<W: io::Write>(writer: &mut W, pen: &mut Pen) -> Result<(), CommandFault>
+    ensures ok { OnOk result (Ends pen.old.waiting.bytes pen.old.fault (W.contents writer.old) (W.contents writer.new)) }
+    ensures err { OnErr result (Breaks pen.old.waiting.bytes pen.old.fault (W.contents writer.old) (W.contents writer.new)) }
+{
+    match pen.fault.take() {
+        Some(fault) => Err(fault),
+        None => match write_text(writer, pen.waiting.as_str()) {
+            Ok(()) => Ok(()),
+            Err(error) => Err(CommandFault::Writer(error)),
+        },
+    }
+}
