@@ -1,9 +1,12 @@
 //! Runs one of the `examples` by its name, as `example table`.
 //!
-//! `browse`, `edit`, `events`, `keys` and `record` run in a terminal: `terminal/with_terminal crates/example/out/example browse`.
+//! `browse`, `clock`, `edit`, `events`, `keys`, `record` and `stream` run in a terminal:
+//! `terminal/with_terminal crates/example/out/example browse`.
 #![tactic(auto)]
 
-use examples::{browse, edit, events, frames, keylog, keys, own_command, record, replay, table};
+use examples::{
+    browse, clock, edit, events, frames, keylog, keys, own_command, record, replay, stream, table,
+};
 use own_terminal::Tty;
 use std::env;
 use std::io::{self, BufWriter, ErrorKind};
@@ -13,7 +16,7 @@ use std::sync::Wait;
 const USAGE: &str = "usage: example NAME
 by itself: frames, keylog, own_command, table
   replay FILE, replay FILE --speed N, replay FILE --probe, replay FILE --cast
-by terminal/with_terminal: browse, edit, events, keys, keys FILE, record FILE";
+by terminal/with_terminal: browse, clock, edit, events, keys, keys FILE, record FILE, stream";
 
 /// Runs an example on standard input and output. If there is none of the name, standard error lists them.
 fn run_plain(rt: &HostRuntime, name: &str, words: &[String]) -> io::Result<()> {
@@ -58,6 +61,27 @@ fn main(rt: HostRuntime) -> io::Result<()> {
             let (input, out) = (rt.stdin(), rt.stdout());
             let (mut tty, watch) = record::open(&rt, input, out, file.as_str(), folder.as_str())?;
             record::run(&rt, &mut tty, &watch)?;
+            tty.leave()
+        }
+        ("clock", [_]) => {
+            let (mut tty, mut others) = own_terminal::start_shared(
+                &rt,
+                rt.stdin(),
+                rt.stdout(),
+                1,
+            )?;
+            if let Some(mut events) = others.pop() {
+                clock::run(&rt, &mut tty, &mut events)?;
+            }
+            tty.leave()
+        }
+        ("stream", [_]) => {
+            let (mut tty, mut events) = own_terminal::start_streaming(
+                &rt,
+                rt.stdin(),
+                rt.stdout(),
+            )?;
+            stream::run(&rt, &mut tty, &mut events)?;
             tty.leave()
         }
         (name @ ("browse" | "edit" | "events" | "keys"), [file @ .., _]) => {

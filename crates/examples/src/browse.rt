@@ -5,8 +5,8 @@
 use crossterm::event::{Event, KeyCode, KeyEvent, MouseButton, MouseEvent, MouseEventKind};
 use crossterm::style::{Attribute, Attributes, ColorOutput, ContentStyle};
 use own_terminal::{Feature, Tty};
-use screen::{Buffer, CellFault, DrawFault, Screen};
-use std::alloc::{AllocError, Global};
+use screen::{Buffer, CellFault, Screen};
+use std::alloc::AllocError;
 use std::io::{self, ErrorKind, Write};
 use std::sync::Wait;
 
@@ -51,16 +51,6 @@ fn style_of(is_chosen: bool) -> ContentStyle {
 }
 
 impl Browser {
-    /// The first row is chosen, on a screen of so many columns and rows.
-    fn new(alloc: Global, size: (u16, u16)) -> Result<Browser, AllocError> {
-        let (columns, rows) = size;
-        Ok(Browser {
-            chosen: 0,
-            buffer: Buffer::new(alloc, columns, rows)?,
-            screen: Screen::new(alloc, columns, rows)?,
-        })
-    }
-
     /// The first row that is seen: the chosen one is always in sight.
     fn top(&self) -> u16 {
         self.chosen
@@ -83,14 +73,9 @@ impl Browser {
 
     /// Draws the list.
     fn draw<W: Write>(&mut self, out: &mut W) -> io::Result<()> {
-        if self.fill().is_err() {
-            return Err(io::Error::from(ErrorKind::InvalidData));
-        }
-        match self.screen.draw(out, COLORS, &self.buffer, None) {
-            Ok(()) => out.flush(),
-            Err(DrawFault::Command(fault)) => Err(io::Error::from(fault)),
-            Err(_) => Err(io::Error::from(ErrorKind::OutOfMemory)),
-        }
+        self.fill()?;
+        self.screen.draw(out, COLORS, &self.buffer, None)?;
+        out.flush()
     }
 
     fn key(&mut self, key: &KeyEvent) {
@@ -152,7 +137,14 @@ fn turn(rt: &impl Wait, tty: &mut Tty<'_>, browser: &mut Browser) -> io::Result<
 /// Those of the terminal and its writer, but for the end of input, and `OutOfMemory` if memory was refused. What was turned on is turned
 /// off when the terminal is dropped.
 pub fn run(rt: &impl Wait, tty: &mut Tty<'_>) -> io::Result<()> {
-    let mut browser = Browser::new(tty.alloc, tty.size()?)?;
+    let (columns, rows) = tty.size()?;
+    let buffer = Buffer::new(tty.alloc, columns, rows)?;
+    let screen = Screen::new(tty.alloc, columns, rows)?;
+    let mut browser = Browser {
+        chosen: 0,
+        buffer,
+        screen,
+    };
     enter(tty)?;
     for _ in rt.forever() {
         match turn(rt, tty, &mut browser) {

@@ -63,14 +63,7 @@ fn enter(rt: &impl Wait, tty: &mut Tty<'_>) -> io::Result<()> {
 }
 
 /// Shows events until the last one, or the end of input.
-///
-/// # Errors
-///
-/// Those of the terminal and its writer, but for the end of input.
-pub fn run(rt: &impl Wait, tty: &mut Tty<'_>) -> io::Result<()> {
-    enter(rt, tty)?;
-    tty.out.write_all(HELP.as_bytes())?;
-    tty.out.flush()?;
+fn print_events(rt: &impl Wait, tty: &mut Tty<'_>) -> io::Result<()> {
     for _ in rt.forever() {
         match turn(rt, tty) {
             Ok(false) => {}
@@ -80,4 +73,16 @@ pub fn run(rt: &impl Wait, tty: &mut Tty<'_>) -> io::Result<()> {
         }
     }
     Ok(())
+}
+
+/// Turns all reports on, and shows events until the last one, or the end of input.
+///
+/// # Errors
+///
+/// Those of the terminal and its writer, but for the end of input.
+pub fn run(rt: &impl Wait, tty: &mut Tty<'_>) -> io::Result<()> {
+    enter(rt, tty)?;
+    tty.out.write_all(HELP.as_bytes())?;
+    tty.out.flush()?;
+    print_events(rt, tty)
 }

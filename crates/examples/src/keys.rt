@@ -91,7 +91,7 @@ fn show_all(rt: &impl Wait, tty: &mut Tty<'_>, matcher: &mut Matcher) -> io::Res
                 if matcher.undecided().is_empty() {
                     break;
                 }
-                matcher.flush().map_err(|_| ErrorKind::OutOfMemory)?;
+                matcher.flush()?;
             }
             Err(error) => return Err(error),
         }

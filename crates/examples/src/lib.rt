@@ -9,6 +9,8 @@
 //! | `edit` | a line editor |
 //! | `keys` | key bindings, by default or from a file |
 //! | `browse` | a full-screen list, by keys and mouse |
+//! | `clock` | two threads: one reads, the other draws the time |
+//! | `stream` | each event of a stream |
 //! | `record` | each event as it comes, and records what the terminal sends |
 //!
 //! These write to standard output, as `crates/example/out/example table`. All but `table` and `replay` read standard input:
@@ -25,6 +27,7 @@
 #![tactic(auto)]
 
 pub mod browse;
+pub mod clock;
 pub mod edit;
 pub mod events;
 pub mod frames;
@@ -33,4 +36,5 @@ pub mod keys;
 pub mod own_command;
 pub mod record;
 pub mod replay;
+pub mod stream;
 pub mod table;

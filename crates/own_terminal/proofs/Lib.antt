@@ -1,3 +1,4 @@
 mod Beginning
 mod Ending
 mod Sending
+mod Shares

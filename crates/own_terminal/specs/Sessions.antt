@@ -1,5 +1,6 @@
 -- What a session does to its terminal's mode, and how it begins.
-use Rattle.std.specs.Prelude.{◌≡◌, ◌⊎◌, Some, None, Result, IsOk, IsTrue, OnOk, is_some}
+use Rattle.std.specs.Prelude.{◌≡◌, ◌⊎◌, ◌+◌, ℕ, List, Some, None, Result, IsOk, IsTrue, OnOk, is_some, map}
+use Rattle.std.specs.List.{range_with_len}
 use Rattle.std.specs.declared.io.Error.{Error}
 use Rattle.crossterm_read.specs.Calls.{empty}
 use Rattle.crossterm_read.specs.History.{Known, opened}
@@ -16,3 +17,8 @@ EndsRaw stands answered old r new =
 -- The only pass of a reader over a device that was asked for nothing yet.
 abbrev pub BeginsOver : {D : Type 0} → D → Known (Source D) → Type 0
 BeginsOver {D} device pass = (o : ReaderState (Source D)) × IsNew o.source × (o.source.device ≡ device) × (o.store ≡ empty) × (pass ≡ opened o 1 0)
+
+-- One pass and further ones of a reader over a device that was asked for nothing yet, by their numbers: the further ones come first.
+abbrev pub BeginsShared : {D : Type 0} → D → ℕ → Known (Source D) → List (Known (Source D)) → Type 0
+BeginsShared {D} device others pass shares = (o : ReaderState (Source D)) × IsNew o.source × (o.source.device ≡ device) × (o.store ≡ empty)
+    × (pass ≡ opened o (others + 1) others) × (shares ≡ map (opened o (others + 1)) (range_with_len 0 others))

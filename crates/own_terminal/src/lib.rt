@@ -30,33 +30,39 @@
 //! |---|---|
 //! | a feature that is turned on writes exactly its text, and is listed, also if the writer fails; leaving empties the list, and if it succeeds it wrote what turns each off, the last one first, and set the mode from before; at an error each end was written whole, in part or not at all, and the device did what its clause says | `Session::{turn_on, leave, enable_raw_mode, disable_raw_mode}` |
 //! | events are read by the calls of the only pass of a new reader; polls, queries and sizes are those of the libraries, and leave the list of features alone | `Session::{over, read, poll, position, supports_keyboard_enhancement, size}` |
+//! | further shares of a session's events are as many as were asked for, of the session's reader, and each read or poll is the next call of its own pass in the one history; a stream reads by such a pass too | `Session::{over_shared, over_streaming}`, `start_shared`, `start_streaming`, `Events::{read, poll}` |
 //!
 //! What to believe, in the order in which it reads (`specs/`), and where it is proved:
 //!
 //! | Definitions | Of | Contract |
 //! |---|---|---|
 //! | `Features` | the texts that switch features on and off | `Session::{turn_on, leave}` |
-//! | `Sessions` | the mode that a session ends, and how it begins | `Session::{over, leave, disable_raw_mode}` |
+//! | `Sessions` | the mode that a session ends, and how it begins | `Session::{over, over_shared, over_streaming, leave, disable_raw_mode}` |
 //!
 //! A function's proof is in `proofs/` at the function's path; if there is no file, the prover found it by itself.
 #![tactic(auto)]
 
-ghost use Rattle.std.specs.Prelude.{◌≡◌, [], IfOk, None};
+ghost use Rattle.std.specs.Prelude.{◌≡◌, [], All, IfOk, None, length};
+ghost use Rattle.crossterm_read.specs.Shared.{IsShareOf};
 
+mod events;
 mod feature;
 mod session;
 
+use crossterm::event::EventStream;
 use crossterm::event::source::{DeviceSource, PolledDevice, RawFlag};
 use crossterm::event::timeout::SystemClock;
 use crossterm::terminal::{SttyDevice, Terminal};
+pub use events::Events;
 pub use feature::Feature;
-pub use session::Session;
+pub use session::{Session, WithShares, WithStream};
 use std::alloc::{Alloc, Global};
 use std::fs::{File, Files};
 use std::io::{self, BufWriter, ErrorKind, Stdin, Stdout};
 use std::net::Net;
 use std::rt::{HostRuntime, Runtime};
 use std::sync::Wait;
+use std::thread::Threads;
 use std::{env, format};
 
 /// What the terminal reports: the bytes of standard input, and the window's sizes.
@@ -107,6 +113,17 @@ pub fn open<R: Files<File = File> + Net>(
     Ok((input, Terminal::new(device, raw)))
 }
 
+/// The folder of the pipes: the program's last argument.
+fn folder<R: Runtime + Alloc<A = Global>>(rt: &R) -> io::Result<String> {
+    match env::args(rt)?.skip(1).last() {
+        Some(folder) => Ok(folder),
+        None => {
+            eprintln!(rt; "this program needs a terminal: start it by terminal/with_terminal")?;
+            Err(io::Error::from(ErrorKind::InvalidInput))
+        }
+    }
+}
+
 /// The session with the terminal that `terminal/with_terminal` started the program in. Its output is buffered.
 ///
 /// # Errors
@@ -118,10 +135,73 @@ where
     ensures nothing { IfOk result (λ s. (s.features.items ≡ []) × (s.term.prior ≡ None)) }
 {
     let alloc = rt.alloc();
-    let Some(folder) = env::args(rt)?.skip(1).last() else {
-        eprintln!(rt; "this program needs a terminal: start it by terminal/with_terminal")?;
-        return Err(io::Error::from(ErrorKind::InvalidInput));
-    };
+    let folder = folder(rt)?;
     let out = BufWriter::new(alloc, out)?;
     Session::open(rt, alloc, input, folder.as_str(), out, SystemClock::new(rt))
+}
+
+/// The same, with so many more shares of the events, one for each further thread that reads.
+///
+/// # Errors
+///
+/// Those of `start`.
+///
+/// ```
+/// let (mut tty, mut others) = own_terminal::start_shared(&rt, rt.stdin(), rt.stdout(), 1)?;
+/// ```
+pub fn start_shared<'a, R>(
+    rt: &'a R,
+    input: Stdin,
+    out: Stdout,
+    others: usize,
+) -> io::Result<(Tty<'a, R>, Vec<Events<DeviceSource<Input>>>)>
+where
+    R: Runtime + Alloc<A = Global> + Files<File = File> + Net + Wait,
+    ensures nothing { IfOk result (λ r. (r.0.features.items ≡ []) × (r.0.term.prior ≡ None)) }
+    ensures others { IfOk result (λ r. length r.1.items ≡ others) }
+    ensures shared { IfOk result (λ r. All (λ e. IsShareOf e.reader r.0.reader) r.1.items) }
+{
+    let alloc = rt.alloc();
+    let folder = folder(rt)?;
+    let out = BufWriter::new(alloc, out)?;
+    let (device, term) = open(rt, alloc, input, folder.as_str())?;
+    Session::over_shared(rt, alloc, device, term, out, SystemClock::new(rt), others)
+}
+
+/// The same, with a stream of the events, which polls the terminal in a thread of its own.
+///
+/// # Errors
+///
+/// Those of `start`, and `OutOfMemory` if the thread can't be started.
+///
+/// ```
+/// let (mut tty, mut events) = own_terminal::start_streaming(&rt, rt.stdin(), rt.stdout())?;
+/// while let Some(event) = block_on(&rt, events.next()) {
+///     show(&mut tty, event?)?;
+/// }
+/// ```
+pub fn start_streaming<'a, R>(
+    rt: &'a R,
+    input: Stdin,
+    out: Stdout,
+) -> io::Result<(Tty<'a, R>, EventStream<DeviceSource<Input>, R>)>
+where
+    R: Runtime
+        + Alloc<A = Global>
+        + Files<File = File>
+        + Net
+        + Threads
+        + Wait
+        + Copy
+        + Send
+        + Drop
+        + 'static,
+    ensures nothing { IfOk result (λ r. (r.0.features.items ≡ []) × (r.0.term.prior ≡ None)) }
+    ensures shared { IfOk result (λ r. IsShareOf r.1.reader r.0.reader) }
+{
+    let alloc = rt.alloc();
+    let folder = folder(rt)?;
+    let out = BufWriter::new(alloc, out)?;
+    let (device, term) = open(rt, alloc, input, folder.as_str())?;
+    Session::over_streaming(*rt, alloc, device, term, out, SystemClock::new(rt))
 }

@@ -1,6 +1,6 @@
 //! A terminal with its events, and the writer of a program.
 
-ghost use Rattle.std.specs.Prelude.{◌≡◌, ◌≤◌, ◌⊎◌, ◌++◌, ◌∷◌, [], IfErr, IfOk, IsOk, IsTrue, None, OnErr, OnOk, Option, Result, Some, is_some};
+ghost use Rattle.std.specs.Prelude.{◌≡◌, ◌≤◌, ◌⊎◌, ◌++◌, ◌∷◌, [], All, IfErr, IfOk, IsOk, IsTrue, None, OnErr, OnOk, Option, Result, Some, is_some, length, map};
 ghost use Rattle.std.specs.IoError.{error_kind};
 ghost use Rattle.std.specs.Io.KnownBytes.{Appends, Keeps};
 ghost use Rattle.std.specs.Result.{result_map_both};
@@ -8,30 +8,34 @@ ghost use Rattle.std.specs.declared.io.Error.{Error};
 ghost use Rattle.std.specs.declared.io.ErrorKind.TheVariants.{OutOfMemory};
 ghost use Rattle.crossterm_types.specs.declared.event.filter.AnyFilter.TheVariants as filters;
 ghost use Rattle.crossterm_read.specs.Entries.{AsksKeyboard, AsksPosition, Polls, Reads};
+ghost use Rattle.crossterm_read.specs.History.{Known};
 ghost use Rattle.crossterm_read.specs.Replies.{event_said};
 ghost use Rattle.crossterm_read.specs.Seats.{knows};
-ghost use Rattle.crossterm_read.specs.Shared.{IsPassOf};
+ghost use Rattle.crossterm_read.specs.Shared.{IsPassOf, IsShareOf};
+ghost use Rattle.crossterm_read.specs.inside.Turns.{Source};
 ghost use Rattle.crossterm_command.specs.Tokens.{text_of};
 ghost use Rattle.crossterm_command.specs.Writing.{AppendsFront};
 ghost use Rattle.crossterm.specs.Asking.{InRawMode, InTwoSeconds, Queries, keyboard_query, position_query};
 ghost use Rattle.crossterm.specs.Modes.{Refuses, Sizes, SwitchesOff, SwitchesOn};
 ghost use Rattle.crossterm.specs.declared.terminal.size.WindowSize.{WindowSize};
 ghost use Rattle.own_terminal.specs.Features.{EndsOffered, all_switched_off, switches_on};
-ghost use Rattle.own_terminal.specs.Sessions.{BeginsOver, EndsRaw};
+ghost use Rattle.own_terminal.specs.Sessions.{BeginsOver, BeginsShared, EndsRaw};
 
+use crate::events::{Events, share_out};
 use crate::feature::{Feature, switch_off};
 use crate::{Input, open};
 use crossterm::cursor;
 use crossterm::event::read::InternalEventReader;
 use crossterm::event::source::{Device, DeviceSource, EventSource};
 use crossterm::event::timeout::Clock;
-use crossterm::event::{Event, EventReader, KeyboardEnhancementFlags, Pass};
+use crossterm::event::{Event, EventReader, EventStream, KeyboardEnhancementFlags, Pass};
 use crossterm::terminal::{ModeDevice, SttyDevice, Terminal, supports_keyboard_enhancement};
 use std::alloc::Global;
 use std::fs::{File, Files};
-use std::io::{self, Stdin, Write};
+use std::io::{self, ErrorKind, Stdin, Write};
 use std::net::Net;
 use std::sync::Wait;
+use std::thread::Threads;
 use std::time::Duration;
 
 /// A terminal, its events, its writer, and the clock that limits are measured by.
@@ -54,6 +58,18 @@ pub struct Session<S: EventSource<Global>, D: ModeDevice, W: Write + Drop, C: Cl
     features: Vec<Feature>,
     pub ghost own: { IsPassOf reader pass },
 }
+
+/// The session over a device, and further shares of its events.
+pub type WithShares<I, D, W, C> = (
+    Session<DeviceSource<I>, D, W, C>,
+    Vec<Events<DeviceSource<I>>>,
+);
+
+/// The session over a device, and a stream of its events.
+pub type WithStream<I, D, W, C, R> = (
+    Session<DeviceSource<I>, D, W, C>,
+    EventStream<DeviceSource<I>, R>,
+);
 
 impl<S: EventSource<Global>, D: ModeDevice, W: Write + Drop, C: Clock + Drop> Drop
     for Session<S, D, W, C> {
@@ -124,6 +140,80 @@ impl<I: Device, D: ModeDevice, W: Write + Drop, C: Clock + Drop> Session<DeviceS
                 features: Vec::new(alloc),
             }),
             None => unreachable!(),
+        }
+    }
+
+    /// The same, with so many more shares of the events, for other threads.
+    ///
+    /// # Errors
+    ///
+    /// `OutOfMemory`.
+    pub fn over_shared<R: Wait>(
+        rt: &R,
+        alloc: Global,
+        device: I,
+        term: Terminal<D>,
+        out: W,
+        clock: C,
+        others: usize,
+    ) -> io::Result<WithShares<I, D, W, C>>
+        ensures parts { IfOk result (λ r. (r.0.term ≡ term) × (r.0.out ≡ out) × (r.0.clock ≡ clock) × (r.0.features.items ≡ [])) }
+        ensures begins { IfOk result (λ r. BeginsShared device others (knows r.0.pass) (map (λ e. knows e.pass) r.1.items)) }
+        ensures count { IfOk result (λ r. length r.1.items ≡ others) }
+        ensures shared { IfOk result (λ r. All (λ e. IsShareOf e.reader r.0.reader) r.1.items) }
+        ensures err { IfErr result (λ e. error_kind e ≡ OutOfMemory) }
+    {
+        let Some(count) = others.checked_add(1) else {
+            return Err(io::Error::from(ErrorKind::OutOfMemory));
+        };
+        let reader = InternalEventReader::new(alloc, DeviceSource::new(alloc, device));
+        let (reader, passes) = EventReader::new(rt, alloc, reader, count)?;
+        let mut shares = share_out(alloc, &reader, passes)?;
+        match shares.pop() {
+            Some(Events { reader, pass }) => Ok((
+                Session {
+                    alloc,
+                    term,
+                    reader,
+                    pass,
+                    out,
+                    clock,
+                    features: Vec::new(alloc),
+                },
+                shares,
+            )),
+            None => unreachable!(),
+        }
+    }
+
+    /// The same, with a stream of the events.
+    ///
+    /// # Errors
+    ///
+    /// `OutOfMemory`, also if the stream's thread can't be started.
+    pub fn over_streaming<R: Threads + Wait + Copy + Send + Drop + 'static>(
+        rt: R,
+        alloc: Global,
+        device: I,
+        term: Terminal<D>,
+        out: W,
+        clock: C,
+    ) -> io::Result<WithStream<I, D, W, C, R>>
+    where
+        I: Send + 'static,
+        ensures parts { IfOk result (λ r. (r.0.term ≡ term) × (r.0.out ≡ out) × (r.0.clock ≡ clock) × (r.0.features.items ≡ [])) }
+        ensures begins { IfOk result (λ r. (worker : Known (Source I)) × BeginsShared device 2 (knows r.0.pass) (knows r.1.pass ∷ worker ∷ [])) }
+        ensures shared { IfOk result (λ r. IsShareOf r.1.reader r.0.reader) }
+        ensures err { IfErr result (λ e. error_kind e ≡ OutOfMemory) }
+    {
+        let (session, mut shares) = Session::over_shared(&rt, alloc, device, term, out, clock, 2)?;
+        match (shares.pop(), shares.pop()) {
+            (Some(other), Some(events)) => {
+                let Events { reader, pass } = events;
+                let stream = EventStream::new(rt, alloc, &reader, pass, other.pass)?;
+                Ok((session, stream))
+            }
+            _ => unreachable!(),
         }
     }
 }

@@ -28,6 +28,8 @@ mod refused;
 #[cfg(test)]
 mod session;
 #[cfg(test)]
+mod sharing;
+#[cfg(test)]
 mod shown;
 #[cfg(test)]
 mod sizes;

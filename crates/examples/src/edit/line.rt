@@ -61,6 +61,26 @@ fn last_fitting(chars: &[char], room: usize) -> (usize, usize) {
     (count, columns)
 }
 
+/// Where a text ends that begins in a column of a row, if it is wrapped to so many columns: how many rows further down, and its column.
+pub fn wrapped(chars: &[char], from: usize, columns: usize) -> (usize, usize) {
+    let mut rows = 0usize;
+    let mut column = from;
+    for c in chars {
+        match with_one_more(column, *c, columns) {
+            Some(more) => column = more,
+            None => {
+                rows = rows.saturating_add(1);
+                column = width_of(*c);
+            }
+        }
+    }
+    if column < columns {
+        (rows, column)
+    } else {
+        (rows.saturating_add(1), 0)
+    }
+}
+
 impl Line {
     /// An empty line.
     pub fn new(alloc: Global) -> Line {
@@ -139,6 +159,13 @@ impl Line {
             _ => {}
         }
         Ok(Then::GoOn)
+    }
+
+    /// The characters that are shown before the place in the line, if there is room for so many columns.
+    pub fn before(&self, room: usize) -> &[char] {
+        let before = &self.chars.as_slice()[..self.at.min(self.chars.len())];
+        let (back, _) = last_fitting(before, room.saturating_sub(1));
+        &before[before.len().saturating_sub(back)..]
     }
 
     /// The characters that are shown if there is room for so many columns, and the column among them at which the line goes on.

@@ -1,0 +1,143 @@
+//! A session whose events another thread reads too, and one with a stream of them.
+
+use crate::noted::{Noted, terminal_by};
+use crossterm::event::EventStream;
+use crossterm::event::source::{DeviceSource, RawFlag, Script};
+use futures::StreamExt;
+use futures::executor::block_on;
+use own_terminal::{Events, Session};
+use std::alloc::{AllocError, AllocGlobal, Global};
+use std::io::{self, ErrorKind};
+use std::random::RandomSource;
+use std::sync::Wait;
+use std::sync::atomic::AtomicU32;
+use std::thread::{self, Threads};
+use std::time;
+use test_support::{Still, expect, letter_in, text};
+
+/// What is read: each letter once.
+const LETTERS: &[u8] = b"abcdefghijklmnopqrstuvwxyz";
+
+/// One bit for each letter.
+const ALL: u32 = 0x3ff_ffff;
+
+type Source = DeviceSource<Script>;
+
+type Shared<'a> = Session<Source, Noted<'a>, Vec<u8>, Still>;
+
+/// A device that reports the letters, and then the end of input.
+fn letters(alloc: Global) -> Result<Script, AllocError> {
+    let mut acts = Vec::new(alloc);
+    acts.push(text(alloc, LETTERS)?)?;
+    Ok(Script::new(acts))
+}
+
+/// The letters so far with one more, and none if it came before.
+fn with_letter(seen: u32, letter: char) -> u32 {
+    let mut bit = 1u32;
+    for each in LETTERS {
+        if char::from(*each) == letter {
+            return if seen & bit == 0 { seen | bit } else { 0 };
+        }
+        bit = bit.saturating_mul(2);
+    }
+    0
+}
+
+/// What the session's own thread reads to the end of input.
+fn read_by_session<R: Wait>(rt: &R, session: &mut Shared<'_>) -> u32 {
+    let mut seen = 0;
+    for _ in rt.forever() {
+        match letter_in(session.read(rt)) {
+            Some(letter) => seen = with_letter(seen, letter),
+            None => break,
+        }
+    }
+    seen
+}
+
+/// What another thread reads to the end of input.
+fn read_by_share<R: Wait>(rt: &R, events: &mut Events<Source>) -> u32 {
+    let mut seen = 0;
+    for _ in rt.forever() {
+        match letter_in(events.read(rt)) {
+            Some(letter) => seen = with_letter(seen, letter),
+            None => break,
+        }
+    }
+    seen
+}
+
+/// Whether two threads read all letters, and none of them twice.
+fn is_each_read_once<R: Threads + Wait + Sync>(rt: &R, alloc: Global) -> io::Result<bool> {
+    let calls = AtomicU32::new(0);
+    let term = terminal_by(RawFlag::new(alloc)?, &calls, None);
+    let out = Vec::new(alloc);
+    let (mut session, mut others) = Session::over_shared(
+        rt,
+        alloc,
+        letters(alloc)?,
+        term,
+        out,
+        Still,
+        1,
+    )?;
+    let Some(mut events) = others.pop() else {
+        return Ok(false);
+    };
+    let (ours, theirs) = thread::join(
+        rt,
+        || read_by_session(rt, &mut session),
+        || read_by_share(rt, &mut events),
+    );
+    Ok(others.is_empty() && ours & theirs == 0 && ours | theirs == ALL)
+}
+
+#[test]
+fn two_threads_read_each_event_of_a_session_once(rt: HostRuntime) -> io::Result<()> {
+    for _ in 0..20u32 {
+        expect!(rt; is_each_read_once(&rt, rt.alloc())?);
+    }
+    Ok(())
+}
+
+/// What a stream gives up to its first error, and that error's kind.
+fn streamed<R: AllocGlobal + RandomSource + time::Clock + Wait + Drop>(
+    rt: &R,
+    events: &mut EventStream<Source, R>,
+) -> io::Result<(u32, Option<ErrorKind>)> {
+    let mut seen = 0;
+    for _ in rt.forever() {
+        match block_on(rt, events.next())? {
+            Some(Ok(event)) => {
+                if let Some(letter) = letter_in(Ok(event)) {
+                    seen = with_letter(seen, letter);
+                }
+            }
+            Some(Err(error)) => return Ok((seen, Some(error.kind()))),
+            None => break,
+        }
+    }
+    Ok((seen, None))
+}
+
+#[test]
+fn a_stream_beside_a_session_gives_each_event(rt: HostRuntime) -> io::Result<()> {
+    let alloc = rt.alloc();
+    for _ in 0..20u32 {
+        let calls = AtomicU32::new(0);
+        let term = terminal_by(RawFlag::new(alloc)?, &calls, None);
+        let (mut session, mut events) = Session::over_streaming(
+            rt,
+            alloc,
+            letters(alloc)?,
+            term,
+            Vec::new(alloc),
+            Still,
+        )?;
+        let given = streamed(&rt, &mut events)?;
+        expect!(rt; given == (ALL, Some(ErrorKind::UnexpectedEof)));
+        expect!(rt; session.leave().is_ok() && session.out.is_empty());
+    }
+    Ok(())
+}
