@@ -84,7 +84,8 @@ def owner_fits(segment, head):
     words = re.findall(r"\w+", of)
     word = words[-1] if words else ""
     if not trait:
-        return segment == word
+        # Of a type with some arguments the prover's name has these too, between `+`.
+        return segment.partition("+")[0] == word
     trait = re.findall(r"\w+", trait)[-1]
     if word in declared or not re.fullmatch(r"[\w:]+", of.strip()):
         return trait in segment

@@ -13,7 +13,7 @@
 //! | what commands write reads back (the second theorem) | `write_commands`, `queue_all` |
 //! | `sync_update` writes its beginning, calls the closure once, and writes its end; an error stops it in either, or before the call | `SynchronizedUpdate::sync_update` |
 //! | raw mode is on once the device reported its mode and that the raw one is set, and off once it reported that the earlier one is set; the size is the window's, else that of `tput`, else the device's error | `Terminal`, `tput_value` |
-//! | `SttyDevice` asks its helper by the lines of its table; its mode is the one that the helper reported last | `SttyDevice::new`, `ModeDevice` |
+//! | `SttyDevice` asks its helper by the lines of its table; after a success its mode is the one that the helper reported last | `SttyDevice::new`, `ModeDevice` |
 //! | a query fails before it asks; or it writes exactly its text, makes one call of the shared reader, and leaves raw mode as it was, or returns the error of the switch back | `cursor::position`, `terminal::{query_keyboard_enhancement_flags, supports_keyboard_enhancement}` |
 //!
 //! What to believe, in the order in which it reads (`specs/`), and where it is proved:

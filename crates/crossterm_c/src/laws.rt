@@ -20,8 +20,9 @@ pub fn a_copy_is_the_command()
 
 /// What `gelvanh_hold` and `gelvanh_take` do one after another is what a reader does in a call.
 ///
-/// Each filter of a reader has its classes. A read that holds events until one is admitted, and takes it, is `InternalEventReader::read`. And
-/// who holds more events before taking takes the same one, and holds the same ones then.
+/// Each filter of a reader has its classes. If none that is admitted is held, holding events until one comes, and taking it, is
+/// `InternalEventReader::read_within` of a source that answers with these events. And who holds more events before taking takes the same one,
+/// and holds the same ones then.
 pub fn holding_and_taking_is_reading()
     ensures filters { (f : AnyFilter) (x : Seen) → is_of (classes_at (bits_of f)) x ≡ admitted f x }
     ensures read { (f : Seen → Bool) (passed : List Seen) (event : Seen) (s m t : EventStore) (x : Seen × ℕ) → first_admitted f s.held ≡ None → AllByRecursion (λ e. f e ≡ false) passed → f event ≡ true → Arrives s (map Gave (passed ++ event ∷ [])) m → TakeReplies f m t (Some x) → ReadStep (UpTo (length passed + 1)) f (map Gave (passed ++ event ∷ [])) s t (ToTake (Some x)) }

@@ -11,7 +11,7 @@
 //! | Proved | By the contract of |
 //! |---|---|
 //! | the events, as numbers of the header with 0 for what their kind doesn't use, mean the parts of the only division of the bytes taken; however small the table is, none is lost; the state's numbers represent the rest | `gelvanh_feed`, `gelvanh_is_undecided`, `gelvanh_is_pasting` |
-//! | events held in the caller's table are a reader's: one more comes last, or the table is full and nothing changes; the first of the classes asked for is taken, and the others stay in order; holding events until one is admitted, and taking it, is a call of `InternalEventReader::read`; who holds a whole batch first takes the same event | `gelvanh_hold`, `gelvanh_holds`, `gelvanh_take`, `laws::holding_and_taking_is_reading` |
+//! | events held in the caller's table are a reader's: one more comes last, or the table is full and nothing changes; the first of the classes asked for is taken, and the others stay in order; if none that is admitted is held, holding events until one comes, and taking it, is a call of `InternalEventReader::read_within`; who holds a whole batch first takes the same event | `gelvanh_hold`, `gelvanh_holds`, `gelvanh_take`, `laws::holding_and_taking_is_reading` |
 //! | a paste's text is written until all bytes are read or the next character has no room; a command's text is in the slice, or the slice is unchanged and the length is returned | `gelvanh_paste_text`, `gelvanh_command` and the four calls with a text |
 //! | the version is the header's | `gelvanh_version` |
 //!

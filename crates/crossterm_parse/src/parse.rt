@@ -304,8 +304,8 @@ impl<A: Allocator + Clone> Parser<A> {
         }
     }
 
-    /// Takes the bytes of a piece, and returns how many: fewer than the piece has only if memory was refused, and then the others are
-    /// handed in again later.
+    /// Takes the bytes of a piece, and returns how many: fewer than the piece has if memory was refused for an event or a paste. The others
+    /// are handed in again later.
     ///
     /// `more` says that bytes of the same answer follow at once, so that ESC at the end is no Esc key yet. `raw` says whether the bytes
     /// came in raw mode: then a line feed is Ctrl-J, and else Enter.

@@ -13,20 +13,28 @@ use test_support::expect;
 // A regular file that is there: the test itself.
 const REGULAR: &str = "/proc/self/exe";
 
-/// Whether a device over a regular file reports its first bytes, as a read of the file returns them, and without waiting.
-fn tells_a_file<R: Net + Files<File = File>>(rt: &R, alloc: Global) -> io::Result<bool> {
-    let mut device = PolledDevice::new(rt, alloc, File::open(rt, REGULAR)?, cooked(alloc)?, None)?;
-    let mut file = File::open(rt, REGULAR)?;
+/// Whether a device reports the next bytes of a file.
+fn tells_on<D: Device>(device: &mut D, file: &mut File) -> io::Result<bool> {
     let mut want = [0u8; 1024];
+    file.read_exact(&mut want)?;
+    Ok(tells(device, NOW, &want))
+}
+
+/// Whether a device reports a file's bytes, and a wake-up between two of its buffers.
+fn tells_all<D: Device>(device: &mut D, file: &mut File) -> io::Result<bool> {
     for _ in 0..20 {
-        file.read_exact(&mut want)?;
-        if !tells(&mut device, None, &want) {
+        if !tells_on(device, file)? {
             return Ok(false);
         }
     }
     device.waker()?.wake()?;
-    file.read_exact(&mut want)?;
-    Ok(is_woken(&mut device, None) && tells(&mut device, NOW, &want))
+    Ok(is_woken(device, None) && tells_on(device, file)?)
+}
+
+/// Whether a device over a regular file reports its first bytes, as a read of the file returns them, and without waiting.
+fn tells_a_file<R: Net + Files<File = File>>(rt: &R, alloc: Global) -> io::Result<bool> {
+    let mut device = PolledDevice::new(rt, alloc, File::open(rt, REGULAR)?, cooked(alloc)?, None)?;
+    tells_all(&mut device, &mut File::open(rt, REGULAR)?)
 }
 
 /// Whether a device over what is empty reports the end at once, and again.

@@ -11,18 +11,20 @@ use std::os::fd::AsRawFd;
 use std::time::Clock;
 use test_support::expect;
 
+/// Whether a device reports this size alone once these bytes have come.
+fn resizes_by(ends: &mut SizedEnds, bytes: &[u8], size: (u16, u16)) -> io::Result<bool> {
+    ends.sizes.write_all(bytes)?;
+    let (columns, rows) = size;
+    Ok(resizes(&mut ends.device, columns, rows) && is_idle(&mut ends.device, NOW))
+}
+
 /// Whether the last whole line is reported, and one that isn't whole once it is.
 fn tells_last_lines<R: Net + Files<File = File>>(rt: &R, alloc: Global) -> io::Result<bool> {
     let mut ends = sized(rt, alloc)?;
-    let device = &mut ends.device;
-    ends.sizes.write_all(b"24 80\n")?;
-    let one = resizes(device, 80, 24) && is_idle(device, NOW);
-    ends.sizes.write_all(b"1 2\n3 4\n30 10")?;
-    let last = resizes(device, 4, 3) && is_idle(device, NOW);
-    ends.sizes.write_all(b"0\n")?;
-    let joined = resizes(device, 100, 30) && is_idle(device, NOW);
-    ends.sizes.write_all(b"65535 0\nx\n")?;
-    Ok(one && last && joined && resizes(device, 0, 65535) && is_idle(device, NOW))
+    let one = resizes_by(&mut ends, b"24 80\n", (80, 24))?;
+    let last = resizes_by(&mut ends, b"1 2\n3 4\n30 10", (4, 3))?;
+    let joined = resizes_by(&mut ends, b"0\n", (100, 30))?;
+    Ok(one && last && joined && resizes_by(&mut ends, b"65535 0\nx\n", (0, 65535))?)
 }
 
 // Lines that are no sizes.
@@ -41,21 +43,29 @@ const WRONG: [&[u8]; 12] = [
     b"24;80\n",
 ];
 
-/// Whether lines that are no sizes are passed over, also one that is longer than what is read at once.
-fn passes_over<R: Net + Files<File = File>>(rt: &R, alloc: Global) -> io::Result<bool> {
-    let mut ends = sized(rt, alloc)?;
+/// Whether a device reports nothing once these bytes have come.
+fn passes_by(ends: &mut SizedEnds, bytes: &[u8]) -> io::Result<bool> {
+    ends.sizes.write_all(bytes)?;
+    Ok(is_idle(&mut ends.device, NOW))
+}
+
+/// Whether lines that are no sizes are passed over.
+fn passes_each(ends: &mut SizedEnds) -> io::Result<bool> {
     for line in WRONG {
-        ends.sizes.write_all(line)?;
-        if !is_idle(&mut ends.device, NOW) {
+        if !passes_by(ends, line)? {
             return Ok(false);
         }
     }
-    ends.sizes.write_all(&[b'x'; 256])?;
-    let long = is_idle(&mut ends.device, NOW);
-    ends.sizes.write_all(b"24 80\n")?;
-    let rest = is_idle(&mut ends.device, NOW);
-    ends.sizes.write_all(b"24 80\n")?;
-    Ok(long && rest && resizes(&mut ends.device, 80, 24))
+    Ok(true)
+}
+
+/// Whether lines that are no sizes are passed over, also one that is longer than what is read at once.
+fn passes_over<R: Net + Files<File = File>>(rt: &R, alloc: Global) -> io::Result<bool> {
+    let mut ends = sized(rt, alloc)?;
+    let each = passes_each(&mut ends)?;
+    let long = passes_by(&mut ends, &[b'x'; 256])?;
+    let rest = passes_by(&mut ends, b"24 80\n")?;
+    Ok(each && long && rest && resizes_by(&mut ends, b"24 80\n", (80, 24))?)
 }
 
 #[test]
@@ -65,12 +75,17 @@ fn whole_lines_are_sizes(rt: HostRuntime) -> io::Result<()> {
     Ok(())
 }
 
+/// Bytes, a size and a wake-up.
+fn send_all(ends: &mut SizedEnds) -> io::Result<()> {
+    ends.input.write_all(b"ab")?;
+    ends.sizes.write_all(b"24 80\n")?;
+    ends.device.waker()?.wake()
+}
+
 /// Whether a wake-up goes before a size, that before bytes, and each comes.
 fn tells_in_turn<R: Net + Files<File = File>>(rt: &R, alloc: Global) -> io::Result<bool> {
     let mut ends = sized(rt, alloc)?;
-    ends.input.write_all(b"ab")?;
-    ends.sizes.write_all(b"24 80\n")?;
-    ends.device.waker()?.wake()?;
+    send_all(&mut ends)?;
     let device = &mut ends.device;
     Ok(
         is_woken(device, None)

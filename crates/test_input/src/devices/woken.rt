@@ -63,14 +63,18 @@ fn pipes_connections_and_sockets_are_woken(rt: HostRuntime) -> io::Result<()> {
     Ok(())
 }
 
+/// Whether a source reports that its device was woken.
+fn reports_a_wake_up<S: EventSource<Global>>(source: &mut S, waker: &Waker) -> io::Result<bool> {
+    waker.wake()?;
+    Ok(matches!(source.try_read(None), Err(error) if error.kind() == ErrorKind::Interrupted))
+}
+
 /// Whether a source is woken by a waker of its device, and a waker does no harm once the device is gone.
 fn wakes_a_source<R: Net + Files>(rt: &R, alloc: Global) -> io::Result<bool> {
     let (device, _far) = piped(rt, alloc)?;
     let mut source = DeviceSource::new(alloc, device);
     let waker = source.waker()?;
-    waker.wake()?;
-    let woken =
-        matches!(source.try_read(None), Err(error) if error.kind() == ErrorKind::Interrupted);
+    let woken = reports_a_wake_up(&mut source, &waker)?;
     drop(source);
     Ok(woken && waker.wake().is_ok())
 }

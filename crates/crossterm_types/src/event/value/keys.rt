@@ -116,6 +116,13 @@ impl KeyEvent {
         ensures back { IfOk result (λ v. reads_key (view v) ≡ Some self.now) }
     {
         self.known();
+        self.tell(alloc)
+    }
+
+    /// The key as JSON.
+    fn tell(self, alloc: Global) -> Result<Value, ValueFault>
+        ensures { Tells (key_value self) result }
+    {
         let code = self.code.to_value(alloc)?;
         let kind = self.kind.to_value(alloc)?;
         let modifiers = self.modifiers.bits();

@@ -85,6 +85,13 @@ impl MouseEvent {
         ensures back { IfOk result (λ v. reads_mouse (view v) ≡ Some self.now) }
     {
         self.known();
+        self.tell(alloc)
+    }
+
+    /// The mouse event as JSON.
+    fn tell(self, alloc: Global) -> Result<Value, ValueFault>
+        ensures { Tells (mouse_value self) result }
+    {
         let kind = self.kind.to_value(alloc)?;
         let column = self.column;
         let row = self.row;
