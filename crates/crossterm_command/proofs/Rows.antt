@@ -5,7 +5,7 @@ use Rattle.std.proofs.lemmas.List.Concat.{flat_map-append}
 use Rattle.std.specs.Io.KnownBytes.{Appends}
 use Rattle.std.proofs.KnownBytes.{Appends-trans}
 use Rattle.crossterm_command.specs.declared.fault.CommandFault.{CommandFault}
-use Rattle.crossterm_command.specs.declared.fault.CommandFault.TheVariants.{Writer, Text, Both}
+use Rattle.crossterm_command.specs.declared.fault.CommandFault.TheVariants.{Writer, Text, Both, Flush}
 use Rattle.crossterm_command.specs.Faults.{Stopped}
 use Rattle.crossterm_command.specs.Writing.{AppendsFront}
 
@@ -64,6 +64,7 @@ pub stopped_in : {X : Type 0} (f : X → List ℕ) (xs : List X) (i : ℕ) (x : 
 stopped_in f xs i x failed a b c l e p (Writer fault) q = front_at f xs i x a b c l e p q
 stopped_in f xs i x failed a b c l e p Text q = not_empty xs i l
 stopped_in f xs i x failed a b c l e p (Both fault) q = not_empty xs i l
+stopped_in f xs i x failed a b c l e p (Flush fault) q = absurd q
 
 pub all_taken : {X : Type 0} (f : X → List ℕ) (xs : List X) (i : ℕ) (a b : Option (List ℕ)) → length xs ≤ i → Appends a b (flat_map f (take i xs)) → Appends a b (flat_map f xs)
 all_taken f xs i a b l p = subst (λ ys. Appends a b (flat_map f ys)) (take_all i xs l) p

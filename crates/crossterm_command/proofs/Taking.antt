@@ -1,15 +1,15 @@
 -- Texts that are offered to a writer one after another are taken as their whole is.
-use Rattle.std.proofs.Common.{◌≡◌, ℕ, List, [], ◌∷◌, ◌++◌, inl, inr, Option, None, Some, IfSome, Result, OnOk, Ok, refl, ◌∙◌, subst}
+use Rattle.std.proofs.Common.{◌≡◌, ℕ, List, [], ◌∷◌, ◌++◌, inl, inr, Option, None, Some, IfSome, Result, OnOk, Ok, refl, sym, ◌∙◌, subst, append-nil}
 use Rattle.std.specs.Io.KnownBytes.{Appends, Keeps}
 use Rattle.std.proofs.KnownBytes.{Appends-nil, Appends-trans, Keeps-refl, Keeps-trans}
 use Rattle.std.specs.Fmt.{WritesInCalls}
 use Rattle.std.specs.List.{FoldsTo, concat}
 use Rattle.crossterm_command.specs.declared.fault.CommandFault.{CommandFault}
-use Rattle.crossterm_command.specs.declared.fault.CommandFault.TheVariants.{Writer, Text, Both}
+use Rattle.crossterm_command.specs.declared.fault.CommandFault.TheVariants.{Writer, Text, Both, Flush}
 use Rattle.std.specs.declared.io.Error.{Error}
 use Rattle.std.specs.IoError.{error_kind}
-use Rattle.crossterm_command.specs.Faults.{Answers, Stopped}
-use Rattle.crossterm_command.specs.Writing.{Stops, Takes, Writes}
+use Rattle.crossterm_command.specs.Faults.{Answers, Stopped, Unsent}
+use Rattle.crossterm_command.specs.Writing.{AppendsFront, AppendsFrontOfText, AppendsText, Stops, Takes, Writes}
 use Rattle.crossterm_command.proofs.Rows.{front_of_first, front_of_second}
 use Rattle.crossterm_command.proofs.Texts.{in_calls}
 
@@ -66,3 +66,14 @@ pub stopped_at : (fault : CommandFault) (e : Error) (text : Option (List ℕ)) (
 stopped_at (Writer d) e text failed old new a p = record { front = λ _. p; cause = inl p }
 stopped_at Text e text failed old new a p = record { front = λ n. absurd (n a); cause = inr p }
 stopped_at (Both d) e text failed old new a p = record { front = λ n. absurd (n a); cause = inr p }
+stopped_at (Flush d) e text failed old new a p = absurd p
+
+-- The whole of a text is a beginning of it.
+front_whole : (text : Option (List ℕ)) (old new : Option (List ℕ)) → AppendsText old new text → AppendsFrontOfText old new text
+front_whole text old new p = if_some_weaken text (Appends old new) (AppendsFront old new) (λ bs q. record { front = bs; rest = []; split = sym (append-nil bs); grown = q }) p
+
+pub unsent_at : (fault : CommandFault) (e : Error) (text : Option (List ℕ)) (failed : Type 0) (old new : Option (List ℕ)) → Answers fault e → Unsent fault text failed old new → Stops (error_kind e) text failed old new
+unsent_at (Writer d) e text failed old new a p = stopped_at (Writer d) e text failed old new a p
+unsent_at Text e text failed old new a p = stopped_at Text e text failed old new a p
+unsent_at (Both d) e text failed old new a p = stopped_at (Both d) e text failed old new a p
+unsent_at (Flush d) e text failed old new a p = let front = front_whole text old new p in record { front = λ _. front; cause = inl front }

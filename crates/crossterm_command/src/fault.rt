@@ -13,15 +13,18 @@ pub enum CommandFault {
     Text,
     /// The writer failed, and after it the command by itself.
     Both(io::Error),
+    /// The text was written whole, and the flush after it failed.
+    Flush(io::Error),
 }
 
 impl From<CommandFault> for io::Error {
     ghost from_gives = { Answers };
 
-    /// The writer's own fault if it alone failed, else one of kind `Other`.
+    /// The writer's or the flush's own fault if it alone failed, else one of kind `Other`.
     fn from(fault: CommandFault) -> io::Error {
         match fault {
             CommandFault::Writer(e) => e,
+            CommandFault::Flush(e) => e,
             CommandFault::Text => io::Error::from(ErrorKind::Other),
             CommandFault::Both(_) => io::Error::from(ErrorKind::Other),
         }

@@ -9,7 +9,7 @@
 //! | Proved | By the contract of |
 //! |---|---|
 //! | on Ok exactly the command's text was written; on an Err of a kind other than `Other`, a prefix of it | `QueueableCommand::queue`, `ExecutableCommand::execute`, `queue_command`, `execute_command` |
-//! | an error of the writer is distinguished from one of the command; bytes read back in one way at most | `write_command`, `send_command`, `write_text`; `laws::one_reading` |
+//! | an error of the writer, of the command and of the flush are distinguished, and the last leaves the whole text; bytes read back in one way at most | `write_command`, `send_command`, `write_text`; `laws::one_reading` |
 //!
 //! What to believe, in the order in which it reads (`specs/`), and where it is proved:
 //!
@@ -18,7 +18,7 @@
 //! | `Tokens` | 82 | how a terminal reads bytes | `laws::one_reading` |
 //! | `Controls` | 28 | control sequences by parameters and a letter | |
 //! | `Writing` | 37 | what a writer's bytes grow by | `write_text`, `write_command`, `queue`, `execute` and the like |
-//! | `Faults` | 20 | why a command was stopped, and what was written | `CommandFault`, `send_command` |
+//! | `Faults` | 29 | why a command was stopped, and what was written | `CommandFault`, `send_command` |
 //! | `Environment` | 8 | values of environment variables | `ColorOutput::from_no_color` |
 //!
 //! A function's proof is in `proofs/` at the function's path; if there is no file, the prover found it by itself.

@@ -2,7 +2,7 @@
 ghost use Rattle.std.specs.Prelude.{◌≡◌, OnOk, OnErr, IfErr};
 ghost use Rattle.std.specs.Io.KnownBytes.{Appends};
 ghost use Rattle.crossterm_command.specs.Writing.{AppendsFront, AppendsText, Takes};
-ghost use Rattle.crossterm_command.specs.Faults.{Stopped};
+ghost use Rattle.crossterm_command.specs.Faults.{Stopped, Unsent};
 
 use crate::tries::Tries;
 use crate::{ColorOutput, Command, CommandFault};
@@ -102,20 +102,20 @@ pub fn write_command<W: io::Write, C: Command>(
 ///
 /// # Errors
 ///
-/// Those of `write_command`. If only the flush failed, it is `Writer`, and the whole text was written.
+/// Those of `write_command`; `Flush` if only the flush failed, and then the whole text was written.
 pub fn send_command<W: io::Write, C: Command>(
     writer: &mut W,
     colors: ColorOutput,
     command: &C,
 ) -> Result<(), CommandFault>
     ensures ok { OnOk result (AppendsText (W.contents writer.old) (W.contents writer.new) (C.text command.now colors)) }
-    ensures err { IfErr result (λ fault. Stopped fault (C.text command.now colors) (C.fails command.now colors)
+    ensures err { IfErr result (λ fault. Unsent fault (C.text command.now colors) (C.fails command.now colors)
         (W.contents writer.old) (W.contents writer.new)) }
 {
     match write_command(writer, colors, command) {
         Ok(()) => match writer.flush() {
             Ok(()) => Ok(()),
-            Err(e) => Err(CommandFault::Writer(e)),
+            Err(e) => Err(CommandFault::Flush(e)),
         },
         Err(fault) => Err(fault),
     }

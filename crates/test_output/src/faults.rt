@@ -33,6 +33,7 @@ fn own_kind(outcome: Result<(), CommandFault>) -> Option<ErrorKind> {
     match outcome {
         Ok(()) => None,
         Err(CommandFault::Writer(e)) => Some(e.kind()),
+        Err(CommandFault::Flush(e)) => Some(e.kind()),
         Err(_) => Some(ErrorKind::InvalidData),
     }
 }

@@ -162,6 +162,7 @@ fn who_failed<C: Command>(alloc: Global, room: usize, command: &C) -> &'static s
         Err(CommandFault::Writer(_)) => "writer",
         Err(CommandFault::Text) => "text",
         Err(CommandFault::Both(_)) => "both",
+        Err(CommandFault::Flush(_)) => "flush",
     }
 }
 
@@ -187,7 +188,10 @@ fn is_stuck(alloc: Global) -> bool {
     let mut tape = Tape::new(alloc);
     tape.is_stuck = true;
     let answer = kind(tape.execute(ON, MoveTo(0, 0)));
-    answer == BROKEN && tape.holds(b"\x1b[1;1H", 0)
+    let sent = send_command(&mut tape, ON, &MoveTo(2, 1));
+    answer == BROKEN
+        && matches!(sent, Err(CommandFault::Flush(_)))
+        && tape.holds(b"\x1b[1;1H\x1b[2;3H", 0)
 }
 
 #[test]
