@@ -1,6 +1,7 @@
 -- What is asked of a helper that runs `stty`, and what it answers: lines.
-use Rattle.std.specs.Prelude.{◌≡◌, ◌≢◌, ◌⊎◌, ℕ, List, [], ◌++◌, Option, Some, Ok, Err, codes}
+use Rattle.std.specs.Prelude.{◌≡◌, ◌≢◌, ◌⊎◌, ℕ, List, [], ◌++◌, Option, Some, None, Ok, Err, codes}
 use Rattle.std.specs.Io.KnownBytes.{Appends, Consumes}
+use Rattle.std.specs.List.{AllByRecursion}
 use Rattle.crossterm_command.specs.Writing.{AppendsFront}
 use Rattle.crossterm.specs.Modes.{ModeCall, Tells, SetsRaw, Sets, Sizes}
 use Rattle.crossterm.specs.Sizes.{both, size_in}
@@ -31,9 +32,33 @@ IsMode text = (text ≢ []) × (text ≢ codes "failed")
 abbrev pub AsksMode : {R W : Type 0} → (R → Option (List ℕ)) → (W → Option (List ℕ)) → List ℕ → Stty R W → Stty R W → Type 0
 AsksMode remaining contents request s t = Asks remaining contents request (line t.mode.text.bytes) s t × IsMode t.mode.text.bytes
 
--- A beginning of a request was written, or all of it, and nothing was told that counts: the mode before stands.
-abbrev pub Unanswered : {R W : Type 0} → (W → Option (List ℕ)) → List ℕ → Stty R W → Stty R W → Type 0
-Unanswered contents request s t = AppendsFront (contents s.requests) (contents t.requests) (line request) × (t.mode ≡ s.mode)
+-- Bytes without a line's end among them.
+abbrev pub HasNoEnd : List ℕ → Type 0
+HasNoEnd bytes = AllByRecursion (λ byte. byte ≢ 10) bytes
+
+-- What was read has no line's end.
+abbrev pub ReadsNoLine : Option (List ℕ) → Option (List ℕ) → Type 0
+ReadsNoLine old new = (bytes : List ℕ) × Consumes old new bytes × HasNoEnd bytes
+
+-- No line was read, or one that is no mode.
+abbrev pub ReadsNoMode : Option (List ℕ) → Option (List ℕ) → Type 0
+ReadsNoMode old new = ReadsNoLine old new ⊎ ((text : List ℕ) × Consumes old new (line text) × (IsMode text → ⊥))
+
+-- No line was read, or the first of two alone, or two that are no size.
+abbrev pub ReadsNoSize : Option (List ℕ) → Option (List ℕ) → Type 0
+ReadsNoSize old new =
+    ReadsNoLine old new ⊎ ((rows : List ℕ) × (bytes : List ℕ) × Consumes old new (line rows ++ bytes) × HasNoEnd bytes)
+    ⊎ ((rows : List ℕ) × (columns : List ℕ) × Consumes old new (line rows ++ line columns) × (both (size_in columns) (size_in rows) ≡ None))
+
+-- A beginning of a request was written, or all of it, and no mode was read for it: the mode before stands.
+abbrev pub Unanswered : {R W : Type 0} → (R → Option (List ℕ)) → (W → Option (List ℕ)) → List ℕ → Stty R W → Stty R W → Type 0
+Unanswered remaining contents request s t =
+    AppendsFront (contents s.requests) (contents t.requests) (line request) × ReadsNoMode (remaining s.answers) (remaining t.answers) × (t.mode ≡ s.mode)
+
+-- The same of a size.
+abbrev pub AsksNoSize : {R W : Type 0} → (R → Option (List ℕ)) → (W → Option (List ℕ)) → Stty R W → Stty R W → Type 0
+AsksNoSize remaining contents s t =
+    AppendsFront (contents s.requests) (contents t.requests) (line (codes "size")) × ReadsNoSize (remaining s.answers) (remaining t.answers) × (t.mode ≡ s.mode)
 
 -- A size was asked for, and is that of the two lines that answered: rows, and columns. Pixels aren't told.
 abbrev pub AsksSize : {R W : Type 0} → (R → Option (List ℕ)) → (W → Option (List ℕ)) → Stty R W → WindowSize → Stty R W → Type 0
@@ -50,9 +75,9 @@ abbrev pub stty_answered : {R W : Type 0} → (R → Option (List ℕ)) → (W �
 stty_answered remaining contents s (Tells (Ok mode)) t = (mode ≡ s.mode) × (t ≡ s)
 stty_answered remaining contents s (Tells (Err e)) t = ⊥
 stty_answered remaining contents s (SetsRaw mode (Ok _)) t = AsksMode remaining contents (codes "raw") s t
-stty_answered remaining contents s (SetsRaw mode (Err e)) t = Unanswered contents (codes "raw") s t
+stty_answered remaining contents s (SetsRaw mode (Err e)) t = Unanswered remaining contents (codes "raw") s t
 stty_answered remaining contents s (Sets mode (Ok _)) t = AsksMode remaining contents (set_request mode) s t × (t.mode ≡ mode)
 stty_answered remaining contents s (Sets mode (Err e)) t =
-    Unanswered contents (set_request mode) s t ⊎ (AsksMode remaining contents (set_request mode) s t × (t.mode.text.bytes ≢ mode.text.bytes))
+    Unanswered remaining contents (set_request mode) s t ⊎ (AsksMode remaining contents (set_request mode) s t × (t.mode.text.bytes ≢ mode.text.bytes))
 stty_answered remaining contents s (Sizes (Ok size)) t = AsksSize remaining contents s size t × (t.mode ≡ s.mode)
-stty_answered remaining contents s (Sizes (Err e)) t = Unanswered contents (codes "size") s t
+stty_answered remaining contents s (Sizes (Err e)) t = AsksNoSize remaining contents s t

@@ -13,7 +13,7 @@
 //! | what commands write reads back (the second theorem) | `write_commands`, `queue_all` |
 //! | `sync_update` writes its beginning, calls the closure once, and writes its end; an error stops it in either, or before the call | `SynchronizedUpdate::sync_update` |
 //! | raw mode is on once the device reported its mode and that the raw one is set, and off once it reported that the earlier one is set; the size is the window's, else that of `tput`, else the device's error | `Terminal`, `tput_value` |
-//! | `SttyDevice` asks its helper by the lines of its table; after a success its mode is the one that the helper reported last | `SttyDevice::new`, `ModeDevice` |
+//! | `SttyDevice` asks its helper by the lines of its table; a mode that it read for a request is the one that it keeps | `SttyDevice::new`, `ModeDevice` |
 //! | a query fails before it asks; or it writes exactly its text, makes one call of the shared reader, and leaves raw mode as it was, or returns the error of the switch back | `cursor::position`, `terminal::{query_keyboard_enhancement_flags, supports_keyboard_enhancement}` |
 //!
 //! What to believe, in the order in which it reads (`specs/`), and where it is proved:
@@ -27,7 +27,7 @@
 //! | `Updates` | 17 | an update that a terminal shows at once | `SynchronizedUpdate::sync_update` |
 //! | `Modes` | 71 | a terminal's modes and its size | `Terminal::{enable_raw_mode, disable_raw_mode, window_size, size}` |
 //! | `Sizes` | 31 | sizes as `tput` writes them | `tput_value` |
-//! | `Stty` | 58 | a helper that runs `stty` | `SttyDevice` |
+//! | `Stty` | 83 | a helper that runs `stty` | `SttyDevice` |
 //! | `Asking` | 36 | queries, and raw mode around them | `cursor::position`, `terminal::query_keyboard_enhancement_flags` |
 //! | `Values` | 14 | what is cleared, as JSON and in its order | `ClearType`; `laws::declared_order` |
 //!

@@ -5,7 +5,7 @@ use crate::witness::Witness;
 use crossterm::event::source::RawFlag;
 use crossterm::terminal::{ModeDevice, SttyDevice, SttyMode, Terminal, WindowSize};
 use std::alloc::Global;
-use std::io::{self, ErrorKind, Write};
+use std::io::{self, ErrorKind, Read, Write};
 use test_support::expect;
 
 /// Raw mode on and off again, and the size, by these answers.
@@ -120,4 +120,42 @@ fn a_line_has_255_bytes_at_most(rt: HostRuntime) {
     expect!(rt; of_length(rt.alloc(), 255).is_ok_and(|mode| mode.text.len() == 255));
     let longer = of_length(rt.alloc(), 256);
     expect!(rt; longer.is_err_and(|error| error.kind() == ErrorKind::InvalidData));
+}
+
+/// A pipe that a signal interrupts so often before each byte.
+#[derive(Drop)]
+struct Hesitant<'a> {
+    bytes: &'a [u8],
+    times: u32,
+    left: u32,
+}
+
+impl Read for Hesitant<'_> {
+    fn read(&mut self, buf: &mut [u8]) -> io::Result<usize> {
+        if self.left > 0 {
+            self.left -= 1;
+            return Err(io::Error::from(ErrorKind::Interrupted));
+        }
+        self.left = self.times;
+        self.bytes.read(buf)
+    }
+}
+
+/// The kind of the fault if each read of the mode is interrupted so often.
+fn interrupted(alloc: Global, times: u32) -> Option<ErrorKind> {
+    let answers = Hesitant {
+        bytes: b"5\n",
+        times,
+        left: times,
+    };
+    match SttyDevice::new(answers, Vec::new(alloc)) {
+        Ok(_) => None,
+        Err(error) => Some(error.kind()),
+    }
+}
+
+#[test]
+fn a_read_is_made_again_64_times(rt: HostRuntime) {
+    expect!(rt; interrupted(rt.alloc(), 64) == None);
+    expect!(rt; interrupted(rt.alloc(), 65) == Some(ErrorKind::Interrupted));
 }

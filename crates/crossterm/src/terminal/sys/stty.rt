@@ -11,11 +11,12 @@
 //! | `size` | two lines: the rows, the columns |
 //!
 //! `failed` in the place of a mode is a refusal, and so is 0 as the number of rows or columns.
-ghost use Rattle.std.specs.Prelude.{◌≡◌, ◌++◌, ℕ, List, Some, codes, IfOk, OnOk, OnErr};
+ghost use Rattle.std.specs.Prelude.{◌≡◌, ◌∷◌, ◌++◌, [], ℕ, List, Some, codes, IfOk, OnOk, OnErr};
 ghost use Rattle.std.specs.Io.KnownBytes.{Appends, Consumes};
 ghost use Rattle.crossterm_command.specs.Writing.{AppendsFront};
 ghost use Rattle.crossterm.specs.Modes.{Sets};
-ghost use Rattle.crossterm.specs.Stty.{AsksSize, IsMode, Stty, line, stty_answered};
+ghost use Rattle.crossterm.specs.Sizes.{both, size_in};
+ghost use Rattle.crossterm.specs.Stty.{AsksNoSize, AsksSize, IsMode, ReadsNoLine, ReadsNoMode, ReadsNoSize, Stty, line, stty_answered};
 
 use crate::terminal::size::{WindowSize, tput_size};
 use crate::terminal::sys::unix::{ModeDevice, send_query};
@@ -25,6 +26,9 @@ use std::marker::Model;
 
 /// How many bytes a line has at most, without its end.
 const LONGEST: usize = 255;
+
+// How often a read is made again that a signal interrupted.
+const INTERRUPTIONS: usize = 64;
 
 /// A mode of a terminal, as `stty -g` writes it.
 #[derive(Clone, Copy, PartialEq, Eq, Debug)]
@@ -50,18 +54,42 @@ impl<R, W> Model for SttyDevice<R, W> {
     ghost view = { λ s. record { answers = s.answers; requests = s.requests; mode = s.mode; failures = s.failures } };
 }
 
+// Reads one byte.
+fn read_byte<R: Read>(answers: &mut R) -> io::Result<u8>
+    ensures ok { IfOk result (λ byte. Consumes (R.remaining answers.old) (R.remaining answers.new) (byte ∷ [])) }
+    ensures err { OnErr result (Consumes (R.remaining answers.old) (R.remaining answers.new) []) }
+{
+    let mut byte = [0u8; 1];
+    for _ in 0..=INTERRUPTIONS {
+        match answers.read(&mut byte) {
+            Ok(0) => return Err(io::Error::from(ErrorKind::UnexpectedEof)),
+            Ok(_) => return Ok(byte[0]),
+            Err(error) => {
+                if error.kind() != ErrorKind::Interrupted {
+                    return Err(error);
+                }
+            }
+        }
+    }
+    Err(io::Error::from(ErrorKind::Interrupted))
+}
+
 // Reads one line, and gives it without its end.
 fn read_line<R: Read>(answers: &mut R) -> io::Result<ArrayString<LONGEST>>
-    ensures { IfOk result (λ text. Consumes (R.remaining answers.old) (R.remaining answers.new) (line text.bytes)) }
+    ensures ok { IfOk result (λ text. Consumes (R.remaining answers.old) (R.remaining answers.new) (line text.bytes)) }
+    ensures err { OnErr result (ReadsNoLine (R.remaining answers.old) (R.remaining answers.new)) }
 {
     let mut text = ArrayString::<LONGEST>::new();
-    let mut byte = [0u8; 1];
     for _ in 0..=LONGEST {
-        answers.read_exact(&mut byte)?;
-        match byte[0] {
-            b'\n' => return Ok(text),
-            byte @ 0..=127 if text.len() < LONGEST => text.push(char::from(byte)),
-            _ => break,
+        match read_byte(answers) {
+            Ok(b'\n') => return Ok(text),
+            Ok(byte) => {
+                if byte > 127 || text.len() == LONGEST {
+                    return Err(io::Error::from(ErrorKind::InvalidData));
+                }
+                text.push(char::from(byte));
+            }
+            Err(error) => return Err(error),
         }
     }
     Err(io::Error::from(ErrorKind::InvalidData))
@@ -69,12 +97,35 @@ fn read_line<R: Read>(answers: &mut R) -> io::Result<ArrayString<LONGEST>>
 
 // Reads a mode.
 fn read_mode<R: Read>(answers: &mut R) -> io::Result<SttyMode>
-    ensures { IfOk result (λ mode. Consumes (R.remaining answers.old) (R.remaining answers.new) (line mode.text.bytes) × IsMode mode.text.bytes) }
+    ensures ok { IfOk result (λ mode. Consumes (R.remaining answers.old) (R.remaining answers.new) (line mode.text.bytes) × IsMode mode.text.bytes) }
+    ensures err { OnErr result (ReadsNoMode (R.remaining answers.old) (R.remaining answers.new)) }
 {
-    let text = read_line(answers)?;
-    match text.as_str() {
-        "" | "failed" => Err(io::Error::from(ErrorKind::Other)),
-        _ => Ok(SttyMode { text }),
+    match read_line(answers) {
+        Ok(text) => match text.as_str() {
+            "" | "failed" => Err(io::Error::from(ErrorKind::Other)),
+            _ => Ok(SttyMode { text }),
+        },
+        Err(error) => Err(error),
+    }
+}
+
+// Reads a size: a line of rows, and a line of columns. Returns columns and rows.
+fn read_size<R: Read>(answers: &mut R) -> io::Result<(u16, u16)>
+    ensures ok { IfOk result (λ size. (rows : List ℕ) × (columns : List ℕ) × Consumes (R.remaining answers.old) (R.remaining answers.new) (line rows ++ line columns)
+        × (both (size_in columns) (size_in rows) ≡ Some size)) }
+    ensures err { OnErr result (ReadsNoSize (R.remaining answers.old) (R.remaining answers.new)) }
+{
+    let rows = match read_line(answers) {
+        Ok(rows) => rows,
+        Err(error) => return Err(error),
+    };
+    let columns = match read_line(answers) {
+        Ok(columns) => columns,
+        Err(error) => return Err(error),
+    };
+    match tput_size(columns.as_str().as_bytes(), rows.as_str().as_bytes()) {
+        Some(size) => Ok(size),
+        None => Err(io::Error::from(ErrorKind::Other)),
     }
 }
 
@@ -103,12 +154,21 @@ impl<R: Read + Drop, W: Write + Drop> SttyDevice<R, W> {
     fn ask_mode(&mut self, request: &str) -> io::Result<()>
         ensures ok { OnOk result (Appends (W.contents self.old.requests) (W.contents self.new.requests) request.now
             × Consumes (R.remaining self.old.answers) (R.remaining self.new.answers) (line self.new.mode.text.bytes) × IsMode self.new.mode.text.bytes) }
-        ensures err { OnErr result (AppendsFront (W.contents self.old.requests) (W.contents self.new.requests) request.now × (self.new.mode ≡ self.old.mode)) }
+        ensures err { OnErr result (AppendsFront (W.contents self.old.requests) (W.contents self.new.requests) request.now
+            × ReadsNoMode (R.remaining self.old.answers) (R.remaining self.new.answers) × (self.new.mode ≡ self.old.mode)) }
         ensures failures { self.new.failures ≡ self.old.failures }
     {
-        send_query(&mut self.requests, request)?;
-        self.mode = read_mode(&mut self.answers)?;
-        Ok(())
+        match send_query(&mut self.requests, request) {
+            Ok(()) => {}
+            Err(error) => return Err(error),
+        }
+        match read_mode(&mut self.answers) {
+            Ok(mode) => {
+                self.mode = mode;
+                Ok(())
+            }
+            Err(error) => Err(error),
+        }
     }
 
     // Sets a mode, and asks whether it is set.
@@ -131,22 +191,24 @@ impl<R: Read + Drop, W: Write + Drop> SttyDevice<R, W> {
     // Asks for the window's size.
     fn try_window_size(&mut self) -> io::Result<WindowSize>
         ensures ok { IfOk result (λ size. AsksSize R.remaining W.contents self.old size self.new) }
-        ensures front { AppendsFront (W.contents self.old.requests) (W.contents self.new.requests) (line (codes "size")) }
+        ensures err { OnErr result (AsksNoSize R.remaining W.contents self.old self.new) }
         ensures mode { self.new.mode ≡ self.old.mode }
         ensures failures { self.new.failures ≡ self.old.failures }
     {
-        send_query(&mut self.requests, "size\n")?;
-        let lines = read_line(&mut self.answers)?;
-        let columns = read_line(&mut self.answers)?;
-        match tput_size(columns.as_str().as_bytes(), lines.as_str().as_bytes()) {
-            Some((columns, rows)) => Ok(WindowSize {
-                rows,
-                columns,
-                width: 0,
-                height: 0,
-            }),
-            None => Err(io::Error::from(ErrorKind::Other)),
+        match send_query(&mut self.requests, "size\n") {
+            Ok(()) => {}
+            Err(error) => return Err(error),
         }
+        let (columns, rows) = match read_size(&mut self.answers) {
+            Ok(size) => size,
+            Err(error) => return Err(error),
+        };
+        Ok(WindowSize {
+            rows,
+            columns,
+            width: 0,
+            height: 0,
+        })
     }
 }
 
