@@ -453,6 +453,10 @@ byte_free old mid ms i first q =
     let free = all_right (λ part. begins paste_start (bytes_of part) ≡ false) a.parts later.0 (subst (AllByRecursion (λ part. begins paste_start (bytes_of part) ≡ false)) same.0 q.6) in
     not_pasting mid a.rest more later.0 later.1 a.represents a.division.undecided later.2 (free_first later.0 free) (ap (λ (xs : List Marked). begins paste_start (bytes_of xs)) (sym same.1) ∙ q.7)
 
+-- nor does one byte that opens no paste
+pub byte_opens : (mid : ParserView) (ms : List Marked) → OpensNoPaste mid ms → is_paste mid.state ≡ false
+byte_opens mid ms q = byte_free mid mid ms 0 (advance_none mid) q
+
 -- the text of a parser is as long as the paste that its bytes open
 text_length : (s : Bool) (bytes text : List ℕ) → begins paste_start bytes ≡ s → text ≡ cond s (drop 6 bytes) [] → cond s (length bytes - 6) 0 ≡ length text
 text_length true bytes text h e = sym (ap length e ∙ length-drop 6 bytes)

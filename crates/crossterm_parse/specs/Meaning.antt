@@ -6,7 +6,7 @@ use Rattle.std.specs.Str.{byte}
 use Rattle.bstr.specs.Utf8.{decoded, lossy_chars}
 use Rattle.unicode.specs.Binary.{is_uppercase}
 use Rattle.crossterm_types.specs.declared.event.key.KeyCode.{KeyCode}
-use Rattle.crossterm_types.specs.declared.event.key.KeyCode.TheVariants.{Backspace, Enter, Left, Right, Up, Down, Home, End, Tab, BackTab, F, Char, Esc}
+use Rattle.crossterm_types.specs.declared.event.key.KeyCode.TheVariants.{Backspace, Enter, Tab, BackTab, F, Char, Esc}
 use Rattle.crossterm_types.specs.Keys.{modifiers_of, pressed}
 use Rattle.crossterm_types.specs.Seen as types
 use Rattle.crossterm_types.specs.Seen.{Seen}

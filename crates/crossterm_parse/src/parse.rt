@@ -13,7 +13,7 @@ ghost use Rattle.crossterm_parse.specs.inside.Automaton.{text_of, meaning_with, 
 ghost use Rattle.crossterm_parse.specs.Meaning.{decoded_character, seen_meaning, pasted, typed};
 ghost use Rattle.crossterm_parse.specs.Marked.{Marked, bytes_of, marked};
 ghost use Rattle.crossterm_parse.specs.View.{ParserView, Represents, RepresentsSame, AdvancesOver, EndsNoEvent, OpensNoPaste, TakesSteps, paste_length};
-ghost use Rattle.crossterm_parse.specs.inside.Putting.{Puts, PutsByte, StaysAsItWas};
+ghost use Rattle.crossterm_parse.specs.inside.Putting.{Puts, PutsAll, PutsByte, StaysAsItWas};
 
 use crate::meaning::{Meaning, ascii_key, typed_key};
 use crate::paste::{Met, PasteText};
@@ -52,6 +52,8 @@ pub use events::Events;
 pub struct Parser<A: Allocator = Global> {
     state: State,
     paste: Option<PasteText<A>>,
+    // How many bytes of an open paste are kept at most, the begun end among them.
+    most_kept: usize,
     waiting: VecDeque<InternalEvent<A>, A>,
 }
 
@@ -60,6 +62,12 @@ impl<A: Allocator> Model for Parser<A> {
 
     ghost view = { λ p. record { waiting = map seen p.waiting.items; state = p.state; text = text_of p.paste; room = deque_capacity p.waiting - deque_len p.waiting } };
 }
+
+// How many bytes of a paste's end are kept before its last.
+const BEGUN_END: usize = 5;
+
+// For how many events room is made at least.
+const LEAST_EVENTS: usize = 4;
 
 /// Whether there is a pause after the byte at this place of a piece.
 pub fn pauses(more: bool, place: usize, count: usize) -> bool
@@ -84,6 +92,7 @@ fn advance_uncounted<L: Ledger, A: Allocator + Clone>(
     ensures quiet { EndsNoEvent parser.old (marked piece.now more raw) → result ≡ length piece.now }
     ensures reserved { length piece.now ≤ parser.old.room → OpensNoPaste parser.old (marked piece.now more raw) → result ≡ length piece.now }
     ensures stops { result < length piece.now → ¬ EndsNoEvent parser.new (take 1 (drop result (marked piece.now more raw))) }
+    ensures full { result < length piece.now → OpensNoPaste parser.new (take 1 (drop result (marked piece.now more raw))) → parser.new.room ≡ 0 }
     ensures room { parser.old.room ≤ parser.new.room + result }
 {
     let mut steps: Steps<L> = Steps::new(blank);
@@ -96,9 +105,23 @@ impl<A: Allocator + Clone> Parser<A> {
         ensures waiting { result.waiting ≡ [] }
         ensures represents { Represents result [] }
     {
+        Parser::bounded(alloc, usize::MAX)
+    }
+
+    /// A parser that has seen no bytes, and keeps a paste of so many bytes at most. At the next byte of a longer one it stops, as if memory
+    /// was refused.
+    ///
+    /// ```
+    /// let mut parser = Parser::bounded(rt.alloc(), 16 << 20);
+    /// ```
+    pub fn bounded(alloc: A, longest_paste: usize) -> Self
+        ensures waiting { result.waiting ≡ [] }
+        ensures represents { Represents result [] }
+    {
         Parser {
             state: State::Ground,
             paste: None,
+            most_kept: longest_paste.saturating_add(BEGUN_END),
             waiting: VecDeque::new(alloc),
         }
     }
@@ -123,6 +146,33 @@ impl<A: Allocator + Clone> Parser<A> {
         }
     }
 
+    // Makes room for more events: as many as there are, and some at least.
+    #[inline(never)]
+    fn grow(&mut self) -> Result<(), AllocError>
+        requires { self.old.room ≡ 0 }
+        ensures still { PutsAll self.old self.new [] }
+        ensures ok { OnOk result (0 < self.new.room) }
+        ensures full { OnErr result (self.new.room ≡ 0) }
+    {
+        let count = self.waiting.len().max(LEAST_EVENTS);
+        self.waiting.reserve_exact(count)
+    }
+
+    // Makes room for an event, if there is none.
+    #[inline(always)]
+    fn make_room(&mut self) -> Result<(), AllocError>
+        ensures still { PutsAll self.old self.new [] }
+        ensures grows { self.old.room ≤ self.new.room }
+        ensures reserved { 0 < self.old.room → IsOk result }
+        ensures ok { OnOk result (0 < self.new.room) }
+        ensures full { OnErr result (self.new.room ≡ 0) }
+    {
+        if self.waiting.len() < self.waiting.capacity() {
+            return Ok(());
+        }
+        self.grow()
+    }
+
     fn give(&mut self, meaning: Option<Meaning>) -> Result<(), AllocError>
         ensures state { self.new.state ≡ self.old.state }
         ensures text { self.new.text ≡ self.old.text }
@@ -130,21 +180,22 @@ impl<A: Allocator + Clone> Parser<A> {
         ensures err { OnErr result ((self.new.waiting ≡ self.old.waiting) × (self.old.room ≤ self.new.room)) }
         ensures free { option_map seen_meaning meaning ≡ None → IsOk result }
         ensures reserved { 0 < self.old.room → IsOk result }
+        ensures full { OnErr result (self.new.room ≡ 0) }
         ensures room { self.old.room ≤ self.new.room + 1 }
     {
         match meaning {
             Some(Meaning::Key(key)) => {
-                self.waiting.reserve(1)?;
+                self.make_room()?;
                 self.waiting
                     .push_back_reserved(InternalEvent::Event(Event::Key(key)));
             }
             Some(Meaning::Mouse(mouse)) => {
-                self.waiting.reserve(1)?;
+                self.make_room()?;
                 self.waiting
                     .push_back_reserved(InternalEvent::Event(Event::Mouse(mouse)));
             }
             Some(meaning) => {
-                self.waiting.reserve(1)?;
+                self.make_room()?;
                 self.waiting
                     .push_back_reserved(InternalEvent::from(meaning));
             }
@@ -161,10 +212,11 @@ impl<A: Allocator + Clone> Parser<A> {
         ensures err { OnErr result ((self.new.waiting ≡ self.old.waiting) × (self.old.room ≤ self.new.room)) }
         ensures free { option_map seen_meaning (decoded_character c) ≡ None → IsOk result }
         ensures reserved { 0 < self.old.room → IsOk result }
+        ensures full { OnErr result (self.new.room ≡ 0) }
         ensures room { self.old.room ≤ self.new.room + 1 }
     {
         if let Some(c) = c {
-            self.waiting.reserve(1)?;
+            self.make_room()?;
             self.waiting
                 .push_back_reserved(InternalEvent::Event(Event::Key(typed_key(c))));
         }
@@ -194,6 +246,9 @@ impl<A: Allocator + Clone> Parser<A> {
         ensures ok { OnOk result (self.new.text ≡ self.old.text ++ byte ∷ []) }
         ensures err { OnErr result (self.new.text ≡ self.old.text) }
     {
+        if self.paste_len() >= self.most_kept {
+            return Err(AllocError);
+        }
         match &mut self.paste {
             Some(text) => text.push(byte),
             None => self.keep_first(byte),
@@ -224,7 +279,7 @@ impl<A: Allocator + Clone> Parser<A> {
         ensures counted { steps.old ≤ steps.new }
         ensures room { self.old.room ≤ self.new.room + 1 }
     {
-        self.waiting.reserve(1)?;
+        self.make_room()?;
         let text = self.pasted(steps)?;
         self.waiting
             .push_back_reserved(InternalEvent::Event(Event::Paste(text)));
@@ -263,6 +318,7 @@ impl<A: Allocator + Clone> Parser<A> {
         ensures err { OnErr result (StaysAsItWas self.old self.new) }
         ensures free { option_map seen_meaning (meaning_with self.old.state byte raw) ≡ None → IsOk result }
         ensures reserved { 0 < self.old.room → IsOk result }
+        ensures full { OnErr result (self.new.room ≡ 0) }
         ensures room { self.old.room ≤ self.new.room + 1 }
     {
         if let State::Utf8(character) = &self.state
@@ -304,8 +360,8 @@ impl<A: Allocator + Clone> Parser<A> {
         }
     }
 
-    /// Takes the bytes of a piece, and returns how many: fewer than the piece has if memory was refused for an event or a paste. The others
-    /// are handed in again later.
+    /// Takes the bytes of a piece, and returns how many: fewer than the piece has if memory was refused for an event or a paste, or a paste
+    /// is longer than the parser may keep. The others are handed in again later.
     ///
     /// `more` says that bytes of the same answer follow at once, so that ESC at the end is no Esc key yet. `raw` says whether the bytes
     /// came in raw mode: then a line feed is Ctrl-J, and else Enter.
@@ -323,8 +379,9 @@ impl<A: Allocator + Clone> Parser<A> {
         ensures quiet { EndsNoEvent self.old (marked piece.now more raw) → result ≡ length piece.now }
         // If there is room, neither does a piece that opens no paste.
         ensures reserved { length piece.now ≤ self.old.room → OpensNoPaste self.old (marked piece.now more raw) → result ≡ length piece.now }
-        // It stops only at a byte that ends an event, or is of a paste.
+        // It stops only at a byte that ends an event, or is of a paste; and in no paste only if there is no room left.
         ensures stops { result < length piece.now → ¬ EndsNoEvent self.new (take 1 (drop result (marked piece.now more raw))) }
+        ensures full { result < length piece.now → OpensNoPaste self.new (take 1 (drop result (marked piece.now more raw))) → self.new.room ≡ 0 }
         ensures room { self.old.room ≤ self.new.room + result }
         // If all are taken, the steps and the open paste's length are at most its length before and twice the bytes.
         ensures steps { result ≡ length piece.now → TakesSteps self.old self.new steps.old steps.new result }
@@ -354,6 +411,7 @@ impl<A: Allocator + Clone> Parser<A> {
         ensures quiet { EndsNoEvent self.old (marked piece.now more raw) → result ≡ length piece.now }
         ensures reserved { length piece.now ≤ self.old.room → OpensNoPaste self.old (marked piece.now more raw) → result ≡ length piece.now }
         ensures stops { result < length piece.now → ¬ EndsNoEvent self.new (take 1 (drop result (marked piece.now more raw))) }
+        ensures full { result < length piece.now → OpensNoPaste self.new (take 1 (drop result (marked piece.now more raw))) → self.new.room ≡ 0 }
         ensures room { self.old.room ≤ self.new.room + result }
     {
         advance_uncounted::<Brand, A>(self, piece, more, raw, Blank::new(1))
@@ -378,7 +436,8 @@ impl<A: Allocator + Clone> Parser<A> {
 
     /// How many bytes of the open paste came after its start, `ESC [ 200 ~`: 0 if no paste is open. This takes no memory.
     ///
-    /// The text of a paste is kept until its end comes. So a program that serves others bounds the memory of each of them by this.
+    /// The text of a paste is kept until its end comes. So a program that serves others bounds the memory of each of them by this, or by
+    /// `bounded`.
     ///
     /// ```
     /// if parser.paste_len() > 1 << 20 {

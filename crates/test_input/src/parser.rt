@@ -255,3 +255,16 @@ fn an_open_paste_has_a_length(rt: HostRuntime) {
         expect!(rt; parser.paste_len() == length);
     }
 }
+
+#[test]
+fn a_paste_is_as_long_as_the_parser_may_keep(rt: HostRuntime) {
+    let mut parser: Parser<Global> = Parser::bounded(rt.alloc(), 10);
+    let whole = b"\x1b[200~0123456789\x1b[201~a";
+    expect!(rt; parser.feed(whole, false, true) == whole.len());
+    expect!(rt; parser.paste_len() == 0);
+    // The six bytes of the start, ten, and the five that may begin its end.
+    let longer = b"\x1b[200~01234567890123456789";
+    expect!(rt; parser.feed(longer, false, true) == 21);
+    expect!(rt; parser.paste_len() == 15);
+    expect!(rt; parser.feed(b"6", false, true) == 0);
+}

@@ -23,6 +23,7 @@ pub record Puts (old new : ParserView) (byte : ℕ) (raw pause : Bool) (before a
   pub stays : taken ≡ false → StaysAsItWas old new
   pub free : is_paste old.state ≡ false → events_left (state_after old.state byte raw pause) old.text ≡ [] → taken ≡ true
   pub reserved : is_paste old.state ≡ false → 0 < old.room → taken ≡ true
+  pub full : is_paste old.state ≡ false → taken ≡ false → new.room ≡ 0
   pub room : old.room ≤ new.room + 1
   pub steps : taken ≡ true → after + length new.text ≤ before + length old.text + 2
   pub counted : before < after

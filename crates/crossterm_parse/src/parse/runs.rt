@@ -20,7 +20,7 @@ impl<A: Allocator + Clone> Parser<A> {
         ensures grows { self.old.room ≤ self.new.room }
         ensures some { IsTrue result → 0 < self.new.room }
     {
-        self.waiting.reserve(1).is_ok()
+        self.make_room().is_ok()
     }
 
     /// For how many events there is room.
@@ -78,7 +78,8 @@ impl<A: Allocator + Clone> Parser<A> {
         size
     }
 
-    /// Joins the bytes of the open paste before the next ESC, and returns how many: none if memory is refused.
+    /// Joins the bytes of the open paste before the next ESC, and returns how many: none if memory is refused, or the paste is nearly as long
+    /// as it may be.
     fn keep_all<L: Ledger>(&mut self, bytes: &[u8], steps: &mut Steps<L>) -> usize
         requires { self.old.state ≡ State.Paste Met.Nothing }
         ensures within { result ≤ length bytes.now }
@@ -87,9 +88,13 @@ impl<A: Allocator + Clone> Parser<A> {
         ensures room { self.old.room ≡ self.new.room }
         ensures steps { steps.new ≡ steps.old + result }
     {
+        let most = self.most_kept.saturating_sub(self.paste_len());
         let Some(text) = &mut self.paste else {
             return 0;
         };
+        if bytes.len() > most {
+            return 0;
+        }
         let Ok(count) = text.extend(bytes, steps) else {
             return 0;
         };

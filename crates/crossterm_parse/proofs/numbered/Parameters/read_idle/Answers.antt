@@ -1,4 +1,4 @@
-use Rattle.std.proofs.Common.{◌≡◌, ◌≤◌, ◌<◌, ◌+◌, ◌∙◌, ℕ, ap, arith, refl, slice_index, subst, sym, take}
+use Rattle.std.proofs.Common.{◌≡◌, ◌≤◌, ◌<◌, ◌+◌, ◌∙◌, ap, arith, refl, slice_index, subst, sym, take}
 use Rattle.std.proofs.lemmas.List.{take_more}
 use Rattle.crossterm_parse.specs.inside.Automaton.{Opens}
 use Rattle.crossterm_parse.specs.inside.Fields.{fields_after}

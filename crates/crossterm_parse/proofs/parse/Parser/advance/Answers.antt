@@ -1,6 +1,7 @@
 use Rattle.std.proofs.lemmas.Bool.{false≢true}
 use Rattle.std.proofs.Common.{arith, ap, refl, sym, ◌∙◌, is_ok}
-use Rattle.crossterm_parse.proofs.ViewLaws.{advance_more, advance_none, byte_quiet, byte_free, byte_rests, takes_steps}
+use Rattle.crossterm_parse.specs.inside.Automaton.{is_paste}
+use Rattle.crossterm_parse.proofs.ViewLaws.{advance_more, advance_none, byte_quiet, byte_free, byte_opens, byte_rests, takes_steps}
 use Rattle.crossterm_parse.proofs.RunLaws.{advance_rest, advance_still}
 use Rattle.crossterm_parse.proofs.parse.Parser.advance.Goals as goal
 
@@ -62,3 +63,8 @@ returns-in-Err-clause-stops g c less quiet =
     let stays = c.put.ensures.stays (ap is_ok c.in-Err.is) in
     let none = byte_rests c.put.new.self c.args.piece.now c.args.more c.args.raw _ _ c.pauses-pause.result (omega arith) refl c.pauses-pause.ensures quiet in
     absurd (false≢true (sym (ap is_ok c.in-Err.is) ∙ c.put.ensures.free (rw (← stays.1) none.0) (rw (← stays.1, ← stays.2) none.1)))
+
+pub returns-in-Err-clause-full : goal.returns-in-Err-clause-full
+returns-in-Err-clause-full g c less free =
+    let stays = c.put.ensures.stays (ap is_ok c.in-Err.is) in
+    c.put.ensures.full (ap is_paste (sym stays.1) ∙ byte_opens c.put.new.self _ free) (ap is_ok c.in-Err.is)

@@ -12,10 +12,11 @@ returns-then-is_paste g c =
       stays = search rules;
       free = λ outside none. absurd (false≢true (sym outside ∙ pasting));
       reserved = λ outside room. absurd (false≢true (sym outside ∙ pasting));
+      full = λ outside refused. absurd (false≢true (sym outside ∙ pasting));
       room = search rules;
       steps = search rules;
       counted = search rules;
     }
 
 pub returns-in-Whole : goal.returns-in-Whole
-returns-in-Whole g c = record { put = search rules; stays = search rules; free = search rules; reserved = search rules; room = search rules; steps = search rules; counted = search rules }
+returns-in-Whole g c = record { put = search rules; stays = search rules; free = search rules; reserved = search rules; full = search rules; room = search rules; steps = search rules; counted = search rules }
