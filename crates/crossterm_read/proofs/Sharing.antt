@@ -8,17 +8,13 @@ use Rattle.crossterm_read.specs.Store.{ReaderState, capacity}
 use Rattle.crossterm_read.specs.History.{Entry, Known, Sits, Runs, Extends, EachOnce, opened, Meets, Closes, calls_by, last_of, last_from}
 use Rattle.crossterm_read.specs.inside.Numbers.{IsOrderly}
 use Rattle.crossterm_read.specs.Calls.{Request, Step}
-use Rattle.crossterm_read.specs.Entries.{InTime, IsCall, IsKeyboard}
 use Rattle.crossterm_read.specs.Replies.{Replied, Fault, ToPoll, ToTake, Came, Faulted, poll_reply, read_said, shown}
 use Rattle.crossterm_read.specs.inside.Replies.{flags_said, read_reply, try_reply, last_said, last_tried}
 use Rattle.crossterm_flags.specs.declared.enhancement.KeyboardEnhancementFlags.{KeyboardEnhancementFlags}
 use Rattle.crossterm_types.specs.Seen.{Seen, seen}
-use Rattle.std.specs.declared.time.Duration.{Duration}
 use Rattle.crossterm_types.specs.declared.event.InternalEvent.{InternalEvent}
 use Rattle.std.specs.IoError.{error_kind}
 use Rattle.std.specs.declared.io.ErrorKind.{ErrorKind}
-use Rattle.crossterm_read.specs.Steps.{Patience}
-use Rattle.crossterm_read.specs.Waiting.{AsksWithin}
 use Rattle.crossterm_read.specs.inside.Slot.{Taken, Put, Produces, Learnt, first_of, one_more, taught}
 use Rattle.crossterm_read.proofs.EachOnce.{each_once}
 use Rattle.crossterm_read.proofs.Histories.{runs_room, runs_snoc, not_fewer}
@@ -134,38 +130,6 @@ module _ {S : Type 0} (drawn : S → List SourceAnswer → S → Type 0) where
     room = x.room;
     each_once = x.each_once;
   }
-
-  pub extends_as : (made such : ReaderState S → Entry → ReaderState S → Type 0) → ((o : ReaderState S) (e : Entry) (t : ReaderState S) → made o e t → such o e t) → (v w : Known S) → Extends drawn made v w → Extends drawn such v w
-  extends_as made such so v w x = extends_at made such v w x (so x.found x.call x.left x.such)
-
-  -- A call in time from a moment on is one in time from an earlier one on.
-  pub call_longer : (asked : S → List (Option Duration)) (request : Patience → Request) (limit : Option Duration) (before start last : ℕ) (l m : List (Option Duration) → List (Option Duration) → Type 0)
-      → ((x y : List (Option Duration)) → l x y → m x y) → (r : Replied) → before ≤ start
-      → (o : ReaderState S) (e : Entry) (t : ReaderState S) → IsCall asked (InTime request limit start last) l r o e t → IsCall asked (InTime request limit before last) m r o e t
-  call_longer asked request limit before start last l m f r h o e t p = record {
-    call = let c = p.call in let low = c.1 in (c.0, omega arith, c.2);
-    reply = p.reply;
-    limits_so = f (asked o.source) (asked t.source) p.limits_so;
-    memory = p.memory;
-  }
-
-  pub limits_longer : (limit : Option Duration) (before start last : ℕ) → before ≤ start → (x y : List (Option Duration)) → AsksWithin limit start last x y → AsksWithin limit before last x y
-  limits_longer limit before start last h x y l = let low = l.2 in (l.0, l.1, omega arith, l.3)
-
-  pub keyboard_longer : (asked : S → List (Option Duration)) (limit : Option Duration) (before start last : ℕ) (r : Replied) → before ≤ start
-      → (o : ReaderState S) (e : Entry) (t : ReaderState S) → IsKeyboard asked limit start last r o e t → IsKeyboard asked limit before last r o e t
-  keyboard_longer asked limit before start last r h o e t p =
-      let from = p.1 in (
-        p.0,
-        omega arith,
-        p.2,
-        record {
-          call = let c = p.3.call in let low = c.2 in (c.0, c.1, omega arith, c.3, c.4);
-          reply = p.3.reply;
-          limits_so = let l = p.3.limits_so in (l.0, limits_longer limit before start p.0 h (asked o.source) l.0 l.1, l.2);
-          memory = p.3.memory;
-        },
-      )
 
   -- A take for good.
   pub closes : (v w : Known S) (x : ReaderState S) → Taken drawn v x w → Closes drawn v x w

@@ -1,5 +1,5 @@
 -- What a stream makes of a read that waits for nobody, and of its worker's polls.
-use Rattle.std.proofs.Common.{◌≡◌, List, [], ◌∷◌, ◌++◌, Bool, Option, Result, Some, None, Ok, Err, refl, subst, inl, inr}
+use Rattle.std.proofs.Common.{◌≡◌, ℕ, List, [], ◌∷◌, ◌++◌, Bool, Option, Result, Some, None, Ok, Err, refl, subst, inl, inr}
 use Rattle.std.specs.declared.io.Error.{Error}
 use Rattle.std.specs.declared.time.Duration.{Duration}
 use Rattle.std.specs.IoError.{error_kind}
@@ -58,6 +58,7 @@ module _ {S : Type 0} (drawn : S → List SourceAnswer → S → Type 0) (asked 
   one_more v u w (q ∷ rs) r h x = (h.0, h.1, one_more h.0 u w rs r h.2 x)
 
   -- One poll more. It has no limit, so that it had the reader.
-  pub polls_more : (v u w : Known S) (result : Result Bool Error) → OnlyPolls drawn asked v u → Polls drawn asked filters.Event None 0 0 u w result → OnlyPolls drawn asked v w
-  polls_more v u w result h (inl x) = (h.0 ++ poll_reply result ∷ [], one_more v u w h.0 (poll_reply result) h.1 x)
-  polls_more v u w result h (inr x) = absurd x.2
+  pub polls_more : (v u w : Known S) (result : Result Bool Error) (begins : ℕ → Type 0) → ((start : ℕ) → begins start → start ≡ 0) → OnlyPolls drawn asked v u → Polls drawn asked filters.Event None begins 0 u w result → OnlyPolls drawn asked v w
+  polls_more v u w result begins zero h (start, b, inl x) =
+      (h.0 ++ poll_reply result ∷ [], one_more v u w h.0 (poll_reply result) h.1 (subst (λ (n : ℕ). Extends drawn (IsPoll asked filters.Event None n 0 (poll_reply result)) u w) (zero start b) x))
+  polls_more v u w result begins zero h (start, b, inr x) = absurd x.2

@@ -6,15 +6,14 @@ use Rattle.std.specs.Option.{option_map}
 use Rattle.std.specs.declared.io.ErrorKind.{ErrorKind}
 use Rattle.std.specs.declared.time.Duration.{Duration}
 use Rattle.crossterm_types.specs.Seen.{Seen}
-use Rattle.crossterm_types.specs.Timing.{Reaches, HasElapsed, left_over}
+use Rattle.crossterm_types.specs.Timing.{Reaches, HasElapsed, IsFirst, KeepsFirst, left_over}
 use Rattle.crossterm_types.specs.declared.event.timeout.PollTimeout.{PollTimeout}
 use Rattle.crossterm_read.specs.Answers.{SourceAnswer}
 use Rattle.crossterm_read.specs.Device.{AsksEach, AsksWith, IsAtOnce}
-use Rattle.crossterm_read.specs.declared.read.reader.AtWake.{AtWake}
-use Rattle.crossterm_read.specs.declared.read.reader.AtWake.TheVariants.{Stops, GoesOn}
-use Rattle.crossterm_read.specs.Replies.{Replied, ToTake, Fault}
-use Rattle.crossterm_read.specs.Store.{EventStore, ReaderState}
-use Rattle.crossterm_read.specs.Steps.{Within, first_admitted, Asks, End, Ready, Tried, Broke, PollStep, ReadStep, RefusedOnlyWithoutRoom, TakeReplies}
+use Rattle.crossterm_read.specs.declared.read.reader.AtWake.TheVariants.{GoesOn}
+use Rattle.crossterm_read.specs.Replies.{ToTake, Fault}
+use Rattle.crossterm_read.specs.Store.{ReaderState}
+use Rattle.crossterm_read.specs.Steps.{Within, first_admitted, Asks, Ready, Broke, ReadStep, RefusedOnlyWithoutRoom, TakeReplies}
 use Rattle.crossterm_read.specs.inside.Asking.{Asked, end_of, AsksInTime}
 use Rattle.crossterm_read.specs.Waiting.{AsksLeft, OnlyLastIsAtOnce, WasLeft}
 use Rattle.crossterm_read.proofs.Asking.{all_push, asks_more}
@@ -107,14 +106,9 @@ lasts timeout now h z = by_limit timeout.limit h z
     by_limit None h z = absurd z
     by_limit (Some d) h z = h (omega arith)
 
--- What was asked within a limit was asked within it at any later moment.
-pub asks_longer : (wake : AtWake) (f : Seen → Bool) (limit : Option Duration) (m n : ℕ) → m ≤ n → (held : List (Seen × ℕ)) (zs : List SourceAnswer) (end : End) → Asks wake f (Within limit m) held zs end → Asks wake f (Within limit n) held zs end
-asks_longer wake f limit m n h held zs Ready a = a
-asks_longer wake f limit m n h held zs Tried a = (a.0, a.1, record { begun = a.2.begun; once = a.2.once; passed = reaches_later limit m n h a.2.passed })
-asks_longer wake f limit m n h held zs (Broke kind) a = a
-
-pub poll_longer : (f : Seen → Bool) (limit : Option Duration) (m n : ℕ) → m ≤ n → (zs : List SourceAnswer) (s t : EventStore) (r : Replied) → PollStep (Within limit m) f zs s t r → PollStep (Within limit n) f zs s t r
-poll_longer f limit m n h zs s t r p = (p.0, asks_longer Stops f limit m n h s.held zs p.0 p.1, p.2, p.3)
+-- What a clock tells first stays the first until the call's end.
+pub first_of : {C : Type 0} (told : C → ℕ) (began : C → ℕ → C → Type 0) (old now new : C) (start : ℕ) → start ≡ told now → told old ≤ told now → told now ≤ told new → began old (told now) now → KeepsFirst began now new → IsFirst told began old new start
+first_of told began old now new start e later more first keeps = subst (IsFirst told began old new) (sym e) (later, more, keeps old (told now) first)
 
 module _ {S : Type 0} (drawn : S → List SourceAnswer → S → Type 0) (f : Seen → Bool) (limit : Option Duration) (none : limit ≡ None) (past : ℕ) (s m : ReaderState S) where
   unlimited : Reaches limit past → ⊥

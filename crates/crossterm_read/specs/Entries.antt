@@ -8,6 +8,7 @@ use Rattle.crossterm_types.specs.Timing.{Reaches}
 use Rattle.std.specs.declared.io.ErrorKind.{ErrorKind}
 use Rattle.std.specs.declared.time.Duration.{Duration}
 use Rattle.crossterm_types.specs.declared.event.filter.AnyFilter.{AnyFilter}
+use Rattle.crossterm_types.specs.declared.event.filter.AnyFilter.TheVariants as filters
 use Rattle.crossterm_read.specs.Answers.{SourceAnswer}
 use Rattle.crossterm_read.specs.Calls.{Request, Poll, Read, Position, Keyboard}
 use Rattle.crossterm_read.specs.Device.{AsksAtOnce}
@@ -19,11 +20,11 @@ use Rattle.crossterm_read.specs.Waiting.{AsksForever, AsksTwice, AsksWithin}
 
 -- Such a request within a limit of time, of which no more has passed than between two moments.
 abbrev pub InTime : (Patience → Request) → Option Duration → ℕ → ℕ → Request → Type 0
-InTime request limit before after call = (past : ℕ) × (past ≤ after - before) × (call ≡ request (Within limit past))
+InTime request limit start after call = (past : ℕ) × (past ≤ after - start) × (call ≡ request (Within limit past))
 
--- The query for the keyboard's flags, with a wait for the reply from one moment to another, and from then on with as long a wait for the attributes.
-abbrev pub InTwoWaits : Option Duration → ℕ → ℕ → ℕ → Request → Type 0
-InTwoWaits limit before now after call = (first : ℕ) × (again : ℕ) × (first ≤ now - before) × (again ≤ after - now) × (call ≡ Keyboard (Within limit first) (Within limit again))
+-- The query for the keyboard's flags, with a wait for the reply from one moment to another, and from a third on with as long a wait for the attributes.
+abbrev pub InTwoWaits : Option Duration → ℕ → ℕ → ℕ → ℕ → Request → Type 0
+InTwoWaits limit start now second after call = (first : ℕ) × (again : ℕ) × (first ≤ now - start) × (again ≤ after - second) × (call ≡ Keyboard (Within limit first) (Within limit again))
 
 module _ {S : Type 0} (asked : S → List (Option Duration)) where
   -- Such a request was made, with this reply, and the device was asked with such limits. Memory was refused only where there was no room.
@@ -41,16 +42,21 @@ module _ {S : Type 0} (asked : S → List (Option Duration)) where
   abbrev pub IsTry : AnyFilter → Replied → ReaderState S → Entry → ReaderState S → Type 0
   IsTry f = IsCall (λ call. call ≡ Read (UpTo 1) f) AsksAtOnce
 
+  -- A poll with no try. What is looked at is true of the source that it leaves.
+  abbrev pub IsLook : (S → Type 0) → ReaderState S → Entry → ReaderState S → Type 0
+  IsLook at found e left = ((r : Replied) × IsCall (λ call. call ≡ Poll (UpTo 0) filters.Event) AsksAtOnce r found e left) × at left.source
+
   -- A poll by this filter with a limit of time, from one moment to another.
   abbrev pub IsPoll : AnyFilter → Option Duration → ℕ → ℕ → Replied → ReaderState S → Entry → ReaderState S → Type 0
-  IsPoll f limit before after = IsCall (InTime (λ patience. Poll patience f) limit before after) (AsksWithin limit before after)
+  IsPoll f limit start after = IsCall (InTime (λ patience. Poll patience f) limit start after) (AsksWithin limit start after)
 
   -- Queries, likewise.
   abbrev pub IsPosition : Option Duration → ℕ → ℕ → Replied → ReaderState S → Entry → ReaderState S → Type 0
-  IsPosition limit before after = IsCall (InTime Position limit before after) (AsksWithin limit before after)
+  IsPosition limit start after = IsCall (InTime Position limit start after) (AsksWithin limit start after)
 
   abbrev pub IsKeyboard : Option Duration → ℕ → ℕ → Replied → ReaderState S → Entry → ReaderState S → Type 0
-  IsKeyboard limit before after r found e left = (now : ℕ) × (before ≤ now) × (now ≤ after) × IsCall (InTwoWaits limit before now after) (AsksTwice limit before now after) r found e left
+  IsKeyboard limit start after r found e left =
+      (now : ℕ) × (second : ℕ) × (start ≤ now) × (now ≤ second) × (second ≤ after) × IsCall (InTwoWaits limit start now second after) (AsksTwice limit start now second after) r found e left
 
 module _ {S : Type 0} (drawn : S → List SourceAnswer → S → Type 0) (asked : S → List (Option Duration)) where
   -- A read made by a pass: such a call stands once in the history that the pass has seen, as its last.
@@ -61,18 +67,26 @@ module _ {S : Type 0} (drawn : S → List SourceAnswer → S → Type 0) (asked 
   abbrev pub Tries : AnyFilter → Known S → Known S → Said → Type 0
   Tries f v w said = ((r : Replied) × (said ≡ shown r) × Extends drawn (IsTry asked f r) v w) ⊎ ((said ≡ Came None) × (w ≡ v))
 
-  -- A poll made by a pass: so stands such a call; or the limit passed before the reader was there, the answer is false, and the pass is as it was.
-  abbrev pub Polls : AnyFilter → Option Duration → ℕ → ℕ → Known S → Known S → Result Bool Error → Type 0
-  Polls f limit before after v w result = Extends drawn (IsPoll asked f limit before after (poll_reply result)) v w ⊎ ((result ≡ Ok false) × (w ≡ v) × Reaches limit (after - before))
+  -- A look at the source made by a pass, and what was seen: so stands such a poll; or another has the reader, and the pass is as it was.
+  abbrev pub Looks : {X : Type 0} → (X → S → Type 0) → Known S → Known S → Option X → Type 0
+  Looks at v w (Some x) = Extends drawn (IsLook asked (at x)) v w
+  Looks at v w None = w ≡ v
+
+  -- A poll made by a pass, from the moment at which it began: so stands such a call; or the limit passed before the reader was there, the answer is false, and the pass is as it was.
+  abbrev pub Polls : AnyFilter → Option Duration → (ℕ → Type 0) → ℕ → Known S → Known S → Result Bool Error → Type 0
+  Polls f limit begins after v w result =
+      (start : ℕ) × begins start × (Extends drawn (IsPoll asked f limit start after (poll_reply result)) v w ⊎ ((result ≡ Ok false) × (w ≡ v) × Reaches limit (after - start)))
 
   -- A query for the cursor's place made by a pass, likewise: where the limit passed before the reader was there the answer is `Other`.
-  abbrev pub AsksPosition : Duration → ℕ → ℕ → Known S → Known S → Result (ℕ × ℕ) Error → Type 0
-  AsksPosition limit before after v w result =
-      ((r : Replied) × (position_said result ≡ shown r) × Extends drawn (IsPosition asked (Some limit) before after r) v w)
-      ⊎ (IsErrAnd result (λ e. error_kind e ≡ Other) × (w ≡ v) × Reaches (Some limit) (after - before))
+  abbrev pub AsksPosition : Duration → (ℕ → Type 0) → ℕ → Known S → Known S → Result (ℕ × ℕ) Error → Type 0
+  AsksPosition limit begins after v w result =
+      (start : ℕ) × begins start
+      × (((r : Replied) × (position_said result ≡ shown r) × Extends drawn (IsPosition asked (Some limit) start after r) v w)
+        ⊎ (IsErrAnd result (λ e. error_kind e ≡ Other) × (w ≡ v) × Reaches (Some limit) (after - start)))
 
   -- A query for the keyboard's flags made by a pass, likewise.
-  abbrev pub AsksKeyboard : Duration → ℕ → ℕ → Known S → Known S → Result (Option KeyboardEnhancementFlags) Error → Type 0
-  AsksKeyboard limit before after v w result =
-      ((r : Replied) × (keyboard_said result ≡ shown r) × Extends drawn (IsKeyboard asked (Some limit) before after r) v w)
-      ⊎ (IsErrAnd result (λ e. error_kind e ≡ Other) × (w ≡ v) × Reaches (Some limit) (after - before))
+  abbrev pub AsksKeyboard : Duration → (ℕ → Type 0) → ℕ → Known S → Known S → Result (Option KeyboardEnhancementFlags) Error → Type 0
+  AsksKeyboard limit begins after v w result =
+      (start : ℕ) × begins start
+      × (((r : Replied) × (keyboard_said result ≡ shown r) × Extends drawn (IsKeyboard asked (Some limit) start after r) v w)
+        ⊎ (IsErrAnd result (λ e. error_kind e ≡ Other) × (w ≡ v) × Reaches (Some limit) (after - start)))

@@ -1,5 +1,5 @@
 -- What a device over a reader tells.
-use Rattle.std.specs.Prelude.{◌≡◌, ◌⊎◌, ◌-◌, ◌^◌, ℕ, Option, None, Some, List, [], ◌∷◌, ◌++◌, refl, ⊤}
+use Rattle.std.specs.Prelude.{◌≡◌, ◌⊎◌, ◌-◌, ◌^◌, ℕ, Bool, false, Option, None, Some, List, [], ◌∷◌, ◌++◌, refl, ⊤}
 use Rattle.std.specs.Io.KnownBytes.{Consumes, IsAtEnd}
 use Rattle.std.specs.declared.io.ErrorKind.{ErrorKind}
 use Rattle.std.specs.declared.io.ErrorKind.TheVariants.{WouldBlock, Interrupted}
@@ -100,10 +100,37 @@ reading_on a b c xs ys d e = (
   λ ends. spent_on a b c xs ys d e (end_in_one xs ys ends),
 )
 
--- What a device over a reader tells, by what it is known that the reader has left.
-abbrev pub reading_answering : {D : Type 0} → (D → Option (List ℕ)) → Answering D
-reading_answering left = record {
-  answered = λ s device_answers t. ReadingAnswers (left s) device_answers (left t);
-  none = λ s. reading_none (left s);
-  on = λ s t u. reading_on (left s) (left t) (left u);
+-- No resize is among some answers.
+abbrev pub NoneResized : List DeviceAnswer → Type 0
+NoneResized [] = Unit {0}
+NoneResized (Bytes bytes raw ∷ ws) = NoneResized ws
+NoneResized (Resized columns rows ∷ ws) = ⊥
+NoneResized (Woken ∷ ws) = NoneResized ws
+NoneResized (Idle ∷ ws) = NoneResized ws
+NoneResized (Fault kind ∷ ws) = NoneResized ws
+
+none_resized_on : (xs ys : List DeviceAnswer) → NoneResized xs → NoneResized ys → NoneResized (xs ++ ys)
+none_resized_on [] ys n m = m
+none_resized_on (Bytes bytes raw ∷ xs) ys n m = none_resized_on xs ys n m
+none_resized_on (Resized columns rows ∷ xs) ys n m = absurd n
+none_resized_on (Woken ∷ xs) ys n m = none_resized_on xs ys n m
+none_resized_on (Idle ∷ xs) ys n m = none_resized_on xs ys n m
+none_resized_on (Fault kind ∷ xs) ys n m = none_resized_on xs ys n m
+
+-- Where nothing reports sizes before, no resize is answered, and nothing reports sizes after.
+abbrev pub SizesAnswer : Bool → List DeviceAnswer → Bool → Type 0
+SizesAnswer before device_answers after = before ≡ false → NoneResized device_answers × (after ≡ false)
+
+pub sizes_on : (a b c : Bool) (xs ys : List DeviceAnswer) → SizesAnswer a xs b → SizesAnswer b ys c → SizesAnswer a (xs ++ ys) c
+sizes_on a b c xs ys d e none =
+    let first = d none in
+    let last = e first.1 in
+    (none_resized_on xs ys first.0 last.0, last.1)
+
+-- What a device over a reader tells, by what it is known that the reader has left, and by whether something reports sizes.
+abbrev pub reading_answering : {D : Type 0} → (D → Option (List ℕ)) → (D → Bool) → Answering D
+reading_answering left sizes = record {
+  answered = λ s device_answers t. ReadingAnswers (left s) device_answers (left t) × SizesAnswer (sizes s) device_answers (sizes t);
+  none = λ s. (reading_none (left s), λ none. (tt, none));
+  on = λ s t u xs ys d e. (reading_on (left s) (left t) (left u) xs ys d.0 e.0, sizes_on (sizes s) (sizes t) (sizes u) xs ys d.1 e.1);
 }

@@ -21,13 +21,14 @@ OnlyLastIsAtOnce (limit ∷ limits) = (limits ≢ [] → IsAtOnce limit → ⊥)
 abbrev pub AsksLeft : PollTimeout → ℕ → List (Option Duration) → List (Option Duration) → Type 0
 AsksLeft timeout last old new = (more : List (Option Duration)) × (new ≡ old ++ more) × AllByRecursion (WasLeft timeout last) more × OnlyLastIsAtOnce more
 
--- From a moment on to another the device was asked some more times, each time with what was left of the limit. That runs from one moment between these on.
+-- From a moment on to another the device was asked some more times, each time with what was left of a limit that runs from the first of the two on.
 abbrev pub AsksWithin : Option Duration → ℕ → ℕ → List (Option Duration) → List (Option Duration) → Type 0
-AsksWithin limit before after old new = (timeout : PollTimeout) × (timeout.limit ≡ limit) × (before ≤ as_nanos timeout.start) × AsksLeft timeout after old new
+AsksWithin limit start after old new = (timeout : PollTimeout) × (timeout.limit ≡ limit) × (as_nanos timeout.start ≡ start) × AsksLeft timeout after old new
 
--- Two waits: from a moment on to another with what was left of the limit, and from then on, where there was a second wait, with what was left of as long again.
-abbrev pub AsksTwice : Option Duration → ℕ → ℕ → ℕ → List (Option Duration) → List (Option Duration) → Type 0
-AsksTwice limit before now after old new = (middle : List (Option Duration)) × AsksWithin limit before now old middle × ((new ≡ middle) ⊎ AsksWithin limit now after middle new)
+-- Two waits: from a moment on to another with what was left of the limit, and from a third on, where there was a second wait, with what was left of as long again.
+abbrev pub AsksTwice : Option Duration → ℕ → ℕ → ℕ → ℕ → List (Option Duration) → List (Option Duration) → Type 0
+AsksTwice limit start now second after old new =
+    (middle : List (Option Duration)) × AsksWithin limit start now old middle × ((new ≡ middle) ⊎ AsksWithin limit second after middle new)
 
 -- It was asked some more times, each time without a limit.
 abbrev pub AsksForever : List (Option Duration) → List (Option Duration) → Type 0

@@ -20,11 +20,11 @@
 //! | a source returns the results of its device's answers in order; it asks the device with its own limit, and its waker is the device's; it reports the length of the open paste | `EventSource::{try_read, waker}`, `DeviceSource::paste_len` |
 //! | each call is one step of the reader's definition; it loses no room, and memory is refused only if no room was left | `InternalEventReader::{poll_within, read_within, take, held, position_within, keyboard_within}` |
 //! | if a filter declares its event classes, the first match is the earliest of four queued events at most | `Filter::classes`; `HeldEvents`, `Queues` (private) |
-//! | a poll asks with what is left of its limit, and returns false only at a wake-up or after the limit; a step within a limit is one with some number of tries | `InternalEventReader::{poll, read}`; `laws::counts_tries` |
+//! | a poll asks with what is left of its limit, which begins at its first moment, and returns false only at a wake-up or after the limit; a step within a limit is one with some number of tries | `InternalEventReader::{poll, read}`; `laws::counts_tries` |
 //! | no event is lost (the first theorem) | `read::play`, `laws::one_happening` |
-//! | a device over a reader returns the reader's next bytes, in order, and the end only at its end, if the reader says what it contains | `Device::answer` of `ReadDevice`, `PolledDevice`, `SocketDevice` |
+//! | a device over a reader returns the reader's next bytes, in order, and the end only at its end, if the reader says what it contains; it reports no size if nothing reports sizes | `Device::answer` of `ReadDevice`, `PolledDevice`, `SocketDevice` |
 //! | an error of the system is returned and counted once, unless it says that nothing came yet, or no more can be counted | `failures::answer_at` |
-//! | threads share one history (the third theorem), over a script too; the keyboard query waits twice, each time with its own limit; each event was taken once or is held; the events that one filter takes have rising numbers | `EventReader::{new, share, poll, read, poll_by, read_by, position_by, keyboard_by, meet, close}`, `laws::histories_are_told` |
+//! | threads share one history (the third theorem), over a script too; a look at the open paste is a poll with no try; the keyboard query waits twice, each time with its own limit; each event was taken once or is held; the events that one filter takes have rising numbers | `EventReader::{new, share, poll, read, poll_by, read_by, position_by, keyboard_by, paste_len, meet, close}`, `laws::histories_are_told` |
 //! | a shared poll that makes no entry returns `Ok(false)` after its limit; every call puts the reader back | the same |
 //! | an item of a stream is the reply of one read with limit zero in that history, or an error; a pending poll has registered its waker; `close` returns the pass | `EventStream::{new, poll_event, poll_next, close}` |
 //!
@@ -34,7 +34,7 @@
 //! |---|---|---|---|
 //! | `Device` | 74 | what a device answers | `Device::answer` |
 //! | `Scripted` | 84 | what the acts of a script answer | `Device::answer` of `Script` |
-//! | `Reading` | 109 | what a device over a reader answers | `Device::answer` of `ReadDevice`, `PolledDevice`, `SocketDevice` |
+//! | `Reading` | 136 | what a device over a reader answers | `Device::answer` of `ReadDevice`, `PolledDevice`, `SocketDevice` |
 //! | `Waking` | 30 | which wakers are alike | `Waker`, `Device::waker` |
 //! | `Answers` | 30 | what a source answers | `EventSource::try_read` |
 //! | `Outcomes` | 102 | what comes of a device's answers, and the events that happen | `laws::one_happening` |
@@ -42,10 +42,10 @@
 //! | `Replies` | 66 | what a call replies | |
 //! | `Steps` | 111 | what a poll, a read and a take do | `InternalEventReader::{poll_within, read_within, take}` |
 //! | `Queries` | 47 | what a query does | `InternalEventReader::{position_within, keyboard_within}` |
-//! | `Waiting` | 34 | with which limits a device is asked | `InternalEventReader::{poll, read}`, `EventReader::keyboard_by` |
+//! | `Waiting` | 35 | with which limits a device is asked | `InternalEventReader::{poll, read}`, `EventReader::keyboard_by` |
 //! | `Calls` | 127 | runs of calls, and the account of all events: the headline | `read::play`, `laws::counts_tries` |
 //! | `History` | 170 | the one legal history of a reader that threads share | `EventReader`, `Pass` |
-//! | `Entries` | 78 | which call an entry of it is | `EventReader::{poll, read, poll_by, read_by, position_by, keyboard_by}` |
+//! | `Entries` | 92 | which call an entry of it is | `EventReader::{poll, read, poll_by, read_by, position_by, keyboard_by, paste_len}` |
 //! | `OverScripts` | 26 | what a history over a script comes to | `laws::{scripts_are_told, histories_are_told}` |
 //! | `Seats` | 19 | what a clause says of a pass | `EventReader::{new, share, meet, close}` |
 //! | `Shared` | 15 | what it says of a share | `EventReader::{new, share}` |

@@ -116,8 +116,22 @@ impl<D: Device, A: Allocator + Clone> DeviceSource<D, A> {
         ensures untaken { result.untaken ≡ [] }
         ensures device { result.device ≡ device }
     {
+        DeviceSource::bounded(alloc, device, usize::MAX)
+    }
+
+    /// The same, which keeps a paste of so many bytes at most. If a longer one comes, each question is answered `OutOfMemory` from then on.
+    ///
+    /// ```
+    /// let source = DeviceSource::bounded(alloc, device, 16 << 20);
+    /// ```
+    pub fn bounded(alloc: A, device: D, longest_paste: usize) -> Self
+        ensures waiting { result.parser.waiting ≡ [] }
+        ensures represents { Represents result.parser [] }
+        ensures untaken { result.untaken ≡ [] }
+        ensures device { result.device ≡ device }
+    {
         DeviceSource {
-            parser: Parser::new(alloc),
+            parser: Parser::bounded(alloc, longest_paste),
             buffer: [0; 1024],
             from: 0,
             end: 0,

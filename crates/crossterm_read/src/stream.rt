@@ -156,7 +156,7 @@ impl<S: EventSource<A>, R: Wait + Drop, A: Allocator> EventStream<S, R, A> {
     /// Ends the stream as a drop does, and gives back the pass by which it read, with all that it knows.
     pub fn close(self) -> Pass<S, A>
         ensures pass { IsPassOf self.reader result }
-        ensures same { knows result ≡ knows self.pass }
+        ensures same { result ≡ self.pass }
     {
         let EventStream {
             rt,

@@ -20,3 +20,11 @@ HasElapsed timeout now = Reaches timeout.limit (gone timeout now)
 -- What is left of the limit, in nanoseconds: the limit less the time that has gone, and nothing below 0; none without a limit.
 abbrev pub left_over : PollTimeout → ℕ → Option ℕ
 left_over timeout now = option_map (λ limit. as_nanos limit - gone timeout now) timeout.limit
+
+-- From one state of a clock to another this was what it told first.
+abbrev pub IsFirst : {C : Type 0} → (C → ℕ) → (C → ℕ → C → Type 0) → C → C → ℕ → Type 0
+IsFirst told began old new start = (told old ≤ start) × (start ≤ told new) × began old start new
+
+-- What was told first from any state on stays so.
+abbrev pub KeepsFirst : {C : Type 0} → (C → ℕ → C → Type 0) → C → C → Type 0
+KeepsFirst {C} began old new = (from : C) (start : ℕ) → began from start old → began from start new

@@ -25,7 +25,7 @@
 //! | `Ranks` | 97 | the declared orders | `event::laws::{declared_orders, declared_orders_of_events}` |
 //! | `Names` | 50 | the names that keys show as | `Display` of `KeyCode` and its like |
 //! | `Admitting` | 51 | which events a filter admits | `Filter::{eval, classes}` |
-//! | `Timing` | 22 | limits of time | `PollTimeout` |
+//! | `Timing` | 30 | limits of time | `PollTimeout` |
 //! | `Values` | 169 | events as JSON | `to_value` and `from_value` of each |
 //!
 //! A function's proof is in `proofs/` at the function's path; if there is no file, the prover found it by itself.

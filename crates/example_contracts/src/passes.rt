@@ -7,6 +7,7 @@
 ghost use Rattle.std.specs.Prelude.{◌≡◌, ◌⊎◌, Bool, Result};
 ghost use Rattle.std.specs.declared.io.Error.{Error};
 ghost use Rattle.crossterm_types.specs.declared.event.filter.AnyFilter.TheVariants as filters;
+ghost use Rattle.crossterm_types.specs.Timing.{IsFirst};
 ghost use Rattle.crossterm_read.specs.Entries.{Polls, Reads};
 ghost use Rattle.crossterm_read.specs.History.{Known};
 ghost use Rattle.crossterm_read.specs.Replies.{Said, read_said};
@@ -110,7 +111,7 @@ impl<S: EventSource<A>, A: Allocator + Clone> Client<S, A> {
         limit: Option<Duration>,
         clock: &mut C,
     ) -> io::Result<Option<InternalEvent<A>>>
-        ensures calls { (m : Known S) × (ready : Result Bool Error) × Polls S.drawn S.asked filters.Event limit (C.told clock.old) (C.told clock.new) (knows self.old.pass) m ready
+        ensures calls { (m : Known S) × (ready : Result Bool Error) × Polls S.drawn S.asked filters.Event limit (IsFirst C.told C.began clock.old clock.new) (C.told clock.new) (knows self.old.pass) m ready
             × ((knows self.new.pass ≡ m) ⊎ ((said : Said) × Reads S.drawn S.asked filters.Event m (knows self.new.pass) said)) }
     {
         match self

@@ -1,5 +1,6 @@
 //! A matcher over a reader that threads share.
 ghost use Rattle.std.specs.Prelude.{◌≤◌};
+ghost use Rattle.crossterm_types.specs.Timing.{IsFirst, KeepsFirst};
 ghost use Rattle.crossterm_read.specs.Seats.{knows};
 ghost use Rattle.crossterm_read.specs.Shared.{IsPassOf};
 ghost use Rattle.keymap.specs.Stepping.{Steps, step_answer};
@@ -43,8 +44,9 @@ impl<A: Allocator + Clone> Matcher<A> {
     ) -> io::Result<Option<Outcome<A>>>
         requires { IsPassOf reader.now pass.old }
         ensures pass { IsPassOf reader.now pass.new }
-        ensures step { Steps S.drawn S.asked limit (C.told clock.old) (C.told clock.new) self.old (knows pass.old) self.new (knows pass.new) (step_answer result) }
+        ensures step { Steps S.drawn S.asked limit (IsFirst C.told C.began clock.old clock.new) (C.told clock.new) self.old (knows pass.old) self.new (knows pass.new) (step_answer result) }
         ensures later { C.told clock.old ≤ C.told clock.new }
+        ensures first { KeepsFirst C.began clock.old clock.new }
     {
         match pop(&mut self.waiting) {
             Some(outcome) => return Ok(Some(outcome)),

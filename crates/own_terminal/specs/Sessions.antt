@@ -14,6 +14,10 @@ abbrev pub EndsRaw : {D M : Type 0} → (D → M) → (D → ModeCall M → D �
 EndsRaw stands answered old r new =
     ((old.prior ≡ None) × IsOk r × (new ≡ old)) ⊎ (IsTrue (is_some old.prior) × SwitchesOff answered old r new × OnOk r (Some (stands new.device) ≡ old.prior))
 
+-- The only pass of a reader over a source.
+abbrev pub BeginsAt : {S : Type 0} → S → Known S → Type 0
+BeginsAt {S} source pass = (o : ReaderState S) × (o.source ≡ source) × (o.store ≡ empty) × (pass ≡ opened o 1 0)
+
 -- The only pass of a reader over a device that was asked for nothing yet.
 abbrev pub BeginsOver : {D : Type 0} → D → Known (Source D) → Type 0
 BeginsOver {D} device pass = (o : ReaderState (Source D)) × IsNew o.source × (o.source.device ≡ device) × (o.store ≡ empty) × (pass ≡ opened o 1 0)

@@ -4,6 +4,7 @@ ghost use Rattle.std.specs.Prelude.{◌≡◌, ◌≤◌, All, IfErr, IfOk, Some
 ghost use Rattle.std.specs.IoError.{error_kind};
 ghost use Rattle.std.specs.declared.io.ErrorKind.TheVariants.{OutOfMemory};
 ghost use Rattle.crossterm_types.specs.declared.event.filter.AnyFilter.TheVariants as filters;
+ghost use Rattle.crossterm_types.specs.Timing.{IsFirst, KeepsFirst};
 ghost use Rattle.crossterm_read.specs.Entries.{Polls, Reads};
 ghost use Rattle.crossterm_read.specs.Replies.{event_said};
 ghost use Rattle.crossterm_read.specs.Seats.{knows};
@@ -69,8 +70,9 @@ impl<S: EventSource<Global>> Events<S> {
         limit: Duration,
         clock: &mut C,
     ) -> io::Result<bool>
-        ensures call { Polls S.drawn S.asked filters.Event (Some limit) (C.told clock.old) (C.told clock.new) (knows self.old.pass) (knows self.new.pass) result }
+        ensures call { Polls S.drawn S.asked filters.Event (Some limit) (IsFirst C.told C.began clock.old clock.new) (C.told clock.new) (knows self.old.pass) (knows self.new.pass) result }
         ensures later { C.told clock.old ≤ C.told clock.new }
+        ensures first { KeepsFirst C.began clock.old clock.new }
         ensures reader { self.new.reader ≡ self.old.reader }
     {
         self.reader.poll(rt, &mut self.pass, limit, clock)

@@ -29,7 +29,7 @@
 //! | Proved | By the contract of |
 //! |---|---|
 //! | a feature that is turned on writes exactly its text, and is listed, also if the writer fails; leaving empties the list, and if it succeeds it wrote what turns each off, the last one first, and set the mode from before; at an error each end was written whole, in part or not at all, and the device did what its clause says | `Session::{turn_on, leave, enable_raw_mode, disable_raw_mode}` |
-//! | events are read by the calls of the only pass of a new reader; polls, queries and sizes are those of the libraries, and leave the list of features alone | `Session::{over, read, poll, position, supports_keyboard_enhancement, size}` |
+//! | events are read by the calls of the only pass of a new reader; polls, queries and sizes are those of the libraries, and leave the list of features alone | `Session::{over, over_source, read, poll, position, supports_keyboard_enhancement, size}` |
 //! | further shares of a session's events are as many as were asked for, of the session's reader, and each read or poll is the next call of its own pass in the one history; a stream reads by such a pass too | `Session::{over_shared, over_streaming}`, `start_shared`, `start_streaming`, `Events::{read, poll}` |
 //!
 //! What to believe, in the order in which it reads (`specs/`), and where it is proved:
@@ -37,7 +37,7 @@
 //! | Definitions | Of | Contract |
 //! |---|---|---|
 //! | `Features` | the texts that switch features on and off | `Session::{turn_on, leave}` |
-//! | `Sessions` | the mode that a session ends, and how it begins | `Session::{over, over_shared, over_streaming, leave, disable_raw_mode}` |
+//! | `Sessions` | the mode that a session ends, and how it begins | `Session::{over, over_source, over_shared, over_streaming, leave, disable_raw_mode}` |
 //!
 //! A function's proof is in `proofs/` at the function's path; if there is no file, the prover found it by itself.
 #![tactic(auto)]
@@ -55,7 +55,7 @@ use crossterm::event::timeout::SystemClock;
 use crossterm::terminal::{SttyDevice, Terminal};
 pub use events::Events;
 pub use feature::Feature;
-pub use session::{Session, WithShares, WithStream};
+pub use session::{LONGEST_PASTE, Session, WithShares, WithStream};
 use std::alloc::{Alloc, Global};
 use std::fs::{File, Files};
 use std::io::{self, BufWriter, ErrorKind, Stdin, Stdout};

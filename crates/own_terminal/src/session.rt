@@ -7,6 +7,7 @@ ghost use Rattle.std.specs.Result.{result_map_both};
 ghost use Rattle.std.specs.declared.io.Error.{Error};
 ghost use Rattle.std.specs.declared.io.ErrorKind.TheVariants.{OutOfMemory};
 ghost use Rattle.crossterm_types.specs.declared.event.filter.AnyFilter.TheVariants as filters;
+ghost use Rattle.crossterm_types.specs.Timing.{IsFirst, KeepsFirst};
 ghost use Rattle.crossterm_read.specs.Entries.{AsksKeyboard, AsksPosition, Polls, Reads};
 ghost use Rattle.crossterm_read.specs.History.{Known};
 ghost use Rattle.crossterm_read.specs.Replies.{event_said};
@@ -19,7 +20,7 @@ ghost use Rattle.crossterm.specs.Asking.{InRawMode, InTwoSeconds, Queries, keybo
 ghost use Rattle.crossterm.specs.Modes.{Refuses, Sizes, SwitchesOff, SwitchesOn};
 ghost use Rattle.crossterm.specs.declared.terminal.size.WindowSize.{WindowSize};
 ghost use Rattle.own_terminal.specs.Features.{EndsOffered, all_switched_off, switches_on};
-ghost use Rattle.own_terminal.specs.Sessions.{BeginsOver, BeginsShared, EndsRaw};
+ghost use Rattle.own_terminal.specs.Sessions.{BeginsAt, BeginsOver, BeginsShared, EndsRaw};
 
 use crate::events::{Events, share_out};
 use crate::feature::{Feature, switch_off};
@@ -37,6 +38,9 @@ use std::net::Net;
 use std::sync::Wait;
 use std::thread::Threads;
 use std::time::Duration;
+
+/// How many bytes of a paste a session keeps at most, if it isn't begun by `over_source`.
+pub const LONGEST_PASTE: usize = 16 << 20;
 
 /// A terminal, its events, its writer, and the clock that limits are measured by.
 ///
@@ -110,7 +114,8 @@ impl<W: Write + Drop, C: Clock + Drop> Session<DeviceSource<Input>, SttyDevice<F
 }
 
 impl<I: Device, D: ModeDevice, W: Write + Drop, C: Clock + Drop> Session<DeviceSource<I>, D, W, C> {
-    /// The session of a terminal whose events are those of a device, as of a recorder over what `open` returns.
+    /// The session of a terminal whose events are those of a device, as of a recorder over what `open` returns. It keeps a paste of
+    /// `LONGEST_PASTE` bytes at most.
     ///
     /// # Errors
     ///
@@ -127,20 +132,8 @@ impl<I: Device, D: ModeDevice, W: Write + Drop, C: Clock + Drop> Session<DeviceS
         ensures begins { IfOk result (λ s. BeginsOver device (knows s.pass)) }
         ensures err { IfErr result (λ e. error_kind e ≡ OutOfMemory) }
     {
-        let reader = InternalEventReader::new(alloc, DeviceSource::new(alloc, device));
-        let (reader, mut passes) = EventReader::new(rt, alloc, reader, 1)?;
-        match passes.pop() {
-            Some(pass) => Ok(Session {
-                alloc,
-                term,
-                reader,
-                pass,
-                out,
-                clock,
-                features: Vec::new(alloc),
-            }),
-            None => unreachable!(),
-        }
+        let source = DeviceSource::bounded(alloc, device, LONGEST_PASTE);
+        Session::over_source(rt, alloc, source, term, out, clock)
     }
 
     /// The same, with so many more shares of the events, for other threads.
@@ -166,7 +159,8 @@ impl<I: Device, D: ModeDevice, W: Write + Drop, C: Clock + Drop> Session<DeviceS
         let Some(count) = others.checked_add(1) else {
             return Err(io::Error::from(ErrorKind::OutOfMemory));
         };
-        let reader = InternalEventReader::new(alloc, DeviceSource::new(alloc, device));
+        let source = DeviceSource::bounded(alloc, device, LONGEST_PASTE);
+        let reader = InternalEventReader::new(alloc, source);
         let (reader, passes) = EventReader::new(rt, alloc, reader, count)?;
         let mut shares = share_out(alloc, &reader, passes)?;
         match shares.pop() {
@@ -219,11 +213,51 @@ impl<I: Device, D: ModeDevice, W: Write + Drop, C: Clock + Drop> Session<DeviceS
 }
 
 impl<S: EventSource<Global>, D: ModeDevice, W: Write + Drop, C: Clock + Drop> Session<S, D, W, C> {
+    /// The session of a terminal whose events are those of a source, as of one that keeps longer pastes.
+    ///
+    /// # Errors
+    ///
+    /// `OutOfMemory`.
+    ///
+    /// ```
+    /// let (device, term) = own_terminal::open(rt, alloc, rt.stdin(), folder)?;
+    /// let source = DeviceSource::bounded(alloc, device, 1 << 30);
+    /// let mut tty = Session::over_source(rt, alloc, source, term, out, SystemClock::new(rt))?;
+    /// ```
+    pub fn over_source<R: Wait>(
+        rt: &R,
+        alloc: Global,
+        source: S,
+        term: Terminal<D>,
+        out: W,
+        clock: C,
+    ) -> io::Result<Session<S, D, W, C>>
+        ensures parts { IfOk result (λ s. (s.term ≡ term) × (s.out ≡ out) × (s.clock ≡ clock) × (s.features.items ≡ [])) }
+        ensures begins { IfOk result (λ s. BeginsAt source (knows s.pass)) }
+        ensures err { IfErr result (λ e. error_kind e ≡ OutOfMemory) }
+    {
+        let reader = InternalEventReader::new(alloc, source);
+        let (reader, mut passes) = EventReader::new(rt, alloc, reader, 1)?;
+        match passes.pop() {
+            Some(pass) => Ok(Session {
+                alloc,
+                term,
+                reader,
+                pass,
+                out,
+                clock,
+                features: Vec::new(alloc),
+            }),
+            None => unreachable!(),
+        }
+    }
+
     /// The next event. This waits for it as long as it takes.
     ///
     /// # Errors
     ///
-    /// `UnexpectedEof` at the end of input; the device's fault; `OutOfMemory`. No event is lost by any of them.
+    /// `UnexpectedEof` at the end of input; the device's fault; `OutOfMemory`, also if a paste comes that is longer than the source keeps.
+    /// No event is lost by any of them.
     ///
     /// ```
     /// match tty.read(rt)? {
@@ -251,8 +285,9 @@ impl<S: EventSource<Global>, D: ModeDevice, W: Write + Drop, C: Clock + Drop> Se
     /// }
     /// ```
     pub fn poll<R: Wait>(&mut self, rt: &R, limit: Duration) -> io::Result<bool>
-        ensures call { Polls S.drawn S.asked filters.Event (Some limit) (C.told self.old.clock) (C.told self.new.clock) (knows self.old.pass) (knows self.new.pass) result }
+        ensures call { Polls S.drawn S.asked filters.Event (Some limit) (IsFirst C.told C.began self.old.clock self.new.clock) (C.told self.new.clock) (knows self.old.pass) (knows self.new.pass) result }
         ensures later { C.told self.old.clock ≤ C.told self.new.clock }
+        ensures first { KeepsFirst C.began self.old.clock self.new.clock }
         ensures others { (self.new.out ≡ self.old.out) × (self.new.term ≡ self.old.term) × (self.new.features ≡ self.old.features) }
     {
         self.reader.poll(rt, &mut self.pass, limit, &mut self.clock)
@@ -266,7 +301,7 @@ impl<S: EventSource<Global>, D: ModeDevice, W: Write + Drop, C: Clock + Drop> Se
     pub fn position<R: Wait>(&mut self, rt: &R) -> io::Result<(u16, u16)>
         ensures query { InRawMode D.stands D.answered D.failed self.old.term self.new.term ((W.contents self.new.out ≡ W.contents self.old.out) × (knows self.new.pass ≡ knows self.old.pass))
             (Queries (W.contents self.old.out) (W.contents self.new.out) position_query (knows self.new.pass ≡ knows self.old.pass)
-            (λ r. InTwoSeconds (λ limit. AsksPosition S.drawn S.asked limit (C.told self.old.clock) (C.told self.new.clock) (knows self.old.pass) (knows self.new.pass) r))) result }
+            (λ r. InTwoSeconds (λ limit. AsksPosition S.drawn S.asked limit (IsFirst C.told C.began self.old.clock self.new.clock) (C.told self.new.clock) (knows self.old.pass) (knows self.new.pass) r))) result }
         ensures others { self.new.features ≡ self.old.features }
     {
         cursor::position(
@@ -288,7 +323,7 @@ impl<S: EventSource<Global>, D: ModeDevice, W: Write + Drop, C: Clock + Drop> Se
         ensures query { (flags : Result (Option KeyboardEnhancementFlags) Error) × (result_map_both is_some (λ e. e) flags ≡ result)
             × InRawMode D.stands D.answered D.failed self.old.term self.new.term ((W.contents self.new.out ≡ W.contents self.old.out) × (knows self.new.pass ≡ knows self.old.pass))
             (Queries (W.contents self.old.out) (W.contents self.new.out) keyboard_query (knows self.new.pass ≡ knows self.old.pass)
-            (λ r. InTwoSeconds (λ limit. AsksKeyboard S.drawn S.asked limit (C.told self.old.clock) (C.told self.new.clock) (knows self.old.pass) (knows self.new.pass) r))) flags }
+            (λ r. InTwoSeconds (λ limit. AsksKeyboard S.drawn S.asked limit (IsFirst C.told C.began self.old.clock self.new.clock) (C.told self.new.clock) (knows self.old.pass) (knows self.new.pass) r))) flags }
         ensures others { self.new.features ≡ self.old.features }
     {
         supports_keyboard_enhancement(

@@ -3,12 +3,13 @@
 use crate::noted::{Noted, terminal_by};
 use crate::witness::Witness;
 use crossterm::event::KeyboardEnhancementFlags;
-use crossterm::event::source::{DeviceSource, RawFlag, Script};
-use own_terminal::{Feature, Session};
+use crossterm::event::source::{Answer, Device, DeviceSource, RawFlag, Script, Waker};
+use own_terminal::{Feature, LONGEST_PASTE, Session};
 use std::alloc::Global;
 use std::io::{self, ErrorKind};
 use std::sync::Wait;
 use std::sync::atomic::{AtomicU32, Ordering};
+use std::time::Duration;
 use test_support::{Still, expect};
 
 /// The session of a script without an act, that writes to a witness.
@@ -98,5 +99,74 @@ fn an_end_that_fails_keeps_no_other_from_being_written(rt: HostRuntime) -> io::R
     expect!(rt; matches!(left, Err(error) if error.kind() == ErrorKind::BrokenPipe));
     expect!(rt; out.saw(WITH_ONE_END_CUT, 7, 6));
     expect!(rt; calls.load(Ordering::SeqCst) == 123);
+    Ok(())
+}
+
+/// A device that opens a paste, which never ends. It counts its answers.
+#[derive(Drop)]
+struct Endless<'a> {
+    answers: &'a AtomicU32,
+}
+
+impl Device for Endless<'_> {
+    fn answer(&mut self, buf: &mut [u8], _limit: Option<Duration>) -> io::Result<Answer> {
+        if self.answers.fetch_add(1, Ordering::SeqCst) == 0 {
+            buf[..6].copy_from_slice(b"\x1b[200~");
+            return Ok(Answer::Bytes {
+                count: 6,
+                raw: true,
+            });
+        }
+        buf.fill(b'x');
+        Ok(Answer::Bytes {
+            count: 1024,
+            raw: true,
+        })
+    }
+
+    fn failures(&self) -> u64 {
+        0
+    }
+
+    fn waker(&self) -> io::Result<Waker> {
+        Ok(Waker::none())
+    }
+}
+
+/// The kind of a read's error where a paste never ends, and how often the device was asked. The source keeps so many bytes of a paste, or
+/// as many as a session does by itself.
+fn ends_at<R: Wait>(
+    rt: &R,
+    alloc: Global,
+    longest: Option<usize>,
+) -> io::Result<(Option<ErrorKind>, u32)> {
+    let (calls, answers) = (AtomicU32::new(0), AtomicU32::new(0));
+    let device = Endless { answers: &answers };
+    let term = terminal_by(RawFlag::new(alloc)?, &calls, None);
+    let out = Vec::new(alloc);
+    let mut session = match longest {
+        Some(longest) => {
+            let source = DeviceSource::bounded(alloc, device, longest);
+            Session::over_source(rt, alloc, source, term, out, Still)?
+        }
+        None => Session::over(rt, alloc, device, term, out, Still)?,
+    };
+    let kind = match session.read(rt) {
+        Ok(_) => None,
+        Err(error) => Some(error.kind()),
+    };
+    drop(session);
+    Ok((kind, answers.load(Ordering::SeqCst)))
+}
+
+#[test]
+fn a_paste_that_never_ends_is_an_error(rt: HostRuntime) -> io::Result<()> {
+    // The start comes first, and the begun end and the piece that has no room last.
+    let (kind, answers) = ends_at(&rt, rt.alloc(), None)?;
+    expect!(rt; kind == Some(ErrorKind::OutOfMemory));
+    expect!(rt; answers as usize == LONGEST_PASTE / 1024 + 2);
+    let (kind, answers) = ends_at(&rt, rt.alloc(), Some(1 << 20))?;
+    expect!(rt; kind == Some(ErrorKind::OutOfMemory));
+    expect!(rt; answers == 1026);
     Ok(())
 }

@@ -4,6 +4,7 @@ mod bell;
 mod closing;
 mod limits;
 mod order;
+mod pastes;
 mod queries;
 mod refused;
 mod waits;

@@ -9,7 +9,7 @@ use Rattle.crossterm_parse.specs.Grammar.{begins, Whole, paste_start}
 use Rattle.crossterm_parse.specs.Marked.{bytes_of}
 use Rattle.crossterm_parse.specs.Meaning.{meaning_of}
 use Rattle.crossterm_parse.specs.Division.{Divides, IsUndecided}
-use Rattle.crossterm_parse.specs.View.{ParserView, Represents}
+use Rattle.crossterm_parse.specs.View.{ParserView, Represents, paste_length}
 use Rattle.crossterm_read.specs.Answers.{SourceAnswer, Gave, Nothing, Failed}
 use Rattle.crossterm_read.specs.Device.{DeviceAnswer, Bytes, marked_bytes}
 use Rattle.crossterm_read.specs.Outcomes.{IsAnsweredBy}
@@ -84,6 +84,10 @@ turns_on : (p q r : At) (us vs : List DeviceAnswer) (xs ys : List SourceAnswer) 
 turns_on p q r us vs [] ys d e = subst (λ (ws : List DeviceAnswer). Turns p (ws ++ vs) ys r) (sym d.0) (subst (λ (m : At). Turns m vs ys r) d.1 e)
 turns_on p q r us vs (x ∷ xs) ys d e =
     (d.0, d.1 ++ vs, d.2, ap (λ (l : List DeviceAnswer). l ++ vs) d.3 ∙ append_assoc d.0 d.1 vs, d.4, turns_on d.2 q r d.1 vs xs ys d.5 e)
+
+-- So many bytes of an open paste came after its start.
+abbrev pub HasPaste : {D : Type 0} → ℕ → Source D → Type 0
+HasPaste count s = (before : List Marked) → Represents s.parser before → count ≡ paste_length (bytes_of before)
 
 -- The two laws of what was drawn from a source, by those of its device.
 pub source_none : {D : Type 0} (answered : D → List DeviceAnswer → D → Type 0) → ((s : D) → answered s [] s) → (s : Source D) → SourceDrawn answered s [] s

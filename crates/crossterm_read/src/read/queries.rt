@@ -6,6 +6,7 @@ ghost use Rattle.std.specs.declared.io.ErrorKind.TheVariants.{Other};
 ghost use Rattle.std.specs.Option.{option_map};
 ghost use Rattle.crossterm_types.specs.Admitting.{is_attributes, is_cursor_position, is_flags_reply};
 ghost use Rattle.crossterm_types.specs.Seen.{CursorPosition, Seen, seen};
+ghost use Rattle.crossterm_types.specs.Timing.{KeepsFirst};
 ghost use Rattle.crossterm_read.specs.Answers.{SourceAnswer, IsOwn};
 ghost use Rattle.crossterm_read.specs.Device.{AsksAtOnce};
 ghost use Rattle.crossterm_read.specs.History.{last_of};
@@ -123,6 +124,7 @@ impl<S: EventSource<A>, A: Allocator + Clone> InternalEventReader<S, A> {
             × IfErr result (λ e. RefusedOnlyWithoutRoom self.old.room zs (error_kind e)) }
         ensures limits { AsksLeft timeout (C.told clock.new) (S.asked self.old.source) (S.asked self.new.source) }
         ensures later { C.told clock.old ≤ C.told clock.new }
+        ensures first { KeepsFirst C.began clock.old clock.new }
         ensures room { capacity self.old ≤ capacity self.new }
         ensures admitted { IfOk result (λ x. F.admits filter.now (seen x.0) ≡ true) }
     {
@@ -214,12 +216,14 @@ impl<S: EventSource<A>, A: Allocator + Clone> InternalEventReader<S, A> {
         clock: &mut C,
     ) -> io::Result<(Option<KeyboardEnhancementFlags>, u64)>
         requires { as_nanos timeout.start ≤ C.told clock.old }
-        ensures step { (now : ℕ) × (C.told clock.old ≤ now) × (now ≤ C.told clock.new) × (zs : List SourceAnswer) × (r : Replied) × S.drawn self.old.source zs self.new.source
-            × KeyboardStep (Within timeout.limit (now - as_nanos timeout.start)) (Within (Some again) (C.told clock.new - now)) zs self.old.store self.new.store r
+        ensures step { (now : ℕ) × (second : ℕ) × (C.told clock.old ≤ now) × (now ≤ second) × (second ≤ C.told clock.new)
+            × (zs : List SourceAnswer) × (r : Replied) × S.drawn self.old.source zs self.new.source
+            × KeyboardStep (Within timeout.limit (now - as_nanos timeout.start)) (Within (Some again) (C.told clock.new - second)) zs self.old.store self.new.store r
             × (flags_said result ≡ shown r) × IfErr result (λ e. RefusedOnlyWithoutRoom self.old.room zs (error_kind e)) × ((n : Option ℕ) → last_of n r ≡ last_said n result)
             × (middle : List (Option Duration)) × AsksLeft timeout now (S.asked self.old.source) middle
-            × ((S.asked self.new.source ≡ middle) ⊎ AsksWithin (Some again) now (C.told clock.new) middle (S.asked self.new.source)) }
+            × ((S.asked self.new.source ≡ middle) ⊎ AsksWithin (Some again) second (C.told clock.new) middle (S.asked self.new.source)) }
         ensures later { C.told clock.old ≤ C.told clock.new }
+        ensures first { KeepsFirst C.began clock.old clock.new }
         ensures room { capacity self.old ≤ capacity self.new }
     {
         match self.query_until(rt, timeout, clock, &KeyboardEnhancementFlagsFilter) {

@@ -3,6 +3,7 @@
 mod calls;
 mod keyboard;
 mod pass;
+mod pasting;
 mod position;
 mod reader;
 mod room;

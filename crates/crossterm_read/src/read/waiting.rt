@@ -3,6 +3,7 @@ ghost use Rattle.std.specs.Prelude.{◌≡◌, ◌⊎◌, ◌-◌, ◌≤◌, �
 ghost use Rattle.std.specs.Duration.{as_nanos};
 ghost use Rattle.std.specs.IoError.{error_kind};
 ghost use Rattle.crossterm_types.specs.Seen.{seen};
+ghost use Rattle.crossterm_types.specs.Timing.{IsFirst, KeepsFirst};
 ghost use Rattle.crossterm_read.specs.Answers.{SourceAnswer, IsOwn};
 ghost use Rattle.crossterm_read.specs.Replies.{Replied, poll_reply, read_said, shown};
 ghost use Rattle.crossterm_read.specs.inside.Replies.{read_reply};
@@ -49,6 +50,7 @@ impl<S: EventSource<A>, A: Allocator + Clone> InternalEventReader<S, A> {
         at_wake: AtWake,
     ) -> Once
         ensures later { C.told clock.old ≤ C.told clock.new }
+        ensures first { KeepsFirst C.began clock.old clock.new }
         ensures asked { AsksInTime timeout.now (C.told clock.new) (S.asked self.old.source) (S.asked self.new.source) }
         ensures one { DrawsOne S.drawn at_wake (F.admits filter.now) self.old self.new result }
         ensures room { capacity self.old ≤ capacity self.new }
@@ -72,6 +74,7 @@ impl<S: EventSource<A>, A: Allocator + Clone> InternalEventReader<S, A> {
     ) -> io::Result<bool>
         requires { as_nanos timeout.start ≤ C.told clock.old }
         ensures later { C.told clock.old ≤ C.told clock.new }
+        ensures first { KeepsFirst C.began clock.old clock.new }
         ensures asked { Asked S.drawn at_wake (F.admits filter.now) (Within timeout.limit (C.told clock.new - as_nanos timeout.start)) self.old self.new (end_of result) }
         ensures limits { AsksLeft timeout (C.told clock.new) (S.asked self.old.source) (S.asked self.new.source) }
         ensures room { capacity self.old ≤ capacity self.new }
@@ -123,13 +126,15 @@ impl<S: EventSource<A>, A: Allocator + Clone> InternalEventReader<S, A> {
         clock: &mut C,
         filter: &F,
     ) -> io::Result<bool>
-        ensures step { (zs : List SourceAnswer) × S.drawn self.old.source zs self.new.source
-            × PollStep (Within limit (C.told clock.new - C.told clock.old)) (F.admits filter.now) zs self.old.store self.new.store (poll_reply result)
+        // The limit runs from the call's first moment on, and the device is asked with what is left of it alone.
+        ensures step { (start : ℕ) × IsFirst C.told C.began clock.old clock.new start
+            × AsksWithin limit start (C.told clock.new) (S.asked self.old.source) (S.asked self.new.source)
+            × (zs : List SourceAnswer) × S.drawn self.old.source zs self.new.source
+            × PollStep (Within limit (C.told clock.new - start)) (F.admits filter.now) zs self.old.store self.new.store (poll_reply result)
             × IfErr result (λ e. RefusedOnlyWithoutRoom self.old.room zs (error_kind e)) }
-        // The device is asked with what is left of the limit alone.
-        ensures asked { AsksWithin limit (C.told clock.old) (C.told clock.new) (S.asked self.old.source) (S.asked self.new.source) }
-        // The clock doesn't go back.
+        // The clock doesn't go back, and which time was the first stays so.
         ensures later { C.told clock.old ≤ C.told clock.new }
+        ensures first { KeepsFirst C.began clock.old clock.new }
         // No room is lost.
         ensures room { capacity self.old ≤ capacity self.new }
         // Failures never fall, and if an event is there, none was new.
@@ -155,6 +160,7 @@ impl<S: EventSource<A>, A: Allocator + Clone> InternalEventReader<S, A> {
             × IfErr result (λ e. RefusedOnlyWithoutRoom self.old.room zs (error_kind e)) }
         ensures limits { AsksLeft timeout (C.told clock.new) (S.asked self.old.source) (S.asked self.new.source) }
         ensures later { C.told clock.old ≤ C.told clock.new }
+        ensures first { KeepsFirst C.began clock.old clock.new }
         ensures room { capacity self.old ≤ capacity self.new }
         ensures rise { S.failed self.old.source ≤ S.failed self.new.source }
         ensures steady { IfOk result (λ ready. IsTrue ready → S.failed self.new.source ≡ S.failed self.old.source) }

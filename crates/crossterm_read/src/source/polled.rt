@@ -1,7 +1,7 @@
 //! A device over a descriptor that the system can watch.
-ghost use Rattle.std.specs.Prelude.{◌≡◌, List, [], ◌∷◌, length, IfOk};
+ghost use Rattle.std.specs.Prelude.{◌≡◌, List, [], ◌∷◌, false, length, IfOk, None, Ok, is_some};
 ghost use Rattle.crossterm_read.specs.Device.{CountWithin, device_answer};
-ghost use Rattle.crossterm_read.specs.Reading.{IsFault, ReadingAnswers, reading_answering};
+ghost use Rattle.crossterm_read.specs.Reading.{IsFault, ReadingAnswers, SizesAnswer, reading_answering};
 ghost use Rattle.crossterm_read.specs.Waking.{WakesAs};
 ghost use Rattle.crossterm_read.specs.declared.source.waker.Kind.TheVariants.{Mio};
 
@@ -56,6 +56,8 @@ impl<R: Read + AsRawFd + Drop, A: Allocator> PolledDevice<R, A> {
         sizes: Option<File>,
     ) -> io::Result<Self>
         ensures input { IfOk result (λ device. device.input ≡ input) }
+        // If nothing reports sizes, no size is ever reported.
+        ensures sizes { IfOk result (λ device. is_some device.sizes ≡ is_some sizes) }
         ensures failures { IfOk result (λ device. device.failures ≡ 0) }
     {
         let mut watch = Watch::new(rt, alloc)?;
@@ -76,6 +78,7 @@ impl<R: Read + AsRawFd + Drop, A: Allocator> PolledDevice<R, A> {
 impl<R: Read + AsRawFd + Drop, A: Allocator + Clone> PolledDevice<R, A> {
     // Sizes come no more.
     fn end_sizes(&mut self)
+        ensures sizes { is_some self.new.sizes ≡ false }
         ensures input { self.new.input ≡ self.old.input }
         ensures failures { self.new.failures ≡ self.old.failures }
     {
@@ -86,6 +89,7 @@ impl<R: Read + AsRawFd + Drop, A: Allocator + Clone> PolledDevice<R, A> {
 
     // Asks the system anew what is ready, and waits for it within the limit.
     fn wait(&mut self, limit: Option<Duration>) -> io::Result<Ready>
+        ensures sizes { is_some self.old.sizes ≡ false → is_some self.new.sizes ≡ false }
         ensures input { self.new.input ≡ self.old.input }
         ensures failures { self.new.failures ≡ self.old.failures }
     {
@@ -101,6 +105,8 @@ impl<R: Read + AsRawFd + Drop, A: Allocator + Clone> PolledDevice<R, A> {
 
     // Columns and rows that were reported last.
     fn read_size(&mut self) -> io::Result<Option<(u16, u16)>>
+        ensures none { is_some self.old.sizes ≡ false → result ≡ Ok None }
+        ensures sizes { is_some self.old.sizes ≡ false → is_some self.new.sizes ≡ false }
         ensures input { self.new.input ≡ self.old.input }
         ensures failures { self.new.failures ≡ self.old.failures }
     {
@@ -127,6 +133,7 @@ impl<R: Read + AsRawFd + Drop, A: Allocator + Clone> PolledDevice<R, A> {
     fn try_answer(&mut self, buf: &mut [u8], limit: Option<Duration>) -> io::Result<Answer>
         requires { length buf.now ≡ 1024 }
         ensures answered { ReadingAnswers (R.remaining self.old.input) (device_answer result buf.new ∷ []) (R.remaining self.new.input) }
+        ensures sizes { SizesAnswer (is_some self.old.sizes) (device_answer result buf.new ∷ []) (is_some self.new.sizes) }
         ensures count { IfOk result (λ a. CountWithin a (length buf.new)) }
         ensures failures { self.new.failures ≡ self.old.failures }
     {
@@ -147,8 +154,8 @@ impl<R: Read + AsRawFd + Drop, A: Allocator + Clone> PolledDevice<R, A> {
 }
 
 impl<R: Read + AsRawFd + Drop, A: Allocator + Clone> Device for PolledDevice<R, A> {
-    // What it reports are its reader's next bytes, if the reader says what it returns.
-    ghost answering = { reading_answering (λ s. R.remaining s.input) };
+    // What it reports are its reader's next bytes, if the reader says what it returns, and sizes only if something reports them.
+    ghost answering = { reading_answering (λ s. R.remaining s.input) (λ s. is_some s.sizes) };
 
     ghost failed = { λ s. s.failures };
 

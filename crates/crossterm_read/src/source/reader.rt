@@ -1,7 +1,7 @@
 //! A device over a reader.
-ghost use Rattle.std.specs.Prelude.{◌≡◌, List, [], ◌∷◌, length, IfOk, IsOkAnd};
+ghost use Rattle.std.specs.Prelude.{◌≡◌, false, List, [], ◌∷◌, length, IfOk, IsOkAnd};
 ghost use Rattle.crossterm_read.specs.Device.{CountWithin, device_answer};
-ghost use Rattle.crossterm_read.specs.Reading.{IsFault, ReadingAnswers, reading_answering};
+ghost use Rattle.crossterm_read.specs.Reading.{IsFault, NoneResized, ReadingAnswers, reading_answering};
 ghost use Rattle.crossterm_read.specs.Waking.{IsSure};
 
 use crate::source::failures::answer_at;
@@ -49,6 +49,7 @@ pub(crate) fn read_once<R: Read + Drop, A: Allocator + Clone>(
 ) -> io::Result<Answer>
     requires { length buf.now ≡ 1024 }
     ensures answered { ReadingAnswers (R.remaining input.old) (device_answer result buf.new ∷ []) (R.remaining input.new) }
+    ensures sizes { NoneResized (device_answer result buf.new ∷ []) }
     ensures count { IfOk result (λ a. CountWithin a (length buf.new)) }
 {
     let count = input.read(buf)?;
@@ -57,8 +58,8 @@ pub(crate) fn read_once<R: Read + Drop, A: Allocator + Clone>(
 }
 
 impl<R: Read + Drop, A: Allocator + Clone> Device for ReadDevice<R, A> {
-    // What it reports are its reader's next bytes, if the reader says what it returns.
-    ghost answering = { reading_answering (λ s. R.remaining s.input) };
+    // What it reports are its reader's next bytes, if the reader says what it returns, and no size.
+    ghost answering = { reading_answering (λ s. R.remaining s.input) (λ _. false) };
 
     ghost failed = { λ s. s.failures };
 

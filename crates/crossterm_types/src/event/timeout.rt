@@ -1,8 +1,8 @@
 //! Clocks, and limits of time.
-ghost use Rattle.std.specs.Prelude.{◌≡◌, ◌≤◌, ◌↔◌, ℕ, IsTrue};
+ghost use Rattle.std.specs.Prelude.{◌≡◌, ◌≤◌, ◌↔◌, ℕ, ⊤, IsTrue};
 ghost use Rattle.std.specs.Duration.{as_nanos};
 ghost use Rattle.std.specs.Option.{option_map};
-ghost use Rattle.crossterm_types.specs.Timing.{HasElapsed, gone, left_over};
+ghost use Rattle.crossterm_types.specs.Timing.{HasElapsed, KeepsFirst, gone, left_over};
 
 use std::time::{Duration, Instant};
 
@@ -11,10 +11,16 @@ pub trait Clock {
     /// What `now` returned last, in nanoseconds; 0 at first.
     ghost told: { Self → ℕ };
 
+    /// Which time `now` returned first, from one state of the clock to another. A clock need not know it.
+    ghost began: { Self → ℕ → Self → Type 0 } = { λ _ _ _. ⊤ };
+
     /// The time that it is.
     fn now(&mut self) -> Duration
         ensures told { as_nanos result ≡ told self.new }
-        ensures later { told self.old ≤ told self.new };
+        ensures later { told self.old ≤ told self.new }
+        // From here on this time is the first, and another that was the first stays so.
+        ensures first { began self.old (told self.new) self.new }
+        ensures again { KeepsFirst began self.old self.new };
 
     /// What `now` returned last, and zero if it wasn't asked yet.
     fn last(&self) -> Duration

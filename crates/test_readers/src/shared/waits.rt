@@ -14,11 +14,23 @@ use test_support::{Seat, TURNS, expect, is_raised_within, reader_of, sleep};
 
 /// A device that sleeps at the first question, then is woken, and then reports the letter `a` at each.
 #[derive(Drop)]
-struct Sleeper<'a, R> {
+pub struct Sleeper<'a, R> {
     rt: &'a R,
     asked: &'a AtomicBool,
     time: Duration,
     questions: u8,
+}
+
+impl<'a, R: Wait> Sleeper<'a, R> {
+    /// One that sleeps for a second, and raises the flag before.
+    pub fn new(rt: &'a R, asked: &'a AtomicBool) -> Sleeper<'a, R> {
+        Sleeper {
+            rt,
+            asked,
+            time: Duration::from_secs(1),
+            questions: 0,
+        }
+    }
 }
 
 impl<R: Wait> Device for Sleeper<'_, R> {
@@ -97,12 +109,7 @@ fn three_share<R: Wait + Threads + Sync>(
     alloc: Global,
 ) -> io::Result<(&'static str, &'static str, &'static str)> {
     let asked = AtomicBool::new(false);
-    let device = Sleeper {
-        rt,
-        asked: &asked,
-        time: Duration::from_secs(1),
-        questions: 0,
-    };
+    let device = Sleeper::new(rt, &asked);
     let (first, one, other) = three(rt, alloc, reader_of(alloc, device))?;
     let (held, (read, polled)) = thread::join(
         rt,

@@ -4,6 +4,7 @@ ghost use Rattle.std.specs.IoError.{error_kind};
 ghost use Rattle.std.specs.declared.io.ErrorKind.TheVariants.{Other};
 ghost use Rattle.crossterm.specs.Asking.{InRawMode, InTwoSeconds, Queries, position_query};
 ghost use Rattle.crossterm_types.specs.Admitting.{is_cursor_position};
+ghost use Rattle.crossterm_types.specs.Timing.{IsFirst, KeepsFirst};
 ghost use Rattle.crossterm_read.specs.Answers.{IsOwn, SourceAnswer};
 ghost use Rattle.crossterm_read.specs.Device.{AsksAtOnce};
 ghost use Rattle.crossterm_read.specs.Entries.{AsksPosition};
@@ -78,8 +79,9 @@ pub fn position<
     requires { IsPassOf reader.now pass.old }
     ensures pass { IsPassOf reader.now pass.new }
     ensures query { InRawMode D.stands D.answered D.failed term.old term.new ((W.contents out.new ≡ W.contents out.old) × (knows pass.new ≡ knows pass.old))
-        (Queries (W.contents out.old) (W.contents out.new) position_query (knows pass.new ≡ knows pass.old) (λ r. InTwoSeconds (λ limit. AsksPosition S.drawn S.asked limit (C.told clock.old) (C.told clock.new) (knows pass.old) (knows pass.new) r))) result }
+        (Queries (W.contents out.old) (W.contents out.new) position_query (knows pass.new ≡ knows pass.old) (λ r. InTwoSeconds (λ limit. AsksPosition S.drawn S.asked limit (IsFirst C.told C.began clock.old clock.new) (C.told clock.new) (knows pass.old) (knows pass.new) r))) result }
     ensures later { C.told clock.old ≤ C.told clock.new }
+    ensures first { KeepsFirst C.began clock.old clock.new }
 {
     if term.is_raw_mode_enabled()? {
         return position_raw(rt, term, reader, pass, out, clock);
@@ -115,8 +117,9 @@ fn position_raw<
     requires raw { IsTrue (is_some _term.now.prior) }
     requires pass { IsPassOf reader.now pass.old }
     ensures pass { IsPassOf reader.now pass.new }
-    ensures query { Queries (W.contents out.old) (W.contents out.new) position_query (knows pass.new ≡ knows pass.old) (λ r. InTwoSeconds (λ limit. AsksPosition S.drawn S.asked limit (C.told clock.old) (C.told clock.new) (knows pass.old) (knows pass.new) r)) result }
+    ensures query { Queries (W.contents out.old) (W.contents out.new) position_query (knows pass.new ≡ knows pass.old) (λ r. InTwoSeconds (λ limit. AsksPosition S.drawn S.asked limit (IsFirst C.told C.began clock.old clock.new) (C.told clock.new) (knows pass.old) (knows pass.new) r)) result }
     ensures later { C.told clock.old ≤ C.told clock.new }
+    ensures first { KeepsFirst C.began clock.old clock.new }
 {
     match send_query(out, csi!("6n")) {
         Ok(()) => {

@@ -4,6 +4,7 @@ ghost use Rattle.std.specs.Io.KnownBytes.{Appends};
 ghost use Rattle.std.specs.Result.{result_map_both};
 ghost use Rattle.std.specs.declared.io.Error.{Error};
 ghost use Rattle.crossterm_command.specs.Writing.{AppendsFront};
+ghost use Rattle.crossterm_types.specs.Timing.{IsFirst, KeepsFirst};
 ghost use Rattle.crossterm_read.specs.Entries.{AsksKeyboard};
 ghost use Rattle.crossterm_read.specs.Seats.{knows};
 ghost use Rattle.crossterm_read.specs.Shared.{IsPassOf};
@@ -276,8 +277,9 @@ pub fn supports_keyboard_enhancement<
     ensures pass { IsPassOf reader.now pass.new }
     ensures query { (flags : Result (Option KeyboardEnhancementFlags) Error) × (result_map_both is_some (λ e. e) flags ≡ result)
         × InRawMode D.stands D.answered D.failed term.old term.new ((W.contents out.new ≡ W.contents out.old) × (knows pass.new ≡ knows pass.old))
-        (Queries (W.contents out.old) (W.contents out.new) keyboard_query (knows pass.new ≡ knows pass.old) (λ r. InTwoSeconds (λ limit. AsksKeyboard S.drawn S.asked limit (C.told clock.old) (C.told clock.new) (knows pass.old) (knows pass.new) r))) flags }
+        (Queries (W.contents out.old) (W.contents out.new) keyboard_query (knows pass.new ≡ knows pass.old) (λ r. InTwoSeconds (λ limit. AsksKeyboard S.drawn S.asked limit (IsFirst C.told C.began clock.old clock.new) (C.told clock.new) (knows pass.old) (knows pass.new) r))) flags }
     ensures later { C.told clock.old ≤ C.told clock.new }
+    ensures first { KeepsFirst C.began clock.old clock.new }
 {
     match query_keyboard_enhancement_flags(rt, term, reader, pass, out, clock) {
         Ok(flags) => Ok(flags.is_some()),
@@ -314,8 +316,9 @@ pub fn query_keyboard_enhancement_flags<
     requires { IsPassOf reader.now pass.old }
     ensures pass { IsPassOf reader.now pass.new }
     ensures query { InRawMode D.stands D.answered D.failed term.old term.new ((W.contents out.new ≡ W.contents out.old) × (knows pass.new ≡ knows pass.old))
-        (Queries (W.contents out.old) (W.contents out.new) keyboard_query (knows pass.new ≡ knows pass.old) (λ r. InTwoSeconds (λ limit. AsksKeyboard S.drawn S.asked limit (C.told clock.old) (C.told clock.new) (knows pass.old) (knows pass.new) r))) result }
+        (Queries (W.contents out.old) (W.contents out.new) keyboard_query (knows pass.new ≡ knows pass.old) (λ r. InTwoSeconds (λ limit. AsksKeyboard S.drawn S.asked limit (IsFirst C.told C.began clock.old clock.new) (C.told clock.new) (knows pass.old) (knows pass.new) r))) result }
     ensures later { C.told clock.old ≤ C.told clock.new }
+    ensures first { KeepsFirst C.began clock.old clock.new }
 {
     if term.is_raw_mode_enabled()? {
         return flags_raw(rt, term, reader, pass, out, clock);
@@ -351,8 +354,9 @@ fn flags_raw<
     requires raw { IsTrue (is_some _term.now.prior) }
     requires pass { IsPassOf reader.now pass.old }
     ensures pass { IsPassOf reader.now pass.new }
-    ensures query { Queries (W.contents out.old) (W.contents out.new) keyboard_query (knows pass.new ≡ knows pass.old) (λ r. InTwoSeconds (λ limit. AsksKeyboard S.drawn S.asked limit (C.told clock.old) (C.told clock.new) (knows pass.old) (knows pass.new) r)) result }
+    ensures query { Queries (W.contents out.old) (W.contents out.new) keyboard_query (knows pass.new ≡ knows pass.old) (λ r. InTwoSeconds (λ limit. AsksKeyboard S.drawn S.asked limit (IsFirst C.told C.began clock.old clock.new) (C.told clock.new) (knows pass.old) (knows pass.new) r)) result }
     ensures later { C.told clock.old ≤ C.told clock.new }
+    ensures first { KeepsFirst C.began clock.old clock.new }
 {
     match send_query(out, csi!("?u", "\x1b[c")) {
         Ok(()) => {

@@ -2,6 +2,7 @@
 ghost use Rattle.std.specs.Prelude.{◌≡◌, ◌≤◌, true, Some, IfOk};
 ghost use Rattle.crossterm_types.specs.Admitting.{admitted, is_event};
 ghost use Rattle.crossterm_types.specs.Seen.{seen};
+ghost use Rattle.crossterm_types.specs.Timing.{IsFirst, KeepsFirst};
 ghost use Rattle.crossterm_types.specs.declared.event.filter.AnyFilter.TheVariants as filters;
 ghost use Rattle.crossterm_read.specs.Entries.{Polls, Reads};
 ghost use Rattle.crossterm_read.specs.Replies.{event_said, event_seen, read_said, shown};
@@ -98,8 +99,9 @@ impl<S: EventSource<A>, A: Allocator + Clone> EventReader<S, A> {
     ) -> io::Result<bool>
         requires { IsPassOf self.now pass.old }
         ensures pass { IsPassOf self.now pass.new }
-        ensures call { Polls S.drawn S.asked filter limit (C.told clock.old) (C.told clock.new) (knows pass.old) (knows pass.new) result }
+        ensures call { Polls S.drawn S.asked filter limit (IsFirst C.told C.began clock.old clock.new) (C.told clock.new) (knows pass.old) (knows pass.new) result }
         ensures later { C.told clock.old ≤ C.told clock.new }
+        ensures first { KeepsFirst C.began clock.old clock.new }
     {
         let start = clock.now();
         let timeout = PollTimeout::new(limit, start);
@@ -146,8 +148,9 @@ impl<S: EventSource<A>, A: Allocator + Clone> EventReader<S, A> {
     ) -> io::Result<bool>
         requires { IsPassOf self.now pass.old }
         ensures pass { IsPassOf self.now pass.new }
-        ensures call { Polls S.drawn S.asked filters.Event (Some limit) (C.told clock.old) (C.told clock.new) (knows pass.old) (knows pass.new) result }
+        ensures call { Polls S.drawn S.asked filters.Event (Some limit) (IsFirst C.told C.began clock.old clock.new) (C.told clock.new) (knows pass.old) (knows pass.new) result }
         ensures later { C.told clock.old ≤ C.told clock.new }
+        ensures first { KeepsFirst C.began clock.old clock.new }
     {
         self.poll_by(rt, pass, Some(limit), clock, AnyFilter::Event)
     }

@@ -1,5 +1,6 @@
 //! The query of a shared reader for the keyboard's flags.
 ghost use Rattle.std.specs.Prelude.{◌≡◌, ◌≤◌};
+ghost use Rattle.crossterm_types.specs.Timing.{IsFirst, KeepsFirst};
 ghost use Rattle.crossterm_read.specs.Entries.{AsksKeyboard};
 ghost use Rattle.crossterm_read.specs.Replies.{keyboard_said};
 ghost use Rattle.crossterm_read.specs.inside.Replies.{flags_said};
@@ -49,8 +50,9 @@ impl<S: EventSource<A>, A: Allocator + Clone> EventReader<S, A> {
     ) -> io::Result<Option<KeyboardEnhancementFlags>>
         requires { IsPassOf self.now pass.old }
         ensures pass { IsPassOf self.now pass.new }
-        ensures call { AsksKeyboard S.drawn S.asked limit (C.told clock.old) (C.told clock.new) (knows pass.old) (knows pass.new) result }
+        ensures call { AsksKeyboard S.drawn S.asked limit (IsFirst C.told C.began clock.old clock.new) (C.told clock.new) (knows pass.old) (knows pass.new) result }
         ensures later { C.told clock.old ≤ C.told clock.new }
+        ensures first { KeepsFirst C.began clock.old clock.new }
     {
         let start = clock.now();
         let timeout = PollTimeout::new(Some(limit), start);

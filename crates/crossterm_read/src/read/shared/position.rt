@@ -2,6 +2,7 @@
 ghost use Rattle.std.specs.Prelude.{◌≡◌, ◌≤◌, IfOk, true};
 ghost use Rattle.crossterm_types.specs.Admitting.{is_cursor_position};
 ghost use Rattle.crossterm_types.specs.Seen.{seen};
+ghost use Rattle.crossterm_types.specs.Timing.{IsFirst, KeepsFirst};
 ghost use Rattle.crossterm_read.specs.Entries.{AsksPosition};
 ghost use Rattle.crossterm_read.specs.Replies.{position_said, shown};
 ghost use Rattle.crossterm_read.specs.inside.Replies.{read_reply};
@@ -52,8 +53,9 @@ impl<S: EventSource<A>, A: Allocator + Clone> EventReader<S, A> {
     ) -> io::Result<(u16, u16)>
         requires { IsPassOf self.now pass.old }
         ensures pass { IsPassOf self.now pass.new }
-        ensures call { AsksPosition S.drawn S.asked limit (C.told clock.old) (C.told clock.new) (knows pass.old) (knows pass.new) result }
+        ensures call { AsksPosition S.drawn S.asked limit (IsFirst C.told C.began clock.old clock.new) (C.told clock.new) (knows pass.old) (knows pass.new) result }
         ensures later { C.told clock.old ≤ C.told clock.new }
+        ensures first { KeepsFirst C.began clock.old clock.new }
     {
         let start = clock.now();
         let timeout = PollTimeout::new(Some(limit), start);

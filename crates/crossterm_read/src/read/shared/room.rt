@@ -5,7 +5,7 @@ ghost use Rattle.std.specs.List.{range_with_len};
 ghost use Rattle.std.specs.declared.io.ErrorKind.TheVariants.{OutOfMemory};
 ghost use Rattle.crossbeam_queue.specs.Passes as queue;
 ghost use Rattle.crossbeam_queue.specs.Passes.{IsSamePass, ruled_capacity, view};
-ghost use Rattle.crossterm_types.specs.Timing.{HasElapsed};
+ghost use Rattle.crossterm_types.specs.Timing.{HasElapsed, KeepsFirst};
 ghost use Rattle.crossterm_read.specs.History.{opened};
 ghost use Rattle.crossterm_read.specs.Seats.{IsSeatOf, knows, number};
 ghost use Rattle.crossterm_read.specs.Store.{ReaderState};
@@ -127,6 +127,7 @@ impl<S: EventSource<A>, A: Allocator> Room<S, A> {
         requires opened { (o : ReaderState S) × ((view seat.old).opening ≡ Some o) }
         ensures seat { IsSamePass seat.old seat.new }
         ensures later { C.told clock.old ≤ C.told clock.new }
+        ensures first { KeepsFirst C.began clock.old clock.new }
         ensures taken { IfSome result (λ x. Taken S.drawn (view seat.old) x (view seat.new)) }
         ensures passed { IfNone result ((view seat.new ≡ view seat.old) × HasElapsed timeout.now (C.told clock.new)) }
     {

@@ -1,24 +1,8 @@
-use Rattle.std.specs.Prelude.{◌≡◌, ℕ}
-use Rattle.std.proofs.Common.{ap, subst, sym, ◌∙◌}
-use Rattle.crossterm_read.specs.History.{opened}
-use Rattle.crossterm_read.specs.OverScripts.{IsNew}
-use Rattle.crossterm_read.specs.Seats.{knows, number}
-use Rattle.crossterm_read.specs.Shared.{IsPassOf}
-use Rattle.own_terminal.proofs.Beginning.{all_only, only_one}
+use Rattle.crossterm_read.specs.Seats.{knows}
+use Rattle.own_terminal.proofs.Beginning.{begins_over}
 use Rattle.own_terminal.proofs.session.Session+DeviceSource+I+D+W+C.over.Goals as goal
 
 pub returns-clause-begins : goal.returns-clause-begins
 returns-clause-begins g c =
-    let new = c.new.ensures in
-    let source = ap (λ r. r.source) c.new-reader.ensures in
-    let reader = c.new-reader.result in
-    let pass = c.in-Some.pass in
-    let passes = c.in_ok-reader.passes.items in
-    let one = only_one number passes c.pop.new.self.items pass c.in-Some.ensures.items c.in_ok-reader.ensures.numbers in
-    let first = all_only (λ p. IsPassOf c.in_ok-reader.reader p × (knows p ≡ opened reader 1 (number p))) passes pass one.0 c.in_ok-reader.ensures.passes in (
-      reader,
-      subst IsNew (sym source) (record { waiting = new.waiting; represents = new.represents; untaken = new.untaken }),
-      ap (λ s. s.device) source ∙ new.device,
-      ap (λ r. r.store) c.new-reader.ensures,
-      subst (λ (n : ℕ). knows pass ≡ opened reader 1 n) one.1 first.1,
-    )
+    let new = c.bounded-source.ensures in
+    begins_over (λ s. knows s.pass) c.args.device c.bounded-source.result (record { waiting = new.waiting; represents = new.represents; untaken = new.untaken }) new.device c.over_source.result c.over_source.ensures.begins

@@ -1,6 +1,6 @@
-use Rattle.std.proofs.Common.{◌≡◌, ◌∙◌, [], ◌∷◌, ◌++◌, List, ℕ, None, ap, sym}
+use Rattle.std.proofs.Common.{◌≡◌, ◌∙◌, [], ◌∷◌, ◌++◌, None, ap, sym}
 use Rattle.std.specs.Prelude.{is_some}
-use Rattle.crossterm_types.specs.Seen.{Seen, seen}
+use Rattle.crossterm_types.specs.Seen.{seen}
 use Rattle.crossterm_read.specs.inside.Newest.{with_newest}
 use Rattle.crossterm_read.specs.Steps.{first_admitted}
 use Rattle.crossterm_read.proofs.Newest.{newest_is, none_there}

@@ -1,5 +1,5 @@
-use Rattle.std.proofs.Common.{◌≡◌, ◌∙◌, [], ◌∷◌, ◌++◌, List, ℕ, Some, ap, sym}
-use Rattle.crossterm_types.specs.Seen.{Seen, seen}
+use Rattle.std.proofs.Common.{◌≡◌, ◌∙◌, [], ◌∷◌, ◌++◌, ℕ, Some, ap, sym}
+use Rattle.crossterm_types.specs.Seen.{seen}
 use Rattle.crossterm_read.specs.inside.Newest.{with_newest}
 use Rattle.crossterm_read.specs.Store.{next_number}
 use Rattle.crossterm_read.proofs.Newest.{takes_newest}

@@ -25,6 +25,7 @@ loop-init g c = record {
     λ z. refl,
   );
   later = omega arith;
+  first = λ from start b. b;
   limits = asks_none _ _;
   room = omega arith;
   rise = omega arith;
@@ -84,6 +85,9 @@ pub returns-then-elapsed-clause-limits : goal.returns-then-elapsed-clause-limits
 returns-then-elapsed-clause-limits g c =
     limits_more _ _ _ _ _ _ _ (omega (arith, c.draw_in_time.ensures.later, c.now.ensures.later)) (omega (arith, c.requires, c.loop.invariant.later, c.draw_in_time.ensures.later)) (omega (arith, c.now.ensures.later)) c.loop.invariant.limits c.draw_in_time.ensures.asked
 
+pub returns-then-elapsed-clause-first : goal.returns-then-elapsed-clause-first
+returns-then-elapsed-clause-first g c from start b = c.now.ensures.again _ _ (c.draw_in_time.ensures.first _ _ (c.loop.invariant.first _ _ b))
+
 pub loop-preserved : goal.loop-preserved
 loop-preserved g c =
     let n = c.loop.invariant.so_far.0 in
@@ -95,6 +99,7 @@ loop-preserved g c =
     record {
       so_far = (n + 1, so_far, λ z. absurd (lasts c.args.timeout _ lasting z));
       later = omega (arith, c.loop.invariant.later, c.draw_in_time.ensures.later, c.now.ensures.later);
+      first = λ from start b. c.now.ensures.again _ _ (c.draw_in_time.ensures.first _ _ (c.loop.invariant.first _ _ b));
       limits = some_more _ _ _ _ _ _ _ (omega (arith, c.draw_in_time.ensures.later, c.now.ensures.later)) (omega (arith, c.requires, c.loop.invariant.later, c.draw_in_time.ensures.later)) (omega (arith, c.now.ensures.later))
           (λ h. lasting (subst (λ (n : ℕ). HasElapsed c.args.timeout n) (sym c.now.ensures.told) h)) c.loop.invariant.limits c.draw_in_time.ensures.asked;
       room = omega (arith, c.loop.invariant.room, c.draw_in_time.ensures.room);

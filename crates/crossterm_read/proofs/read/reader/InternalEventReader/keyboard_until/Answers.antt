@@ -12,7 +12,7 @@ use Rattle.crossterm_read.specs.Waiting.{AsksWithin}
 use Rattle.crossterm_read.proofs.read.reader.InternalEventReader.keyboard_until.Goals as goal
 
 pub left_taken-left-requires : goal.left_taken-left-requires
-left_taken-left-requires g c said none = let e = c.poll-ready.ensures.step in polled_there is_attributes (Within (Some c.args.again) (g.C.Clock.told c.poll-ready.new.clock - g.C.Clock.told c.query_until.new.clock)) _ _ e.0 _ e.2 said none
+left_taken-left-requires g c said none = let e = c.poll-ready.ensures.step in polled_there is_attributes (Within (Some c.args.again) (g.C.Clock.told c.poll-ready.new.clock - e.0)) _ _ e.3 _ e.5 said none
 
 pub returns-in-Some-clause-step : goal.returns-in-Some-clause-step
 returns-in-Some-clause-step g c =
@@ -23,24 +23,25 @@ returns-in-Some-clause-step g c =
     let m = c.query_until.new.self.store in
     let n = c.poll-ready.new.self.store in
     let t = c.left_taken-left.new.self.store in
-    let between = g.C.Clock.told c.query_until.new.clock in
     let last = g.C.Clock.told c.poll-ready.new.clock in
-    let again = Within (Some c.args.again) (last - between) in
-    let after : AfterReply again d.0 x.0 x m t (ToQuery x y) = subst (λ (z : Seen). AfterReply again d.0 z x m t (ToQuery x y)) (sym c.in-Some.ensures) (n, _, d.2, c.left_taken-left.ensures.delivers x) in
-    let drawn = g.met.S.EventSource.drawn_on _ _ _ e.0 d.0 e.1 d.1 in (
-      between,
+    let again = Within (Some c.args.again) (last - d.0) in
+    let after : AfterReply again d.3 x.0 x m t (ToQuery x y) = subst (λ (z : Seen). AfterReply again d.3 z x m t (ToQuery x y)) (sym c.in-Some.ensures) (n, _, d.5, c.left_taken-left.ensures.delivers x) in
+    let drawn = g.met.S.EventSource.drawn_on _ _ _ e.0 d.3 e.1 d.4 in (
+      g.C.Clock.told c.query_until.new.clock,
+      d.0,
       c.query_until.ensures.later,
-      c.poll-ready.ensures.later,
-      e.0 ++ d.0,
+      d.1.0,
+      d.1.1,
+      e.0 ++ d.3,
       ToQuery x y,
-      subst (λ (z : g.row.S.Denot). g.S.EventSource.drawn c.args.self.now.source (e.0 ++ d.0) z) (sym c.left_taken-left.ensures.source) drawn,
-      (e.0, d.0, m, ToTake (Some x), refl, e.2, after),
+      subst (λ (z : g.row.S.Denot). g.S.EventSource.drawn c.args.self.now.source (e.0 ++ d.3) z) (sym c.left_taken-left.ensures.source) drawn,
+      (e.0, d.3, m, ToTake (Some x), refl, e.2, after),
       ap (λ (z : Seen). Came (Some z)) (sym c.in-Some.ensures),
       tt,
       λ n. last_query n x.0 x.1 y _ c.number_of.ensures,
       g.S.EventSource.asked c.query_until.new.self.source,
       c.query_until.ensures.limits,
-      inr (subst (λ (z : g.row.S.Denot). AsksWithin (Some c.args.again) between last (g.S.EventSource.asked c.query_until.new.self.source) (g.S.EventSource.asked z)) (sym c.left_taken-left.ensures.source) c.poll-ready.ensures.asked),
+      inr (subst (λ (z : g.row.S.Denot). AsksWithin (Some c.args.again) d.0 last (g.S.EventSource.asked c.query_until.new.self.source) (g.S.EventSource.asked z)) (sym c.left_taken-left.ensures.source) d.2),
     )
 
 pub returns-in-Ok-clause-step : goal.returns-in-Ok-clause-step
@@ -52,7 +53,9 @@ returns-in-Ok-clause-step g c =
     let again = Within (Some c.args.again) (between - between) in
     let after : AfterReply again [] x.0 x m m (ToTake (Some x)) = subst (λ (z : Seen). AfterReply again [] z x m m (ToTake (Some x))) (sym c.in-None.ensures) (refl, refl, refl) in (
       between,
+      between,
       c.query_until.ensures.later,
+      omega arith,
       omega arith,
       e.0,
       ToTake (Some x),
@@ -71,7 +74,9 @@ returns-clause-step g c =
     let e = c.in-Err.ensures.step in
     let fault = Fault (error_kind c.in-Err.error) in (
       g.C.Clock.told c.query_until.new.clock,
+      g.C.Clock.told c.query_until.new.clock,
       c.query_until.ensures.later,
+      omega arith,
       omega arith,
       e.0,
       fault,

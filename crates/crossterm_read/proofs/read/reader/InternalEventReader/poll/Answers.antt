@@ -1,9 +1,9 @@
-use Rattle.std.proofs.Common.{◌-◌, Option, ap, subst, ◌∙◌, arith}
+use Rattle.std.proofs.Common.{◌-◌, Option, ap, refl, subst, ◌∙◌, arith}
 use Rattle.std.specs.Duration.{as_nanos}
 use Rattle.std.specs.declared.time.Duration.{Duration}
 use Rattle.crossterm_read.specs.Replies.{poll_reply}
 use Rattle.crossterm_read.specs.Steps.{Within, PollStep}
-use Rattle.crossterm_read.proofs.Waiting.{poll_longer}
+use Rattle.crossterm_read.proofs.Waiting.{first_of}
 use Rattle.crossterm_read.proofs.read.reader.InternalEventReader.poll.Goals as goal
 
 pub poll_until-requires : goal.poll_until-requires
@@ -15,9 +15,8 @@ returns-clause-step g c =
     let e = c.poll_until.ensures.step in
     let step = subst (λ (limit : Option Duration). PollStep (Within limit (g.C.Clock.told c.poll_until.new.clock - as_nanos c.new-timeout.result.start)) (g.F.Filter.admits c.args.filter.now) e.0 c.args.self.now.store c.poll_until.new.self.store (poll_reply c.poll_until.result))
     c.new-timeout.ensures.limit e.2 in
-    (e.0, e.1, poll_longer (g.F.Filter.admits c.args.filter.now) _ _ _ (omega (arith, c.now.ensures.later)) e.0 c.args.self.now.store c.poll_until.new.self.store _ step, e.3)
+    let first = first_of g.C.Clock.told g.C.Clock.began _ _ _ _ start c.now.ensures.later c.poll_until.ensures.later c.now.ensures.first c.poll_until.ensures.first in
+    (as_nanos c.new-timeout.result.start, first, (c.new-timeout.result, c.new-timeout.ensures.limit, refl, c.poll_until.ensures.limits), e.0, e.1, step, e.3)
 
-pub returns-clause-asked : goal.returns-clause-asked
-returns-clause-asked g c =
-    let start = ap as_nanos c.new-timeout.ensures.start ∙ c.now.ensures.told in
-    (c.new-timeout.result, c.new-timeout.ensures.limit, omega (arith, c.now.ensures.later), c.poll_until.ensures.limits)
+pub returns-clause-first : goal.returns-clause-first
+returns-clause-first g c from start b = c.poll_until.ensures.first _ _ (c.now.ensures.again _ _ b)

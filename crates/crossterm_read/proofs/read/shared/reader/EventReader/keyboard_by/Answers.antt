@@ -5,7 +5,8 @@ use Rattle.crossbeam_queue.specs.Passes.{view}
 use Rattle.crossterm_read.specs.Calls.{Keyboard}
 use Rattle.crossterm_read.specs.Queries.{KeyboardStep}
 use Rattle.crossterm_read.specs.Steps.{Within}
-use Rattle.crossterm_read.proofs.Sharing.{some_there, produces, extends, extends_at, keyboard_longer, flags_memory, sits_taken, sits_put, last_after}
+use Rattle.crossterm_read.proofs.Sharing.{some_there, produces, extends, extends_at, flags_memory, sits_taken, sits_put, last_after}
+use Rattle.crossterm_read.proofs.Waiting.{first_of}
 use Rattle.crossterm_read.proofs.read.shared.reader.EventReader.keyboard_by.Goals as goal
 
 pub take_within-requires-clause-opened : goal.take_within-requires-clause-opened
@@ -19,24 +20,26 @@ put-requires-clause-produces g c =
     let start = ap as_nanos c.new-timeout.ensures.start in
     let s = c.keyboard_until-taken.ensures.step in
     let first = s.0 - as_nanos c.new-timeout.result.start in
-    let past = g.C.Clock.told c.keyboard_until-taken.new.clock - s.0 in
+    let past = g.C.Clock.told c.keyboard_until-taken.new.clock - s.1 in
     let again = Within (Some c.args.limit) past in
-    let step = subst (λ (limit : Option Duration). KeyboardStep (Within limit first) again s.3 c.in-Some.reader.store c.keyboard_until-taken.new.self.store s.4) c.new-timeout.ensures.limit s.6 in
-    produces g.S.EventSource.drawn _ _ _ c.in-Some.reader c.keyboard_until-taken.new.self c.in-Some.ensures.taken (Keyboard (Within (Some c.args.limit) first) again) s.3 s.4 (
+    let step = subst (λ (limit : Option Duration). KeyboardStep (Within limit first) again s.5 c.in-Some.reader.store c.keyboard_until-taken.new.self.store s.6) c.new-timeout.ensures.limit s.8 in
+    produces g.S.EventSource.drawn _ _ _ c.in-Some.reader c.keyboard_until-taken.new.self c.in-Some.ensures.taken (Keyboard (Within (Some c.args.limit) first) again) s.5 s.6 (
       (
         s.0,
-        omega (arith, start, c.now-start.ensures.told, c.take_within.ensures.later, s.1),
-        s.2,
+        s.1,
+        omega (arith, start, c.now-start.ensures.told, c.take_within.ensures.later, s.2),
+        s.3,
+        s.4,
         record {
           call = (first, past, omega (arith, start), omega arith, refl);
           reply = refl;
-          limits_so = (s.10, (c.new-timeout.result, c.new-timeout.ensures.limit, omega (arith, start), s.11), s.12);
-          memory = flags_memory c.keyboard_until-taken.result s.4 _ s.7 s.8;
+          limits_so = (s.12, (c.new-timeout.result, c.new-timeout.ensures.limit, start, s.13), s.14);
+          memory = flags_memory c.keyboard_until-taken.result s.6 _ s.9 s.10;
         },
       ),
-      s.7,
       s.9,
-    ) s.5 step c.keyboard_until-taken.ensures.room
+      s.11,
+    ) s.7 step c.keyboard_until-taken.ensures.room
 
 pub invariant_of-pass-2 : goal.invariant_of-pass-2
 invariant_of-pass-2 g c =
@@ -49,9 +52,12 @@ invariant_of-pass-2 g c =
 
 pub returns-clause-call : goal.returns-clause-call
 returns-clause-call g c =
-    let x = extends g.S.EventSource.drawn _ (view c.args.pass.now.seat) (view c.take_within.new.seat) (view c.put.new.seat) c.in-Some.reader c.keyboard_until-taken.new.self c.requires.1 c.in-Some.ensures.taken c.put.ensures.put in
-    inl (
-      x.call.reply,
-      c.flagged.ensures ∙ x.such.1,
-      extends_at g.S.EventSource.drawn _ _ _ _ x (keyboard_longer g.S.EventSource.drawn g.S.EventSource.asked (Some c.args.limit) _ _ _ _ (omega (arith, c.now-start.ensures.later, c.now-start.ensures.told)) x.found x.call x.left x.such.0),
+    let x = extends g.S.EventSource.drawn _ (view c.args.pass.now.seat) (view c.take_within.new.seat) (view c.put.new.seat) c.in-Some.reader c.keyboard_until-taken.new.self c.requires.1 c.in-Some.ensures.taken c.put.ensures.put in (
+      as_nanos c.now-start.result,
+      first_of g.C.Clock.told g.C.Clock.began _ _ _ _ c.now-start.ensures.told c.now-start.ensures.later (omega (arith, c.take_within.ensures.later, c.keyboard_until-taken.ensures.later)) c.now-start.ensures.first
+          (λ from start b. c.keyboard_until-taken.ensures.first _ _ (c.take_within.ensures.first _ _ b)),
+      inl (x.call.reply, c.flagged.ensures ∙ x.such.1, extends_at g.S.EventSource.drawn _ _ _ _ x x.such.0),
     )
+
+pub returns-clause-first : goal.returns-clause-first
+returns-clause-first g c from start b = c.keyboard_until-taken.ensures.first _ _ (c.take_within.ensures.first _ _ (c.now-start.ensures.again _ _ b))

@@ -6,7 +6,8 @@ use Rattle.crossterm_types.specs.Admitting.{admitted}
 use Rattle.crossterm_read.specs.Calls.{Poll}
 use Rattle.crossterm_read.specs.Replies.{poll_reply}
 use Rattle.crossterm_read.specs.Steps.{Within, PollStep}
-use Rattle.crossterm_read.proofs.Sharing.{some_there, produces, extends, extends_as, call_longer, limits_longer, poll_memory, sits_taken, sits_put, last_after, last_poll}
+use Rattle.crossterm_read.proofs.Sharing.{some_there, produces, extends, poll_memory, sits_taken, sits_put, last_after, last_poll}
+use Rattle.crossterm_read.proofs.Waiting.{first_of}
 use Rattle.crossterm_read.proofs.read.shared.reader.EventReader.poll_by.Goals as goal
 
 pub take_within-requires-clause-opened : goal.take_within-requires-clause-opened
@@ -25,7 +26,7 @@ put-requires-clause-produces g c =
     (record {
       call = (past, omega (arith, start), refl);
       reply = refl;
-      limits_so = (c.new-timeout.result, c.new-timeout.ensures.limit, omega (arith, start), c.poll_until-result.ensures.limits);
+      limits_so = (c.new-timeout.result, c.new-timeout.ensures.limit, start, c.poll_until-result.ensures.limits);
       memory = poll_memory c.poll_until-result.result _ e.3;
     }) e.1 step c.poll_until-result.ensures.room
 
@@ -38,6 +39,12 @@ invariant_of-pass-2 g c = record {
 }
 
 pub returns-clause-call : goal.returns-clause-call
-returns-clause-call g c =
-    inl (extends_as g.S.EventSource.drawn _ _ (call_longer g.S.EventSource.drawn g.S.EventSource.asked (λ patience. Poll patience c.args.filter) c.args.limit _ _ _ _ _ (limits_longer g.S.EventSource.drawn c.args.limit _ _ _ (omega (arith, c.now-start.ensures.later, c.now-start.ensures.told))) _ (omega (arith, c.now-start.ensures.later, c.now-start.ensures.told))) _ _
-    (extends g.S.EventSource.drawn _ (view c.args.pass.now.seat) (view c.take_within.new.seat) (view c.put.new.seat) c.in-Some.reader c.poll_until-result.new.self c.requires.1 c.in-Some.ensures.taken c.put.ensures.put))
+returns-clause-call g c = (
+  as_nanos c.now-start.result,
+  first_of g.C.Clock.told g.C.Clock.began _ _ _ _ c.now-start.ensures.told c.now-start.ensures.later (omega (arith, c.take_within.ensures.later, c.poll_until-result.ensures.later)) c.now-start.ensures.first
+      (λ from start b. c.poll_until-result.ensures.first _ _ (c.take_within.ensures.first _ _ b)),
+  inl (extends g.S.EventSource.drawn _ (view c.args.pass.now.seat) (view c.take_within.new.seat) (view c.put.new.seat) c.in-Some.reader c.poll_until-result.new.self c.requires.1 c.in-Some.ensures.taken c.put.ensures.put),
+)
+
+pub returns-clause-first : goal.returns-clause-first
+returns-clause-first g c from start b = c.poll_until-result.ensures.first _ _ (c.take_within.ensures.first _ _ (c.now-start.ensures.again _ _ b))

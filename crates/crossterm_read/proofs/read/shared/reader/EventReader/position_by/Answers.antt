@@ -7,7 +7,8 @@ use Rattle.crossterm_read.specs.Calls.{Position}
 use Rattle.crossterm_read.specs.inside.Replies.{read_reply}
 use Rattle.crossterm_read.specs.Queries.{QueryStep}
 use Rattle.crossterm_read.specs.Steps.{Within}
-use Rattle.crossterm_read.proofs.Sharing.{some_there, produces, extends, extends_as, call_longer, limits_longer, read_memory, sits_taken, sits_put, last_after, last_read}
+use Rattle.crossterm_read.proofs.Sharing.{some_there, produces, extends, read_memory, sits_taken, sits_put, last_after, last_read}
+use Rattle.crossterm_read.proofs.Waiting.{first_of}
 use Rattle.crossterm_read.proofs.read.shared.reader.EventReader.position_by.Goals as goal
 
 pub take_within-requires-clause-opened : goal.take_within-requires-clause-opened
@@ -26,7 +27,7 @@ put-requires-clause-produces g c =
     (record {
       call = (past, omega (arith, start), refl);
       reply = refl;
-      limits_so = (c.new-timeout.result, c.new-timeout.ensures.limit, omega (arith, start), c.query_until-taken.ensures.limits);
+      limits_so = (c.new-timeout.result, c.new-timeout.ensures.limit, start, c.query_until-taken.ensures.limits);
       memory = read_memory c.query_until-taken.result _ e.3;
     }) e.1 step c.query_until-taken.ensures.room
 
@@ -39,9 +40,16 @@ invariant_of-pass-2 g c = record {
 }
 
 pub returns-clause-call : goal.returns-clause-call
-returns-clause-call g c = inl (
-  read_reply c.query_until-taken.result,
-  c.placed.ensures,
-  extends_as g.S.EventSource.drawn _ _ (call_longer g.S.EventSource.drawn g.S.EventSource.asked Position (Some c.args.limit) _ _ _ _ _ (limits_longer g.S.EventSource.drawn (Some c.args.limit) _ _ _ (omega (arith, c.now-start.ensures.later, c.now-start.ensures.told))) _ (omega (arith, c.now-start.ensures.later, c.now-start.ensures.told))) _ _
-      (extends g.S.EventSource.drawn _ (view c.args.pass.now.seat) (view c.take_within.new.seat) (view c.put.new.seat) c.in-Some.reader c.query_until-taken.new.self c.requires.1 c.in-Some.ensures.taken c.put.ensures.put),
+returns-clause-call g c = (
+  as_nanos c.now-start.result,
+  first_of g.C.Clock.told g.C.Clock.began _ _ _ _ c.now-start.ensures.told c.now-start.ensures.later (omega (arith, c.take_within.ensures.later, c.query_until-taken.ensures.later)) c.now-start.ensures.first
+      (λ from start b. c.query_until-taken.ensures.first _ _ (c.take_within.ensures.first _ _ b)),
+  inl (
+    read_reply c.query_until-taken.result,
+    c.placed.ensures,
+    extends g.S.EventSource.drawn _ (view c.args.pass.now.seat) (view c.take_within.new.seat) (view c.put.new.seat) c.in-Some.reader c.query_until-taken.new.self c.requires.1 c.in-Some.ensures.taken c.put.ensures.put,
+  ),
 )
+
+pub returns-clause-first : goal.returns-clause-first
+returns-clause-first g c from start b = c.query_until-taken.ensures.first _ _ (c.take_within.ensures.first _ _ (c.now-start.ensures.again _ _ b))

@@ -1,5 +1,6 @@
 use Rattle.std.proofs.Common.{◌≡◌, ◌≤◌}
 use Rattle.crossbeam_queue.specs.Passes.{view, IsSamePass}
+use Rattle.crossterm_types.specs.Timing.{KeepsFirst}
 use Rattle.crossterm_read.proofs.read.shared.room.Room.take_within.Given as goal
 
 abbrev pub invariant-loop : goal.invariant-loop
@@ -7,6 +8,7 @@ invariant-loop g l = record {
   seat : IsSamePass l.fn.seat l.seat;
   same : view l.seat ≡ view l.fn.seat;
   later : g.C.Clock.told l.fn.clock ≤ g.C.Clock.told l.clock;
+  first : KeepsFirst g.C.Clock.began l.fn.clock l.clock;
   can : (goal.iterator-loop g).can_next l.iterator';
   ends : (goal.iterator-loop g).is_finite l.iterator';
 }
