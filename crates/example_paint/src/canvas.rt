@@ -1,23 +1,18 @@
 //! The picture, and the colours beside it.
 
-use crossterm::cursor::{Hide, MoveTo, Show};
-use crossterm::event::{DisableMouseCapture, EnableMouseCapture};
-use crossterm::style::{Color, ColorOutput, Print, ResetColor, SetBackgroundColor};
-use crossterm::terminal::{Clear, ClearType, EnterAlternateScreen, LeaveAlternateScreen};
-use crossterm::{QueueableCommand, execute, queue};
+use crossterm::style::Color;
 use std::alloc::{AllocError, Global};
-use std::io::{self, Write};
-
-const COLORS: ColorOutput = ColorOutput::Enabled;
 
 /// The columns of the colours, left of the picture.
 pub const LEFT: u16 = 4;
 
 const COLUMNS: u16 = 76;
 
-const ROWS: u16 = 22;
+/// The rows of the picture.
+pub const ROWS: u16 = 22;
 
-const HELP: &str = "drag: paint   right button: wipe   left: colours   x: blank   Esc: leave";
+/// The columns of the colours and the picture.
+pub const WIDTH: u16 = LEFT + COLUMNS;
 
 /// A colour of the picture: one of the sixteen that every terminal has, or none if it is 0.
 pub type Ink = u8;
@@ -39,24 +34,17 @@ pub struct Canvas {
     cells: Vec<Ink>,
 }
 
-fn color_of(ink: Ink) -> Color {
-    match ink {
-        0 => Color::Reset,
-        _ => Color::AnsiValue(ink),
-    }
+/// The place of a cell of the picture.
+fn place(column: u16, row: u16) -> usize {
+    usize::from(row) * usize::from(COLUMNS) + usize::from(column)
 }
 
-// Writes cells that lie side by side, and each colour once if they have the same.
-fn draw_cells<W: Write>(w: &mut W, cells: &[Ink]) -> io::Result<()> {
-    let mut last = None;
-    for ink in cells {
-        if last != Some(*ink) {
-            queue!(w, COLORS, SetBackgroundColor(color_of(*ink)))?;
-            last = Some(*ink);
-        }
-        queue!(w, COLORS, Print(" "))?;
+/// How an ink looks, or `None` without one.
+pub fn color_of(ink: Ink) -> Option<Color> {
+    match ink {
+        0 => None,
+        _ => Some(Color::AnsiValue(ink)),
     }
-    Ok(())
 }
 
 impl Canvas {
@@ -73,8 +61,7 @@ impl Canvas {
     /// Paints a cell. One outside the picture is passed over.
     pub fn put(&mut self, dot: Dot) {
         if dot.column < COLUMNS {
-            let at = usize::from(dot.row) * usize::from(COLUMNS) + usize::from(dot.column);
-            if let Some(cell) = self.cells.get_mut(at) {
+            if let Some(cell) = self.cells.get_mut(place(dot.column, dot.row)) {
                 *cell = dot.ink;
             }
         }
@@ -85,59 +72,20 @@ impl Canvas {
         self.cells.fill(0);
     }
 
-    /// Writes the colours, the picture and a line of help.
-    ///
-    /// # Errors
-    ///
-    /// The writer's.
-    pub fn draw<W: Write>(&self, w: &mut W) -> io::Result<()> {
-        queue!(w, COLORS, ResetColor, Clear(ClearType::All))?;
-        for ink in 1..16u8 {
-            queue!(w, COLORS, MoveTo(0, u16::from(ink)))?;
-            queue!(w, COLORS, SetBackgroundColor(color_of(ink)), Print("   "))?;
+    /// The ink at a place of the screen: of the colours at the left, or of the picture.
+    pub fn ink_at(&self, column: u16, row: u16) -> Ink {
+        if column.saturating_add(1) < LEFT {
+            return match row {
+                1..=15 => row as Ink,
+                _ => 0,
+            };
         }
-        let mut row = 0u16;
-        for cells in self.cells.chunks(usize::from(COLUMNS)) {
-            queue!(w, COLORS, MoveTo(LEFT, row))?;
-            draw_cells(w, cells)?;
-            row = row.saturating_add(1);
+        if column < LEFT || column >= WIDTH {
+            return 0;
         }
-        execute!(w, COLORS, ResetColor, MoveTo(LEFT, ROWS), Print(HELP))
+        match self.cells.get(place(column - LEFT, row)) {
+            Some(ink) => *ink,
+            None => 0,
+        }
     }
-}
-
-impl Dot {
-    /// Writes this cell.
-    ///
-    /// # Errors
-    ///
-    /// The writer's.
-    pub fn draw<W: Write>(self, w: &mut W) -> io::Result<()> {
-        queue!(
-            w,
-            COLORS,
-            MoveTo(self.column.saturating_add(LEFT), self.row)
-        )?;
-        queue!(w, COLORS, SetBackgroundColor(color_of(self.ink)))?;
-        execute!(w, COLORS, Print(" "), ResetColor)
-    }
-}
-
-/// Begins to show a picture.
-///
-/// # Errors
-///
-/// The writer's.
-pub fn enter<W: Write>(w: &mut W) -> io::Result<()> {
-    execute!(w, COLORS, EnterAlternateScreen, Hide, EnableMouseCapture)
-}
-
-/// Puts the screen back.
-///
-/// # Errors
-///
-/// The writer's.
-pub fn leave<W: Write>(w: &mut W) -> io::Result<()> {
-    queue!(w, COLORS, DisableMouseCapture, ResetColor, Show)?;
-    execute!(w, COLORS, LeaveAlternateScreen)
 }

@@ -1,8 +1,14 @@
 //! Many terminals that paint one picture, over TCP.
 
-use crate::canvas::{Canvas, enter, leave};
+use crate::canvas::Canvas;
 use crate::painter::{Painter, Wish};
 use crate::telnet::{GREETING, Telnet};
+use crate::view::View;
+use crossterm::cursor::{Hide, Show};
+use crossterm::event::{DisableMouseCapture, EnableMouseCapture, InternalEvent};
+use crossterm::style::{ColorOutput, ResetColor};
+use crossterm::terminal::{EnterAlternateScreen, LeaveAlternateScreen};
+use crossterm::{QueueableCommand, execute, queue};
 use crossterm::event::source::{DeviceSource, EventSource, RawFlag, ReadDevice};
 use mio::net::TcpListener;
 use mio::unix::SourceFd;
@@ -23,9 +29,11 @@ const GUESTS: usize = 64;
 const TURN: u32 = 1000;
 
 /// How many bytes of an open paste a guest may send, since they are kept until its end comes.
-const PASTE: usize = 1_048_576;
+const PASTE: usize = 1 << 20;
 
-/// How many milliseconds the door stays shut after the system couldn't let somebody in.
+const COLORS: ColorOutput = ColorOutput::Enabled;
+
+/// How many milliseconds the door stays shut if the system can let nobody in, and nobody can be turned away.
 const PAUSE: u64 = 100;
 
 /// What somebody sees for whom there is no room.
@@ -37,31 +45,54 @@ struct Guest {
     source: DeviceSource<Telnet<ReadDevice<TcpStream>>>,
     out: TcpStream,
     painter: Painter,
+    view: View,
     // Whether events may wait that the last turn didn't come to.
     is_busy: bool,
 }
 
 impl Guest {
     fn new(alloc: Global, stream: TcpStream) -> io::Result<Guest> {
+        // A frame of several writes isn't held back.
+        stream.set_nodelay(true)?;
         let out = stream.try_clone()?;
         let flag = RawFlag::new(alloc)?;
         flag.set(true);
         let device = Telnet::new(ReadDevice::new(stream, flag));
         Ok(Guest {
-            source: DeviceSource::new(alloc, device),
+            source: DeviceSource::bounded(alloc, device, PASTE),
             out,
             painter: Painter::new(),
+            view: View::new(alloc)?,
             is_busy: false,
         })
     }
 
-    /// What the next event means, if one came. A guest who is cut off leaves.
+    /// What the next event means, if one came. A guest who is cut off leaves, and one whose paste is too long.
     fn wish(&mut self) -> Option<Wish> {
         match self.source.try_read(Some(Duration::ZERO)) {
-            Ok(Some(event)) => Some(self.painter.wish(&event)),
+            Ok(Some(InternalEvent::Event(event))) => Some(self.painter.wish(&event)),
+            Ok(Some(_)) => Some(Wish::Nothing),
             Ok(None) => None,
             Err(_) => Some(Wish::Leave),
         }
+    }
+
+    /// Begins to show a picture.
+    fn enter(&mut self, canvas: &Canvas) -> io::Result<()> {
+        self.out.write_all(&GREETING)?;
+        queue!(self.out, COLORS, EnterAlternateScreen, Hide, EnableMouseCapture)?;
+        self.show(canvas)
+    }
+
+    /// Shows what has changed.
+    fn show(&mut self, canvas: &Canvas) -> io::Result<()> {
+        self.view.draw(&mut self.out, canvas)
+    }
+
+    /// Puts the screen back.
+    fn leave(&mut self) -> io::Result<()> {
+        queue!(self.out, COLORS, DisableMouseCapture, ResetColor, Show)?;
+        execute!(self.out, COLORS, LeaveAlternateScreen)
     }
 
     /// Has the system report whether bytes are there, also if it reported them before.
@@ -78,26 +109,20 @@ struct Studio {
     alloc: Global,
     canvas: Canvas,
     guests: Slab<Guest>,
+    // It takes the descriptors by which somebody is turned away if no other is left.
+    spare: Option<Poll>,
 }
 
 impl Studio {
-    /// Sends bytes to all. Who doesn't take them has to leave.
-    fn send(&mut self, bytes: &[u8]) {
+    /// Shows all what has changed. Who doesn't take it has to leave.
+    fn show(&mut self) {
         for key in 0..GUESTS {
             if let Some(guest) = self.guests.get_mut(key) {
-                if guest.out.write_all(bytes).is_err() {
+                if guest.show(&self.canvas).is_err() {
                     self.guests.try_remove(key);
                 }
             }
         }
-    }
-
-    /// What a new guest is sent.
-    fn welcome(&self) -> io::Result<Vec<u8>> {
-        let mut bytes = Vec::from_slice(self.alloc, &GREETING)?;
-        enter(&mut bytes)?;
-        self.canvas.draw(&mut bytes)?;
-        Ok(bytes)
     }
 
     /// Lets a guest in, or says that there is no room.
@@ -107,7 +132,7 @@ impl Studio {
             return stream.write_all(FULL);
         }
         let mut guest = Guest::new(self.alloc, stream)?;
-        guest.out.write_all(self.welcome()?.as_slice())?;
+        guest.enter(&self.canvas)?;
         let fd = guest.out.as_raw_fd();
         registry.register(&mut SourceFd(&fd), Token(key), Interest::READABLE)?;
         if self.guests.insert(guest).is_err() {
@@ -117,65 +142,59 @@ impl Studio {
     }
 
     /// Lets a guest go, with the screen put back.
-    fn dismiss(&mut self, key: usize) -> io::Result<()> {
-        let mut bytes = Vec::new(self.alloc);
-        leave(&mut bytes)?;
+    fn dismiss(&mut self, key: usize) {
         if let Some(mut guest) = self.guests.try_remove(key) {
             // One who is gone already takes no farewell.
-            let _ = guest.out.write_all(bytes.as_slice());
+            let _ = guest.leave();
         }
-        Ok(())
     }
 
-    fn fulfil(&mut self, key: usize, wish: Wish) -> io::Result<()> {
-        let mut bytes = Vec::new(self.alloc);
+    fn fulfil(&mut self, key: usize, wish: Wish) {
         match wish {
-            Wish::Nothing => return Ok(()),
-            Wish::Leave => return self.dismiss(key),
-            Wish::Paint(dot) => {
-                self.canvas.put(dot);
-                dot.draw(&mut bytes)?;
+            Wish::Nothing => {}
+            Wish::Leave => self.dismiss(key),
+            Wish::Paint(dot) => self.canvas.put(dot),
+            Wish::Blank => self.canvas.blank(),
+            Wish::Redraw => {
+                if let Some(guest) = self.guests.get_mut(key) {
+                    guest.view.forget();
+                }
             }
-            Wish::Blank => {
-                self.canvas.blank();
-                self.canvas.draw(&mut bytes)?;
+            Wish::Resize(columns, rows) => {
+                if let Some(guest) = self.guests.get_mut(key) {
+                    guest.view.resize(columns, rows);
+                }
             }
-            Wish::Redraw => self.canvas.draw(&mut bytes)?,
         }
-        self.send(bytes.as_slice());
-        Ok(())
     }
 
-    /// Does what a guest wants, for one turn at most.
-    fn take_turn(&mut self, registry: &Registry, key: usize) -> io::Result<()> {
+    /// Does what a guest wants, for one turn at most, and shows all what has changed.
+    fn serve(&mut self, registry: &Registry, key: usize) {
+        let mut is_busy = true;
         for _ in 0..TURN {
             match self.guests.get_mut(key).and_then(|guest| guest.wish()) {
-                Some(wish) => self.fulfil(key, wish)?,
-                None => return self.rest(registry, key),
+                Some(wish) => self.fulfil(key, wish),
+                None => {
+                    is_busy = false;
+                    break;
+                }
             }
         }
-        if let Some(guest) = self.guests.get_mut(key) {
+        self.show();
+        if !is_busy {
+            self.rest(registry, key);
+        } else if let Some(guest) = self.guests.get_mut(key) {
             guest.is_busy = true;
         }
-        Ok(())
     }
 
-    /// Gives a guest a turn. One whose wish can't be fulfilled leaves, and the others stay.
-    fn serve(&mut self, registry: &Registry, key: usize) {
-        if self.take_turn(registry, key).is_err() {
-            self.guests.try_remove(key);
+    /// Waits for more of a guest. One who can't be watched leaves.
+    fn rest(&mut self, registry: &Registry, key: usize) {
+        if let Some(guest) = self.guests.get_mut(key) {
+            if guest.watch(registry, Token(key)).is_err() {
+                self.dismiss(key);
+            }
         }
-    }
-
-    /// Waits for more of a guest. One who can't be watched leaves, and one whose paste is too long.
-    fn rest(&mut self, registry: &Registry, key: usize) -> io::Result<()> {
-        let Some(guest) = self.guests.get_mut(key) else {
-            return Ok(());
-        };
-        if guest.source.paste_len() <= PASTE && guest.watch(registry, Token(key)).is_ok() {
-            return Ok(());
-        }
-        self.dismiss(key)
     }
 
     /// Gives those another turn whose last one ended too early, and returns whether there still are such guests.
@@ -188,9 +207,28 @@ impl Studio {
         self.guests.iter().any(|(_, guest)| guest.is_busy)
     }
 
+    /// Turns away who knocks, since the system has no descriptor for one more guest. Returns whether that could be done.
+    fn turn_away<N: Net>(&mut self, rt: &N, listener: &TcpListener) -> bool {
+        self.spare = None;
+        let is_done = match listener.accept() {
+            Ok((stream, _)) => {
+                let _ = TcpStream::from(stream).write_all(FULL);
+                true
+            }
+            Err(_) => false,
+        };
+        self.spare = Poll::new(rt).ok();
+        is_done
+    }
+
     /// Lets in those who knock, so many at a time. Returns after how long the door is to be looked at again, and `None` if nobody knocks
     /// any more: the system reports a knock only once.
-    fn open_door(&mut self, registry: &Registry, listener: &TcpListener) -> Option<Duration> {
+    fn open_door<N: Net>(
+        &mut self,
+        rt: &N,
+        registry: &Registry,
+        listener: &TcpListener,
+    ) -> Option<Duration> {
         for _ in 0..GUESTS {
             match listener.accept() {
                 // One who is gone again isn't let in.
@@ -200,7 +238,11 @@ impl Studio {
                 Err(error) => match error.kind() {
                     ErrorKind::WouldBlock => return None,
                     ErrorKind::Interrupted | ErrorKind::ConnectionAborted => {}
-                    _ => return Some(Duration::from_millis(PAUSE)),
+                    _ => {
+                        if !self.turn_away(rt, listener) {
+                            return Some(Duration::from_millis(PAUSE));
+                        }
+                    }
                 },
             }
         }
@@ -232,6 +274,7 @@ pub fn serve<N: Net>(rt: &N, alloc: Global, port: u16) -> io::Result<()> {
         alloc,
         canvas: Canvas::new(alloc)?,
         guests: Slab::new(alloc),
+        spare: Poll::new(rt).ok(),
     };
     let mut door = None;
     let mut is_busy = false;
@@ -245,7 +288,7 @@ pub fn serve<N: Net>(rt: &N, alloc: Global, port: u16) -> io::Result<()> {
             }
         }
         if door.is_some() {
-            door = studio.open_door(poll.registry(), &listener);
+            door = studio.open_door(rt, poll.registry(), &listener);
         }
         is_busy = studio.serve_busy(poll.registry());
     }

@@ -8,46 +8,46 @@ mod canvas;
 mod guests;
 mod painter;
 mod telnet;
+mod view;
 
-use canvas::{Canvas, enter, leave};
-use crossterm::event::source::{Device, DeviceSource, EventSource};
+use canvas::Canvas;
+use own_terminal::{Feature, Tty};
 use painter::{Painter, Wish};
-use std::alloc::Global;
 use std::env;
-use std::io::{self, BufWriter, ErrorKind, Write};
+use std::io::{self, ErrorKind, Write};
+use std::sync::Wait;
+use view::View;
 
 /// Does what the painter wants, and returns whether to go on.
-fn fulfil<W: Write>(canvas: &mut Canvas, w: &mut W, wish: Wish) -> io::Result<bool> {
+fn fulfil(canvas: &mut Canvas, view: &mut View, wish: Wish) -> bool {
     match wish {
         Wish::Nothing => {}
-        Wish::Leave => return Ok(false),
-        Wish::Paint(dot) => {
-            canvas.put(dot);
-            dot.draw(w)?;
-        }
-        Wish::Redraw => canvas.draw(w)?,
-        Wish::Blank => {
-            canvas.blank();
-            canvas.draw(w)?;
-        }
+        Wish::Leave => return false,
+        Wish::Paint(dot) => canvas.put(dot),
+        Wish::Redraw => view.forget(),
+        Wish::Resize(columns, rows) => view.resize(columns, rows),
+        Wish::Blank => canvas.blank(),
     }
-    Ok(true)
+    true
 }
 
 /// Paints until the painter leaves, or the end of input.
-fn paint<D: Device, W: Write>(alloc: Global, device: D, w: &mut W) -> io::Result<()> {
-    let mut source = DeviceSource::new(alloc, device);
-    let mut canvas = Canvas::new(alloc)?;
+fn paint<R: Wait>(rt: &R, tty: &mut Tty<'_>) -> io::Result<()> {
+    let mut canvas = Canvas::new(tty.alloc)?;
+    let mut view = View::new(tty.alloc)?;
     let mut painter = Painter::new();
-    canvas.draw(w)?;
-    for _ in 0..u64::MAX {
-        match source.try_read(None) {
-            Ok(Some(event)) => {
-                if !fulfil(&mut canvas, w, painter.wish(&event))? {
+    if let Ok((columns, rows)) = tty.size() {
+        view.resize(columns, rows);
+    }
+    for _ in rt.forever() {
+        view.draw(&mut tty.out, &canvas)?;
+        tty.out.flush()?;
+        match tty.read(rt) {
+            Ok(event) => {
+                if !fulfil(&mut canvas, &mut view, painter.wish(&event)) {
                     break;
                 }
             }
-            Ok(None) => {}
             Err(error) if error.kind() == ErrorKind::UnexpectedEof => break,
             Err(error) => return Err(error),
         }
@@ -55,20 +55,12 @@ fn paint<D: Device, W: Write>(alloc: Global, device: D, w: &mut W) -> io::Result
     Ok(())
 }
 
-/// Paints in the terminal that the program was started in.
-fn paint_here(rt: &HostRuntime, folder: &str) -> io::Result<()> {
-    let alloc = rt.alloc();
-    let (device, mut term) = own_terminal::open(rt, alloc, rt.stdin(), folder)?;
-    let mut w = BufWriter::new(alloc, io::writer(rt))?;
-    term.enable_raw_mode()?;
-    let done = match enter(&mut w) {
-        Ok(()) => paint(alloc, device, &mut w),
-        Err(error) => Err(error),
-    };
-    let left = leave(&mut w);
-    term.disable_raw_mode()?;
-    done?;
-    left
+/// Makes the terminal ready to paint in.
+fn begin(tty: &mut Tty<'_>) -> io::Result<()> {
+    tty.enable_raw_mode()?;
+    tty.turn_on(Feature::AlternateScreen)?;
+    tty.turn_on(Feature::HiddenCursor)?;
+    tty.turn_on(Feature::MouseCapture)
 }
 
 /// Serves guests at the port that this word names.
@@ -90,6 +82,10 @@ fn main(rt: HostRuntime) -> io::Result<()> {
     };
     match words.next() {
         Some(port) if first.as_str() == "serve" => serve(&rt, port.as_str()),
-        _ => paint_here(&rt, first.as_str()),
+        _ => {
+            let mut tty = own_terminal::start(&rt, rt.stdin(), rt.stdout())?;
+            begin(&mut tty)?;
+            paint(&rt, &mut tty)
+        }
     }
 }

@@ -2,7 +2,7 @@
 
 use crate::canvas::{Dot, Ink, LEFT};
 use crossterm::event::{
-    Event, InternalEvent, KeyCode, KeyEvent, KeyModifiers, MouseButton, MouseEvent, MouseEventKind,
+    Event, KeyCode, KeyEvent, KeyModifiers, MouseButton, MouseEvent, MouseEventKind,
 };
 
 /// One who paints, with the colour that was chosen last.
@@ -20,6 +20,8 @@ pub enum Wish {
     Paint(Dot),
     /// The picture once more, since the screen was spoilt.
     Redraw,
+    /// The picture in a window of so many columns and rows.
+    Resize(u16, u16),
     /// A blank picture.
     Blank,
     /// The end.
@@ -68,11 +70,11 @@ impl Painter {
     }
 
     /// What an event means.
-    pub fn wish(&mut self, event: &InternalEvent) -> Wish {
+    pub fn wish(&mut self, event: &Event) -> Wish {
         match event {
-            InternalEvent::Event(Event::Mouse(mouse)) => self.mouse(mouse),
-            InternalEvent::Event(Event::Key(key)) => wish_of(key),
-            InternalEvent::Event(Event::Resize(_, _)) => Wish::Redraw,
+            Event::Mouse(mouse) => self.mouse(mouse),
+            Event::Key(key) => wish_of(key),
+            Event::Resize(columns, rows) => Wish::Resize(*columns, *rows),
             _ => Wish::Nothing,
         }
     }
