@@ -131,7 +131,33 @@ def figures(path):
     return table(heads, rows)
 
 
-MAKERS = {"proved": proved, "definitions": definitions, "shapes": shapes, "rows": rows, "file": file, "clauses": clauses, "figures": figures}
+def messages(path):
+    """What a file of wrong bodies says of messages: each with the form that leads to it, and the one that passes."""
+    rows = []
+    for paragraph in re.split(r"\n\n+", read(path)):
+        lines = {word: re.findall(rf"^{word}: ?(.*)$", paragraph, re.M) for word in ("error", "old", "new")}
+        if lines["error"]:
+            written = " ".join(filter(None, lines["new"]))
+            rows.append([lines["error"][0].replace("`", ""), code(written) if written else "without it", code(" ".join(lines["old"]))])
+    return table(["Message", "Instead of", "Write"], rows)
+
+
+def imports():
+    """How often a crate's sources name what another keeps for its own proofs."""
+    found = {"specs.inside": {}, "proofs": {}}
+    for crate in crates():
+        paths = [f"{at}/{name}" for part in ("src", "specs", "proofs") for at, _, names in os.walk(f"{ROOT}/crates/{crate}/{part}") for name in names]
+        for path in paths:
+            with open(path, encoding="utf-8") as file:
+                for other, kind in re.findall(r"\buse Rattle\.(\w+)\.(specs\.inside|proofs)\b", file.read()):
+                    if other != crate and other in crates():
+                        found[kind][crate] = found[kind].get(crate, 0) + 1
+    counts = [found["specs.inside"], found["proofs"]]
+    rows = [[f"`{crate}`", *(str(it.get(crate, "")) for it in counts)] for crate in crates() if any(crate in it for it in counts)]
+    return table(["Imports of", "another's `specs/inside`", "another's `proofs`"], [*rows, ["all", *(str(sum(it.values())) for it in counts)]])
+
+
+MAKERS = {"imports": imports, "messages": messages, "proved": proved, "definitions": definitions, "shapes": shapes, "rows": rows, "file": file, "clauses": clauses, "figures": figures}
 
 
 def made(words):

@@ -20,6 +20,7 @@ ghost use Rattle.crossterm_style.specs.Styles.{color_functions};
 ghost use Rattle.crossterm_style.specs.declared.types.colored.Colored.TheVariants.{ForegroundColor};
 ghost use Rattle.crossterm.specs.Sequences.{move_to};
 
+pub mod messages;
 pub mod passes;
 pub mod recordings;
 

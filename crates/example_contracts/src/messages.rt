@@ -1,0 +1,114 @@
+//! Forms that pass, in the place of those that a Rust programmer writes first. The guide's table of messages is made of them, and
+//! `strength/run` tries what each is instead of.
+
+ghost use Rattle.std.specs.Prelude.{◌≤◌, OnOk};
+ghost use Rattle.crossterm_read.specs.Shared.{IsPassOf};
+
+use crossterm::QueueableCommand;
+use crossterm::cursor::Show;
+use crossterm::event::source::EventSource;
+use crossterm::event::{Event, EventReader, Pass};
+use crossterm::queue;
+use crossterm::style::ColorOutput;
+use std::alloc::Global;
+use std::io::{self, ErrorKind, Write};
+use std::sync::Wait;
+
+/// Lines, and how many of them are shown.
+#[derive(Drop)]
+pub struct Lines {
+    items: Vec<u8>,
+    shown: usize,
+}
+
+impl Lines {
+    fn show(&mut self, count: usize) {
+        self.shown = count;
+    }
+
+    /// Shows all lines.
+    pub fn show_all(&mut self) {
+        let count = self.items.len();
+        self.show(count)
+    }
+}
+
+/// Lets the lines go.
+pub fn forget(lines: Lines) {
+    let _lines = lines;
+}
+
+/// The sum of two lengths, or the greatest number.
+pub fn both(a: usize, b: usize) -> usize {
+    a.saturating_add(b)
+}
+
+/// How many cells a window has, or the greatest number.
+pub fn area(columns: usize, rows: usize) -> usize {
+    columns.saturating_mul(rows)
+}
+
+/// A column, if it is one.
+pub fn column(n: usize) -> Option<u16> {
+    u16::try_from(n).ok()
+}
+
+/// The byte at a place, if there is one.
+pub fn byte_at(bytes: &[u8], i: usize) -> Option<u8> {
+    bytes.get(i).copied()
+}
+
+/// Puts a byte at a place, and returns whether there is such a place, and memory.
+pub fn put_at(bytes: &mut Vec<u8>, i: usize, byte: u8) -> bool {
+    i <= bytes.len() && bytes.insert(i, byte).is_ok()
+}
+
+/// The powers of two below a number.
+pub fn powers_below(n: u64) -> u32 {
+    let mut count = 0u32;
+    for _ in 0..u64::MAX {
+        if count >= 63 || 1 << count >= n {
+            break;
+        }
+        count += 1;
+    }
+    count
+}
+
+/// The number, if it is at most so large.
+///
+/// # Errors
+///
+/// `InvalidInput` if it is larger.
+pub fn at_most(n: u32, most: u32) -> io::Result<u32>
+    ensures { OnOk result (n ≤ most) }
+{
+    if n > most {
+        return Err(io::Error::from(ErrorKind::InvalidInput));
+    }
+    Ok(n)
+}
+
+/// The next event of a shared reader.
+///
+/// # Errors
+///
+/// Those of `EventReader::read`.
+pub fn next_event<S: EventSource<Global>>(
+    rt: &impl Wait,
+    reader: &EventReader<S>,
+    pass: &mut Pass<S>,
+) -> io::Result<Event>
+    requires { IsPassOf reader.now pass.old }
+{
+    reader.read(rt, pass)
+}
+
+/// Shows the cursor.
+///
+/// # Errors
+///
+/// The writer's.
+pub fn show<W: Write>(w: &mut W, colors: ColorOutput) -> io::Result<()> {
+    queue!(w, colors, Show)
+}
