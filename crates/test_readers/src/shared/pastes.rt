@@ -2,7 +2,7 @@
 
 use crate::shared::waits::Sleeper;
 use crossterm_read::read::EventReader;
-use crossterm_read::source::DeviceSource;
+use crossterm_read::source::{DeviceSource, Script};
 use crossterm_types::event::filter::AnyFilter;
 use std::alloc::Global;
 use std::sync::Wait;
@@ -10,7 +10,7 @@ use std::sync::atomic::AtomicBool;
 use std::thread::Threads;
 use std::time::Duration;
 use std::{io, thread};
-use test_support::{Seat, Still, TURNS, alone, expect, is_raised_within, reader_of, script_of, text};
+use test_support::{Seat, TURNS, alone, expect, is_raised_within, reader_of, script_of, text};
 
 /// How much of a paste is open after each piece.
 const PIECES: [(&[u8], usize); 4] = [
@@ -20,17 +20,22 @@ const PIECES: [(&[u8], usize); 4] = [
     (b"1~", 0),
 ];
 
+/// How much of a paste is open.
+fn open_now<R: Wait>(rt: &R, seat: &mut Seat<DeviceSource<Script>>) -> Option<usize> {
+    seat.shared.paste_len(rt, &mut seat.pass)
+}
+
 /// Whether the length is told before a piece comes, and after each.
 fn lengths_are_told<R: Wait>(rt: &R, alloc: Global) -> io::Result<bool> {
     let mut acts = Vec::new(alloc);
     for (piece, _) in PIECES {
         acts.push(text(alloc, piece)?)?;
     }
-    let Seat { shared, mut pass } = alone(rt, alloc, script_of(alloc, acts))?;
-    let mut are_told = shared.paste_len(rt, &mut pass) == Some(0);
+    let mut seat = alone(rt, alloc, script_of(alloc, acts))?;
+    let mut are_told = open_now(rt, &mut seat) == Some(0);
     for (_, length) in PIECES {
-        let _ready = shared.poll(rt, &mut pass, Duration::ZERO, &mut Still)?;
-        are_told = are_told && shared.paste_len(rt, &mut pass) == Some(length);
+        let _ready = seat.poll(rt, Some(Duration::ZERO), AnyFilter::Event)?;
+        are_told = are_told && open_now(rt, &mut seat) == Some(length);
     }
     Ok(are_told)
 }
