@@ -32,6 +32,8 @@ pub struct Dot {
 #[derive(Drop)]
 pub struct Canvas {
     cells: Vec<Ink>,
+    // How often it has changed.
+    version: u64,
 }
 
 /// The place of a cell of the picture.
@@ -55,14 +57,17 @@ impl Canvas {
     /// `AllocError` if memory was refused.
     pub fn new(alloc: Global) -> Result<Canvas, AllocError> {
         let cells = Vec::from_elem(alloc, 0, usize::from(COLUMNS) * usize::from(ROWS))?;
-        Ok(Canvas { cells })
+        Ok(Canvas { cells, version: 0 })
     }
 
     /// Paints a cell. One outside the picture is passed over.
     pub fn put(&mut self, dot: Dot) {
         if dot.column < COLUMNS {
             if let Some(cell) = self.cells.get_mut(place(dot.column, dot.row)) {
-                *cell = dot.ink;
+                if *cell != dot.ink {
+                    *cell = dot.ink;
+                    self.version = self.version.wrapping_add(1);
+                }
             }
         }
     }
@@ -70,6 +75,12 @@ impl Canvas {
     /// Wipes all.
     pub fn blank(&mut self) {
         self.cells.fill(0);
+        self.version = self.version.wrapping_add(1);
+    }
+
+    /// A number that is another one after each change.
+    pub fn version(&self) -> u64 {
+        self.version
     }
 
     /// The ink at a place of the screen: of the colours at the left, or of the picture.

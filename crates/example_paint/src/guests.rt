@@ -80,7 +80,13 @@ impl Guest {
     /// Begins to show a picture.
     fn enter(&mut self, canvas: &Canvas) -> io::Result<()> {
         self.out.write_all(&GREETING)?;
-        queue!(self.out, COLORS, EnterAlternateScreen, Hide, EnableMouseCapture)?;
+        queue!(
+            self.out,
+            COLORS,
+            EnterAlternateScreen,
+            Hide,
+            EnableMouseCapture
+        )?;
         self.show(canvas)
     }
 

@@ -23,6 +23,8 @@ pub struct View {
     screen: Screen,
     // The size that the next frame has, if it is another one.
     size: Option<(u16, u16)>,
+    // The version of the picture that is shown, if that is known.
+    shown: Option<u64>,
 }
 
 impl View {
@@ -37,17 +39,20 @@ impl View {
             buffer: Buffer::new(alloc, columns, rows)?,
             screen: Screen::new(alloc, columns, rows)?,
             size: None,
+            shown: None,
         })
     }
 
     /// The window has another size, and nothing is known of it.
     pub fn resize(&mut self, columns: u16, rows: u16) {
         self.size = Some((columns.min(MOST.0), rows.min(MOST.1)));
+        self.shown = None;
     }
 
     /// The next frame is drawn as a whole.
     pub fn forget(&mut self) {
         self.screen.forget();
+        self.shown = None;
     }
 
     // Takes the size that was reported last.
@@ -85,12 +90,17 @@ impl View {
         }
     }
 
-    /// Writes what the window doesn't show yet.
+    /// Writes what the window doesn't show yet: nothing, if it shows the picture as it is.
     ///
     /// # Errors
     ///
     /// The writer's, and then the next frame is drawn as a whole; `OutOfMemory` if there is none for a new size.
     pub fn draw<W: Write>(&mut self, w: &mut W, canvas: &Canvas) -> io::Result<()> {
+        let version = Some(canvas.version());
+        if self.shown == version {
+            return Ok(());
+        }
+        self.shown = None;
         self.fit()?;
         let _blank = self.buffer.fill(' ', ContentStyle::new());
         for row in 0..self.buffer.height().min(ROWS) {
@@ -99,6 +109,7 @@ impl View {
         self.print_line();
         self.screen
             .draw(w, ColorOutput::Enabled, &self.buffer, None)?;
+        self.shown = version;
         Ok(())
     }
 }

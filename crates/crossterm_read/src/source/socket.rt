@@ -1,5 +1,5 @@
 //! A device over a socket.
-ghost use Rattle.std.specs.Prelude.{◌≡◌, IfOk};
+ghost use Rattle.std.specs.Prelude.{◌≡◌, false, IfOk, is_some};
 ghost use Rattle.crossterm_read.specs.Device.{answering_within};
 
 use crate::source::{Answer, Device, PolledDevice, RawFlag, Waker};
@@ -31,6 +31,8 @@ impl<A: Allocator> SocketDevice<A> {
         raw: RawFlag<A>,
     ) -> io::Result<Self>
         ensures input { IfOk result (λ device. device.polled.input ≡ stream) }
+        // It never reports a size.
+        ensures sizes { IfOk result (λ device. is_some device.polled.sizes ≡ false) }
         ensures failures { IfOk result (λ device. device.polled.failures ≡ 0) }
     {
         Ok(SocketDevice {
