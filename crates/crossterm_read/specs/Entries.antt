@@ -82,11 +82,11 @@ module _ {S : Type 0} (drawn : S → List SourceAnswer → S → Type 0) (asked 
   AsksPosition limit begins after v w result =
       (start : ℕ) × begins start
       × (((r : Replied) × (position_said result ≡ shown r) × Extends drawn (IsPosition asked (Some limit) start after r) v w)
-        ⊎ (IsErrAnd result (λ e. error_kind e ≡ Other) × (w ≡ v) × Reaches (Some limit) (after - start)))
+      ⊎ (IsErrAnd result (λ e. error_kind e ≡ Other) × (w ≡ v) × Reaches (Some limit) (after - start)))
 
   -- A query for the keyboard's flags made by a pass, likewise.
   abbrev pub AsksKeyboard : Duration → (ℕ → Type 0) → ℕ → Known S → Known S → Result (Option KeyboardEnhancementFlags) Error → Type 0
   AsksKeyboard limit begins after v w result =
       (start : ℕ) × begins start
       × (((r : Replied) × (keyboard_said result ≡ shown r) × Extends drawn (IsKeyboard asked (Some limit) start after r) v w)
-        ⊎ (IsErrAnd result (λ e. error_kind e ≡ Other) × (w ≡ v) × Reaches (Some limit) (after - start)))
+      ⊎ (IsErrAnd result (λ e. error_kind e ≡ Other) × (w ≡ v) × Reaches (Some limit) (after - start)))

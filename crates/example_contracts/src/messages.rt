@@ -4,12 +4,11 @@
 ghost use Rattle.std.specs.Prelude.{◌≤◌, OnOk};
 ghost use Rattle.crossterm_read.specs.Shared.{IsPassOf};
 
-use crossterm::QueueableCommand;
 use crossterm::cursor::Show;
 use crossterm::event::source::EventSource;
 use crossterm::event::{Event, EventReader, Pass};
-use crossterm::queue;
 use crossterm::style::ColorOutput;
+use crossterm::{QueueableCommand, queue};
 use std::alloc::Global;
 use std::io::{self, ErrorKind, Write};
 use std::sync::Wait;

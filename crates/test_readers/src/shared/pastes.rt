@@ -13,12 +13,7 @@ use std::{io, thread};
 use test_support::{Seat, TURNS, alone, expect, is_raised_within, reader_of, script_of, text};
 
 /// How much of a paste is open after each piece.
-const PIECES: [(&[u8], usize); 4] = [
-    (b"\x1b[200~", 0),
-    (b"ab", 2),
-    (b"c\x1b[20", 7),
-    (b"1~", 0),
-];
+const PIECES: [(&[u8], usize); 4] = [(b"\x1b[200~", 0), (b"ab", 2), (b"c\x1b[20", 7), (b"1~", 0)];
 
 /// How much of a paste is open.
 fn open_now<R: Wait>(rt: &R, seat: &mut Seat<DeviceSource<Script>>) -> Option<usize> {

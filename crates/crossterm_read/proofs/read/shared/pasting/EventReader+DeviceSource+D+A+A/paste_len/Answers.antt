@@ -14,9 +14,10 @@ try_take-requires-clause-opened g c = some_there _ c.args.pass.now.sits.opened
 pub put-requires-clause-produces : goal.put-requires-clause-produces
 put-requires-clause-produces g c =
     let p = c.poll_within-polled.ensures.step in
-    produces (SourceDrawn g.D.Device.answering.answered) _ _ _ c.in-Some.reader c.poll_within-polled.new.self c.in-Some.ensures.taken (Poll (UpTo 0) filters.Event) p.0 (poll_reply c.poll_within-polled.result)
-    (record { call = refl; reply = refl; limits_so = c.poll_within-polled.ensures.at_once; memory = poll_memory c.poll_within-polled.result _ p.3 },
-      subst (HasPaste c.paste_len-count.result) c.source.ensures c.paste_len-count.ensures) p.1 p.2 c.poll_within-polled.ensures.room
+    produces (SourceDrawn g.D.Device.answering.answered) _ _ _ c.in-Some.reader c.poll_within-polled.new.self c.in-Some.ensures.taken (Poll (UpTo 0) filters.Event) p.0 (poll_reply c.poll_within-polled.result) (
+      record { call = refl; reply = refl; limits_so = c.poll_within-polled.ensures.at_once; memory = poll_memory c.poll_within-polled.result _ p.3 },
+      subst (HasPaste c.paste_len-count.result) c.source.ensures c.paste_len-count.ensures,
+    ) p.1 p.2 c.poll_within-polled.ensures.room
 
 pub invariant_of-pass-2 : goal.invariant_of-pass-2
 invariant_of-pass-2 g c = record {
