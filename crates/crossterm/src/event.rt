@@ -9,7 +9,7 @@ pub use commands::{
     PushKeyboardEnhancementFlags,
 };
 pub use crossterm_read::read::{EventReader, Pass};
-pub use crossterm_read::stream::EventStream;
+pub use crossterm_read::stream::{EventStream, StreamWorker};
 pub use crossterm_read::{read, source, stream};
 pub use crossterm_types::event::{
     Event, InternalEvent, KeyCode, KeyEvent, KeyEventKind, KeyEventState, KeyModifiers,

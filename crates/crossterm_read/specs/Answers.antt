@@ -1,6 +1,7 @@
 -- What a source answers.
-use Rattle.std.specs.Prelude.{◌≡◌, ◌⊎◌, List, [], ◌∷◌, Option, Some, None, Result, Ok, Err}
+use Rattle.std.specs.Prelude.{◌≡◌, ◌⊎◌, ℕ, List, [], ◌∷◌, Option, Some, None, Result, Ok, Err}
 use Rattle.std.specs.IoError.{error_kind}
+use Rattle.std.specs.List.{AllByRecursion}
 use Rattle.std.specs.declared.io.Error.{Error}
 use Rattle.std.specs.declared.io.ErrorKind.{ErrorKind}
 use Rattle.std.specs.declared.io.ErrorKind.TheVariants.{OutOfMemory, UnexpectedEof, Interrupted}
@@ -28,3 +29,13 @@ gave (Failed kind ∷ xs) = gave xs
 -- The kinds of a source's own faults: memory was refused, the input ended, or somebody woke it. Every other fault is the device's.
 abbrev pub IsOwn : ErrorKind → Type 0
 IsOwn kind = (kind ≡ OutOfMemory) ⊎ (kind ≡ UnexpectedEof) ⊎ (kind ≡ Interrupted)
+
+-- An answer that is no fault.
+abbrev pub IsNoFault : SourceAnswer → Type 0
+IsNoFault (Gave x) = Unit {0}
+IsNoFault Nothing = Unit {0}
+IsNoFault (Failed kind) = ⊥
+
+-- Where none of the answers is a fault, the device has failed as often as before.
+abbrev pub IsSteady : {S : Type 0} → (S → ℕ) → S → List SourceAnswer → S → Type 0
+IsSteady failed s zs t = AllByRecursion IsNoFault zs → failed t ≡ failed s

@@ -8,6 +8,10 @@ use Rattle.crossterm_read.specs.Answers.{SourceAnswer}
 use Rattle.crossterm_read.specs.Entries.{IsPoll, IsTry}
 use Rattle.crossterm_read.specs.History.{Known, Extends}
 use Rattle.crossterm_read.specs.Replies.{Replied, ToTake, event_said, shown}
+use Rattle.crossterm_read.specs.Seats.{knows}
+use Rattle.crossterm_read.specs.declared.read.shared.pass.Pass.{Pass}
+use Rattle.crossterm_read.specs.declared.read.shared.reader.EventReader.{EventReader}
+use Rattle.crossterm_read.specs.declared.stream.worker.StreamWorker.{StreamWorker}
 
 module _ {S : Type 0} (drawn : S → List SourceAnswer → S → Type 0) (asked : S → List (Option Duration)) where
   -- One read at once that the stream's pass made: it stands in the one history, as the last call that the pass has seen.
@@ -30,3 +34,8 @@ module _ {S : Type 0} (drawn : S → List SourceAnswer → S → Type 0) (asked 
   -- It made no other call.
   abbrev pub OnlyPolls : Known S → Known S → Type 0
   OnlyPolls v w = (rs : List Replied) × PollsOn v rs w
+
+module _ {S A : Type 0} where
+  -- The worker's pass is of this reader, and was that one when the worker began.
+  abbrev pub IsWorkerOf : StreamWorker S A → EventReader S A → Pass S A → Type 0
+  IsWorkerOf worker r p = (worker.thread.promise.reader.value ≡ r) × (knows worker.thread.promise.pass.value ≡ knows p)

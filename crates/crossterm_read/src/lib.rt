@@ -26,7 +26,7 @@
 //! | an error of the system is returned and counted once, unless it says that nothing came yet, or no more can be counted | `failures::answer_at` |
 //! | threads share one history (the third theorem), over a script too; a look at the open paste is a poll with no try; the keyboard query waits twice, each time with its own limit; each event was taken once or is held; the events that one filter takes have rising numbers | `EventReader::{new, share, poll, read, poll_by, read_by, position_by, keyboard_by, paste_len, meet, close}`, `laws::histories_are_told` |
 //! | a shared poll that makes no entry returns `Ok(false)` after its limit; every call puts the reader back | the same |
-//! | an item of a stream is the reply of one read with limit zero in that history, or an error; a pending poll has registered its waker; `close` returns the pass | `EventStream::{new, poll_event, poll_next, close}` |
+//! | an item of a stream is the reply of one read with limit zero in that history, or an error, never `Interrupted`; a pending poll has registered its waker; both passes come back | `EventStream::{new, with_worker, poll_event, poll_next, close}`, `StreamWorker::join` |
 //!
 //! What to believe, in the order in which it reads (`specs/`), and where it is proved:
 //!
@@ -36,7 +36,7 @@
 //! | `Scripted` | 84 | what the acts of a script answer | `Device::answer` of `Script` |
 //! | `Reading` | 136 | what a device over a reader answers | `Device::answer` of `ReadDevice`, `PolledDevice`, `SocketDevice` |
 //! | `Waking` | 30 | which wakers are alike | `Waker`, `Device::waker` |
-//! | `Answers` | 30 | what a source answers | `EventSource::try_read` |
+//! | `Answers` | 41 | what a source answers | `EventSource::try_read` |
 //! | `Outcomes` | 102 | what comes of a device's answers, and the events that happen | `laws::one_happening` |
 //! | `Store` | 56 | what a reader holds | `InternalEventReader::{new, held}` |
 //! | `Replies` | 66 | what a call replies | |
@@ -49,7 +49,7 @@
 //! | `OverScripts` | 26 | what a history over a script comes to | `laws::{scripts_are_told, histories_are_told}` |
 //! | `Seats` | 19 | what a clause says of a pass | `EventReader::{new, share, meet, close}` |
 //! | `Shared` | 15 | what it says of a share | `EventReader::{new, share}` |
-//! | `Streams` | 32 | what a stream answers, and what its worker does | `EventStream::{poll_event, poll_next}` |
+//! | `Streams` | 41 | what a stream answers, and what its worker does | `EventStream::{poll_event, poll_next}`, `StreamWorker::join` |
 //!
 //! What only proofs and private clauses cite is in `specs/inside/`. A function's proof is in `proofs/` at the function's path; if there is
 //! no file, the prover found it by itself.

@@ -1,13 +1,13 @@
 //! A stream of the user's events: crossterm's `event::stream`.
-ghost use Rattle.std.specs.Prelude.{◌≡◌, IfOk, IfErr, IsSomeAnd};
+ghost use Rattle.std.specs.Prelude.{◌≡◌, ◌≢◌, IfOk, IfErr, IsSomeAnd};
 ghost use Rattle.std.specs.Arc.{arc_value};
 ghost use Rattle.std.specs.IoError.{error_kind};
-ghost use Rattle.std.specs.declared.io.ErrorKind.TheVariants.{OutOfMemory};
+ghost use Rattle.std.specs.declared.io.ErrorKind.TheVariants.{Interrupted, OutOfMemory};
 ghost use Rattle.futures.specs.Poll.{IfReady, OnPending};
 ghost use Rattle.futures.specs.Task.{Covers, Keeps};
 ghost use Rattle.crossterm_read.specs.Seats.{knows};
 ghost use Rattle.crossterm_read.specs.Shared.{IsPassOf, IsShareOf};
-ghost use Rattle.crossterm_read.specs.Streams.{GivesItem, GivesNothing, OnlyPolls};
+ghost use Rattle.crossterm_read.specs.Streams.{GivesItem, GivesNothing, IsWorkerOf, OnlyPolls};
 
 mod hub;
 mod worker;
@@ -15,14 +15,16 @@ mod worker;
 use crate::read::{EventReader, Pass};
 use crate::source::{EventSource, Waker};
 use crate::stream::hub::Hub;
-use crate::stream::worker::work;
+use crate::stream::worker::{Working, work};
 use crossterm_types::event::Event;
 use futures::Stream;
 use futures::task::{Context, Poll};
 use std::alloc::{Allocator, Global};
+use std::snapshot::Snapshot;
 use std::sync::{Arc, Wait};
-use std::thread::Threads;
+use std::thread::{PromisedHandle, Threads};
 use std::{io, thread};
+pub use worker::StreamWorker;
 
 /// The events of the user, one after another, for a task that may not wait.
 ///
@@ -71,35 +73,96 @@ where
         ensures pass { IfOk result (λ s. (knows s.pass ≡ knows pass) × IsShareOf s.reader reader.now) }
         ensures err { IfErr result (λ e. error_kind e ≡ OutOfMemory) }
     {
+        let (stream, worker) = EventStream::with_worker(rt, alloc, reader, pass, other)?;
+        drop(worker);
+        Ok(stream)
+    }
+
+    /// The same, with the stream's worker, by which the other pass comes back once the stream is over.
+    ///
+    /// # Errors
+    ///
+    /// Those of `new`.
+    ///
+    /// ```
+    /// let (mut events, worker) = EventStream::with_worker(rt, alloc, &shared, pass, other)?;
+    /// let first = block_on(&rt, events.next())?;
+    /// let pass = events.close();
+    /// let other = worker.join(&rt);
+    /// ```
+    pub fn with_worker(
+        rt: R,
+        alloc: A,
+        reader: &EventReader<S, A>,
+        pass: Pass<S, A>,
+        other: Pass<S, A>,
+    ) -> io::Result<(EventStream<S, R, A>, StreamWorker<S, A>)>
+        requires { IsPassOf reader.now pass × IsPassOf reader.now other }
+        ensures pass { IfOk result (λ s. (knows s.0.pass ≡ knows pass) × IsShareOf s.0.reader reader.now) }
+        // By the worker the other pass comes back.
+        ensures other { IfOk result (λ s. IsWorkerOf s.1 reader.now other) }
+        ensures err { IfErr result (λ e. error_kind e ≡ OutOfMemory) }
+    {
         let waker = reader.waker()?;
+        let theirs = reader.waker()?;
         let ours = reader.share()?;
-        let theirs = reader.share()?;
         let hub = Arc::new(alloc, Hub::new())?;
-        let tasks = Arc::try_clone(&hub)?;
-        let started = thread::spawn(
-            &rt,
-            move ||
-                requires { IsPassOf theirs other }
-                ensures pass { IsPassOf theirs result }
-                // The thread makes no call but polls.
-                ensures polls { OnlyPolls S.drawn S.asked (knows other) (knows result) }
-            {
-                let mut other = other;
-                work(&rt, &tasks, &theirs, &mut other);
-                other
-            },
-        );
-        match started {
-            Ok(worker) => drop(worker),
-            Err(_) => return Err(io::Error::from(io::ErrorKind::OutOfMemory)),
-        }
-        Ok(EventStream {
+        let shared = Arc::try_clone(&hub)?;
+        let thread = started(rt, Arc::try_clone(&hub)?, reader, other)?;
+        let worker = StreamWorker {
+            thread,
+            hub: shared,
+            waker: theirs,
+        };
+        let stream = EventStream {
             rt,
             reader: ours,
             pass,
             hub,
             waker,
-        })
+        };
+        Ok((stream, worker))
+    }
+}
+
+// The thread of a worker, which polls by this pass.
+fn started<S, R, A>(
+    rt: R,
+    hub: Arc<Hub, A>,
+    reader: &EventReader<S, A>,
+    pass: Pass<S, A>,
+) -> io::Result<PromisedHandle<Pass<S, A>, Working<S, A>>>
+where
+    S: EventSource<A> + Send + 'static,
+    R: Threads + Wait + Copy + Send + Drop + 'static,
+    A: Allocator + Clone + Send + Sync + 'static,
+    requires { IsPassOf reader.now pass }
+    ensures ok { IfOk result (λ thread. (thread.promise.reader.value ≡ reader.now) × (thread.promise.pass.value ≡ pass)) }
+    ensures err { IfErr result (λ e. error_kind e ≡ OutOfMemory) }
+{
+    let theirs = reader.share()?;
+    let promise = Working {
+        reader: Snapshot::of(reader),
+        pass: Snapshot::of(&pass),
+    };
+    let started = thread::spawn_with(
+        &rt,
+        promise,
+        move ||
+            requires { IsPassOf theirs pass }
+            ensures pass { IsPassOf theirs result }
+            // The thread makes no call but polls.
+            ensures polls { OnlyPolls S.drawn S.asked (knows pass) (knows result) }
+        {
+            let mut pass = pass;
+            work(&rt, &hub, &theirs, &mut pass);
+            hub.end_worker(&rt);
+            pass
+        },
+    );
+    match started {
+        Ok(thread) => Ok(thread),
+        Err(_) => Err(io::Error::from(io::ErrorKind::OutOfMemory)),
     }
 }
 
@@ -112,6 +175,8 @@ impl<S: EventSource<A>, R: Wait + Drop, A: Allocator + Clone> EventStream<S, R, 
     pub fn poll_event(&mut self, cx: &mut Context<'_>) -> Poll<io::Result<Event<A>>>
         ensures item { IfReady result (GivesItem S.drawn S.asked (knows self.old.pass) (knows self.new.pass)) }
         ensures nothing { OnPending result (GivesNothing S.drawn S.asked (knows self.old.pass) (knows self.new.pass)) }
+        // A wake-up is no item, whoever met it.
+        ensures awake { IfReady result (λ item. IfErr item (λ e. error_kind e ≢ Interrupted)) }
         // The stream stays with its reader.
         ensures shared { self.new.reader ≡ self.old.reader }
         // A pending poll has registered its waker.
@@ -141,6 +206,7 @@ impl<S: EventSource<A>, R: Wait + Drop, A: Allocator + Clone> Stream for EventSt
     fn poll_next(&mut self, cx: &mut Context<'_>) -> Poll<Option<io::Result<Event<A>>>>
         ensures item { IfReady result (λ o. IsSomeAnd o (GivesItem S.drawn S.asked (knows self.old.pass) (knows self.new.pass))) }
         ensures nothing { OnPending result (GivesNothing S.drawn S.asked (knows self.old.pass) (knows self.new.pass)) }
+        ensures awake { IfReady result (λ o. IsSomeAnd o (λ item. IfErr item (λ e. error_kind e ≢ Interrupted))) }
         ensures shared { self.new.reader ≡ self.old.reader }
         ensures registered { OnPending result (Covers cx.new (λ s. s ≡ (arc_value self.new.hub).source.id)) }
         ensures kept { Keeps cx.old cx.new }

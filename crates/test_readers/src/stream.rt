@@ -211,3 +211,28 @@ fn the_next_event_is_a_future(rt: HostRuntime) -> io::Result<()> {
     expect!(rt; gives_the_next(rt, rt.alloc())?);
     Ok(())
 }
+
+/// Whether both passes of a stream come back, and by them the reader, while its worker polls a device that reports nothing.
+fn gives_both_passes_back<R>(rt: R, alloc: Global) -> io::Result<bool>
+where
+    R: Threads + Wait + RandomSource + AllocGlobal + Copy + Send + Drop + 'static,
+{
+    let gate = Arc::new(alloc, Gate::new())?;
+    let reader = reader_of(alloc, Gated::new(rt, alloc, &gate)?);
+    let (shared, mut passes) = EventReader::new(&rt, alloc, reader, 2)?;
+    let (Some(other), Some(pass)) = (passes.pop(), passes.pop()) else {
+        return Err(io::Error::from(ErrorKind::NotFound));
+    };
+    let (mut stream, worker) = EventStream::with_worker(rt, alloc, &shared, pass, other)?;
+    let task = MockTask::new(&rt)?;
+    let polls = poll(&task, &mut stream) == Answer::Pending && gate.await_endless_question(&rt);
+    let mut pass = stream.close();
+    shared.meet(&mut pass, worker.join(&rt));
+    Ok(polls && shared.close(&rt, &mut pass).is_some())
+}
+
+#[test]
+fn a_stream_gives_both_passes_back(rt: HostRuntime) -> io::Result<()> {
+    expect!(rt; gives_both_passes_back(rt, rt.alloc())?);
+    Ok(())
+}

@@ -5,9 +5,9 @@ use Rattle.std.specs.declared.io.Error.{Error}
 use Rattle.std.specs.declared.io.ErrorKind.{ErrorKind}
 use Rattle.std.specs.declared.io.ErrorKind.TheVariants.{Interrupted}
 use Rattle.crossterm_types.specs.Seen.{Seen}
-use Rattle.crossterm_read.specs.Answers.{SourceAnswer, Gave, Failed}
+use Rattle.crossterm_read.specs.Answers.{SourceAnswer, Gave, Failed, IsNoFault, IsSteady}
 use Rattle.crossterm_read.specs.declared.read.reader.AtWake.{AtWake}
-use Rattle.crossterm_read.specs.declared.read.reader.AtWake.TheVariants.{Stops, GoesOn}
+use Rattle.crossterm_read.specs.declared.read.reader.AtWake.TheVariants.{GoesOn}
 use Rattle.crossterm_read.specs.declared.read.reader.Once.{Once}
 use Rattle.crossterm_read.specs.declared.read.reader.Once.TheVariants as once
 use Rattle.crossterm_read.specs.Store.{ReaderState, Arrives}
@@ -31,16 +31,16 @@ BrokeWhere Tried P = Unit {0}
 BrokeWhere (Broke kind) P = P kind
 
 -- Some answers were drawn, and asking ended so.
-abbrev pub Asked : {S : Type 0} → (S → List SourceAnswer → S → Type 0) → AtWake → (Seen → Bool) → Patience → ReaderState S → ReaderState S → End → Type 0
-Asked drawn wake f patience s t end = (zs : List SourceAnswer) × drawn s.source zs t.source × Arrives s.store zs t.store × Asks wake f patience s.store.held zs end
-    × BrokeWhere end (RefusedOnlyWithoutRoom s.room zs)
+abbrev pub Asked : {S : Type 0} → (S → List SourceAnswer → S → Type 0) → (S → ℕ) → AtWake → (Seen → Bool) → Patience → ReaderState S → ReaderState S → End → Type 0
+Asked drawn failed wake f patience s t end = (zs : List SourceAnswer) × drawn s.source zs t.source × Arrives s.store zs t.store × Asks wake f patience s.store.held zs end
+    × BrokeWhere end (RefusedOnlyWithoutRoom s.room zs) × IsSteady failed s.source zs t.source
 
 -- What one question came to, where room for one event is made before it.
-abbrev pub DrawsOne : {S : Type 0} → (S → List SourceAnswer → S → Type 0) → AtWake → (Seen → Bool) → ReaderState S → ReaderState S → Once → Type 0
-DrawsOne drawn wake f s t once.Refused = t ≡ s
-DrawsOne drawn wake f s t (once.Broke e) = drawn s.source (Failed (error_kind e) ∷ []) t.source × Arrives s.store (Failed (error_kind e) ∷ []) t.store × (wake ≡ GoesOn → error_kind e ≢ Interrupted)
-DrawsOne drawn wake f s t (once.Came b) = (x : Seen) × drawn s.source (Gave x ∷ []) t.source × Arrives s.store (Gave x ∷ []) t.store × (b ≡ f x)
-DrawsOne drawn wake f s t once.Nothing = (z : SourceAnswer) × drawn s.source (z ∷ []) t.source × Arrives s.store (z ∷ []) t.store × Passes wake f z
+abbrev pub DrawsOne : {S : Type 0} → (S → List SourceAnswer → S → Type 0) → (S → ℕ) → AtWake → (Seen → Bool) → ReaderState S → ReaderState S → Once → Type 0
+DrawsOne drawn failed wake f s t once.Refused = t ≡ s
+DrawsOne drawn failed wake f s t (once.Broke e) = drawn s.source (Failed (error_kind e) ∷ []) t.source × Arrives s.store (Failed (error_kind e) ∷ []) t.store × (wake ≡ GoesOn → error_kind e ≢ Interrupted)
+DrawsOne drawn failed wake f s t (once.Came b) = (x : Seen) × drawn s.source (Gave x ∷ []) t.source × Arrives s.store (Gave x ∷ []) t.store × (b ≡ f x) × (failed t.source ≡ failed s.source)
+DrawsOne drawn failed wake f s t once.Nothing = (z : SourceAnswer) × drawn s.source (z ∷ []) t.source × Arrives s.store (z ∷ []) t.store × Passes wake f z × (IsNoFault z → failed t.source ≡ failed s.source)
 
 -- A fault is of such a kind.
 abbrev pub BreaksWhere : Once → (ErrorKind → Type 0) → Type 0
@@ -55,13 +55,6 @@ IsRefused (once.Broke e) = ⊥
 IsRefused once.Refused = Unit {0}
 IsRefused (once.Came b) = ⊥
 IsRefused once.Nothing = ⊥
-
--- The source answered no fault. A question that goes on at a wake-up tells it as nothing.
-abbrev pub MeetsNoFault : AtWake → Once → Type 0
-MeetsNoFault wake (once.Broke e) = ⊥
-MeetsNoFault wake once.Refused = Unit {0}
-MeetsNoFault wake (once.Came b) = Unit {0}
-MeetsNoFault wake once.Nothing = wake ≡ Stops
 
 -- The device was asked once at most, with what is left of the limit at this moment.
 abbrev pub AsksInTime : PollTimeout → ℕ → List (Option Duration) → List (Option Duration) → Type 0

@@ -1,19 +1,19 @@
 //! Holds events in the order of their arrival.
-ghost use Rattle.std.specs.Prelude.{◌≡◌, ◌≢◌, ◌⊎◌, ◌≤◌, ◌<◌, IfOk, IfErr, IfSome, OnOk, IsTrue, ℕ, List, [], Option, is_some, map, true};
+ghost use Rattle.std.specs.Prelude.{◌≡◌, ◌≢◌, ◌⊎◌, ◌≤◌, ◌<◌, IfOk, IfErr, IfSome, IsTrue, ℕ, List, [], Option, is_some, map, true};
 ghost use Rattle.std.specs.Bool.{OnTrue, OnFalse};
 ghost use Rattle.std.specs.IoError.{error_kind};
 ghost use Rattle.std.specs.Option.{option_map};
 ghost use Rattle.std.specs.declared.io.ErrorKind.TheVariants.{Interrupted, OutOfMemory};
+ghost use Rattle.crossterm_read.specs.declared.read.reader.AtWake.TheVariants.{GoesOn};
 ghost use Rattle.crossterm_types.specs.Seen.{Seen, seen};
-ghost use Rattle.crossterm_read.specs.Answers.{SourceAnswer, IsOwn};
+ghost use Rattle.crossterm_read.specs.Answers.{SourceAnswer, IsOwn, IsSteady};
 ghost use Rattle.crossterm_read.specs.Device.{AsksWith, AsksAtOnce};
 ghost use Rattle.crossterm_read.specs.inside.Numbers.{IsOrderly};
 ghost use Rattle.crossterm_read.specs.Replies.{Replied, poll_reply, shown, try_said};
 ghost use Rattle.crossterm_read.specs.inside.Replies.{try_reply};
 ghost use Rattle.crossterm_read.specs.Store.{ReaderState, capacity, kept};
 ghost use Rattle.crossterm_read.specs.Steps.{UpTo, PollStep, ReadStep, RefusedOnlyWithoutRoom, TakeReplies, first_admitted};
-ghost use Rattle.crossterm_read.specs.inside.Asking.{Asked, BreaksWhere, DrawsOne, IsRefused, MeetsNoFault, end_of};
-ghost use Rattle.crossterm_read.specs.declared.read.reader.AtWake.TheVariants.{Stops};
+ghost use Rattle.crossterm_read.specs.inside.Asking.{Asked, BreaksWhere, DrawsOne, IsRefused, end_of};
 
 use crate::read::Held;
 use crate::read::backlog::Backlog;
@@ -169,12 +169,11 @@ impl<S: EventSource<A>, A: Allocator + Clone> InternalEventReader<S, A> {
         at_wake: AtWake,
         limit: Option<Duration>,
     ) -> Once
-        ensures one { DrawsOne S.drawn at_wake (F.admits filter.now) self.old self.new result }
+        ensures one { DrawsOne S.drawn S.failed at_wake (F.admits filter.now) self.old self.new result }
         ensures asked { AsksWith limit (S.asked self.old.source) (S.asked self.new.source) }
         ensures room { capacity self.old ≤ capacity self.new }
         ensures full { IsRefused result → self.old.room ≡ 0 }
         ensures rise { S.failed self.old.source ≤ S.failed self.new.source }
-        ensures steady { MeetsNoFault at_wake result → S.failed self.new.source ≡ S.failed self.old.source }
         ensures err { BreaksWhere result (λ kind. IsOwn kind ⊎ (S.failed self.old.source < S.failed self.new.source)) }
     {
         match self.held.reserve() {
@@ -204,12 +203,12 @@ impl<S: EventSource<A>, A: Allocator + Clone> InternalEventReader<S, A> {
 
     // Asks the source until an admitted event is held.
     fn ask<F: Filter>(&mut self, tries: u32, filter: &F, at_wake: AtWake) -> io::Result<bool>
-        ensures asked { Asked S.drawn at_wake (F.admits filter.now) (UpTo tries) self.old self.new (end_of result) }
+        ensures asked { Asked S.drawn S.failed at_wake (F.admits filter.now) (UpTo tries) self.old self.new (end_of result) }
         ensures at_once { AsksAtOnce (S.asked self.old.source) (S.asked self.new.source) }
         ensures room { capacity self.old ≤ capacity self.new }
         ensures rise { S.failed self.old.source ≤ S.failed self.new.source }
-        ensures steady { at_wake ≡ Stops → OnOk result (S.failed self.new.source ≡ S.failed self.old.source) }
         ensures err { IfErr result (λ e. IsOwn (error_kind e) ⊎ (S.failed self.old.source < S.failed self.new.source)) }
+        ensures awake { at_wake ≡ GoesOn → IfErr result (λ e. error_kind e ≢ Interrupted) }
     {
         if self.holds(filter) {
             return Ok(true);
@@ -250,6 +249,8 @@ impl<S: EventSource<A>, A: Allocator + Clone> InternalEventReader<S, A> {
         ensures rise { S.failed self.old.source ≤ S.failed self.new.source }
         ensures steady { IfOk result (λ ready. IsTrue ready → S.failed self.new.source ≡ S.failed self.old.source) }
         ensures err { IfErr result (λ e. IsOwn (error_kind e) ⊎ (S.failed self.old.source < S.failed self.new.source)) }
+        // A wake-up is no error.
+        ensures awake { IfErr result (λ e. error_kind e ≢ Interrupted) }
     {
         match self.ask(tries, filter, AtWake::Stops) {
             Ok(ready) => Ok(ready),
@@ -274,15 +275,19 @@ impl<S: EventSource<A>, A: Allocator + Clone> InternalEventReader<S, A> {
         tries: u32,
         filter: &F,
     ) -> io::Result<Option<InternalEvent<A>>>
+        // Unless a fault, as a wake-up, is among the answers, no failure was new.
         ensures step { (zs : List SourceAnswer) × (r : Replied) × S.drawn self.old.source zs self.new.source
             × ReadStep (UpTo tries) (F.admits filter.now) zs self.old.store self.new.store r × (try_said result ≡ shown r)
-            × IfErr result (λ e. RefusedOnlyWithoutRoom self.old.room zs (error_kind e)) }
+            × IfErr result (λ e. RefusedOnlyWithoutRoom self.old.room zs (error_kind e))
+            × IsSteady S.failed self.old.source zs self.new.source }
         // The source is asked with limit zero alone, and so at once.
         ensures at_once { AsksAtOnce (S.asked self.old.source) (S.asked self.new.source) }
         // No room is lost, and failures never fall.
         ensures room { capacity self.old ≤ capacity self.new }
         ensures rise { S.failed self.old.source ≤ S.failed self.new.source }
         ensures err { IfErr result (λ e. IsOwn (error_kind e) ⊎ (S.failed self.old.source < S.failed self.new.source)) }
+        // A wake-up is no error.
+        ensures awake { IfErr result (λ e. error_kind e ≢ Interrupted) }
     {
         match self.read_within_numbered(tries, filter) {
             Ok(taken) => Ok(unnumbered(taken)),
@@ -298,12 +303,14 @@ impl<S: EventSource<A>, A: Allocator + Clone> InternalEventReader<S, A> {
     ) -> io::Result<Option<(InternalEvent<A>, u64)>>
         ensures step { (zs : List SourceAnswer) × S.drawn self.old.source zs self.new.source
             × ReadStep (UpTo tries) (F.admits filter.now) zs self.old.store self.new.store (try_reply result)
-            × IfErr result (λ e. RefusedOnlyWithoutRoom self.old.room zs (error_kind e)) }
+            × IfErr result (λ e. RefusedOnlyWithoutRoom self.old.room zs (error_kind e))
+            × IsSteady S.failed self.old.source zs self.new.source }
         ensures at_once { AsksAtOnce (S.asked self.old.source) (S.asked self.new.source) }
         ensures admitted { IfOk result (λ taken. IfSome taken (λ x. F.admits filter.now (seen x.0) ≡ true)) }
         ensures room { capacity self.old ≤ capacity self.new }
         ensures rise { S.failed self.old.source ≤ S.failed self.new.source }
         ensures err { IfErr result (λ e. IsOwn (error_kind e) ⊎ (S.failed self.old.source < S.failed self.new.source)) }
+        ensures awake { IfErr result (λ e. error_kind e ≢ Interrupted) }
     {
         match self.ask(tries, filter, AtWake::GoesOn) {
             Ok(ready) => {

@@ -1,17 +1,18 @@
 //! Polls with a limit of time, and reads without one.
-ghost use Rattle.std.specs.Prelude.{◌≡◌, ◌⊎◌, ◌-◌, ◌≤◌, ◌<◌, IfOk, IfErr, OnOk, IsTrue, ℕ, List, None, true};
+ghost use Rattle.std.specs.Prelude.{◌≡◌, ◌≢◌, ◌⊎◌, ◌-◌, ◌≤◌, ◌<◌, IfOk, IfErr, IsTrue, ℕ, List, None, true};
 ghost use Rattle.std.specs.Duration.{as_nanos};
 ghost use Rattle.std.specs.IoError.{error_kind};
+ghost use Rattle.std.specs.declared.io.ErrorKind.TheVariants.{Interrupted};
 ghost use Rattle.crossterm_types.specs.Seen.{seen};
 ghost use Rattle.crossterm_types.specs.Timing.{IsFirst, KeepsFirst};
-ghost use Rattle.crossterm_read.specs.Answers.{SourceAnswer, IsOwn};
+ghost use Rattle.crossterm_read.specs.Answers.{SourceAnswer, IsOwn, IsSteady};
 ghost use Rattle.crossterm_read.specs.Replies.{Replied, poll_reply, read_said, shown};
 ghost use Rattle.crossterm_read.specs.inside.Replies.{read_reply};
 ghost use Rattle.crossterm_read.specs.Store.{capacity};
 ghost use Rattle.crossterm_read.specs.Steps.{Within, PollStep, ReadStep, RefusedOnlyWithoutRoom};
-ghost use Rattle.crossterm_read.specs.inside.Asking.{BreaksWhere, DrawsOne, IsRefused, MeetsNoFault, end_of, Asked, AsksInTime};
+ghost use Rattle.crossterm_read.specs.inside.Asking.{BreaksWhere, DrawsOne, IsRefused, end_of, Asked, AsksInTime};
+ghost use Rattle.crossterm_read.specs.declared.read.reader.AtWake.TheVariants.{GoesOn};
 ghost use Rattle.crossterm_read.specs.Waiting.{AsksForever, AsksLeft, AsksWithin};
-ghost use Rattle.crossterm_read.specs.declared.read.reader.AtWake.TheVariants.{Stops};
 
 use crate::read::InternalEventReader;
 use crate::read::reader::{AtWake, Once, is_woken};
@@ -52,11 +53,10 @@ impl<S: EventSource<A>, A: Allocator + Clone> InternalEventReader<S, A> {
         ensures later { C.told clock.old ≤ C.told clock.new }
         ensures first { KeepsFirst C.began clock.old clock.new }
         ensures asked { AsksInTime timeout.now (C.told clock.new) (S.asked self.old.source) (S.asked self.new.source) }
-        ensures one { DrawsOne S.drawn at_wake (F.admits filter.now) self.old self.new result }
+        ensures one { DrawsOne S.drawn S.failed at_wake (F.admits filter.now) self.old self.new result }
         ensures room { capacity self.old ≤ capacity self.new }
         ensures full { IsRefused result → self.old.room ≡ 0 }
         ensures rise { S.failed self.old.source ≤ S.failed self.new.source }
-        ensures steady { MeetsNoFault at_wake result → S.failed self.new.source ≡ S.failed self.old.source }
         ensures err { BreaksWhere result (λ kind. IsOwn kind ⊎ (S.failed self.old.source < S.failed self.new.source)) }
     {
         let left = timeout.leftover(clock.now());
@@ -75,12 +75,12 @@ impl<S: EventSource<A>, A: Allocator + Clone> InternalEventReader<S, A> {
         requires { as_nanos timeout.start ≤ C.told clock.old }
         ensures later { C.told clock.old ≤ C.told clock.new }
         ensures first { KeepsFirst C.began clock.old clock.new }
-        ensures asked { Asked S.drawn at_wake (F.admits filter.now) (Within timeout.limit (C.told clock.new - as_nanos timeout.start)) self.old self.new (end_of result) }
+        ensures asked { Asked S.drawn S.failed at_wake (F.admits filter.now) (Within timeout.limit (C.told clock.new - as_nanos timeout.start)) self.old self.new (end_of result) }
         ensures limits { AsksLeft timeout (C.told clock.new) (S.asked self.old.source) (S.asked self.new.source) }
         ensures room { capacity self.old ≤ capacity self.new }
         ensures rise { S.failed self.old.source ≤ S.failed self.new.source }
-        ensures steady { at_wake ≡ Stops → OnOk result (S.failed self.new.source ≡ S.failed self.old.source) }
         ensures err { IfErr result (λ e. IsOwn (error_kind e) ⊎ (S.failed self.old.source < S.failed self.new.source)) }
+        ensures awake { at_wake ≡ GoesOn → IfErr result (λ e. error_kind e ≢ Interrupted) }
     {
         if self.holds(filter) {
             return Ok(true);
@@ -141,6 +141,8 @@ impl<S: EventSource<A>, A: Allocator + Clone> InternalEventReader<S, A> {
         ensures rise { S.failed self.old.source ≤ S.failed self.new.source }
         ensures steady { IfOk result (λ ready. IsTrue ready → S.failed self.new.source ≡ S.failed self.old.source) }
         ensures err { IfErr result (λ e. IsOwn (error_kind e) ⊎ (S.failed self.old.source < S.failed self.new.source)) }
+        // A wake-up is no error.
+        ensures awake { IfErr result (λ e. error_kind e ≢ Interrupted) }
     {
         let timeout = PollTimeout::new(limit, clock.now());
         self.poll_until(rt, timeout, clock, filter)
@@ -165,6 +167,7 @@ impl<S: EventSource<A>, A: Allocator + Clone> InternalEventReader<S, A> {
         ensures rise { S.failed self.old.source ≤ S.failed self.new.source }
         ensures steady { IfOk result (λ ready. IsTrue ready → S.failed self.new.source ≡ S.failed self.old.source) }
         ensures err { IfErr result (λ e. IsOwn (error_kind e) ⊎ (S.failed self.old.source < S.failed self.new.source)) }
+        ensures awake { IfErr result (λ e. error_kind e ≢ Interrupted) }
     {
         match self.ask_in_time(rt, timeout, clock, filter, AtWake::Stops) {
             Ok(ready) => Ok(ready),
@@ -185,15 +188,19 @@ impl<S: EventSource<A>, A: Allocator + Clone> InternalEventReader<S, A> {
     ///
     /// Those of `poll`.
     pub fn read<F: Filter, R: Wait>(&mut self, rt: &R, filter: &F) -> io::Result<InternalEvent<A>>
+        // Unless a fault, as a wake-up, is among the answers, no failure was new.
         ensures step { (past : ℕ) × (zs : List SourceAnswer) × (r : Replied) × S.drawn self.old.source zs self.new.source
             × ReadStep (Within None past) (F.admits filter.now) zs self.old.store self.new.store r × (read_said result ≡ shown r)
-            × IfErr result (λ e. RefusedOnlyWithoutRoom self.old.room zs (error_kind e)) }
+            × IfErr result (λ e. RefusedOnlyWithoutRoom self.old.room zs (error_kind e))
+            × IsSteady S.failed self.old.source zs self.new.source }
         // The device is asked without a limit.
         ensures asked { AsksForever (S.asked self.old.source) (S.asked self.new.source) }
         // No room is lost, and failures never fall.
         ensures room { capacity self.old ≤ capacity self.new }
         ensures rise { S.failed self.old.source ≤ S.failed self.new.source }
         ensures err { IfErr result (λ e. IsOwn (error_kind e) ⊎ (S.failed self.old.source < S.failed self.new.source)) }
+        // A wake-up is no error.
+        ensures awake { IfErr result (λ e. error_kind e ≢ Interrupted) }
     {
         match self.read_numbered(rt, filter) {
             Ok((event, _number)) => Ok(event),
@@ -209,12 +216,14 @@ impl<S: EventSource<A>, A: Allocator + Clone> InternalEventReader<S, A> {
     ) -> io::Result<(InternalEvent<A>, u64)>
         ensures step { (past : ℕ) × (zs : List SourceAnswer) × S.drawn self.old.source zs self.new.source
             × ReadStep (Within None past) (F.admits filter.now) zs self.old.store self.new.store (read_reply result)
-            × IfErr result (λ e. RefusedOnlyWithoutRoom self.old.room zs (error_kind e)) }
+            × IfErr result (λ e. RefusedOnlyWithoutRoom self.old.room zs (error_kind e))
+            × IsSteady S.failed self.old.source zs self.new.source }
         ensures asked { AsksForever (S.asked self.old.source) (S.asked self.new.source) }
         ensures admitted { IfOk result (λ x. F.admits filter.now (seen x.0) ≡ true) }
         ensures room { capacity self.old ≤ capacity self.new }
         ensures rise { S.failed self.old.source ≤ S.failed self.new.source }
         ensures err { IfErr result (λ e. IsOwn (error_kind e) ⊎ (S.failed self.old.source < S.failed self.new.source)) }
+        ensures awake { IfErr result (λ e. error_kind e ≢ Interrupted) }
     {
         let timeout = PollTimeout::new(None, Duration::ZERO);
         match self.ask_in_time(rt, timeout, &mut Still, filter, AtWake::GoesOn) {

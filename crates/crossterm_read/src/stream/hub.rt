@@ -1,20 +1,32 @@
 //! What a stream and its worker share.
-ghost use Rattle.std.specs.Prelude.{◌≡◌, IfNone};
+ghost use Rattle.std.specs.Prelude.{◌≡◌, ◌≢◌, IfNone, IfSome};
+ghost use Rattle.std.specs.IoError.{error_kind};
+ghost use Rattle.std.specs.declared.io.ErrorKind.TheVariants.{Interrupted};
 ghost use Rattle.futures.specs.Task.{Covers, Keeps};
 
 use futures::task::{Context, Poll, Source, Waker};
 use std::io;
 use std::sync::{Condvar, Mutex, Wait};
+use std::time::Duration;
+
+// A fault at which a task ended. It is no wake-up.
+#[derive(Drop)]
+struct Fault {
+    error: io::Error,
+    ghost awake: { error_kind error ≢ Interrupted },
+}
 
 // What is under the lock.
 #[derive(Drop)]
 struct State {
     // The newest waker that was registered.
     newest: Option<Waker>,
-    // A fault at which a task ended. No task runs until it was taken.
-    fault: Option<io::Error>,
+    // No task runs until it was taken.
+    fault: Option<Fault>,
     has_task: bool,
     is_over: bool,
+    // Whether the worker has ended.
+    is_done: bool,
 }
 
 /// The place where a stream gives its worker tasks, and where the worker wakes who waits for the stream.
@@ -22,7 +34,10 @@ struct State {
 pub struct Hub {
     pub(crate) source: Source,
     state: Mutex<State>,
+    // A task was given, or the stream is over: the worker waits for it.
     changed: Condvar,
+    // The stream is over, or the worker has ended: who waits for the worker's end waits for it.
+    ended: Condvar,
 }
 
 impl Hub {
@@ -35,8 +50,10 @@ impl Hub {
                 fault: None,
                 has_task: false,
                 is_over: false,
+                is_done: false,
             }),
             changed: Condvar::new(),
+            ended: Condvar::new(),
         }
     }
 
@@ -44,11 +61,12 @@ impl Hub {
     pub(crate) fn register<R: Wait>(&self, rt: &R, cx: &mut Context<'_>) -> Option<io::Error>
         ensures registered { IfNone result (Covers cx.new (λ s. s ≡ self.now.source.id)) }
         ensures kept { Keeps cx.old cx.new }
+        ensures awake { IfSome result (λ e. error_kind e ≢ Interrupted) }
     {
         let mut guard = self.state.lock(rt);
         let state = &mut *guard;
-        if let Some(fault) = state.fault.take() {
-            return Some(fault);
+        if let Some(Fault { error }) = state.fault.take() {
+            return Some(error);
         }
         let _pending: Poll<()> = cx.register(&self.source, &mut state.newest);
         None
@@ -73,10 +91,15 @@ impl Hub {
     }
 
     // The task is over: wakes the newest waker. A fault is kept for the next poll of the stream.
-    pub(crate) fn end_task<R: Wait>(&self, rt: &R, fault: Option<io::Error>) {
+    pub(crate) fn end_task<R: Wait>(&self, rt: &R, fault: Option<io::Error>)
+        requires { IfSome fault (λ e. error_kind e ≢ Interrupted) }
+    {
         let mut state = self.state.lock(rt);
         state.has_task = false;
-        state.fault = fault;
+        state.fault = match fault {
+            Some(error) => Some(Fault { error }),
+            None => None,
+        };
         wake(state.newest.take());
     }
 
@@ -86,6 +109,28 @@ impl Hub {
         state.is_over = true;
         state.newest = None;
         self.changed.notify_one();
+        self.ended.notify_all();
+    }
+
+    // The worker has ended.
+    pub(crate) fn end_worker<R: Wait>(&self, rt: &R) {
+        let mut state = self.state.lock(rt);
+        state.is_done = true;
+        self.ended.notify_all();
+    }
+
+    // Whether the stream is over and its worker has ended. It waits for the stream's end, and then for the worker's, so long at most.
+    pub(crate) fn await_worker<R: Wait>(&self, rt: &R, limit: Duration) -> bool {
+        let state = self
+            .ended
+            .wait_while(rt, self.state.lock(rt), |s| !s.is_over);
+        if state.is_done {
+            return true;
+        }
+        let seen = self.ended.notifications();
+        drop(state);
+        self.ended.sleep(rt, seen, limit);
+        self.state.lock(rt).is_done
     }
 }
 

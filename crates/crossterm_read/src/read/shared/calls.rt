@@ -1,5 +1,7 @@
 //! The calls of a shared reader: polls and reads.
-ghost use Rattle.std.specs.Prelude.{◌≡◌, ◌≤◌, true, Some, IfOk};
+ghost use Rattle.std.specs.Prelude.{◌≡◌, ◌≢◌, ◌≤◌, true, Some, IfOk, IfErr, Err};
+ghost use Rattle.std.specs.IoError.{error_kind};
+ghost use Rattle.std.specs.declared.io.ErrorKind.TheVariants.{Interrupted};
 ghost use Rattle.crossterm_types.specs.Admitting.{admitted, is_event};
 ghost use Rattle.crossterm_types.specs.Seen.{seen};
 ghost use Rattle.crossterm_types.specs.Timing.{IsFirst, KeepsFirst};
@@ -36,7 +38,8 @@ pub(crate) fn last_after<T>(last: Option<u64>, taken: &io::Result<(T, u64)>) -> 
 fn unnumbered<A: Allocator>(
     taken: io::Result<(InternalEvent<A>, u64)>,
 ) -> io::Result<InternalEvent<A>>
-    ensures { read_said result ≡ shown (read_reply taken) }
+    ensures reply { read_said result ≡ shown (read_reply taken) }
+    ensures err { IfErr result (λ e. taken ≡ Err e) }
 {
     match taken {
         Ok((event, _number)) => Ok(event),
@@ -73,6 +76,8 @@ impl<S: EventSource<A>, A: Allocator + Clone> EventReader<S, A> {
         ensures pass { IsPassOf self.now pass.new }
         ensures call { Reads S.drawn S.asked filter (knows pass.old) (knows pass.new) (read_said result) }
         ensures admitted { IfOk result (λ e. admitted filter (seen e) ≡ true) }
+        // A wake-up is no error.
+        ensures awake { IfErr result (λ e. error_kind e ≢ Interrupted) }
     {
         let mut reader = self.room.take(rt, &mut pass.seat);
         let taken = reader.read_numbered(rt, &filter);
@@ -102,6 +107,8 @@ impl<S: EventSource<A>, A: Allocator + Clone> EventReader<S, A> {
         ensures call { Polls S.drawn S.asked filter limit (IsFirst C.told C.began clock.old clock.new) (C.told clock.new) (knows pass.old) (knows pass.new) result }
         ensures later { C.told clock.old ≤ C.told clock.new }
         ensures first { KeepsFirst C.began clock.old clock.new }
+        // A wake-up is no error.
+        ensures awake { IfErr result (λ e. error_kind e ≢ Interrupted) }
     {
         let start = clock.now();
         let timeout = PollTimeout::new(limit, start);
@@ -127,6 +134,7 @@ impl<S: EventSource<A>, A: Allocator + Clone> EventReader<S, A> {
         requires { IsPassOf self.now pass.old }
         ensures pass { IsPassOf self.now pass.new }
         ensures call { Reads S.drawn S.asked filters.Event (knows pass.old) (knows pass.new) (event_said result) }
+        ensures awake { IfErr result (λ e. error_kind e ≢ Interrupted) }
     {
         match self.read_by(rt, pass, AnyFilter::Event) {
             Ok(event) => Ok(users(event)),
@@ -151,6 +159,7 @@ impl<S: EventSource<A>, A: Allocator + Clone> EventReader<S, A> {
         ensures call { Polls S.drawn S.asked filters.Event (Some limit) (IsFirst C.told C.began clock.old clock.new) (C.told clock.new) (knows pass.old) (knows pass.new) result }
         ensures later { C.told clock.old ≤ C.told clock.new }
         ensures first { KeepsFirst C.began clock.old clock.new }
+        ensures awake { IfErr result (λ e. error_kind e ≢ Interrupted) }
     {
         self.poll_by(rt, pass, Some(limit), clock, AnyFilter::Event)
     }

@@ -1,5 +1,7 @@
 //! A read of a shared reader that waits for nobody.
-ghost use Rattle.std.specs.Prelude.{◌≡◌, true, IfOk, IfSome};
+ghost use Rattle.std.specs.Prelude.{◌≡◌, ◌≢◌, true, IfOk, IfErr, IfSome, Err};
+ghost use Rattle.std.specs.IoError.{error_kind};
+ghost use Rattle.std.specs.declared.io.ErrorKind.TheVariants.{Interrupted};
 ghost use Rattle.crossterm_types.specs.Admitting.{is_event};
 ghost use Rattle.crossterm_types.specs.Seen.{seen};
 ghost use Rattle.crossterm_types.specs.declared.event.filter.AnyFilter.TheVariants as filters;
@@ -35,7 +37,8 @@ fn users_tried<A: Allocator>(
     tried: io::Result<Option<(InternalEvent<A>, u64)>>,
 ) -> io::Result<Option<Event<A>>>
     requires { IfOk tried (λ taken. IfSome taken (λ x. is_event (seen x.0) ≡ true)) }
-    ensures { event_tried result ≡ shown (try_reply tried) }
+    ensures reply { event_tried result ≡ shown (try_reply tried) }
+    ensures err { IfErr result (λ e. tried ≡ Err e) }
 {
     match tried {
         Ok(Some((event, _number))) => Ok(Some(users(event))),
@@ -56,6 +59,7 @@ impl<S: EventSource<A>, A: Allocator + Clone> EventReader<S, A> {
         requires { IsPassOf self.now pass.old }
         ensures pass { IsPassOf self.now pass.new }
         ensures call { Tries S.drawn S.asked filters.Event (knows pass.old) (knows pass.new) (event_tried result) }
+        ensures awake { IfErr result (λ e. error_kind e ≢ Interrupted) }
     {
         let Some(mut reader) = self.room.try_take(rt, &mut pass.seat) else {
             return Ok(None);

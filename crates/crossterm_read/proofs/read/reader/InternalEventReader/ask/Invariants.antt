@@ -1,15 +1,13 @@
 use Rattle.std.proofs.Common.{◌≡◌, ◌≤◌}
 use Rattle.crossterm_read.proofs.Asking.{Asking}
 use Rattle.crossterm_read.specs.Device.{AsksAtOnce}
-use Rattle.crossterm_read.specs.declared.read.reader.AtWake.TheVariants.{Stops}
 use Rattle.crossterm_read.specs.Store.{capacity}
 use Rattle.crossterm_read.proofs.read.reader.InternalEventReader.ask.Given as goal
 
 abbrev pub invariant-loop-i : goal.invariant-loop-i
 invariant-loop-i g l = record {
-  so_far : Asking g.S.EventSource.drawn g.met.S.EventSource.drawn_on l.at_wake (g.F.Filter.admits l.filter) l.fn.self l.self l._i;
+  so_far : Asking g.S.EventSource.drawn g.S.EventSource.failed g.met.S.EventSource.drawn_on l.at_wake (g.F.Filter.admits l.filter) l.fn.self l.self l._i;
   at_once : AsksAtOnce (g.S.EventSource.asked l.fn.self.source) (g.S.EventSource.asked l.self.source);
   room : capacity l.fn.self ≤ capacity l.self;
   rise : g.S.EventSource.failed l.fn.self.source ≤ g.S.EventSource.failed l.self.source;
-  steady : l.at_wake ≡ Stops → g.S.EventSource.failed l.self.source ≡ g.S.EventSource.failed l.fn.self.source;
 }

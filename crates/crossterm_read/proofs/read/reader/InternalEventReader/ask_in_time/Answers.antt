@@ -11,7 +11,7 @@ use Rattle.crossterm_read.proofs.read.reader.InternalEventReader.ask_in_time.Goa
 
 pub returns-then-holds-clause-asked : goal.returns-then-holds-clause-asked
 returns-then-holds-clause-asked g c =
-    asked_held g.S.EventSource.drawn g.met.S.EventSource.drawn_on _ _ g.met.S.EventSource.none_drawn c.args.self.now (Within c.args.timeout.limit (g.C.Clock.told c.args.clock.now - as_nanos c.args.timeout.start)) (sym c.holds.ensures ∙ c.if-holds.true)
+    asked_held g.S.EventSource.drawn g.S.EventSource.failed g.met.S.EventSource.drawn_on _ _ g.met.S.EventSource.none_drawn c.args.self.now (Within c.args.timeout.limit (g.C.Clock.told c.args.clock.now - as_nanos c.args.timeout.start)) (sym c.holds.ensures ∙ c.if-holds.true)
 
 pub returns-then-holds-clause-limits : goal.returns-then-holds-clause-limits
 returns-then-holds-clause-limits g c = left_none _ _ _
@@ -20,7 +20,7 @@ pub loop-init : goal.loop-init
 loop-init g c = record {
   so_far = (
     0,
-    asking_none g.S.EventSource.drawn g.met.S.EventSource.drawn_on _ _ g.met.S.EventSource.none_drawn c.args.self.now c.args.self.now refl
+    asking_none g.S.EventSource.drawn g.S.EventSource.failed g.met.S.EventSource.drawn_on _ _ g.met.S.EventSource.none_drawn c.args.self.now c.args.self.now refl
         (none_of _ (sym c.holds.ensures ∙ c.if-holds.false)),
     λ z. refl,
   );
@@ -29,41 +29,39 @@ loop-init g c = record {
   limits = asks_none _ _;
   room = omega arith;
   rise = omega arith;
-  steady = λ p. refl;
   can = tt;
   ends = tt;
 }
 
 pub returns-then-admitted-clause-asked : goal.returns-then-admitted-clause-asked
 returns-then-admitted-clause-asked g c =
-    let d = c.in-Came.ensures.one in
     let n = c.loop.invariant.so_far.0 in
-    asked_came g.S.EventSource.drawn g.met.S.EventSource.drawn_on _ _ _ c.loop.self c.draw_in_time.new.self n (Within c.args.timeout.limit (g.C.Clock.told c.draw_in_time.new.clock - as_nanos c.args.timeout.start)) d.0 c.loop.invariant.so_far.1 (λ z. let y = c.loop.invariant.so_far.2 z in omega arith) d.1 d.2
-    (sym d.3 ∙ c.if-admitted.true)
+    asked_came g.S.EventSource.drawn g.S.EventSource.failed g.met.S.EventSource.drawn_on _ _ _ c.loop.self c.draw_in_time.new.self n (Within c.args.timeout.limit (g.C.Clock.told c.draw_in_time.new.clock - as_nanos c.args.timeout.start)) _ c.if-admitted.true c.loop.invariant.so_far.1
+    (λ z. let y = c.loop.invariant.so_far.2 z in omega arith) c.in-Came.ensures.one
 
 pub returns-in-Broke-clause-asked : goal.returns-in-Broke-clause-asked
 returns-in-Broke-clause-asked g c =
     let d = c.in-Broke.ensures.one in
     let n = c.loop.invariant.so_far.0 in
-    asked_broke g.S.EventSource.drawn g.met.S.EventSource.drawn_on _ _ _ c.loop.self c.draw_in_time.new.self n (Within c.args.timeout.limit (g.C.Clock.told c.draw_in_time.new.clock - as_nanos c.args.timeout.start)) _ c.loop.invariant.so_far.1 (λ z. let y = c.loop.invariant.so_far.2 z in omega arith) d.0 d.1 d.2
+    asked_broke g.S.EventSource.drawn g.S.EventSource.failed g.met.S.EventSource.drawn_on _ _ _ c.loop.self c.draw_in_time.new.self n (Within c.args.timeout.limit (g.C.Clock.told c.draw_in_time.new.clock - as_nanos c.args.timeout.start)) _ c.loop.invariant.so_far.1 (λ z. let y = c.loop.invariant.so_far.2 z in omega arith) d.0 d.1 d.2
 
 pub returns-in-Refused-clause-asked : goal.returns-in-Refused-clause-asked
 returns-in-Refused-clause-asked g c =
     let n = c.loop.invariant.so_far.0 in
-    let so_far = subst (λ (t : ReaderState g.row.S.Denot). Asking g.S.EventSource.drawn g.met.S.EventSource.drawn_on c.args.at_wake (g.F.Filter.admits c.args.filter.now) c.args.self.now t n)
+    let so_far = subst (λ (t : ReaderState g.row.S.Denot). Asking g.S.EventSource.drawn g.S.EventSource.failed g.met.S.EventSource.drawn_on c.args.at_wake (g.F.Filter.admits c.args.filter.now) c.args.self.now t n)
     (sym c.in-Refused.ensures.one) c.loop.invariant.so_far.1 in
     let room = ap (λ (t : ReaderState g.row.S.Denot). t.room) c.in-Refused.ensures.one ∙ c.in-Refused.ensures.full tt in
-    asked_refused g.S.EventSource.drawn g.met.S.EventSource.drawn_on _ _ c.args.self.now c.draw_in_time.new.self n (Within c.args.timeout.limit (g.C.Clock.told c.draw_in_time.new.clock - as_nanos c.args.timeout.start)) _ so_far (λ z. let y = c.loop.invariant.so_far.2 z in omega arith) c.from.ensures
+    asked_refused g.S.EventSource.drawn g.S.EventSource.failed g.met.S.EventSource.drawn_on _ _ c.args.self.now c.draw_in_time.new.self n (Within c.args.timeout.limit (g.C.Clock.told c.draw_in_time.new.clock - as_nanos c.args.timeout.start)) _ so_far (λ z. let y = c.loop.invariant.so_far.2 z in omega arith) c.from.ensures
     (omega (arith, c.loop.invariant.room, c.in-Refused.ensures.room)) room
 
 pub returns-then-elapsed-clause-asked : goal.returns-then-elapsed-clause-asked
 returns-then-elapsed-clause-asked g c =
     let n = c.loop.invariant.so_far.0 in
-    let so_far : Asking g.S.EventSource.drawn g.met.S.EventSource.drawn_on c.args.at_wake (g.F.Filter.admits c.args.filter.now) c.args.self.now c.draw_in_time.new.self (n + 1) = elim c.match-draw_in_time.branch [
-      | in-Came+else-admitted w ↦ asking_came g.S.EventSource.drawn g.met.S.EventSource.drawn_on _ _ _ c.loop.self c.draw_in_time.new.self n _ w.if-admitted.false c.loop.invariant.so_far.1 w.in-Came.ensures.one
-      | in-Nothing w ↦ asking_nothing g.S.EventSource.drawn g.met.S.EventSource.drawn_on _ _ _ c.loop.self c.draw_in_time.new.self n c.loop.invariant.so_far.1 w.in-Nothing.ensures.one
+    let so_far : Asking g.S.EventSource.drawn g.S.EventSource.failed g.met.S.EventSource.drawn_on c.args.at_wake (g.F.Filter.admits c.args.filter.now) c.args.self.now c.draw_in_time.new.self (n + 1) = elim c.match-draw_in_time.branch [
+      | in-Came+else-admitted w ↦ asking_came g.S.EventSource.drawn g.S.EventSource.failed g.met.S.EventSource.drawn_on _ _ _ c.loop.self c.draw_in_time.new.self n _ w.if-admitted.false c.loop.invariant.so_far.1 w.in-Came.ensures.one
+      | in-Nothing w ↦ asking_nothing g.S.EventSource.drawn g.S.EventSource.failed g.met.S.EventSource.drawn_on _ _ _ c.loop.self c.draw_in_time.new.self n c.loop.invariant.so_far.1 w.in-Nothing.ensures.one
     ] in
-    asked_tried g.S.EventSource.drawn g.met.S.EventSource.drawn_on _ _ c.args.self.now c.draw_in_time.new.self (n + 1) (Within c.args.timeout.limit (g.C.Clock.told c.now.new.self - as_nanos c.args.timeout.start)) so_far record {
+    asked_tried g.S.EventSource.drawn g.S.EventSource.failed g.met.S.EventSource.drawn_on _ _ c.args.self.now c.draw_in_time.new.self (n + 1) (Within c.args.timeout.limit (g.C.Clock.told c.now.new.self - as_nanos c.args.timeout.start)) so_far record {
       begun = omega arith;
       once = λ z. let y = c.loop.invariant.so_far.2 z in omega arith;
       passed = subst (λ (n : ℕ). HasElapsed c.args.timeout n) c.now.ensures.told (c.if-elapsed.ensures.0 refl);
@@ -91,9 +89,9 @@ returns-then-elapsed-clause-first g c from start b = c.now.ensures.again _ _ (c.
 pub loop-preserved : goal.loop-preserved
 loop-preserved g c =
     let n = c.loop.invariant.so_far.0 in
-    let so_far : Asking g.S.EventSource.drawn g.met.S.EventSource.drawn_on c.args.at_wake (g.F.Filter.admits c.args.filter.now) c.args.self.now c.draw_in_time.new.self (n + 1) = elim c.match-draw_in_time.branch [
-      | in-Came+else-admitted w ↦ asking_came g.S.EventSource.drawn g.met.S.EventSource.drawn_on _ _ _ c.loop.self c.draw_in_time.new.self n _ w.if-admitted.false c.loop.invariant.so_far.1 w.in-Came.ensures.one
-      | in-Nothing w ↦ asking_nothing g.S.EventSource.drawn g.met.S.EventSource.drawn_on _ _ _ c.loop.self c.draw_in_time.new.self n c.loop.invariant.so_far.1 w.in-Nothing.ensures.one
+    let so_far : Asking g.S.EventSource.drawn g.S.EventSource.failed g.met.S.EventSource.drawn_on c.args.at_wake (g.F.Filter.admits c.args.filter.now) c.args.self.now c.draw_in_time.new.self (n + 1) = elim c.match-draw_in_time.branch [
+      | in-Came+else-admitted w ↦ asking_came g.S.EventSource.drawn g.S.EventSource.failed g.met.S.EventSource.drawn_on _ _ _ c.loop.self c.draw_in_time.new.self n _ w.if-admitted.false c.loop.invariant.so_far.1 w.in-Came.ensures.one
+      | in-Nothing w ↦ asking_nothing g.S.EventSource.drawn g.S.EventSource.failed g.met.S.EventSource.drawn_on _ _ _ c.loop.self c.draw_in_time.new.self n c.loop.invariant.so_far.1 w.in-Nothing.ensures.one
     ] in
     let lasting : HasElapsed c.args.timeout (as_nanos c.now.result) → ⊥ = λ h. true≢false (sym (c.if-elapsed.ensures.1 h)) in
     record {
@@ -104,10 +102,6 @@ loop-preserved g c =
           (λ h. lasting (subst (λ (n : ℕ). HasElapsed c.args.timeout n) (sym c.now.ensures.told) h)) c.loop.invariant.limits c.draw_in_time.ensures.asked;
       room = omega (arith, c.loop.invariant.room, c.draw_in_time.ensures.room);
       rise = omega (arith, c.loop.invariant.rise, c.draw_in_time.ensures.rise);
-      steady = λ p. elim c.match-draw_in_time.branch [
-        | in-Came+else-admitted w ↦ w.in-Came.ensures.steady tt ∙ c.loop.invariant.steady p
-        | in-Nothing w ↦ w.in-Nothing.ensures.steady p ∙ c.loop.invariant.steady p
-      ];
       can = tt;
       ends = tt;
     }

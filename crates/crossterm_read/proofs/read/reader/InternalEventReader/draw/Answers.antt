@@ -25,17 +25,17 @@ returns-in-Ok-Some-clause-one g c =
     let admitted = rw c.in-Ok-Some.field-0-is at c.eval-admitted.ensures in
     let pushed = rw c.in-Ok-Some.field-0-is at c.push_reserved.ensures.store in
     let arrives = subst (λ (s : EventStore). Arrives s (Gave (seen c.in-Ok-Some.event) ∷ []) c.push_reserved.new.self.store) c.reserve.ensures.store pushed in
-    draws_from g.S.EventSource.drawn g.met.S.EventSource.drawn_on c.args.at_wake (g.F.Filter.admits c.args.filter.now) _ c.args.self.now
+    draws_from g.S.EventSource.drawn g.S.EventSource.failed g.met.S.EventSource.drawn_on c.args.at_wake (g.F.Filter.admits c.args.filter.now) _ c.args.self.now
     (record { store = c.push_reserved.new.self.store; room = c.push_reserved.new.self.room; source = c.try_read.new.self })
-    (once.Came c.eval-admitted.result) c.self.view_is (seen c.in-Ok-Some.event, d.drawn, arrives, admitted)
+    (once.Came c.eval-admitted.result) c.self.view_is (seen c.in-Ok-Some.event, d.drawn, arrives, admitted, d.ok)
 
 pub returns-then-is_woken-clause-one : goal.returns-then-is_woken-clause-one
 returns-then-is_woken-clause-one g c =
     let e = same c.self.inside.held.store c.reserve.new.self.store c.reserve.ensures.store in
-    draws_from g.S.EventSource.drawn g.met.S.EventSource.drawn_on c.args.at_wake (g.F.Filter.admits c.args.filter.now) _ c.args.self.now
+    draws_from g.S.EventSource.drawn g.S.EventSource.failed g.met.S.EventSource.drawn_on c.args.at_wake (g.F.Filter.admits c.args.filter.now) _ c.args.self.now
     (record { store = c.reserve.new.self.store; room = c.reserve.new.self.room; source = c.try_read.new.self })
     once.Nothing c.self.view_is
-    (Failed (error_kind c.in-Err-try_read.error), c.in-Err-try_read.ensures.drawn, record { held = e.0; arrivals = e.1 }, (c.in-GoesOn.is, c.if-is_woken.ensures.yes))
+    (Failed (error_kind c.in-Err-try_read.error), c.in-Err-try_read.ensures.drawn, record { held = e.0; arrivals = e.1 }, (c.in-GoesOn.is, c.if-is_woken.ensures.yes), λ none. absurd none)
 
 pub returns-in-Err-clause-one : goal.returns-in-Err-clause-one
 returns-in-Err-clause-one g c =
@@ -46,9 +46,9 @@ pub returns-in-Ok-None-clause-one : goal.returns-in-Ok-None-clause-one
 returns-in-Ok-None-clause-one g c =
     let d = rw c.in-Ok-None.field-0-is at c.in-Ok-None.ensures in
     let e = same c.self.inside.held.store c.reserve.new.self.store c.reserve.ensures.store in
-    draws_from g.S.EventSource.drawn g.met.S.EventSource.drawn_on c.args.at_wake (g.F.Filter.admits c.args.filter.now) _ c.args.self.now
+    draws_from g.S.EventSource.drawn g.S.EventSource.failed g.met.S.EventSource.drawn_on c.args.at_wake (g.F.Filter.admits c.args.filter.now) _ c.args.self.now
     (record { store = c.reserve.new.self.store; room = c.reserve.new.self.room; source = c.try_read.new.self })
-    once.Nothing c.self.view_is (Nothing, d.drawn, record { held = e.0; arrivals = e.1 }, tt)
+    once.Nothing c.self.view_is (Nothing, d.drawn, record { held = e.0; arrivals = e.1 }, tt, λ none. d.ok)
 
 pub returns-after-at_wake-clause-one : goal.returns-after-at_wake-clause-one
 returns-after-at_wake-clause-one g c =
@@ -57,7 +57,7 @@ returns-after-at_wake-clause-one g c =
       | in-GoesOn+else-is_woken w ↦ w.if-is_woken.ensures.no
       | in-Stops w ↦ absurd (stops_not (sym w.in-Stops.is ∙ goes))
     ] in
-    draws_from g.S.EventSource.drawn g.met.S.EventSource.drawn_on c.args.at_wake (g.F.Filter.admits c.args.filter.now) _ c.args.self.now
+    draws_from g.S.EventSource.drawn g.S.EventSource.failed g.met.S.EventSource.drawn_on c.args.at_wake (g.F.Filter.admits c.args.filter.now) _ c.args.self.now
     (record { store = c.reserve.new.self.store; room = c.reserve.new.self.room; source = c.try_read.new.self })
     (once.Broke c.in-Err-try_read.error) c.self.view_is (c.in-Err-try_read.ensures.drawn, record { held = e.0; arrivals = e.1 }, other)
 

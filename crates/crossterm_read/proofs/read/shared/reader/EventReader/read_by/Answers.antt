@@ -27,9 +27,9 @@ invariant_of-pass g c = record {
 pub returns-clause-call : goal.returns-clause-call
 returns-clause-call g c = (
   read_reply c.read_numbered-taken.result,
-  c.unnumbered.ensures,
+  c.unnumbered.ensures.reply,
   extends g.S.EventSource.drawn _ (view c.args.pass.now.seat) (view c.take-reader.new.seat) (view c.put.new.seat) c.take-reader.result c.read_numbered-taken.new.self c.requires.1 c.take-reader.ensures.taken c.put.ensures.put,
 )
 
 pub returns-clause-admitted : goal.returns-clause-admitted
-returns-clause-admitted g c = read_kept (λ x. admitted c.args.filter x ≡ true) c.read_numbered-taken.result c.unnumbered.result c.unnumbered.ensures c.read_numbered-taken.ensures.admitted
+returns-clause-admitted g c = read_kept (λ x. admitted c.args.filter x ≡ true) c.read_numbered-taken.result c.unnumbered.result c.unnumbered.ensures.reply c.read_numbered-taken.ensures.admitted

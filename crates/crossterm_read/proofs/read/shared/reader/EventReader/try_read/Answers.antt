@@ -27,6 +27,6 @@ invariant_of-pass-2 g c = record {
 pub returns-clause-call : goal.returns-clause-call
 returns-clause-call g c = inl (
   try_reply c.read_within_numbered-tried.result,
-  c.users_tried.ensures,
+  c.users_tried.ensures.reply,
   extends g.S.EventSource.drawn _ (view c.args.pass.now.seat) (view c.try_take.new.seat) (view c.put.new.seat) c.in-Some.reader c.read_within_numbered-tried.new.self c.requires.1 c.in-Some.ensures.taken c.put.ensures.put,
 )
