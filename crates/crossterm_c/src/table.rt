@@ -172,7 +172,7 @@ pub(crate) fn run<L: Ledger>(
 {
     match state {
         State::Ground => give_text(state, bytes, events, given, steps),
-        State::Numbered(_, _) | State::Sgr(_) => state.put_numbers(bytes, steps),
+        State::Numbered(_, _) | State::Sgr(_) | State::Reply(_) => state.put_numbers(bytes, steps),
         _ => 0,
     }
 }

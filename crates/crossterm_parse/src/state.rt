@@ -161,6 +161,19 @@ fn read_few_reports(parameters: &mut Parameters, bytes: &[u8]) -> usize
     bytes.len()
 }
 
+/// Reads the bytes in front with which a reply goes on, and returns how many.
+fn read_replies(number: &mut Number, bytes: &[u8]) -> usize
+    ensures within { result ≤ length bytes.now }
+    ensures opens { Opens (State.Reply number.old) (State.Reply number.new) (take result bytes.now) }
+{
+    for (i, byte) in bytes.iter().enumerate() {
+        if !read_reply(number, *byte) {
+            return i;
+        }
+    }
+    bytes.len()
+}
+
 /// Reads the bytes in front with which a long numbered sequence goes on, and returns how many. Digits that change no number are skipped.
 #[inline(never)]
 fn read_more_numbers(parameters: &mut Parameters, opening: &mut Opening, bytes: &[u8]) -> usize
@@ -489,6 +502,7 @@ impl State {
         let count = match self {
             State::Numbered(parameters, opening) => read_numbers(parameters, opening, bytes),
             State::Sgr(parameters) => read_reports(parameters, bytes),
+            State::Reply(number) => read_replies(number, bytes),
             _ => 0,
         };
         steps.count(count as u64);

@@ -14,4 +14,3 @@ pub use call::{Call, Reply};
 pub use reader::InternalEventReader;
 pub use shared::{EventReader, Pass};
 pub use trace::{Trace, play};
-pub(crate) use waiting::Still;

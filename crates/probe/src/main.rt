@@ -8,9 +8,10 @@
 //! `probe bench` reads standard input to its end, and hands it to the parser in pieces of 1024 bytes. It prints the bytes and the events by
 //! kind. `probe bench frame` writes the commands of one frame into memory, and prints how many bytes and commands they are. With `--time`
 //! each does so again and again for about a second, and prints the least time. `probe bench make NAME BYTES` writes an input of a kind:
-//! `letters`, `utf8`, `keys`, `mouse`, `paste` or `hostile`. `probe bench held REPLIES` prints the least time in which a key comes and is
+//! `letters`, `utf8`, `keys`, `mouse`, `replies`, `paste` or `hostile`. `probe bench held REPLIES` prints the least time in which a key comes and is
 //! taken while so many replies are held. `probe bench recorded` prints the least time of a key with a recorder and without one.
-//! `probe bench keys BINDINGS` prints the least time that a key takes which is fed to a matcher of so many bound lists.
+//! `probe bench keys BINDINGS` prints the least time that a key takes which is fed to a matcher of so many bound lists. `probe bench take WAY
+//! KEYS` takes so many keys that come alone by `read`, by `poll` and a take, by a read of a `shared` reader, or by a `stream`.
 //!
 //! Its code is built on `crossterm` and `keymap`, by their public calls.
 #![tactic(auto)]
@@ -76,7 +77,7 @@ fn main(rt: HostRuntime) -> ExitCode {
         Ok(Task::Say) => run_say(alloc, &mut reader, &mut writer),
         Ok(Task::Serve) => run_serve(&rt, alloc, &mut reader, &mut writer),
         Ok(Task::Keys) => run_keys(&rt, alloc, &mut reader, &mut writer),
-        Ok(Task::Bench(mode)) => mode.run(&rt, alloc, &mut reader, &mut writer),
+        Ok(Task::Bench(mode)) => mode.run(rt, alloc, &mut reader, &mut writer),
         Err(fault) => Err(fault),
     };
     match done {

@@ -12,9 +12,11 @@ pub mod frame;
 mod held;
 mod input;
 mod keys;
+mod letters;
 pub mod mode;
 mod reading;
 mod recorded;
+mod taken;
 pub mod timing;
 mod workload;
 

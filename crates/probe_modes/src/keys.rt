@@ -11,29 +11,13 @@ use crate::play::read_act;
 use chord::chord;
 use crossterm::event::read::InternalEventReader;
 use crossterm::event::source::{Act, DeviceSource, Script};
-use crossterm::event::timeout::Clock;
+use crossterm::event::timeout::Still;
 use crossterm::event::{Event, EventReader, InternalEvent, KeyEvent, Pass};
 use keymap::{Keymap, KeymapFault, Matcher, Outcome};
 use std::alloc::{AllocError, Allocator};
 use std::io::{self, ErrorKind, Read, Write};
 use std::sync::Wait;
 use std::time::Duration;
-
-/// A clock that never moves.
-#[derive(Drop)]
-struct Still;
-
-impl Clock for Still {
-    ghost told = { λ _. 0 };
-
-    fn now(&mut self) -> Duration {
-        Duration::ZERO
-    }
-
-    fn last(&self) -> Duration {
-        Duration::ZERO
-    }
-}
 
 /// Chords with commas between.
 fn chords<A: Allocator + Clone>(alloc: &A, list: &str) -> Result<Vec<KeyEvent, A>, Wrong> {

@@ -25,10 +25,10 @@ fn run(rt: &HostRuntime, line: &str, output: &mut Vec<u8>) -> Result<(), Fault> 
     let mode = asked(rt.alloc(), line)?;
     if let Mode::Make(_, _) = mode {
         let mut made = Vec::new(rt.alloc());
-        mode.run(rt, rt.alloc(), &mut io::empty(), &mut made)?;
-        return Mode::Count.run(rt, rt.alloc(), &mut made.as_slice(), output);
+        mode.run(*rt, rt.alloc(), &mut io::empty(), &mut made)?;
+        return Mode::Count.run(*rt, rt.alloc(), &mut made.as_slice(), output);
     }
-    mode.run(rt, rt.alloc(), &mut io::empty(), output)
+    mode.run(*rt, rt.alloc(), &mut io::empty(), output)
 }
 
 /// What is printed for a line, or that of its fault.
@@ -51,12 +51,18 @@ make utf8 1 -> bytes 1 keys 1 ALONE
 make keys 100 -> bytes 100 keys 21 ALONE
 make keys 2 -> bytes 2 keys 2 ALONE
 make mouse 100 -> bytes 100 keys 10 mouse 9 pastes 0 focus 0 resizes 0 replies 0
+make replies 100 -> bytes 100 keys 6 mouse 0 pastes 0 focus 0 resizes 0 replies 14
 make paste 100 -> bytes 100 keys 4 mouse 0 pastes 1 focus 0 resizes 0 replies 0
 make paste 12 -> bytes 12 keys 0 mouse 0 pastes 1 focus 0 resizes 0 replies 0
 make paste 11 -> bytes 11 keys 11 ALONE
 make hostile 5000 -> bytes 5000 keys 1 ALONE
 make hostile 3 -> bytes 3 keys 3 ALONE
 make keys 0 -> bytes 0 keys 0 ALONE
+take read 5 -> keys 5
+take poll 5 -> keys 5
+take shared 5 -> keys 5
+take stream 5 -> keys 5
+take other 5 -> USAGE
 make keys -> USAGE
 make keys -1 -> USAGE
 make other 100 -> USAGE
@@ -68,7 +74,7 @@ recorded 1 -> USAGE
 count -> USAGE";
 
 const USAGE: &str =
-    "probe: usage: probe bench [frame] [--time] | probe bench held REPLIES | probe bench recorded | probe bench keys BINDINGS | probe bench make letters|utf8|keys|mouse|paste|hostile BYTES";
+    "probe: usage: probe bench [frame] [--time] | probe bench held REPLIES | probe bench recorded | probe bench keys BINDINGS | probe bench take read|poll|shared|stream KEYS | probe bench make letters|utf8|keys|mouse|replies|paste|hostile BYTES";
 
 /// What is counted if nothing but keys came.
 const ALONE: &str = "mouse 0 pastes 0 focus 0 resizes 0 replies 0";
@@ -98,11 +104,11 @@ fn command_lines_give_their_lines(rt: HostRuntime) {
 
 #[test]
 fn a_reader_and_writers_that_fail_are_named(rt: HostRuntime) {
-    let read = Mode::Count.run(&rt, rt.alloc(), &mut Failing, &mut io::sink());
+    let read = Mode::Count.run(rt, rt.alloc(), &mut Failing, &mut io::sink());
     expect(&rt, matches!(read, Err(Fault::ReadFailed)), "a reader");
     for line in ["frame", "make keys 9"] {
         let written = match asked(rt.alloc(), line) {
-            Ok(mode) => mode.run(&rt, rt.alloc(), &mut io::empty(), &mut Failing),
+            Ok(mode) => mode.run(rt, rt.alloc(), &mut io::empty(), &mut Failing),
             Err(fault) => Err(fault),
         };
         expect(&rt, matches!(written, Err(Fault::WriteFailed)), line);

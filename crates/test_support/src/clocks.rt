@@ -3,22 +3,6 @@
 use crossterm_types::event::timeout::Clock;
 use std::time::Duration;
 
-/// A clock that never moves.
-#[derive(Drop)]
-pub struct Still;
-
-impl Clock for Still {
-    ghost told = { λ _. 0 };
-
-    fn now(&mut self) -> Duration {
-        Duration::ZERO
-    }
-
-    fn last(&self) -> Duration {
-        Duration::ZERO
-    }
-}
-
 /// A clock that goes on by a millisecond each time.
 #[derive(Drop)]
 pub struct Ticking {

@@ -12,10 +12,11 @@ mod expects;
 mod heaps;
 mod seats;
 
-pub use clocks::{Still, Ticking};
+pub use clocks::Ticking;
 use crossterm_read::read::InternalEventReader;
 use crossterm_read::source::{Act, Answer, Device, DeviceSource, Script};
 use crossterm_types::event::Event;
+pub use crossterm_types::event::timeout::Still;
 pub use expects::is_text;
 pub use heaps::{Calls, Came, is_refused_below_a_size};
 pub use seats::{Seat, alone, two};

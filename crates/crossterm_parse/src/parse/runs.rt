@@ -179,7 +179,9 @@ impl<A: Allocator + Clone> Parser<A> {
     {
         match self.state {
             State::Ground => self.begin(bytes, steps),
-            State::Numbered(_, _) | State::Sgr(_) => self.put_numbers(bytes, steps),
+            State::Numbered(_, _) | State::Sgr(_) | State::Reply(_) => self.put_numbers(
+                bytes, steps,
+            ),
             State::Paste(Met::Nothing) => self.keep_all(bytes, steps),
             _ => 0,
         }

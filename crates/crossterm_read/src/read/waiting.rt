@@ -19,27 +19,11 @@ use crate::read::reader::{AtWake, Once, is_woken};
 use crate::source::EventSource;
 use crossterm_types::event::InternalEvent;
 use crossterm_types::event::filter::Filter;
-use crossterm_types::event::timeout::{Clock, PollTimeout};
+use crossterm_types::event::timeout::{Clock, PollTimeout, Still};
 use std::alloc::Allocator;
 use std::io;
 use std::sync::Wait;
 use std::time::Duration;
-
-// The clock of a call that has no limit. It never moves.
-#[derive(Drop)]
-pub(crate) struct Still;
-
-impl Clock for Still {
-    ghost told = { λ _. 0 };
-
-    fn now(&mut self) -> Duration {
-        Duration::ZERO
-    }
-
-    fn last(&self) -> Duration {
-        Duration::ZERO
-    }
-}
 
 impl<S: EventSource<A>, A: Allocator + Clone> InternalEventReader<S, A> {
     // Asks the source once, with what is left of the limit now.

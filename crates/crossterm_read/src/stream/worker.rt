@@ -3,10 +3,11 @@ ghost use Rattle.crossterm_read.specs.Seats.{knows};
 ghost use Rattle.crossterm_read.specs.Shared.{IsPassOf};
 ghost use Rattle.crossterm_read.specs.Streams.{OnlyPolls};
 
-use crate::read::{EventReader, Pass, Still};
+use crate::read::{EventReader, Pass};
 use crate::source::{EventSource, Waker};
 use crate::stream::hub::Hub;
 use crossterm_types::event::filter::AnyFilter;
+use crossterm_types::event::timeout::Still;
 use std::alloc::{Allocator, Global};
 use std::snapshot::Snapshot;
 use std::sync::{Arc, Wait};

@@ -86,6 +86,26 @@ impl<C: std::rt::Clock> Clock for SystemClock<'_, C> {
     }
 }
 
+/// The clock of a call without a limit: it never moves.
+///
+/// ```
+/// let is_there = reader.poll_by(&rt, &mut pass, None, &mut Still, AnyFilter::Event)?;
+/// ```
+#[derive(Drop)]
+pub struct Still;
+
+impl Clock for Still {
+    ghost told = { λ _. 0 };
+
+    fn now(&mut self) -> Duration {
+        Duration::ZERO
+    }
+
+    fn last(&self) -> Duration {
+        Duration::ZERO
+    }
+}
+
 /// How long to wait, from a moment on.
 #[derive(Clone, Copy, Debug)]
 pub struct PollTimeout {

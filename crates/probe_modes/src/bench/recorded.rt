@@ -1,43 +1,16 @@
 //! Keys that come one by one, with a recorder and without one.
 
 use crate::bench::input::print;
+use crate::bench::letters::Letters;
 use crate::bench::reading::Reading;
 use crate::bench::timing::{Nanos, least};
 use crate::fault::Fault;
-use crossterm::event::source::{Answer, Device, Waker};
+use crossterm::event::source::Device;
 use crossterm::event::timeout::SystemClock;
 use recorder::Recorder;
 use std::alloc::Allocator;
 use std::io::{self, Write};
 use std::rt::Clock;
-use std::time::Duration;
-
-/// A letter an answer, without end.
-#[derive(Drop)]
-struct Letters;
-
-impl Device for Letters {
-    fn answer(&mut self, buf: &mut [u8], _limit: Option<Duration>) -> io::Result<Answer> {
-        match buf.first_mut() {
-            Some(byte) => {
-                *byte = b'k';
-                Ok(Answer::Bytes {
-                    count: 1,
-                    raw: true,
-                })
-            }
-            None => Ok(Answer::Idle),
-        }
-    }
-
-    fn failures(&self) -> u64 {
-        0
-    }
-
-    fn waker(&self) -> io::Result<Waker> {
-        Ok(Waker::none())
-    }
-}
 
 /// The least time that one key of a device takes.
 fn time_key<C: Clock, A: Allocator + Clone, D: Device>(

@@ -17,6 +17,8 @@ pub enum Workload {
     Keys,
     /// Moves of the mouse.
     Mouse,
+    /// Reports of the cursor's place, of the keyboard's flags and of the terminal's attributes.
+    Replies,
     /// One paste of a text.
     Paste,
     /// One sequence with a number of many zeros.
@@ -43,6 +45,8 @@ const KEYS: [&str; 12] = [
     "\x1b[3;5~",
     "\x1bOS",
 ];
+
+const REPLIES: [&str; 4] = ["\x1b[12;34R", "\x1b[?1u", "\x1b[?62;4c", "\x1b[?31u"];
 
 /// Puts parts after some bytes, in turn and again, while the next one fits below an end.
 fn fill<A: Allocator>(
@@ -99,6 +103,7 @@ impl Workload {
             "utf8" => Some(Workload::Utf8),
             "keys" => Some(Workload::Keys),
             "mouse" => Some(Workload::Mouse),
+            "replies" => Some(Workload::Replies),
             "paste" => Some(Workload::Paste),
             "hostile" => Some(Workload::Hostile),
             _ => None,
@@ -117,6 +122,7 @@ impl Workload {
             Workload::Utf8 => fill(&mut bytes, count, &CHARACTERS)?,
             Workload::Keys => fill(&mut bytes, count, &KEYS)?,
             Workload::Mouse => moves(&mut bytes, count)?,
+            Workload::Replies => fill(&mut bytes, count, &REPLIES)?,
             Workload::Paste => enclose(&mut bytes, count, ("\x1b[200~", &WORDS, "\x1b[201~"))?,
             Workload::Hostile => enclose(&mut bytes, count, ("\x1b[", &["0"], "5~"))?,
         }

@@ -17,9 +17,8 @@ use crate::read::shared::rule::{
     Another, Left, Made, OneAndTheSame, Opens, Others, Puts, Seat, Slot, Takes, TakesIn,
 };
 use crate::read::shared::view::View;
-use crate::read::waiting::Still;
 use crate::source::{EventSource, Waker};
-use crossterm_types::event::timeout::{Clock, PollTimeout};
+use crossterm_types::event::timeout::{Clock, PollTimeout, Still};
 use std::alloc::Allocator;
 use std::io;
 use std::sync::{Condvar, Wait};

@@ -1,0 +1,131 @@
+//! Keys that come alone, and are taken one after another in one way: for who counts instructions.
+
+use crate::bench::input::print;
+use crate::bench::letters::Letters;
+use crate::fault::Fault;
+use crossterm::event::filter::EventFilter;
+use crossterm::event::read::InternalEventReader;
+use crossterm::event::source::DeviceSource;
+use crossterm::event::{EventReader, EventStream, Pass};
+use futures::task::Poll;
+use futures::test::MockTask;
+use std::alloc::{AllocGlobal, Global};
+use std::io::{self, ErrorKind, Write};
+use std::random::RandomSource;
+use std::sync::Wait;
+use std::thread::Threads;
+
+/// A way in which a key is taken.
+#[derive(Clone, Copy)]
+pub enum Way {
+    /// By a read of one thread's reader.
+    Read,
+    /// By a poll of it, and a take.
+    Poll,
+    /// By a read of a shared reader.
+    Shared,
+    /// By a poll of a stream.
+    Stream,
+}
+
+/// The reader of one thread.
+type Reader = InternalEventReader<DeviceSource<Letters>>;
+
+fn reader(alloc: Global) -> Reader {
+    InternalEventReader::new(alloc, DeviceSource::new(alloc, Letters))
+}
+
+/// Takes so many keys, and returns how many came.
+fn read(alloc: Global, count: u32) -> io::Result<u32> {
+    let mut reader = reader(alloc);
+    let mut taken = 0;
+    for _ in 0..count {
+        if reader.read_within(1, &EventFilter)?.is_some() {
+            taken += 1;
+        }
+    }
+    Ok(taken)
+}
+
+/// The same by a poll before each take.
+fn poll(alloc: Global, count: u32) -> io::Result<u32> {
+    let mut reader = reader(alloc);
+    let mut taken = 0;
+    for _ in 0..count {
+        if reader.poll_within(1, &EventFilter)? && reader.take(&EventFilter).is_some() {
+            taken += 1;
+        }
+    }
+    Ok(taken)
+}
+
+fn no_pass() -> io::Error {
+    io::Error::from(ErrorKind::NotFound)
+}
+
+/// The same by a shared reader.
+fn shared<H: Wait>(rt: &H, alloc: Global, count: u32) -> io::Result<u32> {
+    let (shared, mut passes) = EventReader::new(rt, alloc, reader(alloc), 1)?;
+    let mut pass = passes.pop().ok_or(no_pass())?;
+    let mut taken = 0;
+    for _ in 0..count {
+        shared.read(rt, &mut pass)?;
+        taken += 1;
+    }
+    Ok(taken)
+}
+
+/// The same by a stream.
+fn streamed<H>(rt: H, alloc: Global, count: u32) -> io::Result<u32>
+where
+    H: Threads + Wait + RandomSource + AllocGlobal + Copy + Send + Drop + 'static,
+{
+    let (shared, mut passes) = EventReader::new(&rt, alloc, reader(alloc), 2)?;
+    let other = passes.pop().ok_or(no_pass())?;
+    let pass = passes.pop().ok_or(no_pass())?;
+    let mut stream = EventStream::new(rt, alloc, &shared, pass, other)?;
+    let task = MockTask::new(&rt)?;
+    let mut taken = 0;
+    for _ in 0..count {
+        if let Poll::Ready(Ok(_)) = task.enter(|cx| stream.poll_event(cx)) {
+            taken += 1;
+        }
+    }
+    Ok(taken)
+}
+
+impl Way {
+    /// The way of a name.
+    pub fn named(name: &str) -> Option<Way> {
+        match name {
+            "read" => Some(Way::Read),
+            "poll" => Some(Way::Poll),
+            "shared" => Some(Way::Shared),
+            "stream" => Some(Way::Stream),
+            _ => None,
+        }
+    }
+
+    fn take<H>(self, rt: H, alloc: Global, count: u32) -> io::Result<u32>
+    where
+        H: Threads + Wait + RandomSource + AllocGlobal + Copy + Send + Drop + 'static,
+    {
+        match self {
+            Way::Read => read(alloc, count),
+            Way::Poll => poll(alloc, count),
+            Way::Shared => shared(&rt, alloc, count),
+            Way::Stream => streamed(rt, alloc, count),
+        }
+    }
+
+    /// Takes so many keys in this way, and prints how many came.
+    pub fn run<H, W: Write>(self, rt: H, count: u32, writer: &mut W) -> Result<(), Fault>
+    where
+        H: Threads + Wait + RandomSource + AllocGlobal + Copy + Send + Drop + 'static,
+    {
+        match self.take(rt, rt.alloc(), count) {
+            Ok(taken) => print(writer, format_args!("keys {taken}")),
+            Err(error) => Err(Fault::of_read(&error)),
+        }
+    }
+}
