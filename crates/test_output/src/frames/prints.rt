@@ -1,4 +1,5 @@
-//! Texts in a buffer: clipped at the last column, and refused whole if a cell can't hold a character, or with such ones replaced.
+//! Texts in a buffer: clipped at the last column, and refused whole if a cell can't hold a character, or with such ones replaced. The second
+//! cell of a character of two columns is written as U+0000.
 
 use crossterm_style::ContentStyle;
 use screen::{Buffer, CellFault};
@@ -8,7 +9,7 @@ use test_support::expect;
 /// A column, a row and a text; the columns that it takes, or why it is refused; what is in two rows of five columns then.
 type Row = (u16, u16, &'static str, Result<u16, CellFault>, &'static str);
 
-const ROWS: [Row; 9] = [
+const ROWS: [Row; 14] = [
     (1, 0, "abc", Ok(3), ".abc......"),
     (3, 0, "abc", Ok(2), "...ab....."),
     (0, 1, "hé ß", Ok(4), ".....hé ß."),
@@ -18,7 +19,13 @@ const ROWS: [Row; 9] = [
     (0, 0, "ab\u{1b}", Err(CellFault::Control), ".........."),
     (0, 0, "e\u{301}", Err(CellFault::NoWidth), ".........."),
     // Refused, though the second character has no room.
-    (4, 0, "a漢", Err(CellFault::Wide), ".........."),
+    (4, 0, "a\u{17d8}", Err(CellFault::Wide), ".........."),
+    (0, 0, "漢😀", Ok(4), "漢\u{0}😀\u{0}......"),
+    (3, 1, "漢字", Ok(2), "........漢\u{0}"),
+    // A character of two columns has no room in the last one, and ends the text.
+    (4, 0, "a漢", Ok(1), "....a....."),
+    (0, 0, "漢漢漢a", Ok(4), "漢\u{0}漢\u{0}......"),
+    (4, 0, "漢a", Ok(0), ".........."),
 ];
 
 /// A column, a row, a text, and what replaces its characters that no cell can hold; the columns, or why it is refused; the two rows then.
@@ -31,10 +38,11 @@ type Replacing = (
     &'static str,
 );
 
-const REPLACING: [Replacing; 10] = [
+const REPLACING: [Replacing; 11] = [
     (0, 0, "a\tb\u{1b}", '?', Ok(4), "a?b?......"),
-    (0, 1, "e\u{301}漢😀", '_', Ok(4), ".....e___."),
-    (3, 0, "\u{7f}漢a", '?', Ok(2), "...??....."),
+    (0, 1, "e\u{301}漢😀", '_', Ok(4), ".....e_漢\u{0}."),
+    (3, 0, "\u{7f}漢a", '?', Ok(1), "...?......"),
+    (0, 0, "\u{17d8}漢a", '?', Ok(4), "?漢\u{0}a......"),
     (5, 0, "漢", '?', Ok(0), ".........."),
     (0, 0, "hé", '?', Ok(2), "hé........"),
     (0, 0, "", ' ', Ok(0), ".........."),

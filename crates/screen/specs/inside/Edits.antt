@@ -1,0 +1,20 @@
+-- What is written of a text.
+use Rattle.std.specs.Prelude.{ℕ, List, [], ◌∷◌, Option, Some, None, flat_map}
+use Rattle.screen.specs.declared.faults.CellFault.{CellFault}
+use Rattle.screen.specs.Cells.{symbol_fault}
+
+-- a character that cells can hold, and else another one if there is any
+abbrev pub edited_by : Option ℕ → Option CellFault → ℕ → Option ℕ
+edited_by replacement None c = Some c
+edited_by replacement (Some fault) c = replacement
+
+abbrev pub edit : Option ℕ → ℕ → Option ℕ
+edit replacement c = edited_by replacement (symbol_fault c) c
+
+abbrev pub listed : Option ℕ → List ℕ
+listed None = []
+listed (Some c) = c ∷ []
+
+-- a text with another character, or with none, in the place of each that no cell can hold
+abbrev pub edited : Option ℕ → List ℕ → List ℕ
+edited replacement text = flat_map (λ c. listed (edit replacement c)) text
