@@ -1,5 +1,5 @@
 -- Texts in cells.
-use Rattle.std.proofs.Common.{◌≡◌, ℕ, ◌+◌, ◌-◌, ◌<◌, ◌≤◌, nat_le, Bool, true, false, cond, List, [], ◌∷◌, ◌++◌, Option, Some, None, refl, sym, ap, ◌∙◌, subst, arith, append-nil, append_assoc, length, take, drop, get_or}
+use Rattle.std.proofs.Common.{◌≡◌, ℕ, ◌+◌, ◌-◌, ◌<◌, ◌≤◌, nat_le, not, Bool, true, false, cond, List, [], ◌∷◌, ◌++◌, Option, Some, None, refl, sym, ap, ◌∙◌, subst, arith, append-nil, append_assoc, length, take, drop, get_or}
 use Rattle.std.specs.List.{AllByRecursion}
 use Rattle.std.proofs.lemmas.Bool.Decides.{nat_tests}
 use Rattle.std.proofs.lemmas.List.{at_drop_more, drop_all, drop_more, take_more}
@@ -7,11 +7,14 @@ use Rattle.std.proofs.lemmas.List.Concat.{flat_map-append}
 use Rattle.crossterm_command.proofs.Readings.{all_joined}
 use Rattle.crossterm_style.specs.declared.content_style.ContentStyle.{ContentStyle}
 use Rattle.screen.specs.declared.cells.Cell.{Cell}
+use Rattle.unicode_width.specs.Width.{char_width}
 use Rattle.screen.specs.declared.faults.CellFault.{CellFault}
-use Rattle.screen.specs.Cells.{IsPrinted, symbol_fault}
+use Rattle.screen.specs.declared.faults.CellFault.TheVariants.{NoWidth, Wide}
+use Rattle.screen.specs.Cells.{IsPrinted, fault_of, symbol_fault}
+use Rattle.screen.specs.Grids.{is_width}
 use Rattle.screen.specs.Overwriting.{cells_with, overwritten}
-use Rattle.screen.specs.Texts.{cells_of, columns, fitting, replaced, text_columns, text_fault, within}
-use Rattle.screen.specs.inside.Edits.{edit, edited, edited_by, listed}
+use Rattle.screen.specs.Texts.{cells_of, columns, fitting, replaced, text_columns, text_fault, within, is_mark, without_marks}
+use Rattle.screen.specs.inside.Edits.{edit, edited, edited_by, fault_unless_mark, listed}
 use Rattle.screen.proofs.Halves.{overwritten_more}
 use Rattle.screen.proofs.Taking.{text_length, text_paired, with_length}
 
@@ -21,6 +24,18 @@ use Rattle.screen.proofs.Taking.{text_length, text_paired, with_length}
 pub fault_from : (text : List ℕ) (n c : ℕ) → n < length text → c ≡ get_or text n c
     → text_fault (drop n text) ≡ elim (symbol_fault c) [ Some fault ↦ Some fault | None ↦ text_fault (drop (n + 1) text) ]
 fault_from text n c lt e = at_drop_more text_fault text n c lt ∙ ap (λ d. elim (symbol_fault d) [ Some fault ↦ Some fault | None ↦ text_fault (drop (n + 1) text) ]) (sym e)
+
+unmarked_fault : (mark : Bool) (c : ℕ) (text : List ℕ) → ◌≡◌ {A = Option CellFault} (text_fault (cond (not mark) (c ∷ without_marks text) (without_marks text)))
+    (elim (cond mark None (symbol_fault c)) [ Some fault ↦ Some fault | None ↦ text_fault (without_marks text) ])
+unmarked_fault true c text = refl
+unmarked_fault false c text = refl
+
+-- The same without marks.
+pub marks_fault_from : (text : List ℕ) (n c : ℕ) → n < length text → c ≡ get_or text n c
+    → text_fault (without_marks (drop n text)) ≡ elim (fault_unless_mark c) [ Some fault ↦ Some fault | None ↦ text_fault (without_marks (drop (n + 1) text)) ]
+marks_fault_from text n c lt e =
+    at_drop_more (λ t. text_fault (without_marks t)) text n c lt ∙ ap (λ d. text_fault (without_marks (d ∷ drop (n + 1) text))) (sym e)
+    ∙ unmarked_fault (is_mark c) c (drop (n + 1) text)
 
 -- ---- what is written of a text
 
@@ -34,6 +49,26 @@ none_from r c text None more rest = ap (λ l. c ∷ l) (more rest)
 pub edits_none : (replacement : Option ℕ) (text : List ℕ) → text_fault text ≡ None → edited replacement text ≡ text
 edits_none r [] e = refl
 edits_none r (c ∷ text) e = none_from r c text (symbol_fault c) (edits_none r text) e
+
+unmarked_from : (c : ℕ) (text : List ℕ) (o : Option CellFault) → ◌≡◌ {A = Option CellFault} (elim o [ Some fault ↦ Some fault | None ↦ text_fault (without_marks text) ]) None
+    → (text_fault (without_marks text) ≡ None → edited None text ≡ without_marks text) → listed (edited_by None o c) ++ edited None text ≡ c ∷ without_marks text
+unmarked_from c text (Some fault) bad more = cc
+unmarked_from c text None rest more = ap (λ l. c ∷ l) (more rest)
+
+mark_fault : (o : Option ℕ) → is_width 0 o ≡ true → fault_of o ≡ Some NoWidth
+mark_fault None e = cc
+mark_fault (Some width) e = ap (λ b. cond b (Some NoWidth) (cond (nat_le width 2) None (Some Wide))) e
+
+marks_from : (mark : Bool) (c : ℕ) (text : List ℕ) → is_mark c ≡ mark → text_fault (cond (not mark) (c ∷ without_marks text) (without_marks text)) ≡ None
+    → (text_fault (without_marks text) ≡ None → edited None text ≡ without_marks text)
+    → listed (edited_by None (symbol_fault c) c) ++ edited None text ≡ cond (not mark) (c ∷ without_marks text) (without_marks text)
+marks_from true c text e rest more = ap (λ o. listed (edited_by None o c) ++ edited None text) (mark_fault (char_width false c) e) ∙ more rest
+marks_from false c text e rest more = unmarked_from c text (symbol_fault c) rest more
+
+-- A text that cells can hold without its marks is written without them.
+pub edits_marks : (text : List ℕ) → text_fault (without_marks text) ≡ None → edited None text ≡ without_marks text
+edits_marks [] e = refl
+edits_marks (c ∷ text) e = marks_from (is_mark c) c text refl e (edits_marks text)
 
 some_from : (replacement c : ℕ) (o : Option CellFault) → listed (edited_by (Some replacement) o c) ≡ elim o [ Some fault ↦ replacement | None ↦ c ] ∷ []
 some_from r c (Some fault) = refl

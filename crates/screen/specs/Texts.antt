@@ -1,11 +1,13 @@
 -- Texts: the cells of their characters.
-use Rattle.std.specs.Prelude.{ℕ, ◌+◌, ◌-◌, nat_le, List, [], ◌∷◌, Option, Some, None, if◌then◌else◌, flat_map, map}
+use Rattle.std.specs.Prelude.{ℕ, ◌+◌, ◌-◌, nat_le, not, Bool, false, List, [], ◌∷◌, Option, Some, None, if◌then◌else◌, flat_map, map}
+use Rattle.std.specs.List.{filter}
+use Rattle.unicode_width.specs.Width.{char_width}
 use Rattle.crossterm_style.specs.declared.content_style.ContentStyle.{ContentStyle}
 use Rattle.screen.specs.declared.cells.Cell.{Cell}
 use Rattle.screen.specs.declared.faults.CellFault.{CellFault}
 use Rattle.screen.specs.declared.faults.CellFault.TheVariants.{Wide}
 use Rattle.screen.specs.Cells.{symbol_fault}
-use Rattle.screen.specs.Grids.{takes_two}
+use Rattle.screen.specs.Grids.{is_width, takes_two}
 use Rattle.screen.specs.Overwriting.{cells_with}
 
 -- the cells of a text's characters in a style
@@ -38,6 +40,14 @@ fitting replacement c = elim (symbol_fault c) [ Some fault ↦ replacement | Non
 -- a text with another character in the place of each that no cell can hold
 abbrev pub replaced : ℕ → List ℕ → List ℕ
 replaced replacement text = map (fitting replacement) text
+
+-- whether a character takes no column, as a combining mark
+abbrev pub is_mark : ℕ → Bool
+is_mark c = is_width 0 (char_width false c)
+
+-- a text without its characters of no column
+abbrev pub without_marks : List ℕ → List ℕ
+without_marks text = filter (λ c. not (is_mark c)) text
 
 -- why a character can't replace others, where it can't: it has to take one column
 abbrev pub replacement_fault : ℕ → Option CellFault

@@ -3,13 +3,13 @@ ghost use Rattle.std.specs.Prelude.{◌≡◌, ℕ, ◌+◌, ◌*◌, ◌<◌, �
 ghost use Rattle.std.specs.List.{All};
 ghost use Rattle.screen.specs.Buffers.{clipped, column_refusal, filled, filled_with, print_refusal, refusal, with_symbol, with_text};
 ghost use Rattle.screen.specs.Cells.{AreLaidOut, ArePaired, IsPrinted, StayInRows, Stands, blank, symbol_fault};
-ghost use Rattle.screen.specs.Texts.{columns, replaced, replacement_fault, text_columns, text_fault};
+ghost use Rattle.screen.specs.Texts.{columns, replaced, replacement_fault, text_columns, text_fault, without_marks};
 ghost use Rattle.screen.specs.inside.Edits.{edited};
 
 use crate::cells::{Cell, symbol_fault, takes_two};
 use crate::faults::CellFault;
 use crate::overwriting::{fill, fill_rows, overwrite};
-use crate::texts::{replacement_fault, text_fault, write_text};
+use crate::texts::{fault_without_marks, replacement_fault, text_fault, write_text};
 use crossterm_style::ContentStyle;
 use std::alloc::{AllocError, Allocator, Global};
 use std::marker::Model;
@@ -311,5 +311,36 @@ impl<A: Allocator> Buffer<A> {
             return Err(fault);
         }
         Ok(self.print_at(column, row, text, Some(replacement), &style))
+    }
+
+    /// Prints a text into a row as `print` does, without its characters of no column, and returns how many columns the others take.
+    ///
+    /// ```
+    /// let used = buffer.print_without_marks(0, 2, "e\u{301}t\u{e9}", ContentStyle::new())?;
+    /// assert_eq!(used, 3);
+    /// ```
+    ///
+    /// # Errors
+    ///
+    /// `Outside` if there is no such row, and else that of the first other character which no cell can hold, shown or not: `Control`,
+    /// `Wide`. Then nothing changes.
+    #[tactic(auto, using(crate::proofs::Prints::edits_marks))]
+    pub fn print_without_marks(
+        &mut self,
+        column: u16,
+        row: u16,
+        text: &str,
+        style: ContentStyle,
+    ) -> Result<u16, CellFault>
+        ensures used { IfOk result (λ used. used ≡ text_columns (clipped self.old column (without_marks (chars text.now)))) }
+        ensures ok { OnOk result ((print_refusal self.old row (text_fault (without_marks (chars text.now))) ≡ None)
+            × (self.new ≡ with_text self.old column row (without_marks (chars text.now)) style)) }
+        ensures err { IfErr result (λ fault. (print_refusal self.old row (text_fault (without_marks (chars text.now))) ≡ Some fault)
+            × (self.new ≡ self.old)) }
+    {
+        if let Some(fault) = self.print_fault(row, fault_without_marks(text)) {
+            return Err(fault);
+        }
+        Ok(self.print_at(column, row, text, None, &style))
     }
 }

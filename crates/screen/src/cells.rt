@@ -3,6 +3,7 @@ ghost use Rattle.std.specs.Prelude.{◌≡◌, ◌↔◌, IsTrue, false};
 ghost use Rattle.crossterm_style.specs.declared.types.color.Color.TheVariants.{Rgb};
 ghost use Rattle.screen.specs.Cells.{IsPrinted, blank, is_covered, is_wide, symbol_fault};
 ghost use Rattle.screen.specs.Grids.{takes_two};
+ghost use Rattle.screen.specs.Texts.{is_mark};
 ghost use Rattle.screen.specs.Updates.{HasToBePrinted};
 ghost use Rattle.std.specs.Prelude.{None};
 
@@ -61,6 +62,16 @@ pub(crate) fn takes_two(symbol: char) -> bool
     match symbol.width() {
         None => false,
         Some(width) => width == 2,
+    }
+}
+
+/// Whether a character takes no column.
+pub(crate) fn is_mark(symbol: char) -> bool
+    ensures { result ≡ is_mark symbol }
+{
+    match symbol.width() {
+        None => false,
+        Some(width) => width == 0,
     }
 }
 

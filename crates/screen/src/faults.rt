@@ -18,7 +18,7 @@ pub enum CellFault {
     /// It is a control character, which would do something else than show.
     #[error("a control character")]
     Control,
-    /// It takes no column, as a combining mark.
+    /// It takes no column, as a combining mark. `Buffer::print_without_marks` leaves such characters out.
     #[error("a character of width 0")]
     NoWidth,
     /// It takes more than two columns. If it is to replace others, it takes more than one.

@@ -3,10 +3,10 @@ ghost use Rattle.std.specs.Prelude.{◌≡◌, ◌+◌, ◌≤◌, IfSome, chars
 ghost use Rattle.std.specs.List.{AllByRecursion};
 ghost use Rattle.screen.specs.Cells.{IsPrinted};
 ghost use Rattle.screen.specs.Overwriting.{overwritten};
-ghost use Rattle.screen.specs.Texts.{cells_of, replacement_fault, text_columns, text_fault, within};
-ghost use Rattle.screen.specs.inside.Edits.{edit, edited};
+ghost use Rattle.screen.specs.Texts.{cells_of, replacement_fault, text_columns, text_fault, within, without_marks};
+ghost use Rattle.screen.specs.inside.Edits.{edit, edited, fault_unless_mark};
 
-use crate::cells::{Cell, symbol_fault, takes_two};
+use crate::cells::{Cell, is_mark, symbol_fault, takes_two};
 use crate::faults::CellFault;
 use crate::overwriting::{columns, overwrite};
 use crossterm_style::ContentStyle;
@@ -17,6 +17,28 @@ pub(crate) fn text_fault(text: &str) -> Option<CellFault>
 {
     for symbol in text.chars() {
         if let Some(fault) = symbol_fault(symbol) {
+            return Some(fault);
+        }
+    }
+    None
+}
+
+/// Why cells can't hold a character, if they can't and it takes a column or more.
+fn fault_unless_mark(symbol: char) -> Option<CellFault>
+    ensures { result ≡ fault_unless_mark symbol }
+{
+    if is_mark(symbol) {
+        return None;
+    }
+    symbol_fault(symbol)
+}
+
+/// Why cells can't hold a text without its characters of no column, if they can't.
+pub(crate) fn fault_without_marks(text: &str) -> Option<CellFault>
+    ensures { result ≡ text_fault (without_marks (chars text.now)) }
+{
+    for symbol in text.chars() {
+        if let Some(fault) = fault_unless_mark(symbol) {
             return Some(fault);
         }
     }

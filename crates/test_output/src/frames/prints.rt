@@ -60,6 +60,16 @@ const REPLACING: [Replacing; 11] = [
     ),
 ];
 
+/// The same of texts that are printed without their characters of no column.
+const WITHOUT_MARKS: [Row; 6] = [
+    (0, 0, "e\u{301}t\u{e9}\u{301}", Ok(3), "et\u{e9}......."),
+    (1, 1, "\u{200b}漢\u{fe0f}a\u{301}", Ok(3), "......漢\u{0}a."),
+    (4, 0, "a\u{301}漢", Ok(1), "....a....."),
+    (0, 0, "e\u{301}\n", Err(CellFault::Control), ".........."),
+    (0, 0, "e\u{301}\u{17d8}", Err(CellFault::Wide), ".........."),
+    (0, 2, "\n", Err(CellFault::Outside), ".........."),
+];
+
 /// Two rows of five dots.
 fn dots(alloc: Global) -> Result<Buffer, AllocError> {
     let mut buffer = Buffer::new(alloc, 5, 2)?;
@@ -92,6 +102,14 @@ fn is_replaced(alloc: Global, row: &Replacing) -> Result<bool, AllocError> {
     Ok(came == result && shows(&buffer, wanted))
 }
 
+/// Whether a text is printed so without its characters of no column.
+fn is_left_out(alloc: Global, row: &Row) -> Result<bool, AllocError> {
+    let (column, line, text, result, wanted) = *row;
+    let mut buffer = dots(alloc)?;
+    let came = buffer.print_without_marks(column, line, text, ContentStyle::new());
+    Ok(came == result && shows(&buffer, wanted))
+}
+
 fn are_printed(alloc: Global) -> Result<bool, AllocError> {
     for row in &ROWS {
         if !is_printed(alloc, row)? {
@@ -100,6 +118,11 @@ fn are_printed(alloc: Global) -> Result<bool, AllocError> {
     }
     for row in &REPLACING {
         if !is_replaced(alloc, row)? {
+            return Ok(false);
+        }
+    }
+    for row in &WITHOUT_MARKS {
+        if !is_left_out(alloc, row)? {
             return Ok(false);
         }
     }

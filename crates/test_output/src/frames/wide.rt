@@ -7,13 +7,7 @@ use std::alloc::{AllocError, Global};
 use test_support::expect;
 
 /// A column and a character that is set there, in blue, over a red '.漢漢.'; the result; the characters then, and their colours by a letter.
-type Over = (
-    u16,
-    char,
-    Result<(), CellFault>,
-    &'static str,
-    &'static str,
-);
+type Over = (u16, char, Result<(), CellFault>, &'static str, &'static str);
 
 const OVER: [Over; 9] = [
     (0, 'x', Ok(()), "x漢\u{0}漢\u{0}.", "brrrrr"),
@@ -51,14 +45,8 @@ fn letter(cell: &Cell) -> char {
 /// Whether these are a buffer's characters and their colours.
 fn shows(buffer: &Buffer, symbols: &str, letters: &str) -> bool {
     let cells = buffer.cells();
-    cells
-        .iter()
-        .map(|cell| cell.symbol)
-        .eq(symbols.chars())
-        && cells
-            .iter()
-            .map(|cell| letter(cell))
-            .eq(letters.chars())
+    cells.iter().map(|cell| cell.symbol).eq(symbols.chars())
+        && cells.iter().map(|cell| letter(cell)).eq(letters.chars())
 }
 
 /// Whether a character is set so.
@@ -107,11 +95,7 @@ fn are_filled(alloc: Global) -> Result<bool, AllocError> {
         && narrow.fill('字', blue).is_ok();
     Ok(
         are_filled
-            && shows(
-                &even,
-                "字\u{0}字\u{0}字\u{0}字\u{0}",
-                "bbbbbbbb",
-            )
+            && shows(&even, "字\u{0}字\u{0}字\u{0}字\u{0}", "bbbbbbbb")
             && shows(&odd, "字\u{0} 字\u{0} ", "bbbbbb")
             && shows(&narrow, "  ", "bb"),
     )
@@ -136,12 +120,7 @@ fn is_drawn(alloc: Global) -> Result<bool, AllocError> {
     let printed = buffer.print(1, 1, "a漢b", ContentStyle::new());
     let next = screen.draw(&mut bytes, colors, &buffer, None);
     let wanted = "\x1b[?2026h\x1b[2;2H\x1b[0ma漢b\x1b[0m\x1b[?25l\x1b[?2026l";
-    Ok(
-        first.is_ok()
-            && printed == Ok(4)
-            && next.is_ok()
-            && bytes.as_slice() == wanted.as_bytes(),
-    )
+    Ok(first.is_ok() && printed == Ok(4) && next.is_ok() && bytes.as_slice() == wanted.as_bytes())
 }
 
 #[test]
