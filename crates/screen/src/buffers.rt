@@ -171,7 +171,7 @@ impl<A: Allocator> Buffer<A> {
         &self.cells
     }
 
-    /// Fills each row with a character. If it takes two columns and the width is odd, a space in the style stands in the last column.
+    /// Fills each row with a character. If it takes two columns and the width is odd, a space in its style stands in the last column.
     ///
     /// # Errors
     ///
@@ -187,8 +187,8 @@ impl<A: Allocator> Buffer<A> {
         Ok(())
     }
 
-    /// Sets a character, by its column and its row from 0. If it takes two columns, it takes the next one too. What has lost one of its two
-    /// columns to it leaves a space in the other one, in the style that it had.
+    /// Sets a character, by its column and its row from 0. If it takes two columns, the next one is its second. A character that loses one of
+    /// its two columns to it leaves a space in the other one, in the style that it had.
     ///
     /// # Errors
     ///
@@ -248,9 +248,9 @@ impl<A: Allocator> Buffer<A> {
         used as u16
     }
 
-    /// Prints a text into a row, from a column on, and returns how many columns it takes. The first character that has no room in the row, and
-    /// all behind it, are left out, and a column behind the last one leaves out all. What has lost one of its two columns leaves a space in
-    /// the other one, as in `set`.
+    /// Prints a text into a row, from a column on, and returns how many columns were printed. The first character that has no room in the row
+    /// is left out, and so are all behind it. A column behind the last one leaves out all. A character that loses one of its two columns
+    /// leaves a space in the other one, as in `set`.
     ///
     /// ```
     /// let used = buffer.print(0, 2, "name", ContentStyle::new())?;
@@ -281,7 +281,7 @@ impl<A: Allocator> Buffer<A> {
         Ok(self.print_at(column, row, text, None, &style))
     }
 
-    /// Prints any text into a row as `print` does, and returns how many columns it takes. Each character that no cell can hold is replaced by
+    /// Prints any text into a row as `print` does, and returns how many columns were printed. Each character that no cell can hold is replaced by
     /// another one, which takes one column: control characters, those of no column, and those of more than two.
     ///
     /// ```
@@ -313,7 +313,7 @@ impl<A: Allocator> Buffer<A> {
         Ok(self.print_at(column, row, text, Some(replacement), &style))
     }
 
-    /// Prints a text into a row as `print` does, without its characters of no column, and returns how many columns the others take.
+    /// Prints a text into a row as `print` does, without its characters of no column, and returns how many columns were printed.
     ///
     /// ```
     /// let used = buffer.print_without_marks(0, 2, "e\u{301}t\u{e9}", ContentStyle::new())?;

@@ -35,7 +35,7 @@
 //! | a wrong size or place writes nothing and changes nothing; at any other error a beginning of the frame was written and nothing else, and nothing is known of the cells | `Screen::draw` |
 //! | a character that doesn't take one column or two is refused by name, so is one of two in a row's last column, and a refusal changes nothing | `Buffer::{fill, set, print, print_replacing, print_without_marks}` |
 //! | no half of a character of two columns stands alone: what loses its other half is a space in the style that it had | `Buffer::{cells, fill, set, print, print_replacing, print_without_marks}` |
-//! | of a text as many characters are printed as have room in the row, and the columns that they took are returned | `Buffer::{print, print_replacing, print_without_marks}` |
+//! | of a text as many characters are printed as have room in the row, and the number of the columns that they took is returned | `Buffer::{print, print_replacing, print_without_marks}` |
 //! | of any text, each character that no cell can hold is replaced by a given one | `Buffer::print_replacing` |
 //! | of a text, the characters of no column are left out, and the others are printed or refused as in `print` | `Buffer::print_without_marks` |
 //! | as an `io::Error`, a fault has the kind `InvalidInput`; the fault of a command is the error that it becomes by itself | `From<CellFault>` and `From<DrawFault>` of `io::Error` |

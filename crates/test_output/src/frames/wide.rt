@@ -109,22 +109,48 @@ fn halves_become_spaces(rt: HostRuntime) -> Result<(), AllocError> {
     Ok(())
 }
 
-/// Whether a frame prints a character of two columns once, with no move behind it.
-fn is_drawn(alloc: Global) -> Result<bool, AllocError> {
+/// Whether a frame prints these characters and nothing else, after a move to a row and a column from 1.
+fn prints(screen: &mut Screen, alloc: Global, buffer: &Buffer, place: &str, text: &str) -> bool {
+    let mut bytes: Vec<u8> = Vec::new(alloc);
+    if screen
+        .draw(&mut bytes, ColorOutput::Enabled, buffer, None)
+        .is_err()
+    {
+        return false;
+    }
+    let Some(rest) = bytes.as_slice().strip_prefix(b"\x1b[?2026h\x1b[") else {
+        return false;
+    };
+    let Some(rest) = rest.strip_prefix(place.as_bytes()) else {
+        return false;
+    };
+    let Some(rest) = rest.strip_prefix(b"H\x1b[0m") else {
+        return false;
+    };
+    rest.strip_suffix(b"\x1b[0m\x1b[?25l\x1b[?2026l") == Some(text.as_bytes())
+}
+
+/// Whether a character of two columns is printed once, with no move behind it, and both columns are printed when it is gone.
+fn are_drawn(alloc: Global) -> Result<bool, AllocError> {
     let mut screen = Screen::new(alloc, 6, 2)?;
     let mut buffer = Buffer::new(alloc, 6, 2)?;
     let mut bytes: Vec<u8> = Vec::new(alloc);
-    let colors = ColorOutput::Enabled;
-    let first = screen.draw(&mut bytes, colors, &buffer, None);
-    bytes.clear();
-    let printed = buffer.print(1, 1, "a漢b", ContentStyle::new());
-    let next = screen.draw(&mut bytes, colors, &buffer, None);
-    let wanted = "\x1b[?2026h\x1b[2;2H\x1b[0ma漢b\x1b[0m\x1b[?25l\x1b[?2026l";
-    Ok(first.is_ok() && printed == Ok(4) && next.is_ok() && bytes.as_slice() == wanted.as_bytes())
+    let style = ContentStyle::new();
+    let first = screen.draw(&mut bytes, ColorOutput::Enabled, &buffer, None);
+    let printed = buffer.print(1, 1, "a漢b", style);
+    let next = prints(&mut screen, alloc, &buffer, "2;2", "a漢b");
+    let over_first = buffer.set(2, 1, 'x', style);
+    let second_left = prints(&mut screen, alloc, &buffer, "2;3", "x ");
+    let back = buffer.set(2, 1, '字', style);
+    let whole = prints(&mut screen, alloc, &buffer, "2;3", "字");
+    let over_second = buffer.set(3, 1, 'y', style);
+    let first_left = prints(&mut screen, alloc, &buffer, "2;3", " y");
+    let are_set = over_first.is_ok() && back.is_ok() && over_second.is_ok();
+    Ok(first.is_ok() && printed == Ok(4) && are_set && next && second_left && whole && first_left)
 }
 
 #[test]
 fn pairs_are_printed_once(rt: HostRuntime) -> Result<(), AllocError> {
-    expect!(rt; is_drawn(rt.alloc())?);
+    expect!(rt; are_drawn(rt.alloc())?);
     Ok(())
 }
