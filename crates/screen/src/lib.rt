@@ -33,7 +33,7 @@
 //! | a frame is one synchronized update; it has at most one move for each run of characters side by side, one setting of the style for each run of characters in one style, and a handful at its ends | `Screen::draw` |
 //! | a screen has as much memory after a frame as before; screens and buffers give none back, and a size that they have memory for isn't refused | `Screen::{draw, new, resize}`, `Buffer::{new, resize, fill, set, print, print_replacing, print_without_marks}` |
 //! | a wrong size or place writes nothing and changes nothing; at any other error a beginning of the frame was written and nothing else, and nothing is known of the cells | `Screen::draw` |
-//! | a character that doesn't take one column or two is refused by name, so is one of two in a row's last column, and a refusal changes nothing | `Buffer::{fill, set, print, print_replacing, print_without_marks}` |
+//! | a character that doesn't take one column or two is refused by name, `set` refuses one of two in a row's last column too, and a refusal changes nothing | `Buffer::{fill, set, print, print_replacing, print_without_marks}` |
 //! | no half of a character of two columns stands alone: what loses its other half is a space in the style that it had | `Buffer::{cells, fill, set, print, print_replacing, print_without_marks}` |
 //! | of a text as many characters are printed as have room in the row, and the number of the columns that they took is returned | `Buffer::{print, print_replacing, print_without_marks}` |
 //! | of any text, each character that no cell can hold is replaced by a given one | `Buffer::print_replacing` |
