@@ -1,59 +1,56 @@
--- Cells whose characters take one cell.
-use Rattle.std.proofs.Common.{◌≡◌, ℕ, suc, ◌<◌, ◌==◌, true, false, List, [], ◌∷◌, Option, Some, None, inl, inr, refl, sym, ap, ◌∙◌, subst, arith, get_or, length, replicate}
+-- Cells of characters that take one cell or two.
+use Rattle.std.proofs.Common.{◌≡◌, ℕ, zero, suc, ◌<◌, ◌==◌, true, false, List, inl, inr, refl, sym, ap, ◌∙◌, subst, arith, length, replicate}
 use Rattle.std.proofs.lemmas.Bool.Decides.{nat_tests}
-use Rattle.std.specs.List.{All}
 use Rattle.std.proofs.lemmas.List.{get_or-replicate, length-replicate}
+use Rattle.std.proofs.lemmas.List.Elements.{All-replicate}
 use Rattle.unicode_width.specs.Width.{char_width}
 use Rattle.screen.specs.declared.cells.Cell.{Cell}
-use Rattle.screen.specs.Cells.{ArePaired, Fits, StayInRows, Stands, blank, is_covered, is_wide}
-use Rattle.screen.specs.Grids.{is_width, takes_one}
+use Rattle.screen.specs.Cells.{AreLaidOut, ArePaired, IsPrinted, StayInRows, Stands, blank, is_wide}
+use Rattle.screen.specs.Grids.{takes_one}
+use Rattle.screen.proofs.Squares.{space_is_narrow, zero_takes_no_two}
 
 space_takes_one : takes_one 32 ≡ true
 unfolding char_width
 space_takes_one = refl
 
-pub space_fits : Fits 32
-space_fits = (refl, space_takes_one)
-
-pub all_fit : (n : ℕ) (c : Cell) → Fits c.symbol → All (λ b. Fits b.symbol) (replicate n c)
-all_fit n c f k d lt = subst (λ b. Fits b.symbol) (sym (get_or-replicate n k c d (subst (λ m. k < m) (length-replicate n c) lt))) f
-
-pub all_blank : (n : ℕ) (xs : List Cell) → xs ≡ replicate n blank → All (λ b. Fits b.symbol) xs
-all_blank n xs e = subst (All (λ b. Fits b.symbol)) (sym e) (all_fit n blank space_fits)
-
-pub count_blank : (n : ℕ) (xs : List Cell) → xs ≡ replicate n blank → length xs ≡ n
-count_blank n xs e = ap length e ∙ length-replicate n blank
-
--- ---- cells without wide characters
+pub space_printed : IsPrinted 32
+space_printed = (refl, inl space_takes_one)
 
 zero_takes_none : takes_one 0 ≡ false
 unfolding char_width
 zero_takes_none = refl
 
-uncovered : (c : Cell) → Fits c.symbol → is_covered c ≡ false
-uncovered c f =
-    elim (is_covered c) as (λ b. is_covered c ≡ b → is_covered c ≡ false) [
-      | true ↦ λ e.
-          let z : c.symbol ≡ 0 = grind (arith, nat_tests) in
-          let no : true ≡ false = sym f.1 ∙ ap takes_one z ∙ zero_takes_none in cc
+zero_isnt_printed : IsPrinted 0 → ⊥
+zero_isnt_printed (s, inl e) = let no : true ≡ false = sym e ∙ zero_takes_none in cc
+zero_isnt_printed (s, inr e) = let no : true ≡ false = sym e ∙ zero_takes_no_two in cc
+
+-- A character that is printed isn't that of a covered cell.
+pub printed_there : (c : ℕ) → IsPrinted c → (c == 0) ≡ false
+printed_there c p =
+    elim (c == 0) as (λ b. (c == 0) ≡ b → (c == 0) ≡ false) [
+      | true ↦ λ e. let z : c ≡ 0 = grind (arith, nat_tests) in absurd (zero_isnt_printed (subst IsPrinted z p))
       | false ↦ λ e. e
     ] refl
 
-by_one : (o : Option ℕ) → is_width 1 o ≡ true → is_width 2 o ≡ false
-by_one None e = cc
-by_one (Some w) e = let one : w ≡ 1 = grind (arith, nat_tests) in ap (λ n. n == 2) one
+pub printed_stands : (c : Cell) → IsPrinted c.symbol → Stands c
+printed_stands c p = inr (printed_there c.symbol p, p)
 
-narrow : (c : Cell) → Fits c.symbol → is_wide c ≡ false
-narrow c f = by_one (char_width false c.symbol) f.1
+-- ---- cells that are all the same
 
-pub all_stand : (cells : List Cell) → All (λ c. Fits c.symbol) cells → All Stands cells
-all_stand cells a k d lt = let f = a k d lt in inr (uncovered (get_or cells k d) f, (f.0, inl f.1))
+same_paired : (n : ℕ) (c : Cell) → IsPrinted c.symbol → is_wide c ≡ false → ArePaired false (replicate n c)
+same_paired zero c p w = refl
+same_paired (suc n) c p w = (printed_there c.symbol p, subst (λ b. ArePaired b (replicate n c)) (sym w) (same_paired n c p w))
 
-pub all_paired : (cells : List Cell) → All (λ c. Fits c.symbol) cells → ArePaired false cells
-all_paired [] a = refl
-all_paired (c ∷ cells) a =
-    let f : Fits c.symbol = a 0 c (omega arith) in
-    (uncovered c f, subst (λ b. ArePaired b cells) (sym (narrow c f)) (all_paired cells (λ k d lt. a (suc k) d (omega (arith, lt)))))
+same_stay : (n : ℕ) (c : Cell) → is_wide c ≡ false → (width : ℕ) → StayInRows width (replicate n c)
+same_stay n c w width k d lt e =
+    let same : is_wide c ≡ true = ap is_wide (sym (get_or-replicate n k c d (subst (λ m. k < m) (length-replicate n c) lt))) ∙ e in
+    let no : false ≡ true = sym w ∙ same in cc
 
-pub all_stay : (width : ℕ) (cells : List Cell) → All (λ c. Fits c.symbol) cells → StayInRows width cells
-all_stay width cells a k d lt e = let no : false ≡ true = sym (narrow (get_or cells k d) (a k d lt)) ∙ e in cc
+pub same_laid_out : (n : ℕ) (c : Cell) → IsPrinted c.symbol → is_wide c ≡ false → (width : ℕ) → AreLaidOut width (replicate n c)
+same_laid_out n c p w width = record { stand = All-replicate Stands n c (printed_stands c p); paired = same_paired n c p w; rows = same_stay n c w width }
+
+pub blank_laid_out : (n : ℕ) (xs : List Cell) → xs ≡ replicate n blank → (width : ℕ) → AreLaidOut width xs
+blank_laid_out n xs e width = subst (AreLaidOut width) (sym e) (same_laid_out n blank space_printed space_is_narrow width)
+
+pub count_blank : (n : ℕ) (xs : List Cell) → xs ≡ replicate n blank → length xs ≡ n
+count_blank n xs e = ap length e ∙ length-replicate n blank

@@ -1,6 +1,10 @@
-pub mod Fitting
-pub mod Prints
 pub mod Squares
+pub mod Fitting
+pub mod Halves
+pub mod Laying
+pub mod Taking
+pub mod Filling
+pub mod Prints
 pub mod Runs
 pub mod Counts
 pub mod Scans

@@ -15,14 +15,14 @@ use Rattle.screen.specs.inside.Scans.{begins_covered, rest}
 
 -- ---- kinds of cells
 
-zero_takes_none : takes_two 0 ≡ false
+pub zero_takes_no_two : takes_two 0 ≡ false
 unfolding char_width
-zero_takes_none = refl
+zero_takes_no_two = refl
 
 pub covered_is_narrow : (c : Cell) → is_covered c ≡ true → is_wide c ≡ false
 covered_is_narrow c e =
     let z : c.symbol ≡ 0 = grind (arith, nat_tests) in
-    ap takes_two z ∙ zero_takes_none
+    ap takes_two z ∙ zero_takes_no_two
 
 kept_end : (covered wide : Bool) (c : ℕ) (s : Style) → wide ≡ false
     → without_second (cond covered Second (cond wide (First c s) (Whole c s))) ≡ cond covered Second (cond wide (First c s) (Whole c s))
@@ -193,7 +193,7 @@ at_place colors cells p (suc k) le =
     let more : k + 1 ≡ suc k = omega arith in
     subst (At colors cells) more (next colors cells k (get_or cells k blank) lt (same_default cells k blank lt) (at_place colors cells p k (omega (arith, le))))
 
-space_is_narrow : takes_two 32 ≡ false
+pub space_is_narrow : takes_two 32 ≡ false
 unfolding char_width
 space_is_narrow = refl
 

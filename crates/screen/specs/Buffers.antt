@@ -1,11 +1,14 @@
 -- Pictures: the cells of a buffer.
-use Rattle.std.specs.Prelude.{ℕ, Bool, ◌+◌, ◌-◌, ◌*◌, ◌&&◌, nat_lt, List, Option, Some, if◌then◌else◌, replicate, set, take}
+use Rattle.std.specs.Prelude.{ℕ, Bool, ◌+◌, ◌-◌, ◌*◌, ◌%◌, ◌&&◌, ◌==◌, nat_lt, List, Option, Some, None, if◌then◌else◌, map, replicate}
+use Rattle.std.specs.List.{range_with_len}
 use Rattle.crossterm_style.specs.declared.content_style.ContentStyle.{ContentStyle}
 use Rattle.screen.specs.declared.cells.Cell.{Cell}
 use Rattle.screen.specs.declared.faults.CellFault.{CellFault}
-use Rattle.screen.specs.declared.faults.CellFault.TheVariants.{Outside}
+use Rattle.screen.specs.declared.faults.CellFault.TheVariants.{LastColumn, Outside}
 use Rattle.screen.specs.Cells.{symbol_fault}
-use Rattle.screen.specs.Texts.{cells_of, with_cells}
+use Rattle.screen.specs.Grids.{takes_two}
+use Rattle.screen.specs.Overwriting.{cells_with, covered, overwritten}
+use Rattle.screen.specs.Texts.{cells_of, within}
 
 -- Cells stand row by row, from the top left one.
 pub record Picture : Type 0 where
@@ -23,13 +26,41 @@ filled width height c room = record { width = width; height = height; cells = re
 abbrev pub has : Picture → ℕ → ℕ → Bool
 has p column row = nat_lt column p.width && nat_lt row p.height
 
--- why a character isn't set at a column and a row, where it isn't: first the place, then the character
-abbrev pub refusal : Picture → ℕ → ℕ → ℕ → Option CellFault
-refusal p column row symbol = if has p column row then symbol_fault symbol else Some Outside
+-- whether a character has no room in a column: one of two columns in the last one
+abbrev pub is_cut : ℕ → ℕ → ℕ → Bool
+is_cut width column symbol = takes_two symbol && (column + 1 == width)
 
--- the picture with a cell at a column and a row
-abbrev pub with_cell : Picture → ℕ → ℕ → Cell → Picture
-with_cell p column row c = record p { cells = set p.cells (row * p.width + column) c }
+-- why a character isn't set in one of so many columns, where it isn't: first the character, then its room
+abbrev pub column_refusal : ℕ → ℕ → ℕ → Option CellFault
+column_refusal width column symbol =
+    elim (symbol_fault symbol) [ Some fault ↦ Some fault | None ↦ if is_cut width column symbol then Some LastColumn else None ]
+
+-- why a character isn't set at a column and a row, where it isn't: first the place, then the character, then its room
+abbrev pub refusal : Picture → ℕ → ℕ → ℕ → Option CellFault
+refusal p column row symbol = if has p column row then column_refusal p.width column symbol else Some Outside
+
+-- the picture with a character at a column and a row
+abbrev pub with_symbol : Picture → ℕ → ℕ → ℕ → ContentStyle → Picture
+with_symbol p column row symbol s = record p { cells = overwritten p.cells (row * p.width + column) (cells_with s symbol) }
+
+-- ---- one character everywhere
+
+-- what stands in a column of a row that is filled with a character of two columns: one of its two cells, or a space where a last column is left
+abbrev pub pair_cell : ℕ → ℕ → ContentStyle → ℕ → Cell
+pair_cell width symbol s column =
+    if column % 2 == 1 then covered s else (
+    if column + 1 == width then record { symbol = 32; style = s } else (
+    record { symbol = symbol; style = s }))
+
+-- so many cells in rows of a width, filled with a character
+abbrev pub fill_cells : ℕ → ℕ → ℕ → ContentStyle → List Cell
+fill_cells width count symbol s =
+    if takes_two symbol then map (λ k. pair_cell width symbol s (k % width)) (range_with_len 0 count)
+    else replicate count (record { symbol = symbol; style = s })
+
+-- the picture filled with a character
+abbrev pub filled_with : Picture → ℕ → ContentStyle → Picture
+filled_with p symbol s = record p { cells = fill_cells p.width (p.width * p.height) symbol s }
 
 -- ---- texts
 
@@ -37,10 +68,10 @@ with_cell p column row c = record p { cells = set p.cells (row * p.width + colum
 abbrev pub print_refusal : Picture → ℕ → Option CellFault → Option CellFault
 print_refusal p row other = if nat_lt row p.height then other else Some Outside
 
--- what a text shows from a column on: as many characters as have room in the row
+-- what a text shows in a row from a column on: as many characters as have room
 abbrev pub clipped : Picture → ℕ → List ℕ → List ℕ
-clipped p column text = take (p.width - column) text
+clipped p column text = within (p.width - column) text
 
--- the picture with a text in a row from a column on, and all other cells as they were
+-- the picture with a text in a row from a column on
 abbrev pub with_text : Picture → ℕ → ℕ → List ℕ → ContentStyle → Picture
-with_text p column row text s = record p { cells = with_cells p.cells (row * p.width + column) (cells_of s (clipped p column text)) }
+with_text p column row text s = record p { cells = overwritten p.cells (row * p.width + column) (cells_of s (clipped p column text)) }

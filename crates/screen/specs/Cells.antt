@@ -1,6 +1,7 @@
 -- Cells: a character in its style.
-use Rattle.std.specs.Prelude.{◌≡◌, ◌⊎◌, ℕ, ◌+◌, ◌<◌, ◌%◌, ◌==◌, Bool, List, [], ◌∷◌, Option, Some, None, true, false, if◌then◌else◌, get_or, length}
+use Rattle.std.specs.Prelude.{◌≡◌, ◌⊎◌, ℕ, ◌+◌, ◌<◌, ◌%◌, ◌==◌, Bool, List, [], ◌∷◌, Option, Some, None, true, false, if◌then◌else◌, get_or, length, nat_le}
 use Rattle.std.specs.Char.{IsScalar}
+use Rattle.std.specs.List.{All}
 use Rattle.unicode_width.specs.Width.{char_width}
 use Rattle.crossterm_command.specs.declared.color_output.ColorOutput.{ColorOutput}
 use Rattle.crossterm_style.specs.declared.content_style.ContentStyle.{ContentStyle}
@@ -54,15 +55,17 @@ ArePaired first (c ∷ cells) = (is_covered c ≡ first) × ArePaired (is_wide c
 abbrev pub StayInRows : ℕ → List Cell → Type 0
 StayInRows width cells = (k : ℕ) (d : Cell) → k < length cells → is_wide (get_or cells k d) ≡ true → ((k + 1) % width == 0) ≡ false
 
--- A character that takes one cell.
-abbrev pub Fits : ℕ → Type 0
-Fits c = IsScalar c × (takes_one c ≡ true)
+-- Cells of rows of a width: each character has all of its cells, side by side in one row.
+pub record AreLaidOut (width : ℕ) (cells : List Cell) : Type 0 where
+  pub stand : All Stands cells
+  pub paired : ArePaired false cells
+  pub rows : StayInRows width cells
 
--- the same by its width
+-- why a character can't stand in cells, by its width
 abbrev pub fault_of : Option ℕ → Option CellFault
 fault_of None = Some Control
-fault_of (Some width) = if width == 0 then Some NoWidth else (if width == 1 then None else Some Wide)
+fault_of (Some width) = if width == 0 then Some NoWidth else (if nat_le width 2 then None else Some Wide)
 
--- why a character can't stand in a cell, where it can't
+-- why a character can't stand in cells, where it can't
 abbrev pub symbol_fault : ℕ → Option CellFault
 symbol_fault c = fault_of (char_width false c)

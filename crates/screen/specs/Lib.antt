@@ -1,5 +1,6 @@
 pub mod Grids
 pub mod Cells
+pub mod Overwriting
 pub mod Texts
 pub mod Buffers
 pub mod Updates

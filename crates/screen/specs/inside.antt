@@ -1,3 +1,4 @@
+pub mod Edits
 pub mod Strokes
 pub mod Scans
 pub mod Pens

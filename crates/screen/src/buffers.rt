@@ -1,18 +1,20 @@
 //! Buffers: the cells that a program wants to show.
-ghost use Rattle.std.specs.Prelude.{◌≡◌, ◌+◌, ◌*◌, ◌<◌, ◌≤◌, false, OnOk, OnErr, IsOk, IfOk, IfErr, None, Some, chars, length, replicate, vec_capacity};
+ghost use Rattle.std.specs.Prelude.{◌≡◌, ℕ, ◌+◌, ◌*◌, ◌<◌, ◌≤◌, false, OnOk, OnErr, IsOk, IfOk, IfErr, IfSome, None, Some, chars, length, replicate, vec_capacity};
 ghost use Rattle.std.specs.List.{All};
-ghost use Rattle.screen.specs.Buffers.{clipped, filled, print_refusal, refusal, with_cell, with_text};
-ghost use Rattle.screen.specs.Cells.{ArePaired, Fits, StayInRows, Stands, blank, symbol_fault};
-ghost use Rattle.screen.specs.Texts.{replaced, text_fault};
+ghost use Rattle.screen.specs.Buffers.{clipped, column_refusal, filled, filled_with, print_refusal, refusal, with_symbol, with_text};
+ghost use Rattle.screen.specs.Cells.{AreLaidOut, ArePaired, IsPrinted, StayInRows, Stands, blank, symbol_fault};
+ghost use Rattle.screen.specs.Texts.{columns, replaced, replacement_fault, text_columns, text_fault, without_marks};
+ghost use Rattle.screen.specs.inside.Edits.{edited};
 
-use crate::cells::{Cell, symbol_fault};
+use crate::cells::{Cell, symbol_fault, takes_two};
 use crate::faults::CellFault;
-use crate::texts::{text_fault, write_text};
+use crate::overwriting::{fill, fill_rows, overwrite};
+use crate::texts::{fault_without_marks, replacement_fault, text_fault, write_text};
 use crossterm_style::ContentStyle;
 use std::alloc::{AllocError, Allocator, Global};
 use std::marker::Model;
 
-/// Cells row by row, each with a character that takes one column.
+/// Cells row by row. A character that takes two columns has two cells side by side: its own, and behind it one with the character 0.
 ///
 /// ```
 /// let mut buffer = Buffer::new(alloc, 80, 24)?;
@@ -27,15 +29,14 @@ pub struct Buffer<A: Allocator = Global> {
 
 impl<A: Allocator> Model for Buffer<A> {
     ghost use Rattle.std.specs.Prelude.{◌≡◌, ◌*◌, length, vec_capacity};
-    ghost use Rattle.std.specs.List.{All};
     ghost use Rattle.screen.specs.Buffers.{Picture};
-    ghost use Rattle.screen.specs.Cells.{Fits};
+    ghost use Rattle.screen.specs.Cells.{AreLaidOut};
 
     ghost Value = { Picture };
 
     ghost view = { λ b. record { width = b.width; height = b.height; cells = b.cells.items; room = vec_capacity b.cells } };
 
-    ghost invariant = { λ b. (length b.cells.items ≡ b.width * b.height) × All (λ c. Fits c.symbol) b.cells.items };
+    ghost invariant = { λ b. (length b.cells.items ≡ b.width * b.height) × AreLaidOut b.width b.cells.items };
 }
 
 /// How many cells there are.
@@ -45,18 +46,29 @@ pub(crate) fn count_of(width: u16, height: u16) -> usize
     width as usize * height as usize
 }
 
+/// Why a character isn't set in one of so many columns, if it isn't.
+fn column_fault(width: u16, column: u16, symbol: char) -> Option<CellFault>
+    requires { column < width }
+    ensures value { result ≡ column_refusal width column symbol }
+    ensures printed { result ≡ None → IsPrinted symbol }
+    ensures room { result ≡ None → column + columns symbol ≤ width }
+{
+    match symbol_fault(symbol) {
+        Some(fault) => Some(fault),
+        None => {
+            if column + 1 == width && takes_two(symbol) {
+                return Some(CellFault::LastColumn);
+            }
+            None
+        }
+    }
+}
+
 /// The place of a cell, by the number of columns.
 fn place_at(width: u16, column: u16, row: u16) -> usize
     ensures { result ≡ row * width + column }
 {
     row as usize * width as usize + column as usize
-}
-
-/// Makes all cells the same.
-pub(crate) fn fill(cells: &mut [Cell], cell: Cell)
-    ensures { cells.new ≡ replicate (length cells.old) cell }
-{
-    cells.fill(cell);
 }
 
 /// Makes so many blank cells. If memory is refused, the cells stay.
@@ -80,7 +92,7 @@ pub(crate) fn set_blank<A: Allocator>(
 ) -> Result<(), AllocError>
     ensures ok { OnOk result (cells.new.items ≡ replicate count blank) }
     ensures count { OnOk result (length cells.new.items ≡ count) }
-    ensures fits { OnOk result (All (λ c. Fits c.symbol) cells.new.items) }
+    ensures rows { OnOk result ((width : ℕ) → AreLaidOut width cells.new.items) }
     ensures err { OnErr result (cells.new.items ≡ cells.old.items) }
     ensures succeeds { count ≤ vec_capacity cells.old → IsOk result }
     ensures holds { OnOk result (count ≤ vec_capacity cells.new) }
@@ -148,12 +160,10 @@ impl<A: Allocator> Buffer<A> {
         self.height
     }
 
-    /// All cells, row by row.
-    #[tactic(auto, using(crate::proofs::Fitting::all_stand, crate::proofs::Fitting::all_paired, crate::proofs::Fitting::all_stay))]
+    /// All cells, row by row. The second cell of a character that takes two columns has the character 0, and the character's style.
     pub fn cells(&self) -> &[Cell]
         ensures cells { result.now ≡ self.now.cells }
         ensures count { length self.now.cells ≡ self.now.width * self.now.height }
-        ensures fits { All (λ c. Fits c.symbol) self.now.cells }
         ensures stand { All Stands self.now.cells }
         ensures paired { ArePaired false self.now.cells }
         ensures rows { StayInRows self.now.width self.now.cells }
@@ -161,28 +171,29 @@ impl<A: Allocator> Buffer<A> {
         &self.cells
     }
 
-    /// Makes all cells the same.
+    /// Fills each row with a character. If it takes two columns and the width is odd, a space in its style stands in the last column.
     ///
     /// # Errors
     ///
     /// Those of the character: `Control`, `NoWidth`, `Wide`. Then nothing changes.
     pub fn fill(&mut self, symbol: char, style: ContentStyle) -> Result<(), CellFault>
-        ensures ok { OnOk result ((symbol_fault symbol ≡ None)
-            × (self.new ≡ filled self.old.width self.old.height (record { symbol = symbol; style = style }) self.old.room)) }
+        ensures ok { OnOk result ((symbol_fault symbol ≡ None) × (self.new ≡ filled_with self.old symbol style)) }
         ensures err { IfErr result (λ fault. (symbol_fault symbol ≡ Some fault) × (self.new ≡ self.old)) }
     {
         if let Some(fault) = symbol_fault(symbol) {
             return Err(fault);
         }
-        fill(&mut self.cells, Cell { symbol, style });
+        fill_rows(&mut self.cells, self.width, Cell { symbol, style });
         Ok(())
     }
 
-    /// Sets a cell, by its column and its row from 0.
+    /// Sets a character, by its column and its row from 0. If it takes two columns, the next one is its second. A character that loses one of
+    /// its two columns to it leaves a space in the other one, in the style that it had.
     ///
     /// # Errors
     ///
-    /// `Outside`, and else those of the character: `Control`, `NoWidth`, `Wide`. Then nothing changes.
+    /// `Outside`, and else those of the character: `Control`, `NoWidth`, `Wide`. Else `LastColumn` if it takes two columns and stands in a
+    /// row's last one. Then nothing changes.
     pub fn set(
         &mut self,
         column: u16,
@@ -190,18 +201,17 @@ impl<A: Allocator> Buffer<A> {
         symbol: char,
         style: ContentStyle,
     ) -> Result<(), CellFault>
-        ensures ok { OnOk result ((refusal self.old column row symbol ≡ None)
-            × (self.new ≡ with_cell self.old column row (record { symbol = symbol; style = style }))) }
+        ensures ok { OnOk result ((refusal self.old column row symbol ≡ None) × (self.new ≡ with_symbol self.old column row symbol style)) }
         ensures err { IfErr result (λ fault. (refusal self.old column row symbol ≡ Some fault) × (self.new ≡ self.old)) }
     {
         if column >= self.width || row >= self.height {
             return Err(CellFault::Outside);
         }
-        if let Some(fault) = symbol_fault(symbol) {
+        if let Some(fault) = column_fault(self.width, column, symbol) {
             return Err(fault);
         }
         let at = place_at(self.width, column, row);
-        self.cells[at] = Cell { symbol, style };
+        overwrite(&mut self.cells, at, Cell { symbol, style });
         Ok(())
     }
 
@@ -215,19 +225,19 @@ impl<A: Allocator> Buffer<A> {
         other
     }
 
-    /// Sets the cells of a row that there is, as `print_replacing` does.
+    /// Prints into a row that there is. In the place of each character that no cell can hold is another one, or none.
     fn print_at(
         &mut self,
         column: u16,
         row: u16,
         text: &str,
-        replacement: char,
+        replacement: Option<char>,
         style: &ContentStyle,
     ) -> u16
         requires row { row < self.old.height }
-        requires replacement { Fits replacement }
-        ensures used { result ≡ length (clipped self.old column (replaced replacement (chars text.now))) }
-        ensures picture { self.new ≡ with_text self.old column row (replaced replacement (chars text.now)) style.now }
+        requires replacement { IfSome replacement IsPrinted }
+        ensures used { result ≡ text_columns (clipped self.old column (edited replacement (chars text.now))) }
+        ensures picture { self.new ≡ with_text self.old column row (edited replacement (chars text.now)) style.now }
     {
         if column >= self.width {
             return 0;
@@ -238,8 +248,9 @@ impl<A: Allocator> Buffer<A> {
         used as u16
     }
 
-    /// Sets the cells of a row, from a column on, to a text's characters, and returns how many columns these take. Characters behind the last
-    /// column are left out, and a column behind it leaves out all.
+    /// Prints a text into a row, from a column on, and returns how many columns were printed. The first character that has no room in the row
+    /// is left out, and so are all behind it. A column behind the last one leaves out all. A character that loses one of its two columns
+    /// leaves a space in the other one, as in `set`.
     ///
     /// ```
     /// let used = buffer.print(0, 2, "name", ContentStyle::new())?;
@@ -250,7 +261,7 @@ impl<A: Allocator> Buffer<A> {
     ///
     /// `Outside` if there is no such row, and else that of the first character which no cell can hold, shown or not: `Control`, `NoWidth`,
     /// `Wide`. Then nothing changes. `print_replacing` takes any text.
-    #[tactic(auto, using(crate::proofs::Prints::none_replaced, crate::proofs::Fitting::space_fits))]
+    #[tactic(auto, using(crate::proofs::Prints::edits_none))]
     pub fn print(
         &mut self,
         column: u16,
@@ -258,7 +269,7 @@ impl<A: Allocator> Buffer<A> {
         text: &str,
         style: ContentStyle,
     ) -> Result<u16, CellFault>
-        ensures used { IfOk result (λ used. used ≡ length (clipped self.old column (chars text.now))) }
+        ensures used { IfOk result (λ used. used ≡ text_columns (clipped self.old column (chars text.now))) }
         ensures ok { OnOk result ((print_refusal self.old row (text_fault (chars text.now)) ≡ None)
             × (self.new ≡ with_text self.old column row (chars text.now) style)) }
         ensures err { IfErr result (λ fault. (print_refusal self.old row (text_fault (chars text.now)) ≡ Some fault) × (self.new ≡ self.old)) }
@@ -267,11 +278,11 @@ impl<A: Allocator> Buffer<A> {
             return Err(fault);
         }
         // Nothing in it is to be replaced.
-        Ok(self.print_at(column, row, text, ' ', &style))
+        Ok(self.print_at(column, row, text, None, &style))
     }
 
-    /// Sets the cells of a row to any text's characters as `print` does, and returns how many columns these take. Each character that no
-    /// cell can hold is replaced by another one, which takes one column: control characters, those of no column, and those of two or more.
+    /// Prints any text into a row as `print` does, and returns how many columns were printed. Each character that no cell can hold is replaced by
+    /// another one, which takes one column: control characters, those of no column, and those of more than two.
     ///
     /// ```
     /// let used = buffer.print_replacing(0, 2, "a\tb", '?', ContentStyle::new())?;
@@ -281,7 +292,8 @@ impl<A: Allocator> Buffer<A> {
     /// # Errors
     ///
     /// `Outside` if there is no such row, and else that of the character that is to replace others, needed or not: `Control`, `NoWidth`,
-    /// `Wide`. Then nothing changes.
+    /// and `Wide` if it takes more than one column. Then nothing changes.
+    #[tactic(auto, using(crate::proofs::Prints::edits_some))]
     pub fn print_replacing(
         &mut self,
         column: u16,
@@ -290,14 +302,45 @@ impl<A: Allocator> Buffer<A> {
         replacement: char,
         style: ContentStyle,
     ) -> Result<u16, CellFault>
-        ensures used { IfOk result (λ used. used ≡ length (clipped self.old column (replaced replacement (chars text.now)))) }
-        ensures ok { OnOk result ((print_refusal self.old row (symbol_fault replacement) ≡ None)
+        ensures used { IfOk result (λ used. used ≡ text_columns (clipped self.old column (replaced replacement (chars text.now)))) }
+        ensures ok { OnOk result ((print_refusal self.old row (replacement_fault replacement) ≡ None)
             × (self.new ≡ with_text self.old column row (replaced replacement (chars text.now)) style)) }
-        ensures err { IfErr result (λ fault. (print_refusal self.old row (symbol_fault replacement) ≡ Some fault) × (self.new ≡ self.old)) }
+        ensures err { IfErr result (λ fault. (print_refusal self.old row (replacement_fault replacement) ≡ Some fault) × (self.new ≡ self.old)) }
     {
-        if let Some(fault) = self.print_fault(row, symbol_fault(replacement)) {
+        if let Some(fault) = self.print_fault(row, replacement_fault(replacement)) {
             return Err(fault);
         }
-        Ok(self.print_at(column, row, text, replacement, &style))
+        Ok(self.print_at(column, row, text, Some(replacement), &style))
+    }
+
+    /// Prints a text into a row as `print` does, without its characters of no column, and returns how many columns were printed.
+    ///
+    /// ```
+    /// let used = buffer.print_without_marks(0, 2, "e\u{301}t\u{e9}", ContentStyle::new())?;
+    /// assert_eq!(used, 3);
+    /// ```
+    ///
+    /// # Errors
+    ///
+    /// `Outside` if there is no such row, and else that of the first other character which no cell can hold, shown or not: `Control`,
+    /// `Wide`. Then nothing changes.
+    #[tactic(auto, using(crate::proofs::Prints::edits_marks))]
+    pub fn print_without_marks(
+        &mut self,
+        column: u16,
+        row: u16,
+        text: &str,
+        style: ContentStyle,
+    ) -> Result<u16, CellFault>
+        ensures used { IfOk result (λ used. used ≡ text_columns (clipped self.old column (without_marks (chars text.now)))) }
+        ensures ok { OnOk result ((print_refusal self.old row (text_fault (without_marks (chars text.now))) ≡ None)
+            × (self.new ≡ with_text self.old column row (without_marks (chars text.now)) style)) }
+        ensures err { IfErr result (λ fault. (print_refusal self.old row (text_fault (without_marks (chars text.now))) ≡ Some fault)
+            × (self.new ≡ self.old)) }
+    {
+        if let Some(fault) = self.print_fault(row, fault_without_marks(text)) {
+            return Err(fault);
+        }
+        Ok(self.print_at(column, row, text, None, &style))
     }
 }

@@ -1,7 +1,9 @@
 //! Cells, and whether two are the same.
 ghost use Rattle.std.specs.Prelude.{◌≡◌, ◌↔◌, IsTrue, false};
 ghost use Rattle.crossterm_style.specs.declared.types.color.Color.TheVariants.{Rgb};
-ghost use Rattle.screen.specs.Cells.{Fits, blank, is_covered, is_wide, symbol_fault};
+ghost use Rattle.screen.specs.Cells.{IsPrinted, blank, is_covered, is_wide, symbol_fault};
+ghost use Rattle.screen.specs.Grids.{takes_two};
+ghost use Rattle.screen.specs.Texts.{is_mark};
 ghost use Rattle.screen.specs.Updates.{HasToBePrinted};
 ghost use Rattle.std.specs.Prelude.{None};
 
@@ -34,22 +36,42 @@ impl Cell {
     }
 }
 
-/// Why a cell can't hold a character, if it can't: by its width (`unicode_width`).
+/// Why cells can't hold a character, if they can't: by its width (`unicode_width`).
 pub(crate) fn symbol_fault(symbol: char) -> Option<CellFault>
     ensures value { result ≡ symbol_fault symbol }
-    ensures fits { result ≡ None → Fits symbol }
+    ensures printed { result ≡ None → IsPrinted symbol }
 {
     match symbol.width() {
         None => Some(CellFault::Control),
         Some(width) => {
             if width == 0 {
                 Some(CellFault::NoWidth)
-            } else if width == 1 {
+            } else if width <= 2 {
                 None
             } else {
                 Some(CellFault::Wide)
             }
         }
+    }
+}
+
+/// Whether a character takes two columns.
+pub(crate) fn takes_two(symbol: char) -> bool
+    ensures { result ≡ takes_two symbol }
+{
+    match symbol.width() {
+        None => false,
+        Some(width) => width == 2,
+    }
+}
+
+/// Whether a character takes no column.
+pub(crate) fn is_mark(symbol: char) -> bool
+    ensures { result ≡ is_mark symbol }
+{
+    match symbol.width() {
+        None => false,
+        Some(width) => width == 0,
     }
 }
 
@@ -158,10 +180,7 @@ pub(crate) fn is_covered(cell: &Cell) -> bool
 pub(crate) fn is_wide(cell: &Cell) -> bool
     ensures { result ≡ is_wide cell.now }
 {
-    match cell.symbol.width() {
-        None => false,
-        Some(width) => width == 2,
-    }
+    takes_two(cell.symbol)
 }
 
 /// Whether a character has to be printed at a place where one cell is and another one is to be.

@@ -18,12 +18,15 @@ pub enum CellFault {
     /// It is a control character, which would do something else than show.
     #[error("a control character")]
     Control,
-    /// It takes no column, as a combining mark.
+    /// It takes no column, as a combining mark. `Buffer::print_without_marks` leaves such characters out.
     #[error("a character of width 0")]
     NoWidth,
-    /// It takes two columns or more. A cell has room for one.
-    #[error("a character of width 2 or more")]
+    /// It takes more than two columns. If it is to replace others, it takes more than one.
+    #[error("a character of too many columns")]
     Wide,
+    /// It takes two columns, and a row's last one has no room for it.
+    #[error("a character of two columns in the last one")]
+    LastColumn,
 }
 
 /// Why a frame isn't drawn. As an `io::Error`, `Command` is the error that its fault becomes, and the others have the kind `InvalidInput`.

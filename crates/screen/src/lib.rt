@@ -15,9 +15,10 @@
 //! that shows the new buffer cell for cell. Its cursor is where it was asked to be. At the beginning, after `resize`, `forget` and an error
 //! nothing is known of the cells, and the same holds for every grid of the size.
 //!
-//! A cell of a buffer holds a character of one column. Control characters and those of no column or of two and more are refused by name
-//! (`CellFault`), and `Buffer::print_replacing` replaces them. The definitions and the proof of a frame have characters of two columns too,
-//! which cover the next cell; no buffer makes any yet.
+//! A character of a buffer takes one column or two. One of two columns has two cells: its own, and behind it a covered one with the character 0
+//! and the same style. Both are in one row. What is written over one of the two leaves a space in the other, in the style that it had.
+//! Control characters and those of no column or of more than two are refused by name (`CellFault`). `Buffer::print_replacing` replaces them, and
+//! `Buffer::print_without_marks` leaves out those of no column.
 //!
 //! If a frame broke off within a control sequence, the next one begins with ESC, which ends such a sequence at a terminal. The definitions
 //! speak of whole sequences and don't say so.
@@ -30,10 +31,13 @@
 //! |---|---|
 //! | a frame shows the buffer (the fourth theorem): it leads from each grid that shows the last one to a grid that shows this one, with the cursor where it was asked to be, and prints one character for each cell that differs and no other | `Screen::draw` |
 //! | a frame is one synchronized update; it has at most one move for each run of characters side by side, one setting of the style for each run of characters in one style, and a handful at its ends | `Screen::draw` |
-//! | a screen has as much memory after a frame as before; screens and buffers give none back, and a size that they have memory for isn't refused | `Screen::{draw, new, resize}`, `Buffer::{new, resize, fill, set, print, print_replacing}` |
+//! | a screen has as much memory after a frame as before; screens and buffers give none back, and a size that they have memory for isn't refused | `Screen::{draw, new, resize}`, `Buffer::{new, resize, fill, set, print, print_replacing, print_without_marks}` |
 //! | a wrong size or place writes nothing and changes nothing; at any other error a beginning of the frame was written and nothing else, and nothing is known of the cells | `Screen::draw` |
-//! | a character that doesn't take one column is refused by name, and a refusal changes nothing; a text is printed into a row up to the last column, and the columns that it took are returned | `Buffer::{new, resize, fill, set, print}` |
-//! | of any text, each character that doesn't take one column is replaced by a given one | `Buffer::print_replacing` |
+//! | a character that doesn't take one column or two is refused by name, `set` refuses one of two in a row's last column too, and a refusal changes nothing | `Buffer::{fill, set, print, print_replacing, print_without_marks}` |
+//! | no half of a character of two columns stands alone: what loses its other half is a space in the style that it had | `Buffer::{cells, fill, set, print, print_replacing, print_without_marks}` |
+//! | of a text as many characters are printed as have room in the row, and the number of the columns that they took is returned | `Buffer::{print, print_replacing, print_without_marks}` |
+//! | of any text, each character that no cell can hold is replaced by a given one | `Buffer::print_replacing` |
+//! | of a text, the characters of no column are left out, and the others are printed or refused as in `print` | `Buffer::print_without_marks` |
 //! | as an `io::Error`, a fault has the kind `InvalidInput`; the fault of a command is the error that it becomes by itself | `From<CellFault>` and `From<DrawFault>` of `io::Error` |
 //!
 //! What to believe, in the order in which it reads (`specs/`), and where it is proved:
@@ -41,9 +45,10 @@
 //! | Definitions | Lines | Of | Contract |
 //! |---|---|---|---|
 //! | `Grids` | 158 | a terminal as a grid of cells, and what each token does to it | |
-//! | `Cells` | 68 | how a cell looks, which cells are paired, and which characters fit | `Cell::blank`, `Buffer::{cells, set}` |
-//! | `Texts` | 27 | the cells of a text's characters, and what is replaced in it | `Buffer::{print, print_replacing}` |
-//! | `Buffers` | 46 | the pictures that buffers hold | `Buffer` |
+//! | `Cells` | 71 | how a cell looks, which cells are paired, and which characters fit | `Cell::blank`, `Buffer::{cells, fill, set}` |
+//! | `Overwriting` | 43 | the cells that a character takes, and what becomes of the halves beside them | `Buffer::{set, print, print_replacing, print_without_marks}` |
+//! | `Texts` | 54 | the cells of a text's characters, what has room, and what is replaced in it or left out | `Buffer::{print, print_replacing, print_without_marks}` |
+//! | `Buffers` | 77 | the pictures that buffers hold | `Buffer` |
 //! | `Screens` | 17 | a screen, and what it drew last | `Screen` |
 //! | `Updates` | 116 | which characters have to be printed, and how few moves and styles do it | `Screen::draw` |
 //! | `Drawings` | 130 | what a frame does to each grid, how many characters it prints, and what is refused | `Screen::draw`, `From<DrawFault>` of `io::Error` |
@@ -56,6 +61,7 @@
 mod buffers;
 mod cells;
 mod faults;
+mod overwriting;
 mod pens;
 mod planning;
 mod screens;

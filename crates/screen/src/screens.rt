@@ -7,9 +7,10 @@ ghost use Rattle.screen.specs.Cells.{ArePaired, blank};
 ghost use Rattle.screen.specs.Drawings.{CursorFits, IsFrame, IsSameSize, NotDrawn, forgotten, with_drawn};
 ghost use Rattle.screen.specs.inside.Scans.{IsPairedIf, is_known};
 
-use crate::buffers::{Buffer, count_of, fill};
+use crate::buffers::{Buffer, count_of};
 use crate::cells::Cell;
 use crate::faults::DrawFault;
+use crate::overwriting::fill;
 use crate::planning::write_frame;
 use crossterm_command::ColorOutput;
 use std::alloc::{AllocError, Allocator, Global};

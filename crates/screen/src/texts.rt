@@ -1,11 +1,14 @@
 //! Texts in cells.
-ghost use Rattle.std.specs.Prelude.{◌≡◌, ◌+◌, ◌≤◌, chars, length, take};
-ghost use Rattle.std.specs.List.{All};
-ghost use Rattle.screen.specs.Cells.{Fits};
-ghost use Rattle.screen.specs.Texts.{cells_of, fitting, replaced, text_fault, with_cells};
+ghost use Rattle.std.specs.Prelude.{◌≡◌, ◌+◌, ◌≤◌, IfSome, chars, length};
+ghost use Rattle.std.specs.List.{AllByRecursion};
+ghost use Rattle.screen.specs.Cells.{IsPrinted};
+ghost use Rattle.screen.specs.Overwriting.{overwritten};
+ghost use Rattle.screen.specs.Texts.{cells_of, replacement_fault, text_columns, text_fault, within, without_marks};
+ghost use Rattle.screen.specs.inside.Edits.{edit, edited, fault_unless_mark};
 
-use crate::cells::{Cell, symbol_fault};
+use crate::cells::{Cell, is_mark, symbol_fault, takes_two};
 use crate::faults::CellFault;
+use crate::overwriting::{columns, overwrite};
 use crossterm_style::ContentStyle;
 
 /// Why cells can't hold a text, if they can't: its first character that they can't hold.
@@ -20,46 +23,89 @@ pub(crate) fn text_fault(text: &str) -> Option<CellFault>
     None
 }
 
-/// A character, or another one if no cell can hold it.
-fn fitting(symbol: char, replacement: char) -> char
-    requires { Fits replacement }
-    ensures value { result ≡ fitting replacement symbol }
-    ensures fits { Fits result }
+/// Why cells can't hold a character, if they can't and it takes a column or more.
+fn fault_unless_mark(symbol: char) -> Option<CellFault>
+    ensures { result ≡ fault_unless_mark symbol }
+{
+    if is_mark(symbol) {
+        return None;
+    }
+    symbol_fault(symbol)
+}
+
+/// Why cells can't hold a text without its characters of no column, if they can't.
+pub(crate) fn fault_without_marks(text: &str) -> Option<CellFault>
+    ensures { result ≡ text_fault (without_marks (chars text.now)) }
+{
+    for symbol in text.chars() {
+        if let Some(fault) = fault_unless_mark(symbol) {
+            return Some(fault);
+        }
+    }
+    None
+}
+
+/// Why a character can't replace others, if it can't: it has to take one column.
+pub(crate) fn replacement_fault(symbol: char) -> Option<CellFault>
+    ensures value { result ≡ replacement_fault symbol }
+    ensures printed { result ≡ None → IsPrinted symbol }
 {
     match symbol_fault(symbol) {
-        None => symbol,
+        Some(fault) => Some(fault),
+        None => {
+            if takes_two(symbol) {
+                return Some(CellFault::Wide);
+            }
+            None
+        }
+    }
+}
+
+/// A character, or another one if no cell can hold it. There may be no other.
+fn edit(symbol: char, replacement: Option<char>) -> Option<char>
+    requires { IfSome replacement IsPrinted }
+    ensures value { result ≡ edit replacement symbol }
+    ensures printed { IfSome result IsPrinted }
+{
+    match symbol_fault(symbol) {
+        None => Some(symbol),
         Some(_) => replacement,
     }
 }
 
-/// Sets so many cells at most, from a place on, to a text's characters, and returns how many. In the place of each that no cell can hold
-/// is another one.
+/// Overwrites so many cells at most, from a place on, by those of a text's characters, and returns how many. In the place of each that no
+/// cell can hold is another one, or none.
 pub(crate) fn write_text(
     cells: &mut [Cell],
     at: usize,
     room: usize,
     text: &str,
-    replacement: char,
+    replacement: Option<char>,
     style: &ContentStyle,
 ) -> usize
     requires room { at + room ≤ length cells.old }
-    requires replacement { Fits replacement }
-    requires fits { All (λ c. Fits c.symbol) cells.old }
-    ensures count { result ≡ length (take room (replaced replacement (chars text.now))) }
-    ensures cells { cells.new ≡ with_cells cells.old at (cells_of style.now (take room (replaced replacement (chars text.now)))) }
-    ensures fits { All (λ c. Fits c.symbol) cells.new }
+    requires replacement { IfSome replacement IsPrinted }
+    ensures count { result ≡ text_columns (within room (edited replacement (chars text.now))) }
+    ensures few { result ≤ room }
+    ensures cells { cells.new ≡ overwritten cells.old at (cells_of style.now (within room (edited replacement (chars text.now)))) }
+    ensures printed { AllByRecursion IsPrinted (within room (edited replacement (chars text.now))) }
 {
     let mut count = 0;
     for symbol in text.chars() {
-        if count == room {
-            return count;
-        }
-        let shown = fitting(symbol, replacement);
-        cells[at + count] = Cell {
+        let shown = match edit(symbol, replacement) {
+            None => continue,
+            Some(shown) => shown,
+        };
+        let cell = Cell {
             symbol: shown,
             style: *style,
         };
-        count += 1;
+        let taken = columns(&cell);
+        if taken > room - count {
+            return count;
+        }
+        overwrite(cells, at + count, cell);
+        count += taken;
     }
     count
 }

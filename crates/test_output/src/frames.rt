@@ -8,3 +8,4 @@ mod random;
 mod refused;
 mod rows;
 mod sizes;
+mod wide;

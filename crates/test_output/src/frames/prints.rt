@@ -1,4 +1,5 @@
-//! Texts in a buffer: clipped at the last column, and refused whole if a cell can't hold a character, or with such ones replaced.
+//! Texts in a buffer: clipped at the last column, and refused whole if a cell can't hold a character, or with such ones replaced. The second
+//! cell of a character of two columns is written as U+0000.
 
 use crossterm_style::ContentStyle;
 use screen::{Buffer, CellFault};
@@ -8,7 +9,7 @@ use test_support::expect;
 /// A column, a row and a text; the columns that it takes, or why it is refused; what is in two rows of five columns then.
 type Row = (u16, u16, &'static str, Result<u16, CellFault>, &'static str);
 
-const ROWS: [Row; 9] = [
+const ROWS: [Row; 14] = [
     (1, 0, "abc", Ok(3), ".abc......"),
     (3, 0, "abc", Ok(2), "...ab....."),
     (0, 1, "hé ß", Ok(4), ".....hé ß."),
@@ -18,7 +19,13 @@ const ROWS: [Row; 9] = [
     (0, 0, "ab\u{1b}", Err(CellFault::Control), ".........."),
     (0, 0, "e\u{301}", Err(CellFault::NoWidth), ".........."),
     // Refused, though the second character has no room.
-    (4, 0, "a漢", Err(CellFault::Wide), ".........."),
+    (4, 0, "a\u{17d8}", Err(CellFault::Wide), ".........."),
+    (0, 0, "漢😀", Ok(4), "漢\u{0}😀\u{0}......"),
+    (3, 1, "漢字", Ok(2), "........漢\u{0}"),
+    // A character of two columns has no room in the last one, and ends the text.
+    (4, 0, "a漢", Ok(1), "....a....."),
+    (0, 0, "漢漢漢a", Ok(4), "漢\u{0}漢\u{0}......"),
+    (4, 0, "漢a", Ok(0), ".........."),
 ];
 
 /// A column, a row, a text, and what replaces its characters that no cell can hold; the columns, or why it is refused; the two rows then.
@@ -31,10 +38,11 @@ type Replacing = (
     &'static str,
 );
 
-const REPLACING: [Replacing; 10] = [
+const REPLACING: [Replacing; 11] = [
     (0, 0, "a\tb\u{1b}", '?', Ok(4), "a?b?......"),
-    (0, 1, "e\u{301}漢😀", '_', Ok(4), ".....e___."),
-    (3, 0, "\u{7f}漢a", '?', Ok(2), "...??....."),
+    (0, 1, "e\u{301}漢😀", '_', Ok(4), ".....e_漢\u{0}."),
+    (3, 0, "\u{7f}漢a", '?', Ok(1), "...?......"),
+    (0, 0, "\u{17d8}漢a", '?', Ok(4), "?漢\u{0}a......"),
     (5, 0, "漢", '?', Ok(0), ".........."),
     (0, 0, "hé", '?', Ok(2), "hé........"),
     (0, 0, "", ' ', Ok(0), ".........."),
@@ -50,6 +58,16 @@ const REPLACING: [Replacing; 10] = [
         Err(CellFault::NoWidth),
         "..........",
     ),
+];
+
+/// The same of texts that are printed without their characters of no column.
+const WITHOUT_MARKS: [Row; 6] = [
+    (0, 0, "e\u{301}t\u{e9}\u{301}", Ok(3), "et\u{e9}......."),
+    (1, 1, "\u{200b}漢\u{fe0f}a\u{301}", Ok(3), "......漢\u{0}a."),
+    (4, 0, "a\u{301}漢", Ok(1), "....a....."),
+    (0, 0, "e\u{301}\n", Err(CellFault::Control), ".........."),
+    (0, 0, "e\u{301}\u{17d8}", Err(CellFault::Wide), ".........."),
+    (0, 2, "\n", Err(CellFault::Outside), ".........."),
 ];
 
 /// Two rows of five dots.
@@ -84,6 +102,14 @@ fn is_replaced(alloc: Global, row: &Replacing) -> Result<bool, AllocError> {
     Ok(came == result && shows(&buffer, wanted))
 }
 
+/// Whether a text is printed so without its characters of no column.
+fn is_left_out(alloc: Global, row: &Row) -> Result<bool, AllocError> {
+    let (column, line, text, result, wanted) = *row;
+    let mut buffer = dots(alloc)?;
+    let came = buffer.print_without_marks(column, line, text, ContentStyle::new());
+    Ok(came == result && shows(&buffer, wanted))
+}
+
 fn are_printed(alloc: Global) -> Result<bool, AllocError> {
     for row in &ROWS {
         if !is_printed(alloc, row)? {
@@ -92,6 +118,11 @@ fn are_printed(alloc: Global) -> Result<bool, AllocError> {
     }
     for row in &REPLACING {
         if !is_replaced(alloc, row)? {
+            return Ok(false);
+        }
+    }
+    for row in &WITHOUT_MARKS {
+        if !is_left_out(alloc, row)? {
             return Ok(false);
         }
     }

@@ -9,15 +9,16 @@ use std::io::{self, ErrorKind};
 use test_support::{expect, is_text};
 
 /// Characters, and why no cell can hold them (Unicode Standard Annex 11; ECMA-48 for the control characters).
-const ROWS: [(char, Option<CellFault>); 10] = [
+const ROWS: [(char, Option<CellFault>); 11] = [
     ('\u{0}', Some(CellFault::Control)),
     ('\u{1b}', Some(CellFault::Control)),
     ('\u{7f}', Some(CellFault::Control)),
     ('\u{9b}', Some(CellFault::Control)),
     ('\u{301}', Some(CellFault::NoWidth)),
     ('\u{200b}', Some(CellFault::NoWidth)),
-    ('漢', Some(CellFault::Wide)),
-    ('😀', Some(CellFault::Wide)),
+    ('\u{17d8}', Some(CellFault::Wide)),
+    ('漢', None),
+    ('😀', None),
     ('é', None),
     ('~', None),
 ];
@@ -26,7 +27,7 @@ fn are_refused(alloc: Global) -> Result<bool, AllocError> {
     let mut buffer = Buffer::new(alloc, 2, 2)?;
     for (symbol, fault) in ROWS {
         let style = ContentStyle::new();
-        if buffer.set(1, 1, symbol, style).err() != fault
+        if buffer.set(0, 1, symbol, style).err() != fault
             || buffer.fill(symbol, style).err() != fault
         {
             return Ok(false);
@@ -37,7 +38,10 @@ fn are_refused(alloc: Global) -> Result<bool, AllocError> {
     Ok(
         is_filled
             && buffer.set(2, 0, 'x', style) == Err(CellFault::Outside)
-            && buffer.set(0, 2, '\u{1b}', style) == Err(CellFault::Outside),
+            && buffer.set(2, 0, '漢', style) == Err(CellFault::Outside)
+            && buffer.set(0, 2, '\u{1b}', style) == Err(CellFault::Outside)
+            && buffer.set(1, 0, '漢', style) == Err(CellFault::LastColumn)
+            && buffer.set(1, 0, '\u{17d8}', style) == Err(CellFault::Wide),
     )
 }
 
@@ -67,11 +71,15 @@ fn faults_have_names(rt: HostRuntime) -> Result<(), AllocError> {
 }
 
 /// What a program prints of each fault.
-const TEXTS: [(CellFault, &str); 4] = [
+const TEXTS: [(CellFault, &str); 5] = [
     (CellFault::Outside, "outside the buffer"),
     (CellFault::Control, "a control character"),
     (CellFault::NoWidth, "a character of width 0"),
-    (CellFault::Wide, "a character of width 2 or more"),
+    (CellFault::Wide, "a character of too many columns"),
+    (
+        CellFault::LastColumn,
+        "a character of two columns in the last one",
+    ),
 ];
 
 fn is_shown(alloc: Global, fault: &DrawFault, want: &str) -> bool {
@@ -106,6 +114,7 @@ fn have_kinds() -> bool {
     let text = DrawFault::Command(CommandFault::Text);
     io::Error::from(CellFault::Outside).kind() == ErrorKind::InvalidInput
         && io::Error::from(CellFault::Wide).kind() == ErrorKind::InvalidInput
+        && io::Error::from(CellFault::LastColumn).kind() == ErrorKind::InvalidInput
         && io::Error::from(DrawFault::Size).kind() == ErrorKind::InvalidInput
         && io::Error::from(DrawFault::Cursor).kind() == ErrorKind::InvalidInput
         && io::Error::from(broken).kind() == ErrorKind::BrokenPipe

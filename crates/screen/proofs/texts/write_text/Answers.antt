@@ -1,62 +1,70 @@
-use Rattle.std.proofs.Common.{◌≡◌, ◌+◌, ◌<◌, ◌≤◌, chars, length, take, refl, ap, sym, ◌∙◌, arith, get_or, set}
+use Rattle.std.proofs.Common.{◌≡◌, ◌+◌, ◌-◌, ◌<◌, ◌≤◌, ◌++◌, ◌∷◌, [], Some, None, chars, length, take, subst, ap, sym, ◌∙◌, arith}
+use Rattle.std.specs.List.{AllByRecursion}
 use Rattle.std.proofs.lemmas.Iterator.{YieldsList-from_chars}
 use Rattle.std.proofs.lemmas.Iterator.Consumers.{YieldsList-turn, YieldsList-end}
-use Rattle.std.proofs.lemmas.List.{length_push, length-take-le, take_all}
-use Rattle.std.proofs.lemmas.List.Elements.{All-set}
-use Rattle.screen.specs.declared.cells.Cell.{Cell}
-use Rattle.screen.specs.Cells.{Fits}
-use Rattle.screen.specs.Texts.{cells_of, replaced, with_cells}
-use Rattle.screen.proofs.Prints.{replaced_at, replaced_length, with_none, written_more}
+use Rattle.std.proofs.lemmas.List.{length_push}
+use Rattle.screen.specs.Cells.{IsPrinted}
+use Rattle.screen.specs.Overwriting.{overwritten}
+use Rattle.screen.specs.Texts.{cells_of, columns, text_columns, within}
+use Rattle.screen.specs.inside.Edits.{edit, edited}
+use Rattle.screen.proofs.Prints.{IsWritten, shown_all, shown_front, written_none, written_with, written_without}
 use Rattle.screen.proofs.texts.write_text.Goals as goal
 
 pub loop-symbol-init : goal.loop-symbol-init
-loop-symbol-init c = record { count = refl; room = omega arith; cells = sym (with_none c.args.cells.now c.args.at); fits = c.requires.fits }
+loop-symbol-init c = written_none c.args.replacement (chars c.args.text.now) c.args.room c.args.at c.args.style.now c.args.cells.now
+
+pub loop-symbol-preserved-in-None-edit : goal.loop-symbol-preserved-in-None-edit
+loop-symbol-preserved-in-None-edit c =
+    let raw = chars c.args.text.now in
+    let symbol = c.in-Some.symbol in
+    let n = length c.loop-symbol.yielded in
+    let turn = YieldsList-turn (YieldsList-from_chars c.args.text.now c.utf8.text cc) c.loop-symbol.yielded _ c.loop-symbol.yielded_by _ _ symbol c.in-Some.is c.next.ensures.steps in
+    let none : edit c.args.replacement symbol ≡ None = sym c.edit.ensures.value ∙ c.in-None-edit.is in
+    written_without c.args.replacement raw c.args.room c.args.at c.args.style.now c.args.cells.now n _ c.loop-symbol.count symbol c.loop-symbol.cells turn.0 turn.1 none
+    (length_push c.loop-symbol.yielded symbol) c.loop-symbol.invariant
 
 pub loop-symbol-preserved : goal.loop-symbol-preserved
 loop-symbol-preserved c =
     let raw = chars c.args.text.now in
-    let text = replaced c.args.replacement raw in
-    let n = c.loop-symbol.count in
     let symbol = c.in-Some.symbol in
-    let shown = c.fitting-shown.result in
+    let n = length c.loop-symbol.yielded in
+    let shown = c.in-Some-edit.shown in
     let turn = YieldsList-turn (YieldsList-from_chars c.args.text.now c.utf8.text cc) c.loop-symbol.yielded _ c.loop-symbol.yielded_by _ _ symbol c.in-Some.is c.next.ensures.steps in
-    let same = c.loop-symbol.invariant.count in
-    let below : n < length raw = omega (arith, turn.0, same) in
-    let lt : n < length text = omega (arith, below, replaced_length c.args.replacement raw) in
-    let at : symbol ≡ get_or raw n symbol = turn.1 ∙ ap (λ m. get_or raw m symbol) (sym same) in
-    let shown_at : shown ≡ get_or text n shown = replaced_at c.args.replacement raw n symbol shown below at c.fitting-shown.ensures.value in
-    let inside : c.args.at + n < length c.args.cells.now = omega (arith, c.requires.room, c.loop-symbol.invariant.room, c.if-count-room.false) in
-    record {
-      count = omega (arith, same, length_push c.loop-symbol.yielded symbol);
-      room = omega (arith, c.loop-symbol.invariant.room, c.if-count-room.false);
-      cells = ap (λ l. set l (c.args.at + n) (record { symbol = shown; style = c.args.style.now })) c.loop-symbol.invariant.cells
-          ∙ written_more c.args.style.now text c.args.cells.now c.args.at n shown lt shown_at inside;
-      fits = All-set (λ (a : Cell). Fits a.symbol) c.loop-symbol.cells (c.args.at + n) _ c.fitting-shown.ensures.fits c.loop-symbol.invariant.fits;
-    }
+    let some : edit c.args.replacement symbol ≡ Some shown = sym c.edit.ensures.value ∙ c.in-Some-edit.is in
+    let more : c.loop-symbol.count + c.columns-taken.result ≡ c.loop-symbol.count + columns shown = ap (λ k. c.loop-symbol.count + k) c.columns-taken.ensures.value in
+    let fits : columns shown ≤ c.args.room - c.loop-symbol.count = omega (arith, c.columns-taken.ensures.value, c.if-taken-room.false) in
+    subst (λ l. IsWritten c.args.replacement raw c.args.room c.args.at c.args.style.now c.args.cells.now (length (c.loop-symbol.yielded ++ symbol ∷ [])) (c.loop-symbol.count + c.columns-taken.result) l) (sym c.overwrite.ensures)
+    (written_with c.args.replacement raw c.args.room c.args.at c.args.style.now c.args.cells.now n _ c.loop-symbol.count _ symbol shown c.loop-symbol.cells turn.0 turn.1 some c.in-Some-edit.ensures.printed
+    (length_push c.loop-symbol.yielded symbol) more fits c.requires.room c.loop-symbol.invariant)
 
-pub returns-then-count-room : goal.returns-then-count-room
-returns-then-count-room c =
+pub returns-then-taken-room : goal.returns-then-taken-room
+returns-then-taken-room c =
     let raw = chars c.args.text.now in
-    let text = replaced c.args.replacement raw in
-    let turn = YieldsList-turn (YieldsList-from_chars c.args.text.now c.utf8.text cc) c.loop-symbol.yielded _ c.loop-symbol.yielded_by _ _ c.in-Some.symbol c.in-Some.is c.next.ensures.steps in
-    let le : c.loop-symbol.count ≤ length text = omega (arith, turn.0, c.loop-symbol.invariant.count, replaced_length c.args.replacement raw) in
-    let all = c.if-count-room.true in
+    let symbol = c.in-Some.symbol in
+    let n = length c.loop-symbol.yielded in
+    let shown = c.in-Some-edit.shown in
+    let turn = YieldsList-turn (YieldsList-from_chars c.args.text.now c.utf8.text cc) c.loop-symbol.yielded _ c.loop-symbol.yielded_by _ _ symbol c.in-Some.is c.next.ensures.steps in
+    let some : edit c.args.replacement symbol ≡ Some shown = sym c.edit.ensures.value ∙ c.in-Some-edit.is in
+    let full : c.args.room - c.loop-symbol.count < columns shown = omega (arith, c.columns-taken.ensures.value, c.if-taken-room.true) in
+    let all : within c.args.room (edited c.args.replacement raw) ≡ edited c.args.replacement (take n raw) =
+    shown_front c.args.replacement raw c.args.room c.args.at c.args.style.now c.args.cells.now n c.loop-symbol.count symbol shown c.loop-symbol.cells turn.0 turn.1 some full c.loop-symbol.invariant in
     record {
-      count = sym (ap (λ n. length (take n text)) (sym all) ∙ length-take-le c.loop-symbol.count text le);
-      cells = c.loop-symbol.invariant.cells ∙ ap (λ n. with_cells c.args.cells.now c.args.at (cells_of c.args.style.now (take n text))) all;
-      fits = c.loop-symbol.invariant.fits;
+      count = c.loop-symbol.invariant.taken ∙ ap text_columns (sym all);
+      few = c.loop-symbol.invariant.fits;
+      cells = c.loop-symbol.invariant.written ∙ ap (λ l. overwritten c.args.cells.now c.args.at (cells_of c.args.style.now l)) (sym all);
+      printed = subst (AllByRecursion IsPrinted) (sym all) c.loop-symbol.invariant.printed;
     }
 
 pub returns : goal.returns
 returns c =
     let raw = chars c.args.text.now in
-    let text = replaced c.args.replacement raw in
+    let n = length c.loop-symbol.yielded in
     let end = YieldsList-end (YieldsList-from_chars c.args.text.now c.utf8.text cc) c.loop-symbol.yielded _ c.loop-symbol.yielded_by _ _ c.in-None.is c.next.ensures.steps in
-    let same : c.loop-symbol.count ≡ length text = omega (arith, end.1, c.loop-symbol.invariant.count, replaced_length c.args.replacement raw) in
-    let small : length text ≤ c.args.room = omega (arith, same, c.loop-symbol.invariant.room) in
-    let all : take c.loop-symbol.count text ≡ take c.args.room text = take_all c.loop-symbol.count text (omega (arith, same)) ∙ sym (take_all c.args.room text small) in
+    let all : within c.args.room (edited c.args.replacement raw) ≡ edited c.args.replacement (take n raw) =
+    shown_all c.args.replacement raw c.args.room c.args.at c.args.style.now c.args.cells.now n c.loop-symbol.count c.loop-symbol.cells (omega (arith, end.1)) c.loop-symbol.invariant in
     record {
-      count = same ∙ ap length (sym (take_all c.args.room text small));
-      cells = c.loop-symbol.invariant.cells ∙ ap (λ l. with_cells c.args.cells.now c.args.at (cells_of c.args.style.now l)) all;
-      fits = c.loop-symbol.invariant.fits;
+      count = c.loop-symbol.invariant.taken ∙ ap text_columns (sym all);
+      few = c.loop-symbol.invariant.fits;
+      cells = c.loop-symbol.invariant.written ∙ ap (λ l. overwritten c.args.cells.now c.args.at (cells_of c.args.style.now l)) (sym all);
+      printed = subst (AllByRecursion IsPrinted) (sym all) c.loop-symbol.invariant.printed;
     }

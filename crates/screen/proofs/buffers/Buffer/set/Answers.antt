@@ -1,0 +1,16 @@
+use Rattle.std.proofs.Common.{rules, ◌≡◌, ◌+◌, ◌*◌, ◌<◌, length}
+use Rattle.screen.proofs.Taking.{symbol_kept}
+use Rattle.screen.proofs.buffers.Buffer.set.Goals as goal
+
+pub invariant_of-self : goal.invariant_of-self
+invariant_of-self g c =
+    let w = c.self.inside.width in
+    let h = c.self.inside.height in
+    let items = c.self.inside.cells.items in
+    let old = c.deref_mut.result.now in
+    let count : length items ≡ c.self.inside.cells.len = search rules in
+    let same : old ≡ items = search rules in
+    let below : c.args.row < h = search rules in
+    let at : c.place_at-at.result ≡ c.args.row * w + c.args.column = c.place_at-at.ensures in
+    symbol_kept c.args.style c.args.symbol w h c.self.inside.cells.len c.args.row c.args.column c.place_at-at.result items old c.overwrite.new.cells count c.self.invariant.0 c.self.invariant.1 same below
+    (c.column_fault.ensures.room c.in_default.is) (c.column_fault.ensures.printed c.in_default.is) at c.overwrite.ensures
