@@ -171,7 +171,7 @@ impl<A: Allocator> Buffer<A> {
         &self.cells
     }
 
-    /// Fills each row with a character. If it takes two columns and the width is odd, a space in its style stands in the last column.
+    /// Fills each row with a character. If it takes two columns and the width is odd, a space in its style is in the last column.
     ///
     /// # Errors
     ///
@@ -192,8 +192,8 @@ impl<A: Allocator> Buffer<A> {
     ///
     /// # Errors
     ///
-    /// `Outside`, and else those of the character: `Control`, `NoWidth`, `Wide`. Else `LastColumn` if it takes two columns and stands in a
-    /// row's last one. Then nothing changes.
+    /// `Outside`, and else those of the character: `Control`, `NoWidth`, `Wide`. Else `LastColumn` if it takes two columns and the place is
+    /// a row's last one. Then nothing changes.
     pub fn set(
         &mut self,
         column: u16,

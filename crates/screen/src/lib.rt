@@ -34,7 +34,7 @@
 //! | a screen has as much memory after a frame as before; screens and buffers give none back, and a size that they have memory for isn't refused | `Screen::{draw, new, resize}`, `Buffer::{new, resize, fill, set, print, print_replacing, print_without_marks}` |
 //! | a wrong size or place writes nothing and changes nothing; at any other error a beginning of the frame was written and nothing else, and nothing is known of the cells | `Screen::draw` |
 //! | a character that doesn't take one column or two is refused by name, `set` refuses one of two in a row's last column too, and a refusal changes nothing | `Buffer::{fill, set, print, print_replacing, print_without_marks}` |
-//! | no half of a character of two columns stands alone: what loses its other half is a space in the style that it had | `Buffer::{cells, fill, set, print, print_replacing, print_without_marks}` |
+//! | no half of a character of two columns is alone: what loses its other half is a space in the style that it had | `Buffer::{cells, fill, set, print, print_replacing, print_without_marks}` |
 //! | of a text as many characters are printed as have room in the row, and the number of the columns that they took is returned | `Buffer::{print, print_replacing, print_without_marks}` |
 //! | of any text, each character that no cell can hold is replaced by a given one | `Buffer::print_replacing` |
 //! | of a text, the characters of no column are left out, and the others are printed or refused as in `print` | `Buffer::print_without_marks` |

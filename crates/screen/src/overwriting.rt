@@ -56,7 +56,7 @@ fn begin_at(cells: &mut [Cell], at: usize)
     }
 }
 
-/// How many columns a character takes, where cells can hold it.
+/// How many columns a character takes, if cells can hold it.
 pub(crate) fn columns(cell: &Cell) -> usize
     ensures value { result ≡ columns cell.now.symbol }
     ensures few { result ≤ 2 }
@@ -85,7 +85,7 @@ pub(crate) fn fill(cells: &mut [Cell], cell: Cell)
     cells.fill(cell);
 }
 
-/// What stands in a column of a row that is filled with a character of two columns.
+/// What is in a column of a row that is filled with a character of two columns.
 fn pair_cell(width: u16, cell: &Cell, column: usize) -> Cell
     ensures { result ≡ pair_cell width cell.now.symbol cell.now.style column }
 {
