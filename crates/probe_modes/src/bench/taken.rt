@@ -1,4 +1,5 @@
 //! Keys that come alone, and are taken one after another in one way: for who counts instructions.
+ghost use Rattle.crossterm_read.specs.Shared.{IsPassOf};
 
 use crate::bench::input::print;
 use crate::bench::letters::Letters;
@@ -38,10 +39,10 @@ fn reader(alloc: Global) -> Reader {
 /// Takes so many keys, and returns how many came.
 fn read(alloc: Global, count: u32) -> io::Result<u32> {
     let mut reader = reader(alloc);
-    let mut taken = 0;
+    let mut taken: u32 = 0;
     for _ in 0..count {
         if reader.read_within(1, &EventFilter)?.is_some() {
-            taken += 1;
+            taken = taken.saturating_add(1);
         }
     }
     Ok(taken)
@@ -50,10 +51,10 @@ fn read(alloc: Global, count: u32) -> io::Result<u32> {
 /// The same by a poll before each take.
 fn poll(alloc: Global, count: u32) -> io::Result<u32> {
     let mut reader = reader(alloc);
-    let mut taken = 0;
+    let mut taken: u32 = 0;
     for _ in 0..count {
         if reader.poll_within(1, &EventFilter)? && reader.take(&EventFilter).is_some() {
-            taken += 1;
+            taken = taken.saturating_add(1);
         }
     }
     Ok(taken)
@@ -63,16 +64,30 @@ fn no_pass() -> io::Error {
     io::Error::from(ErrorKind::NotFound)
 }
 
-/// The same by a shared reader.
-fn shared<H: Wait>(rt: &H, alloc: Global, count: u32) -> io::Result<u32> {
-    let (shared, mut passes) = EventReader::new(rt, alloc, reader(alloc), 1)?;
-    let mut pass = passes.pop().ok_or(no_pass())?;
-    let mut taken = 0;
-    for _ in 0..count {
+/// The same by reads of a shared reader by one pass.
+fn read_by<H: Wait>(
+    rt: &H,
+    shared: &EventReader<DeviceSource<Letters>>,
+    pass: Pass<DeviceSource<Letters>>,
+    count: u32,
+) -> io::Result<u32>
+    requires { IsPassOf shared.now pass }
+{
+    let mut pass = pass;
+    let mut taken: u32 = 0;
+    for _i in 0..count {
         shared.read(rt, &mut pass)?;
-        taken += 1;
+        taken = taken.saturating_add(1);
     }
     Ok(taken)
+}
+
+fn shared<H: Wait>(rt: &H, alloc: Global, count: u32) -> io::Result<u32> {
+    let (shared, mut passes) = EventReader::new(rt, alloc, reader(alloc), 1)?;
+    match passes.pop() {
+        Some(pass) => read_by(rt, &shared, pass, count),
+        None => Err(no_pass()),
+    }
 }
 
 /// The same by a stream.
@@ -81,14 +96,15 @@ where
     H: Threads + Wait + RandomSource + AllocGlobal + Copy + Send + Drop + 'static,
 {
     let (shared, mut passes) = EventReader::new(&rt, alloc, reader(alloc), 2)?;
-    let other = passes.pop().ok_or(no_pass())?;
-    let pass = passes.pop().ok_or(no_pass())?;
+    let (Some(other), Some(pass)) = (passes.pop(), passes.pop()) else {
+        return Err(no_pass());
+    };
     let mut stream = EventStream::new(rt, alloc, &shared, pass, other)?;
     let task = MockTask::new(&rt)?;
-    let mut taken = 0;
+    let mut taken: u32 = 0;
     for _ in 0..count {
         if let Poll::Ready(Ok(_)) = task.enter(|cx| stream.poll_event(cx)) {
-            taken += 1;
+            taken = taken.saturating_add(1);
         }
     }
     Ok(taken)
