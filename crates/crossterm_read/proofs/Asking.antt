@@ -9,16 +9,18 @@ use Rattle.std.specs.declared.io.ErrorKind.{ErrorKind}
 use Rattle.std.specs.declared.time.Duration.{Duration}
 use Rattle.std.specs.declared.io.ErrorKind.TheVariants.{OutOfMemory, Interrupted}
 use Rattle.crossterm_types.specs.Seen.{Seen}
+use Rattle.crossterm_types.specs.declared.event.InternalEvent.{InternalEvent}
 use Rattle.crossterm_read.specs.Answers.{SourceAnswer, Gave, Nothing, Failed, IsNoFault, IsSteady, gave}
 use Rattle.crossterm_read.specs.Device.{AsksWith, AsksEach}
 use Rattle.crossterm_read.specs.declared.read.reader.AtWake.{AtWake}
 use Rattle.crossterm_read.specs.declared.read.reader.AtWake.TheVariants.{Stops, GoesOn}
 use Rattle.crossterm_read.specs.declared.read.reader.Once.{Once}
 use Rattle.crossterm_read.specs.declared.read.reader.Once.TheVariants as once
-use Rattle.crossterm_read.specs.Store.{EventStore, ReaderState, arrived, numbered_after, next_number, Arrives, capacity}
-use Rattle.crossterm_read.specs.Steps.{Patience, Allows, IsSpent, first_admitted, Passes, Asks, Ready, Tried, Broke, PollStep, RefusedOnlyWithoutRoom}
-use Rattle.crossterm_read.specs.inside.Asking.{Asked, DrawsOne, end_of}
-use Rattle.crossterm_read.specs.Replies.{poll_reply}
+use Rattle.crossterm_read.specs.Store.{EventStore, ReaderState, arrived, numbered_after, next_number, Arrives, capacity, kept}
+use Rattle.crossterm_read.specs.Steps.{Patience, Allows, IsSpent, first_admitted, Passes, Asks, Ready, Tried, Broke, PollStep, ReadStep, RefusedOnlyWithoutRoom, TakeReplies}
+use Rattle.crossterm_read.specs.inside.Asking.{Asked, DrawsOne, held_with}
+use Rattle.crossterm_read.specs.inside.Replies.{try_reply}
+use Rattle.crossterm_read.specs.Replies.{ToPoll, poll_reply}
 
 pub arrived-append : (n : ℕ) (xs ys : List SourceAnswer) → arrived n (xs ++ ys) ≡ arrived n xs ++ arrived (numbered_after n xs) ys
 arrived-append n [] ys = refl
@@ -86,7 +88,7 @@ all_pushed : {Y : Type 0} (P : Y → Type 0) (ys : List Y) (y : Y) → AllByRecu
 all_pushed P [] y a = (tt, a.0)
 all_pushed P (x ∷ ys) y a = let rest = all_pushed P ys y a.1 in ((a.0, rest.0), rest.1)
 
-module _ {S : Type 0} (drawn : S → List SourceAnswer → S → Type 0) (failed : S → ℕ) (on : (s t u : S) (xs ys : List SourceAnswer) → drawn s xs t → drawn t ys u → drawn s (xs ++ ys) u) (wake : AtWake) (f : Seen → Bool) where
+module _ {S : Type 0} (A : Type 0) (drawn : S → List SourceAnswer → S → Type 0) (failed : S → ℕ) (on : (s t u : S) (xs ys : List SourceAnswer) → drawn s xs t → drawn t ys u → drawn s (xs ++ ys) u) (wake : AtWake) (f : Seen → Bool) where
   -- so far no answer ended it
   pub record Asking (s t : ReaderState S) (i : ℕ) : Type 0 where
     pub answers : List SourceAnswer
@@ -98,72 +100,54 @@ module _ {S : Type 0} (drawn : S → List SourceAnswer → S → Type 0) (failed
     pub steady : IsSteady failed s.source answers t.source
 
   -- One answer more, and where it is no fault nothing has failed.
-  steady_more : (s m t : ReaderState S) (i : ℕ) (z : SourceAnswer) (a : Asking s m i) → (IsNoFault z → failed t.source ≡ failed m.source) → IsSteady failed s.source (a.answers ++ z ∷ []) t.source
+  pub steady_more : (s m t : ReaderState S) (i : ℕ) (z : SourceAnswer) (a : Asking s m i) → (IsNoFault z → failed t.source ≡ failed m.source) → IsSteady failed s.source (a.answers ++ z ∷ []) t.source
   steady_more s m t i z a h all = let each = all_pushed IsNoFault a.answers z all in h each.1 ∙ a.steady each.0
 
   pub asking_none : ((s : S) → drawn s [] s) → (s t : ReaderState S) → t ≡ s → first_admitted f s.store.held ≡ None → Asking s t 0
   asking_none law s t e n = subst (λ (y : ReaderState S). Asking s y 0) (sym e)
       (record { answers = []; drawn_so = law s.source; arrives = arrives_none s.store; passes = tt; count = refl; none = n; steady = λ h. refl })
 
-  pub asking_more : (s m t : ReaderState S) (i : ℕ) (z : SourceAnswer) → Asking s m i → drawn m.source (z ∷ []) t.source → Arrives m.store (z ∷ []) t.store → Passes wake f z → (IsNoFault z → failed t.source ≡ failed m.source) → Asking s t (i + 1)
-  asking_more s m t i z a d h p e = record {
-    answers = a.answers ++ z ∷ [];
-    drawn_so = on s.source m.source t.source a.answers (z ∷ []) a.drawn_so d;
-    arrives = arrives_more s.store m.store t.store a.answers (z ∷ []) a.arrives h;
-    passes = all_push (Passes wake f) a.answers z a.passes p;
-    count = length-append a.answers (z ∷ []) ∙ ap (λ (k : ℕ). k + 1) a.count;
-    none = a.none;
-    steady = steady_more s m t i z a e;
-  }
-
-  one_more : (s t : ReaderState S) (i : ℕ) (z : SourceAnswer) (a : Asking s t i) → length (a.answers ++ z ∷ []) ≡ i + 1
+  pub one_more : (s t : ReaderState S) (i : ℕ) (z : SourceAnswer) (a : Asking s t i) → length (a.answers ++ z ∷ []) ≡ i + 1
   one_more s t i z a = length-append a.answers (z ∷ []) ∙ ap (λ (k : ℕ). k + 1) a.count
 
-  pub asked_held : ((s : S) → drawn s [] s) → (s : ReaderState S) (patience : Patience) → is_some (first_admitted f s.store.held) ≡ true → Asked drawn failed wake f patience s s Ready
-  asked_held law s patience h = ([], law s.source, arrives_none s.store, inl (h, refl), tt, λ none. refl)
+  pub asking_nothing : (s m t : ReaderState S) (i : ℕ) → Asking s m i → DrawsOne {A = A} drawn failed wake f m t once.Nothing → Asking s t (i + 1)
+  asking_nothing s m t i a d = record {
+    answers = a.answers ++ d.0 ∷ [];
+    drawn_so = on s.source m.source t.source a.answers (d.0 ∷ []) a.drawn_so d.1;
+    arrives = arrives_more s.store m.store t.store a.answers (d.0 ∷ []) a.arrives d.2;
+    passes = all_push (Passes wake f) a.answers d.0 a.passes d.3;
+    count = one_more s m i d.0 a;
+    none = a.none;
+    steady = steady_more s m t i d.0 a d.4;
+  }
 
-  pub asked_tried : (s t : ReaderState S) (i : ℕ) (patience : Patience) → Asking s t i → IsSpent patience i → Asked drawn failed wake f patience s t Tried
-  asked_tried s t i patience a h = (a.answers, a.drawn_so, a.arrives, (a.none, a.passes, subst (IsSpent patience) (sym a.count) h), tt, a.steady)
+  pub asked_tried : (s t : ReaderState S) (i : ℕ) (patience : Patience) → Asking s t i → IsSpent patience i → Asked {A = A} drawn failed wake f patience s t (Ok None)
+  asked_tried s t i patience a h = (a.answers, a.drawn_so, a.arrives, (a.none, a.passes, subst (IsSpent patience) (sym a.count) h), tt, a.steady, tt)
 
-  pub asked_refused : (s t : ReaderState S) (i : ℕ) (patience : Patience) (kind : ErrorKind) → Asking s t i → Allows patience (i + 1) → kind ≡ OutOfMemory → capacity s ≤ capacity t → t.room ≡ 0 → Asked drawn failed wake f patience s t (Broke kind)
-  asked_refused s t i patience kind a h e r n = (
+  pub asked_refused : (s t : ReaderState S) (i : ℕ) (patience : Patience) (e : Error) → Asking s t i → Allows patience (i + 1) → error_kind e ≡ OutOfMemory → capacity s ≤ capacity t → t.room ≡ 0 → Asked {A = A} drawn failed wake f patience s t (Err e)
+  asked_refused s t i patience e a h k r n = (
     a.answers,
     a.drawn_so,
     a.arrives,
-    (a.none, inr (e, a.passes, subst (λ (k : ℕ). Allows patience (k + 1)) (sym a.count) h)),
-    λ k. inr (came_to_room s t a.answers a.arrives r n),
+    (a.none, inr (k, a.passes, subst (λ (j : ℕ). Allows patience (j + 1)) (sym a.count) h)),
+    λ m. inr (came_to_room s t a.answers a.arrives r n),
     a.steady,
-  )
-
-  pub asked_came : (s m t : ReaderState S) (i : ℕ) (patience : Patience) (b : Bool) → b ≡ true → Asking s m i → Allows patience (i + 1) → DrawsOne drawn failed wake f m t (once.Came b) → Asked drawn failed wake f patience s t Ready
-  asked_came s m t i patience b y a h d = (
-    a.answers ++ Gave d.0 ∷ [],
-    on s.source m.source t.source a.answers (Gave d.0 ∷ []) a.drawn_so d.1,
-    arrives_more s.store m.store t.store a.answers (Gave d.0 ∷ []) a.arrives d.2,
-    inr (a.none, record { before = a.answers; event = d.0; all = refl; passed = a.passes; admitted = sym d.3 ∙ y }, subst (Allows patience) (sym (one_more s m i (Gave d.0) a)) h),
     tt,
-    steady_more s m t i (Gave d.0) a (λ z. d.4),
   )
 
-  pub asked_broke : (s m t : ReaderState S) (i : ℕ) (patience : Patience) (kind : ErrorKind) → Asking s m i → Allows patience (i + 1) → drawn m.source (Failed kind ∷ []) t.source → Arrives m.store (Failed kind ∷ []) t.store
-      → (wake ≡ GoesOn → kind ≢ Interrupted) → Asked drawn failed wake f patience s t (Broke kind)
-  asked_broke s m t i patience kind a h d r y = (
-    a.answers ++ Failed kind ∷ [],
-    on s.source m.source t.source a.answers (Failed kind ∷ []) a.drawn_so d,
-    arrives_more s.store m.store t.store a.answers (Failed kind ∷ []) a.arrives r,
-    (a.none, inl (record { before = a.answers; all = refl; passed = a.passes; stops = y }, subst (Allows patience) (sym (one_more s m i (Failed kind) a)) h)),
-    λ e. inl (a.answers, ap (λ (k : ErrorKind). a.answers ++ Failed k ∷ []) e),
-    steady_more s m t i (Failed kind) a (λ z. absurd z),
+  pub asked_broke : (s m t : ReaderState S) (i : ℕ) (patience : Patience) (e : Error) → Asking s m i → Allows patience (i + 1) → DrawsOne {A = A} drawn failed wake f m t (once.Broke e) → Asked {A = A} drawn failed wake f patience s t (Err e)
+  asked_broke s m t i patience e a h d = (
+    a.answers ++ Failed (error_kind e) ∷ [],
+    on s.source m.source t.source a.answers (Failed (error_kind e) ∷ []) a.drawn_so d.0,
+    arrives_more s.store m.store t.store a.answers (Failed (error_kind e) ∷ []) a.arrives d.1,
+    (a.none, inl (record { before = a.answers; all = refl; passed = a.passes; stops = d.2 }, subst (Allows patience) (sym (one_more s m i (Failed (error_kind e)) a)) h)),
+    λ k. inl (a.answers, ap (λ (j : ErrorKind). a.answers ++ Failed j ∷ []) k),
+    steady_more s m t i (Failed (error_kind e)) a (λ z. absurd z),
+    tt,
   )
 
-  pub draws_from : (i s t : ReaderState S) (o : Once) → i ≡ s → DrawsOne drawn failed wake f i t o → DrawsOne drawn failed wake f s t o
+  pub draws_from : (i s t : ReaderState S) (o : Once A) → i ≡ s → DrawsOne drawn failed wake f i t o → DrawsOne drawn failed wake f s t o
   draws_from i s t o e d = subst (λ (y : ReaderState S). DrawsOne drawn failed wake f y t o) e d
-
-  pub asking_came : (s m t : ReaderState S) (i : ℕ) (b : Bool) → b ≡ false → Asking s m i → DrawsOne drawn failed wake f m t (once.Came b) → Asking s t (i + 1)
-  asking_came s m t i b h a d = asking_more s m t i (Gave d.0) a d.1 d.2 (sym d.3 ∙ h) (λ z. d.4)
-
-  pub asking_nothing : (s m t : ReaderState S) (i : ℕ) → Asking s m i → DrawsOne drawn failed wake f m t once.Nothing → Asking s t (i + 1)
-  asking_nothing s m t i a d = asking_more s m t i d.0 a d.1 d.2 d.3 d.4
 
 -- An answer at which a call that stops at a wake-up goes on is no fault.
 none_passed : (f : Seen → Bool) (zs : List SourceAnswer) → AllByRecursion (Passes Stops f) zs → AllByRecursion IsNoFault zs
@@ -176,25 +160,51 @@ none_passed f (Failed kind ∷ zs) h = absurd (stops_not h.0.0)
     stops_not e = cc
 
 -- So a poll that met no fault saw no failure.
-pub steady_poll : {S : Type 0} (drawn : S → List SourceAnswer → S → Type 0) (failed : S → ℕ) (f : Seen → Bool) (patience : Patience) (s t : ReaderState S) (b : Bool) → Asked drawn failed Stops f patience s t (end_of (Ok b)) → failed t.source ≡ failed s.source
-steady_poll drawn failed f patience s t true a = by_end a.3
+pub steady_poll : {S A : Type 0} (drawn : S → List SourceAnswer → S → Type 0) (failed : S → ℕ) (f : Seen → Bool) (patience : Patience) (s t : ReaderState S) (given : Option (InternalEvent A × ℕ)) → Asked drawn failed Stops f patience s t (Ok given) → failed t.source ≡ failed s.source
+steady_poll drawn failed f patience s t (Some taken) a = by_end a.3
   where
     by_end : Asks Stops f patience s.store.held a.0 Ready → failed t.source ≡ failed s.source
     by_end (inl h) = a.5 (subst (AllByRecursion IsNoFault) (sym h.1) tt)
     by_end (inr h) = a.5 (subst (AllByRecursion IsNoFault) (sym h.1.all) (all_push IsNoFault h.1.before (Gave h.1.event) (none_passed f h.1.before h.1.passed) tt))
-steady_poll drawn failed f patience s t false a = a.5 (none_passed f a.0 a.3.1)
+steady_poll drawn failed f patience s t None a = a.5 (none_passed f a.0 a.3.1)
 
 module _ {S : Type 0} (drawn : S → List SourceAnswer → S → Type 0) (failed : S → ℕ) (f : Seen → Bool) (patience : Patience) (s t : ReaderState S) where
   -- a poll that says this
   abbrev pub Polls : Result Bool Error → Type 0
   Polls r = (zs : List SourceAnswer) × drawn s.source zs t.source × PollStep patience f zs s.store t.store (poll_reply r) × IfErr r (λ e. RefusedOnlyWithoutRoom s.room zs (error_kind e))
 
-  pub poll_ok : (b : Bool) → Asked drawn failed Stops f patience s t (end_of (Ok b)) → Polls (Ok b)
-  poll_ok true a = (a.0, a.1, (Ready, a.3, a.2, refl), tt)
-  poll_ok false a = (a.0, a.1, (Tried, a.3, a.2, refl), tt)
+  pub poll_came : {A : Type 0} (m : ReaderState S) (taken : InternalEvent A × ℕ) → Asked drawn failed Stops f patience s m (Ok (Some taken)) → t.store ≡ held_with m.store (kept taken) → t.source ≡ m.source → Polls (Ok true)
+  poll_came m taken a h e = (a.0, subst (λ (y : S). drawn s.source a.0 y) (sym e) a.1, (Ready, a.3, subst (λ (y : EventStore). Arrives s.store a.0 y) (sym h) a.2, refl), tt)
 
-  pub poll_woken : (kind : ErrorKind) → kind ≡ Interrupted → Asked drawn failed Stops f patience s t (Broke kind) → Polls (Ok false)
-  poll_woken kind h a = (a.0, a.1, (Broke kind, a.3, a.2, inl (h, refl)), tt)
+  pub poll_tried : (A : Type 0) → Asked {A = A} drawn failed Stops f patience s t (Ok None) → Polls (Ok false)
+  poll_tried A a = (a.0, a.1, (Tried, a.3, a.2, refl), tt)
 
-  pub poll_fault : (e : Error) → error_kind e ≢ Interrupted → Asked drawn failed Stops f patience s t (Broke (error_kind e)) → Polls (Err e)
-  poll_fault e h a = (a.0, a.1, (Broke (error_kind e), a.3, a.2, inr (h, refl)), a.4)
+  pub poll_woken : (A : Type 0) (e : Error) → error_kind e ≡ Interrupted → Asked {A = A} drawn failed Stops f patience s t (Err e) → Polls (Ok false)
+  poll_woken A e h a = (a.0, a.1, (Broke (error_kind e), a.3, a.2, inl (h, refl)), tt)
+
+  pub poll_fault : (A : Type 0) (e : Error) → error_kind e ≢ Interrupted → Asked {A = A} drawn failed Stops f patience s t (Err e) → Polls (Err e)
+  poll_fault A e h a = (a.0, a.1, (Broke (error_kind e), a.3, a.2, inr (h, refl)), a.4)
+
+  -- a read that gives this
+  abbrev pub Gives : {A : Type 0} → Result (Option (InternalEvent A × ℕ)) Error → Type 0
+  Gives r = (zs : List SourceAnswer) × drawn s.source zs t.source × ReadStep patience f zs s.store t.store (try_reply r) × IfErr r (λ e. RefusedOnlyWithoutRoom s.room zs (error_kind e)) × IsSteady failed s.source zs t.source
+
+  pub read_held : {A : Type 0} → ((s : S) → drawn s [] s) → (taken : InternalEvent A × ℕ) → TakeReplies f s.store t.store (Some (kept taken)) → t.source ≡ s.source → Gives (Ok (Some taken))
+  read_held law taken h e = ([], subst (λ (y : S). drawn s.source [] y) (sym e) (law s.source), (Ready, s.store, inl (ap is_some h.1, refl), arrives_none s.store, h), tt, λ none. ap failed e)
+
+  pub read_asked : {A : Type 0} (r : Result (Option (InternalEvent A × ℕ)) Error) → Asked drawn failed GoesOn f patience s t r → Gives r
+  read_asked (Ok (Some taken)) a = (a.0, a.1, (Ready, held_with t.store (kept taken), a.3, a.2, a.6), tt, a.5)
+  read_asked (Ok None) a = (a.0, a.1, (Tried, t.store, a.3, a.2, (refl, refl)), tt, a.5)
+  read_asked (Err e) a = (a.0, a.1, (Broke (error_kind e), t.store, a.3, a.2, (refl, refl)), a.4, a.5)
+
+-- A poll for an event that is held.
+pub poll_held : {S : Type 0} (drawn : S → List SourceAnswer → S → Type 0) → ((s : S) → drawn s [] s) → (failed : S → ℕ) (f : Seen → Bool) (patience : Patience) (s : ReaderState S) → is_some (first_admitted f s.store.held) ≡ true
+    → (zs : List SourceAnswer) × drawn s.source zs s.source × PollStep patience f zs s.store s.store (ToPoll true) × Unit {0}
+poll_held drawn law failed f patience s h = ([], law s.source, (Ready, inl (h, refl), arrives_none s.store, refl), tt)
+
+-- A take that gives nothing leaves the reader as it was.
+pub taken_none : {S : Type 0} (f : Seen → Bool) (s t : ReaderState S) → TakeReplies f s.store t.store None → capacity t ≡ capacity s → t.source ≡ s.source → t ≡ s
+taken_none f s t h r e =
+    let held = ap (λ (y : EventStore). length y.held) h.1 in
+    let room : t.room ≡ s.room = omega arith in
+    λ i. record { store = h.1 i; room = room i; source = e i }

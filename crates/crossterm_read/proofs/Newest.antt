@@ -1,17 +1,17 @@
 -- The newest of a reader's events, behind others of which none is admitted.
-use Rattle.std.proofs.Common.{◌≡◌, ◌≤◌, ℕ, ◌+◌, ◌∙◌, Bool, true, false, not, cond, nat_lt, List, [], ◌∷◌, ◌++◌, length, Option, None, Some, inl, inr, get_or, refl, sym, ap, arith, length-append}
-use Rattle.std.specs.Prelude.{is_some}
+use Rattle.std.proofs.Common.{◌≡◌, ◌≤◌, ℕ, ◌+◌, ◌∙◌, Bool, true, false, not, cond, nat_lt, List, [], ◌∷◌, ◌++◌, length, None, Some, Ok, inl, inr, get_or, refl, sym, ap, subst, arith, append-nil}
 use Rattle.std.specs.List.{AllByRecursion, prefix_len, remove}
-use Rattle.std.proofs.lemmas.Bool.{cases_Bool, lt-ltb}
+use Rattle.std.proofs.lemmas.Bool.{cases_Bool}
 use Rattle.std.proofs.lemmas.Bool.Decides.{nat_tests}
-use Rattle.std.proofs.lemmas.List.{append-nil, get_or_append_left}
-use Rattle.std.proofs.lemmas.List.Sums.{position_or_len_is}
-use Rattle.std.proofs.lemmas.List.Edits.{remove-append_left}
-use Rattle.std.proofs.lemmas.List.Quantifiers.{position-Some}
-use Rattle.crossterm_types.specs.Seen.{Seen}
-use Rattle.crossterm_read.specs.Steps.{TakeReplies, first_admitted}
-use Rattle.crossterm_read.specs.Store.{EventStore}
-use Rattle.crossterm_read.proofs.Asking.{all_push}
+use Rattle.crossterm_types.specs.Seen.{Seen, seen}
+use Rattle.crossterm_types.specs.declared.event.InternalEvent.{InternalEvent}
+use Rattle.crossterm_read.specs.Answers.{SourceAnswer, Gave, Nothing, Failed}
+use Rattle.crossterm_read.specs.Steps.{Patience, Allows, Passes, TakeReplies, first_admitted}
+use Rattle.crossterm_read.specs.Store.{Arrives, EventStore, ReaderState, arrived, kept, next_number}
+use Rattle.crossterm_read.specs.declared.read.reader.AtWake.{AtWake}
+use Rattle.crossterm_read.specs.declared.read.reader.Once.TheVariants as once
+use Rattle.crossterm_read.specs.inside.Asking.{Asked, DrawsOne, held_with}
+use Rattle.crossterm_read.proofs.Asking.{Asking, all_append, arrives_more, one_more, steady_more}
 use Rattle.crossterm_read.proofs.Joining.{get_here, remove_here}
 use Rattle.crossterm_read.proofs.Storing.{position_nowhere, position_there}
 
@@ -42,31 +42,6 @@ none_passes f held none =
 pub newest_first : (f : Seen → Bool) (held : List (Seen × ℕ)) (x : Seen × ℕ) → first_admitted f held ≡ None → f x.0 ≡ true → first_admitted f (held ++ x ∷ []) ≡ Some (length held)
 newest_first f held x none is = position_there (λ h. f h.0) held [] x (none_passes f held none) is
 
--- Where it isn't, none is.
-pub newest_not : (f : Seen → Bool) (held : List (Seen × ℕ)) (x : Seen × ℕ) → first_admitted f held ≡ None → f x.0 ≡ false → first_admitted f (held ++ x ∷ []) ≡ None
-newest_not f held x none is = position_nowhere (λ h. f h.0) (held ++ x ∷ []) (all_push (λ h. f h.0 ≡ false) held x (none_passes f held none) is)
-
-pub newest_is : (f : Seen → Bool) (held : List (Seen × ℕ)) (x : Seen × ℕ) → first_admitted f held ≡ None → f x.0 ≡ is_some (first_admitted f (held ++ x ∷ []))
-newest_is f held x none = elim (cases_Bool (f x.0)) [
-  | inl is ↦ is ∙ sym (ap is_some (newest_first f held x none is))
-  | inr not ↦ not ∙ sym (ap is_some (newest_not f held x none not))
-]
-
-pub none_there : {X : Type 0} (o : Option X) → is_some o ≡ false → o ≡ None
-none_there None e = refl
-none_there (Some x) e = absurd (cc)
-
--- An earlier one stays the first.
-first_stays : (f : Seen → Bool) (held : List (Seen × ℕ)) (x : Seen × ℕ) (i : ℕ) → first_admitted f held ≡ Some i → first_admitted f (held ++ x ∷ []) ≡ Some i
-first_stays f held x i e =
-    let there = position-Some (λ h. f h.0) held i x e in
-    let long = length-append held (x ∷ []) in
-    let same : prefix_len (λ h. not (f h.0)) (held ++ x ∷ []) ≡ i = position_or_len_is (λ h. f h.0) (held ++ x ∷ []) i x (omega (arith, there.0))
-    (λ k l. ap (λ h. f h.0) (get_or_append_left held (x ∷ []) x k (omega (arith, l, there.0))) ∙ there.2 k l)
-    (λ l. ap (λ h. f h.0) (get_or_append_left held (x ∷ []) x i there.0) ∙ there.1) in
-    ap (λ (n : ℕ). cond (nat_lt n (length (held ++ x ∷ []))) (Some n) None) same
-    ∙ ap (λ (b : Bool). cond b (Some i) None) (lt-ltb i (length (held ++ x ∷ [])) (omega (arith, there.0)))
-
 -- The newest is taken.
 pub takes_newest : (f : Seen → Bool) (held : List (Seen × ℕ)) (x : Seen × ℕ) (s t : EventStore) → s.held ≡ held ++ x ∷ [] → t.held ≡ held → t.arrivals ≡ s.arrivals
     → first_admitted f held ≡ None → f x.0 ≡ true → TakeReplies f s t (Some x)
@@ -78,18 +53,31 @@ takes_newest f held x s t h k n none is =
       λ i. record { held = gone i; arrivals = n i },
     )
 
--- One before it is taken.
-pub takes_before : (f : Seen → Bool) (old new : EventStore) (x y : Seen × ℕ) (s t : EventStore) → s.held ≡ old.held ++ x ∷ [] → t.held ≡ new.held ++ x ∷ [] → t.arrivals ≡ s.arrivals
-    → TakeReplies f old new (Some y) → TakeReplies f s t (Some y)
-takes_before f old new x y s t h k n taken =
-    let at = taken.0 in
-    let there = position-Some (λ e. f e.0) old.held at y taken.1 in
-    let long = length-append old.held (x ∷ []) in
-    let first : first_admitted f (old.held ++ x ∷ []) ≡ Some at = first_stays f old.held x at taken.1 in
-    let gone : t.held ≡ remove s.held at =
-    k ∙ ap (λ (e : EventStore). e.held ++ x ∷ []) taken.3 ∙ sym (ap (λ l. remove l at) h ∙ remove-append_left old.held (x ∷ []) at there.0) in (
-      at,
-      ap (λ l. first_admitted f l) h ∙ first,
-      ap (λ l. get_or l at y) h ∙ get_or_append_left old.held (x ∷ []) y at there.0 ∙ taken.2,
-      λ i. record { held = gone i; arrivals = n i },
-    )
+-- Events that were passed over aren't admitted.
+passed_fail : (wake : AtWake) (f : Seen → Bool) (n : ℕ) (zs : List SourceAnswer) → AllByRecursion (Passes wake f) zs → AllByRecursion (λ h. f h.0 ≡ false) (arrived n zs)
+passed_fail wake f n [] h = tt
+passed_fail wake f n (Gave x ∷ zs) h = (h.0, passed_fail wake f (next_number n) zs h.1)
+passed_fail wake f n (Nothing ∷ zs) h = passed_fail wake f n zs h.1
+passed_fail wake f n (Failed kind ∷ zs) h = passed_fail wake f n zs h.1
+
+-- So none is after them.
+still_none : (wake : AtWake) (f : Seen → Bool) (s t : EventStore) (zs : List SourceAnswer) → first_admitted f s.held ≡ None → Arrives s zs t → AllByRecursion (Passes wake f) zs → first_admitted f t.held ≡ None
+still_none wake f s t zs none a p =
+    ap (first_admitted f) a.held
+    ∙ position_nowhere (λ h. f h.0) (s.held ++ arrived s.arrivals zs) (all_append (λ h. f h.0 ≡ false) s.held (arrived s.arrivals zs) (none_passes f s.held none) (passed_fail wake f s.arrivals zs p))
+
+module _ {S : Type 0} (A : Type 0) (drawn : S → List SourceAnswer → S → Type 0) (failed : S → ℕ) (on : (s t u : S) (xs ys : List SourceAnswer) → drawn s xs t → drawn t ys u → drawn s (xs ++ ys) u) (wake : AtWake) (f : Seen → Bool) where
+  -- An admitted event came, and is given.
+  pub asked_came : (s m t : ReaderState S) (i : ℕ) (patience : Patience) (taken : InternalEvent A × ℕ) → Asking A drawn failed on wake f s m i → Allows patience (i + 1) → DrawsOne drawn failed wake f m t (once.Came taken)
+      → Asked drawn failed wake f patience s t (Ok (Some taken))
+  asked_came s m t i patience taken a h d =
+      let x = seen taken.0 in
+      let none : first_admitted f t.store.held ≡ None = ap (first_admitted f) d.4 ∙ still_none wake f s.store m.store a.answers a.none a.arrives a.passes in (
+        a.answers ++ Gave x ∷ [],
+        on s.source m.source t.source a.answers (Gave x ∷ []) a.drawn_so d.0,
+        arrives_more s.store m.store (held_with t.store (kept taken)) a.answers (Gave x ∷ []) a.arrives d.1,
+        inr (a.none, record { before = a.answers; event = x; all = refl; passed = a.passes; admitted = d.2 }, subst (Allows patience) (sym (one_more A drawn failed on wake f s m i (Gave x) a)) h),
+        tt,
+        steady_more A drawn failed on wake f s m t i (Gave x) a (λ z. d.3),
+        takes_newest f t.store.held (kept taken) (held_with t.store (kept taken)) t.store refl refl refl none d.2,
+      )

@@ -1,8 +1,9 @@
 -- Arrival numbers rise.
-use Rattle.std.proofs.Common.{◌≡◌, ℕ, zero, suc, ◌+◌, ◌<◌, ◌≤◌, Bool, List, [], ◌∷◌, ◌++◌, Option, Some, None, sym, subst, arith}
+use Rattle.std.proofs.Common.{◌≡◌, ℕ, zero, suc, ◌+◌, ◌<◌, ◌≤◌, Bool, List, [], ◌∷◌, ◌++◌, Option, Some, None, ap, sym, subst, ◌∙◌, arith}
 use Rattle.std.specs.List.{AllByRecursion, remove}
 use Rattle.crossterm_types.specs.Seen.{Seen}
 use Rattle.crossterm_read.specs.Store.{IsLow, EventStore, Arrives, next_number}
+use Rattle.crossterm_read.specs.inside.Asking.{held_with}
 use Rattle.crossterm_read.specs.inside.Numbers.{Rise, IsOrderly}
 use Rattle.crossterm_read.specs.Answers.{Gave}
 use Rattle.crossterm_read.specs.Steps.{TakeReplies}
@@ -48,6 +49,14 @@ rise_remove (x ∷ xs) (suc i) r = (all_remove (λ k. x.1 < k.1) xs i r.0, rise_
 orderly_less : (held : List (Seen × ℕ)) (n i : ℕ) → IsOrderly held n → IsOrderly (remove held i) n
 orderly_less held n i h low = let s = h low in record { rise = rise_remove held i s.rise; below = all_remove (λ k. k.1 < n) held i s.below }
 
+-- The number of an event that isn't held is given.
+pub orderly_later : (held : List (Seen × ℕ)) (n : ℕ) → IsOrderly held n → IsOrderly held (next_number n)
+orderly_later held n h low =
+    let l = low_next n low in
+    let s = h l.1 in
+    let e = l.0 in
+    record { rise = s.rise; below = below_later held n (next_number n) (omega arith) s.below }
+
 -- What an answer and a take leave is orderly.
 pub orderly_arrives : (s t : EventStore) (x : Seen) → IsOrderly s.held s.arrivals → Arrives s (Gave x ∷ []) t → IsOrderly t.held t.arrivals
 orderly_arrives s t x o a = subst (λ (y : List (Seen × ℕ) × ℕ). IsOrderly y.0 y.1) (λ i. (sym a.held i, sym a.arrivals i)) (orderly_more s.held s.arrivals x o)
@@ -55,3 +64,13 @@ orderly_arrives s t x o a = subst (λ (y : List (Seen × ℕ) × ℕ). IsOrderly
 pub orderly_takes : (f : Seen → Bool) (s t : EventStore) (x : Option (Seen × ℕ)) → IsOrderly s.held s.arrivals → TakeReplies f s t x → IsOrderly t.held t.arrivals
 orderly_takes f s t None o h = subst (λ (y : EventStore). IsOrderly y.held y.arrivals) (sym h.1) o
 orderly_takes f s t (Some x) o h = subst (λ (y : EventStore). IsOrderly y.held y.arrivals) (sym h.3) (orderly_less s.held s.arrivals h.0 o)
+
+-- The arrival of an event that isn't held, with its number.
+pub came_arrives : (s r t : EventStore) (x : Seen) (number : ℕ) → r ≡ s → number ≡ r.arrivals → t.held ≡ r.held → t.arrivals ≡ next_number r.arrivals → Arrives s (Gave x ∷ []) (held_with t (x, number))
+came_arrives s r t x number e n h a =
+    let held : t.held ≡ s.held = h ∙ ap (λ (y : EventStore). y.held) e in
+    let arrivals : number ≡ s.arrivals = n ∙ ap (λ (y : EventStore). y.arrivals) e in
+    record {
+      held = λ i. held i ++ (x, arrivals i) ∷ [];
+      arrivals = a ∙ ap (λ (y : EventStore). next_number y.arrivals) e;
+    }

@@ -1,7 +1,6 @@
 -- What a query takes.
 use Rattle.std.proofs.Common.{◌≡◌, ◌⊎◌, ℕ, Bool, true, false, List, Option, None, Some, Result, Ok, Err, inl, inr, sym, subst, ◌∙◌}
-use Rattle.std.specs.Prelude.{IfErr, IfSome}
-use Rattle.std.specs.Option.{option_map}
+use Rattle.std.specs.Prelude.{IfErr, IfOk, IfSome}
 use Rattle.std.specs.IoError.{error_kind}
 use Rattle.std.specs.declared.io.Error.{Error}
 use Rattle.std.specs.declared.io.ErrorKind.{ErrorKind}
@@ -16,6 +15,7 @@ use Rattle.crossterm_read.specs.Queries.{QueryReplies}
 use Rattle.crossterm_read.specs.Replies.{Replied, ToPoll, ToTake, ToQuery, Fault, poll_reply}
 use Rattle.crossterm_read.specs.Store.{EventStore, kept}
 use Rattle.crossterm_read.specs.Steps.{Patience, first_admitted, Asks, End, Ready, Tried, Broke, PollStep, PollReplies, TakeReplies}
+use Rattle.crossterm_read.specs.inside.Asking.{GivesFirst, held_with}
 use Rattle.crossterm_read.proofs.Ready.{ready_there}
 
 not_false : ToPoll true ≡ ToPoll false → ⊥
@@ -38,9 +38,11 @@ polled_there f patience s m zs r p said none = by_end p.0 p.1 p.3
 pub taken_admitted : (f : Seen → Bool) (s t : EventStore) (x : Seen × ℕ) → TakeReplies f s t (Some x) → f x.0 ≡ true
 taken_admitted f s t x h = let p = position-Some (λ e. f e.0) s.held h.0 x h.1 in subst (λ (e : Seen × ℕ). f e.0 ≡ true) h.2 p.1
 
-pub try_admitted : {A : Type 0} (f : Seen → Bool) (s t : EventStore) (r : Option (InternalEvent A × ℕ)) → TakeReplies f s t (option_map kept r) → IfSome r (λ x. f (seen x.0) ≡ true)
-try_admitted f s t (Some x) h = taken_admitted f s t (kept x) h
-try_admitted f s t None h = tt
+-- What asking gave is admitted.
+pub given_admitted : {A : Type 0} (f : Seen → Bool) (t : EventStore) (r : Result (Option (InternalEvent A × ℕ)) Error) → GivesFirst f t r → IfOk r (λ given. IfSome given (λ x. f (seen x.0) ≡ true))
+given_admitted f t (Ok (Some x)) h = taken_admitted f (held_with t (kept x)) t (kept x) h
+given_admitted f t (Ok None) h = tt
+given_admitted f t (Err e) h = tt
 
 -- What a query took is admitted.
 pub query_admitted : (f : Seen → Bool) (p : Replied) (s t : EventStore) (x : Seen × ℕ) → QueryReplies f p s t (ToTake (Some x)) → f x.0 ≡ true

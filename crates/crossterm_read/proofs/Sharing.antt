@@ -64,6 +64,10 @@ module _ {S : Type 0} (drawn : S → List SourceAnswer → S → Type 0) where
   }
 
   -- What a put asks, after a take and one call.
+  -- The same by an equal state.
+  pub taken_at : (v u : Known S) (x y : ReaderState S) → y ≡ x → Taken drawn v x u → Taken drawn v y u
+  taken_at v u x y e t = subst (λ (z : ReaderState S). Taken drawn v z u) (sym e) t
+
   pub produces : (made : ReaderState S → Entry → ReaderState S → Type 0) (v u : Known S) (x y : ReaderState S) → Taken drawn v x u → (call : Request) (answers : List SourceAnswer) (r : Replied)
       → made x (record { by = u.number; call = call; answers = answers; reply = r }) y → drawn x.source answers y.source → Step call answers x.store y.store r → capacity x ≤ capacity y → Produces drawn made u y
   produces made v u x y t call answers r such d step room = subst (λ (k : Known S). k.number ≡ u.number → Produces drawn made k y) (sym t.after) of_taken refl

@@ -6,9 +6,9 @@ use Rattle.std.proofs.lemmas.List.{length-map, map-append}
 use Rattle.std.proofs.lemmas.Simd.{map-map}
 use Rattle.std.specs.List.{AllByRecursion, position, position_or_len, remove}
 use Rattle.crossterm_types.specs.Seen.{Seen, seen}
-use Rattle.crossterm_read.specs.Answers.{Gave}
+use Rattle.crossterm_read.specs.inside.Asking.{held_with}
 use Rattle.crossterm_read.specs.inside.Queues.{AreJoined, AreKept, Finds, HaveRoom, HaveRoomFor, Joins, TakesOne, behind, joined, member_kept, queue_of, queues_of}
-use Rattle.crossterm_read.specs.Store.{Arrives, EventStore, next_number}
+use Rattle.crossterm_read.specs.Store.{EventStore}
 use Rattle.crossterm_read.specs.Steps.{TakeReplies, first_admitted}
 use Rattle.crossterm_read.specs.declared.read.held.kind.Kind.{Kind}
 use Rattle.crossterm_read.specs.declared.read.held.kind.Place.{Place}
@@ -117,12 +117,12 @@ module _ {A : Type 0} where
         room = r;
       }
 
-  pub pushed_delivers : (q p : Kind → List (Member A)) (m : Member A) (s t : EventStore) → s.held ≡ map member_kept (joined q) → t.held ≡ map member_kept (joined p) → m.arrival ≡ s.arrivals → t.arrivals ≡ next_number s.arrivals
-      → Joins (joined q ++ m ∷ []) p → Arrives s (Gave (seen m.event) ∷ []) t
-  pushed_delivers q p m s t h k a n o = record {
-    held = k ∙ ap (λ l. map member_kept l) (joined_is (joined q ++ m ∷ []) p o) ∙ map-append member_kept (joined q) (m ∷ []) ∙ (λ i. sym h i ++ (seen m.event, a i) ∷ []);
-    arrivals = n;
-  }
+  pub pushed_held : (q p : Kind → List (Member A)) (m : Member A) (s t : EventStore) → s.held ≡ map member_kept (joined q) → t.held ≡ map member_kept (joined p) → t.arrivals ≡ s.arrivals
+      → Joins (joined q ++ m ∷ []) p → t ≡ held_with s (member_kept m)
+  pushed_held q p m s t h k n o =
+      let all : t.held ≡ s.held ++ member_kept m ∷ [] =
+      k ∙ ap (λ l. map member_kept l) (joined_is (joined q ++ m ∷ []) p o) ∙ map-append member_kept (joined q) (m ∷ []) ∙ ap (λ l. l ++ member_kept m ∷ []) (sym h) in
+      λ i. record { held = all i; arrivals = n i }
 
   pub same_length : (xs ys : List (Member A)) → map member_kept xs ≡ map member_kept ys → length xs ≡ length ys
   same_length xs ys e = sym (length-map xs member_kept) ∙ ap length e ∙ length-map ys member_kept

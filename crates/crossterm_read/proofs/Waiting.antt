@@ -1,23 +1,24 @@
 -- Asking within a limit of time.
-use Rattle.std.proofs.Common.{◌≡◌, ◌≤◌, ◌-◌, ℕ, Bool, true, false, List, [], ◌∷◌, ◌++◌, Option, None, Some, Ok, refl, sym, ap, subst, inl, inr, ◌∙◌, arith, append-nil, append_assoc}
+use Rattle.std.proofs.Common.{◌≡◌, ◌≤◌, ◌-◌, ℕ, Bool, true, false, List, [], ◌∷◌, ◌++◌, Option, None, Some, Ok, Err, refl, sym, ap, subst, inl, inr, ◌∙◌, arith, append-nil, append_assoc}
 use Rattle.std.specs.Duration.{as_nanos}
 use Rattle.std.specs.List.{AllByRecursion}
 use Rattle.std.specs.Option.{option_map}
-use Rattle.std.specs.declared.io.ErrorKind.{ErrorKind}
+use Rattle.std.specs.IoError.{error_kind}
+use Rattle.std.specs.declared.io.Error.{Error}
 use Rattle.std.specs.declared.time.Duration.{Duration}
 use Rattle.crossterm_types.specs.Seen.{Seen}
+use Rattle.crossterm_types.specs.declared.event.InternalEvent.{InternalEvent}
 use Rattle.crossterm_types.specs.Timing.{Reaches, HasElapsed, IsFirst, KeepsFirst, left_over}
 use Rattle.crossterm_types.specs.declared.event.timeout.PollTimeout.{PollTimeout}
 use Rattle.crossterm_read.specs.Answers.{SourceAnswer, IsSteady}
 use Rattle.crossterm_read.specs.Device.{AsksEach, AsksWith, IsAtOnce}
 use Rattle.crossterm_read.specs.declared.read.reader.AtWake.TheVariants.{GoesOn}
 use Rattle.crossterm_read.specs.Replies.{ToTake, Fault}
-use Rattle.crossterm_read.specs.Store.{ReaderState}
-use Rattle.crossterm_read.specs.Steps.{Within, first_admitted, Asks, Ready, Broke, ReadStep, RefusedOnlyWithoutRoom, TakeReplies}
-use Rattle.crossterm_read.specs.inside.Asking.{Asked, end_of, AsksInTime}
+use Rattle.crossterm_read.specs.Store.{ReaderState, kept}
+use Rattle.crossterm_read.specs.Steps.{Within, Asks, Ready, Broke, ReadStep, RefusedOnlyWithoutRoom}
+use Rattle.crossterm_read.specs.inside.Asking.{Asked, AsksInTime, held_with}
 use Rattle.crossterm_read.specs.Waiting.{AsksLeft, OnlyLastIsAtOnce, WasLeft}
 use Rattle.crossterm_read.proofs.Asking.{all_push, asks_more}
-use Rattle.crossterm_read.proofs.Ready.{ready_there}
 
 -- What holds of each, made another.
 pub all_map : {X : Type 0} (P Q : X → Type 0) (xs : List X) → ((x : X) → P x → Q x) → AllByRecursion P xs → AllByRecursion Q xs
@@ -110,20 +111,18 @@ lasts timeout now h z = by_limit timeout.limit h z
 pub first_of : {C : Type 0} (told : C → ℕ) (began : C → ℕ → C → Type 0) (old now new : C) (start : ℕ) → start ≡ told now → told old ≤ told now → told now ≤ told new → began old (told now) now → KeepsFirst began now new → IsFirst told began old new start
 first_of told began old now new start e later more first keeps = subst (IsFirst told began old new) (sym e) (later, more, keeps old (told now) first)
 
-module _ {S : Type 0} (drawn : S → List SourceAnswer → S → Type 0) (failed : S → ℕ) (f : Seen → Bool) (limit : Option Duration) (none : limit ≡ None) (past : ℕ) (s m : ReaderState S) where
+module _ {S : Type 0} (A : Type 0) (drawn : S → List SourceAnswer → S → Type 0) (failed : S → ℕ) (f : Seen → Bool) (limit : Option Duration) (none : limit ≡ None) (past : ℕ) (s t : ReaderState S) where
   unlimited : Reaches limit past → ⊥
   unlimited r = absurd (subst (λ (o : Option Duration). Reaches o past) none r)
 
-  -- Without a limit asking ends with an admitted event, which is held.
-  pub waited_there : (ready : Bool) → Asked drawn failed GoesOn f (Within limit past) s m (end_of (Ok ready)) → first_admitted f m.store.held ≡ None → ⊥
-  waited_there true a n = ready_there GoesOn f (Within limit past) s.store m.store a.0 a.3 a.2 n
-  waited_there false a n = unlimited a.3.2.passed
+  -- Without a limit asking doesn't end with nothing.
+  pub waited_some : Asked {A = A} drawn failed GoesOn f (Within limit past) s t (Ok None) → ⊥
+  waited_some a = unlimited a.3.2.passed
 
-  pub waited_read : (ready : Bool) (t : ReaderState S) (x : Seen × ℕ) → Asked drawn failed GoesOn f (Within limit past) s m (end_of (Ok ready)) → t.source ≡ m.source → TakeReplies f m.store t.store (Some x)
-      → (past : ℕ) × (zs : List SourceAnswer) × drawn s.source zs t.source × ReadStep (Within None past) f zs s.store t.store (ToTake (Some x)) × Unit {0} × IsSteady failed s.source zs t.source
-  waited_read true t x a e h = (past, a.0, subst (λ (y : S). drawn s.source a.0 y) (sym e) a.1, (Ready, m.store, subst (λ (o : Option Duration). Asks GoesOn f (Within o past) s.store.held a.0 Ready) none a.3, a.2, h), tt, subst (λ (y : S). IsSteady failed s.source a.0 y) (sym e) a.5)
-  waited_read false t x a e h = absurd (unlimited a.3.2.passed)
+  pub waited_read : (taken : InternalEvent A × ℕ) → Asked drawn failed GoesOn f (Within limit past) s t (Ok (Some taken))
+      → (past : ℕ) × (zs : List SourceAnswer) × drawn s.source zs t.source × ReadStep (Within None past) f zs s.store t.store (ToTake (Some (kept taken))) × Unit {0} × IsSteady failed s.source zs t.source
+  waited_read taken a = (past, a.0, a.1, (Ready, held_with t.store (kept taken), subst (λ (o : Option Duration). Asks GoesOn f (Within o past) s.store.held a.0 Ready) none a.3, a.2, a.6), tt, a.5)
 
-  pub waited_fault : (kind : ErrorKind) → Asked drawn failed GoesOn f (Within limit past) s m (Broke kind)
-      → (past : ℕ) × (zs : List SourceAnswer) × drawn s.source zs m.source × ReadStep (Within None past) f zs s.store m.store (Fault kind) × RefusedOnlyWithoutRoom s.room zs kind × IsSteady failed s.source zs m.source
-  waited_fault kind a = (past, a.0, a.1, (Broke kind, m.store, subst (λ (o : Option Duration). Asks GoesOn f (Within o past) s.store.held a.0 (Broke kind)) none a.3, a.2, (refl, refl)), a.4, a.5)
+  pub waited_fault : (e : Error) → Asked {A = A} drawn failed GoesOn f (Within limit past) s t (Err e)
+      → (past : ℕ) × (zs : List SourceAnswer) × drawn s.source zs t.source × ReadStep (Within None past) f zs s.store t.store (Fault (error_kind e)) × RefusedOnlyWithoutRoom s.room zs (error_kind e) × IsSteady failed s.source zs t.source
+  waited_fault e a = (past, a.0, a.1, (Broke (error_kind e), t.store, subst (λ (o : Option Duration). Asks GoesOn f (Within o past) s.store.held a.0 (Broke (error_kind e))) none a.3, a.2, (refl, refl)), a.4, a.5)

@@ -1,6 +1,5 @@
 pub mod Asking
 pub mod Kinds
-pub mod Newest
 pub mod Numbers
 pub mod Queues
 pub mod Replies

@@ -1,6 +1,5 @@
 //! Holds events until they are read.
 
-mod backlog;
 mod call;
 mod held;
 mod queries;
@@ -9,8 +8,8 @@ mod shared;
 mod trace;
 mod waiting;
 
-pub use backlog::Held;
 pub use call::{Call, Reply};
+pub use held::Held;
 pub use reader::InternalEventReader;
 pub use shared::{EventReader, Pass};
 pub use trace::{Trace, play};

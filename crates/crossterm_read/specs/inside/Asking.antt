@@ -1,28 +1,48 @@
 -- What one question of a source comes to, and many until one is answered.
-use Rattle.std.specs.Prelude.{◌≡◌, ◌≢◌, ℕ, Bool, true, false, List, [], ◌∷◌, Result, Ok, Err, Option}
+use Rattle.std.specs.Prelude.{◌≡◌, ◌≢◌, ◌<◌, ℕ, Bool, true, List, [], ◌∷◌, ◌++◌, Result, Ok, Err, Option, Some, None}
 use Rattle.std.specs.IoError.{error_kind}
 use Rattle.std.specs.declared.io.Error.{Error}
 use Rattle.std.specs.declared.io.ErrorKind.{ErrorKind}
 use Rattle.std.specs.declared.io.ErrorKind.TheVariants.{Interrupted}
-use Rattle.crossterm_types.specs.Seen.{Seen}
+use Rattle.crossterm_types.specs.Seen.{Seen, seen}
+use Rattle.crossterm_types.specs.declared.event.InternalEvent.{InternalEvent}
 use Rattle.crossterm_read.specs.Answers.{SourceAnswer, Gave, Failed, IsNoFault, IsSteady}
 use Rattle.crossterm_read.specs.declared.read.reader.AtWake.{AtWake}
 use Rattle.crossterm_read.specs.declared.read.reader.AtWake.TheVariants.{GoesOn}
 use Rattle.crossterm_read.specs.declared.read.reader.Once.{Once}
 use Rattle.crossterm_read.specs.declared.read.reader.Once.TheVariants as once
-use Rattle.crossterm_read.specs.Store.{ReaderState, Arrives}
-use Rattle.crossterm_read.specs.Steps.{Patience, End, Ready, Tried, Broke, Passes, Asks, RefusedOnlyWithoutRoom}
+use Rattle.crossterm_read.specs.Store.{EventStore, ReaderState, Arrives, kept}
+use Rattle.crossterm_read.specs.Steps.{Patience, End, Ready, Tried, Broke, Passes, Asks, RefusedOnlyWithoutRoom, TakeReplies}
 use Rattle.std.specs.Duration.{as_nanos}
 use Rattle.std.specs.Option.{option_map}
 use Rattle.std.specs.declared.time.Duration.{Duration}
 use Rattle.crossterm_types.specs.Timing.{left_over}
 use Rattle.crossterm_types.specs.declared.event.timeout.PollTimeout.{PollTimeout}
 use Rattle.crossterm_read.specs.Device.{AsksWith}
+use Rattle.crossterm_read.specs.inside.Numbers.{IsOrderly}
 
-abbrev pub end_of : Result Bool Error → End
-end_of (Ok true) = Ready
-end_of (Ok false) = Tried
-end_of (Err e) = Broke (error_kind e)
+-- What is held with one event more.
+abbrev pub held_with : EventStore → Seen × ℕ → EventStore
+held_with s x = record s { held = s.held ++ x ∷ [] }
+
+module _ {A : Type 0} where
+  -- how asking ended that gives an event, nothing, or a fault
+  abbrev pub end_of : Result (Option (InternalEvent A × ℕ)) Error → End
+  end_of (Ok (Some taken)) = Ready
+  end_of (Ok None) = Tried
+  end_of (Err e) = Broke (error_kind e)
+
+  -- what is held with the event that is given
+  abbrev pub all_of : EventStore → Result (Option (InternalEvent A × ℕ)) Error → EventStore
+  all_of t (Ok (Some taken)) = held_with t (kept taken)
+  all_of t (Ok None) = t
+  all_of t (Err e) = t
+
+  -- An event that is given would be the first one admitted, if it was held.
+  abbrev pub GivesFirst : (Seen → Bool) → EventStore → Result (Option (InternalEvent A × ℕ)) Error → Type 0
+  GivesFirst f t (Ok (Some taken)) = TakeReplies f (held_with t (kept taken)) t (Some (kept taken))
+  GivesFirst f t (Ok None) = Unit {0}
+  GivesFirst f t (Err e) = Unit {0}
 
 -- Where asking broke the fault is of such a kind.
 abbrev pub BrokeWhere : End → (ErrorKind → Type 0) → Type 0
@@ -30,30 +50,35 @@ BrokeWhere Ready P = Unit {0}
 BrokeWhere Tried P = Unit {0}
 BrokeWhere (Broke kind) P = P kind
 
--- Some answers were drawn, and asking ended so.
-abbrev pub Asked : {S : Type 0} → (S → List SourceAnswer → S → Type 0) → (S → ℕ) → AtWake → (Seen → Bool) → Patience → ReaderState S → ReaderState S → End → Type 0
-Asked drawn failed wake f patience s t end = (zs : List SourceAnswer) × drawn s.source zs t.source × Arrives s.store zs t.store × Asks wake f patience s.store.held zs end
-    × BrokeWhere end (RefusedOnlyWithoutRoom s.room zs) × IsSteady failed s.source zs t.source
+-- There is room for an event that is given, and its number is above those of all others.
+abbrev pub HasPlace : {S A : Type 0} → ReaderState S → InternalEvent A × ℕ → Type 0
+HasPlace t taken = (0 < t.room) × IsOrderly (t.store.held ++ kept taken ∷ []) t.store.arrivals
 
--- What one question came to, where room for one event is made before it.
-abbrev pub DrawsOne : {S : Type 0} → (S → List SourceAnswer → S → Type 0) → (S → ℕ) → AtWake → (Seen → Bool) → ReaderState S → ReaderState S → Once → Type 0
+-- Some answers were drawn, and asking gave this: the first admitted event, which isn't held then, or none.
+abbrev pub Asked : {S A : Type 0} → (S → List SourceAnswer → S → Type 0) → (S → ℕ) → AtWake → (Seen → Bool) → Patience → ReaderState S → ReaderState S → Result (Option (InternalEvent A × ℕ)) Error → Type 0
+Asked drawn failed wake f patience s t result = (zs : List SourceAnswer) × drawn s.source zs t.source × Arrives s.store zs (all_of t.store result) × Asks wake f patience s.store.held zs (end_of result)
+    × BrokeWhere (end_of result) (RefusedOnlyWithoutRoom s.room zs) × IsSteady failed s.source zs t.source × GivesFirst f t.store result
+
+-- What one question came to, where room for one event is made before it. An admitted event isn't held.
+abbrev pub DrawsOne : {S A : Type 0} → (S → List SourceAnswer → S → Type 0) → (S → ℕ) → AtWake → (Seen → Bool) → ReaderState S → ReaderState S → Once A → Type 0
 DrawsOne drawn failed wake f s t once.Refused = t ≡ s
 DrawsOne drawn failed wake f s t (once.Broke e) = drawn s.source (Failed (error_kind e) ∷ []) t.source × Arrives s.store (Failed (error_kind e) ∷ []) t.store × (wake ≡ GoesOn → error_kind e ≢ Interrupted)
-DrawsOne drawn failed wake f s t (once.Came b) = (x : Seen) × drawn s.source (Gave x ∷ []) t.source × Arrives s.store (Gave x ∷ []) t.store × (b ≡ f x) × (failed t.source ≡ failed s.source)
+DrawsOne drawn failed wake f s t (once.Came taken) = drawn s.source (Gave (seen taken.0) ∷ []) t.source × Arrives s.store (Gave (seen taken.0) ∷ []) (held_with t.store (kept taken)) × (f (seen taken.0) ≡ true)
+    × (failed t.source ≡ failed s.source) × (t.store.held ≡ s.store.held) × HasPlace t taken
 DrawsOne drawn failed wake f s t once.Nothing = (z : SourceAnswer) × drawn s.source (z ∷ []) t.source × Arrives s.store (z ∷ []) t.store × Passes wake f z × (IsNoFault z → failed t.source ≡ failed s.source)
 
 -- A fault is of such a kind.
-abbrev pub BreaksWhere : Once → (ErrorKind → Type 0) → Type 0
+abbrev pub BreaksWhere : {A : Type 0} → Once A → (ErrorKind → Type 0) → Type 0
 BreaksWhere (once.Broke e) P = P (error_kind e)
 BreaksWhere once.Refused P = Unit {0}
-BreaksWhere (once.Came b) P = Unit {0}
+BreaksWhere (once.Came taken) P = Unit {0}
 BreaksWhere once.Nothing P = Unit {0}
 
 -- No room for an event could be made.
-abbrev pub IsRefused : Once → Type 0
+abbrev pub IsRefused : {A : Type 0} → Once A → Type 0
 IsRefused (once.Broke e) = ⊥
 IsRefused once.Refused = Unit {0}
-IsRefused (once.Came b) = ⊥
+IsRefused (once.Came taken) = ⊥
 IsRefused once.Nothing = ⊥
 
 -- The device was asked once at most, with what is left of the limit at this moment.

@@ -1,11 +1,11 @@
-//! The held events in queues by kind.
+//! The events that a reader holds, in queues by kind.
 ghost use Rattle.std.specs.Prelude.{◌≡◌, ◌+◌, ◌-◌, ◌<◌, ◌≤◌, IfOk, IfErr, List, [], ◌∷◌, length, map, is_some, IsTrue};
 ghost use Rattle.std.specs.Iterator.{YieldsFirstBy, item_count};
 ghost use Rattle.std.specs.Option.{option_map};
 ghost use Rattle.crossterm_types.specs.Seen.{Seen, seen};
-ghost use Rattle.crossterm_read.specs.Answers.{Gave};
+ghost use Rattle.crossterm_read.specs.inside.Asking.{held_with};
 ghost use Rattle.crossterm_read.specs.inside.Queues.{AreJoined, AreKept, behind, joined, member_kept, queues_of};
-ghost use Rattle.crossterm_read.specs.Store.{Arrives, Holding, kept, next_number};
+ghost use Rattle.crossterm_read.specs.Store.{Holding, kept, next_number};
 ghost use Rattle.crossterm_read.specs.Steps.{TakeReplies, first_admitted};
 
 mod kind;
@@ -15,17 +15,17 @@ use self::kind::Places;
 use self::queues::{ALL, Member, Queues};
 use crossterm_types::event::InternalEvent;
 use crossterm_types::event::filter::Filter;
-use std::alloc::{AllocError, Allocator};
+use std::alloc::{AllocError, Allocator, Global};
 use std::marker::Model;
 
-// The queued events, in the order of their arrival.
+/// The events that a reader holds, in the order of their arrival.
 #[derive(Drop)]
-pub(crate) struct Queued<'a, A: Allocator> {
+pub struct Held<'a, A: Allocator = Global> {
     queues: &'a Option<Queues<A>>,
     at: Places,
 }
 
-impl<'a, A: Allocator> Model for Queued<'a, A> {
+impl<'a, A: Allocator> Model for Held<'a, A> {
     ghost Value = { List Seen };
 
     ghost view = { λ h. map (λ m. seen m.event) (joined (behind (queues_of h.queues.now) h.at)) };
@@ -33,7 +33,7 @@ impl<'a, A: Allocator> Model for Queued<'a, A> {
     ghost invariant = { λ h. AreJoined (behind (queues_of h.queues.now) h.at) };
 }
 
-impl<'a, A: Allocator> Iterator for Queued<'a, A> {
+impl<'a, A: Allocator> Iterator for Held<'a, A> {
     type Item = &'a InternalEvent<A>;
 
     ghost next_gives = { YieldsFirstBy (λ event. seen event.now) (λ rest. rest) };
@@ -115,23 +115,23 @@ impl<A: Allocator> HeldEvents<A> {
         }
     }
 
-    // The event joins the others at their end. It takes room that is there.
-    pub(crate) fn push_reserved(&mut self, event: InternalEvent<A>)
+    // The event joins the others at their end, with its number. It takes room that is there.
+    pub(crate) fn push_reserved(&mut self, taken: (InternalEvent<A>, u64))
         requires { 0 < self.old.room }
-        ensures store { Arrives self.old.store (Gave (seen event) ∷ []) self.new.store }
+        ensures store { self.new.store ≡ held_with self.old.store (kept taken) }
         ensures room { self.new.room + 1 ≡ self.old.room }
     {
+        let (event, arrival) = taken;
         match &mut self.queues {
             Some(queues) => {
                 let order = queues.order_from(self.next_order);
                 queues.push_reserved(Member {
                     event,
-                    arrival: self.arrivals,
+                    arrival,
                     order,
                 });
                 self.next_order = order + 1;
                 self.len += 1;
-                self.arrivals = self.arrivals.saturating_add(1);
             }
             None => unreachable!(),
         }
@@ -144,7 +144,7 @@ impl<A: Allocator> HeldEvents<A> {
         self.len == 0
     }
 
-    // Gives the number of the next event, which joins no queue.
+    // The number of the next event.
     pub(crate) fn next_number(&mut self) -> u64
         ensures number { result ≡ self.old.store.arrivals }
         ensures held { self.new.store.held ≡ self.old.store.held }
@@ -197,10 +197,10 @@ impl<A: Allocator> HeldEvents<A> {
     }
 
     // The events, in the order of their arrival.
-    pub(crate) fn iter(&self) -> Queued<'_, A>
+    pub(crate) fn iter(&self) -> Held<'_, A>
         ensures { result ≡ map (λ h. h.0) self.now.store.held }
     {
-        Queued {
+        Held {
             queues: &self.queues,
             at: Places::FRONTS,
         }

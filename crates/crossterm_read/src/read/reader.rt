@@ -1,5 +1,5 @@
 //! Holds events in the order of their arrival.
-ghost use Rattle.std.specs.Prelude.{◌≡◌, ◌≢◌, ◌⊎◌, ◌≤◌, ◌<◌, IfOk, IfErr, IfSome, IsTrue, ℕ, List, [], Option, is_some, map, true};
+ghost use Rattle.std.specs.Prelude.{◌≡◌, ◌≢◌, ◌⊎◌, ◌≤◌, ◌<◌, IfOk, IfErr, IfSome, IsTrue, ℕ, List, [], Option, None, is_some, map, true};
 ghost use Rattle.std.specs.Bool.{OnTrue, OnFalse};
 ghost use Rattle.std.specs.IoError.{error_kind};
 ghost use Rattle.std.specs.Option.{option_map};
@@ -13,10 +13,9 @@ ghost use Rattle.crossterm_read.specs.Replies.{Replied, poll_reply, shown, try_s
 ghost use Rattle.crossterm_read.specs.inside.Replies.{try_reply};
 ghost use Rattle.crossterm_read.specs.Store.{ReaderState, capacity, kept};
 ghost use Rattle.crossterm_read.specs.Steps.{UpTo, PollStep, ReadStep, RefusedOnlyWithoutRoom, TakeReplies, first_admitted};
-ghost use Rattle.crossterm_read.specs.inside.Asking.{Asked, BreaksWhere, DrawsOne, IsRefused, end_of};
+ghost use Rattle.crossterm_read.specs.inside.Asking.{Asked, BreaksWhere, DrawsOne, HasPlace, IsRefused, held_with};
 
-use crate::read::Held;
-use crate::read::backlog::Backlog;
+use crate::read::held::{Held, HeldEvents};
 use crate::source::{EventSource, Waker};
 use crossterm_types::event::InternalEvent;
 use crossterm_types::event::filter::Filter;
@@ -40,7 +39,7 @@ use std::time::Duration;
 /// ```
 #[derive(Drop)]
 pub struct InternalEventReader<S, A: Allocator = Global> {
-    held: Backlog<A>,
+    held: HeldEvents<A>,
     source: S,
 }
 
@@ -60,10 +59,12 @@ pub(crate) enum AtWake {
 }
 
 // What came of one question.
-pub(crate) enum Once {
+pub(crate) enum Once<A: Allocator> {
     Refused,
     Broke(io::Error),
-    Came(bool),
+    // An admitted event with its number, which isn't held.
+    Came((InternalEvent<A>, u64)),
+    // No event, or one that isn't admitted, which is held.
     Nothing,
 }
 
@@ -93,7 +94,7 @@ impl<S: EventSource<A>, A: Allocator> InternalEventReader<S, A> {
         ensures { result ≡ record { store = record { held = []; arrivals = 0 }; room = 0; source = source } }
     {
         InternalEventReader {
-            held: Backlog::new(alloc),
+            held: HeldEvents::new(alloc),
             source,
         }
     }
@@ -153,6 +154,16 @@ impl<S: EventSource<A>, A: Allocator> InternalEventReader<S, A> {
         self.held.take(filter)
     }
 
+    // Holds an event that was given, behind all others.
+    pub(crate) fn hold(&mut self, given: (InternalEvent<A>, u64))
+        requires { HasPlace self.old given }
+        ensures store { self.new.store ≡ held_with self.old.store (kept given) }
+        ensures room { capacity self.new ≡ capacity self.old }
+        ensures source { self.new.source ≡ self.old.source }
+    {
+        self.held.push_reserved(given);
+    }
+
     /// The events that are held, in the order of their arrival.
     pub fn held(&self) -> Held<'_, A>
         ensures { result ≡ map (λ h. h.0) self.now.store.held }
@@ -162,13 +173,13 @@ impl<S: EventSource<A>, A: Allocator> InternalEventReader<S, A> {
 }
 
 impl<S: EventSource<A>, A: Allocator + Clone> InternalEventReader<S, A> {
-    // Makes room for an event, asks the source once, with this limit, and holds what it gives.
+    // Makes room for an event, and asks the source once, with this limit. An event that isn't admitted is held.
     pub(crate) fn draw<F: Filter>(
         &mut self,
         filter: &F,
         at_wake: AtWake,
         limit: Option<Duration>,
-    ) -> Once
+    ) -> Once<A>
         ensures one { DrawsOne S.drawn S.failed at_wake (F.admits filter.now) self.old self.new result }
         ensures asked { AsksWith limit (S.asked self.old.source) (S.asked self.new.source) }
         ensures room { capacity self.old ≤ capacity self.new }
@@ -183,8 +194,12 @@ impl<S: EventSource<A>, A: Allocator + Clone> InternalEventReader<S, A> {
         match self.source.try_read(limit) {
             Ok(Some(event)) => {
                 let admitted = filter.eval(&event);
-                self.held.push_reserved(event);
-                Once::Came(admitted)
+                let taken = (event, self.held.next_number());
+                if admitted {
+                    return Once::Came(taken);
+                }
+                self.held.push_reserved(taken);
+                Once::Nothing
             }
             Ok(None) => Once::Nothing,
             Err(error) => {
@@ -201,31 +216,31 @@ impl<S: EventSource<A>, A: Allocator + Clone> InternalEventReader<S, A> {
         }
     }
 
-    // Asks the source until an admitted event is held.
-    fn ask<F: Filter>(&mut self, tries: u32, filter: &F, at_wake: AtWake) -> io::Result<bool>
-        ensures asked { Asked S.drawn S.failed at_wake (F.admits filter.now) (UpTo tries) self.old self.new (end_of result) }
+    // Asks the source until it gives an admitted event, while none is held.
+    fn ask<F: Filter>(
+        &mut self,
+        tries: u32,
+        filter: &F,
+        at_wake: AtWake,
+    ) -> io::Result<Option<(InternalEvent<A>, u64)>>
+        requires { first_admitted (F.admits filter.now) self.old.store.held ≡ None }
+        ensures asked { Asked S.drawn S.failed at_wake (F.admits filter.now) (UpTo tries) self.old self.new result }
         ensures at_once { AsksAtOnce (S.asked self.old.source) (S.asked self.new.source) }
         ensures room { capacity self.old ≤ capacity self.new }
+        ensures place { IfOk result (λ given. IfSome given (HasPlace self.new)) }
         ensures rise { S.failed self.old.source ≤ S.failed self.new.source }
         ensures err { IfErr result (λ e. IsOwn (error_kind e) ⊎ (S.failed self.old.source < S.failed self.new.source)) }
         ensures awake { at_wake ≡ GoesOn → IfErr result (λ e. error_kind e ≢ Interrupted) }
     {
-        if self.holds(filter) {
-            return Ok(true);
-        }
         for _i in 0..tries {
             match self.draw(filter, at_wake, Some(Duration::ZERO)) {
                 Once::Refused => return Err(io::Error::from(io::ErrorKind::OutOfMemory)),
                 Once::Broke(error) => return Err(error),
-                Once::Came(admitted) => {
-                    if admitted {
-                        return Ok(true);
-                    }
-                }
+                Once::Came(taken) => return Ok(Some(taken)),
                 Once::Nothing => {}
             }
         }
-        Ok(false)
+        Ok(None)
     }
 
     /// Whether an event is held that the filter admits, after so many questions to the source at most.
@@ -252,8 +267,15 @@ impl<S: EventSource<A>, A: Allocator + Clone> InternalEventReader<S, A> {
         // A wake-up is no error.
         ensures awake { IfErr result (λ e. error_kind e ≢ Interrupted) }
     {
+        if self.holds(filter) {
+            return Ok(true);
+        }
         match self.ask(tries, filter, AtWake::Stops) {
-            Ok(ready) => Ok(ready),
+            Ok(Some(taken)) => {
+                self.hold(taken);
+                Ok(true)
+            }
+            Ok(None) => Ok(false),
             Err(error) => {
                 if is_woken(&error) {
                     return Ok(false);
@@ -312,14 +334,9 @@ impl<S: EventSource<A>, A: Allocator + Clone> InternalEventReader<S, A> {
         ensures err { IfErr result (λ e. IsOwn (error_kind e) ⊎ (S.failed self.old.source < S.failed self.new.source)) }
         ensures awake { IfErr result (λ e. error_kind e ≢ Interrupted) }
     {
-        match self.ask(tries, filter, AtWake::GoesOn) {
-            Ok(ready) => {
-                if ready {
-                    return Ok(self.take_numbered(filter));
-                }
-                Ok(None)
-            }
-            Err(error) => Err(error),
+        if let Some(taken) = self.take_numbered(filter) {
+            return Ok(Some(taken));
         }
+        self.ask(tries, filter, AtWake::GoesOn)
     }
 }

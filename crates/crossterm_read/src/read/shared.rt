@@ -1,5 +1,6 @@
 //! One reader for many threads.
 
+mod boxed;
 mod calls;
 mod keyboard;
 mod pass;

@@ -1,5 +1,5 @@
 //! Polls with a limit of time, and reads without one.
-ghost use Rattle.std.specs.Prelude.{◌≡◌, ◌≢◌, ◌⊎◌, ◌-◌, ◌≤◌, ◌<◌, IfOk, IfErr, IsTrue, ℕ, List, None, true};
+ghost use Rattle.std.specs.Prelude.{◌≡◌, ◌≢◌, ◌⊎◌, ◌-◌, ◌≤◌, ◌<◌, IfOk, IfErr, IfSome, IsTrue, ℕ, List, None, true};
 ghost use Rattle.std.specs.Duration.{as_nanos};
 ghost use Rattle.std.specs.IoError.{error_kind};
 ghost use Rattle.std.specs.declared.io.ErrorKind.TheVariants.{Interrupted};
@@ -9,8 +9,8 @@ ghost use Rattle.crossterm_read.specs.Answers.{SourceAnswer, IsOwn, IsSteady};
 ghost use Rattle.crossterm_read.specs.Replies.{Replied, poll_reply, read_said, shown};
 ghost use Rattle.crossterm_read.specs.inside.Replies.{read_reply};
 ghost use Rattle.crossterm_read.specs.Store.{capacity};
-ghost use Rattle.crossterm_read.specs.Steps.{Within, PollStep, ReadStep, RefusedOnlyWithoutRoom};
-ghost use Rattle.crossterm_read.specs.inside.Asking.{BreaksWhere, DrawsOne, IsRefused, end_of, Asked, AsksInTime};
+ghost use Rattle.crossterm_read.specs.Steps.{Within, PollStep, ReadStep, RefusedOnlyWithoutRoom, first_admitted};
+ghost use Rattle.crossterm_read.specs.inside.Asking.{BreaksWhere, DrawsOne, HasPlace, IsRefused, Asked, AsksInTime};
 ghost use Rattle.crossterm_read.specs.declared.read.reader.AtWake.TheVariants.{GoesOn};
 ghost use Rattle.crossterm_read.specs.Waiting.{AsksForever, AsksLeft, AsksWithin};
 
@@ -33,7 +33,7 @@ impl<S: EventSource<A>, A: Allocator + Clone> InternalEventReader<S, A> {
         clock: &mut C,
         filter: &F,
         at_wake: AtWake,
-    ) -> Once
+    ) -> Once<A>
         ensures later { C.told clock.old ≤ C.told clock.new }
         ensures first { KeepsFirst C.began clock.old clock.new }
         ensures asked { AsksInTime timeout.now (C.told clock.new) (S.asked self.old.source) (S.asked self.new.source) }
@@ -47,7 +47,7 @@ impl<S: EventSource<A>, A: Allocator + Clone> InternalEventReader<S, A> {
         self.draw(filter, at_wake, left)
     }
 
-    // Asks the source until an admitted event is held, or the limit has passed.
+    // Asks the source until it gives an admitted event, while none is held, or the limit has passed.
     fn ask_in_time<F: Filter, C: Clock, R: Wait>(
         &mut self,
         rt: &R,
@@ -55,33 +55,28 @@ impl<S: EventSource<A>, A: Allocator + Clone> InternalEventReader<S, A> {
         clock: &mut C,
         filter: &F,
         at_wake: AtWake,
-    ) -> io::Result<bool>
-        requires { as_nanos timeout.start ≤ C.told clock.old }
+    ) -> io::Result<Option<(InternalEvent<A>, u64)>>
+        requires time { as_nanos timeout.start ≤ C.told clock.old }
+        requires none { first_admitted (F.admits filter.now) self.old.store.held ≡ None }
         ensures later { C.told clock.old ≤ C.told clock.new }
         ensures first { KeepsFirst C.began clock.old clock.new }
-        ensures asked { Asked S.drawn S.failed at_wake (F.admits filter.now) (Within timeout.limit (C.told clock.new - as_nanos timeout.start)) self.old self.new (end_of result) }
+        ensures asked { Asked S.drawn S.failed at_wake (F.admits filter.now) (Within timeout.limit (C.told clock.new - as_nanos timeout.start)) self.old self.new result }
         ensures limits { AsksLeft timeout (C.told clock.new) (S.asked self.old.source) (S.asked self.new.source) }
         ensures room { capacity self.old ≤ capacity self.new }
+        ensures place { IfOk result (λ given. IfSome given (HasPlace self.new)) }
         ensures rise { S.failed self.old.source ≤ S.failed self.new.source }
         ensures err { IfErr result (λ e. IsOwn (error_kind e) ⊎ (S.failed self.old.source < S.failed self.new.source)) }
         ensures awake { at_wake ≡ GoesOn → IfErr result (λ e. error_kind e ≢ Interrupted) }
     {
-        if self.holds(filter) {
-            return Ok(true);
-        }
         for _ in rt.forever() {
             match self.draw_in_time(&timeout, clock, filter, at_wake) {
                 Once::Refused => return Err(io::Error::from(io::ErrorKind::OutOfMemory)),
                 Once::Broke(error) => return Err(error),
-                Once::Came(admitted) => {
-                    if admitted {
-                        return Ok(true);
-                    }
-                }
+                Once::Came(taken) => return Ok(Some(taken)),
                 Once::Nothing => {}
             }
             if timeout.elapsed(clock.now()) {
-                return Ok(false);
+                return Ok(None);
             }
         }
         unreachable!()
@@ -153,8 +148,15 @@ impl<S: EventSource<A>, A: Allocator + Clone> InternalEventReader<S, A> {
         ensures err { IfErr result (λ e. IsOwn (error_kind e) ⊎ (S.failed self.old.source < S.failed self.new.source)) }
         ensures awake { IfErr result (λ e. error_kind e ≢ Interrupted) }
     {
+        if self.holds(filter) {
+            return Ok(true);
+        }
         match self.ask_in_time(rt, timeout, clock, filter, AtWake::Stops) {
-            Ok(ready) => Ok(ready),
+            Ok(Some(taken)) => {
+                self.hold(taken);
+                Ok(true)
+            }
+            Ok(None) => Ok(false),
             Err(error) => {
                 if is_woken(&error) {
                     return Ok(false);
@@ -209,12 +211,13 @@ impl<S: EventSource<A>, A: Allocator + Clone> InternalEventReader<S, A> {
         ensures err { IfErr result (λ e. IsOwn (error_kind e) ⊎ (S.failed self.old.source < S.failed self.new.source)) }
         ensures awake { IfErr result (λ e. error_kind e ≢ Interrupted) }
     {
+        if let Some(taken) = self.take_numbered(filter) {
+            return Ok(taken);
+        }
         let timeout = PollTimeout::new(None, Duration::ZERO);
         match self.ask_in_time(rt, timeout, &mut Still, filter, AtWake::GoesOn) {
-            Ok(_ready) => match self.take_numbered(filter) {
-                Some(taken) => Ok(taken),
-                None => unreachable!(),
-            },
+            Ok(Some(taken)) => Ok(taken),
+            Ok(None) => unreachable!(),
             Err(error) => Err(error),
         }
     }

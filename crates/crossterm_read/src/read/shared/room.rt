@@ -12,6 +12,7 @@ ghost use Rattle.crossterm_read.specs.Store.{ReaderState};
 ghost use Rattle.crossterm_read.specs.inside.Slot.{Produces, Learnt, Put, Taken, first_of, one_less, one_more, taught};
 
 use crate::read::InternalEventReader;
+use crate::read::shared::boxed::Boxed;
 use crate::read::shared::pass::Pass;
 use crate::read::shared::rule::{
     Another, Left, Made, OneAndTheSame, Opens, Others, Puts, Seat, Slot, Takes, TakesIn,
@@ -20,6 +21,7 @@ use crate::read::shared::view::View;
 use crate::source::{EventSource, Waker};
 use crossterm_types::event::timeout::{Clock, PollTimeout, Still};
 use std::alloc::Allocator;
+use std::boxed::Box;
 use std::io;
 use std::sync::{Condvar, Wait};
 use std::time::Duration;
@@ -47,8 +49,9 @@ impl<S: EventSource<A>, A: Allocator + Clone> Room<S, A> {
     {
         let waker = reader.waker()?;
         let _fits_u64 = reader.arrivals();
+        let reader = Box::new(alloc.clone()?, reader)?;
         let (slot, mut first) = Slot::<S, A>::ruled(alloc, 1)?;
-        match slot.push_as::<Opens<M>, R>(rt, &mut first, reader) {
+        match slot.push_as::<Opens<M>, R>(rt, &mut first, Boxed { reader }) {
             Ok(()) => {}
             Err(_) => unreachable!(),
         }
@@ -121,19 +124,19 @@ impl<S: EventSource<A>, A: Allocator> Room<S, A> {
         seat: &mut Seat<S, A>,
         timeout: &PollTimeout,
         clock: &mut C,
-    ) -> Option<InternalEventReader<S, A>>
+    ) -> Option<Box<InternalEventReader<S, A>, A>>
         requires seat { queue.IsPassOf self.now.slot seat.old }
         requires opened { (o : ReaderState S) × ((view seat.old).opening ≡ Some o) }
         ensures seat { IsSamePass seat.old seat.new }
         ensures later { C.told clock.old ≤ C.told clock.new }
         ensures first { KeepsFirst C.began clock.old clock.new }
-        ensures taken { IfSome result (λ x. Taken S.drawn (view seat.old) x (view seat.new)) }
+        ensures taken { IfSome result (λ x. Taken S.drawn (view seat.old) x.value (view seat.new)) }
         ensures passed { IfNone result ((view seat.new ≡ view seat.old) × HasElapsed timeout.now (C.told clock.new)) }
     {
         for _ in rt.forever() {
             let seen = self.puts.notifications();
             match self.slot.pop_as::<Takes, R>(rt, seat) {
-                Some(reader) => return Some(reader),
+                Some(boxed) => return Some(boxed.unboxed()),
                 None => {}
             }
             let now = clock.now();
@@ -154,11 +157,15 @@ impl<S: EventSource<A>, A: Allocator> Room<S, A> {
     }
 
     // Takes the reader out, and waits for it.
-    pub(crate) fn take<R: Wait>(&self, rt: &R, seat: &mut Seat<S, A>) -> InternalEventReader<S, A>
+    pub(crate) fn take<R: Wait>(
+        &self,
+        rt: &R,
+        seat: &mut Seat<S, A>,
+    ) -> Box<InternalEventReader<S, A>, A>
         requires seat { queue.IsPassOf self.now.slot seat.old }
         requires opened { (o : ReaderState S) × ((view seat.old).opening ≡ Some o) }
         ensures seat { IsSamePass seat.old seat.new }
-        ensures taken { Taken S.drawn (view seat.old) result (view seat.new) }
+        ensures taken { Taken S.drawn (view seat.old) result.value (view seat.new) }
     {
         let forever = PollTimeout::new(None, Duration::ZERO);
         match self.take_within(rt, seat, &forever, &mut Still) {
@@ -172,14 +179,17 @@ impl<S: EventSource<A>, A: Allocator> Room<S, A> {
         &self,
         rt: &R,
         seat: &mut Seat<S, A>,
-    ) -> Option<InternalEventReader<S, A>>
+    ) -> Option<Box<InternalEventReader<S, A>, A>>
         requires seat { queue.IsPassOf self.now.slot seat.old }
         requires opened { (o : ReaderState S) × ((view seat.old).opening ≡ Some o) }
         ensures seat { IsSamePass seat.old seat.new }
-        ensures taken { IfSome result (λ x. Taken S.drawn (view seat.old) x (view seat.new)) }
+        ensures taken { IfSome result (λ x. Taken S.drawn (view seat.old) x.value (view seat.new)) }
         ensures same { IfNone result (view seat.new ≡ view seat.old) }
     {
-        self.slot.pop_as::<Takes, R>(rt, seat)
+        match self.slot.pop_as::<Takes, R>(rt, seat) {
+            Some(boxed) => Some(boxed.unboxed()),
+            None => None,
+        }
     }
 
     // Takes the reader out for good.
@@ -194,23 +204,26 @@ impl<S: EventSource<A>, A: Allocator> Room<S, A> {
         ensures taken { IfSome result (λ x. Taken S.drawn (view seat.old) x (view seat.new)) }
         ensures same { IfNone result (view seat.new ≡ view seat.old) }
     {
-        self.try_take(rt, seat)
+        match self.try_take(rt, seat) {
+            Some(reader) => Some(Box::into_inner(reader)),
+            None => None,
+        }
     }
 
     // Puts the reader back after one call. The last says what the call was about, for the picks of `M`.
-    pub(crate) fn put<M: Made<InternalEventReader<S, A>>, T, R: Wait>(
+    pub(crate) fn put<M: Made<Boxed<S, A>>, T, R: Wait>(
         &self,
         rt: &R,
         seat: &mut Seat<S, A>,
-        reader: InternalEventReader<S, A>,
+        reader: Box<InternalEventReader<S, A>, A>,
         _about: &T,
     )
         requires seat { queue.IsPassOf self.now.slot seat.old }
-        requires produces { Produces S.drawn M.made (view seat.old) reader }
+        requires produces { Produces S.drawn M.made (view seat.old) reader.value }
         ensures seat { IsSamePass seat.old seat.new }
-        ensures put { Put S.drawn M.made (view seat.old) reader (view seat.new) }
+        ensures put { Put S.drawn M.made (view seat.old) reader.value (view seat.new) }
     {
-        match self.slot.push_as::<Puts<M>, R>(rt, seat, reader) {
+        match self.slot.push_as::<Puts<M>, R>(rt, seat, Boxed { reader }) {
             Ok(()) => self.puts.notify_one(),
             Err(_) => unreachable!(),
         }

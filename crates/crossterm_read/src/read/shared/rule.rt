@@ -3,7 +3,7 @@ ghost use Rattle.std.specs.Prelude.{◌≡◌, ℕ, List, [], ⊤};
 ghost use Rattle.crossterm_read.specs.History.{Entry};
 ghost use Rattle.crossterm_read.specs.inside.Slot.{Kept, Learnt, Put, Taken, first_of, newcomer, one_less, one_more, taught};
 
-use crate::read::InternalEventReader;
+use crate::read::shared::boxed::Boxed;
 use crate::read::shared::view::View;
 use crate::source::EventSource;
 use crossbeam_queue::protocol::{Join, Lesson, Outcome, Protocol, Split};
@@ -14,7 +14,7 @@ use std::marker::{Brand, PhantomData};
 /// All calls are in one legal history.
 pub struct OneHistory;
 
-impl<S: EventSource<A>, A: Allocator> Protocol<InternalEventReader<S, A>, View<S>> for OneHistory {
+impl<S: EventSource<A>, A: Allocator> Protocol<Boxed<S, A>, View<S>> for OneHistory {
     ghost holds = { Kept S.drawn };
 
     ghost first = { newcomer };
@@ -32,13 +32,11 @@ impl Others for Brand {
 /// The reader is put in for the first time.
 pub struct Opens<M>(PhantomData<M>);
 
-impl<S: EventSource<A>, A: Allocator, M: Others> Outcome<InternalEventReader<S, A>, View<S>>
-    for Opens<M> {
+impl<S: EventSource<A>, A: Allocator, M: Others> Outcome<Boxed<S, A>, View<S>> for Opens<M> {
     ghost then = { λ v x w. w ≡ first_of x M.others M.others };
 }
 
-impl<S: EventSource<A>, A: Allocator, M: Others> Lesson<InternalEventReader<S, A>, View<S>>
-    for Opens<M> {
+impl<S: EventSource<A>, A: Allocator, M: Others> Lesson<Boxed<S, A>, View<S>> for Opens<M> {
     ghost fact = { λ v items. items ≡ [] };
 }
 
@@ -54,11 +52,11 @@ impl<S> Split<View<S>> for Another {
 /// The reader is taken out.
 pub struct Takes;
 
-impl<S: EventSource<A>, A: Allocator> Outcome<InternalEventReader<S, A>, View<S>> for Takes {
+impl<S: EventSource<A>, A: Allocator> Outcome<Boxed<S, A>, View<S>> for Takes {
     ghost then = { Taken S.drawn };
 }
 
-impl<S: EventSource<A>, A: Allocator> Lesson<InternalEventReader<S, A>, View<S>> for Takes {
+impl<S: EventSource<A>, A: Allocator> Lesson<Boxed<S, A>, View<S>> for Takes {
     ghost fact = { λ v items. ⊤ };
 }
 
@@ -74,17 +72,13 @@ impl<T> Made<T> for Brand {
 /// The reader is put back, after one call.
 pub struct Puts<M>(PhantomData<M>);
 
-impl<S: EventSource<A>, A: Allocator, M: Made<InternalEventReader<S, A>>> Outcome<
-    InternalEventReader<S, A>,
-    View<S>,
-> for Puts<M> {
+impl<S: EventSource<A>, A: Allocator, M: Made<Boxed<S, A>>> Outcome<Boxed<S, A>, View<S>>
+    for Puts<M> {
     ghost then = { Put S.drawn M.made };
 }
 
-impl<S: EventSource<A>, A: Allocator, M: Made<InternalEventReader<S, A>>> Lesson<
-    InternalEventReader<S, A>,
-    View<S>,
-> for Puts<M> {
+impl<S: EventSource<A>, A: Allocator, M: Made<Boxed<S, A>>> Lesson<Boxed<S, A>, View<S>>
+    for Puts<M> {
     ghost fact = { λ v items. items ≡ [] };
 }
 
@@ -109,10 +103,10 @@ impl<S, M: Left<View<S>>> Join<View<S>> for TakesIn<M> {
 /// What is learnt then.
 pub struct OneAndTheSame;
 
-impl<S: EventSource<A>, A: Allocator> Lesson<InternalEventReader<S, A>, View<S>> for OneAndTheSame {
+impl<S: EventSource<A>, A: Allocator> Lesson<Boxed<S, A>, View<S>> for OneAndTheSame {
     ghost fact = { λ v items. Learnt S.drawn v };
 }
 
-pub type Slot<S, A> = RuledArrayQueue<InternalEventReader<S, A>, View<S>, OneHistory, A>;
+pub type Slot<S, A> = RuledArrayQueue<Boxed<S, A>, View<S>, OneHistory, A>;
 
-pub type Seat<S, A> = Pass<InternalEventReader<S, A>, View<S>>;
+pub type Seat<S, A> = Pass<Boxed<S, A>, View<S>>;

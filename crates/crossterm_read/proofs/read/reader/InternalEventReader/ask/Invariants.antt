@@ -6,7 +6,7 @@ use Rattle.crossterm_read.proofs.read.reader.InternalEventReader.ask.Given as go
 
 abbrev pub invariant-loop-i : goal.invariant-loop-i
 invariant-loop-i g l = record {
-  so_far : Asking g.S.EventSource.drawn g.S.EventSource.failed g.met.S.EventSource.drawn_on l.at_wake (g.F.Filter.admits l.filter) l.fn.self l.self l._i;
+  so_far : Asking g.row.A.Denot g.S.EventSource.drawn g.S.EventSource.failed g.met.S.EventSource.drawn_on l.at_wake (g.F.Filter.admits l.filter) l.fn.self l.self l._i;
   at_once : AsksAtOnce (g.S.EventSource.asked l.fn.self.source) (g.S.EventSource.asked l.self.source);
   room : capacity l.fn.self ≤ capacity l.self;
   rise : g.S.EventSource.failed l.fn.self.source ≤ g.S.EventSource.failed l.self.source;

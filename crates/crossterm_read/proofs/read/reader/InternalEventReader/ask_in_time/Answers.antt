@@ -4,24 +4,16 @@ use Rattle.std.specs.Duration.{as_nanos}
 use Rattle.crossterm_types.specs.Timing.{HasElapsed}
 use Rattle.crossterm_read.specs.Steps.{Within}
 use Rattle.crossterm_read.specs.Store.{ReaderState}
-use Rattle.crossterm_read.proofs.Asking.{Asking, none_of, asking_none, asking_came, asking_nothing, asked_held, asked_came, asked_broke, asked_refused, asked_tried, asks_none}
+use Rattle.crossterm_read.proofs.Asking.{Asking, asking_none, asking_nothing, asked_broke, asked_refused, asked_tried, asks_none}
+use Rattle.crossterm_read.proofs.Newest.{asked_came}
 use Rattle.crossterm_read.proofs.Waiting.{lasts, left_none, limits_more, some_more}
-use Rattle.crossterm_read.proofs.read.reader.InternalEventReader.ask_in_time.Goals.{in-Came+else-admitted, in-Nothing}
 use Rattle.crossterm_read.proofs.read.reader.InternalEventReader.ask_in_time.Goals as goal
-
-pub returns-then-holds-clause-asked : goal.returns-then-holds-clause-asked
-returns-then-holds-clause-asked g c =
-    asked_held g.S.EventSource.drawn g.S.EventSource.failed g.met.S.EventSource.drawn_on _ _ g.met.S.EventSource.none_drawn c.args.self.now (Within c.args.timeout.limit (g.C.Clock.told c.args.clock.now - as_nanos c.args.timeout.start)) (sym c.holds.ensures ∙ c.if-holds.true)
-
-pub returns-then-holds-clause-limits : goal.returns-then-holds-clause-limits
-returns-then-holds-clause-limits g c = left_none _ _ _
 
 pub loop-init : goal.loop-init
 loop-init g c = record {
   so_far = (
     0,
-    asking_none g.S.EventSource.drawn g.S.EventSource.failed g.met.S.EventSource.drawn_on _ _ g.met.S.EventSource.none_drawn c.args.self.now c.args.self.now refl
-        (none_of _ (sym c.holds.ensures ∙ c.if-holds.false)),
+    asking_none g.row.A.Denot g.S.EventSource.drawn g.S.EventSource.failed g.met.S.EventSource.drawn_on _ _ g.met.S.EventSource.none_drawn c.args.self.now c.args.self.now refl c.requires.none,
     λ z. refl,
   );
   later = omega arith;
@@ -33,35 +25,34 @@ loop-init g c = record {
   ends = tt;
 }
 
-pub returns-then-admitted-clause-asked : goal.returns-then-admitted-clause-asked
-returns-then-admitted-clause-asked g c =
+pub returns-in-Came-clause-asked : goal.returns-in-Came-clause-asked
+returns-in-Came-clause-asked g c =
     let n = c.loop.invariant.so_far.0 in
-    asked_came g.S.EventSource.drawn g.S.EventSource.failed g.met.S.EventSource.drawn_on _ _ _ c.loop.self c.draw_in_time.new.self n (Within c.args.timeout.limit (g.C.Clock.told c.draw_in_time.new.clock - as_nanos c.args.timeout.start)) _ c.if-admitted.true c.loop.invariant.so_far.1
+    asked_came g.row.A.Denot g.S.EventSource.drawn g.S.EventSource.failed g.met.S.EventSource.drawn_on _ _ _ c.loop.self c.draw_in_time.new.self n (Within c.args.timeout.limit (g.C.Clock.told c.draw_in_time.new.clock - as_nanos c.args.timeout.start)) _ c.loop.invariant.so_far.1
     (λ z. let y = c.loop.invariant.so_far.2 z in omega arith) c.in-Came.ensures.one
+
+pub returns-in-Came-clause-place : goal.returns-in-Came-clause-place
+returns-in-Came-clause-place g c = c.in-Came.ensures.one.5
 
 pub returns-in-Broke-clause-asked : goal.returns-in-Broke-clause-asked
 returns-in-Broke-clause-asked g c =
-    let d = c.in-Broke.ensures.one in
     let n = c.loop.invariant.so_far.0 in
-    asked_broke g.S.EventSource.drawn g.S.EventSource.failed g.met.S.EventSource.drawn_on _ _ _ c.loop.self c.draw_in_time.new.self n (Within c.args.timeout.limit (g.C.Clock.told c.draw_in_time.new.clock - as_nanos c.args.timeout.start)) _ c.loop.invariant.so_far.1 (λ z. let y = c.loop.invariant.so_far.2 z in omega arith) d.0 d.1 d.2
+    asked_broke g.row.A.Denot g.S.EventSource.drawn g.S.EventSource.failed g.met.S.EventSource.drawn_on _ _ _ c.loop.self c.draw_in_time.new.self n (Within c.args.timeout.limit (g.C.Clock.told c.draw_in_time.new.clock - as_nanos c.args.timeout.start)) c.in-Broke.error c.loop.invariant.so_far.1 (λ z. let y = c.loop.invariant.so_far.2 z in omega arith) c.in-Broke.ensures.one
 
 pub returns-in-Refused-clause-asked : goal.returns-in-Refused-clause-asked
 returns-in-Refused-clause-asked g c =
     let n = c.loop.invariant.so_far.0 in
-    let so_far = subst (λ (t : ReaderState g.row.S.Denot). Asking g.S.EventSource.drawn g.S.EventSource.failed g.met.S.EventSource.drawn_on c.args.at_wake (g.F.Filter.admits c.args.filter.now) c.args.self.now t n)
+    let so_far = subst (λ (t : ReaderState g.row.S.Denot). Asking g.row.A.Denot g.S.EventSource.drawn g.S.EventSource.failed g.met.S.EventSource.drawn_on c.args.at_wake (g.F.Filter.admits c.args.filter.now) c.args.self.now t n)
     (sym c.in-Refused.ensures.one) c.loop.invariant.so_far.1 in
     let room = ap (λ (t : ReaderState g.row.S.Denot). t.room) c.in-Refused.ensures.one ∙ c.in-Refused.ensures.full tt in
-    asked_refused g.S.EventSource.drawn g.S.EventSource.failed g.met.S.EventSource.drawn_on _ _ c.args.self.now c.draw_in_time.new.self n (Within c.args.timeout.limit (g.C.Clock.told c.draw_in_time.new.clock - as_nanos c.args.timeout.start)) _ so_far (λ z. let y = c.loop.invariant.so_far.2 z in omega arith) c.from.ensures
+    asked_refused g.row.A.Denot g.S.EventSource.drawn g.S.EventSource.failed g.met.S.EventSource.drawn_on _ _ c.args.self.now c.draw_in_time.new.self n (Within c.args.timeout.limit (g.C.Clock.told c.draw_in_time.new.clock - as_nanos c.args.timeout.start)) c.from.result so_far (λ z. let y = c.loop.invariant.so_far.2 z in omega arith) c.from.ensures
     (omega (arith, c.loop.invariant.room, c.in-Refused.ensures.room)) room
 
 pub returns-then-elapsed-clause-asked : goal.returns-then-elapsed-clause-asked
 returns-then-elapsed-clause-asked g c =
     let n = c.loop.invariant.so_far.0 in
-    let so_far : Asking g.S.EventSource.drawn g.S.EventSource.failed g.met.S.EventSource.drawn_on c.args.at_wake (g.F.Filter.admits c.args.filter.now) c.args.self.now c.draw_in_time.new.self (n + 1) = elim c.match-draw_in_time.branch [
-      | in-Came+else-admitted w ↦ asking_came g.S.EventSource.drawn g.S.EventSource.failed g.met.S.EventSource.drawn_on _ _ _ c.loop.self c.draw_in_time.new.self n _ w.if-admitted.false c.loop.invariant.so_far.1 w.in-Came.ensures.one
-      | in-Nothing w ↦ asking_nothing g.S.EventSource.drawn g.S.EventSource.failed g.met.S.EventSource.drawn_on _ _ _ c.loop.self c.draw_in_time.new.self n c.loop.invariant.so_far.1 w.in-Nothing.ensures.one
-    ] in
-    asked_tried g.S.EventSource.drawn g.S.EventSource.failed g.met.S.EventSource.drawn_on _ _ c.args.self.now c.draw_in_time.new.self (n + 1) (Within c.args.timeout.limit (g.C.Clock.told c.now.new.self - as_nanos c.args.timeout.start)) so_far record {
+    let so_far : Asking g.row.A.Denot g.S.EventSource.drawn g.S.EventSource.failed g.met.S.EventSource.drawn_on c.args.at_wake (g.F.Filter.admits c.args.filter.now) c.args.self.now c.draw_in_time.new.self (n + 1) = asking_nothing g.row.A.Denot g.S.EventSource.drawn g.S.EventSource.failed g.met.S.EventSource.drawn_on _ _ _ c.loop.self c.draw_in_time.new.self n c.loop.invariant.so_far.1 c.in-Nothing.ensures.one in
+    asked_tried g.row.A.Denot g.S.EventSource.drawn g.S.EventSource.failed g.met.S.EventSource.drawn_on _ _ c.args.self.now c.draw_in_time.new.self (n + 1) (Within c.args.timeout.limit (g.C.Clock.told c.now.new.self - as_nanos c.args.timeout.start)) so_far record {
       begun = omega arith;
       once = λ z. let y = c.loop.invariant.so_far.2 z in omega arith;
       passed = subst (λ (n : ℕ). HasElapsed c.args.timeout n) c.now.ensures.told (c.if-elapsed.ensures.0 refl);
@@ -69,19 +60,19 @@ returns-then-elapsed-clause-asked g c =
 
 pub returns-in-Refused-clause-limits : goal.returns-in-Refused-clause-limits
 returns-in-Refused-clause-limits g c =
-    limits_more _ _ _ _ _ _ _ c.draw_in_time.ensures.later (omega (arith, c.requires, c.loop.invariant.later, c.draw_in_time.ensures.later)) (omega arith) c.loop.invariant.limits c.draw_in_time.ensures.asked
+    limits_more _ _ _ _ _ _ _ c.draw_in_time.ensures.later (omega (arith, c.requires.time, c.loop.invariant.later, c.draw_in_time.ensures.later)) (omega arith) c.loop.invariant.limits c.draw_in_time.ensures.asked
 
 pub returns-in-Broke-clause-limits : goal.returns-in-Broke-clause-limits
 returns-in-Broke-clause-limits g c =
-    limits_more _ _ _ _ _ _ _ c.draw_in_time.ensures.later (omega (arith, c.requires, c.loop.invariant.later, c.draw_in_time.ensures.later)) (omega arith) c.loop.invariant.limits c.draw_in_time.ensures.asked
+    limits_more _ _ _ _ _ _ _ c.draw_in_time.ensures.later (omega (arith, c.requires.time, c.loop.invariant.later, c.draw_in_time.ensures.later)) (omega arith) c.loop.invariant.limits c.draw_in_time.ensures.asked
 
-pub returns-then-admitted-clause-limits : goal.returns-then-admitted-clause-limits
-returns-then-admitted-clause-limits g c =
-    limits_more _ _ _ _ _ _ _ c.draw_in_time.ensures.later (omega (arith, c.requires, c.loop.invariant.later, c.draw_in_time.ensures.later)) (omega arith) c.loop.invariant.limits c.draw_in_time.ensures.asked
+pub returns-in-Came-clause-limits : goal.returns-in-Came-clause-limits
+returns-in-Came-clause-limits g c =
+    limits_more _ _ _ _ _ _ _ c.draw_in_time.ensures.later (omega (arith, c.requires.time, c.loop.invariant.later, c.draw_in_time.ensures.later)) (omega arith) c.loop.invariant.limits c.draw_in_time.ensures.asked
 
 pub returns-then-elapsed-clause-limits : goal.returns-then-elapsed-clause-limits
 returns-then-elapsed-clause-limits g c =
-    limits_more _ _ _ _ _ _ _ (omega (arith, c.draw_in_time.ensures.later, c.now.ensures.later)) (omega (arith, c.requires, c.loop.invariant.later, c.draw_in_time.ensures.later)) (omega (arith, c.now.ensures.later)) c.loop.invariant.limits c.draw_in_time.ensures.asked
+    limits_more _ _ _ _ _ _ _ (omega (arith, c.draw_in_time.ensures.later, c.now.ensures.later)) (omega (arith, c.requires.time, c.loop.invariant.later, c.draw_in_time.ensures.later)) (omega (arith, c.now.ensures.later)) c.loop.invariant.limits c.draw_in_time.ensures.asked
 
 pub returns-then-elapsed-clause-first : goal.returns-then-elapsed-clause-first
 returns-then-elapsed-clause-first g c from start b = c.now.ensures.again _ _ (c.draw_in_time.ensures.first _ _ (c.loop.invariant.first _ _ b))
@@ -89,16 +80,13 @@ returns-then-elapsed-clause-first g c from start b = c.now.ensures.again _ _ (c.
 pub loop-preserved : goal.loop-preserved
 loop-preserved g c =
     let n = c.loop.invariant.so_far.0 in
-    let so_far : Asking g.S.EventSource.drawn g.S.EventSource.failed g.met.S.EventSource.drawn_on c.args.at_wake (g.F.Filter.admits c.args.filter.now) c.args.self.now c.draw_in_time.new.self (n + 1) = elim c.match-draw_in_time.branch [
-      | in-Came+else-admitted w ↦ asking_came g.S.EventSource.drawn g.S.EventSource.failed g.met.S.EventSource.drawn_on _ _ _ c.loop.self c.draw_in_time.new.self n _ w.if-admitted.false c.loop.invariant.so_far.1 w.in-Came.ensures.one
-      | in-Nothing w ↦ asking_nothing g.S.EventSource.drawn g.S.EventSource.failed g.met.S.EventSource.drawn_on _ _ _ c.loop.self c.draw_in_time.new.self n c.loop.invariant.so_far.1 w.in-Nothing.ensures.one
-    ] in
+    let so_far : Asking g.row.A.Denot g.S.EventSource.drawn g.S.EventSource.failed g.met.S.EventSource.drawn_on c.args.at_wake (g.F.Filter.admits c.args.filter.now) c.args.self.now c.draw_in_time.new.self (n + 1) = asking_nothing g.row.A.Denot g.S.EventSource.drawn g.S.EventSource.failed g.met.S.EventSource.drawn_on _ _ _ c.loop.self c.draw_in_time.new.self n c.loop.invariant.so_far.1 c.in-Nothing.ensures.one in
     let lasting : HasElapsed c.args.timeout (as_nanos c.now.result) → ⊥ = λ h. true≢false (sym (c.if-elapsed.ensures.1 h)) in
     record {
       so_far = (n + 1, so_far, λ z. absurd (lasts c.args.timeout _ lasting z));
       later = omega (arith, c.loop.invariant.later, c.draw_in_time.ensures.later, c.now.ensures.later);
       first = λ from start b. c.now.ensures.again _ _ (c.draw_in_time.ensures.first _ _ (c.loop.invariant.first _ _ b));
-      limits = some_more _ _ _ _ _ _ _ (omega (arith, c.draw_in_time.ensures.later, c.now.ensures.later)) (omega (arith, c.requires, c.loop.invariant.later, c.draw_in_time.ensures.later)) (omega (arith, c.now.ensures.later))
+      limits = some_more _ _ _ _ _ _ _ (omega (arith, c.draw_in_time.ensures.later, c.now.ensures.later)) (omega (arith, c.requires.time, c.loop.invariant.later, c.draw_in_time.ensures.later)) (omega (arith, c.now.ensures.later))
           (λ h. lasting (subst (λ (n : ℕ). HasElapsed c.args.timeout n) (sym c.now.ensures.told) h)) c.loop.invariant.limits c.draw_in_time.ensures.asked;
       room = omega (arith, c.loop.invariant.room, c.draw_in_time.ensures.room);
       rise = omega (arith, c.loop.invariant.rise, c.draw_in_time.ensures.rise);

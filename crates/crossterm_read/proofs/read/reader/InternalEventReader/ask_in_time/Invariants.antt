@@ -8,7 +8,7 @@ use Rattle.crossterm_read.proofs.read.reader.InternalEventReader.ask_in_time.Giv
 
 abbrev pub invariant-loop : goal.invariant-loop
 invariant-loop g l = record {
-  so_far : (n : ℕ) × Asking g.S.EventSource.drawn g.S.EventSource.failed g.met.S.EventSource.drawn_on l.at_wake (g.F.Filter.admits l.filter) l.fn.self l.self n × (IsAtOnce l.timeout.limit → n ≡ 0);
+  so_far : (n : ℕ) × Asking g.row.A.Denot g.S.EventSource.drawn g.S.EventSource.failed g.met.S.EventSource.drawn_on l.at_wake (g.F.Filter.admits l.filter) l.fn.self l.self n × (IsAtOnce l.timeout.limit → n ≡ 0);
   later : g.C.Clock.told l.fn.clock ≤ g.C.Clock.told l.clock;
   first : KeepsFirst g.C.Clock.began l.fn.clock l.clock;
   limits : AsksEach (WasSomeLeft l.timeout (g.C.Clock.told l.clock)) (g.S.EventSource.asked l.fn.self.source) (g.S.EventSource.asked l.self.source);

@@ -1,15 +1,25 @@
+use Rattle.std.proofs.Common.{Some, ap, sym, ◌∙◌}
 use Rattle.crossterm_read.specs.Steps.{UpTo}
-use Rattle.crossterm_read.proofs.Asking.{poll_ok, poll_woken, poll_fault, steady_poll}
+use Rattle.crossterm_read.proofs.Asking.{none_of, poll_came, poll_fault, poll_held, poll_tried, poll_woken, steady_poll}
 use Rattle.crossterm_read.proofs.read.reader.InternalEventReader.poll_within.Goals as goal
 
-pub returns-then-is_woken-clause-step : goal.returns-then-is_woken-clause-step
-returns-then-is_woken-clause-step g c = poll_woken g.S.EventSource.drawn g.S.EventSource.failed _ (UpTo c.args.tries) c.args.self.now c.ask.new.self _ c.if-is_woken.ensures.yes c.in-Err.ensures.asked
+pub ask-requires : goal.ask-requires
+ask-requires g c = none_of _ (sym c.holds.ensures ∙ c.if-holds.false)
 
-pub returns-in-Ok-clause-step : goal.returns-in-Ok-clause-step
-returns-in-Ok-clause-step g c = poll_ok g.S.EventSource.drawn g.S.EventSource.failed _ (UpTo c.args.tries) c.args.self.now c.ask.new.self c.in-Ok.ready c.in-Ok.ensures.asked
+pub returns-then-holds-clause-step : goal.returns-then-holds-clause-step
+returns-then-holds-clause-step g c = poll_held g.S.EventSource.drawn g.met.S.EventSource.none_drawn g.S.EventSource.failed (g.F.Filter.admits c.args.filter.now) (UpTo c.args.tries) c.args.self.now (sym c.holds.ensures ∙ c.if-holds.true)
+
+pub returns-in-Ok-Some-clause-step : goal.returns-in-Ok-Some-clause-step
+returns-in-Ok-Some-clause-step g c = poll_came g.S.EventSource.drawn g.S.EventSource.failed _ (UpTo c.args.tries) c.args.self.now c.hold.new.self c.ask.new.self c.in-Ok-Some.taken (rw c.in-Ok-Some.field-0-is at c.in-Ok-Some.ensures).asked c.hold.ensures.store c.hold.ensures.source
+
+pub returns-in-Ok-Some-clause-steady : goal.returns-in-Ok-Some-clause-steady
+returns-in-Ok-Some-clause-steady g c ready = ap g.S.EventSource.failed c.hold.ensures.source ∙ steady_poll {A = g.row.A.Denot} g.S.EventSource.drawn g.S.EventSource.failed (g.F.Filter.admits c.args.filter.now) (UpTo c.args.tries) c.args.self.now c.ask.new.self (Some c.in-Ok-Some.taken) (rw c.in-Ok-Some.field-0-is at c.in-Ok-Some.ensures).asked
+
+pub returns-in-Ok-None-clause-step : goal.returns-in-Ok-None-clause-step
+returns-in-Ok-None-clause-step g c = poll_tried g.S.EventSource.drawn g.S.EventSource.failed _ (UpTo c.args.tries) c.args.self.now c.ask.new.self g.row.A.Denot (rw c.in-Ok-None.field-0-is at c.in-Ok-None.ensures).asked
+
+pub returns-then-is_woken-clause-step : goal.returns-then-is_woken-clause-step
+returns-then-is_woken-clause-step g c = poll_woken g.S.EventSource.drawn g.S.EventSource.failed _ (UpTo c.args.tries) c.args.self.now c.ask.new.self g.row.A.Denot c.in-Err.error c.if-is_woken.ensures.yes c.in-Err.ensures.asked
 
 pub returns-else-is_woken-clause-step : goal.returns-else-is_woken-clause-step
-returns-else-is_woken-clause-step g c = poll_fault g.S.EventSource.drawn g.S.EventSource.failed _ (UpTo c.args.tries) c.args.self.now c.ask.new.self c.in-Err.error c.if-is_woken.ensures.no c.in-Err.ensures.asked
-
-pub returns-in-Ok-clause-steady : goal.returns-in-Ok-clause-steady
-returns-in-Ok-clause-steady g c ready = steady_poll g.S.EventSource.drawn g.S.EventSource.failed _ (UpTo c.args.tries) c.args.self.now c.ask.new.self c.in-Ok.ready c.in-Ok.ensures.asked
+returns-else-is_woken-clause-step g c = poll_fault g.S.EventSource.drawn g.S.EventSource.failed _ (UpTo c.args.tries) c.args.self.now c.ask.new.self g.row.A.Denot c.in-Err.error c.if-is_woken.ensures.no c.in-Err.ensures.asked

@@ -5,7 +5,7 @@ use Rattle.crossbeam_queue.specs.Passes.{view}
 use Rattle.crossterm_read.specs.Calls.{Keyboard}
 use Rattle.crossterm_read.specs.Queries.{KeyboardStep}
 use Rattle.crossterm_read.specs.Steps.{Within}
-use Rattle.crossterm_read.proofs.Sharing.{some_there, produces, extends, extends_at, flags_memory, sits_taken, sits_put, last_after}
+use Rattle.crossterm_read.proofs.Sharing.{taken_at, some_there, produces, extends, extends_at, flags_memory, sits_taken, sits_put, last_after}
 use Rattle.crossterm_read.proofs.Waiting.{first_of}
 use Rattle.crossterm_read.proofs.read.shared.reader.EventReader.keyboard_by.Goals as goal
 
@@ -22,8 +22,8 @@ put-requires-clause-produces g c =
     let first = s.0 - as_nanos c.new-timeout.result.start in
     let past = g.C.Clock.told c.keyboard_until-taken.new.clock - s.1 in
     let again = Within (Some c.args.limit) past in
-    let step = subst (λ (limit : Option Duration). KeyboardStep (Within limit first) again s.5 c.in-Some.reader.store c.keyboard_until-taken.new.self.store s.6) c.new-timeout.ensures.limit s.8 in
-    produces g.S.EventSource.drawn _ _ _ c.in-Some.reader c.keyboard_until-taken.new.self c.in-Some.ensures.taken (Keyboard (Within (Some c.args.limit) first) again) s.5 s.6 (
+    let step = subst (λ (limit : Option Duration). KeyboardStep (Within limit first) again s.5 c.deref_mut.result.now.store c.keyboard_until-taken.new.self.store s.6) c.new-timeout.ensures.limit s.8 in
+    produces g.S.EventSource.drawn _ _ _ c.deref_mut.result.now c.keyboard_until-taken.new.self (taken_at g.S.EventSource.drawn _ _ _ _ c.deref_mut.ensures.value c.in-Some.ensures.taken) (Keyboard (Within (Some c.args.limit) first) again) s.5 s.6 (
       (
         s.0,
         s.1,
@@ -52,7 +52,7 @@ invariant_of-pass-2 g c =
 
 pub returns-clause-call : goal.returns-clause-call
 returns-clause-call g c =
-    let x = extends g.S.EventSource.drawn _ (view c.args.pass.now.seat) (view c.take_within.new.seat) (view c.put.new.seat) c.in-Some.reader c.keyboard_until-taken.new.self c.requires.1 c.in-Some.ensures.taken c.put.ensures.put in (
+    let x = extends g.S.EventSource.drawn _ (view c.args.pass.now.seat) (view c.take_within.new.seat) (view c.put.new.seat) c.in-Some.reader.value c.keyboard_until-taken.new.self c.requires.1 c.in-Some.ensures.taken c.put.ensures.put in (
       as_nanos c.now-start.result,
       first_of g.C.Clock.told g.C.Clock.began _ _ _ _ c.now-start.ensures.told c.now-start.ensures.later (omega (arith, c.take_within.ensures.later, c.keyboard_until-taken.ensures.later)) c.now-start.ensures.first
           (λ from start b. c.keyboard_until-taken.ensures.first _ _ (c.take_within.ensures.first _ _ b)),

@@ -6,7 +6,7 @@ use Rattle.crossterm_types.specs.Admitting.{admitted}
 use Rattle.crossterm_read.specs.Calls.{Poll}
 use Rattle.crossterm_read.specs.Replies.{poll_reply}
 use Rattle.crossterm_read.specs.Steps.{Within, PollStep}
-use Rattle.crossterm_read.proofs.Sharing.{some_there, produces, extends, poll_memory, sits_taken, sits_put, last_after, last_poll}
+use Rattle.crossterm_read.proofs.Sharing.{taken_at, some_there, produces, extends, poll_memory, sits_taken, sits_put, last_after, last_poll}
 use Rattle.crossterm_read.proofs.Waiting.{first_of}
 use Rattle.crossterm_read.proofs.read.shared.reader.EventReader.poll_by.Goals as goal
 
@@ -21,8 +21,8 @@ put-requires-clause-produces g c =
     let start = ap as_nanos c.new-timeout.ensures.start in
     let past = g.C.Clock.told c.poll_until-result.new.clock - as_nanos c.new-timeout.result.start in
     let e = c.poll_until-result.ensures.step in
-    let step = subst (λ (limit : Option Duration). PollStep (Within limit past) (admitted c.args.filter) e.0 c.in-Some.reader.store c.poll_until-result.new.self.store (poll_reply c.poll_until-result.result)) c.new-timeout.ensures.limit e.2 in
-    produces g.S.EventSource.drawn _ _ _ c.in-Some.reader c.poll_until-result.new.self c.in-Some.ensures.taken (Poll (Within c.args.limit past) c.args.filter) e.0 (poll_reply c.poll_until-result.result)
+    let step = subst (λ (limit : Option Duration). PollStep (Within limit past) (admitted c.args.filter) e.0 c.deref_mut.result.now.store c.poll_until-result.new.self.store (poll_reply c.poll_until-result.result)) c.new-timeout.ensures.limit e.2 in
+    produces g.S.EventSource.drawn _ _ _ c.deref_mut.result.now c.poll_until-result.new.self (taken_at g.S.EventSource.drawn _ _ _ _ c.deref_mut.ensures.value c.in-Some.ensures.taken) (Poll (Within c.args.limit past) c.args.filter) e.0 (poll_reply c.poll_until-result.result)
     (record {
       call = (past, omega (arith, start), refl);
       reply = refl;
@@ -43,7 +43,7 @@ returns-clause-call g c = (
   as_nanos c.now-start.result,
   first_of g.C.Clock.told g.C.Clock.began _ _ _ _ c.now-start.ensures.told c.now-start.ensures.later (omega (arith, c.take_within.ensures.later, c.poll_until-result.ensures.later)) c.now-start.ensures.first
       (λ from start b. c.poll_until-result.ensures.first _ _ (c.take_within.ensures.first _ _ b)),
-  inl (extends g.S.EventSource.drawn _ (view c.args.pass.now.seat) (view c.take_within.new.seat) (view c.put.new.seat) c.in-Some.reader c.poll_until-result.new.self c.requires.1 c.in-Some.ensures.taken c.put.ensures.put),
+  inl (extends g.S.EventSource.drawn _ (view c.args.pass.now.seat) (view c.take_within.new.seat) (view c.put.new.seat) c.in-Some.reader.value c.poll_until-result.new.self c.requires.1 c.in-Some.ensures.taken c.put.ensures.put),
 )
 
 pub returns-clause-first : goal.returns-clause-first

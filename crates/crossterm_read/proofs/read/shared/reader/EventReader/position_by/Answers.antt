@@ -7,7 +7,7 @@ use Rattle.crossterm_read.specs.Calls.{Position}
 use Rattle.crossterm_read.specs.inside.Replies.{read_reply}
 use Rattle.crossterm_read.specs.Queries.{QueryStep}
 use Rattle.crossterm_read.specs.Steps.{Within}
-use Rattle.crossterm_read.proofs.Sharing.{some_there, produces, extends, read_memory, sits_taken, sits_put, last_after, last_read}
+use Rattle.crossterm_read.proofs.Sharing.{taken_at, some_there, produces, extends, read_memory, sits_taken, sits_put, last_after, last_read}
 use Rattle.crossterm_read.proofs.Waiting.{first_of}
 use Rattle.crossterm_read.proofs.read.shared.reader.EventReader.position_by.Goals as goal
 
@@ -22,8 +22,8 @@ put-requires-clause-produces g c =
     let start = ap as_nanos c.new-timeout.ensures.start in
     let past = g.C.Clock.told c.query_until-taken.new.clock - as_nanos c.new-timeout.result.start in
     let e = c.query_until-taken.ensures.step in
-    let step = subst (λ (limit : Option Duration). QueryStep is_cursor_position (Within limit past) e.0 c.in-Some.reader.store c.query_until-taken.new.self.store (read_reply c.query_until-taken.result)) c.new-timeout.ensures.limit e.2 in
-    produces g.S.EventSource.drawn _ _ _ c.in-Some.reader c.query_until-taken.new.self c.in-Some.ensures.taken (Position (Within (Some c.args.limit) past)) e.0 (read_reply c.query_until-taken.result)
+    let step = subst (λ (limit : Option Duration). QueryStep is_cursor_position (Within limit past) e.0 c.deref_mut.result.now.store c.query_until-taken.new.self.store (read_reply c.query_until-taken.result)) c.new-timeout.ensures.limit e.2 in
+    produces g.S.EventSource.drawn _ _ _ c.deref_mut.result.now c.query_until-taken.new.self (taken_at g.S.EventSource.drawn _ _ _ _ c.deref_mut.ensures.value c.in-Some.ensures.taken) (Position (Within (Some c.args.limit) past)) e.0 (read_reply c.query_until-taken.result)
     (record {
       call = (past, omega (arith, start), refl);
       reply = refl;
@@ -47,7 +47,7 @@ returns-clause-call g c = (
   inl (
     read_reply c.query_until-taken.result,
     c.placed.ensures,
-    extends g.S.EventSource.drawn _ (view c.args.pass.now.seat) (view c.take_within.new.seat) (view c.put.new.seat) c.in-Some.reader c.query_until-taken.new.self c.requires.1 c.in-Some.ensures.taken c.put.ensures.put,
+    extends g.S.EventSource.drawn _ (view c.args.pass.now.seat) (view c.take_within.new.seat) (view c.put.new.seat) c.in-Some.reader.value c.query_until-taken.new.self c.requires.1 c.in-Some.ensures.taken c.put.ensures.put,
   ),
 )
 

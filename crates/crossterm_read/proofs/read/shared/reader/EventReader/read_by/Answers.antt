@@ -4,7 +4,7 @@ use Rattle.crossterm_types.specs.Admitting.{admitted}
 use Rattle.crossterm_read.specs.Calls.{Read}
 use Rattle.crossterm_read.specs.Steps.{Within}
 use Rattle.crossterm_read.specs.inside.Replies.{read_reply}
-use Rattle.crossterm_read.proofs.Sharing.{some_there, produces, extends, sits_taken, sits_put, last_after, last_read, read_memory, read_kept}
+use Rattle.crossterm_read.proofs.Sharing.{taken_at, some_there, produces, extends, sits_taken, sits_put, last_after, last_read, read_memory, read_kept}
 use Rattle.crossterm_read.proofs.read.shared.reader.EventReader.read_by.Goals as goal
 
 pub take-reader-requires-clause-opened : goal.take-reader-requires-clause-opened
@@ -13,7 +13,7 @@ take-reader-requires-clause-opened g c = some_there _ c.args.pass.now.sits.opene
 pub put-requires-clause-produces : goal.put-requires-clause-produces
 put-requires-clause-produces g c =
     let p = c.read_numbered-taken.ensures.step in
-    produces g.S.EventSource.drawn _ _ _ c.take-reader.result c.read_numbered-taken.new.self c.take-reader.ensures.taken (Read (Within None p.0) c.args.filter) p.1 (read_reply c.read_numbered-taken.result)
+    produces g.S.EventSource.drawn _ _ _ c.deref_mut.result.now c.read_numbered-taken.new.self (taken_at g.S.EventSource.drawn _ _ _ _ c.deref_mut.ensures.value c.take-reader.ensures.taken) (Read (Within None p.0) c.args.filter) p.1 (read_reply c.read_numbered-taken.result)
     (record { call = (p.0, refl); reply = refl; limits_so = c.read_numbered-taken.ensures.asked; memory = read_memory c.read_numbered-taken.result _ p.4 }) p.2 p.3 c.read_numbered-taken.ensures.room
 
 pub invariant_of-pass : goal.invariant_of-pass
@@ -28,7 +28,7 @@ pub returns-clause-call : goal.returns-clause-call
 returns-clause-call g c = (
   read_reply c.read_numbered-taken.result,
   c.unnumbered.ensures.reply,
-  extends g.S.EventSource.drawn _ (view c.args.pass.now.seat) (view c.take-reader.new.seat) (view c.put.new.seat) c.take-reader.result c.read_numbered-taken.new.self c.requires.1 c.take-reader.ensures.taken c.put.ensures.put,
+  extends g.S.EventSource.drawn _ (view c.args.pass.now.seat) (view c.take-reader.new.seat) (view c.put.new.seat) c.take-reader.result.value c.read_numbered-taken.new.self c.requires.1 c.take-reader.ensures.taken c.put.ensures.put,
 )
 
 pub returns-clause-admitted : goal.returns-clause-admitted

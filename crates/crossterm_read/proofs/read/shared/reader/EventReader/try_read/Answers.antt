@@ -4,7 +4,7 @@ use Rattle.crossterm_types.specs.declared.event.filter.AnyFilter.TheVariants as 
 use Rattle.crossterm_read.specs.Calls.{Read}
 use Rattle.crossterm_read.specs.Steps.{UpTo}
 use Rattle.crossterm_read.specs.inside.Replies.{try_reply}
-use Rattle.crossterm_read.proofs.Sharing.{some_there, produces, extends, sits_taken, sits_put, last_after, last_try, try_memory}
+use Rattle.crossterm_read.proofs.Sharing.{taken_at, some_there, produces, extends, sits_taken, sits_put, last_after, last_try, try_memory}
 use Rattle.crossterm_read.proofs.read.shared.reader.EventReader.try_read.Goals as goal
 
 pub try_take-requires-clause-opened : goal.try_take-requires-clause-opened
@@ -13,7 +13,7 @@ try_take-requires-clause-opened g c = some_there _ c.args.pass.now.sits.opened
 pub put-requires-clause-produces : goal.put-requires-clause-produces
 put-requires-clause-produces g c =
     let p = c.read_within_numbered-tried.ensures.step in
-    produces g.S.EventSource.drawn _ _ _ c.in-Some.reader c.read_within_numbered-tried.new.self c.in-Some.ensures.taken (Read (UpTo 1) filters.Event) p.0 (try_reply c.read_within_numbered-tried.result)
+    produces g.S.EventSource.drawn _ _ _ c.deref_mut.result.now c.read_within_numbered-tried.new.self (taken_at g.S.EventSource.drawn _ _ _ _ c.deref_mut.ensures.value c.in-Some.ensures.taken) (Read (UpTo 1) filters.Event) p.0 (try_reply c.read_within_numbered-tried.result)
     (record { call = refl; reply = refl; limits_so = c.read_within_numbered-tried.ensures.at_once; memory = try_memory c.read_within_numbered-tried.result _ p.3 }) p.1 p.2 c.read_within_numbered-tried.ensures.room
 
 pub invariant_of-pass-2 : goal.invariant_of-pass-2
@@ -28,5 +28,5 @@ pub returns-clause-call : goal.returns-clause-call
 returns-clause-call g c = inl (
   try_reply c.read_within_numbered-tried.result,
   c.users_tried.ensures.reply,
-  extends g.S.EventSource.drawn _ (view c.args.pass.now.seat) (view c.try_take.new.seat) (view c.put.new.seat) c.in-Some.reader c.read_within_numbered-tried.new.self c.requires.1 c.in-Some.ensures.taken c.put.ensures.put,
+  extends g.S.EventSource.drawn _ (view c.args.pass.now.seat) (view c.try_take.new.seat) (view c.put.new.seat) c.in-Some.reader.value c.read_within_numbered-tried.new.self c.requires.1 c.in-Some.ensures.taken c.put.ensures.put,
 )

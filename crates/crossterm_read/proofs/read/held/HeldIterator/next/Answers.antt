@@ -4,7 +4,7 @@ use Rattle.crossterm_read.specs.inside.Kinds.{has}
 use Rattle.crossterm_read.specs.inside.Queues.{IsEarliest, all_kinds, behind, queues_of}
 use Rattle.crossterm_read.specs.declared.read.held.queues.Member.{Member}
 use Rattle.crossterm_read.proofs.Joining.{all_classes, are_joined, joined_is, left_of}
-use Rattle.crossterm_read.proofs.read.held.QueuedIterator.next.Goals as goal
+use Rattle.crossterm_read.proofs.read.held.HeldIterator.next.Goals as goal
 
 pub invariant_of-self : goal.invariant_of-self
 invariant_of-self g c =
