@@ -105,3 +105,17 @@ pub(crate) fn switch_off<W: Write>(features: &mut Vec<Feature>, out: &mut W) -> 
     }
     left
 }
+
+/// The same, and then it flushes.
+pub(crate) fn switch_off_flushed<W: Write>(
+    features: &mut Vec<Feature>,
+    out: &mut W,
+) -> io::Result<()>
+    ensures none { features.new.items ≡ [] }
+    ensures offered { EndsOffered features.old.items (W.contents out.old) (W.contents out.new) }
+    ensures ok { OnOk result (Appends (W.contents out.old) (W.contents out.new) (all_switched_off features.old.items)) }
+{
+    let off = switch_off(features, out);
+    let flushed = out.flush();
+    off.and(flushed)
+}

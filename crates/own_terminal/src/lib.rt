@@ -56,14 +56,14 @@ use crossterm::terminal::{SttyDevice, Terminal};
 pub use events::Events;
 pub use feature::Feature;
 pub use session::{LONGEST_PASTE, Session, WithShares, WithStream};
-use std::alloc::{Alloc, Global};
+use std::alloc::{Alloc, AllocError, Global};
+use std::env;
 use std::fs::{File, Files};
 use std::io::{self, BufWriter, ErrorKind, Stdin, Stdout};
 use std::net::Net;
 use std::rt::{HostRuntime, Runtime};
 use std::sync::Wait;
 use std::thread::Threads;
-use std::{env, format};
 
 /// What the terminal reports: the bytes of standard input, and the window's sizes.
 pub type Input = PolledDevice<Stdin>;
@@ -79,6 +79,14 @@ pub type Tty<'a, R = HostRuntime> = Session<
     SystemClock<'a, R>,
 >;
 
+/// The path of a name in a folder.
+fn path_of(alloc: Global, folder: &str, name: &str) -> Result<String, AllocError> {
+    let mut path = String::from_str(alloc, folder)?;
+    path.push_str("/")?;
+    path.push_str(name)?;
+    Ok(path)
+}
+
 /// Opens one of the pipes. It is opened for reading and writing, so that this doesn't wait for its other end.
 fn pipe<R: Files<File = File>>(
     rt: &R,
@@ -86,7 +94,7 @@ fn pipe<R: Files<File = File>>(
     folder: &str,
     name: &str,
 ) -> io::Result<File> {
-    let path = format!(in alloc; "{folder}/{name}")?;
+    let path = path_of(alloc, folder, name)?;
     File::options().read(true).write(true).open(rt, path)
 }
 
@@ -124,6 +132,19 @@ fn folder<R: Runtime + Alloc<A = Global>>(rt: &R) -> io::Result<String> {
     }
 }
 
+/// What the terminal reports, its modes, and the output with a buffer.
+fn open_all<R>(rt: &R, input: Stdin, out: Stdout) -> io::Result<(Input, Modes, BufWriter<Stdout>)>
+where
+    R: Runtime + Alloc<A = Global> + Files<File = File> + Net,
+    ensures { IfOk result (λ parts. parts.1.prior ≡ None) }
+{
+    let alloc = rt.alloc();
+    let folder = folder(rt)?;
+    let out = BufWriter::new(alloc, out)?;
+    let (input, term) = open(rt, alloc, input, folder.as_str())?;
+    Ok((input, term, out))
+}
+
 /// The session with the terminal that `terminal/with_terminal` started the program in. Its output is buffered.
 ///
 /// # Errors
@@ -134,10 +155,8 @@ where
     R: Runtime + Alloc<A = Global> + Files<File = File> + Net + Wait,
     ensures nothing { IfOk result (λ s. (s.features.items ≡ []) × (s.term.prior ≡ None)) }
 {
-    let alloc = rt.alloc();
-    let folder = folder(rt)?;
-    let out = BufWriter::new(alloc, out)?;
-    Session::open(rt, alloc, input, folder.as_str(), out, SystemClock::new(rt))
+    let (device, term, out) = open_all(rt, input, out)?;
+    Session::over(rt, rt.alloc(), device, term, out, SystemClock::new(rt))
 }
 
 /// The same, with so many more shares of the events, one for each further thread that reads.
@@ -161,11 +180,16 @@ where
     ensures others { IfOk result (λ r. length r.1.items ≡ others) }
     ensures shared { IfOk result (λ r. All (λ e. IsShareOf e.reader r.0.reader) r.1.items) }
 {
-    let alloc = rt.alloc();
-    let folder = folder(rt)?;
-    let out = BufWriter::new(alloc, out)?;
-    let (device, term) = open(rt, alloc, input, folder.as_str())?;
-    Session::over_shared(rt, alloc, device, term, out, SystemClock::new(rt), others)
+    let (device, term, out) = open_all(rt, input, out)?;
+    Session::over_shared(
+        rt,
+        rt.alloc(),
+        device,
+        term,
+        out,
+        SystemClock::new(rt),
+        others,
+    )
 }
 
 /// The same, with a stream of the events, which polls the terminal in a thread of its own.
@@ -199,9 +223,6 @@ where
     ensures nothing { IfOk result (λ r. (r.0.features.items ≡ []) × (r.0.term.prior ≡ None)) }
     ensures shared { IfOk result (λ r. IsShareOf r.1.reader r.0.reader) }
 {
-    let alloc = rt.alloc();
-    let folder = folder(rt)?;
-    let out = BufWriter::new(alloc, out)?;
-    let (device, term) = open(rt, alloc, input, folder.as_str())?;
-    Session::over_streaming(*rt, alloc, device, term, out, SystemClock::new(rt))
+    let (device, term, out) = open_all(rt, input, out)?;
+    Session::over_streaming(*rt, rt.alloc(), device, term, out, SystemClock::new(rt))
 }

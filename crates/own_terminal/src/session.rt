@@ -23,7 +23,7 @@ ghost use Rattle.own_terminal.specs.Features.{EndsOffered, all_switched_off, swi
 ghost use Rattle.own_terminal.specs.Sessions.{BeginsAt, BeginsOver, BeginsShared, EndsRaw};
 
 use crate::events::{Events, share_out};
-use crate::feature::{Feature, switch_off};
+use crate::feature::{Feature, switch_off_flushed};
 use crate::{Input, open};
 use crossterm::cursor;
 use crossterm::event::read::InternalEventReader;
@@ -88,6 +88,24 @@ impl<S: EventSource<Global>, D: ModeDevice, W: Write + Drop, C: Clock + Drop> Dr
             clock: _,
             features: _,
         } = self;
+    }
+}
+
+/// A reader over a source, and its only pass.
+fn alone<S: EventSource<Global>, R: Wait>(
+    rt: &R,
+    alloc: Global,
+    source: S,
+) -> io::Result<(EventReader<S>, Pass<S>)>
+    ensures pass { IfOk result (λ r. IsPassOf r.0 r.1) }
+    ensures begins { IfOk result (λ r. BeginsAt source (knows r.1)) }
+    ensures err { IfErr result (λ e. error_kind e ≡ OutOfMemory) }
+{
+    let reader = InternalEventReader::new(alloc, source);
+    let (reader, mut passes) = EventReader::new(rt, alloc, reader, 1)?;
+    match passes.pop() {
+        Some(pass) => Ok((reader, pass)),
+        None => unreachable!(),
     }
 }
 
@@ -236,20 +254,16 @@ impl<S: EventSource<Global>, D: ModeDevice, W: Write + Drop, C: Clock + Drop> Se
         ensures begins { IfOk result (λ s. BeginsAt source (knows s.pass)) }
         ensures err { IfErr result (λ e. error_kind e ≡ OutOfMemory) }
     {
-        let reader = InternalEventReader::new(alloc, source);
-        let (reader, mut passes) = EventReader::new(rt, alloc, reader, 1)?;
-        match passes.pop() {
-            Some(pass) => Ok(Session {
-                alloc,
-                term,
-                reader,
-                pass,
-                out,
-                clock,
-                features: Vec::new(alloc),
-            }),
-            None => unreachable!(),
-        }
+        let (reader, pass) = alone(rt, alloc, source)?;
+        Ok(Session {
+            alloc,
+            term,
+            reader,
+            pass,
+            out,
+            clock,
+            features: Vec::new(alloc),
+        })
     }
 
     /// The next event. This waits for it as long as it takes.
@@ -420,9 +434,8 @@ impl<S: EventSource<Global>, D: ModeDevice, W: Write + Drop, C: Clock + Drop> Se
         ensures cooked { OnOk result (self.new.term.prior ≡ None) }
         ensures pass { self.new.pass ≡ self.old.pass }
     {
-        let off = switch_off(&mut self.features, &mut self.out);
-        let flushed = self.out.flush();
+        let off = switch_off_flushed(&mut self.features, &mut self.out);
         let cooked = self.term.disable_raw_mode();
-        off.and(flushed).and(cooked)
+        off.and(cooked)
     }
 }

@@ -7,7 +7,6 @@ use crossterm::style::ColorOutput;
 use std::alloc::Global;
 use std::convert::AsSlice;
 use std::io;
-use std::test::Fail;
 use test_support::{expect, is_text};
 
 /// Letters, and the places that they represent.
@@ -92,10 +91,15 @@ fn copies_hold_bytes_and_texts(rt: HostRuntime) {
     expect!(rt; writes(rt.alloc(), string, "\x1b]52;c;Zm9vYmFy\x1b\\"));
 }
 
+/// A copy of bytes of its own to the clipboard.
+fn copy_of_bytes(alloc: Global) -> io::Result<CopyToClipboard<Vec<u8>>> {
+    let bytes = vec![in alloc; b'a']?;
+    CopyToClipboard::to_clipboard_from(alloc, bytes)
+}
+
 #[test]
-fn copies_are_cloned_and_printed(rt: HostRuntime) -> Result<(), Fail> {
-    let bytes = vec![in rt.alloc(); b'a']?;
-    let copy = CopyToClipboard::to_clipboard_from(rt.alloc(), bytes)?;
+fn copies_are_cloned_and_printed(rt: HostRuntime) -> io::Result<()> {
+    let copy = copy_of_bytes(rt.alloc())?;
     let want = "CopyToClipboard { content: [97], destination: ClipboardSelection([Clipboard]) }";
     expect!(rt; is_cloned(rt.alloc(), copy, want));
     Ok(())

@@ -183,32 +183,63 @@ fn each_growth_is_refused_in_turn(rt: HostRuntime) -> io::Result<()> {
     Ok(())
 }
 
-/// Whether a way writes `Show` if it is interrupted 64 times in a row, and returns that if 65 times, with nothing written.
-macro_rules! tries {
-    ($rt:expr, $text:expr, $w:ident => $call:expr) => {
-        let mut tape = Tape::interrupted($rt.alloc(), 64);
-        let $w = &mut tape;
-        expect!($rt; kind($call).is_none());
-        expect!($rt; tape.bytes.as_slice() == $text);
-        let mut tape = Tape::interrupted($rt.alloc(), 65);
-        let $w = &mut tape;
-        expect!($rt; kind($call) == Some(ErrorKind::Interrupted));
-        expect!($rt; tape.bytes.is_empty());
-    };
+/// The ways to a writer: of a command, of a text, of a list and of an update.
+#[derive(Clone, Copy)]
+enum Way {
+    Queue,
+    Execute,
+    QueueCommand,
+    ExecuteCommand,
+    QueueMacro,
+    ExecuteMacro,
+    Text,
+    List,
+    Update,
+}
+
+const SHOW: &[u8] = b"\x1b[?25h";
+
+/// The ways, and what is written on each.
+static WAYS: [(Way, &[u8]); 9] = [
+    (Way::Queue, SHOW),
+    (Way::Execute, SHOW),
+    (Way::QueueCommand, SHOW),
+    (Way::ExecuteCommand, SHOW),
+    (Way::QueueMacro, SHOW),
+    (Way::ExecuteMacro, SHOW),
+    (Way::Text, SHOW),
+    (Way::List, SHOW),
+    (Way::Update, b"\x1b[?2026h\x1b[?2026l"),
+];
+
+/// The one command as a list.
+const LIST: [AnyCommand; 1] = [AnyCommand::Show(Show)];
+
+/// What is answered on a way.
+fn goes(way: Way, w: &mut Tape) -> Option<ErrorKind> {
+    match way {
+        Way::Queue => kind(w.queue(ON, Show)),
+        Way::Execute => kind(w.execute(ON, Show)),
+        Way::QueueCommand => kind(queue_command(w, ON, Show)),
+        Way::ExecuteCommand => kind(execute_command(w, ON, Show)),
+        Way::QueueMacro => kind(queue!(w, ON, Show)),
+        Way::ExecuteMacro => kind(execute!(w, ON, Show)),
+        Way::Text => kind(write_text(w, "\x1b[?25h")),
+        Way::List => kind(queue_all(w, ON, &LIST)),
+        Way::Update => kind(w.sync_update(|_w: &mut Tape| 7u8)),
+    }
+}
+
+/// Whether a way is answered so, and these bytes are written, if each write is interrupted so often.
+fn comes(alloc: Global, way: Way, times: u32, answer: Option<ErrorKind>, text: &[u8]) -> bool {
+    let mut tape = Tape::interrupted(alloc, times);
+    goes(way, &mut tape) == answer && tape.bytes.as_slice() == text
 }
 
 #[test]
 fn each_way_is_tried_64_times(rt: HostRuntime) {
-    let show: &[u8] = b"\x1b[?25h";
-    tries!(rt, show, w => w.queue(ON, Show));
-    tries!(rt, show, w => w.execute(ON, Show));
-    tries!(rt, show, w => queue_command(w, ON, Show));
-    tries!(rt, show, w => execute_command(w, ON, Show));
-    tries!(rt, show, w => queue!(w, ON, Show));
-    tries!(rt, show, w => execute!(w, ON, Show));
-    tries!(rt, show, w => write_text(w, "\x1b[?25h"));
-    let list: [AnyCommand; 1] = [AnyCommand::Show(Show)];
-    tries!(rt, show, w => queue_all(w, ON, &list));
-    let update: &[u8] = b"\x1b[?2026h\x1b[?2026l";
-    tries!(rt, update, w => w.sync_update(|_w: &mut Tape| 7u8));
+    for (way, text) in &WAYS {
+        expect!(rt; comes(rt.alloc(), *way, 64, None, text));
+        expect!(rt; comes(rt.alloc(), *way, 65, Some(ErrorKind::Interrupted), b""));
+    }
 }

@@ -36,7 +36,7 @@ fn is_denied<T: Drop>(answer: io::Result<T>) -> bool {
 }
 
 /// Raw mode on and off. If it wasn't on, both leave the mode that was set before.
-fn raw_and_back<D: ModeDevice>(terminal: &mut Terminal<D>) -> io::Result<()>
+pub fn raw_and_back<D: ModeDevice>(terminal: &mut Terminal<D>) -> io::Result<()>
     ensures { OnOk result (terminal.old.prior ≡ None → D.stands terminal.new.device ≡ D.stands terminal.old.device) }
 {
     terminal.enable_raw_mode()?;

@@ -5,7 +5,7 @@ use crate::witness::Witness;
 use crossterm::cursor::position;
 use crossterm::event::source::{Act, DeviceSource, RawFlag, Script};
 use crossterm::terminal::{query_keyboard_enhancement_flags, supports_keyboard_enhancement};
-use std::alloc::Global;
+use std::alloc::{AllocError, Global};
 use std::io::{self, ErrorKind};
 use std::sync::Wait;
 use std::sync::atomic::{AtomicU32, Ordering};
@@ -15,15 +15,25 @@ use test_support::{Seat, Still, alone, expect, script_of};
 /// The source of a script.
 pub type Source = DeviceSource<Script>;
 
-/// A shared reader over a script of this act and this text, and its only pass.
-pub fn telling<R: Wait>(rt: &R, alloc: Global, act: Act, text: &[u8]) -> io::Result<Seat<Source>> {
-    let mut acts = Vec::new(alloc);
-    acts.push(act)?;
-    acts.push(Act::Piece {
+/// An act that reports this text in raw mode.
+fn raw(alloc: Global, text: &[u8]) -> Result<Act, AllocError> {
+    Ok(Act::Piece {
         bytes: Vec::from_slice(alloc, text)?,
         raw: true,
-    })?;
-    alone(rt, alloc, script_of(alloc, acts))
+    })
+}
+
+/// An act, and after it one that reports this text.
+fn acts_of(alloc: Global, act: Act, text: &[u8]) -> Result<Vec<Act>, AllocError> {
+    let mut acts = Vec::new(alloc);
+    acts.push(act)?;
+    acts.push(raw(alloc, text)?)?;
+    Ok(acts)
+}
+
+/// A shared reader over a script of this act and this text, and its only pass.
+pub fn telling<R: Wait>(rt: &R, alloc: Global, act: Act, text: &[u8]) -> io::Result<Seat<Source>> {
+    alone(rt, alloc, script_of(alloc, acts_of(alloc, act, text)?))
 }
 
 /// What came of a query for the place: the answer, the calls of the device of modes, whether the terminal is raw, and the number of what was taken.
@@ -116,11 +126,8 @@ fn the_place_is_asked_for_in_raw_mode(rt: HostRuntime) -> io::Result<()> {
 }
 
 /// A report of the first row and the second column, as xterm writes Shift-F3.
-fn shift_f3(alloc: Global) -> io::Result<Act> {
-    Ok(Act::Piece {
-        bytes: Vec::from_slice(alloc, b"\x1b[1;2R")?,
-        raw: true,
-    })
+fn shift_f3(alloc: Global) -> Result<Act, AllocError> {
+    raw(alloc, b"\x1b[1;2R")
 }
 
 /// Whether a report that came before the query is its answer.
@@ -130,16 +137,18 @@ fn is_taken_first<R: Wait>(rt: &R, alloc: Global) -> io::Result<bool> {
     Ok(matches!(met.place, Ok((1, 0))))
 }
 
-/// A reader over a script of such a report, a pause and a true one.
-fn reporting<R: Wait>(rt: &R, alloc: Global) -> io::Result<Seat<Source>> {
+/// Such a report, a pause and a true one.
+fn reports(alloc: Global) -> Result<Vec<Act>, AllocError> {
     let mut acts = Vec::new(alloc);
     acts.push(shift_f3(alloc)?)?;
     acts.push(Act::Idle)?;
-    acts.push(Act::Piece {
-        bytes: Vec::from_slice(alloc, b"\x1b[20;10R")?,
-        raw: true,
-    })?;
-    alone(rt, alloc, script_of(alloc, acts))
+    acts.push(raw(alloc, b"\x1b[20;10R")?)?;
+    Ok(acts)
+}
+
+/// A reader over a script of these.
+fn reporting<R: Wait>(rt: &R, alloc: Global) -> io::Result<Seat<Source>> {
+    alone(rt, alloc, script_of(alloc, reports(alloc)?))
 }
 
 /// Whether one report that waits is taken, and no other.

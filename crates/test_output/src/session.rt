@@ -1,6 +1,7 @@
 //! A session with a terminal: what its end turns off, also where its writer fails.
 
 use crate::noted::{Noted, terminal_by};
+use crate::queueing::kind;
 use crate::witness::Witness;
 use crossterm::event::KeyboardEnhancementFlags;
 use crossterm::event::source::{Answer, Device, DeviceSource, RawFlag, Script, Waker};
@@ -41,64 +42,62 @@ const WITH_ONE_END_CUT: &[u8] = b"\x1b[?1049h\x1b[?25l\x1b[>2u\x1b[\x1b[?25h\x1b
 
 const TURNED_ON_AND_OFF: &[u8] = b"\x1b[?1049h\x1b[?25l\x1b[>2u\x1b[<1u\x1b[?25h\x1b[?1049l";
 
+/// What came of a session in which all was turned on: the kinds of the errors of that and of leaving, and the calls of the device of modes.
+type Met = (Option<ErrorKind>, Option<ErrorKind>, u32);
+
+/// A session begins, all is turned on, and it ends, perhaps once it was left.
+fn led<R: Wait>(rt: &R, alloc: Global, out: &mut Witness, leaves: bool) -> io::Result<Met> {
+    let calls = AtomicU32::new(0);
+    let mut session = begun(rt, alloc, &calls, out)?;
+    let turned_on = kind(turn_on(&mut session));
+    let left = if leaves { kind(session.leave()) } else { None };
+    drop(session);
+    Ok((turned_on, left, calls.load(Ordering::SeqCst)))
+}
+
+/// Whether this comes of a session whose writer fails after so many bytes, and the writer saw this.
+fn comes<R: Wait>(
+    rt: &R,
+    alloc: Global,
+    room: usize,
+    leaves: bool,
+    met: Met,
+    saw: (&[u8], u32, u32),
+) -> io::Result<bool> {
+    let mut out = Witness::new(alloc, room, ErrorKind::BrokenPipe);
+    let is_met = led(rt, alloc, &mut out, leaves)? == met;
+    Ok(is_met && out.saw(saw.0, saw.1, saw.2))
+}
+
+const BROKEN: Option<ErrorKind> = Some(ErrorKind::BrokenPipe);
+
 #[test]
 fn a_session_that_ends_turns_off_what_it_turned_on(rt: HostRuntime) -> io::Result<()> {
-    let alloc = rt.alloc();
-    let calls = AtomicU32::new(0);
-    let mut out = Witness::new(alloc, usize::MAX, ErrorKind::Other);
-    let mut session = begun(&rt, alloc, &calls, &mut out)?;
-    turn_on(&mut session)?;
-    drop(session);
     // Each feature is flushed as it is turned on and off, and the end once more; then the mode from before is set.
-    expect!(rt; out.saw(TURNED_ON_AND_OFF, 7, 0));
-    expect!(rt; calls.load(Ordering::SeqCst) == 123);
+    let (met, saw) = ((None, None, 123), (TURNED_ON_AND_OFF, 7, 0));
+    expect!(rt; comes(&rt, rt.alloc(), usize::MAX, false, met, saw)?);
     Ok(())
 }
 
 #[test]
 fn a_session_that_left_turns_nothing_off_at_its_end(rt: HostRuntime) -> io::Result<()> {
-    let alloc = rt.alloc();
-    let calls = AtomicU32::new(0);
-    let mut out = Witness::new(alloc, usize::MAX, ErrorKind::Other);
-    let mut session = begun(&rt, alloc, &calls, &mut out)?;
-    turn_on(&mut session)?;
-    session.leave()?;
-    drop(session);
-    expect!(rt; out.saw(TURNED_ON_AND_OFF, 8, 0));
-    expect!(rt; calls.load(Ordering::SeqCst) == 123);
+    let (met, saw) = ((None, None, 123), (TURNED_ON_AND_OFF, 8, 0));
+    expect!(rt; comes(&rt, rt.alloc(), usize::MAX, true, met, saw)?);
     Ok(())
 }
 
 #[test]
 fn a_writer_that_fails_once_is_offered_all_else(rt: HostRuntime) -> io::Result<()> {
-    let alloc = rt.alloc();
-    let calls = AtomicU32::new(0);
     // It fails as the third feature is flushed, which is listed all the same.
-    let mut out = Witness::new(alloc, TURNED_ON.len(), ErrorKind::BrokenPipe);
-    let mut session = begun(&rt, alloc, &calls, &mut out)?;
-    let refused =
-        matches!(turn_on(&mut session), Err(error) if error.kind() == ErrorKind::BrokenPipe);
-    expect!(rt; refused);
-    let left = session.leave();
-    drop(session);
-    expect!(rt; left.is_ok());
-    expect!(rt; out.saw(TURNED_ON_AND_OFF, 8, 8));
-    expect!(rt; calls.load(Ordering::SeqCst) == 123);
+    let (met, saw) = ((BROKEN, None, 123), (TURNED_ON_AND_OFF, 8, 8));
+    expect!(rt; comes(&rt, rt.alloc(), TURNED_ON.len(), true, met, saw)?);
     Ok(())
 }
 
 #[test]
 fn an_end_that_fails_keeps_no_other_from_being_written(rt: HostRuntime) -> io::Result<()> {
-    let alloc = rt.alloc();
-    let calls = AtomicU32::new(0);
-    let mut out = Witness::new(alloc, TURNED_ON.len() + 2, ErrorKind::BrokenPipe);
-    let mut session = begun(&rt, alloc, &calls, &mut out)?;
-    turn_on(&mut session)?;
-    let left = session.leave();
-    drop(session);
-    expect!(rt; matches!(left, Err(error) if error.kind() == ErrorKind::BrokenPipe));
-    expect!(rt; out.saw(WITH_ONE_END_CUT, 7, 6));
-    expect!(rt; calls.load(Ordering::SeqCst) == 123);
+    let (met, saw) = ((None, BROKEN, 123), (WITH_ONE_END_CUT, 7, 6));
+    expect!(rt; comes(&rt, rt.alloc(), TURNED_ON.len() + 2, true, met, saw)?);
     Ok(())
 }
 
@@ -133,30 +132,39 @@ impl Device for Endless<'_> {
     }
 }
 
-/// The kind of a read's error where a paste never ends, and how often the device was asked. The source keeps so many bytes of a paste, or
-/// as many as a session does by itself.
+/// The session of such a device.
+type Pasting<'a> = Session<DeviceSource<Endless<'a>>, Noted<'a>, Vec<u8>, Still>;
+
+/// One whose source keeps so many bytes of a paste, or as many as a session does by itself.
+fn pasting<'a, R: Wait>(
+    rt: &R,
+    alloc: Global,
+    answers: &'a AtomicU32,
+    calls: &'a AtomicU32,
+    longest: Option<usize>,
+) -> io::Result<Pasting<'a>> {
+    let term = terminal_by(RawFlag::new(alloc)?, calls, None);
+    let device = Endless { answers };
+    match longest {
+        Some(longest) => {
+            let source = DeviceSource::bounded(alloc, device, longest);
+            Session::over_source(rt, alloc, source, term, Vec::new(alloc), Still)
+        }
+        None => Session::over(rt, alloc, device, term, Vec::new(alloc), Still),
+    }
+}
+
+/// The kind of a read's error where a paste never ends, and how often the device was asked.
 fn ends_at<R: Wait>(
     rt: &R,
     alloc: Global,
     longest: Option<usize>,
 ) -> io::Result<(Option<ErrorKind>, u32)> {
     let (calls, answers) = (AtomicU32::new(0), AtomicU32::new(0));
-    let device = Endless { answers: &answers };
-    let term = terminal_by(RawFlag::new(alloc)?, &calls, None);
-    let out = Vec::new(alloc);
-    let mut session = match longest {
-        Some(longest) => {
-            let source = DeviceSource::bounded(alloc, device, longest);
-            Session::over_source(rt, alloc, source, term, out, Still)?
-        }
-        None => Session::over(rt, alloc, device, term, out, Still)?,
-    };
-    let kind = match session.read(rt) {
-        Ok(_) => None,
-        Err(error) => Some(error.kind()),
-    };
+    let mut session = pasting(rt, alloc, &answers, &calls, longest)?;
+    let fault = kind(session.read(rt));
     drop(session);
-    Ok((kind, answers.load(Ordering::SeqCst)))
+    Ok((fault, answers.load(Ordering::SeqCst)))
 }
 
 #[test]

@@ -13,7 +13,7 @@ use std::sync::Wait;
 use std::sync::atomic::AtomicU32;
 use std::thread::{self, Threads};
 use std::time;
-use test_support::{Still, expect, letter_in, text};
+use test_support::{Still, expect, letter_in, letter_of, text};
 
 /// What is read: each letter once.
 const LETTERS: &[u8] = b"abcdefghijklmnopqrstuvwxyz";
@@ -32,16 +32,14 @@ fn letters(alloc: Global) -> Result<Script, AllocError> {
     Ok(Script::new(acts))
 }
 
-/// The letters so far with one more, and none if it came before.
+/// The letters so far with one more, and none if it came before. An `a` is 97.
 fn with_letter(seen: u32, letter: char) -> u32 {
-    let mut bit = 1u32;
-    for each in LETTERS {
-        if char::from(*each) == letter {
-            return if seen & bit == 0 { seen | bit } else { 0 };
-        }
-        bit = bit.saturating_mul(2);
+    let place = (letter as u32).wrapping_sub(97);
+    if place >= 26 {
+        return 0;
     }
-    0
+    let bit = 1u32 << place;
+    if seen & bit == 0 { seen | bit } else { 0 }
 }
 
 /// What the session's own thread reads to the end of input.
@@ -68,20 +66,21 @@ fn read_by_share<R: Wait>(rt: &R, events: &mut Events<Source>) -> u32 {
     seen
 }
 
+/// A session over the letters, and one more share of its events.
+fn begun<'a, R: Wait>(
+    rt: &R,
+    alloc: Global,
+    calls: &'a AtomicU32,
+) -> io::Result<(Shared<'a>, Vec<Events<Source>>)> {
+    let device = letters(alloc)?;
+    let term = terminal_by(RawFlag::new(alloc)?, calls, None);
+    Session::over_shared(rt, alloc, device, term, Vec::new(alloc), Still, 1)
+}
+
 /// Whether two threads read all letters, and none of them twice.
 fn is_each_read_once<R: Threads + Wait + Sync>(rt: &R, alloc: Global) -> io::Result<bool> {
     let calls = AtomicU32::new(0);
-    let term = terminal_by(RawFlag::new(alloc)?, &calls, None);
-    let out = Vec::new(alloc);
-    let (mut session, mut others) = Session::over_shared(
-        rt,
-        alloc,
-        letters(alloc)?,
-        term,
-        out,
-        Still,
-        1,
-    )?;
+    let (mut session, mut others) = begun(rt, alloc, &calls)?;
     let Some(mut events) = others.pop() else {
         return Ok(false);
     };
@@ -101,6 +100,18 @@ fn two_threads_read_each_event_of_a_session_once(rt: HostRuntime) -> io::Result<
     Ok(())
 }
 
+/// What a stream gives next: a letter, or the kind of its error.
+fn next_of<R: AllocGlobal + RandomSource + time::Clock + Wait + Drop>(
+    rt: &R,
+    events: &mut EventStream<Source, R>,
+) -> io::Result<Option<Result<char, ErrorKind>>> {
+    match block_on(rt, events.next())? {
+        Some(Ok(event)) => Ok(Some(Ok(letter_of(&event)))),
+        Some(Err(error)) => Ok(Some(Err(error.kind()))),
+        None => Ok(None),
+    }
+}
+
 /// What a stream gives up to its first error, and that error's kind.
 fn streamed<R: AllocGlobal + RandomSource + time::Clock + Wait + Drop>(
     rt: &R,
@@ -108,13 +119,9 @@ fn streamed<R: AllocGlobal + RandomSource + time::Clock + Wait + Drop>(
 ) -> io::Result<(u32, Option<ErrorKind>)> {
     let mut seen = 0;
     for _ in rt.forever() {
-        match block_on(rt, events.next())? {
-            Some(Ok(event)) => {
-                if let Some(letter) = letter_in(Ok(event)) {
-                    seen = with_letter(seen, letter);
-                }
-            }
-            Some(Err(error)) => return Ok((seen, Some(error.kind()))),
+        match next_of(rt, events)? {
+            Some(Ok(letter)) => seen = with_letter(seen, letter),
+            Some(Err(kind)) => return Ok((seen, Some(kind))),
             None => break,
         }
     }

@@ -64,7 +64,7 @@ fn all_sequences(alloc: Global) -> Result<String, AllocError> {
 }
 
 /// The set of all attributes.
-fn all_attributes() -> Attributes {
+pub fn all_attributes() -> Attributes {
     let mut all = Attributes::none();
     for attribute in Attribute::iterator() {
         all.set(attribute);

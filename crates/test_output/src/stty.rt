@@ -1,5 +1,6 @@
 //! Modes and sizes by a helper that runs `stty`: what it is asked, and what comes of its answers.
 
+use crate::modes::raw_and_back;
 use crate::queueing::kind;
 use crate::witness::Witness;
 use crossterm::event::source::RawFlag;
@@ -11,8 +12,7 @@ use test_support::expect;
 /// Raw mode on and off again, and the size, by these answers.
 fn use_all<W: Write + Drop>(alloc: Global, answers: &[u8], requests: W) -> io::Result<(u16, u16)> {
     let mut term = Terminal::new(SttyDevice::new(answers, requests)?, RawFlag::new(alloc)?);
-    term.enable_raw_mode()?;
-    term.disable_raw_mode()?;
+    raw_and_back(&mut term)?;
     let WindowSize { rows, columns, .. } = term.window_size()?;
     Ok((columns, rows))
 }

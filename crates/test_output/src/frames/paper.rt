@@ -60,27 +60,30 @@ pub struct Paper {
     is_private: bool,
 }
 
+/// How the styles look that the tests use.
+static LOOKS: [Look; 5] = [
+    PLAIN,
+    Look { front: 9, ..PLAIN },
+    Look {
+        back: 200,
+        is_bold: true,
+        ..PLAIN
+    },
+    Look {
+        front: 16,
+        back: 17,
+        is_reverse: true,
+        ..PLAIN
+    },
+    Look {
+        is_bold: true,
+        ..PLAIN
+    },
+];
+
 /// What a style is to look like: the styles that the tests use, by a number.
 pub fn look_of(number: u32) -> Look {
-    match number % 5 {
-        0 => PLAIN,
-        1 => Look { front: 9, ..PLAIN },
-        2 => Look {
-            back: 200,
-            is_bold: true,
-            ..PLAIN
-        },
-        3 => Look {
-            front: 16,
-            back: 17,
-            is_reverse: true,
-            ..PLAIN
-        },
-        _ => Look {
-            is_bold: true,
-            ..PLAIN
-        },
-    }
+    LOOKS[(number % 5) as usize]
 }
 
 fn color_of(number: u32) -> Option<Color> {

@@ -18,7 +18,7 @@ const SYMBOLS: [char; 8] = ['a', 'b', ' ', '~', 'é', 'Ж', '─', '𝔸'];
 /// The next of the random numbers, below a limit.
 fn number(state: &mut u32, below: u16) -> u16 {
     *state = state.wrapping_mul(1_664_525).wrapping_add(1_013_904_223);
-    ((*state >> 16) as u16).checked_rem(below).unwrap_or(0)
+    ((*state / 65_536) as u16).checked_rem(below).unwrap_or(0)
 }
 
 /// Sets some cells, and returns whether each was set as it should be.

@@ -1,7 +1,8 @@
 //! Frames by their bytes, written by hand from ECMA-48.
 
+use crate::sizes::all_attributes;
 use crossterm::cursor::{Hide, MoveTo};
-use crossterm::style::{Attribute, Attributes, Print, SetAttribute, SetStyle};
+use crossterm::style::{Attribute, Print, SetAttribute, SetStyle};
 use crossterm::terminal::{BeginSynchronizedUpdate, Clear, ClearType, EndSynchronizedUpdate};
 use crossterm::{QueueableCommand, queue};
 use crossterm_command::ColorOutput;
@@ -63,15 +64,11 @@ fn longest(color: u8) -> ContentStyle {
         g: 200,
         b: color,
     });
-    let mut attributes = Attributes::none();
-    for attribute in Attribute::iterator() {
-        attributes.set(attribute);
-    }
     ContentStyle {
         foreground_color: color,
         background_color: color,
         underline_color: color,
-        attributes,
+        attributes: all_attributes(),
     }
 }
 

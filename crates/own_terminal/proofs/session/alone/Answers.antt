@@ -4,7 +4,7 @@ use Rattle.crossterm_read.specs.History.{opened}
 use Rattle.crossterm_read.specs.Seats.{knows, number}
 use Rattle.crossterm_read.specs.Shared.{IsPassOf}
 use Rattle.own_terminal.proofs.Beginning.{all_only, only_one}
-use Rattle.own_terminal.proofs.session.Session.over_source.Goals as goal
+use Rattle.own_terminal.proofs.session.alone.Goals as goal
 
 pub returns-clause-begins : goal.returns-clause-begins
 returns-clause-begins g c =

@@ -1,6 +1,0 @@
-use Rattle.own_terminal.proofs.Ending.{offered_kept}
-use Rattle.own_terminal.proofs.session.Session.leave.Goals as goal
-
-pub returns-clause-offered : goal.returns-clause-offered
-returns-clause-offered g c = offered_kept c.args.self.now.features.items (g.W.Write.contents c.args.self.now.out) (g.W.Write.contents c.switch_off-off.new.out) (g.W.Write.contents c.flush-flushed.new.self)
-    c.switch_off-off.ensures.offered c.flush-flushed.ensures.bytes
