@@ -17,6 +17,7 @@
 #![tactic(auto)]
 
 use probe_modes::bench::mode::Mode;
+use probe_modes::bench::taken::Taking;
 use probe_modes::fault::Fault;
 use probe_modes::keys::run_keys;
 use probe_modes::play::run_play;
@@ -44,6 +45,7 @@ enum Task {
     Serve,
     Keys,
     Bench(Mode),
+    Take(Taking),
 }
 
 /// The task of a word that is alone.
@@ -60,7 +62,10 @@ fn task_of(word: &str) -> Result<Task, Fault> {
 /// What these words ask for.
 fn find_task(words: &[String]) -> Result<Task, Fault> {
     match words.split_first() {
-        Some((first, rest)) if first.as_str() == "bench" => Ok(Task::Bench(Mode::read(rest)?)),
+        Some((first, rest)) if first.as_str() == "bench" => match Taking::read(rest) {
+            Some(taking) => Ok(Task::Take(taking)),
+            None => Ok(Task::Bench(Mode::read(rest)?)),
+        },
         Some((word, [])) => task_of(word.as_str()),
         _ => Err(Fault::Usage),
     }
@@ -77,7 +82,8 @@ fn main(rt: HostRuntime) -> ExitCode {
         Ok(Task::Say) => run_say(alloc, &mut reader, &mut writer),
         Ok(Task::Serve) => run_serve(&rt, alloc, &mut reader, &mut writer),
         Ok(Task::Keys) => run_keys(&rt, alloc, &mut reader, &mut writer),
-        Ok(Task::Bench(mode)) => mode.run(rt, alloc, &mut reader, &mut writer),
+        Ok(Task::Bench(mode)) => mode.run(&rt, alloc, &mut reader, &mut writer),
+        Ok(Task::Take(taking)) => taking.run(rt, &mut writer),
         Err(fault) => Err(fault),
     };
     match done {

@@ -16,7 +16,7 @@ mod letters;
 pub mod mode;
 mod reading;
 mod recorded;
-mod taken;
+pub mod taken;
 pub mod timing;
 mod workload;
 

@@ -4,20 +4,24 @@ use crate::expect;
 use crate::failing::Failing;
 use probe_modes::bench::frame::Screen;
 use probe_modes::bench::mode::Mode;
+use probe_modes::bench::taken::Taking;
 use probe_modes::bench::timing::Work;
 use probe_modes::fault::Fault;
 use std::alloc::{AllocError, Global};
 use std::io;
 
-/// The mode of the words of a line.
-fn asked(alloc: Global, line: &str) -> Result<Mode, Fault> {
+/// The words of a line.
+fn words_of(alloc: Global, line: &str) -> Result<Vec<String>, AllocError> {
     let mut words = Vec::new(alloc);
     for word in line.split(' ') {
-        words
-            .push(String::from_str(alloc, word)?)
-            .map_err(AllocError::from)?;
+        words.push(String::from_str(alloc, word)?)?;
     }
-    Mode::read(words.as_slice())
+    Ok(words)
+}
+
+/// The mode of the words of a line.
+fn asked(alloc: Global, line: &str) -> Result<Mode, Fault> {
+    Mode::read(words_of(alloc, line)?.as_slice())
 }
 
 /// What a line gives; what it makes is counted.
@@ -25,10 +29,10 @@ fn run(rt: &HostRuntime, line: &str, output: &mut Vec<u8>) -> Result<(), Fault> 
     let mode = asked(rt.alloc(), line)?;
     if let Mode::Make(_, _) = mode {
         let mut made = Vec::new(rt.alloc());
-        mode.run(*rt, rt.alloc(), &mut io::empty(), &mut made)?;
-        return Mode::Count.run(*rt, rt.alloc(), &mut made.as_slice(), output);
+        mode.run(rt, rt.alloc(), &mut io::empty(), &mut made)?;
+        return Mode::Count.run(rt, rt.alloc(), &mut made.as_slice(), output);
     }
-    mode.run(*rt, rt.alloc(), &mut io::empty(), output)
+    mode.run(rt, rt.alloc(), &mut io::empty(), output)
 }
 
 /// What is printed for a line, or that of its fault.
@@ -58,10 +62,6 @@ make paste 11 -> bytes 11 keys 11 ALONE
 make hostile 5000 -> bytes 5000 keys 1 ALONE
 make hostile 3 -> bytes 3 keys 3 ALONE
 make keys 0 -> bytes 0 keys 0 ALONE
-take read 5 -> keys 5
-take poll 5 -> keys 5
-take shared 5 -> keys 5
-take stream 5 -> keys 5
 take other 5 -> USAGE
 make keys -> USAGE
 make keys -1 -> USAGE
@@ -103,12 +103,29 @@ fn command_lines_give_their_lines(rt: HostRuntime) {
 }
 
 #[test]
+fn keys_are_taken_in_each_way(rt: HostRuntime) -> Result<(), Fault> {
+    for line in [
+        "take read 5",
+        "take poll 5",
+        "take shared 5",
+        "take stream 5",
+    ] {
+        let mut output = Vec::new(rt.alloc());
+        if let Some(taking) = Taking::read(words_of(rt.alloc(), line)?.as_slice()) {
+            taking.run(rt, &mut output)?;
+        }
+        expect(&rt, output.as_slice() == b"keys 5\n".as_slice(), line);
+    }
+    Ok(())
+}
+
+#[test]
 fn a_reader_and_writers_that_fail_are_named(rt: HostRuntime) {
-    let read = Mode::Count.run(rt, rt.alloc(), &mut Failing, &mut io::sink());
+    let read = Mode::Count.run(&rt, rt.alloc(), &mut Failing, &mut io::sink());
     expect(&rt, matches!(read, Err(Fault::ReadFailed)), "a reader");
     for line in ["frame", "make keys 9"] {
         let written = match asked(rt.alloc(), line) {
-            Ok(mode) => mode.run(rt, rt.alloc(), &mut io::empty(), &mut Failing),
+            Ok(mode) => mode.run(&rt, rt.alloc(), &mut io::empty(), &mut Failing),
             Err(fault) => Err(fault),
         };
         expect(&rt, matches!(written, Err(Fault::WriteFailed)), line);

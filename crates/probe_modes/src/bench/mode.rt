@@ -1,15 +1,11 @@
 //! What the command line asks for.
 
-use crate::bench::taken::Way;
 use crate::bench::workload::Workload;
 use crate::bench::{frame, held, input, keys, recorded};
 use crate::fault::Fault;
-use std::alloc::{AllocGlobal, Allocator};
+use std::alloc::Allocator;
 use std::io::{Read, Write};
-use std::random::RandomSource;
 use std::rt::Clock;
-use std::sync::Wait;
-use std::thread::Threads;
 
 /// What the program does.
 #[derive(Clone, Copy)]
@@ -28,8 +24,6 @@ pub enum Mode {
     TimeRecorded,
     /// Times a key with so many lists bound.
     TimeKeys(u32),
-    /// Takes so many keys in one way.
-    Take(Way, u32),
     /// Writes so many bytes of a workload.
     Make(Workload, usize),
 }
@@ -43,7 +37,6 @@ impl Mode {
             [first, second] => Mode::of_words(first.as_str(), second.as_str()),
             [first, name, count] => match first.as_str() {
                 "make" => Mode::making(name.as_str(), count.as_str()),
-                "take" => Mode::taking(name.as_str(), count.as_str()),
                 _ => None,
             },
             _ => None,
@@ -73,22 +66,14 @@ impl Mode {
         Some(Mode::Make(Workload::named(name)?, count.parse().ok()?))
     }
 
-    fn taking(name: &str, count: &str) -> Option<Mode> {
-        Some(Mode::Take(Way::named(name)?, count.parse().ok()?))
-    }
-
     /// Does it.
-    pub fn run<H, A: Allocator + Clone, R: Read, W: Write>(
+    pub fn run<C: Clock, A: Allocator + Clone, R: Read, W: Write>(
         self,
-        rt: H,
+        clock: &C,
         alloc: A,
         reader: &mut R,
         writer: &mut W,
-    ) -> Result<(), Fault>
-    where
-        H: Clock + Threads + Wait + RandomSource + AllocGlobal + Copy + Send + Drop + 'static,
-    {
-        let clock = &rt;
+    ) -> Result<(), Fault> {
         match self {
             Mode::Count => input::count(alloc, reader, writer),
             Mode::TimeInput => input::time(clock, alloc, reader, writer),
@@ -97,7 +82,6 @@ impl Mode {
             Mode::TimeHeld(replies) => held::time(clock, alloc, replies, writer),
             Mode::TimeRecorded => recorded::time(clock, alloc, writer),
             Mode::TimeKeys(count) => keys::time(clock, alloc, count, writer),
-            Mode::Take(way, count) => way.run(rt, count, writer),
             Mode::Make(workload, count) => workload.write(alloc, count, writer),
         }
     }

@@ -18,7 +18,7 @@ use std::thread::Threads;
 
 /// A way in which a key is taken.
 #[derive(Clone, Copy)]
-pub enum Way {
+enum Way {
     /// By a read of one thread's reader.
     Read,
     /// By a poll of it, and a take.
@@ -112,7 +112,7 @@ where
 
 impl Way {
     /// The way of a name.
-    pub fn named(name: &str) -> Option<Way> {
+    fn named(name: &str) -> Option<Way> {
         match name {
             "read" => Some(Way::Read),
             "poll" => Some(Way::Poll),
@@ -121,25 +121,45 @@ impl Way {
             _ => None,
         }
     }
+}
 
-    fn take<H>(self, rt: H, alloc: Global, count: u32) -> io::Result<u32>
-    where
-        H: Threads + Wait + RandomSource + AllocGlobal + Copy + Send + Drop + 'static,
-    {
-        match self {
-            Way::Read => read(alloc, count),
-            Way::Poll => poll(alloc, count),
-            Way::Shared => shared(&rt, alloc, count),
-            Way::Stream => streamed(rt, alloc, count),
+/// So many keys that are taken in one way.
+#[derive(Clone, Copy)]
+pub struct Taking {
+    way: Way,
+    keys: u32,
+}
+
+impl Taking {
+    /// What the words after `bench` ask for, if they are `take`, a way and a number.
+    pub fn read(words: &[String]) -> Option<Taking> {
+        match words {
+            [first, name, keys] if first.as_str() == "take" => Some(Taking {
+                way: Way::named(name.as_str())?,
+                keys: keys.parse().ok()?,
+            }),
+            _ => None,
         }
     }
 
-    /// Takes so many keys in this way, and prints how many came.
-    pub fn run<H, W: Write>(self, rt: H, count: u32, writer: &mut W) -> Result<(), Fault>
+    fn take<H>(self, rt: H, alloc: Global) -> io::Result<u32>
     where
         H: Threads + Wait + RandomSource + AllocGlobal + Copy + Send + Drop + 'static,
     {
-        match self.take(rt, rt.alloc(), count) {
+        match self.way {
+            Way::Read => read(alloc, self.keys),
+            Way::Poll => poll(alloc, self.keys),
+            Way::Shared => shared(&rt, alloc, self.keys),
+            Way::Stream => streamed(rt, alloc, self.keys),
+        }
+    }
+
+    /// Takes them, and prints how many came.
+    pub fn run<H, W: Write>(self, rt: H, writer: &mut W) -> Result<(), Fault>
+    where
+        H: Threads + Wait + RandomSource + AllocGlobal + Copy + Send + Drop + 'static,
+    {
+        match self.take(rt, rt.alloc()) {
             Ok(taken) => print(writer, format_args!("keys {taken}")),
             Err(error) => Err(Fault::of_read(&error)),
         }
