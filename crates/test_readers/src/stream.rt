@@ -226,9 +226,9 @@ where
     let (mut stream, worker) = EventStream::with_worker(rt, alloc, &shared, pass, other)?;
     let task = MockTask::new(&rt)?;
     let polls = poll(&task, &mut stream) == Answer::Pending && gate.await_endless_question(&rt);
-    let mut pass = stream.close();
-    shared.meet(&mut pass, worker.join(&rt));
-    Ok(polls && shared.close(&rt, &mut pass).is_some())
+    let _pass = stream.close();
+    let mut other = worker.join(&rt);
+    Ok(polls && shared.close(&rt, &mut other).is_some())
 }
 
 #[test]
