@@ -70,14 +70,22 @@ fn poll_and_wake<'a, R: Wait + Threads + Sync>(
     )
 }
 
+/// Whether the second letter comes to a pass, if the first one came to another, and nothing after it.
+fn has_the_second<S: EventSource<Global>, R: Wait>(
+    rt: &R,
+    mut seat: Seat<S>,
+    first: Option<char>,
+) -> bool {
+    first == Some('a') && seat.letter(rt) == Some('b') && polls_at_once(rt, &mut seat, false)
+}
+
 /// Whether a poll is woken from another thread, and each letter comes to one pass, the second one to the other.
 fn is_woken<R: Wait + Threads + Sync>(rt: &R, alloc: Global) -> io::Result<bool> {
     let signs = Signs::new();
     let reader = reader_of(alloc, Bell::new(rt, alloc, &signs)?);
-    let (one, mut other) = two(rt, alloc, reader)?;
+    let (one, other) = two(rt, alloc, reader)?;
     let (first, woken) = poll_and_wake(rt, &signs, one, &other.shared);
-    let read = woken && first == Some('a') && other.letter(rt) == Some('b');
-    Ok(read && polls_at_once(rt, &mut other, false))
+    Ok(has_the_second(rt, other, first) && woken)
 }
 
 #[test]
