@@ -6,6 +6,7 @@ use Rattle.std.specs.Str.{chars, IsUtf8}
 use Rattle.std.specs.Prelude.{encode_utf8_all}
 use Rattle.std.proofs.lemmas.Bool.Decides.{nat_tests}
 use Rattle.std.proofs.lemmas.Str.{chars-encodes, encodes-chars, IsUtf8-append, IsUtf8-from_ascii}
+use Rattle.std.proofs.lemmas.Bool.{leb-true}
 use Rattle.base64.proofs.EngineFacts.{IsAscii-encode_of}
 use Rattle.base64.specs.Engines.{standard}
 use Rattle.base64.specs.GeneralPurpose.{encode_of, engine_symbols}
@@ -18,17 +19,14 @@ use Rattle.crossterm.specs.Clipboard.{AreReadable, CopiesRead, IsNamed, ReadsBac
 
 -- ---- Base64
 
-le_at : (m n : ℕ) → nat_le m n ≡ true → m ≤ n
-le_at m n e = grind (arith, nat_tests)
-
 abbrev is_printable : ℕ → Bool
 is_printable c = nat_le 32 c && nat_le c 126
 
 pub quiet_at : (c : ℕ) → is_printable c ≡ true → IsOscText c
 quiet_at c e =
     let (low, high) = both (nat_le 32 c) (nat_le c 126) e in
-    let l : 32 ≤ c = le_at 32 c low in
-    let h : c ≤ 126 = le_at c 126 high in
+    let l : 32 ≤ c = leb-true 32 c low in
+    let h : c ≤ 126 = leb-true c 126 high in
     ((λ e. omega arith), (λ e. omega arith))
 
 abbrev all_printable : List ℕ → Bool

@@ -1,7 +1,6 @@
 pub mod AttributeLaws
 pub mod ClassLaws
 pub mod FeedingLaws
-pub mod FillingLaws
 pub mod HeldLaws
 pub mod OutletLaws
 pub mod PastingLaws

@@ -3,18 +3,16 @@ use Rattle.std.proofs.Common.{◌≡◌, ◌==◌, ◌≤◌, ◌<◌, ℕ, ◌+
 use Rattle.std.proofs.lemmas.List.{append-nil, length-append, take-append-le, take_more, take_rest}
 use Rattle.std.proofs.Math.Seq.{take-add}
 use Rattle.crossterm_types.specs.Seen.{Seen}
-use Rattle.crossterm_parse.specs.inside.Automaton.{is_paste, met_after, met_anew, state_after, state_left, text_left, events_left}
+use Rattle.crossterm_parse.specs.inside.Automaton.{is_paste, state_after, state_left, text_left, events_left}
 use Rattle.crossterm_parse.specs.Marked.{marked}
 use Rattle.crossterm_parse.specs.Meaning.{pasted}
 use Rattle.crossterm_parse.specs.View.{AdvancesOver}
 use Rattle.crossterm_parse.specs.inside.Putting.{PutsAll, PutsByte}
 use Rattle.crossterm_parse.specs.inside.Step.{Step, Open, Closed}
-use Rattle.crossterm_parse.specs.declared.paste.Met.{Met}
-use Rattle.crossterm_parse.specs.declared.paste.Met.TheVariants as met
 use Rattle.crossterm_parse.specs.declared.state.State.{State}
-use Rattle.crossterm_parse.specs.declared.state.State.TheVariants.{Ground, Escape, Ss3, Csi, LinuxKey, X10, Sgr, Private, Reply, Numbered, Paste, Utf8}
+use Rattle.crossterm_parse.specs.declared.state.State.TheVariants.{Ground}
 use Rattle.crossterm_parse.proofs.ViewLaws.{advance_more}
-use Rattle.crossterm_parse.proofs.RunLaws.{advance_rest, all_on, puts_paste}
+use Rattle.crossterm_parse.proofs.RunLaws.{advance_rest, all_on}
 use Rattle.crossterm_c.specs.Feeding.{after_paste, view_of}
 
 -- the bytes of a piece up to a place, and more of what is left
@@ -30,38 +28,7 @@ skipped old mid kept waiting piece more raw i n l puts before =
     let rest = take n (take (length piece - i) (drop i piece)) in
     let whole : (kept ++ take i piece) ++ rest ≡ kept ++ take (i + n) piece = append_assoc kept (take i piece) rest ∙ ap (λ (bs : List ℕ). kept ++ bs) (taken_on piece i n) in
     subst (λ (bs : List ℕ). AdvancesOver (view_of old kept waiting) (view_of mid bs waiting) (take (i + n) (marked piece more raw))) whole
-    (advance_rest n (view_of old kept waiting) (view_of mid (kept ++ take i piece) waiting) (view_of mid ((kept ++ take i piece) ++ rest) waiting) piece more raw i l (all_on _ _ _ (puts (kept ++ take i piece))) before)
-
-left_anew : (t : Bool) (m : Met) (b : ℕ) → is_paste (state_left (if t then Open (Paste m) else met_anew b)) ≡ true
-left_anew true m b = refl
-left_anew false m b = refl
-
-left_last : (t : Bool) (b : ℕ) (new : State) → (if t then Closed else met_anew b) ≡ Open new → is_paste new ≡ true
-left_last true b new e = cc
-left_last false b new e = sym (ap (λ (s : Step). is_paste (state_left s)) e)
-
-met_goes_on : (m : Met) (b : ℕ) (new : State) → met_after m b ≡ Open new → is_paste new ≡ true
-met_goes_on met.Nothing b new e = sym (ap (λ (s : Step). is_paste (state_left s)) e)
-met_goes_on met.Escape b new e = sym (ap (λ (s : Step). is_paste (state_left s)) e) ∙ left_anew (b == 91) met.Bracket b
-met_goes_on met.Bracket b new e = sym (ap (λ (s : Step). is_paste (state_left s)) e) ∙ left_anew (b == 50) met.Two b
-met_goes_on met.Two b new e = sym (ap (λ (s : Step). is_paste (state_left s)) e) ∙ left_anew (b == 48) met.Zero b
-met_goes_on met.Zero b new e = sym (ap (λ (s : Step). is_paste (state_left s)) e) ∙ left_anew (b == 49) met.One b
-met_goes_on met.One b new e = left_last (b == 126) b new e
-
--- an open paste goes on as one
-pub paste_goes_on : (old new : State) (b : ℕ) (raw pause : Bool) → is_paste old ≡ true → state_after old b raw pause ≡ Open new → is_paste new ≡ true
-paste_goes_on (Paste m) new b raw pause h e = met_goes_on m b new e
-paste_goes_on Ground new b raw pause h e = cc
-paste_goes_on Escape new b raw pause h e = cc
-paste_goes_on Ss3 new b raw pause h e = cc
-paste_goes_on Csi new b raw pause h e = cc
-paste_goes_on LinuxKey new b raw pause h e = cc
-paste_goes_on (X10 c) new b raw pause h e = cc
-paste_goes_on (Sgr d) new b raw pause h e = cc
-paste_goes_on Private new b raw pause h e = cc
-paste_goes_on (Reply n) new b raw pause h e = cc
-paste_goes_on (Numbered d o) new b raw pause h e = cc
-paste_goes_on (Utf8 c) new b raw pause h e = cc
+    (advance_rest n (view_of old kept waiting) (view_of mid (kept ++ take i piece) waiting) (view_of mid ((kept ++ take i piece) ++ rest) waiting) piece more raw i l (all_on raw _ _ _ (puts (kept ++ take i piece))) before)
 
 text_goes_on : (s t : Bool) (text : List ℕ) (b : ℕ) → s ≡ true → t ≡ true → text ++ b ∷ [] ≡ (if t then (if s then text ++ b ∷ [] else []) else text)
 text_goes_on true true text b hs ht = refl
@@ -69,24 +36,22 @@ text_goes_on true false text b hs ht = cc
 text_goes_on false t text b hs ht = cc
 
 -- a byte with which a paste goes on
-pub byte_goes_on : (old new : State) (text : List ℕ) (waiting : List Seen) (b : ℕ) (raw pause : Bool) → is_paste old ≡ true → state_after old b raw false ≡ Open new
+byte_goes_on : (old new : State) (text : List ℕ) (waiting : List Seen) (b : ℕ) (raw pause : Bool) → is_paste old ≡ true → is_paste new ≡ true → state_after old b raw pause ≡ Open new
     → PutsByte (view_of old text waiting) (view_of new (text ++ b ∷ []) waiting) b raw pause
-byte_goes_on old new text waiting b raw pause h opens =
-    puts_paste (view_of old text waiting) (view_of new (text ++ b ∷ []) waiting) b raw raw false pause h (
-      ap (λ (s : Step). state_left s) (sym opens),
-      text_goes_on (is_paste old) (is_paste new) text b h (paste_goes_on old new b raw false h opens) ∙ ap (λ (s : Step). text_left s old text b) (sym opens),
-      sym (append-nil waiting) ∙ ap (λ (s : Step). waiting ++ events_left s text) (sym opens),
-    )
+byte_goes_on old new text waiting b raw pause was is opens = (
+  ap (λ (s : Step). state_left s) (sym opens),
+  text_goes_on (is_paste old) (is_paste new) text b was is ∙ ap (λ (s : Step). text_left s old text b) (sym opens),
+  sym (append-nil waiting) ∙ ap (λ (s : Step). waiting ++ events_left s text) (sym opens),
+)
 
 -- the byte with which it is over
-pub byte_closes : (old : State) (text : List ℕ) (waiting : List Seen) (b : ℕ) (raw pause : Bool) → is_paste old ≡ true → state_after old b raw false ≡ Closed
+byte_closes : (old : State) (text : List ℕ) (waiting : List Seen) (b : ℕ) (raw pause : Bool) → state_after old b raw pause ≡ Closed
     → PutsByte (view_of old text waiting) (view_of Ground [] (waiting ++ pasted (take (length text - 5) text) ∷ [])) b raw pause
-byte_closes old text waiting b raw pause h closes =
-    puts_paste (view_of old text waiting) (view_of Ground [] (waiting ++ pasted (take (length text - 5) text) ∷ [])) b raw raw false pause h (
-      ap (λ (s : Step). state_left s) (sym closes),
-      ap (λ (s : Step). text_left s old text b) (sym closes),
-      ap (λ (s : Step). waiting ++ events_left s text) (sym closes),
-    )
+byte_closes old text waiting b raw pause closes = (
+  ap (λ (s : Step). state_left s) (sym closes),
+  ap (λ (s : Step). text_left s old text b) (sym closes),
+  ap (λ (s : Step). waiting ++ events_left s text) (sym closes),
+)
 
 -- the last byte of the end belongs to what is kept
 pub text_of_kept : (text : List ℕ) (b : ℕ) → take (length text - 5) text ≡ take (length (text ++ b ∷ []) - 6) (text ++ b ∷ [])
@@ -102,26 +67,26 @@ kept_more kept piece i b l is = append_assoc kept (take i piece) (b ∷ [])
 
 -- a byte more of an open paste
 pub paste_more : (old mid new : State) (kept : List ℕ) (waiting : List Seen) (piece : List ℕ) (more raw : Bool) (i b : ℕ) → i < length piece → b ≡ get_or piece i 0
-    → is_paste mid ≡ true → state_after mid b raw false ≡ Open new
+    → is_paste mid ≡ true → is_paste new ≡ true → ((pause : Bool) → state_after mid b raw pause ≡ Open new)
     → AdvancesOver (view_of old kept waiting) (view_of mid (kept ++ take i piece) waiting) (take i (marked piece more raw))
     → AdvancesOver (view_of old kept waiting) (view_of new (kept ++ take (i + 1) piece) waiting) (take (i + 1) (marked piece more raw))
-paste_more old mid new kept waiting piece more raw i b l is h opens before =
+paste_more old mid new kept waiting piece more raw i b l at was is opens before =
     let text = kept ++ take i piece in
     let pause = not more && (i + 1 == length piece) in
-    let puts = byte_goes_on mid new text waiting b raw pause h opens in
-    subst (λ (bs : List ℕ). AdvancesOver (view_of old kept waiting) (view_of new bs waiting) (take (i + 1) (marked piece more raw))) (kept_more kept piece i b l is)
-    (advance_more (view_of old kept waiting) (view_of mid text waiting) (view_of new (text ++ b ∷ []) waiting) piece more raw i b pause l is refl puts.0 puts.1 puts.2 before)
+    let puts = byte_goes_on mid new text waiting b raw pause was is (opens pause) in
+    subst (λ (bs : List ℕ). AdvancesOver (view_of old kept waiting) (view_of new bs waiting) (take (i + 1) (marked piece more raw))) (kept_more kept piece i b l at)
+    (advance_more (view_of old kept waiting) (view_of mid text waiting) (view_of new (text ++ b ∷ []) waiting) piece more raw i b pause l at refl puts.0 puts.1 puts.2 before)
 
 -- the last byte of it
 pub paste_closes : (old mid : State) (kept : List ℕ) (waiting : List Seen) (piece : List ℕ) (more raw : Bool) (i b : ℕ) → i < length piece → b ≡ get_or piece i 0
-    → is_paste mid ≡ true → state_after mid b raw false ≡ Closed
+    → ((pause : Bool) → state_after mid b raw pause ≡ Closed)
     → AdvancesOver (view_of old kept waiting) (view_of mid (kept ++ take i piece) waiting) (take i (marked piece more raw))
     → AdvancesOver (view_of old kept waiting) (after_paste Ground (kept ++ take (i + 1) piece) waiting true) (take (i + 1) (marked piece more raw))
-paste_closes old mid kept waiting piece more raw i b l is h closes before =
+paste_closes old mid kept waiting piece more raw i b l at closes before =
     let text = kept ++ take i piece in
     let pause = not more && (i + 1 == length piece) in
-    let puts = byte_closes mid text waiting b raw pause h closes in
+    let puts = byte_closes mid text waiting b raw pause (closes pause) in
     let same : take (length text - 5) text ≡ take (length (kept ++ take (i + 1) piece) - 6) (kept ++ take (i + 1) piece) =
-    text_of_kept text b ∙ ap (λ (bs : List ℕ). take (length bs - 6) bs) (kept_more kept piece i b l is) in
+    text_of_kept text b ∙ ap (λ (bs : List ℕ). take (length bs - 6) bs) (kept_more kept piece i b l at) in
     subst (λ (bs : List ℕ). AdvancesOver (view_of old kept waiting) (view_of Ground [] (waiting ++ pasted bs ∷ [])) (take (i + 1) (marked piece more raw))) same
-    (advance_more (view_of old kept waiting) (view_of mid text waiting) (view_of Ground [] (waiting ++ pasted (take (length text - 5) text) ∷ [])) piece more raw i b pause l is refl puts.0 puts.1 puts.2 before)
+    (advance_more (view_of old kept waiting) (view_of mid text waiting) (view_of Ground [] (waiting ++ pasted (take (length text - 5) text) ∷ [])) piece more raw i b pause l at refl puts.0 puts.1 puts.2 before)

@@ -5,3 +5,4 @@ pub mod Held
 pub mod Outlet
 pub mod State
 pub mod Text
+pub mod inside

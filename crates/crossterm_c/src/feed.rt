@@ -4,18 +4,17 @@ ghost use Rattle.crossterm_types.specs.Seen.{Seen};
 ghost use Rattle.crossterm_parse.specs.inside.Automaton.{is_paste};
 ghost use Rattle.crossterm_parse.specs.Marked.{marked};
 ghost use Rattle.crossterm_parse.specs.inside.Putting.{PutsAll};
-ghost use Rattle.crossterm_c.specs.Feeding.{Feeds, FillsOver, Pastes, view_of};
+ghost use Rattle.crossterm_c.specs.Feeding.{Feeds, Pastes, view_of};
 
 use crate::event::{GelvanhEvent, paste_end};
-use crate::table::{give, put, run};
-use crossterm_parse::parse::pauses;
+use crate::table::Table;
 use crossterm_parse::paste::{Met, before_escape};
-use crossterm_parse::state::{Progress, State};
+use crossterm_parse::state::State;
 use crossterm_parse::steps::Steps;
 use std::sync::ledger::{Blank, Ledger};
 
-/// Takes bytes outside of a paste: all, or as many as the table has room for, or those up to the start of a paste. It returns how many bytes it
-/// took, and how many events it gave.
+/// Takes bytes outside of a paste: all, those up to the start of a paste, or those before the first event for which the table has no room.
+/// It returns how many bytes it took, and how many events it gave.
 fn feed_sequences<L: Ledger>(
     state: &mut State,
     piece: &[u8],
@@ -26,27 +25,17 @@ fn feed_sequences<L: Ledger>(
 ) -> (usize, usize)
     requires { is_paste state.old ≡ false }
     ensures taken { result.0 ≤ length piece.now }
-    ensures fills { FillsOver state.old state.new events.old events.new 0 result.1 (take result.0 (marked piece.now more raw)) }
     ensures given { result.1 ≤ length events.new }
     ensures room { length events.new ≡ length events.old }
+    ensures feeds { (bytes : List ℕ) → Feeds state.old state.new (take result.1 events.new) bytes (take result.0 (marked piece.now more raw)) }
     ensures all { (result.0 ≡ length piece.now) ⊎ (result.1 ≡ length events.new) ⊎ (is_paste state.new ≡ true) }
     ensures some { 0 < length events.old → 0 < length piece.now → 0 < result.0 }
 {
-    let mut place = 0;
-    let mut given = 0;
-    while place < piece.len() {
-        if state.is_paste() {
-            return (place, given);
-        }
-        place += run(state, &piece[place..], events, &mut given, steps);
-        if place == piece.len() || given == events.len() {
-            return (place, given);
-        }
-        let pause = pauses(more, place, piece.len());
-        put(state, piece[place], raw, pause, events, &mut given, steps);
-        place += 1;
-    }
-    (place, given)
+    let mut table = Table { events, given: 0 };
+    let taken = state.take(piece, more, raw, &mut table, steps);
+    let Table { events, given } = table;
+    let _ = &*events;
+    (taken, given)
 }
 
 /// Takes the bytes of an open paste before the next ESC, if none of its end is met, and returns how many.
@@ -81,12 +70,9 @@ fn feed_paste<L: Ledger>(state: &mut State, piece: &[u8], steps: &mut Steps<L>) 
         if place == piece.len() {
             return (place, false);
         }
-        match state.put(piece[place], false, steps) {
-            Progress::Open => {}
-            Progress::Whole | Progress::Closed => {
-                state.end();
-                return (place + 1, true);
-            }
+        if !state.put_in_paste(piece[place], steps) {
+            state.end();
+            return (place + 1, true);
         }
         place += 1;
     }
@@ -113,17 +99,16 @@ pub(crate) fn feed<L: Ledger>(
     ensures some { 0 < length events.old → 0 < length piece.now → 0 < result.0 }
 {
     let mut steps: Steps<L> = Steps::new(blank);
-    if events.is_empty() {
-        return (0, 0);
-    }
     if !state.is_paste() {
         return feed_sequences(state, piece, more, raw, events, &mut steps);
+    }
+    if events.is_empty() {
+        return (0, 0);
     }
     let (taken, over) = feed_paste(state, piece, &mut steps);
     if !over {
         return (taken, 0);
     }
-    let mut given = 0;
-    give(events, &mut given, paste_end());
-    (taken, given)
+    events[0] = paste_end();
+    (taken, 1)
 }

@@ -17,8 +17,8 @@ use std::sync::ledger::Blank;
 
 /// Takes bytes of a terminal, and returns how many. `count` is how many events they gave, which are in front of `events`.
 ///
-/// It stops when all are taken, when the table is full, and after the byte with which a paste opens or is over; then the others are handed
-/// in again. So if a paste was open before the call, all bytes taken are of it: the caller keeps them, and if the paste is over,
+/// It stops when all are taken, before the first event that has no place in the table, and after the byte with which a paste opens or is
+/// over; then the others are handed in again. So if a paste was open before the call, all bytes taken are of it: the caller keeps them, and if the paste is over,
 /// its event is the only one, and its text that of the bytes kept but the last six (`gelvanh_paste_text`).
 ///
 /// `more` says that bytes of the same answer of the terminal follow at once, so that ESC at the end is no Esc key yet. `raw` is the mode

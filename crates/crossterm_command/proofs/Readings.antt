@@ -1,5 +1,5 @@
 -- Which tokens there are, and the texts of several.
-use Rattle.std.proofs.Common.{◌≡◌, ℕ, zero, suc, ◌+◌, ◌≤◌, nat_le, ◌/◌, ◌%◌, ◌<◌, ◌==◌, Bool, true, false, cond, ◌&&◌, List, [], ◌∷◌, ◌++◌, refl, sym, ap, ◌∙◌, append_assoc, arith, map, flat_map}
+use Rattle.std.proofs.Common.{◌≡◌, ℕ, zero, suc, ◌+◌, nat_le, ◌/◌, ◌%◌, ◌<◌, ◌==◌, Bool, true, false, cond, ◌&&◌, List, [], ◌∷◌, ◌++◌, refl, sym, ap, ◌∙◌, append_assoc, arith, map, flat_map}
 use Prim.Native.String.{String}
 use Rattle.std.proofs.Math.Nat.{mod-lt}
 use Rattle.std.proofs.lemmas.Bool.Decides.{nat_tests}
@@ -9,6 +9,7 @@ use Rattle.std.specs.Fmt.{digits, decimal, digits_onto, digit_glyph}
 use Rattle.std.specs.Str.{all_scalars, chars, IsUtf8}
 use Rattle.std.specs.List.{AllByRecursion}
 use Rattle.std.proofs.lemmas.Str.{encodes-chars, scalars-chars}
+use Rattle.std.proofs.lemmas.Bool.{leb-true}
 use Rattle.crossterm_command.specs.Controls.{control, letter}
 use Rattle.crossterm_command.specs.Tokens.{Token, IsParameter, IsFinal, IsPlain, IsWellFormed, ending, spelled, text_of}
 use Rattle.crossterm_command.specs.Tokens.Token.{Char, Csi, Osc, Private}
@@ -65,9 +66,6 @@ chars_formed (c ∷ cs) s a = let (first, rest) = both _ _ s in ((first, a.0), c
 pub printed_formed : (bs : List ℕ) → IsUtf8 bs → AllByRecursion IsPlain (chars bs) → AllByRecursion IsWellFormed (map Char (chars bs))
 printed_formed bs u a = chars_formed (chars bs) (scalars-chars bs u) a
 
-le_at : (m n : ℕ) → nat_le m n ≡ true → m ≤ n
-le_at m n e = grind (arith, nat_tests)
-
 abbrev is_parameter : ℕ → Bool
 is_parameter b = nat_le 0x30 b && nat_le b 0x3F
 
@@ -75,10 +73,10 @@ abbrev pub is_final : ℕ → Bool
 is_final b = nat_le 0x40 b && nat_le b 0x7E
 
 parameter_at : (b : ℕ) → is_parameter b ≡ true → IsParameter b
-parameter_at b e = let (low, high) = both (nat_le 0x30 b) (nat_le b 0x3F) e in (le_at 0x30 b low, le_at b 0x3F high)
+parameter_at b e = let (low, high) = both (nat_le 0x30 b) (nat_le b 0x3F) e in (leb-true 0x30 b low, leb-true b 0x3F high)
 
 final_at : (b : ℕ) → is_final b ≡ true → IsFinal b
-final_at b e = let (low, high) = both (nat_le 0x40 b) (nat_le b 0x7E) e in (le_at 0x40 b low, le_at b 0x7E high)
+final_at b e = let (low, high) = both (nat_le 0x40 b) (nat_le b 0x7E) e in (leb-true 0x40 b low, leb-true b 0x7E high)
 
 abbrev pub all_parameters : List ℕ → Bool
 all_parameters [] = true

@@ -3,8 +3,9 @@ use Rattle.std.proofs.Common.{◌≡◌, ◌⊎◌, inl, inr, List, [], ◌∷�
 use Rattle.std.proofs.lemmas.List.{append-nil, append_cancel_left, take-append-le, take_all, length_push}
 use Rattle.std.proofs.lemmas.Bool.{cases_lt}
 use Rattle.std.proofs.lemmas.Grind.{flat_map-append}
-use Rattle.std.specs.List.{flat_map, AllByRecursion}
+use Rattle.std.specs.List.{flat_map}
 use Rattle.crossterm_parse.specs.Division.{IsUndecided, Divides, IsPrefixFree, UniqueDivision, SomeDivision}
+use Rattle.crossterm_types.proofs.Lists.{all_append, all_push}
 
 -- of two fronts of one list, one is a front of the other
 pub two_fronts : {X : Type 0} (p q a b : List X) → p ++ a ≡ q ++ b → ((x : List X) × (q ≡ p ++ x)) ⊎ ((x : List X) × (p ≡ q ++ x))
@@ -44,14 +45,6 @@ unique_division {X} W n c list (p ∷ ps) (q ∷ qs) rest other d e =
     (record { joined = refl; whole = d.whole.1; undecided = d.undecided })
     (record { joined = rests; whole = e.whole.1; undecided = e.undecided }) in
     (let tails : ps ≡ qs = later.0 in cc, later.1)
-
-pub all_push : {Y : Type 0} (P : Y → Type 0) (ys : List Y) (y : Y) → AllByRecursion P ys → P y → AllByRecursion P (ys ++ y ∷ [])
-all_push P [] y h p = (p, tt)
-all_push P (z ∷ ys) y h p = (h.0, all_push P ys y h.1 p)
-
-all_append : {Y : Type 0} (P : Y → Type 0) (ys zs : List Y) → AllByRecursion P ys → AllByRecursion P zs → AllByRecursion P (ys ++ zs)
-all_append P [] zs h p = p
-all_append P (y ∷ ys) zs h p = (h.0, all_append P ys zs h.1 p)
 
 pub nil_undecided : {X : Type 0} (W : List X → Type 0) → (W [] → ⊥) → IsUndecided W []
 nil_undecided W n k w = n (subst W (take_all k [] (omega arith)) w)

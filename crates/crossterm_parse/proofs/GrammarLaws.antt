@@ -1,7 +1,7 @@
 -- The tests of the grammar say what its definitions say, and no whole sequence begins another.
 use Rattle.std.proofs.Common.{◌≤◌, ◌≡◌, ◌≢◌, ◌==◌, ◌⊎◌, inl, inr, ℕ, Bool, true, false, cond, ◌&&◌, ◌||◌, List, [], ◌∷◌, ◌++◌, refl, ap, sym, ◌∙◌, arith, length, ◌<◌, zero, suc, subst, drop, append_assoc}
 use Rattle.std.specs.Prelude.{nat_le}
-use Rattle.std.proofs.lemmas.Bool.{false≢true, cases_Bool, eq-eqb, eqb-true}
+use Rattle.std.proofs.lemmas.Bool.{false≢true, cases_Bool, eq-eqb, eqb-true, and_parts}
 use Rattle.std.proofs.lemmas.Bool.Decides.{nat_tests, eqb_tells}
 use Rattle.std.specs.List.{AllByRecursion}
 use Rattle.crossterm_parse.specs.Marked.{Marked, bytes_of}
@@ -10,7 +10,7 @@ use Rattle.crossterm_parse.specs.Grammar.{begins, IsDigit, IsFinal, IsAlone, End
 use Rattle.crossterm_parse.specs.inside.Recognizer.{is_nil, is_one, is_three, is_final, is_reply_end, is_mouse_end, ends_numbered, ends_reply, ends_mouse, ends_private, ends_paste, ends_digit, ends_csi, is_lead, is_continuing, further_after, ends_character, is_character, ends_escape, is_shape, is_whole}
 use Rattle.crossterm_parse.specs.Grammar as grammar
 use Rattle.crossterm_parse.specs.Division.{IsPrefixFree}
-use Rattle.crossterm_parse.proofs.PasteLaws.{and_parts, begins_is, begins_from, paste_true, Pasted, true_paste, not_mark}
+use Rattle.crossterm_parse.proofs.PasteLaws.{begins_is, begins_from, paste_true, Pasted, true_paste, not_mark}
 use Rattle.crossterm_parse.proofs.EndLaws.{chosen, true_nil, Tells, ended, Ends, true_ends, Closes, nil_closes, choice_closes, ends_close}
 
 -- whether a byte is one of some in a row, and what that says
@@ -356,10 +356,6 @@ no_bytes : (ms : List Marked) → is_nil (bytes_of ms) ≡ true → ms ≡ []
 no_bytes [] h = refl
 no_bytes (m ∷ ms) h = absurd (false≢true h)
 
-and_both : (s t : Bool) → s && t ≡ true → (s ≡ true) × (t ≡ true)
-and_both true t h = (refl, h)
-and_both false t h = absurd (false≢true h)
-
 and_true : (m : Marked) → m.byte ≡ 27 → m.pause ≡ true → (m.byte == 27) && m.pause ≡ true
 and_true m e f = rw (e, f)
 
@@ -381,7 +377,7 @@ pub true_whole : (ms : List Marked) → is_whole ms ≡ true → Whole ms
 true_whole [] h = absurd (false≢true h)
 true_whole (m ∷ ms) h =
     elim (chosen ((m.byte == 27) && m.pause) (is_nil (bytes_of ms)) (is_shape (m.byte ∷ bytes_of ms)) true h) [
-      | inl w ↦ key m.raw (lone m ms (and_both (m.byte == 27) m.pause w.0) (no_bytes ms w.1))
+      | inl w ↦ key m.raw (lone m ms (and_parts (m.byte == 27) m.pause w.0) (no_bytes ms w.1))
       | inr w ↦ sequence (true_shape _ w.1) (λ (p : (m.byte ≡ 27) × (m.pause ≡ true)). false≢true (sym w.0 ∙ and_true m p.0 p.1))
     ]
 

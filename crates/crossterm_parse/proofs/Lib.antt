@@ -8,7 +8,9 @@ pub mod GrammarLaws
 pub mod MachineLaws
 pub mod NumberLaws
 pub mod PasteLaws
+pub mod PlainLaws
 pub mod RunLaws
+pub mod TakingLaws
 pub mod ViewLaws
 pub mod Utf8Laws
 pub mod UppercaseTrie

@@ -2,7 +2,7 @@
 use Rattle.std.proofs.Common.{◌≡◌, ◌==◌, ℕ, Bool, true, false, cond, List, [], ◌∷◌, ◌++◌, refl, sym, ap, ◌∙◌, arith, not, ◌<◌, ◌≤◌, zero, suc, ◌&&◌, Some, inl, inr, length, take, get_or, ◌-◌, subst, append_assoc}
 use Rattle.std.proofs.lemmas.List.{append-nil}
 use Rattle.std.specs.Prelude.{nat_le, nat_lt}
-use Rattle.std.proofs.lemmas.Bool.{cond_both, false≢true, eqb-true}
+use Rattle.std.proofs.lemmas.Bool.{cond_both, eqb-true, and_parts}
 use Rattle.std.proofs.lemmas.Bool.Decides.{nat_tests}
 use Rattle.bstr.specs.Utf8.{decoded}
 use Rattle.crossterm_parse.specs.declared.character.Begun.{Begun}
@@ -17,6 +17,7 @@ use Rattle.crossterm_parse.specs.declared.paste.Met.{Met}
 use Rattle.crossterm_parse.specs.declared.paste.Met.TheVariants as met
 use Rattle.crossterm_parse.specs.declared.paste.Opening.{Opening}
 use Rattle.crossterm_parse.specs.declared.paste.Opening.TheVariants as opening
+use Rattle.crossterm_parse.specs.declared.readings.Readings.{Readings}
 use Rattle.crossterm_parse.specs.declared.state.State.{State}
 use Rattle.crossterm_parse.specs.declared.state.State.TheVariants.{Ground, Escape, Ss3, Csi, LinuxKey, X10, Sgr, Private, Reply, Numbered, Paste, Utf8}
 use Rattle.crossterm_parse.specs.inside.Step.{Step, Open, Whole, Closed, Grown}
@@ -29,14 +30,14 @@ use Rattle.crossterm_parse.specs.inside.Automaton.{grown, step_of, parameters_af
 use Rattle.crossterm_parse.specs.Meaning.{meaning, with_alt, decoded_character, flags_reply}
 use Rattle.crossterm_parse.specs.inside.Numbers.{reading}
 use Rattle.crossterm_parse.specs.Number.{number}
-use Rattle.crossterm_parse.specs.Numbered.{Readings, readings_of, numbered_by, numbered, sgr_by, front_of, last_of}
-use Rattle.crossterm_parse.proofs.DivisionLaws.{all_push}
+use Rattle.crossterm_parse.specs.Numbered.{readings_of, numbered_by, numbered, sgr_by, front_of, last_of}
 use Rattle.crossterm_parse.proofs.FieldsLaws.{empty_reads, text_more, numbers_of}
 use Rattle.crossterm_parse.proofs.NumberLaws.{tracks_more, tracks_reading}
 use Rattle.crossterm_parse.proofs.PasteLaws.{and_false, third_apart, begins_start}
 use Rattle.crossterm_parse.proofs.EndLaws.{ended, not_ended}
 use Rattle.crossterm_parse.proofs.GrammarLaws.{digit_apart, true_within, not_within, final_tells, is_one_of, reply_tells, mouse_tells, not_reply_end, not_mouse_end, within_true}
-use Rattle.crossterm_parse.proofs.Utf8Laws.{utf8_more, utf8_is, utf8_nil}
+use Rattle.crossterm_parse.proofs.Utf8Laws.{utf8_more, utf8_is, utf8_nil, longer}
+use Rattle.crossterm_types.proofs.Lists.{all_push}
 
 -- a byte that leads a character is none of those that an escape chooses by
 lead_apart : (a : ℕ) → IsLead a → ((a == 27) ≡ false) × ((a == 79) ≡ false) × ((a == 91) ≡ false) × (is_lead a ≡ true)
@@ -64,10 +65,6 @@ one_less n = grind (arith, nat_tests)
 
 above : (k n : ℕ) → nat_lt k n ≡ true → k < n
 above k n h = grind (arith, nat_tests)
-
-both : (s t : Bool) → s && t ≡ true → (s ≡ true) × (t ≡ true)
-both true t h = (refl, h)
-both false t h = absurd (false≢true h)
 
 one_end : (n b : ℕ) → ends_character n (b ∷ []) ≡ not (is_continuing b && nat_lt 0 n)
 one_end zero b = go (is_continuing b) where
@@ -112,11 +109,11 @@ begun_right : (escaped : Bool) (t : Begun) (bytes : List ℕ) (b : ℕ) (raw pau
     → IsRight (step_of escaped (grown escaped t b)) (bytes ++ b ∷ []) raw pause
 begun_right escaped (One a) bytes b raw pause e h = rw (e, prefixed_more escaped (a ∷ []) (b ∷ [])) (
     cond_both (is_continuing b && nat_lt 0 (further_after a)) _ _ (λ (g : Grown). IsRight (step_of escaped g) (prefixed escaped (a ∷ b ∷ [])) raw pause)
-    (λ t. (decided_begun escaped a b [] pause h ∙ one_end (further_after a) b ∙ ap not t, (refl, let w = both (is_continuing b) (nat_lt 0 (further_after a)) t in (h, true_within b w.0, above 0 (further_after a) w.1))))
+    (λ t. (decided_begun escaped a b [] pause h ∙ one_end (further_after a) b ∙ ap not t, (refl, let w = and_parts (is_continuing b) (nat_lt 0 (further_after a)) t in (h, true_within b w.0, above 0 (further_after a) w.1))))
     (λ t. (decided_begun escaped a b [] pause h ∙ one_end (further_after a) b ∙ ap not t, sym (meaning_begun escaped raw a b [] h), one_short escaped a b)))
 begun_right escaped (Two a b) bytes c raw pause e h = rw (e, prefixed_more escaped (a ∷ b ∷ []) (c ∷ [])) (
     cond_both (is_continuing c && nat_lt 1 (further_after a)) _ _ (λ (g : Grown). IsRight (step_of escaped g) (prefixed escaped (a ∷ b ∷ c ∷ [])) raw pause)
-    (λ t. (decided_begun escaped a b (c ∷ []) pause h.0 ∙ two_end (further_after a) b c (within_true b h.1) h.2 ∙ ap not t, (refl, let w = both (is_continuing c) (nat_lt 1 (further_after a)) t in (h.0, h.1, true_within c w.0, above 1 (further_after a) w.1))))
+    (λ t. (decided_begun escaped a b (c ∷ []) pause h.0 ∙ two_end (further_after a) b c (within_true b h.1) h.2 ∙ ap not t, (refl, let w = and_parts (is_continuing c) (nat_lt 1 (further_after a)) t in (h.0, h.1, true_within c w.0, above 1 (further_after a) w.1))))
     (λ t. (decided_begun escaped a b (c ∷ []) pause h.0 ∙ two_end (further_after a) b c (within_true b h.1) h.2 ∙ ap not t, sym (meaning_begun escaped raw a b (c ∷ []) h.0), two_short escaped a b c)))
 begun_right escaped (Three a b c) bytes d raw pause e h = rw (e, prefixed_more escaped (a ∷ b ∷ c ∷ []) (d ∷ [])) (
   decided_begun escaped a b (c ∷ d ∷ []) pause h.0 ∙ three_end (further_after a) b c d (within_true b h.1) (within_true c h.2) h.3 (further_le a),
@@ -407,10 +404,6 @@ paste_anew m bytes b raw pause o alike = go (b == 27) refl alike where
   go true t h = paste_on m met.Escape bytes b raw pause o.text o h (let is : b ≡ 27 = eqb-true b 27 t in rw is)
   go false t h = paste_on m met.Nothing bytes b raw pause (o.text ++ b ∷ []) o h (sym (append-nil (o.text ++ b ∷ [])))
 
--- the end is met further
-further : (text before front : List ℕ) (b : ℕ) → text ≡ before ++ front → text ++ b ∷ [] ≡ before ++ (front ++ b ∷ [])
-further text before front b e = rw e (append_assoc before front (b ∷ []))
-
 paste_closed : (bytes : List ℕ) (raw pause : Bool) → OpenPaste met.One bytes → IsRight Closed (bytes ++ 126 ∷ []) raw pause
 paste_closed bytes raw pause o = rw o.is (o.alike (126 ∷ []), refl)
 
@@ -418,19 +411,19 @@ paste_right : (m : Met) (bytes : List ℕ) (b : ℕ) (raw pause : Bool) → Open
 paste_right met.Nothing bytes b raw pause o = paste_anew met.Nothing bytes b raw pause o (from_nothing b)
 paste_right met.Escape bytes b raw pause o = go (b == 91) refl where
   go : (t : Bool) → (b == 91) ≡ t → IsRight (cond t (Open (Paste met.Bracket)) (met_anew b)) (bytes ++ b ∷ []) raw pause
-  go true t = paste_on met.Escape met.Bracket bytes b raw pause o.before o (λ more. let is : b ≡ 91 = eqb-true b 91 t in rw is) (further o.text o.before (27 ∷ []) b o.ends ∙ (let is : b ≡ 91 = eqb-true b 91 t in rw is))
+  go true t = paste_on met.Escape met.Bracket bytes b raw pause o.before o (λ more. let is : b ≡ 91 = eqb-true b 91 t in rw is) (longer o.text o.before (27 ∷ []) b o.ends ∙ (let is : b ≡ 91 = eqb-true b 91 t in rw is))
   go false t = paste_anew met.Escape bytes b raw pause o (λ more. from_escape b more t)
 paste_right met.Bracket bytes b raw pause o = go (b == 50) refl where
   go : (t : Bool) → (b == 50) ≡ t → IsRight (cond t (Open (Paste met.Two)) (met_anew b)) (bytes ++ b ∷ []) raw pause
-  go true t = paste_on met.Bracket met.Two bytes b raw pause o.before o (λ more. let is : b ≡ 50 = eqb-true b 50 t in rw is) (further o.text o.before (27 ∷ 91 ∷ []) b o.ends ∙ (let is : b ≡ 50 = eqb-true b 50 t in rw is))
+  go true t = paste_on met.Bracket met.Two bytes b raw pause o.before o (λ more. let is : b ≡ 50 = eqb-true b 50 t in rw is) (longer o.text o.before (27 ∷ 91 ∷ []) b o.ends ∙ (let is : b ≡ 50 = eqb-true b 50 t in rw is))
   go false t = paste_anew met.Bracket bytes b raw pause o (λ more. from_bracket b more t)
 paste_right met.Two bytes b raw pause o = go (b == 48) refl where
   go : (t : Bool) → (b == 48) ≡ t → IsRight (cond t (Open (Paste met.Zero)) (met_anew b)) (bytes ++ b ∷ []) raw pause
-  go true t = paste_on met.Two met.Zero bytes b raw pause o.before o (λ more. let is : b ≡ 48 = eqb-true b 48 t in rw is) (further o.text o.before (27 ∷ 91 ∷ 50 ∷ []) b o.ends ∙ (let is : b ≡ 48 = eqb-true b 48 t in rw is))
+  go true t = paste_on met.Two met.Zero bytes b raw pause o.before o (λ more. let is : b ≡ 48 = eqb-true b 48 t in rw is) (longer o.text o.before (27 ∷ 91 ∷ 50 ∷ []) b o.ends ∙ (let is : b ≡ 48 = eqb-true b 48 t in rw is))
   go false t = paste_anew met.Two bytes b raw pause o (λ more. from_two b more t)
 paste_right met.Zero bytes b raw pause o = go (b == 49) refl where
   go : (t : Bool) → (b == 49) ≡ t → IsRight (cond t (Open (Paste met.One)) (met_anew b)) (bytes ++ b ∷ []) raw pause
-  go true t = paste_on met.Zero met.One bytes b raw pause o.before o (λ more. let is : b ≡ 49 = eqb-true b 49 t in rw is) (further o.text o.before (27 ∷ 91 ∷ 50 ∷ 48 ∷ []) b o.ends ∙ (let is : b ≡ 49 = eqb-true b 49 t in rw is))
+  go true t = paste_on met.Zero met.One bytes b raw pause o.before o (λ more. let is : b ≡ 49 = eqb-true b 49 t in rw is) (longer o.text o.before (27 ∷ 91 ∷ 50 ∷ 48 ∷ []) b o.ends ∙ (let is : b ≡ 49 = eqb-true b 49 t in rw is))
   go false t = paste_anew met.Zero bytes b raw pause o (λ more. from_zero b more t)
 paste_right met.One bytes b raw pause o = go (b == 126) refl where
   go : (t : Bool) → (b == 126) ≡ t → IsRight (cond t Closed (met_anew b)) (bytes ++ b ∷ []) raw pause

@@ -1,6 +1,6 @@
 -- The text of a paste and its first end.
 use Rattle.std.proofs.Common.{◌≡◌, ◌==◌, ℕ, Bool, true, false, cond, ◌&&◌, List, [], ◌∷◌, ◌++◌, refl, ap, sym, ◌∙◌, arith, length, drop, inl, inr}
-use Rattle.std.proofs.lemmas.Bool.{false≢true, cases_Bool, eq-eqb, eqb-true}
+use Rattle.std.proofs.lemmas.Bool.{false≢true, cases_Bool, eq-eqb, eqb-true, and_parts}
 use Rattle.std.proofs.lemmas.Bool.Decides.{nat_tests}
 use Rattle.std.proofs.lemmas.List.{length-append, nil_from_length}
 use Rattle.std.specs.List.{AllByRecursion}
@@ -11,10 +11,6 @@ use Rattle.crossterm_parse.proofs.EndLaws.{chosen, true_nil}
 begins_append : (p rest : List ℕ) → begins p (p ++ rest) ≡ true
 begins_append [] rest = refl
 begins_append (b ∷ p) rest = rw (begins_append p rest) (eq-eqb b b refl)
-
-pub and_parts : (s t : Bool) → s && t ≡ true → (s ≡ true) × (t ≡ true)
-and_parts true t h = (refl, h)
-and_parts false t h = absurd (false≢true h)
 
 pub and_false : (t : Bool) → t && false ≡ false
 and_false true = refl

@@ -1,29 +1,33 @@
 -- Bytes that are put in at once are put in one after another.
-use Rattle.std.proofs.Common.{◌≡◌, ◌==◌, ◌≤◌, ◌<◌, ℕ, zero, suc, ◌+◌, ◌-◌, Bool, true, false, not, ◌&&◌, if◌then◌else◌, List, [], ◌∷◌, ◌++◌, length, take, drop, get_or, slice_index, Option, Some, nat_lt, refl, ap, sym, ◌∙◌, subst, arith, append_assoc}
-use Rattle.std.proofs.lemmas.List.{append-nil, drop_more, take_all, length-drop}
+use Rattle.std.proofs.Common.{◌≡◌, ◌==◌, ◌≤◌, ◌<◌, ℕ, zero, suc, ◌+◌, ◌-◌, Bool, true, false, not, ◌&&◌, if◌then◌else◌, List, [], ◌∷◌, ◌++◌, length, take, drop, get_or, slice_index, Option, Some, None, option_to_list, map, nat_lt, refl, ap, sym, ◌∙◌, subst, arith, append_assoc}
+use Rattle.std.proofs.lemmas.List.{append-nil, drop_more, take_all, take_rest, length-drop}
 use Rattle.std.specs.Prelude.{nat_le}
-use Rattle.std.proofs.lemmas.Bool.{and_parts, false≢true}
+use Rattle.std.proofs.lemmas.Bool.{and_parts}
 use Rattle.std.proofs.lemmas.Bool.Decides.{nat_tests}
 use Rattle.std.specs.List.{AllByRecursion}
+use Rattle.std.proofs.lemmas.Bool.{false_from_ne_true}
 use Rattle.bstr.specs.Utf8.{Decoded, decoded, second, continues, code_of_2, code_of_3, code_of_4}
 use Rattle.bstr.proofs.lemmas.PieceLemmas.{by-shape}
 use Rattle.crossterm_parse.specs.inside.Fields.{fields_after}
 use Rattle.crossterm_parse.specs.inside.Recognizer.{is_lead, is_continuing, is_final, is_mouse_end, further_after}
 use Rattle.crossterm_parse.specs.inside.Utf8.{utf8_after}
-use Rattle.crossterm_parse.specs.Meaning.{typed, decoded_character}
+use Rattle.crossterm_parse.specs.Meaning.{typed, decoded_character, seen_meaning}
+use Rattle.crossterm_types.specs.Seen.{Seen}
 use Rattle.memchr.specs.Find.{Nowhere, Passes, is_byte}
 use Rattle.crossterm_parse.specs.inside.Automaton.{IsCharacterOf, IsLetter, parameters_after, state_after, state_left, text_left, events_left, is_paste, Opens, OpensWith, StateRepresents, kept_text}
 use Rattle.crossterm_parse.specs.Marked.{Marked, bytes_of, marked}
 use Rattle.crossterm_parse.specs.View.{ParserView, Represents, AdvancesOver}
-use Rattle.crossterm_parse.specs.inside.Putting.{Gives, PutsAll, PutsByte, PutsOn}
+use Rattle.crossterm_parse.specs.inside.Plain.{EndsFrom}
+use Rattle.crossterm_parse.specs.inside.Putting.{Gives, PutsAll, PutsByte, PutsOn, bare}
 use Rattle.crossterm_parse.specs.declared.fields.Fields.{Fields}
 use Rattle.crossterm_parse.specs.declared.numbered.Parameters.{Parameters}
 use Rattle.crossterm_parse.specs.declared.utf8.Validity.{Validity}
 use Rattle.crossterm_parse.specs.declared.utf8.Validity.TheVariants.{Sound}
+use Rattle.crossterm_parse.specs.declared.plain.PlainSequence.{PlainSequence}
 use Rattle.crossterm_parse.specs.declared.paste.Met.TheVariants as met
 use Rattle.crossterm_parse.specs.declared.paste.Opening.TheVariants as opening
 use Rattle.crossterm_parse.specs.declared.state.State.{State}
-use Rattle.crossterm_parse.specs.declared.state.State.TheVariants.{Ground, Escape, Ss3, Csi, LinuxKey, X10, Sgr, Private, Reply, Numbered, Paste, Utf8}
+use Rattle.crossterm_parse.specs.declared.state.State.TheVariants.{Ground, Escape, Sgr, Numbered, Paste, Utf8}
 use Rattle.crossterm_parse.specs.inside.Step.{Step, Open, Whole}
 use Rattle.crossterm_parse.specs.declared.character.Begun.{Begun}
 use Rattle.crossterm_parse.specs.declared.character.Begun.TheVariants.{One, Two, Three}
@@ -38,25 +42,6 @@ same_start old mid new b raw pause same puts = (
   puts.2 ∙ (λ k. same.2 k ++ events_left (state_after (same.0 k) b raw pause) (same.1 k)),
 )
 
--- one more byte
-pub puts_more : (old mid new : ParserView) (bs : List ℕ) (b : ℕ) → PutsAll old mid bs → ((raw pause : Bool) → PutsByte mid new b raw pause) → PutsAll old new (bs ++ b ∷ [])
-puts_more old mid new [] b all puts = (new, (λ raw pause. same_start old mid new b raw pause all (puts raw pause)), (refl, refl, refl))
-puts_more old mid new (x ∷ xs) b all puts = (all.0, all.1, puts_more all.0 mid new xs b all.2 puts)
-
--- a change of the room alone puts nothing
-pub puts_still : (old mid new : ParserView) (bs : List ℕ) → PutsAll old mid bs → PutsAll mid new [] → PutsAll old new bs
-puts_still old mid new [] all same = (same.0 ∙ all.0, same.1 ∙ all.1, same.2 ∙ all.2)
-puts_still old mid new (b ∷ bs) all same = (all.0, all.1, puts_still all.0 mid new bs all.2 same)
-
--- more bytes
-puts_join : (old mid new : ParserView) (bs cs : List ℕ) → PutsAll old mid bs → PutsAll mid new cs → PutsAll old new (bs ++ cs)
-puts_join old mid new bs [] all same = subst (PutsAll old new) (sym (append-nil bs)) (puts_still old mid new bs all same)
-puts_join old mid new bs (c ∷ cs) all more = subst (PutsAll old new) (append_assoc bs (c ∷ []) cs)
-    (puts_join old more.0 new (bs ++ c ∷ []) cs (puts_more old mid more.0 bs c all more.1) more.2)
-
-pub puts_after : (old mid new : ParserView) (bs : List ℕ) → PutsAll old mid [] → PutsAll mid new bs → PutsAll old new bs
-puts_after old mid new bs same all = puts_join old mid new [] bs same all
-
 take_none : (n : ℕ) → take {A = ℕ} n [] ≡ []
 take_none zero = refl
 take_none (suc n) = refl
@@ -68,31 +53,32 @@ take_join (suc i) n (b ∷ bs) =
     let more : suc (i + n) ≡ suc i + n = omega arith in
     ap (λ (t : List ℕ). b ∷ t) (take_join i n bs) ∙ ap (λ (m : ℕ). take m (b ∷ bs)) more
 
--- more bytes of what is left
-pub puts_on : (old mid new : ParserView) (bs : List ℕ) (i n : ℕ) → PutsAll old mid (take i bs) → PutsAll mid new (take n (take (length bs - i) (drop i bs)))
-    → PutsAll old new (take (i + n) bs)
-puts_on old mid new bs i n all more =
-    let left : length (drop i bs) ≤ length bs - i = omega (arith, length-drop i bs) in
-    subst (PutsAll old new) (take_join i n bs)
-    (puts_join old mid new (take i bs) (take n (drop i bs)) all (subst (λ (cs : List ℕ). PutsAll mid new (take n cs)) (take_all (length bs - i) (drop i bs) left) more))
-
 -- bytes after which pauses may stand are bytes after which none need to
-pub all_on : (bs : List ℕ) (old new : ParserView) → PutsAll old new bs → PutsOn old new bs
-all_on [] old new all = all
-all_on (b ∷ bs) old new all = (all.0, (λ raw pause last. all.1 raw pause), all_on bs all.0 new all.2)
+pub all_on : (raw : Bool) (bs : List ℕ) (old new : ParserView) → PutsAll old new bs → PutsOn raw old new bs
+all_on raw [] old new all = all
+all_on raw (b ∷ bs) old new all = (all.0, (λ pause last. all.1 raw pause), all_on raw bs all.0 new all.2)
 
-on_join : (bs cs : List ℕ) (old mid new : ParserView) → PutsAll old mid bs → PutsOn mid new cs → PutsOn old new (bs ++ cs)
-on_join [] [] old mid new same on = (on.0 ∙ same.0, on.1 ∙ same.1, on.2 ∙ same.2)
-on_join [] (c ∷ cs) old mid new same on = (on.0, (λ raw pause last. same_start old mid on.0 c raw pause same (on.1 raw pause last)), on.2)
-on_join (b ∷ bs) cs old mid new all on = (all.0, (λ raw pause last. all.1 raw pause), on_join bs cs all.0 mid new all.2 on)
+-- a change of the room alone puts nothing
+pub on_still : (raw : Bool) (old mid new : ParserView) (bs : List ℕ) → PutsOn raw old mid bs → PutsOn raw mid new [] → PutsOn raw old new bs
+on_still raw old mid new [] on same = (same.0 ∙ on.0, same.1 ∙ on.1, same.2 ∙ on.2)
+on_still raw old mid new (b ∷ bs) on same = (on.0, on.1, on_still raw on.0 mid new bs on.2 same)
+
+none_left : (bs cs : List ℕ) → length (bs ++ cs) ≡ 0 → length bs ≡ 0
+none_left [] cs none = refl
+none_left (b ∷ bs) cs none = absurd (omega (arith, none))
+
+on_join : (raw : Bool) (bs cs : List ℕ) (old mid new : ParserView) → PutsOn raw old mid bs → PutsOn raw mid new cs → PutsOn raw old new (bs ++ cs)
+on_join raw [] [] old mid new same on = (on.0 ∙ same.0, on.1 ∙ same.1, on.2 ∙ same.2)
+on_join raw [] (c ∷ cs) old mid new same on = (on.0, (λ pause last. same_start old mid on.0 c raw pause same (on.1 pause last)), on.2)
+on_join raw (b ∷ bs) cs old mid new all on = (all.0, (λ pause last. all.1 pause (λ is. none_left bs cs (last is))), on_join raw bs cs all.0 mid new all.2 on)
 
 -- more bytes of what is left
-pub on_after : (old mid new : ParserView) (bs : List ℕ) (i n : ℕ) → PutsAll old mid (take i bs) → PutsOn mid new (take n (take (length bs - i) (drop i bs)))
-    → PutsOn old new (take (i + n) bs)
-on_after old mid new bs i n all more =
+pub on_after : (raw : Bool) (old mid new : ParserView) (bs : List ℕ) (i n : ℕ) → PutsOn raw old mid (take i bs)
+    → PutsOn raw mid new (take n (take (length bs - i) (drop i bs))) → PutsOn raw old new (take (i + n) bs)
+on_after raw old mid new bs i n all more =
     let left : length (drop i bs) ≤ length bs - i = omega (arith, length-drop i bs) in
-    subst (PutsOn old new) (take_join i n bs)
-    (on_join (take i bs) (take n (drop i bs)) old mid new all (subst (λ (cs : List ℕ). PutsOn mid new (take n cs)) (take_all (length bs - i) (drop i bs) left) more))
+    subst (PutsOn raw old new) (take_join i n bs)
+    (on_join raw (take i bs) (take n (drop i bs)) old mid new all (subst (λ (cs : List ℕ). PutsOn raw mid new (take n cs)) (take_all (length bs - i) (drop i bs) left) more))
 
 plain_byte : (old : ParserView) (b : ℕ) (raw pause : Bool) → b == 27 ≡ false → old.state ≡ Paste met.Nothing
     → PutsByte old (record { waiting = old.waiting; state = old.state; text = old.text ++ b ∷ []; room = old.room }) b raw pause
@@ -110,38 +96,11 @@ paste_run (b ∷ bs) old new none is state text waiting =
     let mid : ParserView = record { waiting = old.waiting; state = old.state; text = old.text ++ b ∷ []; room = old.room } in
     (mid, (λ raw pause. plain_byte old b raw pause none.0 is), paste_run bs mid new none.1 is state (text ∙ sym (append_assoc old.text (b ∷ []) bs)) waiting)
 
--- in a paste neither the mode nor a pause matters
-pub paste_after : (s : State) (b : ℕ) (raw other pause still : Bool) → is_paste s ≡ true → state_after s b raw pause ≡ state_after s b other still
-paste_after (Paste m) b raw other pause still h = refl
-paste_after Ground b raw other pause still h = absurd (false≢true h)
-paste_after Escape b raw other pause still h = absurd (false≢true h)
-paste_after Ss3 b raw other pause still h = absurd (false≢true h)
-paste_after Csi b raw other pause still h = absurd (false≢true h)
-paste_after LinuxKey b raw other pause still h = absurd (false≢true h)
-paste_after (X10 c) b raw other pause still h = absurd (false≢true h)
-paste_after (Sgr d) b raw other pause still h = absurd (false≢true h)
-paste_after Private b raw other pause still h = absurd (false≢true h)
-paste_after (Reply n) b raw other pause still h = absurd (false≢true h)
-paste_after (Numbered d o) b raw other pause still h = absurd (false≢true h)
-paste_after (Utf8 c) b raw other pause still h = absurd (false≢true h)
-
-pub puts_paste : (old new : ParserView) (b : ℕ) (raw other pause still : Bool) → is_paste old.state ≡ true → PutsByte old new b raw pause → PutsByte old new b other still
-puts_paste old new b raw other pause still h puts =
-    let e = paste_after old.state b raw other pause still h in (
-      puts.0 ∙ ap (λ (s : Step). state_left s) e,
-      puts.1 ∙ ap (λ (s : Step). text_left s old.state old.text b) e,
-      puts.2 ∙ ap (λ (s : Step). old.waiting ++ events_left s old.text) e,
-    )
-
-not_true : (t : Bool) → (t ≡ true → ⊥) → t ≡ false
-not_true true f = absurd (f refl)
-not_true false f = refl
-
 -- where ESC stands at no place below n, none of the first n bytes is one
 pub none_is : (bs : List ℕ) (n : ℕ) → Nowhere (Passes (is_byte 27) bs) 0 n → AllByRecursion (λ b. b == 27 ≡ false) (take n bs)
 none_is bs zero f = tt
 none_is [] (suc n) f = tt
-none_is (b ∷ bs) (suc n) f = (not_true (b == 27) (f 0 (omega arith) (omega arith)), none_is bs n (λ k low high. f (suc k) (omega arith) (omega (arith, high))))
+none_is (b ∷ bs) (suc n) f = (false_from_ne_true (b == 27) (f 0 (omega arith) (omega arith)), none_is bs n (λ k low high. f (suc k) (omega arith) (omega (arith, high))))
 
 still : (mid new : ParserView) (rest : List Marked) → PutsAll mid new [] → Represents mid rest → Represents new rest
 still mid new rest same represents = (
@@ -161,27 +120,27 @@ last_byte piece quiet i n l last =
     ap (λ (m : ℕ). length (take m (drop (i + 1) piece))) none
 
 -- a run
-pub advance_run : (n : ℕ) (old mid new : ParserView) (piece : List ℕ) (more raw : Bool) (i : ℕ) → i + n ≤ length piece → PutsOn mid new (take n (drop i piece))
+advance_run : (n : ℕ) (old mid new : ParserView) (piece : List ℕ) (more raw : Bool) (i : ℕ) → i + n ≤ length piece → PutsOn raw mid new (take n (drop i piece))
     → AdvancesOver old mid (take i (marked piece more raw)) → AdvancesOver old new (take (i + n) (marked piece more raw))
 advance_run zero old mid new piece more raw i l all before =
     let none : i ≡ i + 0 = omega arith in
     subst (λ (j : ℕ). AdvancesOver old new (take j (marked piece more raw))) none (advance_still old mid new (take i (marked piece more raw)) all before)
 advance_run (suc n) old mid new piece more raw i l all before =
     let lt : i < length piece = omega (arith, l) in
-    let front : PutsOn mid new (get_or piece i 0 ∷ take n (drop (i + 1) piece)) = subst (PutsOn mid new) (ap (λ (bs : List ℕ). take (suc n) bs) (drop_more piece i 0 lt)) all in
+    let front : PutsOn raw mid new (get_or piece i 0 ∷ take n (drop (i + 1) piece)) = subst (PutsOn raw mid new) (ap (λ (bs : List ℕ). take (suc n) bs) (drop_more piece i 0 lt)) all in
     let pause : Bool = not more && (i + 1 == length piece) in
-    let one = front.1 raw pause (λ p. last_byte piece (not more) i n l (and_parts (not more) (i + 1 == length piece) p).1) in
+    let one = front.1 pause (λ p. last_byte piece (not more) i n l (and_parts (not more) (i + 1 == length piece) p).1) in
     let next = advance_more old mid front.0 piece more raw i (get_or piece i 0) pause lt refl refl one.0 one.1 one.2 before in
     let on : i + 1 + n ≡ i + suc n = omega arith in
     subst (λ (j : ℕ). AdvancesOver old new (take j (marked piece more raw))) on (advance_run n old front.0 new piece more raw (i + 1) (omega (arith, l)) front.2 next)
 
 -- a run over what is left of the piece
 pub advance_rest : (n : ℕ) (old mid new : ParserView) (piece : List ℕ) (more raw : Bool) (i : ℕ) → i + n ≤ length piece
-    → PutsOn mid new (take n (take (length piece - i) (drop i piece)))
+    → PutsOn raw mid new (take n (take (length piece - i) (drop i piece)))
     → AdvancesOver old mid (take i (marked piece more raw)) → AdvancesOver old new (take (i + n) (marked piece more raw))
 advance_rest n old mid new piece more raw i l all before =
     let left : length (drop i piece) ≤ length piece - i = omega (arith, length-drop i piece) in
-    advance_run n old mid new piece more raw i l (subst (λ (bs : List ℕ). PutsOn mid new (take n bs)) (take_all (length piece - i) (drop i piece) left) all) before
+    advance_run n old mid new piece more raw i l (subst (λ (bs : List ℕ). PutsOn raw mid new (take n bs)) (take_all (length piece - i) (drop i piece) left) all) before
 
 pub take_less : (n m : ℕ) (bs : List ℕ) → n ≤ length (take m bs) → take n (take m bs) ≡ take n bs
 take_less zero m bs l = refl
@@ -247,32 +206,72 @@ idle_report p b low high sound same raw pause =
     rw on same
 
 -- ESC and a byte that stands with it
-escape_byte : (old : ParserView) (b : ℕ) (bs : List ℕ) (raw pause : Bool) → (pause ≡ true → length (b ∷ bs) ≡ 0) → old.state ≡ Ground
+escape_byte : (old : ParserView) (bs : List ℕ) (raw pause : Bool) → 0 < length bs → (pause ≡ true → length bs ≡ 0) → old.state ≡ Ground
     → PutsByte old (record { waiting = old.waiting; state = Escape; text = old.text; room = old.room }) 27 raw pause
-escape_byte old b bs raw true last ground = absurd (omega (arith, last refl))
-escape_byte old b bs raw false last ground =
+escape_byte old bs raw true some last ground = absurd (omega (arith, some, last refl))
+escape_byte old bs raw false some last ground =
     let step : state_after old.state 27 raw false ≡ Open Escape = ap (λ (s : State). state_after s 27 raw false) ground in (
       ap (λ (s : Step). state_left s) (sym step),
       sym (ap (λ (s : Step). text_left s old.state old.text 27) step),
       sym (ap (λ (s : Step). old.waiting ++ events_left s old.text) step ∙ append-nil old.waiting),
     )
 
-escape_on : (old new : ParserView) (b : ℕ) (bs : List ℕ) → old.state ≡ Ground → Opens Escape new.state (b ∷ bs) → new.text ≡ old.text → new.waiting ≡ old.waiting
-    → PutsOn old new (27 ∷ b ∷ bs)
-escape_on old new b bs ground opens text waiting =
+escape_on : (raw : Bool) (old new : ParserView) (b : ℕ) (bs : List ℕ) → old.state ≡ Ground → Opens Escape new.state (b ∷ bs) → new.text ≡ old.text → new.waiting ≡ old.waiting
+    → PutsOn raw old new (27 ∷ b ∷ bs)
+escape_on raw old new b bs ground opens text waiting =
     let mid : ParserView = record { waiting = old.waiting; state = Escape; text = old.text; room = old.room } in (
       mid,
-      (λ raw pause last. escape_byte old b bs raw pause last ground),
-      all_on (b ∷ bs) mid new (opens_puts (b ∷ bs) mid new opens text waiting),
+      (λ pause last. escape_byte old (b ∷ bs) raw pause (omega arith) last ground),
+      all_on raw (b ∷ bs) mid new (opens_puts (b ∷ bs) mid new opens text waiting),
     )
 
 -- a sequence that opens, or nothing
-pub opened_on : (n : ℕ) (old new : ParserView) (bs : List ℕ) → old.state ≡ Ground → (n ≡ 0 → new.state ≡ Ground) → (0 < n → OpensWith new.state (take n bs))
-    → new.text ≡ old.text → new.waiting ≡ old.waiting → PutsOn old new (take n bs)
-opened_on zero old new bs ground none some text waiting = (none refl ∙ sym ground, text, waiting)
-opened_on (suc n) old new bs ground none some text waiting =
+pub opened_on : (raw : Bool) (n : ℕ) (old new : ParserView) (bs : List ℕ) → old.state ≡ Ground → (n ≡ 0 → new.state ≡ Ground) → (0 < n → OpensWith new.state (take n bs))
+    → new.text ≡ old.text → new.waiting ≡ old.waiting → PutsOn raw old new (take n bs)
+opened_on raw zero old new bs ground none some text waiting = (none refl ∙ sym ground, text, waiting)
+opened_on raw (suc n) old new bs ground none some text waiting =
     let opens = some (omega arith) in
-    subst (PutsOn old new) (sym opens.2) (escape_on old new opens.0 opens.1 ground opens.3 text waiting)
+    subst (PutsOn raw old new) (sym opens.2) (escape_on raw old new opens.0 opens.1 ground opens.3 text waiting)
+
+-- a sequence that is whole with its last byte
+whole_on : (raw : Bool) (state : State) (b : ℕ) (m : Option Meaning) (w : List Seen) → ((pause : Bool) → state_after state b raw pause ≡ Whole m) → (pause : Bool)
+    → PutsByte (bare state w) (bare Ground (w ++ map seen_meaning (option_to_list m))) b raw pause
+whole_on raw state b None w whole pause = (
+  ap (λ (s : Step). state_left s) (sym (whole pause)),
+  sym (ap (λ (s : Step). text_left s state [] b) (whole pause)),
+  sym (ap (λ (s : Step). w ++ events_left s []) (whole pause)),
+)
+whole_on raw state b (Some m) w whole pause = (
+  ap (λ (s : Step). state_left s) (sym (whole pause)),
+  sym (ap (λ (s : Step). text_left s state [] b) (whole pause)),
+  sym (ap (λ (s : Step). w ++ events_left s []) (whole pause)),
+)
+
+some_bytes : (bs : List ℕ) (b : ℕ) → 0 < length (bs ++ b ∷ [])
+some_bytes [] b = omega arith
+some_bytes (c ∷ bs) b = omega arith
+
+-- ESC, and a whole sequence behind it
+pub sequence_on : (raw : Bool) (s : State) (bs : List ℕ) (it : PlainSequence) (w : List Seen) → s ≡ Ground → 0 < length bs → slice_index bs 0 ≡ 27
+    → EndsFrom Escape (take (length bs - 1) (drop 1 bs)) raw it
+    → PutsOn raw (bare s w) (bare s (w ++ map seen_meaning (option_to_list it.meaning))) (take (1 + it.count) bs)
+sequence_on raw s bs it w ground some escape ends =
+    let on : 1 + it.count ≡ suc it.count = omega arith in
+    let text : List ℕ = ends.text ++ ends.last ∷ [] in
+    let behind : take it.count (drop 1 bs) ≡ text = ap (λ (cs : List ℕ). take it.count cs) (sym (take_rest bs 1)) ∙ ends.is in
+    let is : take (1 + it.count) bs ≡ 27 ∷ text =
+    ap (λ (m : ℕ). take m bs) on ∙ ap (λ (cs : List ℕ). take (suc it.count) cs) (drop_more bs 0 0 some) ∙ ap (λ (b : ℕ). b ∷ take it.count (drop 1 bs)) escape
+    ∙ ap (λ (cs : List ℕ). 27 ∷ cs) behind in
+    let given = w ++ map seen_meaning (option_to_list it.meaning) in
+    let new : ParserView = bare Ground given in
+    subst (λ (cs : List ℕ). PutsOn raw (bare s w) (bare s given) cs) (sym is)
+    (subst (λ (t : State). PutsOn raw (bare t w) (bare t given) (27 ∷ text)) (sym ground) (
+      bare Escape w,
+      (λ pause last. escape_byte (bare Ground w) text raw pause (some_bytes ends.text ends.last) last refl),
+      on_join raw ends.text (ends.last ∷ []) (bare Escape w) (bare ends.state w) new
+          (all_on raw ends.text (bare Escape w) (bare ends.state w) (opens_puts ends.text (bare Escape w) (bare ends.state w) ends.opens refl refl))
+          (new, (λ pause last. whole_on raw ends.state ends.last it.meaning w ends.whole pause), (refl, refl, refl)),
+    ))
 
 first_bytes : (bs : List ℕ) → 3 ≤ length bs → bs ≡ slice_index bs 0 ∷ slice_index bs 1 ∷ slice_index bs 2 ∷ drop 3 bs
 first_bytes bs l =

@@ -119,7 +119,7 @@ completes : (text good front : List ℕ) (b c n : ℕ) → IsUtf8 good → text 
 completes text good front b c n g is r l =
     subst IsUtf8 (sym (ap (λ (ys : List ℕ). ys ++ b ∷ []) is ∙ append_assoc good front (b ∷ []))) (completed good (front ++ b ∷ []) c g r.0 (r.1 ∙ sym l))
 
-longer : (text good front : List ℕ) (b : ℕ) → text ≡ good ++ front → text ++ b ∷ [] ≡ good ++ (front ++ b ∷ [])
+pub longer : (text good front : List ℕ) (b : ℕ) → text ≡ good ++ front → text ++ b ∷ [] ≡ good ++ (front ++ b ∷ [])
 longer text good front b is = ap (λ (ys : List ℕ). ys ++ b ∷ []) is ∙ append_assoc good front (b ∷ [])
 
 below : (a n : ℕ) → nat_lt a n ≡ false → n ≤ a

@@ -15,30 +15,19 @@ use Rattle.crossterm_parse.specs.declared.meaning.Meaning.{Meaning}
 use Rattle.crossterm_parse.specs.declared.meaning.Meaning.TheVariants.{Key, Mouse, CursorPosition}
 use Rattle.crossterm_parse.specs.declared.functional.FunctionalKey.{FunctionalKey}
 use Rattle.crossterm_parse.specs.declared.modifier_field.ModifierField.{ModifierField}
+use Rattle.crossterm_parse.specs.declared.readings.Readings.{Readings}
 use Rattle.crossterm_parse.specs.Functional.{char_of, functional_key}
 use Rattle.crossterm_parse.specs.ModifierField.{modifier_field, or_empty_modifier_field, or_fallback}
 
 abbrev pub key_with : KeyCode → ModifierField → Meaning
 key_with code h = Key (record { code = code; modifiers = h.modifiers; kind = h.kind; state = h.state })
 
--- What is read of a numbered sequence, from its first digit to before its final byte.
-pub record Readings : Type 0 where
-  pub first : Option ℕ
-  pub second : Option ℕ
-  pub third : Option ℕ
-  pub code : Option ℕ
-  pub alternate : Option ℕ
-  pub mask : Option ℕ
-  pub kind : Option ℕ
-  pub last : ℕ
-  pub utf8 : Bool
-
 abbrev pub last_of : List ℕ → ℕ
 last_of [] = 0
 last_of (b ∷ []) = b
 last_of (b ∷ c ∷ bs) = last_of (c ∷ bs)
 
--- The first three fields; the two parts of the first, a code point and its alternate; the two parts of the second, the mask and the kind; the last byte; whether it is UTF-8.
+-- What is read of a numbered sequence, from its first digit to before its final byte: the first three fields; the two parts of the first, a code point and its alternate; the two parts of the second, the mask and the kind; the last byte; whether it is UTF-8.
 abbrev pub readings_of : List ℕ → Readings
 readings_of text = record {
   first = field_number 0 text;

@@ -47,7 +47,7 @@
 //! | `Functional` | 113 | kitty's functional keys | `functional.rt` |
 //! | `Bits` | 7 | bits of a mask | |
 //! | `Mouse` | 65 | what the mouse did | `mouse.rt` |
-//! | `Numbered` | 138 | what a numbered sequence means | `numbered.rt` |
+//! | `Numbered` | 127 | what a numbered sequence means | `readings.rt` |
 //! | `Meaning` | 149 | what any whole sequence means | `meaning.rt` |
 //! | `View` | 96 | a parser as its callers see it, and what it makes of a piece | `Parser::advance`; `laws::{cuttings, two_steps_a_byte, a_step_a_byte}` |
 //! | `Giving` | 27 | its events, one after another | `Parser::{next, events}` |
@@ -67,8 +67,11 @@ mod modifier_field;
 pub mod mouse;
 pub mod number;
 pub mod numbered;
+pub mod outlet;
 pub mod parse;
 pub mod paste;
+mod plain;
+pub mod readings;
 pub mod state;
 pub mod steps;
 mod uppercase;

@@ -10,7 +10,7 @@ ghost use Rattle.crossterm_parse.specs.Meaning.{pressed_with, typed, single, dec
 
 use crate::letters::letter_key;
 use crate::mouse::{byte_less, report};
-use crate::number::Number;
+use crate::number::{Number, byte_of};
 use crate::uppercase::is_uppercase;
 use bstr::decode_utf8;
 use crossterm_types::event::{
@@ -216,7 +216,7 @@ pub fn meaning_of_linux_key(byte: u8) -> Option<Meaning>
 pub fn meaning_of_flags(number: Number) -> Option<Meaning>
     ensures { result ≡ flags_reply (reading number) }
 {
-    match number.byte() {
+    match byte_of(number.value()) {
         Some(bits) => Some(Meaning::KeyboardEnhancementFlags(
             KeyboardEnhancementFlags::from_bits_retain(bits & 31),
         )),

@@ -95,24 +95,15 @@ impl Number {
             _ => None,
         }
     }
+}
 
-    /// The number, if it is one of 8 bits.
-    pub fn byte(self) -> Option<u8>
-        ensures { result ≡ at_most 255 (reading self) }
-    {
-        match self {
-            Number::Value(value) if value <= 255 => Some(value as u8),
-            _ => None,
-        }
-    }
-
-    /// The number, if it is one of 16 bits.
-    pub fn short(self) -> Option<u16>
-        ensures { result ≡ at_most 65535 (reading self) }
-    {
-        match self {
-            Number::Value(value) if value <= 65535 => Some(value as u16),
-            _ => None,
-        }
+/// The number, if it is one of 8 bits.
+#[inline(always)]
+pub fn byte_of(number: Option<u32>) -> Option<u8>
+    ensures { result ≡ at_most 255 number }
+{
+    match number {
+        Some(value) if value <= 255 => Some(value as u8),
+        _ => None,
     }
 }

@@ -24,6 +24,8 @@ use bstr::decode_utf8;
 use crossterm_types::event::KeyCode;
 use std::sync::ledger::Ledger;
 
+mod taking;
+
 /// What came of a sequence so far.
 #[derive(Clone, Copy)]
 pub enum State {
@@ -51,17 +53,6 @@ pub enum State {
     Paste(Met),
     /// A character in UTF-8, with an escape before it or none.
     Utf8(Character),
-}
-
-/// What came of one more byte.
-#[derive(Clone, Copy)]
-pub enum Progress {
-    /// The sequence goes on.
-    Open,
-    /// The sequence is whole with the byte.
-    Whole,
-    /// The paste is over with the byte.
-    Closed,
 }
 
 // So many bytes of a sequence are read one by one before digits that change nothing are looked for: most sequences are shorter.
@@ -231,7 +222,7 @@ impl State {
         matches!(self, State::Paste(_))
     }
 
-    /// Goes to the ground state, if the sequence is whole and its event is kept.
+    /// Goes to the ground state.
     #[inline(always)]
     pub fn end(&mut self)
         ensures { self.new ≡ State.Ground }
@@ -239,29 +230,21 @@ impl State {
         *self = State::Ground;
     }
 
-    /// Takes one more byte. If the sequence goes on, the state has changed; if it ends, it hasn't yet.
+    /// Takes one more byte of an open paste, and returns whether the paste goes on. With the last byte the state has not changed, nor if no
+    /// paste is open.
     #[inline(always)]
-    pub fn put<L: Ledger>(&mut self, byte: u8, pause: bool, steps: &mut Steps<L>) -> Progress
-        ensures open { result ≡ Progress.Open → (raw : Bool) → state_after self.old byte raw pause ≡ Open self.new }
-        ensures whole { result ≡ Progress.Whole → (raw : Bool) → state_after self.old byte raw pause ≡ Whole (meaning_with self.old byte raw) }
-        ensures outside { result ≡ Progress.Whole → is_paste self.old ≡ false }
-        ensures closed { result ≡ Progress.Closed → (raw : Bool) → state_after self.old byte raw pause ≡ Closed }
-        ensures same { result ≢ Progress.Open → self.new ≡ self.old }
-        ensures paste { result ≡ Progress.Closed → is_paste self.old ≡ true }
+    pub fn put_in_paste<L: Ledger>(&mut self, byte: u8, steps: &mut Steps<L>) -> bool
+        ensures yes { IsTrue result → (raw pause : Bool) → state_after self.old byte raw pause ≡ Open self.new }
+        ensures no { IsFalse result → is_paste self.old ≡ true → (raw pause : Bool) → state_after self.old byte raw pause ≡ Closed }
+        ensures open { IsTrue result → is_paste self.old ≡ true }
+        ensures same { IsFalse result → self.new ≡ self.old }
+        ensures pasting { is_paste self.new ≡ is_paste self.old }
         ensures steps { steps.new ≡ steps.old + 1 }
     {
         steps.count(1);
-        if let State::Paste(met) = self {
-            return if met.put(byte) {
-                Progress::Open
-            } else {
-                Progress::Closed
-            };
-        }
-        if self.goes_on(byte, pause) {
-            Progress::Open
-        } else {
-            Progress::Whole
+        match self {
+            State::Paste(met) => met.put(byte),
+            _ => false,
         }
     }
 
@@ -384,6 +367,7 @@ impl State {
     }
 
     /// What the sequence means that is whole with the byte.
+    #[inline(always)]
     pub fn meaning(&self, byte: u8, raw: bool) -> Option<Meaning>
         ensures { result ≡ meaning_with self.now byte raw }
     {
@@ -414,7 +398,7 @@ impl State {
 
     /// Puts the printable letters in front into the ground state, and returns how many. Each is whole by itself.
     #[inline(always)]
-    pub fn put_letters<L: Ledger>(&self, bytes: &[u8], steps: &mut Steps<L>) -> usize
+    fn put_letters<L: Ledger>(&self, bytes: &[u8], steps: &mut Steps<L>) -> usize
         requires { self.now ≡ State.Ground }
         ensures within { result ≤ length bytes.now }
         ensures letters { AllByRecursion IsLetter (take result bytes.now) }
@@ -429,11 +413,7 @@ impl State {
     ///
     /// If there is none of two bytes or more, nothing is put.
     #[inline(always)]
-    pub fn put_character<L: Ledger>(
-        &self,
-        bytes: &[u8],
-        steps: &mut Steps<L>,
-    ) -> Option<(char, usize)>
+    fn put_character<L: Ledger>(&self, bytes: &[u8], steps: &mut Steps<L>) -> Option<(char, usize)>
         requires { self.now ≡ State.Ground }
         ensures character { IfSome result (λ it. IsCharacterOf bytes.now it.0 it.1) }
         ensures some { IfSome result (λ it. steps.new ≡ steps.old + it.1) }
@@ -474,7 +454,7 @@ impl State {
     /// Puts the front of a sequence after ESC into the ground state, with the numbers that it has, and returns how many bytes: none if no
     /// such sequence is in front, or fewer than three bytes.
     #[inline(always)]
-    pub fn open<L: Ledger>(&mut self, bytes: &[u8], steps: &mut Steps<L>) -> usize
+    fn open<L: Ledger>(&mut self, bytes: &[u8], steps: &mut Steps<L>) -> usize
         requires { self.old ≡ State.Ground }
         ensures within { result ≤ length bytes.now }
         ensures none { result ≡ 0 → self.new ≡ State.Ground }
@@ -494,7 +474,7 @@ impl State {
 
     /// Puts the bytes in front with which the numbers of a sequence go on, and returns how many.
     #[inline(never)]
-    pub fn put_numbers<L: Ledger>(&mut self, bytes: &[u8], steps: &mut Steps<L>) -> usize
+    fn put_numbers<L: Ledger>(&mut self, bytes: &[u8], steps: &mut Steps<L>) -> usize
         ensures within { result ≤ length bytes.now }
         ensures opens { Opens self.old self.new (take result bytes.now) }
         ensures steps { steps.new ≡ steps.old + result }

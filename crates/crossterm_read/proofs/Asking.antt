@@ -21,6 +21,7 @@ use Rattle.crossterm_read.specs.Steps.{Patience, Allows, IsSpent, first_admitted
 use Rattle.crossterm_read.specs.inside.Asking.{Asked, DrawsOne, held_with}
 use Rattle.crossterm_read.specs.inside.Replies.{try_reply}
 use Rattle.crossterm_read.specs.Replies.{ToPoll, poll_reply}
+use Rattle.crossterm_types.proofs.Lists.{all_append, all_push}
 
 pub arrived-append : (n : ℕ) (xs ys : List SourceAnswer) → arrived n (xs ++ ys) ≡ arrived n xs ++ arrived (numbered_after n xs) ys
 arrived-append n [] ys = refl
@@ -44,10 +45,6 @@ arrives_more s m t xs ys a b = record {
   arrivals = b.arrivals ∙ ap (λ (k : ℕ). numbered_after k ys) a.arrivals ∙ sym (numbered_after-append s.arrivals xs ys);
 }
 
-pub all_push : {Y : Type 0} (P : Y → Type 0) (ys : List Y) (y : Y) → AllByRecursion P ys → P y → AllByRecursion P (ys ++ y ∷ [])
-all_push P [] y a h = (h, tt)
-all_push P (x ∷ ys) y a h = (a.0, all_push P ys y a.1 h)
-
 pub asks_none : (P : Option Duration → Type 0) (l : List (Option Duration)) → AsksEach P l l
 asks_none P l = ([], sym (append-nil l), tt)
 
@@ -58,10 +55,6 @@ asks_more P l m k limit a h (inr e) = (
   e ∙ ap (λ (x : List (Option Duration)). x ++ limit ∷ []) a.1 ∙ append_assoc l a.0 (limit ∷ []),
   all_push P a.0 limit a.2 h,
 )
-
-pub all_append : {Y : Type 0} (P : Y → Type 0) (xs ys : List Y) → AllByRecursion P xs → AllByRecursion P ys → AllByRecursion P (xs ++ ys)
-all_append P [] ys a b = b
-all_append P (x ∷ xs) ys a b = (a.0, all_append P xs ys a.1 b)
 
 pub asks_both : (P : Option Duration → Type 0) (l m k : List (Option Duration)) → AsksEach P l m → AsksEach P m k → AsksEach P l k
 asks_both P l m k a b = (a.0 ++ b.0, b.1 ∙ ap (λ (x : List (Option Duration)). x ++ b.0) a.1 ∙ append_assoc l a.0 b.0, all_append P a.0 b.0 a.2 b.2)

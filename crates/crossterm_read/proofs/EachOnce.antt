@@ -1,6 +1,6 @@
 -- In a legal history each event is taken once or held.
 use Rattle.std.proofs.Common.{◌≡◌, ◌≢◌, ℕ, ◌<◌, ◌==◌, Bool, false, List, [], ◌∷◌, ◌++◌, subst, arith}
-use Rattle.std.specs.List.{AllByRecursion, IsDistinct}
+use Rattle.std.specs.List.{IsDistinct}
 use Rattle.std.specs.List.Sorted.{IsPermutation}
 use Rattle.std.proofs.lemmas.Bool.{eqb-false}
 use Rattle.std.proofs.lemmas.Map.Keys.{IsDistinct-IsPermutation}
@@ -12,7 +12,7 @@ use Rattle.crossterm_read.specs.inside.Numbers.{Rise, IsOrderly}
 use Rattle.crossterm_read.proofs.Histories.{history_account}
 use Rattle.crossterm_read.proofs.Rising.{orderly_arrived}
 use Rattle.crossterm_read.proofs.Takes.{rise}
-use Rattle.crossterm_read.proofs.Waiting.{all_map}
+use Rattle.crossterm_types.proofs.Lists.{all_front, all_map}
 
 abbrev same_number : Seen × ℕ → Seen × ℕ → Bool
 same_number x y = x.1 == y.1
@@ -22,10 +22,6 @@ rise_distinct : (xs : List (Seen × ℕ)) → Rise xs → IsDistinct same_number
 unfolding IsDistinct
 rise_distinct [] r = tt
 rise_distinct (x ∷ xs) r = (all_map (λ y. x.1 < y.1) (λ y. same_number x y ≡ false) xs (λ y l. grind (arith)) r.0, rise_distinct xs r.1)
-
-all_front : {Y : Type 0} (P : Y → Type 0) (xs ys : List Y) → AllByRecursion P (xs ++ ys) → AllByRecursion P xs
-all_front P [] ys a = tt
-all_front P (x ∷ xs) ys a = (a.0, all_front P xs ys a.1)
 
 distinct_front : (xs ys : List (Seen × ℕ)) → IsDistinct same_number (xs ++ ys) → Differ xs
 unfolding IsDistinct

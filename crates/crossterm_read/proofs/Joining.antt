@@ -19,7 +19,7 @@ use Rattle.crossterm_read.specs.declared.read.held.kind.Place.{Place}
 use Rattle.crossterm_read.specs.declared.read.held.kind.Places.{Places}
 use Rattle.crossterm_read.specs.declared.read.held.queues.Front.{Front}
 use Rattle.crossterm_read.specs.declared.read.held.queues.Member.{Member}
-use Rattle.crossterm_read.proofs.Asking.{all_append, all_push}
+use Rattle.crossterm_types.proofs.Lists.{all_append, all_map, all_push}
 
 -- What holds of the four kinds holds of each.
 pub each_kind : (P : Kind → Type 0) → P Event → P Cursor → P Flags → P Attributes → (kind : Kind) → P kind
@@ -90,10 +90,6 @@ all_filter P p (x ∷ xs) a = all_cond P (x ∷ filter p xs) (filter p xs) (p x)
 pub all_without : {X : Type 0} (P : X → Type 0) (xs ys : List X) (y : X) → AllByRecursion P (xs ++ y ∷ ys) → AllByRecursion P (xs ++ ys)
 all_without P [] ys y a = a.1
 all_without P (x ∷ xs) ys y a = (a.0, all_without P xs ys y a.1)
-
-pub all_also : {X : Type 0} (P Q : X → Type 0) (xs : List X) → ((x : X) → P x → Q x) → AllByRecursion P xs → AllByRecursion Q xs
-all_also P Q [] h a = tt
-all_also P Q (x ∷ xs) h a = (h x a.0, all_also P Q xs h a.1)
 
 pub remove_here : {X : Type 0} (xs ys : List X) (x : X) → remove (xs ++ x ∷ ys) (length xs) ≡ xs ++ ys
 remove_here [] ys x = refl
@@ -314,10 +310,10 @@ module _ {A : Type 0} where
 
   module _ (q : Kind → List (Member A)) (wanted : Kind → Bool) (ks js : List Kind) where
     none_is_later : (n : ℕ) (is : List Kind) → AllByRecursion (λ k. wanted k ≡ true → q k ≡ []) is → AllByRecursion (λ k. wanted k ≡ true → NotBefore n (q k)) is
-    none_is_later n is a = all_also (λ k. wanted k ≡ true → q k ≡ []) (λ k. wanted k ≡ true → NotBefore n (q k)) is (λ k h w. not_before_none n (q k) (h w)) a
+    none_is_later n is a = all_map (λ k. wanted k ≡ true → q k ≡ []) (λ k. wanted k ≡ true → NotBefore n (q k)) is (λ k h w. not_before_none n (q k) (h w)) a
 
     later_is_later : (n m : ℕ) (is : List Kind) → n ≤ m → AllByRecursion (λ k. wanted k ≡ true → NotBefore m (q k)) is → AllByRecursion (λ k. wanted k ≡ true → NotBefore n (q k)) is
-    later_is_later n m is l a = all_also (λ k. wanted k ≡ true → NotBefore m (q k)) (λ k. wanted k ≡ true → NotBefore n (q k)) is (λ k h w. not_before_less n m (q k) l (h w)) a
+    later_is_later n m is l a = all_map (λ k. wanted k ≡ true → NotBefore m (q k)) (λ k. wanted k ≡ true → NotBefore n (q k)) is (λ k h w. not_before_less n m (q k) l (h w)) a
 
     chosen : (f g : Front A) (b : Bool) → nat_lt g.member.now.order f.member.now.order ≡ b → IsEarliest q wanted ks (Some f) → IsEarliest q wanted js (Some g) → IsEarliest q wanted (ks ++ js) (cond b (Some g) (Some f))
     chosen f g true t x y =
@@ -470,14 +466,14 @@ module _ {A : Type 0} where
           member = f.member.now;
           after = first.after;
           order = first.order;
-          first = all_also (λ m. wanted (kind_of m.event) ≡ false) (λ m. passes m ≡ false) first.before (λ m h. delivers m ∙ h) first.first;
+          first = all_map (λ m. wanted (kind_of m.event) ≡ false) (λ m. passes m ≡ false) first.before (λ m h. delivers m ∙ h) first.first;
           admitted = delivers f.member.now ∙ ap wanted (sym first.kind_is) ∙ e.0;
           kind = kind ∙ first.kind_is;
           at = zero_is ∙ sym (ap (λ (k : Kind). length (of_kind k first.before)) kind ∙ ap length first.none);
         }
 
     pub no_front : IsEarliest (behind q at) wanted all_kinds None → AllByRecursion (λ m. passes m ≡ false) (joined q)
-    no_front e = all_also (λ m. wanted (kind_of m.event) ≡ false) (λ m. passes m ≡ false) (joined q) (λ m h. delivers m ∙ h) (none_found wanted (joined q) (behind q at) at_fronts e)
+    no_front e = all_map (λ m. wanted (kind_of m.event) ≡ false) (λ m. passes m ≡ false) (joined q) (λ m h. delivers m ∙ h) (none_found wanted (joined q) (behind q at) at_fronts e)
 
   -- Members numbered anew.
   ascends_anew : (n : ℕ) (ms : List (Member A)) → Ascends (numbered_anew n ms)

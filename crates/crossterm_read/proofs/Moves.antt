@@ -1,8 +1,9 @@
 -- Each step keeps the rule of the slot.
-use Rattle.std.proofs.Common.{◌≡◌, ◌≢◌, ◌⊎◌, ℕ, zero, suc, ◌+◌, ◌^◌, ◌<◌, ◌≤◌, List, [], ◌∷◌, ◌++◌, length, set, Some, Bool, true, false, refl, sym, ap, ◌∙◌, subst, inl, inr, ⊎_elim, arith, append-nil, length-append}
+use Rattle.std.proofs.Common.{◌≡◌, ◌≢◌, ◌⊎◌, ℕ, zero, suc, ◌+◌, ◌^◌, ◌<◌, ◌≤◌, List, [], ◌∷◌, ◌++◌, length, set, Some, true, false, refl, sym, ap, ◌∙◌, subst, inl, inr, ⊎_elim, arith, append-nil, length-append}
 use mathlib.Core.Option.{some, some-ne-none}
 use lib.ListN.{get_elem?, length-set}
 use Rattle.std.specs.Prelude.{⊤}
+use Rattle.std.proofs.lemmas.Bool.{false_from_ne_true}
 use Rattle.crossbeam_queue.specs.Fifo.{Pushes, Pops, Forks, Learns, Merges}
 use Rattle.crossbeam_queue.proofs.Lists.{at_set, set_here, set_else, set_again, at_longer}
 use Rattle.crossterm_read.specs.Answers.{SourceAnswer}
@@ -11,7 +12,7 @@ use Rattle.crossterm_read.specs.History.{Entry, Known, Meeting, StartsWith, Runs
 use Rattle.crossterm_read.specs.inside.Numbers.{IsOrderly}
 use Rattle.crossterm_read.specs.inside.Slot.{newcomer, first_of, one_less, one_more, longer, taught, Fits, Nobody, Holder, Open, Kept, Taken, Produces, Put, Learnt}
 use Rattle.crossterm_read.proofs.Histories.{runs_front, runs_snoc}
-use Rattle.crossterm_read.proofs.Seating.{off, some_of, none_not, calls_by-append, calls_by-mine, calls_by-other, below, at_end, some_at, are_snoc, are_more, are_front, none_past, none_more, same_or_not, starts_on, first_there, longer_starts, longer_ours, longer_theirs, longer_whole, longer_calls}
+use Rattle.crossterm_read.proofs.Seating.{head_same, tail_same, off, some_of, none_not, calls_by-append, calls_by-mine, calls_by-other, below, at_end, some_at, are_snoc, are_more, are_front, none_past, none_more, same_or_not, starts_on, first_there, longer_starts, longer_ours, longer_theirs, longer_whole, longer_calls}
 
 module _ {S : Type 0} (drawn : S → List SourceAnswer → S → Type 0) where
   abbrev All : (ℕ → Known S → Type 0) → List (Known S) → Type 0
@@ -109,7 +110,7 @@ module _ {S : Type 0} (drawn : S → List SourceAnswer → S → Type 0) where
       let there : get_elem? (set views by w) by ≡ some w = set_here views by w (below views by v at) in
       let full : (x ∷ items ≡ h.now ∷ []) × Nobody drawn views = ⊎_elim (λ p. p) (λ (p : (x ∷ items ≡ []) × Holder drawn views). absurd (cons_not p.0)) h.place in
       let least = within (x ∷ items) views by v at h in
-      let ran : Runs drawn h.opening (v.seen ++ between) x = subst (λ (t : ReaderState S). Runs drawn h.opening (v.seen ++ between) t) (sym (head_of full.0)) (subst (λ l. Runs drawn h.opening l h.now) log h.runs) in (
+      let ran : Runs drawn h.opening (v.seen ++ between) x = subst (λ (t : ReaderState S). Runs drawn h.opening (v.seen ++ between) t) (sym (head_same full.0)) (subst (λ l. Runs drawn h.opening l h.now) log h.runs) in (
         w,
         inr record {
           opening = h.opening;
@@ -121,7 +122,7 @@ module _ {S : Type 0} (drawn : S → List SourceAnswer → S → Type 0) where
           runs = h.runs;
           whole = (by, w, there, sym log);
           place = inr (
-            tail_of full.0,
+            tail_same full.0,
             record {
               by = by;
               v = w;
@@ -161,15 +162,6 @@ module _ {S : Type 0} (drawn : S → List SourceAnswer → S → Type 0) where
       cons_not : {A : Type 0} {y : A} {ys : List A} → y ∷ ys ≡ [] → ⊥
       cons_not e = absurd (cc)
 
-      tail_of : {A : Type 0} {y z : A} {ys zs : List A} → y ∷ ys ≡ z ∷ zs → ys ≡ zs
-      tail_of e = cc
-
-      head_of : {A : Type 0} {y z : A} {ys zs : List A} → y ∷ ys ≡ z ∷ zs → y ≡ z
-      head_of e = cc
-
-  not_has_of : (b : Bool) → (b ≡ true → ⊥) → b ≡ false
-  not_has_of true n = absurd (n refl)
-  not_has_of false n = refl
 
   -- Who has the reader puts it back, after one call from where it was taken.
   puts_it : (n by : ℕ) (v : Known S) (x : ReaderState S) (made : ReaderState S → Entry → ReaderState S → Type 0) → Produces drawn made v x → Pushes (Kept drawn) n by v x (λ w. Put drawn made v x w)
@@ -202,7 +194,7 @@ module _ {S : Type 0} (drawn : S → List SourceAnswer → S → Type 0) where
           whole = (by, w, there, refl);
           place = inl (
             ap (λ (l : List (ReaderState S)). l ++ x ∷ []) out.0,
-            all_set (λ j u. u.has ≡ false) views by w refl (λ j u apart at'. not_has_of u.has (λ q. apart (out.1.alone j u at' q ∙ sym holder))),
+            all_set (λ j u. u.has ≡ false) views by w refl (λ j u apart at'. false_from_ne_true u.has (λ q. apart (out.1.alone j u at' q ∙ sym holder))),
           );
           each = all_set (Fits drawn h.opening h.passes log) views by w
               record {

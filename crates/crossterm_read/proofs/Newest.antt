@@ -11,9 +11,10 @@ use Rattle.crossterm_read.specs.Store.{Arrives, EventStore, ReaderState, arrived
 use Rattle.crossterm_read.specs.declared.read.reader.AtWake.{AtWake}
 use Rattle.crossterm_read.specs.declared.read.reader.Once.TheVariants as once
 use Rattle.crossterm_read.specs.inside.Asking.{Asked, DrawsOne, held_with}
-use Rattle.crossterm_read.proofs.Asking.{Asking, all_append, arrives_more, one_more, steady_more}
+use Rattle.crossterm_read.proofs.Asking.{Asking, arrives_more, one_more, steady_more}
 use Rattle.crossterm_read.proofs.Joining.{get_here, remove_here}
 use Rattle.crossterm_read.proofs.Storing.{position_nowhere, position_there}
+use Rattle.crossterm_types.proofs.Lists.{all_append}
 
 some_not : {n : ℕ} → Some n ≡ None → ⊥
 some_not e = absurd (cc)

@@ -7,7 +7,7 @@ use Rattle.crossterm_read.specs.inside.Asking.{held_with}
 use Rattle.crossterm_read.specs.inside.Numbers.{Rise, IsOrderly}
 use Rattle.crossterm_read.specs.Answers.{Gave}
 use Rattle.crossterm_read.specs.Steps.{TakeReplies}
-use Rattle.crossterm_read.proofs.Asking.{all_push}
+use Rattle.crossterm_types.proofs.Lists.{all_push}
 
 -- The number before a low one is low, and one less.
 pub low_next : (n : ℕ) → IsLow (next_number n) → (next_number n ≡ n + 1) × IsLow n

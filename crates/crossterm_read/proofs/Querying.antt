@@ -61,6 +61,9 @@ query_admitted f (Fault kind) s t x h = absurd (no_take x kind h.1)
     no_take : (x : Seen × ℕ) (kind : ErrorKind) → ToTake (Some x) ≡ Fault kind → ⊥
     no_take x kind e = cc
 
+pub fault_of : (k l : ErrorKind) → Fault k ≡ Fault l → k ≡ l
+fault_of k l e = cc
+
 -- What holds of a poll's fault, and of Other, holds of the query's.
 pub query_fault : {X : Type 0} (P : ErrorKind → Type 0) → P Other → (r : Result Bool Error) → IfErr r (λ e. P (error_kind e)) → (q : Result X Error) → IfErr q (λ e. (error_kind e ≡ Other) ⊎ (poll_reply r ≡ Fault (error_kind e))) → IfErr q (λ e. P (error_kind e))
 query_fault P o r h (Ok x) f = tt
@@ -70,9 +73,6 @@ query_fault P o (Ok b) h (Err e) (inr k) = absurd (poll_not b (error_kind e) k)
     poll_not : (b : Bool) (kind : ErrorKind) → ToPoll b ≡ Fault kind → ⊥
     poll_not b kind e = cc
 query_fault P o (Err x) h (Err e) (inr k) = subst P (fault_of (error_kind x) (error_kind e) k) h
-  where
-    fault_of : (k l : ErrorKind) → Fault k ≡ Fault l → k ≡ l
-    fault_of k l e = cc
 
 pub fault_weaker : {X : Type 0} (P Q : ErrorKind → Type 0) (r : Result X Error) → ((kind : ErrorKind) → P kind → Q kind) → IfErr r (λ e. P (error_kind e)) → IfErr r (λ e. Q (error_kind e))
 fault_weaker P Q (Ok x) f h = tt

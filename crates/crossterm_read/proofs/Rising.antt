@@ -11,9 +11,9 @@ use Rattle.crossterm_read.specs.History.{RiseByFilter}
 use Rattle.crossterm_read.specs.Store.{IsLow, EventStore, Arrives, arrived, numbered_after, next_number}
 use Rattle.crossterm_read.specs.inside.Numbers.{Rise, IsOrderly}
 use Rattle.crossterm_read.specs.Steps.{TakeReplies}
-use Rattle.crossterm_read.proofs.Asking.{all_push, arrives_none, arrives_more}
+use Rattle.crossterm_read.proofs.Asking.{arrives_none, arrives_more}
 use Rattle.crossterm_read.proofs.Numbers.{low_next, all_remove, orderly_more, orderly_takes}
-use Rattle.crossterm_read.proofs.Waiting.{all_map}
+use Rattle.crossterm_types.proofs.Lists.{all_map, all_push}
 
 -- What one arrival keeps any arrivals keep.
 arrived_keeps : (P : List (Seen × ℕ) → ℕ → Type 0) → ((held : List (Seen × ℕ)) (n : ℕ) (x : Seen) → P held n → P (held ++ (x, n) ∷ []) (next_number n))

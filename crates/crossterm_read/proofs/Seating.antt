@@ -1,5 +1,6 @@
 -- Lists of calls and of passes.
-use Rattle.std.proofs.Common.{◌≡◌, ◌≢◌, ◌⊎◌, ℕ, zero, suc, ◌==◌, ◌<◌, ◌≤◌, nat_lt, eq-eqb, ne_eqb, lt-ltb, ltb-true, ltb-false, cond, ◌&&◌, List, [], ◌∷◌, ◌++◌, length, Some, None, Bool, true, false, true≢false, refl, sym, ap, ◌∙◌, subst, inl, inr, ⊎_elim, arith, append_assoc, append-nil, length-append}
+use Rattle.std.proofs.Common.{◌≡◌, ◌≢◌, ◌⊎◌, ℕ, zero, suc, ◌==◌, ◌<◌, ◌≤◌, nat_lt, eq-eqb, ne_eqb, lt-ltb, ltb-true, ltb-false, cond, List, [], ◌∷◌, ◌++◌, length, Some, None, Bool, true, false, true≢false, refl, sym, ap, ◌∙◌, subst, inl, inr, ⊎_elim, arith, append_assoc, append-nil, length-append}
+use Rattle.std.proofs.lemmas.Bool.{and_from, and_parts}
 use mathlib.Core.Option.{some, some-ne-none}
 use lib.ListN.{get_elem?}
 use Rattle.crossterm_read.specs.History.{Entry, StartsWith, are_of, calls_by}
@@ -49,33 +50,26 @@ same_or_not zero (suc b) = inr (λ q. absurd (omega arith))
 same_or_not (suc a) zero = inr (λ q. absurd (omega arith))
 same_or_not (suc a) (suc b) = ⊎_elim (λ (q : a ≡ b). inl (ap suc q)) (λ (q : a ≢ b). inr (λ r. q (omega arith))) (same_or_not a b)
 
-pub and_both : (a b : Bool) → (a && b) ≡ true → (a ≡ true) × (b ≡ true)
-and_both true b e = (refl, e)
-and_both false b e = absurd (off e)
-
-and_of : (a b : Bool) → a ≡ true → b ≡ true → (a && b) ≡ true
-and_of a b p q = ap (λ x. x && b) p ∙ q
-
 pub are_front : (n : ℕ) (xs ys : List Entry) → are_of n (xs ++ ys) ≡ true → are_of n xs ≡ true
 are_front n [] ys h = refl
-are_front n (x ∷ xs) ys h = let p = and_both (nat_lt x.by n) (are_of n (xs ++ ys)) h in and_of (nat_lt x.by n) (are_of n xs) p.0 (are_front n xs ys p.1)
+are_front n (x ∷ xs) ys h = let p = and_parts (nat_lt x.by n) (are_of n (xs ++ ys)) h in and_from (nat_lt x.by n) (are_of n xs) p.0 (are_front n xs ys p.1)
 
 pub are_snoc : (n : ℕ) (log : List Entry) (e : Entry) → are_of n log ≡ true → e.by < n → are_of n (log ++ e ∷ []) ≡ true
-are_snoc n [] e h less = and_of (nat_lt e.by n) true (lt-ltb e.by n less) refl
-are_snoc n (x ∷ xs) e h less = let p = and_both (nat_lt x.by n) (are_of n xs) h in and_of (nat_lt x.by n) (are_of n (xs ++ e ∷ [])) p.0 (are_snoc n xs e p.1 less)
+are_snoc n [] e h less = and_from (nat_lt e.by n) true (lt-ltb e.by n less) refl
+are_snoc n (x ∷ xs) e h less = let p = and_parts (nat_lt x.by n) (are_of n xs) h in and_from (nat_lt x.by n) (are_of n (xs ++ e ∷ [])) p.0 (are_snoc n xs e p.1 less)
 
 pub are_more : (n m : ℕ) (log : List Entry) → n ≤ m → are_of n log ≡ true → are_of m log ≡ true
 are_more n m [] le h = refl
 are_more n m (x ∷ xs) le h =
-    let p = and_both (nat_lt x.by n) (are_of n xs) h in
+    let p = and_parts (nat_lt x.by n) (are_of n xs) h in
     let less = ltb-true x.by n p.0 in
-    and_of (nat_lt x.by m) (are_of m xs) (lt-ltb x.by m (omega arith)) (are_more n m xs le p.1)
+    and_from (nat_lt x.by m) (are_of m xs) (lt-ltb x.by m (omega arith)) (are_more n m xs le p.1)
 
 -- None of these calls is a later pass's.
 pub none_past : (n by : ℕ) (log : List Entry) → are_of n log ≡ true → n ≤ by → calls_by by log ≡ []
 none_past n by [] h le = refl
 none_past n by (x ∷ xs) h le =
-    let p = and_both (nat_lt x.by n) (are_of n xs) h in
+    let p = and_parts (nat_lt x.by n) (are_of n xs) h in
     let less = ltb-true x.by n p.0 in
     ap (λ b. cond b (x ∷ calls_by by xs) (calls_by by xs)) (ne_eqb x.by by (λ q. absurd (omega arith))) ∙ none_past n by xs p.1 le
 
@@ -89,10 +83,10 @@ none_more xs ys e = nil_of ys (let h = ap length e in let k = length-append xs y
 pub starts_on : (xs ys zs : List Entry) → StartsWith xs zs → StartsWith (xs ++ ys) zs
 starts_on xs ys zs p = (p.0 ++ ys, ap (λ l. l ++ ys) p.1 ∙ append_assoc zs p.0 ys)
 
-tail_same : {A : Type 0} {x y : A} {xs ys : List A} → x ∷ xs ≡ y ∷ ys → xs ≡ ys
+pub tail_same : {A : Type 0} {x y : A} {xs ys : List A} → x ∷ xs ≡ y ∷ ys → xs ≡ ys
 tail_same e = cc
 
-head_same : {A : Type 0} {x y : A} {xs ys : List A} → x ∷ xs ≡ y ∷ ys → x ≡ y
+pub head_same : {A : Type 0} {x y : A} {xs ys : List A} → x ∷ xs ≡ y ∷ ys → x ≡ y
 head_same e = cc
 
 -- Of two beginnings of one list the longer one begins with the shorter one.

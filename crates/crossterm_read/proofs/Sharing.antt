@@ -18,6 +18,7 @@ use Rattle.std.specs.declared.io.ErrorKind.{ErrorKind}
 use Rattle.crossterm_read.specs.inside.Slot.{Taken, Put, Produces, Learnt, first_of, one_more, taught}
 use Rattle.crossterm_read.proofs.EachOnce.{each_once}
 use Rattle.crossterm_read.proofs.Histories.{runs_room, runs_snoc, not_fewer}
+use Rattle.crossterm_read.proofs.Querying.{fault_of}
 use Rattle.crossterm_read.proofs.Seating.{off, some_of, calls_by-append, calls_by-mine, are_snoc}
 
 -- What stands there.
@@ -203,9 +204,6 @@ last_after drawn made r v u w x y last t p is before =
     ∙ ap (λ k. last_from None k.mine) (sym p.1)
 
 -- What holds of a fault holds of it in the reply.
-fault_of : (k l : ErrorKind) → Fault k ≡ Fault l → k ≡ l
-fault_of k l e = cc
-
 pub poll_memory : (r : Result Bool Error) (P : ErrorKind → Type 0) → IfErr r (λ e. P (error_kind e)) → (kind : ErrorKind) → poll_reply r ≡ Fault kind → P kind
 poll_memory (Ok b) P h kind e = absurd (poll_not e)
   where

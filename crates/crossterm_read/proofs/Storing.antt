@@ -14,9 +14,9 @@ use Rattle.crossterm_read.specs.declared.read.held.kind.Kind.{Kind}
 use Rattle.crossterm_read.specs.declared.read.held.kind.Place.{Place}
 use Rattle.crossterm_read.specs.declared.read.held.queues.Member.{Member}
 use Rattle.crossterm_read.specs.declared.read.held.queues.Queues.{Queues}
-use Rattle.crossterm_read.proofs.Asking.{all_push}
-use Rattle.crossterm_read.proofs.Joining.{all_also, all_without, are_joined, each_kind, fronts, get_here, joined_is, joined_same, joins_same, remove_here}
+use Rattle.crossterm_read.proofs.Joining.{all_without, are_joined, each_kind, fronts, get_here, joined_is, joined_same, joins_same, remove_here}
 use Rattle.crossterm_read.proofs.Mapped.{get_map, position_map, remove_map}
+use Rattle.crossterm_types.proofs.Lists.{all_map, all_push}
 
 -- The place of the first that passes.
 prefix_there : {X : Type 0} (p : X → Bool) (xs ys : List X) (y : X) → AllByRecursion (λ x. p x ≡ false) xs → p y ≡ true → position_or_len p (xs ++ y ∷ ys) ≡ length xs
@@ -111,7 +111,7 @@ module _ {A : Type 0} where
       record {
         joins = are_joined (joined (queue_of q) ++ m ∷ []) (queue_of p) o;
         below = subst (λ l. AllByRecursion (λ x. x.order < m.order + 1) l) (sym list)
-            (all_push (λ x. x.order < m.order + 1) (joined (queue_of q)) m (all_also (λ x. x.order < m.order) (λ x. x.order < m.order + 1) (joined (queue_of q)) (λ x h. omega arith) b) (omega arith));
+            (all_push (λ x. x.order < m.order + 1) (joined (queue_of q)) m (all_map (λ x. x.order < m.order) (λ x. x.order < m.order + 1) (joined (queue_of q)) (λ x h. omega arith) b) (omega arith));
         count = omega arith;
         fits = omega arith;
         room = r;

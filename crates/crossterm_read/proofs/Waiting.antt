@@ -1,5 +1,5 @@
 -- Asking within a limit of time.
-use Rattle.std.proofs.Common.{◌≡◌, ◌≤◌, ◌-◌, ℕ, Bool, true, false, List, [], ◌∷◌, ◌++◌, Option, None, Some, Ok, Err, refl, sym, ap, subst, inl, inr, ◌∙◌, arith, append-nil, append_assoc}
+use Rattle.std.proofs.Common.{◌≡◌, ◌≤◌, ◌-◌, ℕ, Bool, List, [], ◌∷◌, ◌++◌, Option, None, Some, Ok, Err, refl, sym, ap, subst, inl, inr, ◌∙◌, arith, append-nil, append_assoc}
 use Rattle.std.specs.Duration.{as_nanos}
 use Rattle.std.specs.List.{AllByRecursion}
 use Rattle.std.specs.Option.{option_map}
@@ -18,12 +18,8 @@ use Rattle.crossterm_read.specs.Store.{ReaderState, kept}
 use Rattle.crossterm_read.specs.Steps.{Within, Asks, Ready, Broke, ReadStep, RefusedOnlyWithoutRoom}
 use Rattle.crossterm_read.specs.inside.Asking.{Asked, AsksInTime, held_with}
 use Rattle.crossterm_read.specs.Waiting.{AsksLeft, OnlyLastIsAtOnce, WasLeft}
-use Rattle.crossterm_read.proofs.Asking.{all_push, asks_more}
-
--- What holds of each, made another.
-pub all_map : {X : Type 0} (P Q : X → Type 0) (xs : List X) → ((x : X) → P x → Q x) → AllByRecursion P xs → AllByRecursion Q xs
-all_map P Q [] f a = tt
-all_map P Q (x ∷ xs) f a = (f x a.0, all_map P Q xs f a.1)
+use Rattle.crossterm_read.proofs.Asking.{asks_more}
+use Rattle.crossterm_types.proofs.Lists.{all_map, all_push}
 
 -- What was left of the limit, and something was.
 abbrev pub WasSomeLeft : PollTimeout → ℕ → Option Duration → Type 0

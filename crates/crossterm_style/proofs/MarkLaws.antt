@@ -6,7 +6,6 @@ use Rattle.std.proofs.Common.{length-append}
 use Rattle.std.proofs.lemmas.List.Splits.{length-slice_split, slice_split_first, slice_split_none}
 use Rattle.std.proofs.lemmas.List.Sums.{fails_before_first}
 use Rattle.std.specs.List.{after_first, before_first, position_or_len, slice_split}
-use Rattle.std.proofs.lemmas.Bool.Decides.{nat_tests}
 use Rattle.std.specs.Borrow.{Bor}
 use Rattle.std.specs.Char.{digit_value}
 use Rattle.std.specs.Prelude.{◌&&◌, ◌||◌, nat_lt, if◌then◌else◌}
@@ -17,6 +16,7 @@ use Rattle.std.specs.declared.result.Result.{Result}
 use Rattle.std.specs.declared.result.Result.TheVariants.{Ok, Err}
 use mathlib.Core.Logic.{inl, inr}
 use Rattle.std.specs.Str.Pattern.{FindsText, HasMatch, LacksTextAt}
+use Rattle.std.proofs.lemmas.Bool.{and_from, false_from_ne_true, lt-ltb, ltb-true}
 use Rattle.crossterm_style.specs.Reading.{ReadsByte}
 use Rattle.crossterm_style.specs.Values.{all_digits, begins, byte_of, holds, three_of, without, without_after}
 
@@ -32,28 +32,14 @@ begins_is (p ∷ ps) (x ∷ xs) h =
 equal_itself : (n : ℕ) → (n == n) ≡ true
 equal_itself n = (unsigned_Decides n n).1 refl
 
-both : (a b : Bool) → a ≡ true → b ≡ true → (a && b) ≡ true
-both true b h k = k
-both false b h k = absurd (true≢false (sym h))
-
 -- A part and more begin with it.
 pub begins_so : (part rest : List ℕ) → begins part (part ++ rest) ≡ true
 begins_so [] rest = refl
-begins_so (p ∷ ps) rest = both (p == p) (begins ps (ps ++ rest)) (equal_itself p) (begins_so ps rest)
-
-lt_so : (m n : ℕ) → m < n → nat_lt m n ≡ true
-lt_so m n h = grind (arith, nat_tests)
-
-so_lt : (m n : ℕ) → nat_lt m n ≡ true → m < n
-so_lt m n h = grind (arith, nat_tests)
-
-as_false : (b : Bool) → (b ≡ true → ⊥) → b ≡ false
-as_false true h = absurd (h refl)
-as_false false h = refl
+begins_so (p ∷ ps) rest = and_from (p == p) (begins ps (ps ++ rest)) (equal_itself p) (begins_so ps rest)
 
 -- A text that nowhere has the part.
 nowhere : (part text : List ℕ) → ((i : ℕ) → i ≤ length text → LacksTextAt part text i) → holds part text ≡ false
-nowhere part [] none = as_false (begins part []) (λ h. none 0 (omega arith) _ (begins_is part [] h))
+nowhere part [] none = false_from_ne_true (begins part []) (λ h. none 0 (omega arith) _ (begins_is part [] h))
 nowhere part (x ∷ xs) none =
     neither (begins part (x ∷ xs)) (holds part xs) (λ h. none 0 (omega arith) _ (begins_is part (x ∷ xs) h)) (nowhere part xs (λ i h rest e. none (suc i) (omega arith) rest e))
   where
@@ -98,7 +84,7 @@ if_false false x y h = refl
 stays : (part text : List ℕ) → ((i : ℕ) → i ≤ length text → LacksTextAt part text i) → without part text ≡ text
 stays part [] none = refl
 stays part (x ∷ xs) none =
-    let apart : begins part (x ∷ xs) ≡ false = as_false (begins part (x ∷ xs)) (λ h. none 0 (omega arith) _ (begins_is part (x ∷ xs) h)) in
+    let apart : begins part (x ∷ xs) ≡ false = false_from_ne_true (begins part (x ∷ xs)) (λ h. none 0 (omega arith) _ (begins_is part (x ∷ xs) h)) in
     if_false (begins part (x ∷ xs)) _ _ apart ∙ ap (λ l. x ∷ l) (stays part xs (λ i h rest e. none (suc i) (omega arith) rest e))
 
 skips : (part front rest : List ℕ) → without_after part (length front) (front ++ rest) ≡ without part rest
@@ -119,7 +105,7 @@ cut : (part text rest : List ℕ) (a : ℕ) → 0 < length part → ((i : ℕ) �
 cut part text rest zero h none e = ap (without part) e ∙ goes part rest h
 cut part [] rest (suc a) h none e = absurd (omega (arith, h, ap length e, length-append part rest))
 cut part (x ∷ xs) rest (suc a) h none e =
-    let apart : begins part (x ∷ xs) ≡ false = as_false (begins part (x ∷ xs)) (λ t. none 0 (omega arith) _ (begins_is part (x ∷ xs) t)) in
+    let apart : begins part (x ∷ xs) ≡ false = false_from_ne_true (begins part (x ∷ xs)) (λ t. none 0 (omega arith) _ (begins_is part (x ∷ xs) t)) in
     if_false (begins part (x ∷ xs)) _ _ apart ∙ ap (λ l. x ∷ l) (cut part xs rest a h (λ i k more f. none (suc i) (omega arith) more f) e)
 
 -- `replace` by nothing leaves the text without the part.
@@ -134,11 +120,11 @@ replaced (suc n) part text out h (a, b, q, rest, found, kept, inr on, e) = absur
 
 digits_are : (ds : List ℕ) → AllDigits 10 ds → all_digits ds ≡ true
 digits_are [] a = refl
-digits_are (d ∷ ds) a = both (nat_lt (digit_value d) 10) (all_digits ds) (lt_so (digit_value d) 10 a.0) (digits_are ds a.1)
+digits_are (d ∷ ds) a = and_from (nat_lt (digit_value d) 10) (all_digits ds) (lt-ltb (digit_value d) 10 a.0) (digits_are ds a.1)
 
 are_digits : (ds : List ℕ) → all_digits ds ≡ true → AllDigits 10 ds
 are_digits [] h = tt
-are_digits (d ∷ ds) h = (so_lt (digit_value d) 10 (first_so (nat_lt (digit_value d) 10) (all_digits ds) h), are_digits ds (second_so (nat_lt (digit_value d) 10) (all_digits ds) h))
+are_digits (d ∷ ds) h = (ltb-true (digit_value d) 10 (first_so (nat_lt (digit_value d) 10) (all_digits ds) h), are_digits ds (second_so (nat_lt (digit_value d) 10) (all_digits ds) h))
 
 chosen : (t : Bool) (n : ℕ) → t ≡ true → (if t then Some n else None) ≡ Some n
 chosen true n h = refl
@@ -154,14 +140,14 @@ parsed_byte text (Ok n) p =
     let ds = without_leading_plus text in
     ap Some p.1
     ∙ sym (chosen (nat_lt 0 (length ds) && (all_digits ds && nat_lt (digits_value 10 ds) 256)) (digits_value 10 ds)
-    (both (nat_lt 0 (length ds)) _ (lt_so 0 (length ds) p.0.0.0) (both (all_digits ds) _ (digits_are ds p.0.0.1) (lt_so (digits_value 10 ds) 256 p.0.1))))
+    (and_from (nat_lt 0 (length ds)) _ (lt-ltb 0 (length ds) p.0.0.0) (and_from (all_digits ds) _ (digits_are ds p.0.0.1) (lt-ltb (digits_value 10 ds) 256 p.0.1))))
 parsed_byte text (Err e) p =
     let ds = without_leading_plus text in
     refused (nat_lt 0 (length ds) && (all_digits ds && nat_lt (digits_value 10 ds) 256)) (digits_value 10 ds)
     (λ h.
     let some = first_so (nat_lt 0 (length ds)) (all_digits ds && nat_lt (digits_value 10 ds) 256) h in
     let rest = second_so (nat_lt 0 (length ds)) (all_digits ds && nat_lt (digits_value 10 ds) 256) h in
-    p ((so_lt 0 (length ds) some, are_digits ds (first_so (all_digits ds) (nat_lt (digits_value 10 ds) 256) rest)), so_lt (digits_value 10 ds) 256 (second_so (all_digits ds) (nat_lt (digits_value 10 ds) 256) rest)))
+    p ((ltb-true 0 (length ds) some, are_digits ds (first_so (all_digits ds) (nat_lt (digits_value 10 ds) 256) rest)), ltb-true (digits_value 10 ds) 256 (second_so (all_digits ds) (nat_lt (digits_value 10 ds) 256) rest)))
 
 -- A text that is read as the number of a byte.
 pub byte_back : (text : List ℕ) (n : ℕ) → ReadsByte text n → byte_of text ≡ Some n

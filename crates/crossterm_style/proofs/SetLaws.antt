@@ -5,6 +5,7 @@ use Rattle.std.proofs.lemmas.Bool.Decides.{nat_tests}
 use Rattle.std.proofs.lemmas.Nat.Bits.{bit_at-zero, bit_at-lt, bit_at_and, bit_at_or, bit_at_xor, bit_at_not, bit_at-pow_same, bit_at-pow_other}
 use Rattle.std.specs.Int.{bit_at, bit_not, w32}
 use Rattle.std.specs.Int.RustNames.{bit_and, bit_or, bit_xor}
+use Rattle.std.proofs.lemmas.Bool.{eqb-true}
 use Rattle.crossterm_flags.proofs.Ranks.{of_each}
 use Rattle.crossterm_style.specs.contracts.types.attribute.Attribute as attribute_enum
 use Rattle.crossterm_style.specs.declared.types.attribute.Attribute.{Attribute}
@@ -57,16 +58,13 @@ difference x y fits a =
 pub itself : (a : Attribute) → has (bit_of a) a ≡ true
 itself a = ap (λ n. n == 1) (bit_at-pow_same (place_of a + 1))
 
-equal_places : (m n : ℕ) → (m == n) ≡ true → m ≡ n
-equal_places m n e = grind (arith, nat_tests)
-
 other_places : (m n : ℕ) → (m == n) ≡ false → m + 1 ≢ n + 1
 other_places m n e same = absurd (grind (arith, nat_tests))
 
 pub one : (a b : Attribute) → has (bit_of a) b ≡ true → b ≡ a
 one a b is = go (place_of b == place_of a) refl where
   go : (t : Bool) → (place_of b == place_of a) ≡ t → b ≡ a
-  go true e = same_place a b (equal_places (place_of b) (place_of a) e)
+  go true e = same_place a b (eqb-true (place_of b) (place_of a) e)
   go false e =
       let gone : has (bit_of a) b ≡ false = ap (λ n. n == 1) (bit_at-pow_other (place_of a + 1) (place_of b + 1) (other_places (place_of b) (place_of a) e)) in
       absurd (true≢false (sym is ∙ gone))

@@ -1,5 +1,6 @@
 -- Two reads stand at two places, and took two events.
 use Rattle.std.proofs.Common.{◌≡◌, ◌≢◌, ◌⊎◌, ℕ, zero, suc, ◌<◌, ◌≤◌, ◌==◌, ◌&&◌, Bool, true, false, true≢false, cond, nat_lt, eq-eqb, ne_eqb, ltb-true, List, [], ◌∷◌, ◌++◌, length, map, Option, Some, None, refl, sym, ap, ◌∙◌, subst, inl, inr, ⊎_elim, arith, append_assoc}
+use Rattle.std.proofs.lemmas.Bool.{and_parts}
 use Rattle.std.specs.List.{AllByRecursion, slice_get}
 use Rattle.std.specs.List.Sorted.{IsPermutation}
 use Rattle.std.proofs.lemmas.List.Sorted.{IsPermutation-refl, IsPermutation-trans, IsPermutation-append_left, IsPermutation-append_right, IsPermutation-append_comm}
@@ -9,7 +10,7 @@ use Rattle.crossterm_read.specs.Calls.{taken}
 use Rattle.crossterm_read.specs.History.{Entry, Known, Differ, Extends, Meets, Sits, StartsWith, all_events, are_of, calls_by, taken_by}
 use Rattle.crossterm_read.specs.Replies.{Replied, Said, ToPoll, ToTake, ToQuery, Fault, shown}
 use Rattle.crossterm_read.specs.Store.{ReaderState}
-use Rattle.crossterm_read.proofs.Seating.{some_of, none_not, same_or_not, and_both}
+use Rattle.crossterm_read.proofs.Seating.{some_of, none_not, same_or_not}
 use Rattle.example_contracts.specs.Apart.{ReadApart}
 
 there : (xs ys : List Entry) (e : Entry) → slice_get (xs ++ e ∷ ys) (length xs) ≡ Some e
@@ -69,7 +70,7 @@ others_first p e es n = ap (λ b. cond b (e ∷ calls_by p es) (calls_by p es)) 
 by_two : (p q : ℕ) (log : List Entry) → p < 2 → q < 2 → p ≢ q → are_of 2 log ≡ true → IsPermutation (taken_by log) (taken_by (calls_by p log) ++ taken_by (calls_by q log))
 by_two p q [] low_p low_q differ of_two = IsPermutation-refl []
 by_two p q (e ∷ es) low_p low_q differ of_two =
-    let both = and_both (nat_lt e.by 2) (are_of 2 es) of_two in
+    let both = and_parts (nat_lt e.by 2) (are_of 2 es) of_two in
     let low = ltb-true e.by 2 both.0 in
     let rest = by_two p q es low_p low_q differ both.1 in
     let T = taken (e.reply ∷ []) in

@@ -1,11 +1,11 @@
-//! A full-screen list to browse by keys and mouse, drawn by a `Screen`.
+//! A full-screen list to browse by keys and mouse, within a border, drawn by a `Screen`.
 //!
 //! `example browse` runs it in a terminal. The arrows, the wheel and a click choose a row; Esc ends it.
 
 use crossterm::event::{Event, KeyCode, KeyEvent, MouseButton, MouseEvent, MouseEventKind};
 use crossterm::style::{Attribute, Attributes, ColorOutput, ContentStyle};
 use own_terminal::{Feature, Tty};
-use screen::{Buffer, CellFault, Screen};
+use screen::{Alignment, Border, Buffer, CellFault, ListState, Rect, Screen};
 use std::alloc::AllocError;
 use std::io::{self, ErrorKind, Write};
 use std::sync::Wait;
@@ -28,17 +28,15 @@ static ROWS: [&str; 12] = [
     "VPA  line position absolute       8.3.158",
 ];
 
-/// A list, the row of it that is chosen, and the screen that it is drawn on.
+/// The title in the border.
+const TITLE: &str = " Control functions ";
+
+/// A list, and the screen that it is drawn on.
 #[derive(Drop)]
 struct Browser {
-    chosen: u16,
+    list: ListState,
     buffer: Buffer,
     screen: Screen,
-}
-
-/// The last row.
-fn last() -> u16 {
-    (ROWS.len() as u16).saturating_sub(1)
 }
 
 /// The style of a row: the chosen one is reversed.
@@ -51,21 +49,38 @@ fn style_of(is_chosen: bool) -> ContentStyle {
 }
 
 impl Browser {
-    /// The first row that is seen: the chosen one is always in sight.
-    fn top(&self) -> u16 {
-        self.chosen
-            .saturating_sub(self.buffer.height().saturating_sub(1))
+    /// The place of the rows: within the border.
+    fn rows(&self) -> Rect {
+        self.buffer.area().inner(1, 1)
     }
 
-    /// Puts the rows that are seen into the buffer.
+    /// Puts a border with a title into the buffer, if there is room for one.
+    fn frame(&mut self) -> Result<(), CellFault> {
+        let area = self.buffer.area();
+        match self.buffer.border(area, Border::PLAIN, ContentStyle::new()) {
+            Ok(()) => {}
+            Err(CellFault::TooSmall) => return Ok(()),
+            Err(fault) => return Err(fault),
+        }
+        let top = area.inner(1, 0);
+        self.buffer
+            .print_in(top, 0, Alignment::Center, TITLE, ContentStyle::new())?;
+        Ok(())
+    }
+
+    /// Puts the border and the rows that are in sight into the buffer.
     fn fill(&mut self) -> Result<(), CellFault> {
         self.buffer.fill(' ', ContentStyle::new())?;
-        let top = self.top();
-        for row in 0..self.buffer.height() {
-            let at = top.saturating_add(row);
-            if let Some(text) = ROWS.get(usize::from(at)) {
-                let style = style_of(at == self.chosen);
-                self.buffer.print(0, row, text, style)?;
+        self.frame()?;
+        let rows = self.rows();
+        for row in 0..rows.height {
+            let Some(at) = self.list.entry_at(row) else {
+                break;
+            };
+            let style = style_of(self.list.chosen() == Some(at));
+            if let Some(text) = ROWS.get(at) {
+                self.buffer
+                    .print_in(rows, row, Alignment::Left, text, style)?;
             }
         }
         Ok(())
@@ -80,23 +95,40 @@ impl Browser {
 
     fn key(&mut self, key: &KeyEvent) {
         match key.code {
-            KeyCode::Up => self.chosen = self.chosen.saturating_sub(1),
-            KeyCode::Down => self.chosen = self.chosen.saturating_add(1).min(last()),
-            KeyCode::Home => self.chosen = 0,
-            KeyCode::End => self.chosen = last(),
+            KeyCode::Up => self.list.up(),
+            KeyCode::Down => self.list.down(),
+            KeyCode::Home => self.list.first(),
+            KeyCode::End => self.list.last(),
             _ => {}
+        }
+    }
+
+    /// Chooses the row at a place, if there is one.
+    fn click(&mut self, column: u16, row: u16) {
+        let rows = self.rows();
+        if rows.contains(column, row) {
+            if let Some(at) = self.list.entry_at(row - rows.y) {
+                self.list.choose(at);
+            }
         }
     }
 
     fn mouse(&mut self, mouse: &MouseEvent) {
         match mouse.kind {
-            MouseEventKind::ScrollUp => self.chosen = self.chosen.saturating_sub(1),
-            MouseEventKind::ScrollDown => self.chosen = self.chosen.saturating_add(1).min(last()),
-            MouseEventKind::Down(MouseButton::Left) => {
-                self.chosen = self.top().saturating_add(mouse.row).min(last());
-            }
+            MouseEventKind::ScrollUp => self.list.up(),
+            MouseEventKind::ScrollDown => self.list.down(),
+            MouseEventKind::Down(MouseButton::Left) => self.click(mouse.column, mouse.row),
             _ => {}
         }
+    }
+
+    /// Takes another size.
+    fn resize(&mut self, columns: u16, rows: u16) -> Result<(), AllocError> {
+        self.buffer.resize(columns, rows)?;
+        self.screen.resize(columns, rows)?;
+        let height = self.rows().height;
+        self.list.resize(ROWS.len(), height);
+        Ok(())
     }
 
     /// Does what an event means, and returns whether to go on.
@@ -105,10 +137,7 @@ impl Browser {
             Event::Key(key) if key.code == KeyCode::Esc => return Ok(false),
             Event::Key(key) => self.key(key),
             Event::Mouse(mouse) => self.mouse(mouse),
-            Event::Resize(columns, rows) => {
-                self.buffer.resize(*columns, *rows)?;
-                self.screen.resize(*columns, *rows)?;
-            }
+            Event::Resize(columns, rows) => self.resize(*columns, *rows)?,
             _ => {}
         }
         Ok(true)
@@ -140,8 +169,9 @@ pub fn run(rt: &impl Wait, tty: &mut Tty<'_>) -> io::Result<()> {
     let (columns, rows) = tty.size()?;
     let buffer = Buffer::new(tty.alloc, columns, rows)?;
     let screen = Screen::new(tty.alloc, columns, rows)?;
+    let list = ListState::new(ROWS.len(), buffer.area().inner(1, 1).height);
     let mut browser = Browser {
-        chosen: 0,
+        list,
         buffer,
         screen,
     };

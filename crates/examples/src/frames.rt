@@ -9,7 +9,7 @@
 //! | `draw`, `draw COLUMN ROW` | draws the buffer, with the cursor hidden, or shown at a place |
 //! | `forget` | forgets what the terminal shows |
 //!
-//! A colour is given by parameters of SGR, as `5;9` and `2;1;2;3`. An attribute is given by its place in declared order, as `1,11` of bold
+//! A colour is given by parameters of SGR, as `5;9` and `2;1;2;3`, or is `default`. An attribute is given by its place in declared order, as `1,11` of bold
 //! and reverse. `-` means none. `strength/screens` draws so in a terminal, and compares each cell.
 
 use crossterm::style::{Attribute, Attributes, Color, ColorOutput, ContentStyle};
@@ -55,6 +55,7 @@ fn pair(words: &str) -> Result<(u16, u16), Wrong> {
 fn color(word: &str) -> Result<Option<Color>, Wrong> {
     match word {
         "-" => Ok(None),
+        "default" => Ok(Some(Color::Reset)),
         _ => Ok(Some(Color::parse_ansi(word).ok_or(Wrong::Words)?)),
     }
 }

@@ -1,10 +1,10 @@
 -- The longest list is the one that is bound to the most of the keys in front.
 use Rattle.std.proofs.Common.{◌≡◌, ℕ, suc, zero, ◌-◌, ◌<◌, ◌≤◌, Bool, true, false, cond, ◌&&◌, nat_eq, nat_lt, min, List, [], ◌∷◌, length, take, Option, Some, None, refl, sym, ap, ◌∙◌, arith}
-use Rattle.std.specs.Cmp.{second_so}
 use Rattle.std.specs.HashMap.{HashMap}
 use Rattle.std.proofs.lemmas.Bool.Decides.{nat_tests}
 use Rattle.std.proofs.lemmas.List.{length-take-le}
 use Rattle.crossterm_types.specs.declared.event.key.KeyEvent.{KeyEvent}
+use Rattle.keymap.proofs.Cutting.{front_length}
 use Rattle.keymap.specs.Bindings.{AreShort, are_same}
 use Rattle.keymap.specs.Chords.{Bound, is_front, longer, longest, longest_from, match_of, same_chord}
 use Rattle.keymap.specs.inside.Places.{Tells, deepest, found_or, number_from, place_at}
@@ -84,11 +84,6 @@ front_take (c ∷ cs) ks zero l = absurd (omega (arith, l))
 front_take (c ∷ cs) [] (suc n) l = refl
 front_take (c ∷ cs) (k ∷ ks) (suc n) l = ap (λ b. same_chord c k && b) (front_take cs ks n (omega (arith, l)))
 
-front_fits : (cs ks : List KeyEvent) → is_front cs ks ≡ true → length cs ≤ length ks
-front_fits [] ks h = omega arith
-front_fits (c ∷ cs) [] h = grind (arith, h)
-front_fits (c ∷ cs) (k ∷ ks) h = let on = front_fits cs ks (second_so (same_chord c k) (is_front cs ks) h) in omega (arith, on)
-
 same_at : (b e t : Bool) (i : ℕ) (rest : Option ℕ) → (e ≡ true → b ≡ t) → cond (e && b) (Some i) rest ≡ cond t (cond e (Some i) rest) rest
 same_at b true true i rest h = ap (λ c. cond c (Some i) rest) (h refl)
 same_at b true false i rest h = ap (λ c. cond c (Some i) rest) (h refl)
@@ -104,7 +99,7 @@ number_front i cs ks n rest l =
 
 one_longer : (i : ℕ) (cs ks : List KeyEvent) (m : ℕ) (g : ℕ → Option ℕ) (front : Bool) → is_front cs ks ≡ front → 0 < length cs → (length cs ≤ length ks → length cs ≤ m)
     → deepest (λ n. cond front (cond (nat_eq (length cs) n) (Some i) (g n)) (g n)) m ≡ longer (cond front (Some (record { number = i; count = length cs })) None) (deepest g m)
-one_longer i cs ks m g true is some fits = put_deepest i (length cs) g m some (fits (front_fits cs ks is))
+one_longer i cs ks m g true is some fits = put_deepest i (length cs) g m some (fits (front_length cs ks is))
 one_longer i cs ks m g false is some fits = refl
 
 -- the longest list is the one that is bound to the most of the keys in front, of eight at most

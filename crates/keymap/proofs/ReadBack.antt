@@ -11,6 +11,7 @@ use Rattle.std.specs.Fmt.{decimal, digits}
 use Rattle.std.specs.List.{AllByRecursion, list_all, onto_first}
 use Rattle.std.proofs.lemmas.Bool.Decides.{nat_tests}
 use Rattle.std.specs.declared.result.Result.TheVariants.{Ok}
+use Rattle.std.proofs.lemmas.Bool.{ltb-true}
 use Rattle.crossterm_flags.specs.Variants.{value_in}
 use Rattle.crossterm_flags.specs.declared.modifiers.KeyModifiers.{KeyModifiers}
 use Rattle.crossterm_types.proofs.ValueLaws.{char_back}
@@ -256,10 +257,7 @@ code_read bits (key.Modifier modifier.IsoLevel5Shift) fits = refl
 -- ---- all
 
 below_all : (bits : ℕ) → bits < 256 → bit_and bits 254 < 256
-below_all bits l = so_lt (bit_and bits 254) 256 (each (λ b. nat_lt (bit_and b 254) 256) 256 refl bits l)
-  where
-    so_lt : (m n : ℕ) → nat_lt m n ≡ true → m < n
-    so_lt m n h = grind (arith, nat_tests)
+below_all bits l = ltb-true (bit_and bits 254) 256 (each (λ b. nat_lt (bit_and b 254) 256) 256 refl bits l)
 
 large : (c : ℕ) (m : KeyModifiers) → is_ascii_uppercase c ≡ true → normal (pressed (key.Char c) m) ≡ pressed (key.Char c) (with_shift m)
 large c m h = picked (is_ascii_uppercase c) _ _ h

@@ -7,7 +7,8 @@
 //!
 //! `probe bench` reads standard input to its end, and hands it to the parser in pieces of 1024 bytes. It prints the bytes and the events by
 //! kind. `probe bench frame` writes the commands of one frame into memory, and prints how many bytes and commands they are. With `--time`
-//! each does so again and again for about a second, and prints the least time. `probe bench make NAME BYTES` writes an input of a kind:
+//! each does so again and again for about a second, and prints the least time. `probe bench screen CASE` does both for a screen's frame:
+//! `all` cells change, `few`, `one`, by a `line`, or characters that are `wide`. `probe bench make NAME BYTES` writes an input of a kind:
 //! `letters`, `utf8`, `keys`, `mouse`, `replies`, `paste` or `hostile`. `probe bench held REPLIES` prints the least time in which a key comes and is
 //! taken while so many replies are held. `probe bench recorded` prints the least time of a key with a recorder and without one.
 //! `probe bench keys BINDINGS` prints the least time that a key takes which is fed to a matcher of so many bound lists. `probe bench take WAY

@@ -1,6 +1,6 @@
-//! `probe bench`: counts what the parser makes of some bytes, writes a frame of commands, and times both. It also times keys that come
-//! while replies are held, keys that are recorded, and keys that are fed to a matcher of bindings. `mode::Mode` is what the words after
-//! `bench` ask for.
+//! `probe bench`: counts what the parser makes of some bytes, writes a frame of commands, draws frames of a screen, and times all three. It
+//! also times keys that come while replies are held, keys that are recorded, and keys that are fed to a matcher of bindings. `mode::Mode` is
+//! what the words after `bench` ask for.
 //!
 //! Beside it are two bodies with the macros of `crossterm`, of which it is proved what they write.
 ghost use Rattle.std.specs.Prelude.{◌≢◌, OnOk, IfErr, codes};
@@ -8,6 +8,7 @@ ghost use Rattle.std.specs.IoError.{error_kind};
 ghost use Rattle.std.specs.Io.KnownBytes.{Appends};
 ghost use Rattle.crossterm_command.specs.Writing.{AppendsFront};
 
+mod cells;
 pub mod frame;
 mod held;
 mod input;

@@ -1,7 +1,7 @@
 //! The modes of the program `probe`, each a function over a reader and a writer: `play::run_play`, `say::run_say`, `serve::run_serve`,
 //! `keys::run_keys` and `bench::mode::Mode::run`.
 //!
-//! They are built on `crossterm` by its public calls, `serve` on the sockets of `mio`, `keys` and `bench` on `keymap`. In `bench` are two
+//! They are built on `crossterm` by its public calls, `serve` on the sockets of `mio`, `keys` and `bench` on `keymap`, `bench` on `screen` too. In `bench` are two
 //! bodies with the macros `queue!` and `execute!`, of which it is proved what they write.
 //!
 //! What is proved, beyond safety:

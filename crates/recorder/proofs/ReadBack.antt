@@ -13,12 +13,14 @@ use Rattle.std.proofs.lemmas.Str.Parse.{FoldsDigits, IsDigitsTest, IsNumeralMode
 use Rattle.std.specs.declared.io.ErrorKind.{ErrorKind}
 use Rattle.std.specs.declared.io.ErrorKind.TheVariants as kind
 use Rattle.std.specs.declared.result.Result.TheVariants.{Ok}
+use Rattle.std.proofs.lemmas.Bool.{false_from_ne_true}
 use Rattle.hex.specs.Hex.{IsBytes, encode_lower, encode_with, lower_digits}
 use Rattle.hex.proofs.HexLemmas.{decode_of-encode_lower}
 use Rattle.crossterm_read.specs.Device.{DeviceAnswer, Bytes, Resized, Woken, Idle, Fault}
 use Rattle.recorder.specs.Lines.{answers_of, entry, line, lines, stamp, text, times_of}
 use Rattle.recorder.specs.Reads.{AllReadBack, IsEntry, IsWritable, LinesReadBack, Session, is_comment, last_time, nothing, number, number_after, only, or_else, pair, parts, read_after, read_digits, read_hex, read_line, read_next, read_then, read_time, read_numbers, read_pair, time_after, with_act, zeros}
-use Rattle.recorder.proofs.Cutting.{not_true, parts_there}
+use Rattle.recorder.proofs.Cutting.{parts_there}
+use Rattle.crossterm_types.proofs.Lists.{all_append}
 
 -- ---- parts
 
@@ -39,10 +41,6 @@ all_of : {X : Type 0} (P Q : X → Type 0) → ((x : X) → P x → Q x) → (xs
 all_of P Q f [] a = tt
 all_of P Q f (x ∷ xs) a = (f x a.0, all_of P Q f xs a.1)
 
-all_joined : {X : Type 0} (P : X → Type 0) (xs ys : List X) → AllByRecursion P xs → AllByRecursion P ys → AllByRecursion P (xs ++ ys)
-all_joined P [] ys a b = b
-all_joined P (x ∷ xs) ys a b = (a.0, all_joined P xs ys a.1 b)
-
 -- Of texts that are known this computes.
 abbrev lacks : ℕ → List ℕ → Bool
 lacks c [] = true
@@ -58,7 +56,7 @@ without c (x ∷ xs) e = (not_so (x == c) (first_so (not (x == c)) (lacks c xs) 
 
 -- Bytes above 47 are no blank and no end of a line.
 apart : (c b : ℕ) → c < b → (b == c) ≡ false
-apart c b l = not_true (b == c) (λ e. let is : b ≡ c = (unsigned_Decides b c).0 e in omega (arith, is, l))
+apart c b l = false_from_ne_true (b == c) (λ e. let is : b ≡ c = (unsigned_Decides b c).0 e in omega (arith, is, l))
 
 above_without : (c : ℕ) → c < 48 → (xs : List ℕ) → AllByRecursion (λ b. 47 < b) xs → Without c xs
 above_without c h xs a = all_of (λ b. 47 < b) (λ b. (b == c) ≡ false) (λ b l. apart c b (omega (arith, h, l))) xs a
@@ -149,7 +147,7 @@ there limit n m l [] e =
     let none : n ≡ 0 = sym value ∙ ap (value_after 0) e in
     let wrong : 1 ≡ 0 = ap length (ap decimal (sym none) ∙ e) in
     absurd (omega (arith, wrong))
-there limit n m l (d ∷ ds) e = ap (λ b. if b then None else number_after limit 0 (d ∷ ds)) (not_true (length (d ∷ ds) == 0) (λ t. some t))
+there limit n m l (d ∷ ds) e = ap (λ b. if b then None else number_after limit 0 (d ∷ ds)) (false_from_ne_true (length (d ∷ ds) == 0) (λ t. some t))
   where
     some : (length (d ∷ ds) == 0) ≡ true → ⊥
     some t = let none : length (d ∷ ds) ≡ 0 = (unsigned_Decides (length (d ∷ ds)) 0).0 t in omega (arith, none)
@@ -276,10 +274,10 @@ line_back Idle h = refl
 line_back (Fault k) h = fault_back k
 
 pub no_end : (w : DeviceAnswer) → IsWritable w → Without 10 (line w)
-no_end (Bytes bytes true) h = all_joined _ (codes "raw ") (encode_lower bytes) (without 10 (codes "raw ") refl) (above_without 10 (omega arith) (encode_lower bytes) (hex_above bytes h))
-no_end (Bytes bytes false) h = all_joined _ (codes "piece ") (encode_lower bytes) (without 10 (codes "piece ") refl) (above_without 10 (omega arith) (encode_lower bytes) (hex_above bytes h))
-no_end (Resized columns rows) h = all_joined _ (codes "resize ") (decimal columns ++ 32 ∷ decimal rows) (without 10 (codes "resize ") refl)
-    (all_joined _ (decimal columns) (32 ∷ decimal rows) (above_without 10 (omega arith) (decimal columns) (number_above 65536 columns (omega arith) h.0))
+no_end (Bytes bytes true) h = all_append _ (codes "raw ") (encode_lower bytes) (without 10 (codes "raw ") refl) (above_without 10 (omega arith) (encode_lower bytes) (hex_above bytes h))
+no_end (Bytes bytes false) h = all_append _ (codes "piece ") (encode_lower bytes) (without 10 (codes "piece ") refl) (above_without 10 (omega arith) (encode_lower bytes) (hex_above bytes h))
+no_end (Resized columns rows) h = all_append _ (codes "resize ") (decimal columns ++ 32 ∷ decimal rows) (without 10 (codes "resize ") refl)
+    (all_append _ (decimal columns) (32 ∷ decimal rows) (above_without 10 (omega arith) (decimal columns) (number_above 65536 columns (omega arith) h.0))
     (refl, above_without 10 (omega arith) (decimal rows) (number_above 65536 rows (omega arith) h.1)))
 no_end Woken h = without 10 (codes "wake") refl
 no_end Idle h = without 10 (codes "idle") refl
@@ -303,7 +301,7 @@ time_back time n l =
     ∙ ap (or_else time) (number_back 4294967296 n (omega arith) l)
 
 pub no_end_of_stamp : (n : ℕ) → n < 4294967296 → Without 10 (stamp n)
-no_end_of_stamp n l = all_joined _ (codes "# ") (decimal n) (without 10 (codes "# ") refl) (above_without 10 (omega arith) (decimal n) (number_above 4294967296 n (omega arith) l))
+no_end_of_stamp n l = all_append _ (codes "# ") (decimal n) (without 10 (codes "# ") refl) (above_without 10 (omega arith) (decimal n) (number_above 4294967296 n (omega arith) l))
 
 -- ---- texts
 

@@ -7,7 +7,7 @@ use Rattle.crossterm_read.specs.Device.{Answering, DeviceAnswer, Bytes, Resized,
 use Rattle.crossterm_read.specs.History.{Entry, Runs}
 use Rattle.crossterm_read.specs.History as history
 use Rattle.crossterm_read.specs.Outcomes.{IsAnsweredBy}
-use Rattle.crossterm_read.specs.OverScripts.{HistoriesAreTold, IsNew, ScriptsAreTold}
+use Rattle.crossterm_read.specs.OverScripts.{HistoriesAreTold, ScriptsAreTold}
 use Rattle.crossterm_read.specs.Scripted.{AnswersWith, ScriptLeft, ScriptTells, faults}
 use Rattle.crossterm_read.specs.Store.{ReaderState}
 use Rattle.crossterm_read.specs.inside.Turns.{At, DrawnFor, Source, SourceDrawn, Turn, Turns, source_on, waited, again, fresh, other}

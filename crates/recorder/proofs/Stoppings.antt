@@ -1,16 +1,14 @@
 -- What a recording says that ended before its session.
-use Rattle.std.proofs.Common.{◌≡◌, ◌⊎◌, inl, inr, ◌+◌, ◌==◌, ℕ, List, [], ◌∷◌, ◌++◌, Option, Some, None, false, ap, refl, sym, subst, ◌∙◌, append-nil, append_assoc}
-use Rattle.std.specs.List.{AllByRecursion, filter_map, flat_map}
+use Rattle.std.proofs.Common.{◌≡◌, List, [], ◌∷◌, ◌++◌, ap, refl, sym, subst, ◌∙◌}
+use Rattle.std.specs.List.{filter_map}
 use Rattle.std.proofs.lemmas.Grind.{flat_map-append}
-use Rattle.std.specs.declared.result.Result.TheVariants.{Ok, Err}
-use Rattle.crossterm_types.specs.Seen.{Seen}
 use Rattle.crossterm_parse.specs.declared.marked.Marked.{Marked}
 use Rattle.crossterm_parse.specs.Division.{UniqueDivision}
 use Rattle.crossterm_parse.specs.Grammar.{Whole}
 use Rattle.crossterm_parse.specs.Meaning.{meaning_of}
 use Rattle.crossterm_read.specs.Answers.{SourceAnswer}
 use Rattle.crossterm_read.specs.Device.{DeviceAnswer, Bytes, Resized, Woken, Idle, Fault, marked_bytes}
-use Rattle.crossterm_read.specs.Outcomes.{Ended, Happened, Happens, IsAnsweredBy, Outcome, Produces, Single, events_of, outcome_events}
+use Rattle.crossterm_read.specs.Outcomes.{Ended, Happens, IsAnsweredBy, Outcome, Produces, Single, events_of, outcome_events}
 use Rattle.recorder.specs.Stopping.{FrontsHappen, OneList}
 
 -- ---- events

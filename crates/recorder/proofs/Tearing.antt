@@ -1,19 +1,19 @@
 -- What reads of a recording that ended before its session.
-use Rattle.std.proofs.Common.{◌≡◌, ◌⊎◌, inl, inr, ◌+◌, ℕ, List, [], ◌∷◌, ◌++◌, Option, Some, None, ap, refl, sym, subst, ◌∙◌, append-nil, append_assoc}
-use Rattle.std.specs.Prelude.{Result, map}
+use Rattle.std.proofs.Common.{◌≡◌, ◌⊎◌, inl, inr, ◌+◌, ℕ, List, [], ◌∷◌, ◌++◌, Option, None, ap, refl, sym, subst, ◌∙◌, append-nil, append_assoc}
+use Rattle.std.specs.Prelude.{Result}
 use Rattle.std.specs.List.{AllByRecursion}
 use Rattle.std.proofs.lemmas.List.{map-append}
 use Rattle.std.specs.declared.result.Result.TheVariants.{Ok, Err}
 use Rattle.crossterm_read.specs.Device.{DeviceAnswer}
 use Rattle.recorder.specs.Lines.{answers_of, line, stamp, text, times_of}
 use Rattle.recorder.specs.Reads.{IsEntry, Refusal, Session, nothing, parts, read_after}
-use Rattle.recorder.specs.Recording.{Cuts, Fails, Writes, recorded}
+use Rattle.recorder.specs.Recording.{Cuts, Fails, Writes}
 use Rattle.recorder.specs.Stopping.{CutsKeep, FailuresTear, FrontsRead}
 use Rattle.recorder.specs.declared.reading.Wrong.TheVariants.{Unended}
 use Rattle.recorder.specs.declared.recorder.Stop.{Stop}
-use Rattle.recorder.specs.declared.recorder.Stop.TheVariants as stop
 use Rattle.recorder.proofs.ReadBack.{Without, after_line, all_read_back, at, entry_split, line_read, no_end, no_end_of_stamp, one_part, read_first, stamp_read}
 use Rattle.recorder.proofs.Replayings.{are_entries}
+use Rattle.crossterm_types.proofs.Lists.{all_front}
 
 -- ---- where a text is cut
 
@@ -35,10 +35,6 @@ cut_where (a ∷ first) tail (b ∷ front) rest e =
       | inl m ↦ inl (m.0, ap (λ (c : ℕ). c ∷ first) head ∙ ap (λ (l : List ℕ). b ∷ l) m.1)
       | inr f ↦ inr (f.0, ap (λ (l : List ℕ). b ∷ l) f.1 ∙ ap (λ (c : ℕ). c ∷ (first ++ 10 ∷ f.0)) (sym head), f.2)
     ]
-
-all_front : {X : Type 0} (P : X → Type 0) (xs ys : List X) → AllByRecursion P (xs ++ ys) → AllByRecursion P xs
-all_front P [] ys a = tt
-all_front P (x ∷ xs) ys a = (a.0, all_front P xs ys a.1)
 
 -- ---- what reads then
 

@@ -1,6 +1,5 @@
 -- How a recorder answers, by how its device does, with the two laws of it.
 use Rattle.std.specs.Prelude.{◌≡◌, ◌≤◌, ◌+◌, ℕ, List, [], ◌∷◌, ◌++◌, length, Option, Some, None, refl}
-use Rattle.std.specs.List.{AllByRecursion}
 use Rattle.std.specs.Io.KnownBytes.{Appends}
 use Rattle.std.proofs.Common.{ap, arith, sym, subst, ◌∙◌, append_assoc}
 use Rattle.std.proofs.KnownBytes.{Appends-nil, Appends-trans}
@@ -9,6 +8,7 @@ use Rattle.recorder.specs.Lines.{answers_of, entry, text, times_of}
 use Rattle.recorder.specs.Recording.{Fits, IsAnswer, Recording, Records, Rises, Uses, Writes, millis, recorded}
 use Rattle.recorder.specs.declared.recorder.Stop.{Stop}
 use Rattle.recorder.specs.declared.recorder.Stop.TheVariants as stop
+use Rattle.crossterm_types.proofs.Lists.{all_append}
 
 pub recorded_on : (xs ys : List DeviceAnswer) → recorded (xs ++ ys) ≡ recorded xs ++ recorded ys
 recorded_on [] ys = refl
@@ -136,10 +136,6 @@ pub writes_none : {W : Type 0} (contents : W → Option (List ℕ)) (f : Option 
 writes_none contents None r s = (Appends-nil (contents s), uses_none r)
 writes_none contents (Some k) r s = (refl, refl)
 
-pub all_on : {X : Type 0} (P : X → Type 0) (xs ys : List X) → AllByRecursion P xs → AllByRecursion P ys → AllByRecursion P (xs ++ ys)
-all_on P [] ys a b = b
-all_on P (x ∷ xs) ys a b = (a.0, all_on P xs ys a.1 b)
-
 abbrev pub recorder_answering : {D W : Type 0} → (W → Option (List ℕ)) → Answering D → Answering (Recording D W)
 recorder_answering contents answering = record {
   answered = Records contents answering.answered;
@@ -157,6 +153,6 @@ recorder_answering contents answering = record {
     says = says_on d.entries e.entries (recorded xs) (recorded ys) d.says e.says ∙ sym (recorded_on xs ys);
     rises = rises_on (millis s.clock) (millis t.clock) (millis u.clock) d.entries e.entries d.rises e.rises;
     written = writes_on contents s.stop t.stop u.stop s.room t.room u.room s.writer t.writer u.writer d.entries e.entries d.written e.written;
-    are_answers = all_on IsAnswer xs ys d.are_answers e.are_answers;
+    are_answers = all_append IsAnswer xs ys d.are_answers e.are_answers;
   };
 }

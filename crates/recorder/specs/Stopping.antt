@@ -10,7 +10,7 @@ use Rattle.crossterm_read.specs.Device.{DeviceAnswer}
 use Rattle.crossterm_read.specs.Outcomes.{Happened}
 use Rattle.crossterm_read.specs.inside.Turns.{Source, SourceDrawn}
 use Rattle.recorder.specs.Lines.{answers_of, text, times_of}
-use Rattle.recorder.specs.Reads.{IsEntry, Refusal, Session, read_text, session}
+use Rattle.recorder.specs.Reads.{IsEntry, Session, read_text, session}
 use Rattle.recorder.specs.Recording.{Recording, Records, recorded}
 use Rattle.recorder.specs.declared.reading.Wrong.TheVariants.{Unended}
 use Rattle.recorder.specs.declared.recorder.Stop.TheVariants as stop

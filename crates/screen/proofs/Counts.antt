@@ -6,16 +6,19 @@ use Rattle.std.proofs.lemmas.List.Concat.{flat_map-append}
 use Rattle.crossterm_command.specs.Tokens.{Token}
 use Rattle.crossterm_command.specs.Tokens.Token.{Char, Csi, Osc, Private}
 use Rattle.crossterm_command.specs.declared.color_output.ColorOutput.{ColorOutput}
+use Rattle.crossterm_command.specs.declared.color_output.ColorOutput.TheVariants.{Enabled, Disabled}
 use Rattle.crossterm_style.specs.declared.content_style.ContentStyle.{ContentStyle}
 use Rattle.crossterm_style.specs.Acts.{Act, style_acts}
 use Rattle.crossterm_style.specs.Acts.Act.{Prints, Colors, Takes}
 use Rattle.crossterm_style.specs.Styles.{no_style, told}
 use Rattle.screen.specs.declared.cells.Cell.{Cell}
+use Rattle.screen.specs.declared.settings.Setting.{Setting}
+use Rattle.screen.specs.declared.settings.Setting.TheVariants as setting
 use Rattle.screen.specs.declared.strokes.Stroke.{Stroke}
 use Rattle.screen.specs.declared.strokes.Stroke.TheVariants as stroke
 use Rattle.screen.specs.Drawings.{DifferAt, printed}
 use Rattle.screen.specs.Updates.{HasToBePrinted}
-use Rattle.screen.specs.inside.Strokes.{cell_strokes, cursor_strokes, first_strokes, last_strokes, tokens, tokens_of}
+use Rattle.screen.specs.inside.Strokes.{cell_strokes, color_tokens, cursor_strokes, first_strokes, last_strokes, tokens, tokens_of}
 use Rattle.screen.proofs.Runs.{SetsStyle, style_sets}
 
 -- ---- tokens in a row
@@ -40,11 +43,21 @@ style_prints : (colors : ColorOutput) (s : ContentStyle) (ss : List Stroke) → 
 style_prints colors s ss =
     printed_joined (tokens colors (stroke.Style s)) (tokens_of colors ss) ∙ ap (λ n. n + printed (tokens_of colors ss)) (told_prints colors (style_acts s) (style_sets s)) ∙ (omega arith)
 
-pub cell_prints : (colors : ColorOutput) (there right : Bool) (column row : ℕ) (c : Cell) → printed (tokens_of colors (cell_strokes there right column row c)) ≡ 1
-cell_prints colors true true column row c = refl
-cell_prints colors true false column row c = style_prints colors c.style (stroke.Print c.symbol ∷ [])
-cell_prints colors false true column row c = refl
-cell_prints colors false false column row c = style_prints colors c.style (stroke.Print c.symbol ∷ [])
+color_prints : (colors : ColorOutput) (change : ContentStyle) → printed (color_tokens colors change) ≡ 0
+color_prints Enabled change = told_prints Enabled (style_acts change) (style_sets change)
+color_prints Disabled change = refl
+
+colors_print : (colors : ColorOutput) (change : ContentStyle) (ss : List Stroke) → printed (tokens_of colors (stroke.Colors change ∷ ss)) ≡ printed (tokens_of colors ss)
+colors_print colors change ss =
+    printed_joined (color_tokens colors change) (tokens_of colors ss) ∙ ap (λ n. n + printed (tokens_of colors ss)) (color_prints colors change) ∙ (omega arith)
+
+pub cell_prints : (colors : ColorOutput) (there : Bool) (how : Setting) (column row : ℕ) (c : Cell) → printed (tokens_of colors (cell_strokes there how column row c)) ≡ 1
+cell_prints colors true setting.Kept column row c = refl
+cell_prints colors true (setting.Colors change) column row c = colors_print colors change (stroke.Print c.symbol ∷ [])
+cell_prints colors true (setting.Whole s) column row c = style_prints colors s (stroke.Print c.symbol ∷ [])
+cell_prints colors false setting.Kept column row c = refl
+cell_prints colors false (setting.Colors change) column row c = colors_print colors change (stroke.Print c.symbol ∷ [])
+cell_prints colors false (setting.Whole s) column row c = style_prints colors s (stroke.Print c.symbol ∷ [])
 
 pub last_prints : (colors : ColorOutput) (cursor : Option (ℕ × ℕ)) → printed (tokens_of colors (last_strokes cursor)) ≡ 0
 last_prints colors None = style_prints colors no_style (cursor_strokes None ++ (stroke.End ∷ []))

@@ -5,6 +5,9 @@ pub mod Laying
 pub mod Taking
 pub mod Filling
 pub mod Prints
+pub mod Alignments
+pub mod Edges
+pub mod Recolorings
 pub mod Runs
 pub mod Counts
 pub mod Scans

@@ -120,11 +120,11 @@ written_without r raw room at s old n m count c cells lt e none more w =
       written = w.written ∙ ap (λ l. overwritten old at (cells_of s l)) (sym same);
     })
 
-room_by : (fits : Bool) (room c : ℕ) (text : List ℕ) → nat_le (columns c) room ≡ fits → columns c ≤ room → cond fits (c ∷ within (room - columns c) text) [] ≡ c ∷ within (room - columns c) text
+pub room_by : (fits : Bool) (room c : ℕ) (text : List ℕ) → nat_le (columns c) room ≡ fits → columns c ≤ room → cond fits (c ∷ within (room - columns c) text) [] ≡ c ∷ within (room - columns c) text
 room_by true room c text e le = refl
 room_by false room c text e le = let no : ⊥ = grind (arith, nat_tests) in absurd no
 
-no_room_by : (fits : Bool) (room c : ℕ) (text : List ℕ) → nat_le (columns c) room ≡ fits → room < columns c → cond fits (c ∷ within (room - columns c) text) [] ≡ []
+pub no_room_by : (fits : Bool) (room c : ℕ) (text : List ℕ) → nat_le (columns c) room ≡ fits → room < columns c → cond fits (c ∷ within (room - columns c) text) [] ≡ []
 no_room_by true room c text e lt = let no : ⊥ = grind (arith, nat_tests) in absurd no
 no_room_by false room c text e lt = refl
 

@@ -10,6 +10,7 @@ use Rattle.std.proofs.lemmas.List.Concat.{flat_map-append}
 use Rattle.unicode_width.specs.Width.{char_width}
 use Rattle.crossterm_command.specs.Tokens.{Token}
 use Rattle.crossterm_command.specs.declared.color_output.ColorOutput.{ColorOutput}
+use Rattle.crossterm_command.specs.declared.color_output.ColorOutput.TheVariants.{Enabled, Disabled}
 use Rattle.crossterm_command.proofs.Readings.{all_joined}
 use Rattle.crossterm_style.specs.declared.content_style.ContentStyle.{ContentStyle}
 use Rattle.crossterm_style.specs.declared.types.attribute.Attribute.{Attribute}
@@ -27,12 +28,16 @@ use Rattle.crossterm_style.proofs.ActLooks.{acts_show}
 use Rattle.crossterm_style.proofs.TextLaws.{IsDigit, next_field, one_field}
 use Rattle.crossterm.specs.Sequences.{move_to}
 use Rattle.screen.specs.declared.cells.Cell.{Cell}
+use Rattle.screen.specs.declared.settings.Setting.{Setting}
+use Rattle.screen.specs.declared.settings.Setting.TheVariants as setting
 use Rattle.screen.specs.declared.strokes.Stroke.{Stroke}
 use Rattle.screen.specs.declared.strokes.Stroke.TheVariants as stroke
 use Rattle.screen.specs.Cells.{is_wide, last_of, look}
 use Rattle.screen.specs.Grids.{Grid, is_last, is_width, move_cursor, number, overwritten, place, place_told, print_at, print_one, print_two, right_of, run, step, takes_one, takes_two}
 use Rattle.screen.specs.Grids.Square.{Whole, First, Second}
-use Rattle.screen.specs.inside.Strokes.{cell_strokes, move_strokes, style_strokes, tokens, tokens_of}
+use Rattle.screen.specs.inside.Settings.{Fits, Sets}
+use Rattle.screen.specs.inside.Strokes.{cell_strokes, color_tokens, move_strokes, style_strokes, tokens, tokens_of}
+use Rattle.screen.proofs.Recolorings.{recolored, recolored_by}
 use Rattle.screen.proofs.Squares.{squares}
 
 -- ---- tokens in a row
@@ -132,6 +137,12 @@ pub styled : (colors : ColorOutput) (s : ContentStyle) (g : Grid) → AllByRecur
 styled colors s g fits =
     run_then (attribute_functions Reset) (told colors (style_acts s)) g (record g { style = plain }) refl ∙ from_plain colors s (record g { style = plain }) fits refl
 
+-- What colours make of any style.
+colors_run : (colors : ColorOutput) (change : ContentStyle) (g : Grid) → AllByRecursion FitsAct (style_acts change) → run (color_tokens colors change) g ≡ Some (record g { style = recolored_by colors change g.style })
+colors_run Enabled change g fits =
+    style_told Enabled (style_acts change) (style_sets change) g ∙ ap (λ p. Some (record g { style = p })) ((acts_show Enabled (style_acts change) g.style fits).1)
+colors_run Disabled change g fits = refl
+
 no_acts : style_acts no_style ≡ []
 unfolding members
 no_acts = refl
@@ -178,22 +189,32 @@ moved_if : (colors : ColorOutput) (there : Bool) (row column : ℕ) (g : Grid) �
 moved_if colors true row column g r k rs ks h = ap (λ o. Some (record g { cursor = o })) (h refl)
 moved_if colors false row column g r k rs ks h = moved row column g r k rs ks
 
-styled_if : (colors : ColorOutput) (right : Bool) (s : ContentStyle) (g : Grid) → AllByRecursion FitsAct (style_acts s) → (right ≡ true → g.style ≡ look colors s)
-    → run (tokens_of colors (style_strokes right s)) g ≡ Some (record g { style = look colors s })
-styled_if colors true s g fits h = ap (λ p. Some (record g { style = p })) (h refl)
-styled_if colors false s g fits h = ap (λ ts. run ts g) (append-nil (tokens colors (stroke.Style s))) ∙ styled colors s g fits
+-- A style that is set where another one is set.
+styled_from : (colors : ColorOutput) (set : Option ContentStyle) (to : ContentStyle) (how : Setting) (g : Grid) → Sets set to how → Fits how → ((s : ContentStyle) → set ≡ Some s → g.style ≡ look colors s)
+    → run (tokens_of colors (style_strokes how)) g ≡ Some (record g { style = look colors to })
+styled_from colors None to setting.Kept g is fits h = cc
+styled_from colors None to (setting.Colors change) g is fits h = cc
+styled_from colors (Some from) to setting.Kept g is fits h = ap (λ p. Some (record g { style = p })) (h from refl ∙ ap (look colors) is)
+styled_from colors (Some from) to (setting.Colors change) g is fits h =
+    ap (λ ts. run ts g) (append-nil (tokens colors (stroke.Colors change))) ∙ colors_run colors change g fits
+    ∙ ap (λ p. Some (record g { style = recolored_by colors change p })) (h from refl) ∙ ap (λ p. Some (record g { style = p })) (recolored colors from to change is.1 is.2)
+styled_from colors None to (setting.Whole s) g is fits h =
+    ap (λ ts. run ts g) (append-nil (tokens colors (stroke.Style s))) ∙ styled colors s g fits
+    ∙ ap (λ k. Some (record g { style = look colors (elim k [ setting.Kept ↦ to | setting.Colors t ↦ to | setting.Whole t ↦ t ]) })) is
+styled_from colors (Some from) to (setting.Whole s) g is fits h =
+    ap (λ ts. run ts g) (append-nil (tokens colors (stroke.Style s))) ∙ styled colors s g fits ∙ ap (λ t. Some (record g { style = look colors t })) is.1
 
-pub cell_painted : (colors : ColorOutput) (there right : Bool) (row column : ℕ) (c : Cell) (g : Grid) → row < g.height → column < g.width → row < 2 ^ 32 → column < 2 ^ 32
-    → AllByRecursion FitsAct (style_acts c.style) → (takes_one c.symbol ≡ true) ⊎ (takes_two c.symbol ≡ true) → (is_wide c ≡ true → is_last g.width (row * g.width + column) ≡ false)
-    → (there ≡ true → g.cursor ≡ Some (row * g.width + column)) → (right ≡ true → g.style ≡ look colors c.style)
-    → run (tokens_of colors (cell_strokes there right column row c)) g ≡ Some (painted colors g (row * g.width + column) c)
-cell_painted colors there right row column c g r k rs ks fits takes room at_place is_set =
+pub cell_painted : (colors : ColorOutput) (there : Bool) (set : Option ContentStyle) (how : Setting) (row column : ℕ) (c : Cell) (g : Grid) → row < g.height → column < g.width → row < 2 ^ 32 → column < 2 ^ 32
+    → Sets set c.style how → Fits how → (takes_one c.symbol ≡ true) ⊎ (takes_two c.symbol ≡ true) → (is_wide c ≡ true → is_last g.width (row * g.width + column) ≡ false)
+    → (there ≡ true → g.cursor ≡ Some (row * g.width + column)) → ((s : ContentStyle) → set ≡ Some s → g.style ≡ look colors s)
+    → run (tokens_of colors (cell_strokes there how column row c)) g ≡ Some (painted colors g (row * g.width + column) c)
+cell_painted colors there set how row column c g r k rs ks is fits takes room at_place is_set =
     let at = row * g.width + column in
     let print : List Stroke = stroke.Print c.symbol ∷ [] in
     let g1 : Grid = record g { cursor = Some at } in
     let g3 : Grid = record g { cursor = Some at; style = look colors c.style } in
     let prints : run (tokens_of colors print) g3 ≡ Some (painted colors g at c) =
     ap (λ o. elim o [ None ↦ None | Some h ↦ Some h ]) (printed_by (is_wide c) colors c at g3 refl takes room refl refl) in
-    runs_then colors (move_strokes there column row) (style_strokes right c.style ++ print) g g1 (moved_if colors there row column g r k rs ks at_place)
-    ∙ runs_then colors (style_strokes right c.style) print g1 g3 (styled_if colors right c.style g1 fits is_set)
+    runs_then colors (move_strokes there column row) (style_strokes how ++ print) g g1 (moved_if colors there row column g r k rs ks at_place)
+    ∙ runs_then colors (style_strokes how) print g1 g3 (styled_from colors set c.style how g1 is fits is_set)
     ∙ prints

@@ -1,15 +1,14 @@
 -- The way over the cells.
 use Rattle.std.proofs.Common.{◌≡◌, ℕ, ◌+◌, ◌-◌, ◌*◌, ◌<◌, ◌≤◌, ◌^◌, List, [], ◌∷◌, ◌++◌, Option, Some, None, Bool, true, false, refl, sym, ap, ◌∙◌, subst, arith, map, replicate, length, take, drop, get_or, append_assoc, append-nil, inl, inr}
-use Rattle.std.specs.List.{AllByRecursion}
 use Rattle.std.proofs.lemmas.List.{drop_all, length-append, length-drop, length-map, length-replicate, length-take-le, take_all}
 use Rattle.crossterm_command.specs.declared.color_output.ColorOutput.{ColorOutput}
 use Rattle.crossterm_command.proofs.Readings.{all_joined}
 use Rattle.crossterm_style.specs.declared.content_style.ContentStyle.{ContentStyle}
-use Rattle.crossterm_style.specs.Acts.{style_acts}
-use Rattle.crossterm_style.specs.Appearance.{FitsAct}
 use Rattle.crossterm_style.specs.Looks.{plain}
 use Rattle.crossterm_style.specs.Styles.{no_style}
 use Rattle.screen.specs.declared.cells.Cell.{Cell}
+use Rattle.screen.specs.declared.settings.Setting.{Setting}
+use Rattle.screen.specs.declared.settings.Setting.TheVariants as setting
 use Rattle.screen.specs.declared.strokes.Stroke.{Stroke}
 use Rattle.screen.specs.declared.strokes.Stroke.TheVariants as stroke
 use Rattle.screen.specs.Cells.{ArePaired, IsPrinted, Stands, blank, is_covered, is_wide, last_of, look, seen}
@@ -18,6 +17,7 @@ use Rattle.screen.specs.Updates.{HasToBePrinted}
 use Rattle.screen.specs.Grids.{Grid, Square, begun, blank_square, is_last, overwritten, right_of, run}
 use Rattle.screen.specs.Grids.Square.{Whole}
 use Rattle.screen.specs.inside.Scans.{Counts, IsWithin, Reaches, Spares, Visited, rest}
+use Rattle.screen.specs.inside.Settings.{Fits, Sets}
 use Rattle.screen.specs.inside.Strokes.{AreFitting, IsFitting, cell_strokes, first_strokes, tokens, tokens_of}
 use Rattle.screen.proofs.Counts.{cell_prints, first_prints, other_at, same_at, strokes_printed}
 use Rattle.screen.proofs.Runs.{cell_painted, looks_plain, painted, plain_set, run_then, runs_then}
@@ -124,22 +124,22 @@ stage_length colors before after k same le =
     omega (arith, le, length-append (take k (map (seen colors) after)) (rest (drop k after) old), front, back)
 
 -- A cell that is painted is shown.
-pub paints : (known : Bool) (k width height : ℕ) (before after : List Cell) (cursor : Option ℕ) (style : Option ContentStyle) (strokes : List Stroke) (b c : Cell) (there right : Bool) (row column : ℕ)
+pub paints : (known : Bool) (k width height : ℕ) (before after : List Cell) (cursor : Option ℕ) (style : Option ContentStyle) (strokes : List Stroke) (b c : Cell) (there : Bool) (how : Setting) (row column : ℕ)
     → k < length before → k < length after → length before ≡ width * height → length after ≡ width * height → get_or before k b ≡ b → get_or after k c ≡ c
     → row < height → column < width → height < 2 ^ 32 → width < 2 ^ 32 → row * width + column ≡ k
-    → AllByRecursion FitsAct (style_acts c.style) → IsPrinted c.symbol → is_covered c ≡ false → (is_wide c ≡ true → is_last width k ≡ false) → ArePaired false before → ArePaired false after
-    → (there ≡ true → cursor ≡ Some k) → (right ≡ true → style ≡ Some c.style)
+    → Sets style c.style how → Fits how → IsPrinted c.symbol → is_covered c ≡ false → (is_wide c ≡ true → is_last width k ≡ false) → ArePaired false before → ArePaired false after
+    → (there ≡ true → cursor ≡ Some k)
     → Reaches known width height before after k cursor style strokes
-    → Reaches known width height before after (k + 1) (right_of width (last_of k c)) (Some c.style) (strokes ++ cell_strokes there right column row c)
-paints known k width height before after cursor style strokes b c there right row column lb la bl al eb ec r q hs ws at fits takes cv room pb pa is_there is_right reached colors g s =
+    → Reaches known width height before after (k + 1) (right_of width (last_of k c)) (Some c.style) (strokes ++ cell_strokes there how column row c)
+paints known k width height before after cursor style strokes b c there how row column lb la bl al eb ec r q hs ws at is fits takes cv room pb pa is_there reached colors g s =
     let (h, ran, scanned) = reached colors g s in
     let (wide, high, all) = scanned.size in
     let place : row * h.width + column ≡ k = ap (λ w. row * w + column) wide ∙ at in
     let stays : is_wide c ≡ true → is_last h.width (row * h.width + column) ≡ false = λ w. ap (λ n. is_last h.width n) place ∙ ap (λ n. is_last n k) wide ∙ room w in
-    let runs : run (tokens_of colors (strokes ++ cell_strokes there right column row c)) g ≡ Some (painted colors h k c) =
-    runs_then colors strokes (cell_strokes there right column row c) g h ran
-    ∙ cell_painted colors there right row column c h (subst (λ n. row < n) (sym high) r) (subst (λ n. column < n) (sym wide) q) (omega (arith, r, hs)) (omega (arith, q, ws)) fits takes.1 stays
-    (λ y. scanned.place k (is_there y) ∙ ap Some (sym place)) (λ y. scanned.set c.style (is_right y))
+    let runs : run (tokens_of colors (strokes ++ cell_strokes there how column row c)) g ≡ Some (painted colors h k c) =
+    runs_then colors strokes (cell_strokes there how column row c) g h ran
+    ∙ cell_painted colors there style how row column c h (subst (λ n. row < n) (sym high) r) (subst (λ n. column < n) (sym wide) q) (omega (arith, r, hs)) (omega (arith, q, ws)) is fits takes.1 stays
+    (λ y. scanned.place k (is_there y) ∙ ap Some (sym place)) scanned.set
     ∙ ap (λ n. Some (painted colors h n c)) place in
     let cells : overwritten h.cells k (squares colors c) ≡ stage colors before after (k + 1) =
     stage_painted colors before after h.cells k b c lb la eb ec cv (at_place colors after pa k (omega (arith, la))) scanned.cells in
@@ -163,21 +163,23 @@ pub keeps_counted : (before after : List Cell) (k : ℕ) (strokes : List Stroke)
     → Counts before after k strokes → Counts before after (k + 1) strokes
 keeps_counted before after k strokes b c lb la eb ec e counts colors = same_at before after k (printed (tokens_of colors strokes)) b c lb la eb ec e (counts colors)
 
-pub paints_counted : (before after : List Cell) (k : ℕ) (strokes : List Stroke) (b c : Cell) (there right : Bool) (row column : ℕ) → k < length before → k < length after → get_or before k b ≡ b → get_or after k c ≡ c → HasToBePrinted b c
-    → Counts before after k strokes → Counts before after (k + 1) (strokes ++ cell_strokes there right column row c)
-paints_counted before after k strokes b c there right row column lb la eb ec e counts colors =
-    let one : printed (tokens_of colors (strokes ++ cell_strokes there right column row c)) ≡ printed (tokens_of colors strokes) + 1 =
-    strokes_printed colors strokes (cell_strokes there right column row c) ∙ ap (λ n. printed (tokens_of colors strokes) + n) (cell_prints colors there right column row c) in
+pub paints_counted : (before after : List Cell) (k : ℕ) (strokes : List Stroke) (b c : Cell) (there : Bool) (how : Setting) (row column : ℕ) → k < length before → k < length after → get_or before k b ≡ b → get_or after k c ≡ c → HasToBePrinted b c
+    → Counts before after k strokes → Counts before after (k + 1) (strokes ++ cell_strokes there how column row c)
+paints_counted before after k strokes b c there how row column lb la eb ec e counts colors =
+    let one : printed (tokens_of colors (strokes ++ cell_strokes there how column row c)) ≡ printed (tokens_of colors strokes) + 1 =
+    strokes_printed colors strokes (cell_strokes there how column row c) ∙ ap (λ n. printed (tokens_of colors strokes) + n) (cell_prints colors there how column row c) in
     subst (DifferAt (take (k + 1) before) (take (k + 1) after)) (sym one) (other_at before after k (printed (tokens_of colors strokes)) b c lb la eb ec e (counts colors))
 
-cell_fitting : (there right : Bool) (column row : ℕ) (c : Cell) → IsPrinted c.symbol → AreFitting (cell_strokes there right column row c)
-cell_fitting true true column row c f = (f, tt)
-cell_fitting true false column row c f = (tt, (f, tt))
-cell_fitting false true column row c f = (tt, (f, tt))
-cell_fitting false false column row c f = (tt, (tt, (f, tt)))
+cell_fitting : (there : Bool) (how : Setting) (column row : ℕ) (c : Cell) → IsPrinted c.symbol → AreFitting (cell_strokes there how column row c)
+cell_fitting true setting.Kept column row c f = (f, tt)
+cell_fitting true (setting.Colors change) column row c f = (tt, (f, tt))
+cell_fitting true (setting.Whole s) column row c f = (tt, (f, tt))
+cell_fitting false setting.Kept column row c f = (tt, (f, tt))
+cell_fitting false (setting.Colors change) column row c f = (tt, (tt, (f, tt)))
+cell_fitting false (setting.Whole s) column row c f = (tt, (tt, (f, tt)))
 
-pub paints_fitting : (strokes : List Stroke) (there right : Bool) (column row : ℕ) (c : Cell) → IsPrinted c.symbol → AreFitting strokes → AreFitting (strokes ++ cell_strokes there right column row c)
-paints_fitting strokes there right column row c f all = all_joined IsFitting strokes (cell_strokes there right column row c) all (cell_fitting there right column row c f)
+pub paints_fitting : (strokes : List Stroke) (there : Bool) (how : Setting) (column row : ℕ) (c : Cell) → IsPrinted c.symbol → AreFitting strokes → AreFitting (strokes ++ cell_strokes there how column row c)
+paints_fitting strokes there how column row c f all = all_joined IsFitting strokes (cell_strokes there how column row c) all (cell_fitting there how column row c f)
 
 -- ---- the end
 

@@ -7,6 +7,7 @@ use Rattle.std.proofs.lemmas.List.Concat.{flat_map-append}
 use Rattle.crossterm_command.specs.Tokens.{Token}
 use Rattle.crossterm_command.specs.Tokens.Token.{Csi}
 use Rattle.crossterm_command.specs.declared.color_output.ColorOutput.{ColorOutput}
+use Rattle.crossterm_command.specs.declared.color_output.ColorOutput.TheVariants.{Enabled, Disabled}
 use Rattle.crossterm_command.proofs.Readings.{all_joined}
 use Rattle.crossterm_style.specs.declared.content_style.ContentStyle.{ContentStyle}
 use Rattle.crossterm_style.specs.Acts.{Act, style_acts, where_there}
@@ -17,14 +18,18 @@ use Rattle.crossterm_style.specs.declared.types.color.Color.{Color}
 use Rattle.crossterm_style.specs.declared.types.colored.Colored.{Colored}
 use Rattle.crossterm_style.specs.declared.types.colored.Colored.TheVariants.{ForegroundColor, BackgroundColor, UnderlineColor}
 use Rattle.screen.specs.declared.cells.Cell.{Cell}
+use Rattle.screen.specs.declared.settings.Setting.{Setting}
+use Rattle.screen.specs.declared.settings.Setting.TheVariants as setting
 use Rattle.screen.specs.declared.strokes.Stroke.{Stroke}
 use Rattle.screen.specs.declared.strokes.Stroke.TheVariants as stroke
 use Rattle.screen.specs.Cells.{last_of}
 use Rattle.screen.specs.Grids.{right_of}
 use Rattle.screen.specs.Updates.{ArePrinted, HasSameStyle, HasToBePrinted, IsBeside, IsBetween, IsOneUpdate, IsSparing, Placed, Runs, begin_update, begins_with_style, changes, end_moves, end_styles, how_many, is_move, is_other, is_style, longest_style}
 use Rattle.screen.specs.inside.Scans.{Continues, Spares, Sparing}
-use Rattle.screen.specs.inside.Strokes.{IsInner, cell_strokes, cursor_strokes, first_strokes, is_move_stroke, is_other_stroke, is_style_stroke, last_strokes, tokens, tokens_of}
+use Rattle.screen.specs.inside.Settings.{Sets, is_kept}
+use Rattle.screen.specs.inside.Strokes.{IsInner, cell_strokes, color_tokens, cursor_strokes, first_strokes, is_move_stroke, is_other_stroke, is_style_stroke, last_strokes, tokens, tokens_of}
 use Rattle.screen.proofs.Runs.{SetsStyle, style_sets}
+use Rattle.screen.proofs.Recolorings.{kept_there}
 
 -- ---- counts
 
@@ -54,6 +59,10 @@ told_all P p colors (Takes a ∷ acts) h = (p _, told_all P p colors acts h.1)
 style_all : (P : Token → Type 0) → ((text : List ℕ) → P (Csi text [] 0x6D)) → (colors : ColorOutput) (s : ContentStyle) → AllByRecursion P (tokens colors (stroke.Style s))
 style_all P p colors s = (p _, told_all P p colors (style_acts s) (style_sets s))
 
+color_all : (P : Token → Type 0) → ((text : List ℕ) → P (Csi text [] 0x6D)) → (colors : ColorOutput) (change : ContentStyle) → AllByRecursion P (color_tokens colors change)
+color_all P p Enabled change = told_all P p Enabled (style_acts change) (style_sets change)
+color_all P p Disabled change = tt
+
 -- ---- strokes for tokens
 
 of_strokes : (kind : Token → Bool) (sort : Stroke → Bool) → ((colors : ColorOutput) (s : Stroke) → how_many kind (tokens colors s) ≡ how_many sort (s ∷ []))
@@ -69,6 +78,7 @@ moves_each colors stroke.End = refl
 moves_each colors stroke.Erase = refl
 moves_each colors (stroke.Move column row) = refl
 moves_each colors (stroke.Style s) = none_of is_move (tokens colors (stroke.Style s)) (style_all (λ t. is_move t ≡ false) (λ text. refl) colors s)
+moves_each colors (stroke.Colors change) = none_of is_move (color_tokens colors change) (color_all (λ t. is_move t ≡ false) (λ text. refl) colors change)
 moves_each colors (stroke.Print c) = refl
 moves_each colors stroke.Show = refl
 moves_each colors stroke.Hide = refl
@@ -79,6 +89,7 @@ others_each colors stroke.End = refl
 others_each colors stroke.Erase = refl
 others_each colors (stroke.Move column row) = refl
 others_each colors (stroke.Style s) = none_of is_other (tokens colors (stroke.Style s)) (style_all (λ t. is_other t ≡ false) (λ text. refl) colors s)
+others_each colors (stroke.Colors change) = none_of is_other (color_tokens colors change) (color_all (λ t. is_other t ≡ false) (λ text. refl) colors change)
 others_each colors (stroke.Print c) = refl
 others_each colors stroke.Show = refl
 others_each colors stroke.Hide = refl
@@ -116,6 +127,7 @@ changes_each colors stroke.End = omega arith
 changes_each colors stroke.Erase = omega arith
 changes_each colors (stroke.Move column row) = omega arith
 changes_each colors (stroke.Style s) = one_change (tokens colors (stroke.Style s)) (style_all (λ t. is_style t ≡ true) (λ text. refl) colors s)
+changes_each colors (stroke.Colors change) = one_change (color_tokens colors change) (color_all (λ t. is_style t ≡ true) (λ text. refl) colors change)
 changes_each colors (stroke.Print c) = omega arith
 changes_each colors stroke.Show = omega arith
 changes_each colors stroke.Hide = omega arith
@@ -171,12 +183,17 @@ few_acts s =
       few_members s.attributes.0,
     )
 
+color_length : (colors : ColorOutput) (change : ContentStyle) → length (color_tokens colors change) ≤ 31
+color_length Enabled change = omega (arith, told_length Enabled (style_acts change) (style_sets change), few_acts change)
+color_length Disabled change = omega arith
+
 style_each : (colors : ColorOutput) (s : Stroke) → how_many is_style (tokens colors s) ≤ longest_style * how_many is_style_stroke (s ∷ [])
 style_each colors stroke.Begin = omega arith
 style_each colors stroke.End = omega arith
 style_each colors stroke.Erase = omega arith
 style_each colors (stroke.Move column row) = omega arith
 style_each colors (stroke.Style s) = omega (arith, all_of is_style (told colors (style_acts s)), told_length colors (style_acts s) (style_sets s), few_acts s)
+style_each colors (stroke.Colors change) = omega (arith, all_of is_style (color_tokens colors change), color_length colors change)
 style_each colors (stroke.Print c) = omega arith
 style_each colors stroke.Show = omega arith
 style_each colors stroke.Hide = omega arith
@@ -206,6 +223,7 @@ inner_each colors stroke.End i = absurd i
 inner_each colors stroke.Erase i = (between _ refl, tt)
 inner_each colors (stroke.Move column row) i = (between _ refl, tt)
 inner_each colors (stroke.Style s) i = style_all IsBetween (λ text. between _ refl) colors s
+inner_each colors (stroke.Colors change) i = color_all IsBetween (λ text. between _ refl) colors change
 inner_each colors (stroke.Print c) i = (between _ refl, tt)
 inner_each colors stroke.Show i = (between _ refl, tt)
 inner_each colors stroke.Hide i = (between _ refl, tt)
@@ -320,37 +338,46 @@ spares_kept known width before after k cursor style strokes b c lb la eb ec e s 
 some_same : {X : Type 0} (x y : X) → Some x ≡ Some y → x ≡ y
 some_same {X} x y e = ap (λ o. elim o [ None ↦ x | Some z ↦ z ]) e
 
-cell_moves : (there right : Bool) (column row : ℕ) (c : Cell) → how_many is_move_stroke (cell_strokes there right column row c) ≡ cond there 0 1
-cell_moves true true column row c = refl
-cell_moves true false column row c = refl
-cell_moves false true column row c = refl
-cell_moves false false column row c = refl
+cell_moves : (there : Bool) (how : Setting) (column row : ℕ) (c : Cell) → how_many is_move_stroke (cell_strokes there how column row c) ≡ cond there 0 1
+cell_moves true setting.Kept column row c = refl
+cell_moves true (setting.Colors change) column row c = refl
+cell_moves true (setting.Whole s) column row c = refl
+cell_moves false setting.Kept column row c = refl
+cell_moves false (setting.Colors change) column row c = refl
+cell_moves false (setting.Whole s) column row c = refl
 
-cell_styles : (there right : Bool) (column row : ℕ) (c : Cell) → how_many is_style_stroke (cell_strokes there right column row c) ≡ cond right 0 1
-cell_styles true true column row c = refl
-cell_styles true false column row c = refl
-cell_styles false true column row c = refl
-cell_styles false false column row c = refl
+cell_styles : (there : Bool) (how : Setting) (column row : ℕ) (c : Cell) → how_many is_style_stroke (cell_strokes there how column row c) ≡ cond (is_kept how) 0 1
+cell_styles true setting.Kept column row c = refl
+cell_styles true (setting.Colors change) column row c = refl
+cell_styles true (setting.Whole s) column row c = refl
+cell_styles false setting.Kept column row c = refl
+cell_styles false (setting.Colors change) column row c = refl
+cell_styles false (setting.Whole s) column row c = refl
 
-cell_others : (there right : Bool) (column row : ℕ) (c : Cell) → how_many is_other_stroke (cell_strokes there right column row c) ≡ 0
-cell_others true true column row c = refl
-cell_others true false column row c = refl
-cell_others false true column row c = refl
-cell_others false false column row c = refl
+cell_others : (there : Bool) (how : Setting) (column row : ℕ) (c : Cell) → how_many is_other_stroke (cell_strokes there how column row c) ≡ 0
+cell_others true setting.Kept column row c = refl
+cell_others true (setting.Colors change) column row c = refl
+cell_others true (setting.Whole s) column row c = refl
+cell_others false setting.Kept column row c = refl
+cell_others false (setting.Colors change) column row c = refl
+cell_others false (setting.Whole s) column row c = refl
 
-cell_inner : (there right : Bool) (column row : ℕ) (c : Cell) → AllByRecursion IsInner (cell_strokes there right column row c)
-cell_inner true true column row c = (tt, tt)
-cell_inner true false column row c = (tt, (tt, tt))
-cell_inner false true column row c = (tt, (tt, tt))
-cell_inner false false column row c = (tt, (tt, (tt, tt)))
+cell_inner : (there : Bool) (how : Setting) (column row : ℕ) (c : Cell) → AllByRecursion IsInner (cell_strokes there how column row c)
+cell_inner true setting.Kept column row c = (tt, tt)
+cell_inner true (setting.Colors change) column row c = (tt, (tt, tt))
+cell_inner true (setting.Whole s) column row c = (tt, (tt, tt))
+cell_inner false setting.Kept column row c = (tt, (tt, tt))
+cell_inner false (setting.Colors change) column row c = (tt, (tt, (tt, tt)))
+cell_inner false (setting.Whole s) column row c = (tt, (tt, (tt, tt)))
 
 -- A place for which a character is printed: it is moved to and its style is set only where that has to be.
-pub spares_painted : (known : Bool) (width : ℕ) (before after : List Cell) (k : ℕ) (cursor : Option ℕ) (style : Option ContentStyle) (strokes : List Stroke) (b c : Cell) (there right : Bool) (column row : ℕ)
-    → k < length before → k < length after → get_or before k b ≡ b → get_or after k c ≡ c → HasToBePrinted b c → (there ≡ true) ↔ (cursor ≡ Some k) → (right ≡ true) ↔ (style ≡ Some c.style)
+pub spares_painted : (known : Bool) (width : ℕ) (before after : List Cell) (k : ℕ) (cursor : Option ℕ) (style : Option ContentStyle) (strokes : List Stroke) (b c : Cell) (there : Bool) (how : Setting) (column row : ℕ)
+    → k < length before → k < length after → get_or before k b ≡ b → get_or after k c ≡ c → HasToBePrinted b c → (there ≡ true) ↔ (cursor ≡ Some k) → Sets style c.style how
     → Sparing known width before after k cursor style strokes
-    → Sparing known width before after (k + 1) (right_of width (last_of k c)) (Some c.style) (strokes ++ cell_strokes there right column row c)
-spares_painted known width before after k cursor style strokes b c there right column row lb la eb ec e at set s =
-    let more = cell_strokes there right column row c in
+    → Sparing known width before after (k + 1) (right_of width (last_of k c)) (Some c.style) (strokes ++ cell_strokes there how column row c)
+spares_painted known width before after k cursor style strokes b c there how column row lb la eb ec e at sets s =
+    let set = kept_there style c.style how sets in
+    let more = cell_strokes there how column row c in
     let all = s.spares.all in
     let x = placed k c in
     let long : 0 + length (take k before) ≡ k = omega (arith, length-take-le k before (omega (arith, lb))) in
@@ -359,17 +386,17 @@ spares_painted known width before after k cursor style strokes b c there right c
     let begun : (within : List Stroke) × (strokes ≡ stroke.Begin ∷ within) × AllByRecursion IsInner within = s.spares.begun in
     let moved : (i : ℕ) × Runs (IsBeside width) (all ++ x ∷ []) i × (how_many is_move_stroke strokes + cond there 0 1 ≤ i + 0) =
     runs_push (IsBeside width) all x moves.0 (how_many is_move_stroke strokes) 0 there (λ y. (s.beside x).1 (at.0 y)) (λ y. at.1 ((s.beside x).0 y)) moves.1 (omega (arith, moves.2)) in
-    let styled : (i : ℕ) × Runs HasSameStyle (all ++ x ∷ []) i × (how_many is_style_stroke strokes + 1 + cond right 0 1 ≤ i + end_styles known) =
-    runs_push HasSameStyle all x styles.0 (how_many is_style_stroke strokes + 1) (end_styles known) right (λ y. (s.same x).1 (set.0 y)) (λ y. set.1 ((s.same x).0 y)) styles.1 styles.2 in
+    let styled : (i : ℕ) × Runs HasSameStyle (all ++ x ∷ []) i × (how_many is_style_stroke strokes + 1 + cond (is_kept how) 0 1 ≤ i + end_styles known) =
+    runs_push HasSameStyle all x styles.0 (how_many is_style_stroke strokes + 1) (end_styles known) (is_kept how) (λ y. (s.same x).1 (set.0 y)) (λ y. set.1 ((s.same x).0 y)) styles.1 styles.2 in
     record {
       spares = record {
         all = all ++ x ∷ [];
         printed = subst (λ l. ArePrinted 0 l (take (k + 1) after) (all ++ x ∷ [])) (sym (grown before k b lb eb))
             (subst (λ l. ArePrinted 0 (take k before ++ b ∷ []) l (all ++ x ∷ [])) (sym (grown after k c la ec)) (printed_more 0 k (take k before) (take k after) b c all long e s.spares.printed));
-        moves = (moved.0, moved.1, omega (arith, moved.2, how_many_joined is_move_stroke strokes more, cell_moves there right column row c));
-        styles = (styled.0, styled.1, omega (arith, styled.2, how_many_joined is_style_stroke strokes more, cell_styles there right column row c));
-        others = omega (arith, s.spares.others, how_many_joined is_other_stroke strokes more, cell_others there right column row c);
-        begun = (begun.0 ++ more, ap (λ l. l ++ more) begun.1, all_joined IsInner begun.0 more begun.2 (cell_inner there right column row c));
+        moves = (moved.0, moved.1, omega (arith, moved.2, how_many_joined is_move_stroke strokes more, cell_moves there how column row c));
+        styles = (styled.0, styled.1, omega (arith, styled.2, how_many_joined is_style_stroke strokes more, cell_styles there how column row c));
+        others = omega (arith, s.spares.others, how_many_joined is_other_stroke strokes more, cell_others there how column row c);
+        begun = (begun.0 ++ more, ap (λ l. l ++ more) begun.1, all_joined IsInner begun.0 more begun.2 (cell_inner there how column row c));
       };
       beside = λ y. ((λ r. continues_to (IsBeside width) all x y r), (λ r. continues_from (IsBeside width) all x y r));
       same = λ y. ((λ r. ap Some (continues_to HasSameStyle all x y r)), (λ r. continues_from HasSameStyle all x y (some_same c.style y.cell.style r)));

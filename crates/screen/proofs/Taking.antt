@@ -134,19 +134,19 @@ symbol_kept s c w h n row column at items old new count whole laid is r room p p
     kept w h n items new count whole (ap length now ∙ overwritten_length items (cells_with s c) (row * w + column) (omega (arith, le, with_length s c)))
     (subst (AreLaidOut w) (sym now) (symbol_laid_out s c w row column items room le p laid))
 
-pub text_kept : (s : ContentStyle) (text : List ℕ) (w h n row column at : ℕ) (items old new : List Cell) → length items ≡ n → length items ≡ w * h → AreLaidOut w items → old ≡ items
-    → row < h → column < w → AllByRecursion IsPrinted (within (w - column) text) → at ≡ row * w + column → new ≡ overwritten old at (cells_of s (within (w - column) text))
+pub text_kept : (s : ContentStyle) (text : List ℕ) (w h n row column room at : ℕ) (items old new : List Cell) → length items ≡ n → length items ≡ w * h → AreLaidOut w items → old ≡ items
+    → row < h → column + room ≤ w → AllByRecursion IsPrinted (within room text) → at ≡ row * w + column → new ≡ overwritten old at (cells_of s (within room text))
     → (length (take n (new ++ drop (length new) items)) ≡ w * h) × AreLaidOut w (take n (new ++ drop (length new) items))
-text_kept s text w h n row column at items old new count whole laid is r k all place written =
-    let shown = within (w - column) text in
-    let room : column + text_columns shown ≤ w = omega (arith, within_columns text (w - column), k) in
-    let le : row * w + column + text_columns shown ≤ length items = omega (arith, room_in row h w column (text_columns shown) r room, whole) in
+text_kept s text w h n row column room at items old new count whole laid is r k all place written =
+    let shown = within room text in
+    let fits : column + text_columns shown ≤ w = omega (arith, within_columns text room, k) in
+    let le : row * w + column + text_columns shown ≤ length items = omega (arith, room_in row h w column (text_columns shown) r fits, whole) in
     let now : new ≡ overwritten items (row * w + column) (cells_of s shown) =
     written ∙ ap (λ l. overwritten l at (cells_of s shown)) is ∙ ap (λ m. overwritten items m (cells_of s shown)) place in
     kept w h n items new count whole (ap length now ∙ overwritten_length items (cells_of s shown) (row * w + column) (omega (arith, le, text_length s shown)))
-    (subst (AreLaidOut w) (sym now) (text_laid_out s shown w row column items room le all laid))
+    (subst (AreLaidOut w) (sym now) (text_laid_out s shown w row column items fits le all laid))
 
--- Behind the last column nothing is shown.
+-- In no column nothing is shown.
 pub within_none : (room : ℕ) (text : List ℕ) → room ≡ 0 → within room text ≡ []
 within_none room [] e = refl
 within_none room (c ∷ text) e =

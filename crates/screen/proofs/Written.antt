@@ -5,8 +5,10 @@ use Rattle.std.specs.List.{AllByRecursion}
 use Rattle.unicode_width.specs.Width.{char_width}
 use Rattle.crossterm_command.specs.Tokens.{IsParameter, IsPlain, IsWellFormed, Reads, text_of}
 use Rattle.crossterm_command.specs.declared.color_output.ColorOutput.{ColorOutput}
+use Rattle.crossterm_command.specs.declared.color_output.ColorOutput.TheVariants.{Enabled, Disabled}
 use Rattle.crossterm_command.proofs.Readings.{all_joined, control_formed, decimal_is_parameters, known_formed, parameters_at}
 use Rattle.crossterm_style.specs.declared.types.attribute.Attribute.TheVariants.{Reset}
+use Rattle.crossterm_style.specs.declared.content_style.ContentStyle.{ContentStyle}
 use Rattle.crossterm_style.specs.Acts.{style_acts}
 use Rattle.crossterm_style.specs.Styles.{attribute_functions, told}
 use Rattle.crossterm.specs.Sequences.{clear}
@@ -15,7 +17,7 @@ use Rattle.crossterm.proofs.StyleReadings.{Formed, attribute_formed, style_plain
 use Rattle.screen.specs.declared.strokes.Stroke.{Stroke}
 use Rattle.screen.specs.declared.strokes.Stroke.TheVariants as stroke
 use Rattle.screen.specs.Grids.{takes_one, takes_two}
-use Rattle.screen.specs.inside.Strokes.{AreFitting, IsFitting, tokens, tokens_of}
+use Rattle.screen.specs.inside.Strokes.{AreFitting, IsFitting, color_tokens, tokens, tokens_of}
 
 -- A character that is printed isn't ESC.
 escape_takes_no_cell : takes_one 0x1B ≡ false
@@ -36,6 +38,10 @@ two_formed m n =
     all_joined IsParameter (decimal m) (codes ";" ++ decimal n) (decimal_is_parameters m)
     (all_joined IsParameter (codes ";") (decimal n) (parameters_at (codes ";") refl) (decimal_is_parameters n))
 
+colors_formed : (colors : ColorOutput) (change : ContentStyle) → Formed (color_tokens colors change)
+colors_formed Enabled change = told_formed Enabled (style_acts change) (style_plain change)
+colors_formed Disabled change = tt
+
 stroke_formed : (colors : ColorOutput) (s : Stroke) → IsFitting s → Formed (tokens colors s)
 stroke_formed colors stroke.Begin f = known_formed (tokens colors stroke.Begin) refl
 stroke_formed colors stroke.End f = known_formed (tokens colors stroke.End) refl
@@ -43,6 +49,7 @@ stroke_formed colors stroke.Erase f = known_formed (clear All) refl
 stroke_formed colors (stroke.Move column row) f = control_formed _ "H" (two_formed (row + 1) (column + 1)) refl
 stroke_formed colors (stroke.Style s) f =
     all_joined IsWellFormed (attribute_functions Reset) (told colors (style_acts s)) (attribute_formed Reset) (told_formed colors (style_acts s) (style_plain s))
+stroke_formed colors (stroke.Colors change) f = colors_formed colors change
 stroke_formed colors (stroke.Print c) f = ((f.0, printed_plain c f.1), tt)
 stroke_formed colors stroke.Show f = known_formed (tokens colors stroke.Show) refl
 stroke_formed colors stroke.Hide f = known_formed (tokens colors stroke.Hide) refl

@@ -72,6 +72,10 @@ print_refusal p row other = if nat_lt row p.height then other else Some Outside
 abbrev pub clipped : Picture → ℕ → List ℕ → List ℕ
 clipped p column text = within (p.width - column) text
 
+-- the picture with characters that have room, in a row from a column on
+abbrev pub with_shown : Picture → ℕ → ℕ → List ℕ → ContentStyle → Picture
+with_shown p column row text s = record p { cells = overwritten p.cells (row * p.width + column) (cells_of s text) }
+
 -- the picture with a text in a row from a column on
 abbrev pub with_text : Picture → ℕ → ℕ → List ℕ → ContentStyle → Picture
-with_text p column row text s = record p { cells = overwritten p.cells (row * p.width + column) (cells_of s (clipped p column text)) }
+with_text p column row text s = with_shown p column row (clipped p column text) s

@@ -3,6 +3,10 @@ pub mod Cells
 pub mod Overwriting
 pub mod Texts
 pub mod Buffers
+pub mod Rects
+pub mod Alignments
+pub mod Borders
+pub mod Scrolls
 pub mod Updates
 pub mod Drawings
 pub mod Screens

@@ -1,4 +1,6 @@
 pub mod Edits
+pub mod Edges
+pub mod Settings
 pub mod Strokes
 pub mod Scans
 pub mod Pens

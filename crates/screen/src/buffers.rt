@@ -1,14 +1,15 @@
 //! Buffers: the cells that a program wants to show.
-ghost use Rattle.std.specs.Prelude.{◌≡◌, ℕ, ◌+◌, ◌*◌, ◌<◌, ◌≤◌, false, OnOk, OnErr, IsOk, IfOk, IfErr, IfSome, None, Some, chars, length, replicate, vec_capacity};
+ghost use Rattle.std.specs.Prelude.{◌≡◌, ℕ, ◌+◌, ◌*◌, ◌-◌, ◌<◌, ◌≤◌, false, OnOk, OnErr, IsOk, IfOk, IfErr, IfSome, None, Some, chars, length, replicate, vec_capacity};
 ghost use Rattle.std.specs.List.{All};
-ghost use Rattle.screen.specs.Buffers.{clipped, column_refusal, filled, filled_with, print_refusal, refusal, with_symbol, with_text};
+ghost use Rattle.screen.specs.Buffers.{clipped, column_refusal, filled, filled_with, print_refusal, refusal, with_shown, with_symbol, with_text};
 ghost use Rattle.screen.specs.Cells.{AreLaidOut, ArePaired, IsPrinted, StayInRows, Stands, blank, symbol_fault};
-ghost use Rattle.screen.specs.Texts.{columns, replaced, replacement_fault, text_columns, text_fault, without_marks};
+ghost use Rattle.screen.specs.Texts.{columns, replaced, replacement_fault, text_columns, text_fault, within, without_marks};
 ghost use Rattle.screen.specs.inside.Edits.{edited};
 
 use crate::cells::{Cell, symbol_fault, takes_two};
 use crate::faults::CellFault;
 use crate::overwriting::{fill, fill_rows, overwrite};
+use crate::rects::Rect;
 use crate::texts::{fault_without_marks, replacement_fault, text_fault, write_text};
 use crossterm_style::ContentStyle;
 use std::alloc::{AllocError, Allocator, Global};
@@ -160,6 +161,18 @@ impl<A: Allocator> Buffer<A> {
         self.height
     }
 
+    /// The rectangle of all columns and rows.
+    pub fn area(&self) -> Rect
+        ensures { result ≡ record { x = 0; y = 0; width = self.now.width; height = self.now.height } }
+    {
+        Rect {
+            x: 0,
+            y: 0,
+            width: self.width,
+            height: self.height,
+        }
+    }
+
     /// All cells, row by row. The second cell of a character that takes two columns has the character 0, and the character's style.
     pub fn cells(&self) -> &[Cell]
         ensures cells { result.now ≡ self.now.cells }
@@ -210,9 +223,19 @@ impl<A: Allocator> Buffer<A> {
         if let Some(fault) = column_fault(self.width, column, symbol) {
             return Err(fault);
         }
-        let at = place_at(self.width, column, row);
-        overwrite(&mut self.cells, at, Cell { symbol, style });
+        self.put(column, row, Cell { symbol, style });
         Ok(())
+    }
+
+    /// Sets a character that has room.
+    pub(crate) fn put(&mut self, column: u16, row: u16, cell: Cell)
+        requires row { row < self.old.height }
+        requires room { column + columns cell.symbol ≤ self.old.width }
+        requires printed { IsPrinted cell.symbol }
+        ensures { self.new ≡ with_symbol self.old column row cell.symbol cell.style }
+    {
+        let at = place_at(self.width, column, row);
+        overwrite(&mut self.cells, at, cell);
     }
 
     /// Why nothing is printed in a row: there is none, or another fault.
@@ -225,26 +248,33 @@ impl<A: Allocator> Buffer<A> {
         other
     }
 
-    /// Prints into a row that there is. In the place of each character that no cell can hold is another one, or none.
-    fn print_at(
+    /// How many columns there are from one on.
+    fn columns_from(&self, column: u16) -> u16
+        ensures { result ≡ self.now.width - column }
+    {
+        self.width.saturating_sub(column)
+    }
+
+    /// Prints into so many columns of a row. In the place of each character that no cell can hold is another one, or none.
+    pub(crate) fn print_at(
         &mut self,
-        column: u16,
-        row: u16,
+        place: (u16, u16),
+        room: u16,
         text: &str,
         replacement: Option<char>,
         style: &ContentStyle,
     ) -> u16
-        requires row { row < self.old.height }
+        requires row { place.1 < self.old.height }
+        requires room { 0 < room → place.0 + room ≤ self.old.width }
         requires replacement { IfSome replacement IsPrinted }
-        ensures used { result ≡ text_columns (clipped self.old column (edited replacement (chars text.now))) }
-        ensures picture { self.new ≡ with_text self.old column row (edited replacement (chars text.now)) style.now }
+        ensures used { result ≡ text_columns (within room (edited replacement (chars text.now))) }
+        ensures picture { self.new ≡ with_shown self.old place.0 place.1 (within room (edited replacement (chars text.now))) style.now }
     {
-        if column >= self.width {
+        if room == 0 {
             return 0;
         }
-        let room = (self.width - column) as usize;
-        let at = place_at(self.width, column, row);
-        let used = write_text(&mut self.cells, at, room, text, replacement, style);
+        let at = place_at(self.width, place.0, place.1);
+        let used = write_text(&mut self.cells, at, room as usize, text, replacement, style);
         used as u16
     }
 
@@ -277,8 +307,9 @@ impl<A: Allocator> Buffer<A> {
         if let Some(fault) = self.print_fault(row, text_fault(text)) {
             return Err(fault);
         }
+        let room = self.columns_from(column);
         // Nothing in it is to be replaced.
-        Ok(self.print_at(column, row, text, None, &style))
+        Ok(self.print_at((column, row), room, text, None, &style))
     }
 
     /// Prints any text into a row as `print` does, and returns how many columns were printed. Each character that no cell can hold is replaced by
@@ -310,7 +341,8 @@ impl<A: Allocator> Buffer<A> {
         if let Some(fault) = self.print_fault(row, replacement_fault(replacement)) {
             return Err(fault);
         }
-        Ok(self.print_at(column, row, text, Some(replacement), &style))
+        let room = self.columns_from(column);
+        Ok(self.print_at((column, row), room, text, Some(replacement), &style))
     }
 
     /// Prints a text into a row as `print` does, without its characters of no column, and returns how many columns were printed.
@@ -341,6 +373,7 @@ impl<A: Allocator> Buffer<A> {
         if let Some(fault) = self.print_fault(row, fault_without_marks(text)) {
             return Err(fault);
         }
-        Ok(self.print_at(column, row, text, None, &style))
+        let room = self.columns_from(column);
+        Ok(self.print_at((column, row), room, text, None, &style))
     }
 }

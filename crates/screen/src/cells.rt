@@ -124,7 +124,7 @@ fn has_parts(parts: (u8, u8, u8), right: Color) -> bool
 }
 
 /// The same if there may be none.
-fn is_same_choice(left: Option<Color>, right: Option<Color>) -> bool
+pub(crate) fn is_same_choice(left: Option<Color>, right: Option<Color>) -> bool
     ensures { IsTrue result ↔ (left ≡ right) }
 {
     match left {
@@ -137,7 +137,7 @@ fn is_same_choice(left: Option<Color>, right: Option<Color>) -> bool
 }
 
 /// Whether two sets are the same.
-fn is_same_set(left: Attributes, right: Attributes) -> bool
+pub(crate) fn is_same_set(left: Attributes, right: Attributes) -> bool
     ensures { IsTrue result ↔ (left ≡ right) }
 {
     left == right

@@ -9,7 +9,7 @@ use std::io;
 use std::io::ErrorKind;
 use thiserror::Error;
 
-/// Why a character isn't set in a buffer. Then the buffer hasn't changed. As an `io::Error` it has the kind `InvalidInput`.
+/// Why a character, a text or a border isn't set in a buffer. Then the buffer hasn't changed. As an `io::Error` it has the kind `InvalidInput`.
 #[derive(Clone, Copy, Debug, PartialEq, Eq, Error)]
 pub enum CellFault {
     /// The buffer has no such column or row.
@@ -27,6 +27,9 @@ pub enum CellFault {
     /// It takes two columns, and a row's last one has no room for it.
     #[error("a character of two columns in the last one")]
     LastColumn,
+    /// A rectangle has fewer than two columns or two rows, and so no border.
+    #[error("a border in fewer than two columns or rows")]
+    TooSmall,
 }
 
 /// Why a frame isn't drawn. As an `io::Error`, `Command` is the error that its fault becomes, and the others have the kind `InvalidInput`.

@@ -20,6 +20,9 @@
 //! Control characters and those of no column or of more than two are refused by name (`CellFault`). `Buffer::print_replacing` replaces them, and
 //! `Buffer::print_without_marks` leaves out those of no column.
 //!
+//! A `Rect` is some columns and rows: `Buffer::print_in` aligns a text in one, and `Buffer::border` draws lines round it. A `ListState` says
+//! which entries of a list are in sight.
+//!
 //! If a frame broke off within a control sequence, the next one begins with ESC, which ends such a sequence at a terminal. The definitions
 //! speak of whole sequences and don't say so.
 //!
@@ -31,13 +34,17 @@
 //! |---|---|
 //! | a frame shows the buffer (the fourth theorem): it leads from each grid that shows the last one to a grid that shows this one, with the cursor where it was asked to be, and prints one character for each cell that differs and no other | `Screen::draw` |
 //! | a frame is one synchronized update; it has at most one move for each run of characters side by side, one setting of the style for each run of characters in one style, and a handful at its ends | `Screen::draw` |
-//! | a screen has as much memory after a frame as before; screens and buffers give none back, and a size that they have memory for isn't refused | `Screen::{draw, new, resize}`, `Buffer::{new, resize, fill, set, print, print_replacing, print_without_marks}` |
+//! | a screen has as much memory after a frame as before; screens and buffers give none back, and a size that they have memory for isn't refused | `Screen::{draw, new, resize}`, `Buffer::{new, resize, fill, set, print, print_replacing, print_without_marks, print_in, border}` |
 //! | a wrong size or place writes nothing and changes nothing; at any other error a beginning of the frame was written and nothing else, and nothing is known of the cells | `Screen::draw` |
-//! | a character that doesn't take one column or two is refused by name, `set` refuses one of two in a row's last column too, and a refusal changes nothing | `Buffer::{fill, set, print, print_replacing, print_without_marks}` |
-//! | no half of a character of two columns is alone: what loses its other half is a space in the style that it had | `Buffer::{cells, fill, set, print, print_replacing, print_without_marks}` |
+//! | a character that doesn't take one column or two is refused by name, `set` refuses one of two in a row's last column too, and a refusal changes nothing | `Buffer::{fill, set, print, print_replacing, print_without_marks, print_in, border}` |
+//! | no half of a character of two columns is alone: what loses its other half is a space in the style that it had | `Buffer::{cells, fill, set, print, print_replacing, print_without_marks, print_in, border}` |
 //! | of a text as many characters are printed as have room in the row, and the number of the columns that they took is returned | `Buffer::{print, print_replacing, print_without_marks}` |
 //! | of any text, each character that no cell can hold is replaced by a given one | `Buffer::print_replacing` |
 //! | of a text, the characters of no column are left out, and the others are printed or refused as in `print` | `Buffer::print_without_marks` |
+//! | a text in a row of a rectangle is aligned by the columns that it takes, and has as many characters as have room in the columns that the buffer has of it | `Buffer::print_in` |
+//! | a border is four corners and the lines between them, and what isn't under them stays, but for halves; it is refused if the rectangle isn't within the buffer, has fewer than two columns or rows, or a character of it doesn't take one column | `Buffer::border` |
+//! | what two rectangles have in common, and what is left of one without a margin, has the columns and rows that it has to have, and no others | `Rect::{contains, intersection, inner}` |
+//! | the chosen entry of a list is in sight, no row is empty as long as an entry above is out of sight, and the list scrolls no further than it must | `ListState::{choose, up, down, first, last, resize}` |
 //! | as an `io::Error`, a fault has the kind `InvalidInput`; the fault of a command is the error that it becomes by itself | `From<CellFault>` and `From<DrawFault>` of `io::Error` |
 //!
 //! What to believe, in the order in which it reads (`specs/`), and where it is proved:
@@ -48,7 +55,11 @@
 //! | `Cells` | 71 | how a cell looks, which cells are paired, and which characters fit | `Cell::blank`, `Buffer::{cells, fill, set}` |
 //! | `Overwriting` | 43 | the cells that a character takes, and what becomes of the halves beside them | `Buffer::{set, print, print_replacing, print_without_marks}` |
 //! | `Texts` | 54 | the cells of a text's characters, what has room, and what is replaced in it or left out | `Buffer::{print, print_replacing, print_without_marks}` |
-//! | `Buffers` | 77 | the pictures that buffers hold | `Buffer` |
+//! | `Buffers` | 81 | the pictures that buffers hold | `Buffer` |
+//! | `Rects` | 26 | a rectangle's columns and rows, what two have in common, and what is left without a margin | `Rect` |
+//! | `Alignments` | 36 | how many columns of a rectangle a buffer has, and the one that a text begins in | `Buffer::print_in` |
+//! | `Borders` | 66 | the characters of a border, one after another, and when there is none | `Buffer::border` |
+//! | `Scrolls` | 45 | which entries of a list are in sight, and how far it scrolls | `ListState` |
 //! | `Screens` | 17 | a screen, and what it drew last | `Screen` |
 //! | `Updates` | 116 | which characters have to be printed, and how few moves and styles do it | `Screen::draw` |
 //! | `Drawings` | 130 | what a frame does to each grid, how many characters it prints, and what is refused | `Screen::draw`, `From<DrawFault>` of `io::Error` |
@@ -58,17 +69,26 @@
 //! A function's proof is in `proofs/` at the function's path; if there is no file, the prover found it by itself.
 #![tactic(auto)]
 
+mod alignment;
+mod borders;
 mod buffers;
 mod cells;
 mod faults;
+mod lists;
 mod overwriting;
 mod pens;
 mod planning;
+mod rects;
 mod screens;
+mod settings;
 mod strokes;
 mod texts;
 
+pub use alignment::Alignment;
+pub use borders::Border;
 pub use buffers::Buffer;
 pub use cells::Cell;
 pub use faults::{CellFault, DrawFault};
+pub use lists::ListState;
+pub use rects::Rect;
 pub use screens::Screen;

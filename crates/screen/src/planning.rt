@@ -1,11 +1,9 @@
 //! The strokes of a frame.
 ghost use Rattle.std.specs.Prelude.{◌≡◌, ◌++◌, ◌+◌, ◌*◌, ◌<◌, ◌≤◌, ◌^◌, ◌↔◌, ⊤, OnErr, OnOk, IfSome, IsTrue, List, ◌∷◌, [], length, slice_get, true, false, Some};
 ghost use Rattle.std.specs.Io.KnownBytes.{Appends};
-ghost use Rattle.std.specs.List.{All, AllByRecursion};
+ghost use Rattle.std.specs.List.{All};
 ghost use Rattle.crossterm_command.specs.Tokens.{text_of};
 ghost use Rattle.crossterm_command.specs.Writing.{AppendsFront};
-ghost use Rattle.crossterm_style.specs.Acts.{style_acts};
-ghost use Rattle.crossterm_style.specs.Appearance.{FitsAct};
 ghost use Rattle.screen.specs.Cells.{ArePaired, StayInRows, Stands, last_of};
 ghost use Rattle.screen.specs.Grids.{right_of};
 ghost use Rattle.screen.specs.declared.strokes.Stroke.{Stroke};
@@ -13,12 +11,12 @@ ghost use Rattle.screen.specs.inside.Pens.{Puts};
 ghost use Rattle.screen.specs.inside.Scans.{IsWithin, Planned, Visited};
 ghost use Rattle.screen.specs.inside.Strokes.{AreFitting, cell_strokes, cursor_strokes, first_strokes, last_strokes, move_strokes, style_strokes, tokens_of};
 
-use crate::cells::{Cell, has_to_be_printed, is_same_style, is_wide};
+use crate::cells::{Cell, has_to_be_printed, is_wide};
 use crate::pens::{Pen, finish, put};
+use crate::settings::{Setting, setting_of};
 use crate::strokes::Stroke;
 use crossterm_command::{ColorOutput, CommandFault};
 use crossterm_style::ContentStyle;
-use crossterm_style::laws::style_fits;
 use std::io;
 
 /// The column and the row of a place.
@@ -42,30 +40,29 @@ fn put_move<W: io::Write>(writer: &mut W, pen: &mut Pen, there: bool, place: (u1
 }
 
 /// Sets a style, unless it is set.
-fn put_style<W: io::Write>(writer: &mut W, pen: &mut Pen, there: bool, style: &ContentStyle)
-    ensures fits { AllByRecursion FitsAct (style_acts style.now) }
-    ensures puts { Puts (style_strokes there style.now) (W.contents writer.old) pen.old (W.contents writer.new) pen.new }
+fn put_style<W: io::Write>(writer: &mut W, pen: &mut Pen, setting: &Setting)
+    ensures { Puts (style_strokes setting.now) (W.contents writer.old) pen.old (W.contents writer.new) pen.new }
 {
-    style_fits(*style);
-    if !there {
-        put(writer, pen, Stroke::Style(*style));
+    match setting {
+        Setting::Kept => {}
+        Setting::Colors(change) => put(writer, pen, Stroke::Colors(*change)),
+        Setting::Whole(style) => put(writer, pen, Stroke::Style(*style)),
     }
 }
 
-/// Paints a cell, by whether the cursor is there and the style is set.
+/// Paints a cell, by whether the cursor is there and by how its style is set.
 fn paint<W: io::Write>(
     writer: &mut W,
     pen: &mut Pen,
     there: bool,
-    right: bool,
+    setting: &Setting,
     place: (u16, u16),
     cell: &Cell,
 )
-    ensures fits { AllByRecursion FitsAct (style_acts cell.now.style) }
-    ensures puts { Puts (cell_strokes there right place.0 place.1 cell.now) (W.contents writer.old) pen.old (W.contents writer.new) pen.new }
+    ensures { Puts (cell_strokes there setting.now place.0 place.1 cell.now) (W.contents writer.old) pen.old (W.contents writer.new) pen.new }
 {
     put_move(writer, pen, there, place);
-    put_style(writer, pen, right, &cell.style);
+    put_style(writer, pen, setting);
     put(writer, pen, Stroke::Print(cell.symbol));
 }
 
@@ -76,16 +73,6 @@ fn is_at(cursor: Option<usize>, at: usize) -> bool
     match cursor {
         None => false,
         Some(known) => known == at,
-    }
-}
-
-/// Whether a style is known to be set.
-fn has_style(set: Option<ContentStyle>, style: ContentStyle) -> bool
-    ensures { IsTrue result ↔ (set ≡ Some style) }
-{
-    match set {
-        None => false,
-        Some(known) => is_same_style(known, style),
     }
 }
 
@@ -150,8 +137,8 @@ fn scan<W: io::Write>(
         if has_to_be_printed(&before[at], cell) {
             let place = place_of(at, width, height);
             let there = is_at(cursor, at);
-            let right = has_style(style, cell.style);
-            paint(writer, pen, there, right, place, cell);
+            let setting = setting_of(style, &cell.style);
+            paint(writer, pen, there, &setting, place, cell);
             cursor = right_of(last_of(at, cell), width);
             style = Some(cell.style);
         }

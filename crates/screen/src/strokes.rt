@@ -22,6 +22,8 @@ pub(crate) enum Stroke {
     Move(u16, u16),
     /// Sets a style, whatever was set before.
     Style(ContentStyle),
+    /// Sets the colours that are there, if colours are written.
+    Colors(ContentStyle),
     /// Prints a character.
     Print(char),
     /// Shows the cursor.
@@ -41,6 +43,10 @@ impl Command for Stroke {
             Stroke::Style(style) => {
                 (SetAttribute(Attribute::Reset), SetStyle(*style)).write_ansi(f, colors)
             }
+            Stroke::Colors(change) => match colors {
+                ColorOutput::Enabled => SetStyle(*change).write_ansi(f, colors),
+                ColorOutput::Disabled => Ok(()),
+            },
             Stroke::Print(symbol) => Print(*symbol).write_ansi(f, colors),
             Stroke::Show => Show.write_ansi(f, colors),
             Stroke::Hide => Hide.write_ansi(f, colors),

@@ -1,9 +1,9 @@
 //! Texts in cells.
-ghost use Rattle.std.specs.Prelude.{◌≡◌, ◌+◌, ◌≤◌, IfSome, chars, length};
+ghost use Rattle.std.specs.Prelude.{◌≡◌, ◌+◌, ◌≤◌, IfSome, None, chars, length};
 ghost use Rattle.std.specs.List.{AllByRecursion};
 ghost use Rattle.screen.specs.Cells.{IsPrinted};
 ghost use Rattle.screen.specs.Overwriting.{overwritten};
-ghost use Rattle.screen.specs.Texts.{cells_of, replacement_fault, text_columns, text_fault, within, without_marks};
+ghost use Rattle.screen.specs.Texts.{cells_of, columns, replacement_fault, text_columns, text_fault, within, without_marks};
 ghost use Rattle.screen.specs.inside.Edits.{edit, edited, fault_unless_mark};
 
 use crate::cells::{Cell, is_mark, symbol_fault, takes_two};
@@ -45,10 +45,35 @@ pub(crate) fn fault_without_marks(text: &str) -> Option<CellFault>
     None
 }
 
+/// How many columns a character takes, if cells can hold it.
+fn width(symbol: char) -> u16
+    ensures value { result ≡ columns symbol }
+    ensures few { result ≤ 2 }
+{
+    if takes_two(symbol) { 2 } else { 1 }
+}
+
+/// How many of so many columns a text takes. Its first character that has no room is left out, and so are all behind it.
+pub(crate) fn columns_within(text: &str, room: u16) -> u16
+    ensures value { result ≡ text_columns (within room (chars text.now)) }
+    ensures few { result ≤ room }
+{
+    let mut used = 0;
+    for symbol in text.chars() {
+        let taken = width(symbol);
+        if taken > room - used {
+            return used;
+        }
+        used += taken;
+    }
+    used
+}
+
 /// Why a character can't replace others, if it can't: it has to take one column.
 pub(crate) fn replacement_fault(symbol: char) -> Option<CellFault>
     ensures value { result ≡ replacement_fault symbol }
     ensures printed { result ≡ None → IsPrinted symbol }
+    ensures one { result ≡ None → columns symbol ≡ 1 }
 {
     match symbol_fault(symbol) {
         Some(fault) => Some(fault),

@@ -18,11 +18,12 @@ use Rattle.crossterm_parse.specs.Meaning.{reply_meaning, csi_meaning, flags_repl
 use Rattle.crossterm_parse.specs.inside.Automaton.{Kept, parameters_after, readings_at}
 use Rattle.crossterm_parse.specs.inside.Numbers.{Tracks, number_after, reading}
 use Rattle.crossterm_parse.specs.Number.{number}
-use Rattle.crossterm_parse.specs.Numbered.{Readings, readings_of, numbered, sgr, last_of, front_of}
+use Rattle.crossterm_parse.specs.Numbered.{readings_of, numbered, sgr, last_of, front_of}
 use Rattle.crossterm_parse.specs.declared.meaning.Meaning.{Meaning}
 use Rattle.crossterm_parse.specs.declared.meaning.Meaning.TheVariants.{PrimaryDeviceAttributes}
 use Rattle.crossterm_parse.specs.declared.number.Number.{Number}
 use Rattle.crossterm_parse.specs.declared.numbered.Parameters.{Parameters}
+use Rattle.crossterm_parse.specs.declared.readings.Readings.{Readings}
 use Rattle.crossterm_parse.proofs.NumberLaws.{tracks_more, tracks_reading}
 use Rattle.crossterm_parse.proofs.MachineLaws.{kept_more, kept_readings, last_at, front_at}
 use Rattle.crossterm_parse.proofs.DivisionLaws.{divide_whole, divide_open, nil_undecided}

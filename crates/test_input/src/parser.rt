@@ -189,6 +189,36 @@ static IN_PIECES: [(&str, &[Piece<'static>]); 12] = [
     ),
 ];
 
+/// Bytes that are cut at each place, each with a name: sequences with plain numbers, and some like them, behind a letter that makes room.
+static CUT: [(&str, &[u8]); 4] = [
+    (
+        "keys with plain numbers",
+        b"a\x1b[1;5A\x1b[97;5u\x1b[15~\x1b[3;5:3~\x1b[10u\x1b[A\x1bOP",
+    ),
+    (
+        "reports with plain numbers",
+        b"a\x1b[<35;12;7M\x1b[<0;1;300m\x1b[<256;1;1M\x1b[<0;0;1M",
+    ),
+    (
+        "many digits",
+        b"a\x1b[0000097u\x1b[123456;2A\x1b[1234567;2A\x1b[<0;65535;65536M",
+    ),
+    (
+        "numbers that are not plain",
+        b"a\x1b[;5A\x1b[1;A\x1b[97:65;2u\x1b[1;2:3:4A\x1b[<1:2;3;4M\x1b[200~a\x1b[201~\x1b[200u",
+    ),
+];
+
+/// Whether the bytes are divided as defined, in whichever two pieces they come.
+fn agrees_in_two(alloc: Global, bytes: &[u8]) -> bool {
+    let mut agrees = true;
+    for place in 0..bytes.len() {
+        let pieces: [Piece<'_>; 2] = [(&bytes[..place], Joined), (&bytes[place..], Raw)];
+        agrees = agrees && does_agree(alloc, &pieces);
+    }
+    agrees
+}
+
 #[test]
 fn pieces_are_divided_as_defined(rt: HostRuntime) {
     for (name, bytes) in &AT_ONCE {
@@ -196,6 +226,9 @@ fn pieces_are_divided_as_defined(rt: HostRuntime) {
     }
     for (name, pieces) in &IN_PIECES {
         expect!(rt; does_agree(rt.alloc(), pieces), name);
+    }
+    for (name, bytes) in &CUT {
+        expect!(rt; agrees_in_two(rt.alloc(), bytes), name);
     }
 }
 

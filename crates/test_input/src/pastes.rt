@@ -1,12 +1,13 @@
 //! Pastes that are long or cut, and the calls that count steps.
 
-ghost use Rattle.std.specs.Prelude.{◌≡◌, ◌<◌};
+ghost use Rattle.std.specs.Prelude.{◌≡◌, ◌<◌, ⊤};
 
 use crate::refused::endless;
 use crossterm_parse::meaning::Meaning;
+use crossterm_parse::outlet::Outlet;
 use crossterm_parse::parse::Parser;
 use crossterm_parse::paste::PasteText;
-use crossterm_parse::state::{Progress, State};
+use crossterm_parse::state::State;
 use crossterm_parse::steps::Steps;
 use crossterm_read::read::{Call, Reply, Trace, play};
 use crossterm_read::source::Act;
@@ -114,36 +115,81 @@ fn a_long_paste_ends(rt: HostRuntime) -> Result<(), AllocError> {
     Ok(())
 }
 
+/// An outlet with room for a few events, which counts what it is given.
+#[derive(Drop)]
+struct Counter {
+    room: usize,
+    given: usize,
+}
+
+impl Outlet for Counter {
+    ghost given = { λ _ _ _. ⊤ };
+
+    ghost room = { λ counter. counter.room };
+
+    ghost given_none = { λ _. tt };
+
+    ghost given_on = { λ _ _ _ _ _ _ _. tt };
+
+    fn has_room(&mut self) -> bool {
+        self.room > 0
+    }
+
+    fn room_now(&self) -> usize {
+        self.room
+    }
+
+    fn give(&mut self, _meaning: Meaning) {
+        self.room -= 1;
+        self.given = self.given.saturating_add(1);
+    }
+
+    fn give_letters(&mut self, letters: &[u8]) {
+        self.room -= letters.len();
+        self.given = self.given.saturating_add(letters.len());
+    }
+}
+
 /// A bound that holds of the state of a sequence: it is copied.
-fn copied<T: Copy>(value: &T) -> T {
+fn copied<T: Copy>(value: &T) -> T
+    ensures { result ≡ value.now }
+{
     *value
 }
 
-/// Whether ESC opens a sequence, from a copy of the ground state.
-fn opens<L: Ledger>(steps: &mut Steps<L>) -> bool {
+/// Whether text, a character in UTF-8 and the front of a key are taken at once, and the key's last byte waits until there is room.
+fn waits_for_room<L: Ledger>(steps: &mut Steps<L>) -> bool {
+    let mut counter = Counter { room: 3, given: 0 };
     let mut state = copied(&State::Ground);
-    let goes_on = matches!(state.put(27, false, steps), Progress::Open);
-    goes_on && matches!(state, State::Escape)
+    let piece = b"ab\xc3\xa9\x1b[1;5A";
+    let taken = state.take(piece, false, false, &mut counter, steps);
+    let waits = taken + 1 == piece.len() && counter.given == 3;
+    let means = matches!(state.meaning(b'A', false), Some(Meaning::Key(_)));
+    if !waits || !means || state.is_paste() {
+        return false;
+    }
+    counter.room = 1;
+    let last = state.take(b"A", false, false, &mut counter, steps);
+    last == 1 && counter.given == 4 && matches!(state, State::Ground)
 }
 
-/// Whether the numbers of a key are read at once, and what the key means is asked of its state.
-fn reads_numbers<L: Ledger>(steps: &mut Steps<L>) -> bool {
-    let mut state = copied(&State::Ground);
-    for byte in b"\x1b[1" {
-        if !matches!(state.put(*byte, false, steps), Progress::Open) {
+/// Whether the start of a paste is taken and nothing behind it, and its end is met.
+fn stops_at_a_paste<L: Ledger>(steps: &mut Steps<L>) -> bool {
+    let mut counter = Counter { room: 0, given: 0 };
+    let mut state = State::Ground;
+    let start = b"\x1b[200~a";
+    let taken = state.take(start, false, false, &mut counter, steps);
+    if taken + 1 != start.len() || !state.is_paste() {
+        return false;
+    }
+    for byte in b"\x1b[201" {
+        if !state.is_paste() || !state.put_in_paste(*byte, steps) {
             return false;
         }
     }
-    let read = state.put_numbers(b";5A", steps) == 2;
-    let whole = matches!(state.put(b'A', false, steps), Progress::Whole);
-    read && whole && matches!(state.meaning(b'A', false), Some(Meaning::Key(_)))
-}
-
-/// Whether text is put in at once.
-fn reads_text<L: Ledger>(steps: &mut Steps<L>) -> bool {
-    let ground = State::Ground;
-    let letters = ground.put_letters(b"ab\x1b", steps) == 2;
-    letters && matches!(ground.put_character(b"\xc3\xa9a", steps), Some(('é', 2)))
+    let goes_on = state.is_paste() && state.put_in_paste(b'~', steps);
+    state.end();
+    !goes_on && !state.is_paste()
 }
 
 /// Whether a text is what was put in, without the five bytes of its end.
@@ -171,8 +217,8 @@ fn counts<L: Ledger>(alloc: Global, blank: Blank) -> bool
 {
     let mut steps: Steps<L> = Steps::new(blank);
     let kept = matches!(keeps(alloc, &mut steps), Ok(true));
-    let runs = reads_numbers(&mut steps) && reads_text(&mut steps);
-    kept && runs && opens(&mut steps) && advances(alloc, &mut steps)
+    let takes = waits_for_room(&mut steps) && stops_at_a_paste(&mut steps);
+    kept && takes && advances(alloc, &mut steps)
 }
 
 fn counts_anew(alloc: Global) -> bool {

@@ -49,6 +49,11 @@ fn answer(rt: &HostRuntime, line: &str) -> Result<Vec<u8>, AllocError> {
 /// represent the texts below.
 const LINES: &str = "\
 frame -> bytes 390984 commands 40000
+screen all -> bytes 168867
+screen few -> bytes 1534
+screen line -> bytes 26312
+screen one -> bytes 37
+screen wide -> bytes 31293
 make letters 100 -> bytes 100 keys 100 ALONE
 make utf8 100 -> bytes 100 keys 37 ALONE
 make utf8 1 -> bytes 1 keys 1 ALONE
@@ -69,12 +74,15 @@ make other 100 -> USAGE
 made keys 100 -> USAGE
 make keys 100 100 -> USAGE
 frame 1 -> USAGE
+screen other -> USAGE
+screen other --time -> USAGE
+screen all 1 -> USAGE
 recorded 1 -> USAGE
 --time frame -> USAGE
 count -> USAGE";
 
 const USAGE: &str =
-    "probe: usage: probe bench [frame] [--time] | probe bench held REPLIES | probe bench recorded | probe bench keys BINDINGS | probe bench take read|poll|shared|stream KEYS | probe bench make letters|utf8|keys|mouse|replies|paste|hostile BYTES";
+    "probe: usage: probe bench [frame] [--time] | probe bench screen all|few|line|one|wide [--time] | probe bench held REPLIES | probe bench recorded | probe bench keys BINDINGS | probe bench take read|poll|shared|stream KEYS | probe bench make letters|utf8|keys|mouse|replies|paste|hostile BYTES";
 
 /// What is counted if nothing but keys came.
 const ALONE: &str = "mouse 0 pastes 0 focus 0 resizes 0 replies 0";

@@ -14,7 +14,7 @@ use Rattle.crossterm_parse.specs.Fields.{cut}
 use Rattle.crossterm_parse.specs.inside.Fields.{empty_fields, fields_after, whole_of, ReadsFields}
 use Rattle.crossterm_parse.specs.Meaning.{pressed_with, single, with_alt, after_ss3, after_csi, linux_key, flags_reply, decoded_character, meaning, seen_meaning, pasted}
 use Rattle.crossterm_parse.specs.inside.Numbers.{Tracks, number_after, reading}
-use Rattle.crossterm_parse.specs.Numbered.{Readings, numbered_by, sgr_by, x10_by, last_of}
+use Rattle.crossterm_parse.specs.Numbered.{numbered_by, sgr_by, x10_by, last_of}
 use Rattle.crossterm_parse.specs.inside.Utf8.{utf8_after, TracksUtf8}
 use Rattle.crossterm_parse.specs.declared.character.Begun.{Begun}
 use Rattle.crossterm_parse.specs.declared.character.Begun.TheVariants.{One, Two, Three}
@@ -30,6 +30,7 @@ use Rattle.crossterm_parse.specs.declared.paste.Met.{Met}
 use Rattle.crossterm_parse.specs.declared.paste.Met.TheVariants as met
 use Rattle.crossterm_parse.specs.declared.paste.Opening.{Opening}
 use Rattle.crossterm_parse.specs.declared.paste.Opening.TheVariants as opening
+use Rattle.crossterm_parse.specs.declared.readings.Readings.{Readings}
 use Rattle.crossterm_parse.specs.declared.state.State.{State}
 use Rattle.crossterm_parse.specs.declared.state.State.TheVariants.{Ground, Escape, Ss3, Csi, LinuxKey, X10, Sgr, Private, Reply, Numbered, Paste, Utf8}
 use Rattle.crossterm_parse.specs.declared.utf8.Validity.{Validity}

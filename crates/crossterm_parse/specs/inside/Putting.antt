@@ -1,10 +1,13 @@
--- What one byte does to a parser.
-use Rattle.std.specs.Prelude.{◌≡◌, ◌≤◌, ◌<◌, Bool, true, ℕ, ◌+◌, length, List, ◌++◌, ◌∷◌, [], false}
+-- What bytes do to a parser.
+use Rattle.std.specs.Prelude.{◌≡◌, ◌≢◌, ◌⊎◌, ◌≤◌, ◌<◌, ◌==◌, ◌&&◌, not, Bool, true, false, ℕ, ◌+◌, ◌*◌, get_or, length, List, ◌++◌, ◌∷◌, [], map, take}
+use Rattle.crossterm_types.specs.Seen.{Seen}
 use Rattle.crossterm_parse.specs.inside.Automaton.{events_left, is_paste, state_after, state_left, text_left}
+use Rattle.crossterm_parse.specs.Marked.{marked}
 use Rattle.crossterm_parse.specs.Meaning.{seen_meaning}
 use Rattle.crossterm_parse.specs.declared.meaning.Meaning.{Meaning}
+use Rattle.crossterm_parse.specs.declared.state.State.{State}
 use Rattle.crossterm_parse.specs.declared.state.State.TheVariants.{Ground}
-use Rattle.crossterm_parse.specs.View.{ParserView}
+use Rattle.crossterm_parse.specs.View.{AdvancesOver, ParserView}
 
 -- A byte was put in, with the step that follows from the state: the state that it leads to, the text of an open paste, and the event that it gives, if any.
 abbrev pub PutsByte : ParserView → ParserView → ℕ → Bool → Bool → Type 0
@@ -16,35 +19,43 @@ PutsByte old new byte raw pause = (new.state ≡ state_left (state_after old.sta
 abbrev pub StaysAsItWas : ParserView → ParserView → Type 0
 StaysAsItWas old new = (new.waiting ≡ old.waiting) × (new.state ≡ old.state) × (new.text ≡ old.text) × (old.room ≤ new.room)
 
--- What comes of one more byte, with the mode that it came in and whether a pause follows: the parser and the steps before and after, and
--- whether the byte was taken, which it isn't where memory was refused.
-pub record Puts (old new : ParserView) (byte : ℕ) (raw pause : Bool) (before after : ℕ) (taken : Bool) : Type 0 where
-  pub put : taken ≡ true → PutsByte old new byte raw pause
-  pub stays : taken ≡ false → StaysAsItWas old new
-  pub free : is_paste old.state ≡ false → events_left (state_after old.state byte raw pause) old.text ≡ [] → taken ≡ true
-  pub reserved : is_paste old.state ≡ false → 0 < old.room → taken ≡ true
-  pub full : is_paste old.state ≡ false → taken ≡ false → new.room ≡ 0
-  pub room : old.room ≤ new.room + 1
-  pub steps : taken ≡ true → after + length new.text ≤ before + length old.text + 2
-  pub counted : before < after
-
 -- The bytes were put in one after another, each with the step that follows from the state, whatever the mode and the pauses.
 abbrev pub PutsAll : ParserView → ParserView → List ℕ → Type 0
 PutsAll old new [] = (new.state ≡ old.state) × (new.text ≡ old.text) × (new.waiting ≡ old.waiting)
 PutsAll old new (b ∷ bs) = (mid : ParserView) × ((raw pause : Bool) → PutsByte old mid b raw pause) × PutsAll mid new bs
 
--- The bytes were put in one after another, whatever the mode, and each but the last with no pause after it.
-abbrev pub PutsOn : ParserView → ParserView → List ℕ → Type 0
-PutsOn old new [] = (new.state ≡ old.state) × (new.text ≡ old.text) × (new.waiting ≡ old.waiting)
-PutsOn old new (b ∷ bs) = (mid : ParserView) × ((raw pause : Bool) → (pause ≡ true → length bs ≡ 0) → PutsByte old mid b raw pause) × PutsOn mid new bs
+-- The bytes were put in one after another, all in one mode, and each but the last with no pause after it.
+abbrev pub PutsOn : Bool → ParserView → ParserView → List ℕ → Type 0
+PutsOn raw old new [] = (new.state ≡ old.state) × (new.text ≡ old.text) × (new.waiting ≡ old.waiting)
+PutsOn raw old new (b ∷ bs) = (mid : ParserView) × ((pause : Bool) → (pause ≡ true → length bs ≡ 0) → PutsByte old mid b raw pause) × PutsOn raw mid new bs
 
 -- An event was given, and the parser is in the ground state.
 abbrev pub Gives : ParserView → ParserView → Meaning → Type 0
 Gives old new m = (new.state ≡ Ground) × (new.text ≡ old.text) × (new.waiting ≡ old.waiting ++ seen_meaning m ∷ [])
 
--- So many bytes in front were put in: a step each, and an event each at most. The text of a paste stays as long as it was.
-pub record TakesFront (old new : ParserView) (bytes : List ℕ) (count before after : ℕ) : Type 0 where
+-- A parser that has given these events, with no text of a paste.
+abbrev pub bare : State → List Seen → ParserView
+bare state waiting = record { waiting = waiting; state = state; text = []; room = 0 }
+
+-- From one state to another something was done, and what came of it was given to an outlet, whatever came before.
+abbrev pub Through : {O : Type 0} → (O → List Meaning → O → Type 0) → (ParserView → ParserView → Type 0) → State → State → O → O → Type 0
+Through given does old new before after =
+    (meanings : List Meaning) × given before meanings after × ((waiting : List Seen) → does (bare old waiting) (bare new (waiting ++ map seen_meaning meanings)))
+
+-- So many bytes in front were put in: a step each, and an event each at most, of the room that was and is.
+pub record TakesFront (had left : ℕ) (bytes : List ℕ) (count before after : ℕ) : Type 0 where
   pub within : count ≤ length bytes
-  pub text : length new.text ≡ length old.text
-  pub room : old.room ≤ new.room + count
+  pub room : had ≤ left + count
   pub steps : after ≡ before + count
+
+-- Bytes in front were taken: all, or those up to a paste's start or end, or those before the first one that wasn't taken for want of memory.
+pub record TakesPart (old new : ParserView) (piece : List ℕ) (more raw : Bool) (count before after : ℕ) : Type 0 where
+  pub within : count ≤ length piece
+  pub divided : AdvancesOver old new (take count (marked piece more raw))
+  pub room : old.room ≤ new.room + count
+  pub counted : before + count ≤ after
+  pub steps : (count ≡ length piece) ⊎ (is_paste new.state ≢ is_paste old.state) → after + length new.text ≤ before + length old.text + 2 * count
+  pub turns : is_paste new.state ≢ is_paste old.state → 0 < count
+  pub full : count < length piece → is_paste old.state ≡ false → is_paste new.state ≡ false → new.room ≡ 0
+  pub ends : count < length piece → is_paste old.state ≡ false → is_paste new.state ≡ false → (text : List ℕ)
+      → events_left (state_after new.state (get_or piece count 0) raw (not more && (count + 1 == length piece))) text ≢ []

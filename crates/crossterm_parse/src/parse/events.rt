@@ -39,7 +39,7 @@ impl<A: Allocator + Clone> Iterator for Events<'_, A> {
 
     fn size_hint(&self) -> (usize, Option<usize>) {
         let parser: &Parser<A> = self.parser;
-        let count = parser.waiting.len();
+        let count = parser.queue.len();
         (count, Some(count))
     }
 }

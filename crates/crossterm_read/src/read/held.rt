@@ -75,6 +75,7 @@ impl<A: Allocator> Model for HeldEvents<A> {
 
 impl<A: Allocator + Clone> HeldEvents<A> {
     // Makes room for one event, of whichever kind.
+    #[inline(always)]
     pub(crate) fn reserve(&mut self) -> Result<(), AllocError>
         ensures store { self.new.store ≡ self.old.store }
         ensures room { self.old.room ≤ self.new.room }
@@ -84,6 +85,17 @@ impl<A: Allocator + Clone> HeldEvents<A> {
         if self.len < self.limit {
             return Ok(());
         }
+        self.grow()
+    }
+
+    // Makes more room.
+    #[inline(never)]
+    fn grow(&mut self) -> Result<(), AllocError>
+        requires { self.old.room ≡ 0 }
+        ensures store { self.new.store ≡ self.old.store }
+        ensures ok { IfOk result (λ _. 0 < self.new.room) }
+        ensures err { IfErr result (λ _. self.new ≡ self.old) }
+    {
         let more = self.len.saturating_mul(2).max(3);
         match &mut self.queues {
             Some(queues) => match queues.reserve_beyond(more) {

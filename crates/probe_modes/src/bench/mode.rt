@@ -1,7 +1,8 @@
 //! What the command line asks for.
 
+use crate::bench::cells::Case;
 use crate::bench::workload::Workload;
-use crate::bench::{frame, held, input, keys, recorded};
+use crate::bench::{cells, frame, held, input, keys, recorded};
 use crate::fault::Fault;
 use std::alloc::Allocator;
 use std::io::{Read, Write};
@@ -18,6 +19,10 @@ pub enum Mode {
     Frame,
     /// Times a frame.
     TimeFrame,
+    /// Counts the bytes of a screen's frame.
+    Screen(Case),
+    /// Times it.
+    TimeScreen(Case),
     /// Times a key behind so many held replies.
     TimeHeld(u32),
     /// Times a key with a recorder and without one.
@@ -35,8 +40,9 @@ impl Mode {
             [] => Some(Mode::Count),
             [word] => Mode::of_word(word.as_str()),
             [first, second] => Mode::of_words(first.as_str(), second.as_str()),
-            [first, name, count] => match first.as_str() {
-                "make" => Mode::making(name.as_str(), count.as_str()),
+            [first, name, last] => match (first.as_str(), last.as_str()) {
+                ("make", count) => Mode::making(name.as_str(), count),
+                ("screen", "--time") => Mode::timing(name.as_str()),
                 _ => None,
             },
             _ => None,
@@ -56,10 +62,15 @@ impl Mode {
     fn of_words(first: &str, second: &str) -> Option<Mode> {
         match (first, second) {
             ("frame", "--time") => Some(Mode::TimeFrame),
+            ("screen", name) => Some(Mode::Screen(Case::named(name)?)),
             ("held", count) => Some(Mode::TimeHeld(count.parse().ok()?)),
             ("keys", count) => Some(Mode::TimeKeys(count.parse().ok()?)),
             _ => None,
         }
+    }
+
+    fn timing(name: &str) -> Option<Mode> {
+        Some(Mode::TimeScreen(Case::named(name)?))
     }
 
     fn making(name: &str, count: &str) -> Option<Mode> {
@@ -79,6 +90,8 @@ impl Mode {
             Mode::TimeInput => input::time(clock, alloc, reader, writer),
             Mode::Frame => frame::count(alloc, writer),
             Mode::TimeFrame => frame::time(clock, alloc, writer),
+            Mode::Screen(case) => cells::count(alloc, case, writer),
+            Mode::TimeScreen(case) => cells::time(clock, alloc, case, writer),
             Mode::TimeHeld(replies) => held::time(clock, alloc, replies, writer),
             Mode::TimeRecorded => recorded::time(clock, alloc, writer),
             Mode::TimeKeys(count) => keys::time(clock, alloc, count, writer),

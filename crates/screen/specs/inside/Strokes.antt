@@ -5,6 +5,7 @@ use Rattle.crossterm_command.specs.Controls.{reset, set}
 use Rattle.crossterm_command.specs.Tokens.{Token}
 use Rattle.crossterm_command.specs.Tokens.Token.{Char}
 use Rattle.crossterm_command.specs.declared.color_output.ColorOutput.{ColorOutput}
+use Rattle.crossterm_command.specs.declared.color_output.ColorOutput.TheVariants.{Enabled, Disabled}
 use Rattle.crossterm_style.specs.declared.content_style.ContentStyle.{ContentStyle}
 use Rattle.crossterm_style.specs.declared.types.attribute.Attribute.TheVariants.{Reset}
 use Rattle.crossterm_style.specs.Acts.{style_acts}
@@ -12,9 +13,16 @@ use Rattle.crossterm_style.specs.Styles.{attribute_functions, no_style, told}
 use Rattle.crossterm.specs.Sequences.{clear, move_to}
 use Rattle.crossterm.specs.declared.terminal.ClearType.TheVariants.{All}
 use Rattle.screen.specs.declared.cells.Cell.{Cell}
+use Rattle.screen.specs.declared.settings.Setting.{Setting}
+use Rattle.screen.specs.declared.settings.Setting.TheVariants as setting
 use Rattle.screen.specs.declared.strokes.Stroke.{Stroke}
 use Rattle.screen.specs.declared.strokes.Stroke.TheVariants as stroke
 use Rattle.screen.specs.Cells.{IsPrinted}
+
+-- what sets colours, where they are written
+abbrev pub color_tokens : ColorOutput → ContentStyle → List Token
+color_tokens Enabled change = told Enabled (style_acts change)
+color_tokens Disabled change = []
 
 -- what a terminal is told by a stroke
 abbrev pub tokens : ColorOutput → Stroke → List Token
@@ -23,6 +31,7 @@ tokens colors stroke.End = reset "2026"
 tokens colors stroke.Erase = clear All
 tokens colors (stroke.Move column row) = move_to column row
 tokens colors (stroke.Style s) = attribute_functions Reset ++ told colors (style_acts s)
+tokens colors (stroke.Colors change) = color_tokens colors change
 tokens colors (stroke.Print c) = Char c ∷ []
 tokens colors stroke.Show = set "25"
 tokens colors stroke.Hide = reset "25"
@@ -47,12 +56,14 @@ is_move_stroke s = false
 
 abbrev pub is_style_stroke : Stroke → Bool
 is_style_stroke (stroke.Style s) = true
+is_style_stroke (stroke.Colors change) = true
 is_style_stroke s = false
 
 -- neither of these, and no character
 abbrev pub is_other_stroke : Stroke → Bool
 is_other_stroke (stroke.Move column row) = false
 is_other_stroke (stroke.Style s) = false
+is_other_stroke (stroke.Colors change) = false
 is_other_stroke (stroke.Print c) = false
 is_other_stroke s = true
 
@@ -69,12 +80,14 @@ abbrev pub move_strokes : Bool → ℕ → ℕ → List Stroke
 move_strokes there column row = if there then [] else stroke.Move column row ∷ []
 
 -- what sets a style, unless it is set
-abbrev pub style_strokes : Bool → ContentStyle → List Stroke
-style_strokes there s = if there then [] else stroke.Style s ∷ []
+abbrev pub style_strokes : Setting → List Stroke
+style_strokes setting.Kept = []
+style_strokes (setting.Colors change) = stroke.Colors change ∷ []
+style_strokes (setting.Whole s) = stroke.Style s ∷ []
 
--- what paints a cell, by whether the cursor is there and the style is set
-abbrev pub cell_strokes : Bool → Bool → ℕ → ℕ → Cell → List Stroke
-cell_strokes there right column row c = move_strokes there column row ++ (style_strokes right c.style ++ (stroke.Print c.symbol ∷ []))
+-- what paints a cell, by whether the cursor is there and how the style is set
+abbrev pub cell_strokes : Bool → Setting → ℕ → ℕ → Cell → List Stroke
+cell_strokes there how column row c = move_strokes there column row ++ (style_strokes how ++ (stroke.Print c.symbol ∷ []))
 
 -- ---- the beginning and the end of a frame
 

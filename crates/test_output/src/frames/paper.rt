@@ -61,7 +61,7 @@ pub struct Paper {
 }
 
 /// How the styles look that the tests use.
-static LOOKS: [Look; 5] = [
+static LOOKS: [Look; 7] = [
     PLAIN,
     Look { front: 9, ..PLAIN },
     Look {
@@ -79,11 +79,22 @@ static LOOKS: [Look; 5] = [
         is_bold: true,
         ..PLAIN
     },
+    Look {
+        front: 9,
+        back: 200,
+        ..PLAIN
+    },
+    Look {
+        front: 16,
+        back: 200,
+        is_bold: true,
+        ..PLAIN
+    },
 ];
 
 /// What a style is to look like: the styles that the tests use, by a number.
 pub fn look_of(number: u32) -> Look {
-    LOOKS[(number % 5) as usize]
+    LOOKS[(number % 7) as usize]
 }
 
 fn color_of(number: u32) -> Option<Color> {
@@ -163,6 +174,8 @@ impl Paper {
             [1, ..] => self.look.is_bold = true,
             [7, ..] => self.look.is_reverse = true,
             [38, 5, number, _] => self.look.front = number,
+            [39, ..] => self.look.front = PLAIN.front,
+            [49, ..] => self.look.back = PLAIN.back,
             [48, 5, number, _] => self.look.back = number,
             _ => self.is_spoilt = true,
         }

@@ -1,8 +1,8 @@
 //! Texts in a buffer: clipped at the last column, and refused whole if a cell can't hold a character, or with such ones replaced. The second
-//! cell of a character of two columns is written as U+0000.
+//! cell of a character of two columns is written as U+0000. And the lines of a plain border.
 
 use crossterm_style::ContentStyle;
-use screen::{Buffer, CellFault};
+use screen::{Border, Buffer, CellFault};
 use std::alloc::{AllocError, Global};
 use test_support::expect;
 
@@ -132,5 +132,20 @@ fn are_printed(alloc: Global) -> Result<bool, AllocError> {
 #[test]
 fn texts_are_clipped_replaced_or_refused(rt: HostRuntime) -> Result<(), AllocError> {
     expect!(rt; are_printed(rt.alloc())?);
+    Ok(())
+}
+
+/// Whether a plain border is drawn round three rows of four dots.
+fn is_bordered(alloc: Global) -> Result<bool, AllocError> {
+    let mut buffer = Buffer::new(alloc, 4, 3)?;
+    let _ = buffer.fill('.', ContentStyle::new());
+    let area = buffer.area();
+    let came = buffer.border(area, Border::PLAIN, ContentStyle::new());
+    Ok(came == Ok(()) && shows(&buffer, "┌──┐│..│└──┘"))
+}
+
+#[test]
+fn a_plain_border_has_its_lines(rt: HostRuntime) -> Result<(), AllocError> {
+    expect!(rt; is_bordered(rt.alloc())?);
     Ok(())
 }

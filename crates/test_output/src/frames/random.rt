@@ -28,7 +28,7 @@ fn change(sheet: &mut Sheet, state: &mut u32) -> bool {
         let column = number(state, 12);
         let row = number(state, 6);
         let symbol = *SYMBOLS.get(usize::from(number(state, 8))).unwrap_or(&'?');
-        let style = u32::from(number(state, 5));
+        let style = u32::from(number(state, 7));
         is_right = sheet.set(column, row, symbol, style) && is_right;
     }
     is_right

@@ -71,7 +71,7 @@ fn faults_have_names(rt: HostRuntime) -> Result<(), AllocError> {
 }
 
 /// What a program prints of each fault.
-const TEXTS: [(CellFault, &str); 5] = [
+const TEXTS: [(CellFault, &str); 6] = [
     (CellFault::Outside, "outside the buffer"),
     (CellFault::Control, "a control character"),
     (CellFault::NoWidth, "a character of width 0"),
@@ -79,6 +79,10 @@ const TEXTS: [(CellFault, &str); 5] = [
     (
         CellFault::LastColumn,
         "a character of two columns in the last one",
+    ),
+    (
+        CellFault::TooSmall,
+        "a border in fewer than two columns or rows",
     ),
 ];
 

@@ -57,6 +57,70 @@ fn neighbours_are_grouped_and_the_rest_is_left(rt: HostRuntime) -> Result<(), Al
     Ok(())
 }
 
+fn palette(number: u8) -> Option<Color> {
+    if number == 0 {
+        return None;
+    }
+    Some(Color::AnsiValue(number))
+}
+
+/// Sets characters side by side, each in a foreground and a background of the palette, where 0 is none, and bold or not.
+fn paint(buffer: &mut Buffer, cells: &[(char, u8, u8, bool)]) -> bool {
+    let mut column = 0u16;
+    for (symbol, front, back, is_bold) in cells {
+        let mut style = ContentStyle::new();
+        style.foreground_color = palette(*front);
+        style.background_color = palette(*back);
+        if *is_bold {
+            style.attributes.set(Attribute::Bold);
+        }
+        if buffer.set(column, 0, *symbol, style).is_err() {
+            return false;
+        }
+        column = column.saturating_add(1);
+    }
+    true
+}
+
+/// Whether of styles that differ in colours alone the colours are written, and a reset where that is shorter.
+fn are_recolored(alloc: Global) -> Result<bool, AllocError> {
+    let mut screen = Screen::new(alloc, 9, 1)?;
+    let mut buffer = Buffer::new(alloc, 9, 1)?;
+    let blank = writes(&mut screen, alloc, &buffer, "\x1b[0m\x1b[2J");
+    let colors = [
+        ('a', 9, 0, false),
+        ('b', 9, 4, false),
+        ('c', 10, 4, false),
+        ('d', 10, 0, false),
+        ('e', 0, 0, false),
+        ('f', 0, 4, false),
+        ('g', 0, 4, true),
+        ('h', 9, 4, true),
+    ];
+    let is_set = paint(&mut buffer, &colors);
+    let wanted =
+        "\x1b[1;1H\x1b[0m\x1b[38;5;9ma\x1b[48;5;4mb\x1b[38;5;10mc\x1b[49md\x1b[0me\x1b[48;5;4mf\x1b[0m\x1b[48;5;4m\x1b[1mg\x1b[38;5;9mh";
+    Ok(blank && is_set && writes(&mut screen, alloc, &buffer, wanted))
+}
+
+/// Whether of colours nothing is written between cells if none are to be written, so that what is bold stays bold.
+fn are_uncolored(alloc: Global) -> Result<bool, AllocError> {
+    let mut screen = Screen::new(alloc, 2, 1)?;
+    let mut buffer = Buffer::new(alloc, 2, 1)?;
+    let is_set = paint(&mut buffer, &[('a', 9, 0, true), ('b', 10, 4, true)]);
+    let mut bytes: Vec<u8> = Vec::new(alloc);
+    let drawn = screen.draw(&mut bytes, ColorOutput::Disabled, &buffer, None);
+    let wanted = b"\x1b[1;1H\x1b[0m\x1b[m\x1b[1mab\x1b[0m\x1b[?25l\x1b[?2026l";
+    Ok(is_set && drawn.is_ok() && bytes.as_slice().ends_with(wanted))
+}
+
+#[test]
+fn colours_alone_are_written_where_the_rest_is_set(rt: HostRuntime) -> Result<(), AllocError> {
+    expect!(rt; are_recolored(rt.alloc())?);
+    expect!(rt; are_uncolored(rt.alloc())?);
+    Ok(())
+}
+
 /// A style with all that there is, whose text is the longest.
 fn longest(color: u8) -> ContentStyle {
     let color = Some(Color::Rgb {

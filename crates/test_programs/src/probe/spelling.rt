@@ -2,17 +2,22 @@
 
 use std::alloc::{AllocError, Global};
 
+/// Puts the digits of a part behind others: bytes by their digits up to `}`, and plain text.
+fn push_part(alloc: Global, digits: &mut String, part: &str) -> Result<(), AllocError> {
+    let (bytes, plain) = part.split_once('}').unwrap_or((part, ""));
+    for byte in bytes.split(' ') {
+        digits.push_str(byte)?;
+    }
+    digits.push_str(hex::encode(alloc, plain)?.as_str())
+}
+
 /// The hexadecimal digits of bytes that are spelled so.
 pub fn spelled(alloc: Global, text: &str) -> Result<String, AllocError> {
     let text = text.replace(alloc, "^[", "\x1b")?;
     let mut parts = text.split('{');
     let mut digits = hex::encode(alloc, parts.next().unwrap_or(""))?;
     for part in parts {
-        let (bytes, plain) = part.split_once('}').unwrap_or((part, ""));
-        for byte in bytes.split(' ') {
-            digits.push_str(byte)?;
-        }
-        digits.push_str(hex::encode(alloc, plain)?.as_str())?;
+        push_part(alloc, &mut digits, part)?;
     }
     Ok(digits)
 }

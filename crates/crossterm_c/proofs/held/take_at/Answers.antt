@@ -1,4 +1,4 @@
-use Rattle.std.proofs.Common.{List, length, ap, ◌∙◌, ◌-◌, take, drop, sym, arith, length-take, get_or}
+use Rattle.std.proofs.Common.{List, length, ap, ◌∙◌, take, drop, sym, arith, length-take, get_or}
 use Rattle.std.proofs.lemmas.List.{get_or_default, length-drop}
 use Rattle.std.specs.List.{remove}
 use Rattle.crossterm_c.specs.declared.held.GelvanhHeld.{GelvanhHeld}

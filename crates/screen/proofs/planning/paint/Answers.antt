@@ -4,15 +4,15 @@ use Rattle.screen.specs.inside.Strokes.{move_strokes, style_strokes}
 use Rattle.screen.proofs.Putting.{puts_both}
 use Rattle.screen.proofs.planning.paint.Goals as goal
 
-pub returns-clause-puts : goal.returns-clause-puts
-returns-clause-puts g c =
+pub returns : goal.returns
+returns g c =
     let held = g.W.Write.contents in
     let old = held c.args.writer.now in
     let moved = held c.put_move.new.writer in
     let set = held c.put_style.new.writer in
     let now = held c.put.new.writer in
     let cell = c.args.cell.now in
-    let style = style_strokes c.args.right cell.style in
+    let style = style_strokes c.args.setting.now in
     let print = stroke.Print cell.symbol ∷ [] in
     puts_both (move_strokes c.args.there c.args.place.0 c.args.place.1) (style ++ print) old moved now c.args.pen.now c.put_move.new.pen c.put.new.pen c.put_move.ensures
-    (puts_both style print moved set now c.put_move.new.pen c.put_style.new.pen c.put.new.pen c.put_style.ensures.puts c.put.ensures)
+    (puts_both style print moved set now c.put_move.new.pen c.put_style.new.pen c.put.new.pen c.put_style.ensures c.put.ensures)

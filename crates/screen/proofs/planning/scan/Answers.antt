@@ -54,25 +54,25 @@ loop-at-preserved g c =
       | then-has_to_be_printed p ↦
           let place = p.place_of-place.result in
           let there = p.is_at-there.result in
-          let right = p.has_style-right.result in
+          let how = p.setting_of-setting.result in
           let differ : HasToBePrinted b cell = search rules in
           let stands : Stands cell = subst Stands ec (c.requires.fits k cell la) in
           let fits : IsPrinted cell.symbol = stands_printed cell differ.0 stands in
           let room : is_wide cell ≡ true → is_last w k ≡ false = λ y. c.requires.rows k cell la (ap is_wide ec ∙ y) in
-          let more = cell_strokes there right place.0 place.1 cell in
+          let more = cell_strokes there how place.0 place.1 cell in
           let next = right_of w (last_of k cell) in
           let cursor : j.cursor ≡ next = ◌∙◌ {b = right_of w p.last_of.result} {c = next} (◌∙◌ {b = p.right_of-cursor.result} {c = right_of w p.last_of.result} p.cursor-is p.right_of-cursor.ensures) (ap (right_of w) p.last_of.ensures.value) in
           let reached : Reaches known w h before after (k + 1) next (Some cell.style) (strokes ++ more) =
-          paints known k w h before after c.loop-at.cursor c.loop-at.style strokes b cell there right place.1 place.0 kb la lb c.requires.length eb ec p.place_of-place.ensures.row p.place_of-place.ensures.column high wide
-          p.place_of-place.ensures.at p.paint.ensures.fits fits differ.0 room pb pa p.is_at-there.ensures.0 p.has_style-right.ensures.0 inv.1 in
+          paints known k w h before after c.loop-at.cursor c.loop-at.style strokes b cell there how place.1 place.0 kb la lb c.requires.length eb ec p.place_of-place.ensures.row p.place_of-place.ensures.column high wide
+          p.place_of-place.ensures.at p.setting_of-setting.ensures.sets p.setting_of-setting.ensures.fits fits differ.0 room pb pa p.is_at-there.ensures.0 inv.1 in
           let spared : Sparing known w before after (k + 1) next (Some cell.style) (strokes ++ more) =
-          spares_painted known w before after k c.loop-at.cursor c.loop-at.style strokes b cell there right place.0 place.1 kb la eb ec differ p.is_at-there.ensures p.has_style-right.ensures inv.4 in
+          spares_painted known w before after k c.loop-at.cursor c.loop-at.style strokes b cell there how place.0 place.1 kb la eb ec differ p.is_at-there.ensures p.setting_of-setting.ensures.sets inv.4 in
           let put : Puts (strokes ++ more) old c.args.pen.now (held p.paint.new.writer) p.paint.new.pen =
-          puts_both strokes more old (held c.loop-at.writer) (held p.paint.new.writer) c.args.pen.now c.loop-at.pen p.paint.new.pen inv.5 p.paint.ensures.puts in (
+          puts_both strokes more old (held c.loop-at.writer) (held p.paint.new.writer) c.args.pen.now c.loop-at.pen p.paint.new.pen inv.5 p.paint.ensures in (
             strokes ++ more,
             subst (λ o. Reaches known w h before after (k + 1) o j.style (strokes ++ more)) (sym cursor) (subst (λ o. Reaches known w h before after (k + 1) next o (strokes ++ more)) (sym p.style-is) reached),
-            paints_counted before after k strokes b cell there right place.1 place.0 kb la eb ec differ inv.2,
-            paints_fitting strokes there right place.0 place.1 cell fits inv.3,
+            paints_counted before after k strokes b cell there how place.1 place.0 kb la eb ec differ inv.2,
+            paints_fitting strokes there how place.0 place.1 cell fits inv.3,
             subst (λ o. Sparing known w before after (k + 1) o j.style (strokes ++ more)) (sym cursor) (subst (λ o. Sparing known w before after (k + 1) next o (strokes ++ more)) (sym p.style-is) spared),
             subst (λ n. Puts (strokes ++ more) old c.args.pen.now (held n) j.pen) (sym p.writer-is) (subst (λ n. Puts (strokes ++ more) old c.args.pen.now (held p.paint.new.writer) n) (sym p.pen-is) put),
           )

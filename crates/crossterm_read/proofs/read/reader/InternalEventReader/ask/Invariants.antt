@@ -1,4 +1,4 @@
-use Rattle.std.proofs.Common.{◌≡◌, ◌≤◌}
+use Rattle.std.proofs.Common.{◌≤◌}
 use Rattle.crossterm_read.proofs.Asking.{Asking}
 use Rattle.crossterm_read.specs.Device.{AsksAtOnce}
 use Rattle.crossterm_read.specs.Store.{capacity}

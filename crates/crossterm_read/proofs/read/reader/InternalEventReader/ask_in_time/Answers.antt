@@ -6,7 +6,7 @@ use Rattle.crossterm_read.specs.Steps.{Within}
 use Rattle.crossterm_read.specs.Store.{ReaderState}
 use Rattle.crossterm_read.proofs.Asking.{Asking, asking_none, asking_nothing, asked_broke, asked_refused, asked_tried, asks_none}
 use Rattle.crossterm_read.proofs.Newest.{asked_came}
-use Rattle.crossterm_read.proofs.Waiting.{lasts, left_none, limits_more, some_more}
+use Rattle.crossterm_read.proofs.Waiting.{lasts, limits_more, some_more}
 use Rattle.crossterm_read.proofs.read.reader.InternalEventReader.ask_in_time.Goals as goal
 
 pub loop-init : goal.loop-init

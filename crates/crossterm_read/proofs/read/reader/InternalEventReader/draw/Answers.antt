@@ -7,9 +7,8 @@ use Rattle.crossterm_read.specs.declared.read.reader.AtWake.TheVariants.{Stops, 
 use Rattle.crossterm_read.specs.declared.read.reader.Once.TheVariants as once
 use Rattle.crossterm_read.specs.Store.{EventStore, Holding, ReaderState, Arrives}
 use Rattle.crossterm_read.specs.inside.Asking.{held_with}
-use Rattle.crossterm_read.specs.inside.Numbers.{IsOrderly}
 use Rattle.crossterm_read.proofs.Asking.{draws_from}
-use Rattle.crossterm_read.proofs.Numbers.{came_arrives, orderly_arrives, orderly_later}
+use Rattle.crossterm_read.proofs.Numbers.{came_arrives, orderly_arrives}
 use Rattle.crossterm_read.proofs.read.reader.InternalEventReader.draw.Goals.{in-GoesOn+else-is_woken, in-Stops}
 use Rattle.crossterm_read.proofs.read.reader.InternalEventReader.draw.Goals as goal
 

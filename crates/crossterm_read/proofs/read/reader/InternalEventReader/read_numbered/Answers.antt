@@ -1,4 +1,4 @@
-use Rattle.std.proofs.Common.{◌≡◌, ◌-◌, Ok, Err, Some, None, subst, sym, ap, ◌∙◌}
+use Rattle.std.proofs.Common.{◌≡◌, ◌-◌, Ok, Err, Some, None, subst, sym}
 use Rattle.std.specs.Duration.{as_nanos}
 use Rattle.crossterm_read.specs.Steps.{Within}
 use Rattle.crossterm_read.specs.Store.{ReaderState}

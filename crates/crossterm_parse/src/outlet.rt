@@ -1,0 +1,48 @@
+//! What takes the events of sequences: a parser's queue, or a caller's table.
+//!
+//! Only crates of this tree use this module, which may change with each version.
+ghost use Rattle.std.specs.Prelude.{◌≡◌, ◌+◌, ◌≤◌, ◌<◌, ℕ, List, [], ◌∷◌, ◌++◌, length, map, IsTrue, IsFalse};
+ghost use Rattle.std.specs.List.{AllByRecursion};
+ghost use Rattle.crossterm_parse.specs.inside.Automaton.{IsLetter};
+ghost use Rattle.crossterm_parse.specs.Meaning.{typed};
+ghost use Rattle.crossterm_parse.specs.declared.meaning.Meaning.{Meaning};
+
+use crate::meaning::Meaning;
+
+/// Takes the events of sequences, one after another, as far as there is room.
+pub trait Outlet {
+    /// From one state of the outlet, these meanings in order lead to another.
+    ghost given: { Self → List Meaning → Self → Type 0 };
+
+    /// For how many events there is room.
+    ghost room: { Self → ℕ };
+
+    /// Whether there is room for an event. If there is none, room is made, if that can be.
+    fn has_room(&mut self) -> bool
+        ensures given { given self.old [] self.new }
+        ensures grows { room self.old ≤ room self.new }
+        ensures some { IsTrue result → 0 < room self.new }
+        ensures none { IsFalse result → room self.new ≡ 0 };
+
+    /// For how many events there is room now.
+    fn room_now(&self) -> usize
+        ensures { result ≡ room self.now };
+
+    /// Gives an event, for which there is room.
+    fn give(&mut self, meaning: Meaning)
+        requires { 0 < room self.old }
+        ensures given { given self.old (meaning ∷ []) self.new }
+        ensures room { room self.new + 1 ≡ room self.old };
+
+    /// Gives the keys of letters, for which there is room.
+    fn give_letters(&mut self, letters: &[u8])
+        requires room { length letters.now ≤ room self.old }
+        requires letters { AllByRecursion IsLetter letters.now }
+        ensures given { given self.old (map typed letters.now) self.new }
+        ensures room { room self.new + length letters.now ≡ room self.old };
+
+    // If nothing is given, nothing changes, and what is given in two runs is given in one.
+    ghost given_none: { (o : Self) → given o [] o };
+
+    ghost given_on: { (o p q : Self) (xs ys : List Meaning) → given o xs p → given p ys q → given o (xs ++ ys) q };
+}

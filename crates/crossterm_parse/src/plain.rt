@@ -1,0 +1,248 @@
+//! Plain sequences: those of `ESC O`, of `ESC [` and a final byte, and of plain numbers, each of six digits at most.
+//!
+//! One that is whole is read at once, with its numbers in registers: nearly all keys and reports of the mouse come so. What isn't plain is
+//! read byte by byte into a `State`, with the same meaning.
+ghost use Rattle.std.specs.Prelude.{◌≡◌, ℕ, Bool, List, IfSome, IsTrue};
+ghost use Rattle.crossterm_parse.specs.Bytes.{is_digit};
+ghost use Rattle.crossterm_parse.specs.inside.Automaton.{empty_parameters, readings_at, state_after};
+ghost use Rattle.crossterm_parse.specs.inside.Plain.{AreNumbers, EndsFrom, IsNumber, in_first, in_kind, in_second, in_third, read};
+ghost use Rattle.crossterm_parse.specs.inside.Step.{Whole};
+ghost use Rattle.crossterm_parse.specs.Meaning.{after_csi};
+ghost use Rattle.crossterm_parse.specs.declared.number.Number.TheVariants.{Value};
+ghost use Rattle.crossterm_parse.specs.declared.state.State.TheVariants.{Escape, Csi, Sgr};
+
+use crate::meaning::{Meaning, meaning_after_csi, meaning_after_ss3};
+use crate::numbered::{is_final_byte, is_mouse_final};
+use crate::readings::Readings;
+
+/// A number in front, and the byte behind it.
+#[derive(Clone, Copy)]
+pub struct PlainNumber {
+    pub value: u32,
+    /// Its last digit.
+    pub digit: u8,
+    /// The byte behind it.
+    pub end: u8,
+    /// How many bytes it has, with the one behind it.
+    pub count: usize,
+}
+
+/// A sequence in front that is whole.
+#[derive(Clone, Copy)]
+pub struct PlainSequence {
+    pub meaning: Option<Meaning>,
+    /// How many bytes it has.
+    pub count: usize,
+}
+
+// A number that isn't smaller has six digits, and takes no more.
+const SIX_DIGITS: u32 = 100_000;
+
+/// Whether the byte is a digit.
+fn is_digit(byte: u8) -> bool
+    ensures { result ≡ is_digit byte }
+{
+    matches!(byte, b'0'..=b'9')
+}
+
+/// The number in front, if it has six digits at most and a byte behind it.
+#[inline(always)]
+fn number_in(bytes: &[u8]) -> Option<PlainNumber>
+    ensures { IfSome result (λ it. IsNumber bytes.now it) }
+{
+    let mut value = 0;
+    let mut digit = 0;
+    for (i, byte) in bytes.iter().enumerate() {
+        if value < SIX_DIGITS && is_digit(*byte) {
+            digit = *byte;
+            value = value * 10 + u32::from(digit - b'0');
+        } else if i > 0 {
+            return Some(PlainNumber {
+                value,
+                digit,
+                end: *byte,
+                count: i + 1,
+            });
+        } else {
+            return None;
+        }
+    }
+    None
+}
+
+/// What is read of one number.
+#[inline(always)]
+fn one(first: PlainNumber) -> Readings
+    ensures { result ≡ readings_at (read (in_first (Value first.value)) first.digit) }
+{
+    Readings {
+        first: Some(first.value),
+        second: None,
+        third: None,
+        code: Some(first.value),
+        alternate: None,
+        mask: None,
+        kind: None,
+        last: first.digit,
+        utf8: true,
+    }
+}
+
+/// What is read of a number, and of a second one behind `;`.
+#[inline(always)]
+fn two(first: PlainNumber, second: PlainNumber) -> Readings
+    ensures { result ≡ readings_at (read (in_second first.value (Value second.value)) second.digit) }
+{
+    Readings {
+        second: Some(second.value),
+        mask: Some(second.value),
+        last: second.digit,
+        ..one(first)
+    }
+}
+
+/// What is read of a number, of a second one behind `;`, and of its kind behind `:`.
+#[inline(always)]
+fn with_kind(first: PlainNumber, mask: PlainNumber, kind: PlainNumber) -> Readings
+    ensures { result ≡ readings_at (read (in_kind first.value mask.value (Value kind.value)) kind.digit) }
+{
+    Readings {
+        mask: Some(mask.value),
+        kind: Some(kind.value),
+        last: kind.digit,
+        ..one(first)
+    }
+}
+
+/// What is read of three numbers with `;` between them.
+#[inline(always)]
+fn three(first: PlainNumber, second: PlainNumber, third: PlainNumber) -> Readings
+    ensures { result ≡ readings_at (read (in_third first.value second.value (Value third.value)) third.digit) }
+{
+    Readings {
+        third: Some(third.value),
+        last: third.digit,
+        ..two(first, second)
+    }
+}
+
+/// The report of the mouse in front, behind `ESC [ <`.
+#[inline(always)]
+fn report_in(bytes: &[u8]) -> Option<PlainSequence>
+    ensures { IfSome result (λ it. (raw : Bool) → EndsFrom (Sgr empty_parameters) bytes.now raw it) }
+{
+    let code = number_in(bytes)?;
+    if code.end != b';' {
+        return None;
+    }
+    let column = number_in(&bytes[code.count..])?;
+    if column.end != b';' {
+        return None;
+    }
+    let place = code.count + column.count;
+    let row = number_in(&bytes[place..])?;
+    if !is_mouse_final(row.end) {
+        return None;
+    }
+    Some(PlainSequence {
+        meaning: three(code, column, row).sgr(row.end),
+        count: place + row.count,
+    })
+}
+
+/// The sequence of numbers behind `ESC [`, if the byte behind them is a final byte.
+#[inline(always)]
+fn ended(readings: Readings, end: u8, count: usize, raw: bool) -> Option<PlainSequence>
+    ensures { (bytes : List ℕ) → AreNumbers bytes readings end count → IfSome result (λ it. EndsFrom Csi bytes raw it) }
+{
+    if !is_final_byte(end) {
+        return None;
+    }
+    Some(PlainSequence {
+        meaning: readings.meaning(end, raw),
+        count,
+    })
+}
+
+/// The numbered sequence in front, behind `ESC [`: of a number, of two with `;` between them, or of three with `:` before the third one.
+#[inline(always)]
+fn numbered_in(bytes: &[u8], raw: bool) -> Option<PlainSequence>
+    ensures { IfSome result (λ it. EndsFrom Csi bytes.now raw it) }
+{
+    let first = number_in(bytes)?;
+    if first.end != b';' {
+        if first.value == 200 {
+            return None;
+        }
+        return ended(one(first), first.end, first.count, raw);
+    }
+    let mask = number_in(&bytes[first.count..])?;
+    let place = first.count + mask.count;
+    if mask.end != b':' {
+        return ended(two(first, mask), mask.end, place, raw);
+    }
+    let kind = number_in(&bytes[place..])?;
+    ended(
+        with_kind(first, mask, kind),
+        kind.end,
+        place + kind.count,
+        raw,
+    )
+}
+
+/// Whether a sequence is whole with the byte behind `ESC [`.
+#[inline(always)]
+fn is_whole(byte: u8) -> bool
+    ensures { IsTrue result → (raw pause : Bool) → state_after Csi byte raw pause ≡ Whole (after_csi byte) }
+{
+    !matches!(byte, b'0'..=b'9' | b'<' | b'[' | b'M' | b'?')
+}
+
+/// The sequence in front, behind `ESC [`.
+#[inline(always)]
+fn control_in(bytes: &[u8], raw: bool) -> Option<PlainSequence>
+    ensures { IfSome result (λ it. EndsFrom Csi bytes.now raw it) }
+{
+    if bytes.is_empty() {
+        return None;
+    }
+    match bytes[0] {
+        b'0'..=b'9' => numbered_in(bytes, raw),
+        b'<' => match report_in(&bytes[1..]) {
+            Some(report) => Some(PlainSequence {
+                meaning: report.meaning,
+                count: 1 + report.count,
+            }),
+            None => None,
+        },
+        last if is_whole(last) => Some(PlainSequence {
+            meaning: meaning_after_csi(last),
+            count: 1,
+        }),
+        _ => None,
+    }
+}
+
+/// The sequence in front, behind ESC.
+#[inline(always)]
+pub fn sequence_in(bytes: &[u8], raw: bool) -> Option<PlainSequence>
+    ensures { IfSome result (λ it. EndsFrom Escape bytes.now raw it) }
+{
+    if bytes.len() < 2 {
+        return None;
+    }
+    match bytes[0] {
+        b'O' => Some(PlainSequence {
+            meaning: meaning_after_ss3(bytes[1]),
+            count: 2,
+        }),
+        b'[' => match control_in(&bytes[1..], raw) {
+            Some(sequence) => Some(PlainSequence {
+                meaning: sequence.meaning,
+                count: 1 + sequence.count,
+            }),
+            None => None,
+        },
+        _ => None,
+    }
+}

@@ -1,0 +1,55 @@
+-- How a style is set where another one is set.
+use Rattle.std.specs.Prelude.{◌≡◌, ◌≢◌, ⊤, Bool, true, false, Option, Some, None}
+use Rattle.std.specs.List.{AllByRecursion}
+use Rattle.crossterm_style.specs.declared.content_style.ContentStyle.{ContentStyle}
+use Rattle.crossterm_style.specs.declared.types.attribute.Attribute.TheVariants.{Reset}
+use Rattle.crossterm_style.specs.declared.types.color.Color.{Color}
+use Rattle.crossterm_style.specs.declared.types.color.Color.TheVariants as color
+use Rattle.crossterm_style.specs.Acts.{style_acts}
+use Rattle.crossterm_style.specs.Appearance.{FitsAct}
+use Rattle.crossterm_style.specs.Attributes.{has}
+use Rattle.screen.specs.declared.settings.Setting.{Setting}
+use Rattle.screen.specs.declared.settings.Setting.TheVariants as setting
+
+-- the colour that is written where one is wanted, or none: the terminal's own
+abbrev pub written : Option Color → Color
+written None = color.Reset
+written (Some c) = c
+
+-- What is written turns one colour into another: nothing where they are the same, and else the other one.
+abbrev pub Changes : Option Color → Option Color → Option Color → Type 0
+Changes from to None = from ≡ to
+Changes from to (Some c) = (from ≢ to) × (c ≡ written to)
+
+-- Colours turn one style into another.
+pub record Recolors (from to change : ContentStyle) : Type 0 where
+  pub foreground : Changes from.foreground_color to.foreground_color change.foreground_color
+  pub background : Changes from.background_color to.background_color change.background_color
+  pub underline : Changes from.underline_color to.underline_color change.underline_color
+  pub none : change.attributes.0 ≡ 0
+
+-- The attributes are the same, and none of them clears the colours.
+abbrev pub HasSameRest : ContentStyle → ContentStyle → Type 0
+HasSameRest from to = (has to.attributes.0 Reset ≡ false) × (from.attributes ≡ to.attributes)
+
+-- So a style is set where one is set.
+abbrev pub SetsFrom : ContentStyle → ContentStyle → Setting → Type 0
+SetsFrom from to setting.Kept = from ≡ to
+SetsFrom from to (setting.Colors change) = (from ≢ to) × HasSameRest from to × Recolors from to change
+SetsFrom from to (setting.Whole s) = (from ≢ to) × (s ≡ to)
+
+-- The same where it may not be known which one is set: then all of the style is set.
+abbrev pub Sets : Option ContentStyle → ContentStyle → Setting → Type 0
+Sets None to how = how ≡ setting.Whole to
+Sets (Some from) to how = SetsFrom from to how
+
+-- The numbers of its colours are bytes.
+abbrev pub Fits : Setting → Type 0
+Fits setting.Kept = ⊤
+Fits (setting.Colors change) = AllByRecursion FitsAct (style_acts change)
+Fits (setting.Whole s) = AllByRecursion FitsAct (style_acts s)
+
+-- whether nothing is written
+abbrev pub is_kept : Setting → Bool
+is_kept setting.Kept = true
+is_kept how = false
