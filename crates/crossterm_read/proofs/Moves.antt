@@ -162,7 +162,6 @@ module _ {S : Type 0} (drawn : S → List SourceAnswer → S → Type 0) where
       cons_not : {A : Type 0} {y : A} {ys : List A} → y ∷ ys ≡ [] → ⊥
       cons_not e = absurd (cc)
 
-
   -- Who has the reader puts it back, after one call from where it was taken.
   puts_it : (n by : ℕ) (v : Known S) (x : ReaderState S) (made : ReaderState S → Entry → ReaderState S → Type 0) → Produces drawn made v x → Pushes (Kept drawn) n by v x (λ w. Put drawn made v x w)
   puts_it n by v x made b items views room kept at =
