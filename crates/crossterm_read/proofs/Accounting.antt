@@ -1,21 +1,22 @@
 -- What is taken and what is held, against what came.
-use Rattle.std.proofs.Common.{◌≡◌, inl, inr, ℕ, zero, suc, Bool, true, false, List, [], ◌∷◌, ◌++◌, Option, Some, None, refl, sym, ap, subst, ◌∙◌, append-nil, append_assoc}
+use Rattle.std.proofs.Common.{◌≡◌, inl, inr, ℕ, zero, suc, Bool, true, false, List, [], ◌∷◌, ◌++◌, Option, Some, None, Result, Ok, Err, refl, sym, ap, subst, ◌∙◌, append-nil, append_assoc}
 use Rattle.std.specs.List.{remove}
 use Rattle.std.specs.List.Sorted.{IsPermutation}
 use Rattle.std.specs.Option.{option_to_list}
+use Rattle.std.specs.declared.io.ErrorKind.{ErrorKind}
+use Rattle.std.specs.declared.io.ErrorKind.TheVariants.{Other}
 use Rattle.std.proofs.lemmas.List.Sorted.{IsPermutation-refl, IsPermutation-append_left, IsPermutation-more}
 use Rattle.std.proofs.lemmas.List.Quantifiers.{position-Some}
 use Rattle.crossterm_types.specs.Seen.{Seen}
-use Rattle.crossterm_types.specs.Seen as event
 use Rattle.crossterm_read.specs.Answers.{SourceAnswer, Gave, Nothing, Failed, gave}
 use Rattle.crossterm_read.specs.Device.{DeviceAnswer}
 use Rattle.crossterm_read.specs.Outcomes.{Answered}
 use Rattle.crossterm_read.proofs.Happening.{answered_front}
 use Rattle.crossterm_read.specs.declared.read.call.Call.{Call}
 use Rattle.crossterm_read.specs.Store.{EventStore, arrived, numbered_after, next_number, Arrives}
-use Rattle.crossterm_read.specs.Steps.{Patience, TakeReplies, ReadReplies, PollReplies, End, Ready, Tried, Broke, TakeStep, PollStep}
-use Rattle.crossterm_read.specs.Queries.{QueryReplies, QueryStep, AfterReply, LeftReplies, FlagsReplies, KeyboardStep}
-use Rattle.crossterm_read.specs.Replies.{Said, Replied, ToPoll, ToTake, ToQuery, Fault}
+use Rattle.crossterm_read.specs.Steps.{Patience, TakeReplies, ReadReplies, End, Ready, Tried, Broke, TakeStep, PollStep}
+use Rattle.crossterm_read.specs.Queries.{QueryReplies, QueryStep, IsAnswer, AfterReply, LeftReplies, FlagsReplies, KeyboardStep}
+use Rattle.crossterm_read.specs.Replies.{Said, Replied, ToPoll, ToTake, ToQuery, Fault, replied}
 use Rattle.crossterm_read.specs.Calls.{Step, Request, Poll, Read, Take, Position, Keyboard, request, Run, joined, empty, taken, numbered, IsAccounted, IsWithin, Accounts, Plays}
 use Rattle.crossterm_types.specs.Admitting.{admitted, is_cursor_position, is_flags_reply, is_attributes}
 use Rattle.crossterm_read.proofs.Asking.{arrived-append, numbered_after-append}
@@ -81,45 +82,42 @@ take_account f all done s t (Some x) a h =
     } in
     (subst (λ (y : EventStore). Account all (done ++ x ∷ []) y) (sym h.3) g, ap (λ (y : EventStore). y.arrivals) h.3)
 
-poll_taken : (end : End) (r : Replied) → PollReplies end r → taken (r ∷ []) ≡ []
-poll_taken Ready r h = ap (λ (y : Replied). taken (y ∷ [])) h
-poll_taken Tried r h = ap (λ (y : Replied). taken (y ∷ [])) h
-poll_taken (Broke kind) r (inl h) = ap (λ (y : Replied). taken (y ∷ [])) h.1
-poll_taken (Broke kind) r (inr h) = ap (λ (y : Replied). taken (y ∷ [])) h.1
+poll_taken : (p : Result Bool ErrorKind) → taken (replied p ∷ []) ≡ []
+poll_taken (Ok b) = refl
+poll_taken (Err kind) = refl
 
 came_taken : (x : Option (Seen × ℕ)) → taken (ToTake x ∷ []) ≡ option_to_list x
 came_taken None = refl
 came_taken (Some x) = refl
 
+-- Of an equal reply the same was taken.
+taken_so : (all done : List (Seen × ℕ)) (t : EventStore) (n : ℕ) (q r : Replied) → r ≡ q → Taken all done t (taken (q ∷ [])) n → Taken all done t (taken (r ∷ [])) n
+taken_so all done t n q r e k = subst (λ (y : Replied). Taken all done t (taken (y ∷ [])) n) (sym e) k
+
+came_account : (f : Seen → Bool) (all done : List (Seen × ℕ)) (m t : EventStore) (x : Option (Seen × ℕ)) (r : Replied) → Account all done m → TakeReplies f m t x → r ≡ ToTake x → Taken all done t (taken (r ∷ [])) m.arrivals
+came_account f all done m t x r a h e =
+    taken_so all done t m.arrivals (ToTake x) r e (subst (λ (l : List (Seen × ℕ)). Taken all done t l m.arrivals) (sym (came_taken x)) (take_account f all done m t x a h))
+
 read_account : (f : Seen → Bool) (all done : List (Seen × ℕ)) (end : End) (m t : EventStore) (r : Replied) → Account all done m → ReadReplies f end m t r → Taken all done t (taken (r ∷ [])) m.arrivals
-read_account f all done Ready m t (ToTake x) a h = subst (λ (l : List (Seen × ℕ)). Taken all done t l m.arrivals) (sym (came_taken x)) (take_account f all done m t x a h)
-read_account f all done Ready m t (ToPoll b) a h = absurd h
-read_account f all done Ready m t (ToQuery x y) a h = absurd h
-read_account f all done Ready m t (Fault kind) a h = absurd h
-read_account f all done Tried m t r a h = subst (λ (y : Replied). Taken all done t (taken (y ∷ [])) m.arrivals) (sym h.1) (none_taken all done m t h.0 a)
-read_account f all done (Broke kind) m t r a h = subst (λ (y : Replied). Taken all done t (taken (y ∷ [])) m.arrivals) (sym h.1) (none_taken all done m t h.0 a)
+read_account f all done Ready m t r a h = came_account f all done m t h.0 r a h.1 h.2
+read_account f all done Tried m t r a h = taken_so all done t m.arrivals (ToTake None) r h.1 (none_taken all done m t h.0 a)
+read_account f all done (Broke kind) m t r a h = taken_so all done t m.arrivals (Fault kind) r h.1 (none_taken all done m t h.0 a)
 
 take_step : (f : Seen → Bool) (zs : List SourceAnswer) (all done : List (Seen × ℕ)) (s t : EventStore) (r : Replied) → Account all done s → TakeStep f zs s t r
     → Taken (all ++ arrived s.arrivals zs) done t (taken (r ∷ [])) (numbered_after s.arrivals zs)
-take_step f zs all done s t (ToTake x) a h =
-    let k = subst (λ (l : List (Seen × ℕ)). Taken all done t l s.arrivals) (sym (came_taken x)) (take_account f all done s t x a h.1) in
-    let k2 = subst (λ l. Taken l done t (taken (ToTake x ∷ [])) s.arrivals) (sym (append-nil all)) k in
-    subst (λ (l : List SourceAnswer). Taken (all ++ arrived s.arrivals l) done t (taken (ToTake x ∷ [])) (numbered_after s.arrivals l)) (sym h.0) k2
-take_step f zs all done s t (ToPoll b) a h = absurd h
-take_step f zs all done s t (ToQuery x y) a h = absurd h
-take_step f zs all done s t (Fault kind) a h = absurd h
+take_step f zs all done s t r a h =
+    let k = subst (λ l. Taken l done t (taken (r ∷ [])) s.arrivals) (sym (append-nil all)) (read_account f all done Ready s t r a h.1) in
+    subst (λ (l : List SourceAnswer). Taken (all ++ arrived s.arrivals l) done t (taken (r ∷ [])) (numbered_after s.arrivals l)) (sym h.0) k
 
 -- what a poll, and then what is said of it, do to what came
-poll_account : (f : Seen → Bool) (tries : Patience) (zs : List SourceAnswer) (all done : List (Seen × ℕ)) (s t : EventStore) (r : Replied) → Account all done s → PollStep tries f zs s t r
+poll_account : (f : Seen → Bool) (tries : Patience) (zs : List SourceAnswer) (all done : List (Seen × ℕ)) (s t : EventStore) (r : Result Bool ErrorKind) → Account all done s → PollStep tries f zs s t r
     → Account (all ++ arrived s.arrivals zs) done t × (t.arrivals ≡ numbered_after s.arrivals zs)
 poll_account f tries zs all done s t r a h = (arrives_account all done s t zs a h.2, h.2.arrivals)
 
-query_account : (f : Seen → Bool) (all done : List (Seen × ℕ)) (p : Replied) (m t : EventStore) (r : Replied) → Account all done m → QueryReplies f p m t r → Taken all done t (taken (r ∷ [])) m.arrivals
-query_account f all done (ToPoll true) m t r a h = subst (λ (y : Replied). Taken all done t (taken (y ∷ [])) m.arrivals) (sym h.2) (take_account f all done m t (Some h.0) a h.1)
-query_account f all done (ToPoll false) m t r a h = subst (λ (y : Replied). Taken all done t (taken (y ∷ [])) m.arrivals) (sym h.1) (none_taken all done m t h.0 a)
-query_account f all done (ToTake x) m t r a h = absurd h
-query_account f all done (ToQuery x y) m t r a h = absurd h
-query_account f all done (Fault kind) m t r a h = subst (λ (y : Replied). Taken all done t (taken (y ∷ [])) m.arrivals) (sym h.1) (none_taken all done m t h.0 a)
+query_account : (f : Seen → Bool) (all done : List (Seen × ℕ)) (p : Result Bool ErrorKind) (m t : EventStore) (r : Replied) → Account all done m → QueryReplies f p m t r → Taken all done t (taken (r ∷ [])) m.arrivals
+query_account f all done (Ok true) m t r a h = came_account f all done m t (Some h.0) r a h.1 h.2
+query_account f all done (Ok false) m t r a h = taken_so all done t m.arrivals (Fault Other) r h.1 (none_taken all done m t h.0 a)
+query_account f all done (Err kind) m t r a h = taken_so all done t m.arrivals (Fault kind) r h.1 (none_taken all done m t h.0 a)
 
 asked_account : (f : Seen → Bool) (tries : Patience) (zs : List SourceAnswer) (all done : List (Seen × ℕ)) (s t : EventStore) (r : Replied) → Account all done s → QueryStep f tries zs s t r
     → Taken (all ++ arrived s.arrivals zs) done t (taken (r ∷ [])) (numbered_after s.arrivals zs)
@@ -127,52 +125,37 @@ asked_account f tries zs all done s t r a h =
     let p = poll_account f tries zs all done s h.0 h.1 a h.2 in
     subst (λ (n : ℕ). Taken (all ++ arrived s.arrivals zs) done t (taken (r ∷ [])) n) p.1 (query_account f (all ++ arrived s.arrivals zs) done h.1 h.0 t r p.0 h.3)
 
-left_account : (all done : List (Seen × ℕ)) (p : Replied) (x : Seen × ℕ) (m t : EventStore) (r : Replied) → Account all (done ++ x ∷ []) m → LeftReplies p x m t r → Taken all done t (taken (r ∷ [])) m.arrivals
-left_account all done (ToPoll true) x m t r a h =
+-- Nothing is left to be taken after these flags.
+left_none : (all done : List (Seen × ℕ)) (x : Seen × ℕ) (m t : EventStore) (r : Replied) → Account all (done ++ x ∷ []) m → (t ≡ m) × (r ≡ ToQuery x None) → Taken all done t (taken (r ∷ [])) m.arrivals
+left_none all done x m t r a h = taken_so all done t m.arrivals (ToQuery x None) r h.1 (subst (λ (y : EventStore). Account all (done ++ x ∷ []) y) (sym h.0) a, ap (λ (y : EventStore). y.arrivals) h.0)
+
+left_account : (all done : List (Seen × ℕ)) (p : Result Bool ErrorKind) (x : Seen × ℕ) (m t : EventStore) (r : Replied) → Account all (done ++ x ∷ []) m → LeftReplies p x m t r → Taken all done t (taken (r ∷ [])) m.arrivals
+left_account all done (Ok true) x m t r a h =
     let k = take_account is_attributes all (done ++ x ∷ []) m t (Some h.0) a h.1 in
-    let k2 : Taken all done t (x ∷ h.0 ∷ []) m.arrivals = (subst (λ l. Account all l t) (append_assoc done (x ∷ []) (h.0 ∷ [])) k.0, k.1) in
-    subst (λ (y : Replied). Taken all done t (taken (y ∷ [])) m.arrivals) (sym h.2) k2
-left_account all done (ToPoll false) x m t r a h = left_none all done x m t r a h
-  where
-    left_none : (all done : List (Seen × ℕ)) (x : Seen × ℕ) (m t : EventStore) (r : Replied) → Account all (done ++ x ∷ []) m → (t ≡ m) × (r ≡ ToQuery x None) → Taken all done t (taken (r ∷ [])) m.arrivals
-    left_none all done x m t r a h =
-        let k : Taken all done t (x ∷ []) m.arrivals = (subst (λ (y : EventStore). Account all (done ++ x ∷ []) y) (sym h.0) a, ap (λ (y : EventStore). y.arrivals) h.0) in
-        subst (λ (y : Replied). Taken all done t (taken (y ∷ [])) m.arrivals) (sym h.1) k
-left_account all done (ToTake y) x m t r a h = absurd h
-left_account all done (ToQuery y z) x m t r a h = absurd h
-left_account all done (Fault kind) x m t r a h =
-    let k : Taken all done t (x ∷ []) m.arrivals = (subst (λ (y : EventStore). Account all (done ++ x ∷ []) y) (sym h.0) a, ap (λ (y : EventStore). y.arrivals) h.0) in
-    subst (λ (y : Replied). Taken all done t (taken (y ∷ [])) m.arrivals) (sym h.1) k
+    taken_so all done t m.arrivals (ToQuery x (Some h.0)) r h.2 (subst (λ l. Account all l t) (append_assoc done (x ∷ []) (h.0 ∷ [])) k.0, k.1)
+left_account all done (Ok false) x m t r a h = left_none all done x m t r a h
+left_account all done (Err kind) x m t r a h = left_none all done x m t r a h
 
 abbrev AfterTaken : List SourceAnswer → List (Seen × ℕ) → List (Seen × ℕ) → EventStore → EventStore → List (Seen × ℕ) → Type 0
 AfterTaken zs all done s t more = Taken (all ++ arrived s.arrivals zs) done t more (numbered_after s.arrivals zs)
 
-nothing_after : (zs : List SourceAnswer) (all done : List (Seen × ℕ)) (s t : EventStore) (q r : Replied) → Taken all done s (taken (q ∷ [])) s.arrivals → (zs ≡ []) × (t ≡ s) × (r ≡ q) → AfterTaken zs all done s t (taken (r ∷ []))
+nothing_after : (zs : List SourceAnswer) (all done : List (Seen × ℕ)) (s t : EventStore) (q r : Replied) → Taken all done s (taken (q ∷ [])) s.arrivals → IsAnswer zs q s t r → AfterTaken zs all done s t (taken (r ∷ []))
 nothing_after zs all done s t q r k h =
     let a = subst (λ (y : EventStore). Taken all done y (taken (q ∷ [])) s.arrivals) (sym h.1) k in
     let b = subst (λ l. Taken l done t (taken (q ∷ [])) s.arrivals) (sym (append-nil all)) a in
     subst (λ (l : List SourceAnswer). AfterTaken l all done s t (taken (r ∷ []))) (sym h.0) (subst (λ (y : Replied). Taken (all ++ []) done t (taken (y ∷ [])) s.arrivals) (sym h.2) b)
 
-after_account : (again : Patience) (zs : List SourceAnswer) (y : Seen) (x : Seen × ℕ) (all done : List (Seen × ℕ)) (s t : EventStore) (r : Replied) → Taken all done s (x ∷ []) s.arrivals → AfterReply again zs y x s t r
+after_account : (again : Patience) (zs : List SourceAnswer) (attributes : Bool) (x : Seen × ℕ) (all done : List (Seen × ℕ)) (s t : EventStore) (r : Replied) → Taken all done s (x ∷ []) s.arrivals → AfterReply again zs attributes x s t r
     → AfterTaken zs all done s t (taken (r ∷ []))
-after_account again zs (event.KeyboardFlags flags) x all done s t r k h =
+after_account again zs false x all done s t r k h =
     let p = poll_account is_attributes again zs all (done ++ x ∷ []) s h.0 h.1 k.0 h.2 in
     subst (λ (n : ℕ). Taken (all ++ arrived s.arrivals zs) done t (taken (r ∷ [])) n) p.1 (left_account (all ++ arrived s.arrivals zs) done h.1 x h.0 t r p.0 h.3)
-after_account again zs event.FocusGained x all done s t r k h = nothing_after zs all done s t (ToTake (Some x)) r k h
-after_account again zs event.FocusLost x all done s t r k h = nothing_after zs all done s t (ToTake (Some x)) r k h
-after_account again zs (event.Key key) x all done s t r k h = nothing_after zs all done s t (ToTake (Some x)) r k h
-after_account again zs (event.Mouse mouse) x all done s t r k h = nothing_after zs all done s t (ToTake (Some x)) r k h
-after_account again zs (event.Paste text) x all done s t r k h = nothing_after zs all done s t (ToTake (Some x)) r k h
-after_account again zs (event.Resize c l) x all done s t r k h = nothing_after zs all done s t (ToTake (Some x)) r k h
-after_account again zs (event.CursorPosition c l) x all done s t r k h = nothing_after zs all done s t (ToTake (Some x)) r k h
-after_account again zs event.PrimaryDeviceAttributes x all done s t r k h = nothing_after zs all done s t (ToTake (Some x)) r k h
+after_account again zs true x all done s t r k h = nothing_after zs all done s t (ToTake (Some x)) r k h
 
 flags_account : (again : Patience) (zs : List SourceAnswer) (q : Replied) (all done : List (Seen × ℕ)) (s t : EventStore) (r : Replied) → Taken all done s (taken (q ∷ [])) s.arrivals → FlagsReplies again zs q s t r → AfterTaken zs all done s t (taken (r ∷ []))
-flags_account again zs (ToTake (Some x)) all done s t r k h = after_account again zs x.0 x all done s t r k h
-flags_account again zs (ToTake None) all done s t r k h = absurd h
-flags_account again zs (ToPoll b) all done s t r k h = absurd h
-flags_account again zs (ToQuery x y) all done s t r k h = absurd h
-flags_account again zs (Fault kind) all done s t r k h = nothing_after zs all done s t (Fault kind) r k h
+flags_account again zs q all done s t r k (inl h) =
+    after_account again zs (is_attributes h.0.0) h.0 all done s t r (taken_so all done s s.arrivals q (ToTake (Some h.0)) (sym h.1) k) h.2
+flags_account again zs q all done s t r k (inr h) = nothing_after zs all done s t (Fault h.0) r (taken_so all done s s.arrivals q (Fault h.0) (sym h.1) k) h.2
 
 keyboard_account : (tries again : Patience) (zs : List SourceAnswer) (all done : List (Seen × ℕ)) (s t : EventStore) (r : Replied) → Account all done s → KeyboardStep tries again zs s t r
     → Taken (all ++ arrived s.arrivals zs) done t (taken (r ∷ [])) (numbered_after s.arrivals zs)
@@ -193,10 +176,10 @@ keyboard_account tries again zs all done s t r a h =
 pub step_account : (c : Request) (zs : List SourceAnswer) (all done : List (Seen × ℕ)) (s t : EventStore) (r : Replied) → Account all done s → Step c zs s t r
     → Taken (all ++ arrived s.arrivals zs) done t (taken (r ∷ [])) (numbered_after s.arrivals zs)
 step_account (Poll tries f) zs all done s t r a h =
-    let b = arrives_account all done s t zs a h.2 in
-    let k = none_taken (all ++ arrived s.arrivals zs) done t t refl b in
-    subst (λ (l : List (Seen × ℕ)). Taken (all ++ arrived s.arrivals zs) done t l (numbered_after s.arrivals zs)) (sym (poll_taken h.0 r h.3))
-    (subst (λ (n : ℕ). Taken (all ++ arrived s.arrivals zs) done t [] n) h.2.arrivals k)
+    let b = poll_account (admitted f) tries zs all done s t h.0 a h.1 in
+    let k = none_taken (all ++ arrived s.arrivals zs) done t t refl b.0 in
+    subst (λ (l : List (Seen × ℕ)). Taken (all ++ arrived s.arrivals zs) done t l (numbered_after s.arrivals zs)) (sym (ap (λ (y : Replied). taken (y ∷ [])) h.2 ∙ poll_taken h.0))
+    (subst (λ (n : ℕ). Taken (all ++ arrived s.arrivals zs) done t [] n) b.1 k)
 step_account (Read tries f) zs all done s t r a h =
     subst (λ (n : ℕ). Taken (all ++ arrived s.arrivals zs) done t (taken (r ∷ [])) n) h.3.arrivals
     (read_account (admitted f) (all ++ arrived s.arrivals zs) done h.0 h.1 t r (arrives_account all done s h.1 zs a h.3) h.4)

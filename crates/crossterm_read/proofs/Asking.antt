@@ -20,7 +20,7 @@ use Rattle.crossterm_read.specs.Store.{EventStore, ReaderState, arrived, numbere
 use Rattle.crossterm_read.specs.Steps.{Patience, Allows, IsSpent, first_admitted, Passes, Asks, Ready, Tried, Broke, PollStep, ReadStep, RefusedOnlyWithoutRoom, TakeReplies}
 use Rattle.crossterm_read.specs.inside.Asking.{Asked, DrawsOne, held_with}
 use Rattle.crossterm_read.specs.inside.Replies.{try_reply}
-use Rattle.crossterm_read.specs.Replies.{ToPoll, poll_reply}
+use Rattle.crossterm_read.specs.Replies.{poll_reply}
 use Rattle.crossterm_types.proofs.Lists.{all_append, all_push}
 
 pub arrived-append : (n : ℕ) (xs ys : List SourceAnswer) → arrived n (xs ++ ys) ≡ arrived n xs ++ arrived (numbered_after n xs) ys
@@ -183,16 +183,16 @@ module _ {S : Type 0} (drawn : S → List SourceAnswer → S → Type 0) (failed
   Gives r = (zs : List SourceAnswer) × drawn s.source zs t.source × ReadStep patience f zs s.store t.store (try_reply r) × IfErr r (λ e. RefusedOnlyWithoutRoom s.room zs (error_kind e)) × IsSteady failed s.source zs t.source
 
   pub read_held : {A : Type 0} → ((s : S) → drawn s [] s) → (taken : InternalEvent A × ℕ) → TakeReplies f s.store t.store (Some (kept taken)) → t.source ≡ s.source → Gives (Ok (Some taken))
-  read_held law taken h e = ([], subst (λ (y : S). drawn s.source [] y) (sym e) (law s.source), (Ready, s.store, inl (ap is_some h.1, refl), arrives_none s.store, h), tt, λ none. ap failed e)
+  read_held law taken h e = ([], subst (λ (y : S). drawn s.source [] y) (sym e) (law s.source), (Ready, s.store, inl (ap is_some h.1, refl), arrives_none s.store, (Some (kept taken), h, refl)), tt, λ none. ap failed e)
 
   pub read_asked : {A : Type 0} (r : Result (Option (InternalEvent A × ℕ)) Error) → Asked drawn failed GoesOn f patience s t r → Gives r
-  read_asked (Ok (Some taken)) a = (a.0, a.1, (Ready, held_with t.store (kept taken), a.3, a.2, a.6), tt, a.5)
+  read_asked (Ok (Some taken)) a = (a.0, a.1, (Ready, held_with t.store (kept taken), a.3, a.2, (Some (kept taken), a.6, refl)), tt, a.5)
   read_asked (Ok None) a = (a.0, a.1, (Tried, t.store, a.3, a.2, (refl, refl)), tt, a.5)
   read_asked (Err e) a = (a.0, a.1, (Broke (error_kind e), t.store, a.3, a.2, (refl, refl)), a.4, a.5)
 
 -- A poll for an event that is held.
 pub poll_held : {S : Type 0} (drawn : S → List SourceAnswer → S → Type 0) → ((s : S) → drawn s [] s) → (failed : S → ℕ) (f : Seen → Bool) (patience : Patience) (s : ReaderState S) → is_some (first_admitted f s.store.held) ≡ true
-    → (zs : List SourceAnswer) × drawn s.source zs s.source × PollStep patience f zs s.store s.store (ToPoll true) × Unit {0}
+    → (zs : List SourceAnswer) × drawn s.source zs s.source × PollStep patience f zs s.store s.store (Ok true) × Unit {0}
 poll_held drawn law failed f patience s h = ([], law s.source, (Ready, inl (h, refl), arrives_none s.store, refl), tt)
 
 -- A take that gives nothing leaves the reader as it was.

@@ -12,17 +12,20 @@ use Rattle.crossterm_read.specs.Answers.{SourceAnswer}
 use Rattle.crossterm_read.specs.declared.read.reader.AtWake.TheVariants.{Stops}
 use Rattle.crossterm_read.specs.History.{last_of}
 use Rattle.crossterm_read.specs.Queries.{QueryReplies}
-use Rattle.crossterm_read.specs.Replies.{Replied, ToPoll, ToTake, ToQuery, Fault, poll_reply}
+use Rattle.crossterm_read.specs.Replies.{ToTake, ToQuery, Fault, poll_reply}
 use Rattle.crossterm_read.specs.Store.{EventStore, kept}
 use Rattle.crossterm_read.specs.Steps.{Patience, first_admitted, Asks, End, Ready, Tried, Broke, PollStep, PollReplies, TakeReplies}
 use Rattle.crossterm_read.specs.inside.Asking.{GivesFirst, held_with}
 use Rattle.crossterm_read.proofs.Ready.{ready_there}
 
-not_false : ToPoll true ≡ ToPoll false → ⊥
+abbrev found : Bool → Result Bool ErrorKind
+found b = Ok b
+
+not_false : found true ≡ found false → ⊥
 not_false e = cc
 
 -- Where a poll was true an admitted event is held.
-pub polled_there : (f : Seen → Bool) (patience : Patience) (s m : EventStore) (zs : List SourceAnswer) (r : Replied) → PollStep patience f zs s m r → r ≡ ToPoll true → first_admitted f m.held ≡ None → ⊥
+pub polled_there : (f : Seen → Bool) (patience : Patience) (s m : EventStore) (zs : List SourceAnswer) (r : Result Bool ErrorKind) → PollStep patience f zs s m r → r ≡ Ok true → first_admitted f m.held ≡ None → ⊥
 polled_there f patience s m zs r p said none = by_end p.0 p.1 p.3
   where
     by_end : (end : End) → Asks Stops f patience s.held zs end → PollReplies end r → ⊥
@@ -31,7 +34,7 @@ polled_there f patience s m zs r p said none = by_end p.0 p.1 p.3
     by_end (Broke kind) a (inl q) = absurd (not_false (sym said ∙ q.1))
     by_end (Broke kind) a (inr q) = absurd (fault_true kind (sym q.1 ∙ said))
       where
-        fault_true : (kind : ErrorKind) → Fault kind ≡ ToPoll true → ⊥
+        fault_true : (kind : ErrorKind) → Err kind ≡ Ok true → ⊥
         fault_true kind e = cc
 
 -- What was taken is admitted.
@@ -45,18 +48,16 @@ given_admitted f t (Ok None) h = tt
 given_admitted f t (Err e) h = tt
 
 -- What a query took is admitted.
-pub query_admitted : (f : Seen → Bool) (p : Replied) (s t : EventStore) (x : Seen × ℕ) → QueryReplies f p s t (ToTake (Some x)) → f x.0 ≡ true
-query_admitted f (ToPoll true) s t x h = subst (λ (e : Seen × ℕ). f e.0 ≡ true) (sym (same x h.0 h.2)) (taken_admitted f s t h.0 h.1)
+pub query_admitted : (f : Seen → Bool) (p : Result Bool ErrorKind) (s t : EventStore) (x : Seen × ℕ) → QueryReplies f p s t (ToTake (Some x)) → f x.0 ≡ true
+query_admitted f (Ok true) s t x h = subst (λ (e : Seen × ℕ). f e.0 ≡ true) (sym (same x h.0 h.2)) (taken_admitted f s t h.0 h.1)
   where
     same : (x y : Seen × ℕ) → ToTake (Some x) ≡ ToTake (Some y) → x ≡ y
     same x y e = cc
-query_admitted f (ToPoll false) s t x h = absurd (no_take x h.1)
+query_admitted f (Ok false) s t x h = absurd (no_take x h.1)
   where
     no_take : (x : Seen × ℕ) → ToTake (Some x) ≡ Fault Other → ⊥
     no_take x e = cc
-query_admitted f (ToTake y) s t x h = absurd h
-query_admitted f (ToQuery y z) s t x h = absurd h
-query_admitted f (Fault kind) s t x h = absurd (no_take x kind h.1)
+query_admitted f (Err kind) s t x h = absurd (no_take x kind h.1)
   where
     no_take : (x : Seen × ℕ) (kind : ErrorKind) → ToTake (Some x) ≡ Fault kind → ⊥
     no_take x kind e = cc
@@ -64,15 +65,21 @@ query_admitted f (Fault kind) s t x h = absurd (no_take x kind h.1)
 pub fault_of : (k l : ErrorKind) → Fault k ≡ Fault l → k ≡ l
 fault_of k l e = cc
 
+abbrev broke : ErrorKind → Result Bool ErrorKind
+broke kind = Err kind
+
+broke_of : (k l : ErrorKind) → broke k ≡ broke l → k ≡ l
+broke_of k l e = cc
+
 -- What holds of a poll's fault, and of Other, holds of the query's.
-pub query_fault : {X : Type 0} (P : ErrorKind → Type 0) → P Other → (r : Result Bool Error) → IfErr r (λ e. P (error_kind e)) → (q : Result X Error) → IfErr q (λ e. (error_kind e ≡ Other) ⊎ (poll_reply r ≡ Fault (error_kind e))) → IfErr q (λ e. P (error_kind e))
+pub query_fault : {X : Type 0} (P : ErrorKind → Type 0) → P Other → (r : Result Bool Error) → IfErr r (λ e. P (error_kind e)) → (q : Result X Error) → IfErr q (λ e. (error_kind e ≡ Other) ⊎ (poll_reply r ≡ Err (error_kind e))) → IfErr q (λ e. P (error_kind e))
 query_fault P o r h (Ok x) f = tt
 query_fault P o r h (Err e) (inl k) = subst P (sym k) o
 query_fault P o (Ok b) h (Err e) (inr k) = absurd (poll_not b (error_kind e) k)
   where
-    poll_not : (b : Bool) (kind : ErrorKind) → ToPoll b ≡ Fault kind → ⊥
+    poll_not : (b : Bool) (kind : ErrorKind) → Ok b ≡ Err kind → ⊥
     poll_not b kind e = cc
-query_fault P o (Err x) h (Err e) (inr k) = subst P (fault_of (error_kind x) (error_kind e) k) h
+query_fault P o (Err x) h (Err e) (inr k) = subst P (broke_of (error_kind x) (error_kind e) k) h
 
 pub fault_weaker : {X : Type 0} (P Q : ErrorKind → Type 0) (r : Result X Error) → ((kind : ErrorKind) → P kind → Q kind) → IfErr r (λ e. P (error_kind e)) → IfErr r (λ e. Q (error_kind e))
 fault_weaker P Q (Ok x) f h = tt

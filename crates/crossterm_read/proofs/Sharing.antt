@@ -8,7 +8,7 @@ use Rattle.crossterm_read.specs.Store.{ReaderState, capacity}
 use Rattle.crossterm_read.specs.History.{Entry, Known, Sits, Runs, Extends, EachOnce, opened, Meets, Closes, calls_by, last_of, last_from}
 use Rattle.crossterm_read.specs.inside.Numbers.{IsOrderly}
 use Rattle.crossterm_read.specs.Calls.{Request, Step}
-use Rattle.crossterm_read.specs.Replies.{Replied, Fault, ToPoll, ToTake, Came, Faulted, poll_reply, read_said, shown}
+use Rattle.crossterm_read.specs.Replies.{Replied, Fault, ToPoll, ToTake, Came, Faulted, poll_reply, read_said, replied, shown}
 use Rattle.crossterm_read.specs.inside.Replies.{flags_said, read_reply, try_reply, last_said, last_tried}
 use Rattle.crossterm_flags.specs.declared.enhancement.KeyboardEnhancementFlags.{KeyboardEnhancementFlags}
 use Rattle.crossterm_types.specs.Seen.{Seen, seen}
@@ -204,7 +204,7 @@ last_after drawn made r v u w x y last t p is before =
     ∙ ap (λ k. last_from None k.mine) (sym p.1)
 
 -- What holds of a fault holds of it in the reply.
-pub poll_memory : (r : Result Bool Error) (P : ErrorKind → Type 0) → IfErr r (λ e. P (error_kind e)) → (kind : ErrorKind) → poll_reply r ≡ Fault kind → P kind
+pub poll_memory : (r : Result Bool Error) (P : ErrorKind → Type 0) → IfErr r (λ e. P (error_kind e)) → (kind : ErrorKind) → replied (poll_reply r) ≡ Fault kind → P kind
 poll_memory (Ok b) P h kind e = absurd (poll_not e)
   where
     poll_not : ToPoll b ≡ Fault kind → ⊥
@@ -258,7 +258,7 @@ read_kept P (Err x) (Ok y) e h = absurd (came_not (seen y) (error_kind x) e)
 read_kept P taken (Err y) e h = tt
 
 -- A poll takes nothing.
-pub last_poll : (n : Option ℕ) (r : Result Bool Error) → last_of n (poll_reply r) ≡ n
+pub last_poll : (n : Option ℕ) (r : Result Bool Error) → last_of n (replied (poll_reply r)) ≡ n
 last_poll n (Ok b) = refl
 last_poll n (Err e) = refl
 

@@ -9,7 +9,7 @@ use Rattle.crossterm_types.specs.declared.event.filter.AnyFilter.TheVariants as 
 use Rattle.crossterm_read.specs.Answers.{SourceAnswer}
 use Rattle.crossterm_read.specs.Entries.{IsPoll, Polls, Tries}
 use Rattle.crossterm_read.specs.History.{Known, Extends}
-use Rattle.crossterm_read.specs.Replies.{Replied, ToPoll, ToTake, ToQuery, Fault, Came, Polled, Faulted, event_seen, poll_reply, shown}
+use Rattle.crossterm_read.specs.Replies.{Replied, ToPoll, ToTake, ToQuery, Fault, Came, Polled, Faulted, event_seen, poll_reply, replied, shown}
 use Rattle.crossterm_read.specs.inside.Replies.{event_tried}
 use Rattle.crossterm_read.specs.Streams.{ReadsAtOnce, GivesItem, GivesNothing, PollsOn, OnlyPolls}
 
@@ -60,5 +60,5 @@ module _ {S : Type 0} (drawn : S → List SourceAnswer → S → Type 0) (asked 
   -- One poll more. It has no limit, so that it had the reader.
   pub polls_more : (v u w : Known S) (result : Result Bool Error) (begins : ℕ → Type 0) → ((start : ℕ) → begins start → start ≡ 0) → OnlyPolls drawn asked v u → Polls drawn asked filters.Event None begins 0 u w result → OnlyPolls drawn asked v w
   polls_more v u w result begins zero h (start, b, inl x) =
-      (h.0 ++ poll_reply result ∷ [], one_more v u w h.0 (poll_reply result) h.1 (subst (λ (n : ℕ). Extends drawn (IsPoll asked filters.Event None n 0 (poll_reply result)) u w) (zero start b) x))
+      (h.0 ++ replied (poll_reply result) ∷ [], one_more v u w h.0 (replied (poll_reply result)) h.1 (subst (λ (n : ℕ). Extends drawn (IsPoll asked filters.Event None n 0 (replied (poll_reply result))) u w) (zero start b) x))
   polls_more v u w result begins zero h (start, b, inr x) = absurd x.2

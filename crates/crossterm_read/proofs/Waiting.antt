@@ -117,7 +117,7 @@ module _ {S : Type 0} (A : Type 0) (drawn : S → List SourceAnswer → S → Ty
 
   pub waited_read : (taken : InternalEvent A × ℕ) → Asked drawn failed GoesOn f (Within limit past) s t (Ok (Some taken))
       → (past : ℕ) × (zs : List SourceAnswer) × drawn s.source zs t.source × ReadStep (Within None past) f zs s.store t.store (ToTake (Some (kept taken))) × Unit {0} × IsSteady failed s.source zs t.source
-  waited_read taken a = (past, a.0, a.1, (Ready, held_with t.store (kept taken), subst (λ (o : Option Duration). Asks GoesOn f (Within o past) s.store.held a.0 Ready) none a.3, a.2, a.6), tt, a.5)
+  waited_read taken a = (past, a.0, a.1, (Ready, held_with t.store (kept taken), subst (λ (o : Option Duration). Asks GoesOn f (Within o past) s.store.held a.0 Ready) none a.3, a.2, (Some (kept taken), a.6, refl)), tt, a.5)
 
   pub waited_fault : (e : Error) → Asked {A = A} drawn failed GoesOn f (Within limit past) s t (Err e)
       → (past : ℕ) × (zs : List SourceAnswer) × drawn s.source zs t.source × ReadStep (Within None past) f zs s.store t.store (Fault (error_kind e)) × RefusedOnlyWithoutRoom s.room zs (error_kind e) × IsSteady failed s.source zs t.source

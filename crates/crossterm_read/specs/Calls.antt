@@ -1,8 +1,9 @@
 -- Calls of a reader, one after another.
-use Rattle.std.specs.Prelude.{◌≡◌, ◌⊎◌, ℕ, List, [], ◌∷◌, ◌++◌, map, Some, None}
+use Rattle.std.specs.Prelude.{◌≡◌, ◌⊎◌, ℕ, Bool, List, [], ◌∷◌, ◌++◌, map, Some, None, Result}
 use Rattle.std.specs.List.{flat_map}
 use Rattle.std.specs.List.Sorted.{IsPermutation}
 use Rattle.std.specs.Option.{option_map}
+use Rattle.std.specs.declared.io.ErrorKind.{ErrorKind}
 use Rattle.crossterm_types.specs.Admitting.{admitted, is_cursor_position}
 use Rattle.crossterm_types.specs.Seen.{Seen, seen, CursorPosition}
 use Rattle.crossterm_types.specs.declared.event.filter.AnyFilter.{AnyFilter}
@@ -11,7 +12,7 @@ use Rattle.crossterm_read.specs.Outcomes.{Answered, Happened}
 use Rattle.crossterm_read.specs.Device.{DeviceAnswer}
 use Rattle.crossterm_read.specs.Store.{EventStore, next_number}
 use Rattle.crossterm_read.specs.Queries.{QueryStep, KeyboardStep}
-use Rattle.crossterm_read.specs.Replies.{Replied, ToPoll, ToTake, ToQuery, Fault, Said, Polled, Came, Faulted, flags_seen, shown}
+use Rattle.crossterm_read.specs.Replies.{Replied, ToPoll, ToTake, ToQuery, Fault, Said, Polled, Came, Faulted, flags_seen, replied, shown}
 use Rattle.crossterm_read.specs.Steps.{Patience, UpTo, PollStep, ReadStep, TakeStep}
 use Rattle.crossterm_read.specs.declared.read.call.Call.{Call}
 use Rattle.crossterm_read.specs.declared.read.call.Call.TheVariants as call
@@ -42,7 +43,7 @@ request (call.Keyboard tries) = Keyboard (UpTo tries) (UpTo tries)
 
 -- What is asked draws these answers, and is replied this.
 abbrev pub Step : Request → List SourceAnswer → EventStore → EventStore → Replied → Type 0
-Step (Poll patience f) zs s t r = PollStep patience (admitted f) zs s t r
+Step (Poll patience f) zs s t r = (p : Result Bool ErrorKind) × PollStep patience (admitted f) zs s t p × (r ≡ replied p)
 Step (Read patience f) zs s t r = ReadStep patience (admitted f) zs s t r
 Step (Take f) zs s t r = TakeStep (admitted f) zs s t r
 Step (Position patience) zs s t r = QueryStep is_cursor_position patience zs s t r

@@ -13,7 +13,7 @@ use Rattle.crossterm_read.specs.Answers.{SourceAnswer}
 use Rattle.crossterm_read.specs.Calls.{Request, Poll, Read, Position, Keyboard}
 use Rattle.crossterm_read.specs.Device.{AsksAtOnce}
 use Rattle.crossterm_read.specs.History.{Entry, Known, Extends}
-use Rattle.crossterm_read.specs.Replies.{Replied, Fault, Said, Came, keyboard_said, poll_reply, position_said, shown}
+use Rattle.crossterm_read.specs.Replies.{Replied, Fault, Said, Came, keyboard_said, poll_reply, position_said, replied, shown}
 use Rattle.crossterm_read.specs.Store.{ReaderState}
 use Rattle.crossterm_read.specs.Steps.{Patience, UpTo, Within, RefusedOnlyWithoutRoom}
 use Rattle.crossterm_read.specs.Waiting.{AsksForever, AsksTwice, AsksWithin}
@@ -75,7 +75,7 @@ module _ {S : Type 0} (drawn : S → List SourceAnswer → S → Type 0) (asked 
   -- A poll made by a pass, from the moment at which it began: so stands such a call; or the limit passed before the reader was there, the answer is false, and the pass is as it was.
   abbrev pub Polls : AnyFilter → Option Duration → (ℕ → Type 0) → ℕ → Known S → Known S → Result Bool Error → Type 0
   Polls f limit begins after v w result =
-      (start : ℕ) × begins start × (Extends drawn (IsPoll asked f limit start after (poll_reply result)) v w ⊎ ((result ≡ Ok false) × (w ≡ v) × Reaches limit (after - start)))
+      (start : ℕ) × begins start × (Extends drawn (IsPoll asked f limit start after (replied (poll_reply result))) v w ⊎ ((result ≡ Ok false) × (w ≡ v) × Reaches limit (after - start)))
 
   -- A query for the cursor's place made by a pass, likewise: where the limit passed before the reader was there the answer is `Other`.
   abbrev pub AsksPosition : Duration → (ℕ → Type 0) → ℕ → Known S → Known S → Result (ℕ × ℕ) Error → Type 0

@@ -30,10 +30,15 @@ shown (ToTake x) = Came (option_map (λ e. e.0) x)
 shown (ToQuery x y) = Came (Some x.0)
 shown (Fault kind) = Faulted kind
 
--- The replies of calls that give the number too.
-abbrev pub poll_reply : Result Bool Error → Replied
-poll_reply (Ok b) = ToPoll b
-poll_reply (Err e) = Fault (error_kind e)
+-- What a poll found: whether an event is there, or a fault of this kind.
+abbrev pub poll_reply : Result Bool Error → Result Bool ErrorKind
+poll_reply (Ok b) = Ok b
+poll_reply (Err e) = Err (error_kind e)
+
+-- What a call replies that polls.
+abbrev pub replied : Result Bool ErrorKind → Replied
+replied (Ok b) = ToPoll b
+replied (Err kind) = Fault kind
 
 -- What callers see of a result.
 abbrev pub try_said : {A : Type 0} → Result (Option (InternalEvent A)) Error → Said

@@ -1,5 +1,5 @@
 -- What one call of a reader does.
-use Rattle.std.specs.Prelude.{◌≡◌, ◌≢◌, ◌⊎◌, ◌+◌, ◌≤◌, ℕ, Bool, true, false, List, [], ◌∷◌, ◌++◌, length, Option, Some, None, slice_index_or, position, remove, is_some}
+use Rattle.std.specs.Prelude.{◌≡◌, ◌≢◌, ◌⊎◌, ◌+◌, ◌≤◌, ℕ, Bool, true, false, List, [], ◌∷◌, ◌++◌, length, Option, Some, None, Result, Ok, Err, slice_index_or, position, remove, is_some}
 use Rattle.std.specs.List.{AllByRecursion}
 use Rattle.std.specs.declared.io.ErrorKind.{ErrorKind}
 use Rattle.std.specs.declared.io.ErrorKind.TheVariants.{OutOfMemory, Interrupted}
@@ -10,7 +10,7 @@ use Rattle.crossterm_read.specs.Answers.{SourceAnswer, Gave, Nothing, Failed, ga
 use Rattle.crossterm_read.specs.Device.{IsAtOnce}
 use Rattle.crossterm_read.specs.declared.read.reader.AtWake.{AtWake}
 use Rattle.crossterm_read.specs.declared.read.reader.AtWake.TheVariants.{Stops, GoesOn}
-use Rattle.crossterm_read.specs.Replies.{Replied, ToPoll, ToTake, ToQuery, Fault}
+use Rattle.crossterm_read.specs.Replies.{Replied, ToTake, Fault}
 use Rattle.crossterm_read.specs.Store.{EventStore, Arrives}
 
 -- The place of the first held event that is admitted.
@@ -74,10 +74,10 @@ Asks wake f patience held zs (Broke kind) = (first_admitted f held ≡ None)
     × ((Fails wake f kind zs × Allows patience (length zs)) ⊎ ((kind ≡ OutOfMemory) × AllByRecursion (Passes wake f) zs × Allows patience (length zs + 1)))
 
 -- What a poll says of how asking ended. A wake-up ends it with false.
-abbrev pub PollReplies : End → Replied → Type 0
-PollReplies Ready r = r ≡ ToPoll true
-PollReplies Tried r = r ≡ ToPoll false
-PollReplies (Broke kind) r = ((kind ≡ Interrupted) × (r ≡ ToPoll false)) ⊎ ((kind ≢ Interrupted) × (r ≡ Fault kind))
+abbrev pub PollReplies : End → Result Bool ErrorKind → Type 0
+PollReplies Ready r = r ≡ Ok true
+PollReplies Tried r = r ≡ Ok false
+PollReplies (Broke kind) r = ((kind ≡ Interrupted) × (r ≡ Ok false)) ⊎ ((kind ≢ Interrupted) × (r ≡ Err kind))
 
 -- The first admitted event is removed and given with its number, where one is held, and no other.
 abbrev pub TakeReplies : (Seen → Bool) → EventStore → EventStore → Option (Seen × ℕ) → Type 0
@@ -86,25 +86,19 @@ TakeReplies f s t (Some x) = (i : ℕ) × (first_admitted f s.held ≡ Some i) �
 
 -- What a read says of how asking ended, and what it takes.
 abbrev pub ReadReplies : (Seen → Bool) → End → EventStore → EventStore → Replied → Type 0
-ReadReplies f Ready s t (ToTake x) = TakeReplies f s t x
-ReadReplies f Ready s t (ToPoll b) = ⊥
-ReadReplies f Ready s t (ToQuery x y) = ⊥
-ReadReplies f Ready s t (Fault kind) = ⊥
+ReadReplies f Ready s t r = (x : Option (Seen × ℕ)) × TakeReplies f s t x × (r ≡ ToTake x)
 ReadReplies f Tried s t r = (t ≡ s) × (r ≡ ToTake None)
 ReadReplies f (Broke kind) s t r = (t ≡ s) × (r ≡ Fault kind)
 
 -- The steps: these answers are drawn, their events are held, and the call replies this.
-abbrev pub PollStep : Patience → (Seen → Bool) → List SourceAnswer → EventStore → EventStore → Replied → Type 0
+abbrev pub PollStep : Patience → (Seen → Bool) → List SourceAnswer → EventStore → EventStore → Result Bool ErrorKind → Type 0
 PollStep patience f zs s t r = (end : End) × Asks Stops f patience s.held zs end × Arrives s zs t × PollReplies end r
 
 abbrev pub ReadStep : Patience → (Seen → Bool) → List SourceAnswer → EventStore → EventStore → Replied → Type 0
 ReadStep patience f zs s t r = (end : End) × (m : EventStore) × Asks GoesOn f patience s.held zs end × Arrives s zs m × ReadReplies f end m t r
 
 abbrev pub TakeStep : (Seen → Bool) → List SourceAnswer → EventStore → EventStore → Replied → Type 0
-TakeStep f zs s t (ToTake x) = (zs ≡ []) × TakeReplies f s t x
-TakeStep f zs s t (ToPoll b) = ⊥
-TakeStep f zs s t (ToQuery x y) = ⊥
-TakeStep f zs s t (Fault kind) = ⊥
+TakeStep f zs s t r = (zs ≡ []) × ReadReplies f Ready s t r
 
 -- Memory is refused only where that was the source's last answer, or where as many events had come as there was room for.
 abbrev pub RefusedOnlyWithoutRoom : ℕ → List SourceAnswer → ErrorKind → Type 0

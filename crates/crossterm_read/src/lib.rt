@@ -39,11 +39,11 @@
 //! | `Answers` | 41 | what a source answers | `EventSource::try_read` |
 //! | `Outcomes` | 102 | what comes of a device's answers, and the events that happen | `laws::one_happening` |
 //! | `Store` | 56 | what a reader holds | `InternalEventReader::{new, held}` |
-//! | `Replies` | 66 | what a call replies | |
-//! | `Steps` | 111 | what a poll, a read and a take do | `InternalEventReader::{poll_within, read_within, take}` |
-//! | `Queries` | 47 | what a query does | `InternalEventReader::{position_within, keyboard_within}` |
+//! | `Replies` | 71 | what a call replies | |
+//! | `Steps` | 105 | what a poll, a read and a take do | `InternalEventReader::{poll_within, read_within, take}` |
+//! | `Queries` | 45 | what a query does | `InternalEventReader::{position_within, keyboard_within}` |
 //! | `Waiting` | 35 | with which limits a device is asked | `InternalEventReader::{poll, read}`, `EventReader::keyboard_by` |
-//! | `Calls` | 127 | runs of calls, and the account of all events: the headline | `read::play`, `laws::counts_tries` |
+//! | `Calls` | 128 | runs of calls, and the account of all events: the headline | `read::play`, `laws::counts_tries` |
 //! | `History` | 170 | the one legal history of a reader that threads share | `EventReader`, `Pass` |
 //! | `Entries` | 92 | which call an entry of it is | `EventReader::{poll, read, poll_by, read_by, position_by, keyboard_by, paste_len}` |
 //! | `OverScripts` | 26 | what a history over a script comes to | `laws::{scripts_are_told, histories_are_told}` |

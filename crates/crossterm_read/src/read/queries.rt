@@ -1,5 +1,5 @@
 //! Queries: a reply is waited for, and taken.
-ghost use Rattle.std.specs.Prelude.{◌≡◌, ◌≢◌, ◌⊎◌, ◌≤◌, ◌<◌, ◌-◌, true, IfOk, IfErr, ℕ, List, Option, Some, None};
+ghost use Rattle.std.specs.Prelude.{◌≡◌, ◌≢◌, ◌⊎◌, ◌≤◌, ◌<◌, ◌-◌, true, IfOk, IfErr, ℕ, List, Option, Some, None, Ok, Err};
 ghost use Rattle.std.specs.Duration.{as_nanos};
 ghost use Rattle.std.specs.IoError.{error_kind};
 ghost use Rattle.std.specs.declared.io.ErrorKind.TheVariants.{Other};
@@ -11,7 +11,7 @@ ghost use Rattle.crossterm_read.specs.Answers.{SourceAnswer, IsOwn};
 ghost use Rattle.crossterm_read.specs.Device.{AsksAtOnce};
 ghost use Rattle.crossterm_read.specs.History.{last_of};
 ghost use Rattle.crossterm_read.specs.Queries.{KeyboardStep, LeftReplies, QueryReplies, QueryStep};
-ghost use Rattle.crossterm_read.specs.Replies.{Fault, Replied, ToPoll, ToQuery, flags_seen, keyboard_said, poll_reply, position_said, shown};
+ghost use Rattle.crossterm_read.specs.Replies.{Replied, ToQuery, flags_seen, keyboard_said, poll_reply, position_said, shown};
 ghost use Rattle.crossterm_read.specs.inside.Replies.{flags_said, last_said, read_reply};
 ghost use Rattle.crossterm_read.specs.Store.{capacity, kept};
 ghost use Rattle.crossterm_read.specs.Steps.{UpTo, Within, RefusedOnlyWithoutRoom, first_admitted};
@@ -70,12 +70,12 @@ impl<S: EventSource<A>, A: Allocator + Clone> InternalEventReader<S, A> {
         ready: io::Result<bool>,
         filter: &F,
     ) -> io::Result<(InternalEvent<A>, u64)>
-        requires { poll_reply ready ≡ ToPoll true → first_admitted (F.admits filter.now) self.old.store.held ≢ None }
+        requires { poll_reply ready ≡ Ok true → first_admitted (F.admits filter.now) self.old.store.held ≢ None }
         ensures delivers { QueryReplies (F.admits filter.now) (poll_reply ready) self.old.store self.new.store (read_reply result) }
         ensures room { capacity self.new ≡ capacity self.old }
         ensures source { self.new.source ≡ self.old.source }
         ensures admitted { IfOk result (λ x. F.admits filter.now (seen x.0) ≡ true) }
-        ensures fault { IfErr result (λ e. (error_kind e ≡ Other) ⊎ (poll_reply ready ≡ Fault (error_kind e))) }
+        ensures fault { IfErr result (λ e. (error_kind e ≡ Other) ⊎ (poll_reply ready ≡ Err (error_kind e))) }
     {
         match ready {
             Ok(ready) => {
@@ -158,7 +158,7 @@ impl<S: EventSource<A>, A: Allocator + Clone> InternalEventReader<S, A> {
 
     // Takes the attributes that came after the flags.
     fn left_taken(&mut self, ready: io::Result<bool>) -> Option<(InternalEvent<A>, u64)>
-        requires { poll_reply ready ≡ ToPoll true → first_admitted is_attributes self.old.store.held ≢ None }
+        requires { poll_reply ready ≡ Ok true → first_admitted is_attributes self.old.store.held ≢ None }
         ensures delivers { (x : Seen × ℕ) → LeftReplies (poll_reply ready) x self.old.store self.new.store (ToQuery x (option_map kept result)) }
         ensures room { capacity self.new ≡ capacity self.old }
         ensures source { self.new.source ≡ self.old.source }

@@ -1,4 +1,5 @@
 use Rattle.std.proofs.Common.{[], sym, subst, ap, refl, ◌∙◌}
+use Rattle.std.specs.Prelude.{Ok, Err}
 use Rattle.std.specs.IoError.{error_kind}
 use Rattle.crossterm_read.specs.declared.read.call.Call.{Call}
 use Rattle.crossterm_read.specs.Replies.{Fault, Faulted, Came, ToPoll, ToTake}
@@ -8,12 +9,12 @@ use Rattle.crossterm_read.proofs.read.reader.InternalEventReader.call.Goals as g
 pub returns-in-Err : goal.returns-in-Err
 returns-in-Err g c =
     let e = c.in-Err.ensures.step in
-    (e.0, Fault (error_kind c.in-Err.error), e.1, subst (λ (k : Call). Step (request k) e.0 c.args.self.now.store c.poll_within.new.self.store (Fault (error_kind c.in-Err.error))) (sym c.in-Poll.is) e.2, ap Faulted c.kind.ensures)
+    (e.0, Fault (error_kind c.in-Err.error), e.1, subst (λ (k : Call). Step (request k) e.0 c.args.self.now.store c.poll_within.new.self.store (Fault (error_kind c.in-Err.error))) (sym c.in-Poll.is) (Err (error_kind c.in-Err.error), e.2, refl), ap Faulted c.kind.ensures)
 
 pub returns-in-Ok : goal.returns-in-Ok
 returns-in-Ok g c =
     let e = c.in-Ok.ensures.step in
-    (e.0, ToPoll c.in-Ok.ready, e.1, subst (λ (k : Call). Step (request k) e.0 c.args.self.now.store c.poll_within.new.self.store (ToPoll c.in-Ok.ready)) (sym c.in-Poll.is) e.2, refl)
+    (e.0, ToPoll c.in-Ok.ready, e.1, subst (λ (k : Call). Step (request k) e.0 c.args.self.now.store c.poll_within.new.self.store (ToPoll c.in-Ok.ready)) (sym c.in-Poll.is) (Ok c.in-Ok.ready, e.2, refl), refl)
 
 pub returns-in-Err-read_within : goal.returns-in-Err-read_within
 returns-in-Err-read_within g c =
@@ -31,7 +32,7 @@ returns-in-Take g c =
       [],
       ToTake e.0,
       subst (λ (x : g.row.S.Denot). g.S.EventSource.drawn c.args.self.now.source [] x) (sym c.take.ensures.source) (g.met.S.EventSource.none_drawn c.args.self.now.source),
-      subst (λ (k : Call). Step (request k) [] c.args.self.now.store c.take.new.self.store (ToTake e.0)) (sym c.in-Take.is) (refl, e.1),
+      subst (λ (k : Call). Step (request k) [] c.args.self.now.store c.take.new.self.store (ToTake e.0)) (sym c.in-Take.is) (refl, (e.0, e.1, refl)),
       ap Came e.2,
     )
 

@@ -25,7 +25,7 @@ returns-in-Some-clause-step g c =
     let t = c.left_taken-left.new.self.store in
     let last = g.C.Clock.told c.poll-ready.new.clock in
     let again = Within (Some c.args.again) (last - d.0) in
-    let after : AfterReply again d.3 x.0 x m t (ToQuery x y) = subst (λ (z : Seen). AfterReply again d.3 z x m t (ToQuery x y)) (sym c.in-Some.ensures) (n, _, d.5, c.left_taken-left.ensures.delivers x) in
+    let after : AfterReply again d.3 (is_attributes x.0) x m t (ToQuery x y) = subst (λ (z : Seen). AfterReply again d.3 (is_attributes z) x m t (ToQuery x y)) (sym c.in-Some.ensures) (n, _, d.5, c.left_taken-left.ensures.delivers x) in
     let drawn = g.met.S.EventSource.drawn_on _ _ _ e.0 d.3 e.1 d.4 in (
       g.C.Clock.told c.query_until.new.clock,
       d.0,
@@ -35,7 +35,7 @@ returns-in-Some-clause-step g c =
       e.0 ++ d.3,
       ToQuery x y,
       subst (λ (z : g.row.S.Denot). g.S.EventSource.drawn c.args.self.now.source (e.0 ++ d.3) z) (sym c.left_taken-left.ensures.source) drawn,
-      (e.0, d.3, m, ToTake (Some x), refl, e.2, after),
+      (e.0, d.3, m, ToTake (Some x), refl, e.2, inl (x, refl, after)),
       ap (λ (z : Seen). Came (Some z)) (sym c.in-Some.ensures),
       tt,
       λ n. last_query n x.0 x.1 y _ c.number_of.ensures,
@@ -51,7 +51,7 @@ returns-in-Ok-clause-step g c =
     let m = c.query_until.new.self.store in
     let between = g.C.Clock.told c.query_until.new.clock in
     let again = Within (Some c.args.again) (between - between) in
-    let after : AfterReply again [] x.0 x m m (ToTake (Some x)) = subst (λ (z : Seen). AfterReply again [] z x m m (ToTake (Some x))) (sym c.in-None.ensures) (refl, refl, refl) in (
+    let after : AfterReply again [] (is_attributes x.0) x m m (ToTake (Some x)) = subst (λ (z : Seen). AfterReply again [] (is_attributes z) x m m (ToTake (Some x))) (sym c.in-None.ensures) (refl, refl, refl) in (
       between,
       between,
       c.query_until.ensures.later,
@@ -60,7 +60,7 @@ returns-in-Ok-clause-step g c =
       e.0,
       ToTake (Some x),
       e.1,
-      (e.0, [], m, ToTake (Some x), sym (append-nil e.0), e.2, after),
+      (e.0, [], m, ToTake (Some x), sym (append-nil e.0), e.2, inl (x, refl, after)),
       ap (λ (z : Seen). Came (Some z)) (sym c.in-None.ensures),
       tt,
       λ n. refl,
@@ -81,7 +81,7 @@ returns-clause-step g c =
       e.0,
       fault,
       e.1,
-      (e.0, [], c.query_until.new.self.store, fault, sym (append-nil e.0), e.2, (refl, refl, refl)),
+      (e.0, [], c.query_until.new.self.store, fault, sym (append-nil e.0), e.2, inr (error_kind c.in-Err.error, refl, (refl, refl, refl))),
       refl,
       e.3,
       λ n. refl,

@@ -1,4 +1,4 @@
-use Rattle.std.proofs.Common.{ℕ, Some, [], ◌++◌, sym, ap, refl, subst, append-nil}
+use Rattle.std.proofs.Common.{ℕ, Some, [], ◌++◌, sym, ap, refl, subst, inl, inr, append-nil}
 use Rattle.std.specs.Option.{option_map}
 use Rattle.std.specs.IoError.{error_kind}
 use Rattle.crossterm_types.specs.Seen.{Seen}
@@ -24,14 +24,14 @@ returns-in-Some-clause-step g c =
     let d = c.poll_within-ready.ensures.step in
     let x : Seen × ℕ = kept (c.in-Ok.event, c.in-Ok._number) in
     let r = ToQuery x (option_map kept c.left_taken-left.result) in
-    let after : AfterReply (UpTo c.args.tries) d.0 x.0 x c.query_within.new.self.store c.left_taken-left.new.self.store r = subst
-    (λ (y : Seen). AfterReply (UpTo c.args.tries) d.0 y x c.query_within.new.self.store c.left_taken-left.new.self.store r) (sym c.in-Some.ensures)
+    let after : AfterReply (UpTo c.args.tries) d.0 (is_attributes x.0) x c.query_within.new.self.store c.left_taken-left.new.self.store r = subst
+    (λ (y : Seen). AfterReply (UpTo c.args.tries) d.0 (is_attributes y) x c.query_within.new.self.store c.left_taken-left.new.self.store r) (sym c.in-Some.ensures)
     (c.poll_within-ready.new.self.store, _, d.2, c.left_taken-left.ensures.delivers x) in
     let drawn = g.met.S.EventSource.drawn_on _ _ _ e.0 d.0 e.1 d.1 in (
       e.0 ++ d.0,
       r,
       subst (λ (y : g.row.S.Denot). g.S.EventSource.drawn c.args.self.now.source (e.0 ++ d.0) y) (sym c.left_taken-left.ensures.source) drawn,
-      (e.0, d.0, c.query_within.new.self.store, ToTake (Some x), refl, e.2, after),
+      (e.0, d.0, c.query_within.new.self.store, ToTake (Some x), refl, e.2, inl (x, refl, after)),
       ap (λ (y : Seen). Came (Some y)) (sym c.in-Some.ensures),
       tt,
     )
@@ -40,14 +40,14 @@ pub returns-in-Ok-clause-step : goal.returns-in-Ok-clause-step
 returns-in-Ok-clause-step g c =
     let e = c.in-Ok.ensures.step in
     let x : Seen × ℕ = kept (c.in-Ok.event, c.in-Ok._number) in
-    let after : AfterReply (UpTo c.args.tries) [] x.0 x c.query_within.new.self.store c.query_within.new.self.store (ToTake (Some x)) = subst
-    (λ (y : Seen). AfterReply (UpTo c.args.tries) [] y x c.query_within.new.self.store c.query_within.new.self.store (ToTake (Some x))) (sym c.in-None.ensures) (refl, refl, refl) in
-    (e.0, ToTake (Some x), e.1, (e.0, [], c.query_within.new.self.store, ToTake (Some x), sym (append-nil e.0), e.2, after), ap (λ (y : Seen). Came (Some y)) (sym c.in-None.ensures), tt)
+    let after : AfterReply (UpTo c.args.tries) [] (is_attributes x.0) x c.query_within.new.self.store c.query_within.new.self.store (ToTake (Some x)) = subst
+    (λ (y : Seen). AfterReply (UpTo c.args.tries) [] (is_attributes y) x c.query_within.new.self.store c.query_within.new.self.store (ToTake (Some x))) (sym c.in-None.ensures) (refl, refl, refl) in
+    (e.0, ToTake (Some x), e.1, (e.0, [], c.query_within.new.self.store, ToTake (Some x), sym (append-nil e.0), e.2, inl (x, refl, after)), ap (λ (y : Seen). Came (Some y)) (sym c.in-None.ensures), tt)
 
 pub returns-clause-step : goal.returns-clause-step
 returns-clause-step g c =
     let e = c.in-Err.ensures.step in
-    (e.0, Fault (error_kind c.in-Err.error), e.1, (e.0, [], c.query_within.new.self.store, Fault (error_kind c.in-Err.error), sym (append-nil e.0), e.2, (refl, refl, refl)), refl, e.3)
+    (e.0, Fault (error_kind c.in-Err.error), e.1, (e.0, [], c.query_within.new.self.store, Fault (error_kind c.in-Err.error), sym (append-nil e.0), e.2, inr (error_kind c.in-Err.error, refl, (refl, refl, refl))), refl, e.3)
 
 pub returns-in-Some-clause-at_once : goal.returns-in-Some-clause-at_once
 returns-in-Some-clause-at_once g c =

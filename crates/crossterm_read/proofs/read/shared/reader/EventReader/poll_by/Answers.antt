@@ -4,7 +4,7 @@ use Rattle.std.specs.declared.time.Duration.{Duration}
 use Rattle.crossbeam_queue.specs.Passes.{view}
 use Rattle.crossterm_types.specs.Admitting.{admitted}
 use Rattle.crossterm_read.specs.Calls.{Poll}
-use Rattle.crossterm_read.specs.Replies.{poll_reply}
+use Rattle.crossterm_read.specs.Replies.{poll_reply, replied}
 use Rattle.crossterm_read.specs.Steps.{Within, PollStep}
 use Rattle.crossterm_read.proofs.Sharing.{taken_at, some_there, produces, extends, poll_memory, sits_taken, sits_put, last_after, last_poll}
 use Rattle.crossterm_read.proofs.Waiting.{first_of}
@@ -22,13 +22,13 @@ put-requires-clause-produces g c =
     let past = g.C.Clock.told c.poll_until-result.new.clock - as_nanos c.new-timeout.result.start in
     let e = c.poll_until-result.ensures.step in
     let step = subst (λ (limit : Option Duration). PollStep (Within limit past) (admitted c.args.filter) e.0 c.deref_mut.result.now.store c.poll_until-result.new.self.store (poll_reply c.poll_until-result.result)) c.new-timeout.ensures.limit e.2 in
-    produces g.S.EventSource.drawn _ _ _ c.deref_mut.result.now c.poll_until-result.new.self (taken_at g.S.EventSource.drawn _ _ _ _ c.deref_mut.ensures.value c.in-Some.ensures.taken) (Poll (Within c.args.limit past) c.args.filter) e.0 (poll_reply c.poll_until-result.result)
+    produces g.S.EventSource.drawn _ _ _ c.deref_mut.result.now c.poll_until-result.new.self (taken_at g.S.EventSource.drawn _ _ _ _ c.deref_mut.ensures.value c.in-Some.ensures.taken) (Poll (Within c.args.limit past) c.args.filter) e.0 (replied (poll_reply c.poll_until-result.result))
     (record {
       call = (past, omega (arith, start), refl);
       reply = refl;
       limits_so = (c.new-timeout.result, c.new-timeout.ensures.limit, start, c.poll_until-result.ensures.limits);
       memory = poll_memory c.poll_until-result.result _ e.3;
-    }) e.1 step c.poll_until-result.ensures.room
+    }) e.1 (_, step, refl) c.poll_until-result.ensures.room
 
 pub invariant_of-pass-2 : goal.invariant_of-pass-2
 invariant_of-pass-2 g c = record {
