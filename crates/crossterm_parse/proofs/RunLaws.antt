@@ -1,5 +1,5 @@
 -- Bytes that are put in at once are put in one after another.
-use Rattle.std.proofs.Common.{◌≡◌, ◌==◌, ◌≤◌, ◌<◌, ℕ, zero, suc, ◌+◌, ◌-◌, Bool, true, false, not, ◌&&◌, if◌then◌else◌, List, [], ◌∷◌, ◌++◌, length, take, drop, get_or, slice_index, Option, Some, None, option_to_list, map, nat_lt, refl, ap, sym, ◌∙◌, subst, arith, append_assoc}
+use Rattle.std.proofs.Common.{◌≡◌, ◌≢◌, ◌==◌, ◌≤◌, ◌<◌, ℕ, zero, suc, ◌+◌, ◌-◌, Bool, true, false, not, ◌&&◌, if◌then◌else◌, List, [], ◌∷◌, ◌++◌, length, take, drop, get_or, slice_index, Option, Some, None, option_to_list, map, nat_lt, refl, ap, sym, ◌∙◌, subst, arith, append_assoc}
 use Rattle.std.proofs.lemmas.List.{append-nil, drop_more, take_all, take_rest, length-drop}
 use Rattle.std.specs.Prelude.{nat_le}
 use Rattle.std.proofs.lemmas.Bool.{and_parts}
@@ -11,7 +11,7 @@ use Rattle.bstr.proofs.lemmas.PieceLemmas.{by-shape}
 use Rattle.crossterm_parse.specs.inside.Fields.{fields_after}
 use Rattle.crossterm_parse.specs.inside.Recognizer.{is_lead, is_continuing, is_final, is_mouse_end, further_after}
 use Rattle.crossterm_parse.specs.inside.Utf8.{utf8_after}
-use Rattle.crossterm_parse.specs.Meaning.{typed, decoded_character, seen_meaning}
+use Rattle.crossterm_parse.specs.Meaning.{typed, single, decoded_character, seen_meaning}
 use Rattle.crossterm_types.specs.Seen.{Seen}
 use Rattle.memchr.specs.Find.{Nowhere, Passes, is_byte}
 use Rattle.crossterm_parse.specs.inside.Automaton.{IsCharacterOf, IsLetter, parameters_after, state_after, state_left, text_left, events_left, is_paste, Opens, OpensWith, StateRepresents, kept_text}
@@ -245,6 +245,22 @@ whole_on raw state b (Some m) w whole pause = (
   ap (λ (s : Step). state_left s) (sym (whole pause)),
   sym (ap (λ (s : Step). text_left s state [] b) (whole pause)),
   sym (ap (λ (s : Step). w ++ events_left s []) (whole pause)),
+)
+
+-- a control byte
+control_after : (b : ℕ) → b < 128 → b ≢ 27 → (raw pause : Bool) → state_after Ground b raw pause ≡ Whole (single raw b)
+control_after b low other raw pause =
+    let escape : b == 27 ≡ false = grind (arith, nat_tests) in
+    let lead : is_lead b ≡ false = grind (arith, nat_tests) in
+    rw (escape, lead) refl
+
+pub control_on : (raw : Bool) (s : State) (bs : List ℕ) (m : Meaning) (w : List Seen) → s ≡ Ground → 0 < length bs → (get_or bs 0 0 < 128) × (get_or bs 0 0 ≢ 27) → Some m ≡ single raw (get_or bs 0 0)
+    → PutsOn raw (bare s w) (bare s (w ++ map seen_meaning (m ∷ []))) (take 1 bs)
+control_on raw s [] m w ground some control is = absurd (omega arith)
+control_on raw s (b ∷ bs) m w ground some control is = subst (λ (t : State). PutsOn raw (bare t w) (bare t (w ++ map seen_meaning (m ∷ []))) (b ∷ [])) (sym ground) (
+  bare Ground (w ++ map seen_meaning (m ∷ [])),
+  λ pause last. whole_on raw Ground b (Some m) w (λ pause. control_after b control.0 control.1 raw pause ∙ ap Whole (sym is)) pause,
+  (refl, refl, refl),
 )
 
 some_bytes : (bs : List ℕ) (b : ℕ) → 0 < length (bs ++ b ∷ [])

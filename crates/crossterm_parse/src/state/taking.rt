@@ -7,7 +7,7 @@ ghost use Rattle.crossterm_parse.specs.inside.Putting.{PutsAll, PutsByte, PutsOn
 ghost use Rattle.crossterm_parse.specs.Marked.{marked};
 ghost use Rattle.crossterm_parse.specs.View.{AdvancesOver};
 
-use crate::meaning::{Meaning, typed_key};
+use crate::meaning::{Meaning, meaning_of_byte, typed_key};
 use crate::outlet::Outlet;
 use crate::plain::sequence_in;
 use crate::state::State;
@@ -129,8 +129,34 @@ impl State {
         count
     }
 
-    /// Gives the events of the letters in front, or that of the character in UTF-8 or of the plain sequence, and returns how many bytes they
-    /// have.
+    /// Gives the event of the control byte in front, if there is room for it, and returns how many bytes it has.
+    #[inline(never)]
+    fn give_control<O: Outlet, L: Ledger>(
+        &self,
+        bytes: &[u8],
+        raw: bool,
+        outlet: &mut O,
+        steps: &mut Steps<L>,
+    ) -> usize
+        requires ground { self.now ≡ State.Ground }
+        requires some { 0 < length bytes.now }
+        requires control { (get_or bytes.now 0 0 < 128) × (get_or bytes.now 0 0 ≢ 27) }
+        ensures front { TakesFront (O.room outlet.old) (O.room outlet.new) bytes.now result steps.old steps.new }
+        ensures puts { Through O.given (λ old new. PutsOn raw old new (take result bytes.now)) self.now self.now outlet.old outlet.new }
+    {
+        if outlet.room_now() == 0 {
+            return 0;
+        }
+        let Some(meaning) = meaning_of_byte(bytes[0], raw) else {
+            return 0;
+        };
+        steps.count(1);
+        outlet.give(meaning);
+        1
+    }
+
+    /// Gives the events of the letters in front, or that of the character in UTF-8, of the plain sequence or of the control byte, and
+    /// returns how many bytes they have.
     #[inline(always)]
     fn give_front<O: Outlet, L: Ledger>(
         &self,
@@ -145,9 +171,10 @@ impl State {
         ensures puts { Through O.given (λ old new. PutsOn raw old new (take result bytes.now)) self.now self.now outlet.old outlet.new }
     {
         match bytes[0] {
-            32..=126 => self.give_letters(bytes, outlet, steps),
-            0xC2..=0xF4 => self.give_utf8(bytes, outlet, steps),
             27 => self.give_sequence(bytes, raw, outlet, steps),
+            32..=126 => self.give_letters(bytes, outlet, steps),
+            0..=127 => self.give_control(bytes, raw, outlet, steps),
+            0xC2..=0xF4 => self.give_utf8(bytes, outlet, steps),
             _ => 0,
         }
     }
