@@ -17,6 +17,8 @@ mod pastes;
 #[cfg(test)]
 mod plain;
 #[cfg(test)]
+mod random;
+#[cfg(test)]
 mod reading;
 #[cfg(test)]
 mod refused;

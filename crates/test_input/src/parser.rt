@@ -10,7 +10,7 @@ use test_support::expect;
 
 /// How bytes come.
 #[derive(Clone, Copy)]
-enum Coming {
+pub(crate) enum Coming {
     /// With a pause after them.
     Paused,
     /// With more after them at once.
@@ -20,7 +20,7 @@ enum Coming {
 }
 
 /// What a device reported at once.
-type Piece<'a> = (&'a [u8], Coming);
+pub(crate) type Piece<'a> = (&'a [u8], Coming);
 
 fn mark(all: &mut Vec<Marked>, piece: &Piece<'_>) -> Result<(), AllocError> {
     for (i, byte) in piece.0.iter().enumerate() {
@@ -42,10 +42,13 @@ fn marks_of(alloc: Global, pieces: &[Piece<'_>]) -> Result<Vec<Marked>, AllocErr
     Ok(bytes)
 }
 
-/// The events not yet given, which are 64 at most.
+/// More events than the pieces of a test have.
+const MOST_EVENTS: u32 = 1_000;
+
+/// The events not yet given.
 fn events_of(alloc: Global, parser: &mut Parser) -> Result<Vec<InternalEvent>, AllocError> {
     let mut events = Vec::new(alloc);
-    for _ in 0..64 {
+    for _ in 0..MOST_EVENTS {
         match parser.next() {
             Some(event) => events.push(event)?,
             None => return Ok(events),
@@ -97,7 +100,7 @@ fn agrees_singly(alloc: Global, bytes: &[Marked], divided: &Divided) -> Result<b
 }
 
 /// Whether the parser divides the bytes of the pieces as defined, and gives the events of their parts for the pieces and for single bytes.
-fn agrees(alloc: Global, pieces: &[Piece<'_>]) -> Result<bool, AllocError> {
+pub(crate) fn agrees(alloc: Global, pieces: &[Piece<'_>]) -> Result<bool, AllocError> {
     let bytes = marks_of(alloc, pieces)?;
     let divided = divide(alloc, &bytes)?;
     let singly = agrees_singly(alloc, &bytes, &divided)?;

@@ -32,6 +32,12 @@ pub const TURNS: u32 = 10_000;
 /// The reader of one thread over a device.
 pub type Reader<D> = InternalEventReader<DeviceSource<D>>;
 
+/// The next of the random numbers, of 16 bits: the same ones follow from the same state.
+pub fn random(state: &mut u32) -> u32 {
+    *state = state.wrapping_mul(1_664_525).wrapping_add(1_013_904_223);
+    *state >> 16
+}
+
 /// A pause of this length.
 pub fn sleep<R: Wait>(rt: &R, time: Duration) {
     let quiet = Condvar::new();

@@ -4,7 +4,7 @@ use crate::bindings::rows::{matcher_of, sign_of, take_all};
 use crossterm_types::event::{KeyCode, KeyEvent};
 use keymap::{Matcher, Outcome};
 use std::alloc::{AllocError, Global};
-use test_support::expect;
+use test_support::{expect, random};
 
 /// How many inputs are tried for each row.
 const INPUTS: u32 = 10_000;
@@ -20,17 +20,11 @@ static ROWS: [(&[&str], &str); 4] = [
     (&["abcab", "bc", "cabc", "ab"], "aabbbccx"),
 ];
 
-/// The next of the random numbers.
-fn number(state: &mut u32) -> u32 {
-    *state = state.wrapping_mul(1_664_525).wrapping_add(1_013_904_223);
-    *state >> 16
-}
-
 /// Up to 12 random letters.
 fn typed(alloc: Global, state: &mut u32, letters: &[u8]) -> Result<Vec<u8>, AllocError> {
     let mut typed = Vec::new(alloc);
-    for _ in 0..number(state) % 13 {
-        let place = number(state) % 8;
+    for _ in 0..random(state) % 13 {
+        let place = random(state) % 8;
         typed.push(*letters.get(place as usize).unwrap_or(&b'?'))?;
     }
     Ok(typed)
