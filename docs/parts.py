@@ -142,22 +142,13 @@ def messages(path):
     return table(["Message", "Instead of", "Write"], rows)
 
 
-def imports():
-    """How often a crate's sources name what another keeps for its own proofs."""
-    found = {"specs.inside": {}, "proofs": {}}
-    for crate in crates():
-        paths = [f"{at}/{name}" for part in ("src", "specs", "proofs") for at, _, names in os.walk(f"{ROOT}/crates/{crate}/{part}") for name in names]
-        for path in paths:
-            with open(path, encoding="utf-8") as file:
-                for other, kind in re.findall(r"\buse Rattle\.(\w+)\.(specs\.inside|proofs)\b", file.read()):
-                    if other != crate and other in crates():
-                        found[kind][crate] = found[kind].get(crate, 0) + 1
-    counts = [found["specs.inside"], found["proofs"]]
-    rows = [[f"`{crate}`", *(str(it.get(crate, "")) for it in counts)] for crate in crates() if any(crate in it for it in counts)]
-    return table(["Imports of", "another's `specs/inside`", "another's `proofs`"], [*rows, ["all", *(str(sum(it.values())) for it in counts)]])
+def lent(crate):
+    """The files of a crate's lemmas that its root names for the crates above."""
+    line = re.search(r"^//! Crates above cite the lemmas of (.*?)\.$", read(root_of(crate)), re.M)
+    return re.findall(r"`(\w+)`", line[1]) if line else []
 
 
-MAKERS = {"imports": imports, "messages": messages, "proved": proved, "definitions": definitions, "shapes": shapes, "rows": rows, "file": file, "clauses": clauses, "figures": figures}
+MAKERS = {"messages": messages, "proved": proved, "definitions": definitions, "shapes": shapes, "rows": rows, "file": file, "clauses": clauses, "figures": figures}
 
 
 def made(words):

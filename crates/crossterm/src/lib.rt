@@ -31,6 +31,8 @@
 //! | `Asking` | 36 | queries, and raw mode around them | `cursor::position`, `terminal::query_keyboard_enhancement_flags` |
 //! | `Values` | 14 | what is cleared, as JSON and in its order | `ClearType`; `laws::declared_order` |
 //!
+//! Crates above cite the lemmas of `Clipboards`, `StyleReadings`.
+//!
 //! A function's proof is in `proofs/` at the function's path; if there is no file, the prover found it by itself.
 #![tactic(auto)]
 

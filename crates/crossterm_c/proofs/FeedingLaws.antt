@@ -5,10 +5,10 @@ use Rattle.std.proofs.lemmas.List.{append-nil, map-append, take_more}
 use Rattle.crossterm_types.specs.Seen.{Seen}
 use Rattle.crossterm_types.specs.Seen as seen
 use Rattle.crossterm_types.specs.declared.event.key.KeyEvent.{KeyEvent}
-use Rattle.crossterm_parse.specs.inside.Automaton.{is_paste}
+use Rattle.crossterm_parse.specs.States.{is_paste}
+use Rattle.crossterm_parse.specs.Putting.{bare}
 use Rattle.crossterm_parse.specs.declared.marked.Marked.{Marked}
 use Rattle.crossterm_parse.specs.Meaning.{pasted, seen_meaning, typed}
-use Rattle.crossterm_parse.specs.inside.Putting.{bare}
 use Rattle.crossterm_parse.specs.declared.meaning.Meaning.{Meaning}
 use Rattle.crossterm_parse.specs.declared.meaning.Meaning.TheVariants as meaning
 use Rattle.crossterm_parse.specs.View.{AdvancesOver}

@@ -3,12 +3,12 @@ use Rattle.std.proofs.Common.{◌≡◌, ◌==◌, ◌≤◌, ◌<◌, ℕ, ◌+
 use Rattle.std.proofs.lemmas.List.{append-nil, length-append, take-append-le, take_more, take_rest}
 use Rattle.std.proofs.Math.Seq.{take-add}
 use Rattle.crossterm_types.specs.Seen.{Seen}
-use Rattle.crossterm_parse.specs.inside.Automaton.{is_paste, state_after, state_left, text_left, events_left}
+use Rattle.crossterm_parse.specs.States.{is_paste}
+use Rattle.crossterm_parse.specs.Transitions.{state_after, state_left, text_left, events_left, Step, Open, Closed}
+use Rattle.crossterm_parse.specs.Putting.{PutsAll, PutsByte}
 use Rattle.crossterm_parse.specs.Marked.{marked}
 use Rattle.crossterm_parse.specs.Meaning.{pasted}
 use Rattle.crossterm_parse.specs.View.{AdvancesOver}
-use Rattle.crossterm_parse.specs.inside.Putting.{PutsAll, PutsByte}
-use Rattle.crossterm_parse.specs.inside.Step.{Step, Open, Closed}
 use Rattle.crossterm_parse.specs.declared.state.State.{State}
 use Rattle.crossterm_parse.specs.declared.state.State.TheVariants.{Ground}
 use Rattle.crossterm_parse.proofs.ViewLaws.{advance_more}

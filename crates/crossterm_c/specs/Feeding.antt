@@ -1,7 +1,7 @@
 -- What a call does that takes bytes, in the words of `Parser::advance`.
 use Rattle.std.specs.Prelude.{ℕ, ◌-◌, if◌then◌else◌, Bool, List, [], ◌∷◌, ◌++◌, length, map, take}
 use Rattle.crossterm_types.specs.Seen.{Seen}
-use Rattle.crossterm_parse.specs.inside.Automaton.{is_paste}
+use Rattle.crossterm_parse.specs.States.{is_paste}
 use Rattle.crossterm_parse.specs.declared.marked.Marked.{Marked}
 use Rattle.crossterm_parse.specs.Meaning.{pasted}
 use Rattle.crossterm_parse.specs.View.{ParserView, AdvancesOver}

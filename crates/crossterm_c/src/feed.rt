@@ -1,9 +1,9 @@
 //! Bytes to events.
 ghost use Rattle.std.specs.Prelude.{◌≡◌, ◌≢◌, ◌⊎◌, ◌≤◌, ◌<◌, not, true, false, Bool, ℕ, List, ◌++◌, length, take};
 ghost use Rattle.crossterm_types.specs.Seen.{Seen};
-ghost use Rattle.crossterm_parse.specs.inside.Automaton.{is_paste};
+ghost use Rattle.crossterm_parse.specs.States.{is_paste};
+ghost use Rattle.crossterm_parse.specs.Putting.{PutsAll};
 ghost use Rattle.crossterm_parse.specs.Marked.{marked};
-ghost use Rattle.crossterm_parse.specs.inside.Putting.{PutsAll};
 ghost use Rattle.crossterm_c.specs.Feeding.{Feeds, Pastes, view_of};
 
 use crate::event::{GelvanhEvent, paste_end};

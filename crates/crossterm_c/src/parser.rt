@@ -1,6 +1,6 @@
 //! The parser's calls.
 ghost use Rattle.std.specs.Prelude.{◌≡◌, ◌≢◌, ◌⊎◌, ◌↔◌, ◌≤◌, ◌<◌, List, length, take, IsTrue, []};
-ghost use Rattle.crossterm_parse.specs.inside.Automaton.{StateRepresents, is_paste};
+ghost use Rattle.crossterm_parse.specs.States.{StateRepresents, is_paste};
 ghost use Rattle.crossterm_parse.specs.Marked.{bytes_of, marked};
 ghost use Rattle.crossterm_parse.specs.declared.marked.Marked.{Marked};
 ghost use Rattle.crossterm_c.specs.Feeding.{Feeds};

@@ -21,6 +21,8 @@
 //! | `Faults` | 29 | why a command was stopped, and what was written | `CommandFault`, `send_command` |
 //! | `Environment` | 8 | values of environment variables | `ColorOutput::from_no_color` |
 //!
+//! Crates above cite the lemmas of `Readings`, `Rows`, `Taking`, `Texts`, `TokenLaws`.
+//!
 //! A function's proof is in `proofs/` at the function's path; if there is no file, the prover found it by itself.
 #![tactic(auto)]
 

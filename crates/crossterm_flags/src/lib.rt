@@ -25,6 +25,8 @@
 //! | `Orders` | 8 | what a type's comparisons answer | `laws` of the crates above |
 //! | `Values` | 66 | values as JSON | `to_value` and `from_value` of each |
 //!
+//! Crates above cite the lemmas of `Ranks`.
+//!
 //! A function's proof is in `proofs/` at the function's path; if there is no file, the prover found it by itself.
 #![tactic(auto)]
 

@@ -2,9 +2,9 @@
 use Rattle.std.proofs.Common.{◌≡◌, ◌==◌, ℕ, Bool, true, false, cond, List, [], ◌∷◌, ◌++◌, refl, ap, sym, ◌∙◌, subst, Option, option_and_then, eqb-true}
 use Rattle.std.specs.Str.{byte}
 use Rattle.crossterm_parse.specs.Fields.{push_first, cut, nth}
-use Rattle.crossterm_parse.specs.inside.Fields.{empty_field, parts_at, field_after, fields_at, fields_after, whole_at, whole_of, ReadsParts, ReadsField, ReadsFields}
+use Rattle.crossterm_parse.specs.Tracking.{empty_field, whole_at, whole_of, ReadsParts, ReadsField, ReadsFields, Tracks}
+use Rattle.crossterm_parse.specs.Transitions.{parts_at, field_after, fields_at, fields_after, number_after, reading}
 use Rattle.crossterm_parse.specs.Number.{number}
-use Rattle.crossterm_parse.specs.inside.Numbers.{number_after, reading, Tracks}
 use Rattle.crossterm_parse.specs.declared.fields.Field.{Field}
 use Rattle.crossterm_parse.specs.declared.fields.Fields.{Fields}
 use Rattle.crossterm_parse.specs.declared.fields.Part.{Part}

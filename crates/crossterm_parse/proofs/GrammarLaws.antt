@@ -7,7 +7,7 @@ use Rattle.std.specs.List.{AllByRecursion}
 use Rattle.crossterm_parse.specs.Marked.{Marked, bytes_of}
 use Rattle.crossterm_parse.specs.Bytes.{is_digit}
 use Rattle.crossterm_parse.specs.Grammar.{begins, IsDigit, IsFinal, IsAlone, EndsNoMouse, EndsNoReply, HasNoEnd, EndsReply, IsLead, IsContinuing, continuing_after, CharacterShape, single, broken, Shape, text, two_escapes, with_escape, after_ss3, after_csi, linux_key, x10, mouse, reply, numbered, paste, paste_mark, paste_start, paste_end, BeginsPaused, Whole, key, sequence}
-use Rattle.crossterm_parse.specs.inside.Recognizer.{is_nil, is_one, is_three, is_final, is_reply_end, is_mouse_end, ends_numbered, ends_reply, ends_mouse, ends_private, ends_paste, ends_digit, ends_csi, is_lead, is_continuing, further_after, ends_character, is_character, ends_escape, is_shape, is_whole}
+use Rattle.crossterm_parse.specs.Recognizer.{is_nil, is_one, is_three, is_final, is_reply_end, is_mouse_end, ends_numbered, ends_reply, ends_mouse, ends_private, ends_paste, ends_digit, ends_csi, is_lead, is_continuing, further_after, ends_character, is_character, ends_escape, is_shape, is_whole}
 use Rattle.crossterm_parse.specs.Grammar as grammar
 use Rattle.crossterm_parse.specs.Division.{IsPrefixFree}
 use Rattle.crossterm_parse.proofs.PasteLaws.{begins_is, begins_from, paste_true, Pasted, true_paste, not_mark}

@@ -20,15 +20,14 @@ use Rattle.crossterm_parse.specs.declared.paste.Opening.TheVariants as opening
 use Rattle.crossterm_parse.specs.declared.readings.Readings.{Readings}
 use Rattle.crossterm_parse.specs.declared.state.State.{State}
 use Rattle.crossterm_parse.specs.declared.state.State.TheVariants.{Ground, Escape, Ss3, Csi, LinuxKey, X10, Sgr, Private, Reply, Numbered, Paste, Utf8}
-use Rattle.crossterm_parse.specs.inside.Step.{Step, Open, Whole, Closed, Grown}
-use Rattle.crossterm_parse.specs.inside.Characters.{begun_bytes}
+use Rattle.crossterm_parse.specs.Transitions.{Step, Open, Whole, Closed, Grown, grown, step_of, parameters_after, empty_parameters, readings_at, state_after, opens_with, opens_after, number_ends, met_anew, met_after, x10_after, IsRight, reading}
+use Rattle.crossterm_parse.specs.Tracking.{begun_bytes, Kept}
+use Rattle.crossterm_parse.specs.Recognizer.{ends_paste, ends_digit, is_final, is_reply_end, is_mouse_end, ends_reply, is_lead, is_continuing, further_after, ends_character, is_decided}
+use Rattle.crossterm_parse.specs.States.{prefixed, IsBegun, OpenReply, OpenMouse, OpenPaste, OpenNumber, IsOpening, met_bytes, x10_bytes, StateRepresents}
 use Rattle.crossterm_parse.specs.Bytes.{is_digit}
 use Rattle.crossterm_parse.specs.Grammar.{begins, paste_mark, paste_start, IsDigit, IsFinal, IsLead, EndsNoMouse, EndsNoReply}
-use Rattle.crossterm_parse.specs.inside.Recognizer.{ends_paste, ends_digit, is_final, is_reply_end, is_mouse_end, ends_reply, is_lead, is_continuing, further_after, ends_character, is_decided}
 use Rattle.crossterm_parse.specs.Fields.{cut}
-use Rattle.crossterm_parse.specs.inside.Automaton.{grown, step_of, parameters_after, empty_parameters, readings_at, state_after, prefixed, IsBegun, OpenReply, OpenMouse, OpenPaste, OpenNumber, IsOpening, Kept, opens_with, opens_after, number_ends, met_bytes, met_anew, met_after, x10_after, x10_bytes, StateRepresents, IsRight}
 use Rattle.crossterm_parse.specs.Meaning.{meaning, with_alt, decoded_character, flags_reply}
-use Rattle.crossterm_parse.specs.inside.Numbers.{reading}
 use Rattle.crossterm_parse.specs.Number.{number}
 use Rattle.crossterm_parse.specs.Numbered.{readings_of, numbered_by, numbered, sgr_by, front_of, last_of}
 use Rattle.crossterm_parse.proofs.FieldsLaws.{empty_reads, text_more, numbers_of}

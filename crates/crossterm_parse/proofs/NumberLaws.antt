@@ -5,7 +5,8 @@ use Rattle.std.proofs.lemmas.Bool.Decides.{nat_tests}
 use Rattle.std.specs.Prelude.{nat_le}
 use Rattle.crossterm_parse.specs.Bytes.{is_digit}
 use Rattle.crossterm_parse.specs.Number.{read_digits, some_digits, value_of, number}
-use Rattle.crossterm_parse.specs.inside.Numbers.{Tracks, number_after, reading}
+use Rattle.crossterm_parse.specs.Tracking.{Tracks}
+use Rattle.crossterm_parse.specs.Transitions.{number_after, reading}
 use Rattle.crossterm_parse.specs.declared.number.Number.{Number}
 use Rattle.crossterm_parse.specs.declared.number.Number.TheVariants.{Empty, Plus, Value, Big, Bad}
 

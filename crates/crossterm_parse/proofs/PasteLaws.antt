@@ -5,7 +5,7 @@ use Rattle.std.proofs.lemmas.Bool.Decides.{nat_tests}
 use Rattle.std.proofs.lemmas.List.{length-append, nil_from_length}
 use Rattle.std.specs.List.{AllByRecursion}
 use Rattle.crossterm_parse.specs.Grammar.{begins, IsFinal, paste_mark, paste_start, paste_end, EndsFirst}
-use Rattle.crossterm_parse.specs.inside.Recognizer.{is_nil, ends_paste}
+use Rattle.crossterm_parse.specs.Recognizer.{is_nil, ends_paste}
 use Rattle.crossterm_parse.proofs.EndLaws.{chosen, true_nil}
 
 begins_append : (p rest : List ℕ) → begins p (p ++ rest) ≡ true

@@ -8,13 +8,10 @@ use Rattle.std.proofs.lemmas.Bool.Decides.{nat_tests}
 use Rattle.std.specs.List.{AllByRecursion}
 use Rattle.crossterm_parse.specs.Bytes.{is_digit}
 use Rattle.crossterm_parse.specs.Numbered.{numbered_by, sgr_by}
-use Rattle.crossterm_parse.specs.inside.Automaton.{Opens, empty_parameters, is_paste, number_ends, opens_after, opens_with, parameters_after, readings_at, state_after}
-use Rattle.crossterm_parse.specs.inside.Fields.{fields_after}
-use Rattle.crossterm_parse.specs.inside.Numbers.{number_after}
+use Rattle.crossterm_parse.specs.Transitions.{Opens, empty_parameters, number_ends, opens_after, opens_with, parameters_after, readings_at, state_after, fields_after, number_after, Open, Whole, utf8_after}
+use Rattle.crossterm_parse.specs.States.{is_paste}
+use Rattle.crossterm_parse.specs.Recognizer.{is_final, is_mouse_end}
 use Rattle.crossterm_parse.specs.inside.Plain.{AreNumbers, EndsFrom, IsNumber, in_first, in_kind, in_second, in_third, last_through, number_through, read}
-use Rattle.crossterm_parse.specs.inside.Recognizer.{is_final, is_mouse_end}
-use Rattle.crossterm_parse.specs.inside.Step.{Open, Whole}
-use Rattle.crossterm_parse.specs.inside.Utf8.{utf8_after}
 use Rattle.crossterm_parse.specs.declared.fields.Fields.{Fields}
 use Rattle.crossterm_parse.specs.declared.meaning.Meaning.{Meaning}
 use Rattle.crossterm_parse.specs.declared.number.Number.{Number}

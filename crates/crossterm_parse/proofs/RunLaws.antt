@@ -8,17 +8,17 @@ use Rattle.std.specs.List.{AllByRecursion}
 use Rattle.std.proofs.lemmas.Bool.{false_from_ne_true}
 use Rattle.bstr.specs.Utf8.{Decoded, decoded, second, continues, code_of_2, code_of_3, code_of_4}
 use Rattle.bstr.proofs.lemmas.PieceLemmas.{by-shape}
-use Rattle.crossterm_parse.specs.inside.Fields.{fields_after}
-use Rattle.crossterm_parse.specs.inside.Recognizer.{is_lead, is_continuing, is_final, is_mouse_end, further_after}
-use Rattle.crossterm_parse.specs.inside.Utf8.{utf8_after}
+use Rattle.crossterm_parse.specs.Transitions.{fields_after, utf8_after, IsCharacterOf, parameters_after, state_after, state_left, text_left, events_left, Opens, OpensWith, Step, Open, Whole}
+use Rattle.crossterm_parse.specs.Recognizer.{is_lead, is_continuing, is_final, is_mouse_end, further_after}
+use Rattle.crossterm_parse.specs.Bytes.{IsLetter}
+use Rattle.crossterm_parse.specs.States.{is_paste, StateRepresents, kept_text}
+use Rattle.crossterm_parse.specs.Putting.{Gives, PutsAll, PutsByte, PutsOn, bare}
 use Rattle.crossterm_parse.specs.Meaning.{typed, single, decoded_character, seen_meaning}
 use Rattle.crossterm_types.specs.Seen.{Seen}
 use Rattle.memchr.specs.Find.{Nowhere, Passes, is_byte}
-use Rattle.crossterm_parse.specs.inside.Automaton.{IsCharacterOf, IsLetter, parameters_after, state_after, state_left, text_left, events_left, is_paste, Opens, OpensWith, StateRepresents, kept_text}
 use Rattle.crossterm_parse.specs.Marked.{Marked, bytes_of, marked}
 use Rattle.crossterm_parse.specs.View.{ParserView, Represents, AdvancesOver}
 use Rattle.crossterm_parse.specs.inside.Plain.{EndsFrom}
-use Rattle.crossterm_parse.specs.inside.Putting.{Gives, PutsAll, PutsByte, PutsOn, bare}
 use Rattle.crossterm_parse.specs.declared.fields.Fields.{Fields}
 use Rattle.crossterm_parse.specs.declared.numbered.Parameters.{Parameters}
 use Rattle.crossterm_parse.specs.declared.utf8.Validity.{Validity}
@@ -28,7 +28,6 @@ use Rattle.crossterm_parse.specs.declared.paste.Met.TheVariants as met
 use Rattle.crossterm_parse.specs.declared.paste.Opening.TheVariants as opening
 use Rattle.crossterm_parse.specs.declared.state.State.{State}
 use Rattle.crossterm_parse.specs.declared.state.State.TheVariants.{Ground, Escape, Sgr, Numbered, Paste, Utf8}
-use Rattle.crossterm_parse.specs.inside.Step.{Step, Open, Whole}
 use Rattle.crossterm_parse.specs.declared.character.Begun.{Begun}
 use Rattle.crossterm_parse.specs.declared.character.Begun.TheVariants.{One, Two, Three}
 use Rattle.crossterm_parse.specs.declared.meaning.Meaning.{Meaning}

@@ -5,8 +5,10 @@ use Rattle.std.proofs.lemmas.List.{append-nil, get_or-drop, length-drop, map-app
 use Rattle.std.proofs.lemmas.Bool.Decides.{nat_tests}
 use Rattle.std.specs.List.{AllByRecursion}
 use Rattle.crossterm_types.specs.Seen.{Seen}
-use Rattle.crossterm_parse.specs.inside.Automaton.{IsCharacterOf, IsLetter, Opens, OpensWith, events_left, is_paste, state_after}
-use Rattle.crossterm_parse.specs.inside.Putting.{PutsOn, PutsAll, TakesPart, Through, bare}
+use Rattle.crossterm_parse.specs.Transitions.{IsCharacterOf, Opens, OpensWith, events_left, state_after}
+use Rattle.crossterm_parse.specs.Bytes.{IsLetter}
+use Rattle.crossterm_parse.specs.States.{is_paste}
+use Rattle.crossterm_parse.specs.Putting.{PutsOn, PutsAll, TakesPart, Through, bare}
 use Rattle.crossterm_parse.specs.Marked.{Marked, marked}
 use Rattle.crossterm_parse.specs.Meaning.{seen_meaning, typed}
 use Rattle.crossterm_parse.specs.View.{AdvancesOver, ParserView}

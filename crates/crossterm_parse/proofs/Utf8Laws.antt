@@ -11,9 +11,8 @@ use Rattle.std.proofs.Math.Utf8.{scalar, scalars}
 use Rattle.bstr.specs.Utf8.{Decoded, good, decoded, second, continues, code_of_2, code_of_3, code_of_4}
 use Rattle.bstr.proofs.lemmas.SoundLemmas.{SpellsChar-decoded}
 use Rattle.bstr.proofs.lemmas.EncodeLemmas.{decoded-encode}
-use Rattle.crossterm_parse.specs.inside.Characters.{begun_bytes}
-use Rattle.crossterm_parse.specs.inside.Automaton.{is_sound}
-use Rattle.crossterm_parse.specs.inside.Utf8.{begun_after, utf8_after, IsFront, TracksUtf8}
+use Rattle.crossterm_parse.specs.Tracking.{begun_bytes, IsFront, TracksUtf8}
+use Rattle.crossterm_parse.specs.Transitions.{is_sound, begun_after, utf8_after}
 use Rattle.crossterm_parse.specs.declared.character.Begun.{Begun}
 use Rattle.crossterm_parse.specs.declared.character.Begun.TheVariants.{One, Two, Three}
 use Rattle.crossterm_parse.specs.declared.utf8.Validity.{Validity}

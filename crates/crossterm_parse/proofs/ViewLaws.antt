@@ -9,12 +9,13 @@ use Rattle.std.specs.Option.{option_map}
 use Rattle.crossterm_types.specs.Seen.{Seen}
 use Rattle.crossterm_parse.specs.Marked.{Marked, bytes_of, last_raw, marked}
 use Rattle.crossterm_parse.specs.Grammar.{begins, paste_mark, paste_start}
-use Rattle.crossterm_parse.specs.inside.Recognizer.{is_character, is_shape, is_whole, is_decided}
+use Rattle.crossterm_parse.specs.Recognizer.{is_character, is_shape, is_whole, is_decided}
+use Rattle.crossterm_parse.specs.Transitions.{state_after, state_left, text_left, events_left, IsRight, Step, Open, Whole, Closed}
+use Rattle.crossterm_parse.specs.States.{x10_bytes, is_paste, IsOpening, StateRepresents, prefixed, kept_text}
+use Rattle.crossterm_parse.specs.Tracking.{begun_bytes}
 use Rattle.crossterm_parse.specs.Division.{Divides, IsUndecided}
 use Rattle.crossterm_parse.specs.Grammar as grammar
 use Rattle.crossterm_parse.specs.Meaning.{meaning, meaning_seen, meaning_of, seen_meaning, paste_text, pasted}
-use Rattle.crossterm_parse.specs.inside.Automaton.{state_after, state_left, text_left, events_left, x10_bytes, is_paste, IsOpening, StateRepresents, IsRight, prefixed, kept_text}
-use Rattle.crossterm_parse.specs.inside.Characters.{begun_bytes}
 use Rattle.crossterm_parse.specs.View.{ParserView, Represents, AdvancesOver, EndsNoEvent, OpensNoPaste, paste_length, TakesSteps}
 use Rattle.crossterm_parse.specs.declared.character.Begun.{Begun}
 use Rattle.crossterm_parse.specs.declared.character.Begun.TheVariants.{One, Two, Three}
@@ -24,7 +25,6 @@ use Rattle.crossterm_parse.specs.declared.paste.Opening.{Opening}
 use Rattle.crossterm_parse.specs.declared.paste.Opening.TheVariants as opening
 use Rattle.crossterm_parse.specs.declared.state.State.{State}
 use Rattle.crossterm_parse.specs.declared.state.State.TheVariants.{Ground, Escape, Ss3, Csi, LinuxKey, X10, Sgr, Private, Reply, Numbered, Paste, Utf8}
-use Rattle.crossterm_parse.specs.inside.Step.{Step, Open, Whole, Closed}
 use Rattle.crossterm_parse.proofs.DivisionLaws.{divide_join, divide_whole, divide_open, some_division, unique_division, two_fronts, not_front}
 use Rattle.crossterm_parse.proofs.PasteLaws.{third_apart, begins_start, begins_is, begins_from}
 use Rattle.crossterm_parse.proofs.GrammarLaws.{bytes_of-append, bytes_of_nil, whole_true, true_whole, nil_not_whole, whole_closes, whole_or_not}

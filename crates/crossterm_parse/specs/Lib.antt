@@ -12,5 +12,10 @@ pub mod ModifierField
 pub mod Mouse
 pub mod Number
 pub mod Numbered
+pub mod Putting
+pub mod Recognizer
+pub mod States
+pub mod Tracking
+pub mod Transitions
 pub mod View
 pub mod inside

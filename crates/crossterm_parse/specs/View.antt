@@ -1,14 +1,13 @@
 -- A parser as its callers see it, and what it makes of bytes.
-use Rattle.std.specs.Prelude.{◌≡◌, ◌≤◌, ℕ, ◌+◌, ◌-◌, ◌*◌, length, sum, if◌then◌else◌, List, ◌++◌, ◌∷◌, [], false}
+use Rattle.std.specs.Prelude.{◌≡◌, ◌≤◌, ℕ, ◌+◌, ◌-◌, ◌*◌, length, sum, if◌then◌else◌, List, ◌++◌, ◌∷◌, [], false, Option, None, Some}
 use Rattle.std.specs.List.{filter_map, flat_map, AllByRecursion}
 use Rattle.crossterm_types.specs.Seen.{Seen}
 use Rattle.crossterm_parse.specs.Grammar.{begins, Whole, paste_start}
 use Rattle.crossterm_parse.specs.Division.{Divides, IsUndecided}
-use Rattle.crossterm_parse.specs.inside.Automaton.{StateRepresents}
+use Rattle.crossterm_parse.specs.States.{StateRepresents, kept_text}
 use Rattle.crossterm_parse.specs.Marked.{Marked, bytes_of}
 use Rattle.crossterm_parse.specs.Meaning.{meaning_of}
 use Rattle.crossterm_parse.specs.declared.state.State.{State}
-use Rattle.crossterm_parse.specs.inside.Automaton.{kept_text}
 
 -- A parser as its callers see it: the events not yet given, the state of the sequence that is open, the text of an open paste, and how many
 -- events it takes without memory.
@@ -94,3 +93,8 @@ CountsThrough s (n ∷ ns) t = (m : ℕ) × (s + n ≤ m) × CountsThrough m ns 
 -- Over any list of calls the steps are at least the bytes taken.
 abbrev pub AStepAByte : Type 0
 AStepAByte = (s t : ℕ) (taken : List ℕ) → CountsThrough s taken t → s + sum taken ≤ t
+
+-- the text that is kept, where one is
+abbrev pub text_of : Option (List ℕ) → List ℕ
+text_of None = []
+text_of (Some text) = text

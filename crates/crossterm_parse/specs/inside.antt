@@ -1,10 +1,2 @@
-pub mod Automaton
-pub mod Characters
-pub mod Fields
-pub mod Numbers
 pub mod Plain
-pub mod Putting
 pub mod Queue
-pub mod Recognizer
-pub mod Step
-pub mod Utf8

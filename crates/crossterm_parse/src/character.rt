@@ -3,10 +3,9 @@
 //! Only crates of this tree use this module, which may change with each version.
 ghost use Rattle.std.specs.Prelude.{◌≡◌, ◌∷◌, [], ◌++◌, false, IsTrue, IsFalse};
 ghost use Rattle.bstr.specs.Utf8.{decoded};
-ghost use Rattle.crossterm_parse.specs.inside.Characters.{begun_bytes};
-ghost use Rattle.crossterm_parse.specs.inside.Recognizer.{is_lead, is_continuing, further_after};
-ghost use Rattle.crossterm_parse.specs.inside.Step.{More};
-ghost use Rattle.crossterm_parse.specs.inside.Automaton.{character_meaning, grown, over};
+ghost use Rattle.crossterm_parse.specs.Tracking.{begun_bytes};
+ghost use Rattle.crossterm_parse.specs.Recognizer.{is_lead, is_continuing, further_after};
+ghost use Rattle.crossterm_parse.specs.Transitions.{More, character_meaning, grown, over};
 
 use crate::meaning::{Meaning, plus_alt, typed_character};
 use bstr::decode_utf8;

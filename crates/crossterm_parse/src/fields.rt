@@ -2,8 +2,8 @@
 //!
 //! Only crates of this tree use this module, which may change with each version.
 ghost use Rattle.std.specs.Prelude.{◌≡◌, ◌≤◌, ◌<◌, ◌+◌, ℕ};
-ghost use Rattle.crossterm_parse.specs.inside.Fields.{fields_of, field_after, fields_after, whole_of};
-ghost use Rattle.crossterm_parse.specs.inside.Numbers.{number_after};
+ghost use Rattle.crossterm_parse.specs.Transitions.{fields_of, field_after, fields_after, number_after};
+ghost use Rattle.crossterm_parse.specs.Tracking.{whole_of};
 
 use crate::number::Number;
 

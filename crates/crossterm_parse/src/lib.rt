@@ -37,7 +37,7 @@
 //! | Definitions | Lines | Of | Contract |
 //! |---|---|---|---|
 //! | `Marked` | 20 | a byte with its mode, and whether a pause follows it | |
-//! | `Bytes` | 13 | bytes by their names | |
+//! | `Bytes` | 17 | bytes by their names | |
 //! | `Grammar` | 98 | which marked bytes are one whole sequence | `laws::unique_division` (`closed`) |
 //! | `Division` | 26 | a list cut into whole parts and a rest | `laws::unique_division` |
 //! | `Number` | 34 | the number of a text | `number.rt` |
@@ -49,8 +49,15 @@
 //! | `Mouse` | 65 | what the mouse did | `mouse.rt` |
 //! | `Numbered` | 127 | what a numbered sequence means | `readings.rt` |
 //! | `Meaning` | 149 | what any whole sequence means | `meaning.rt` |
-//! | `View` | 96 | a parser as its callers see it, and what it makes of a piece | `Parser::advance`; `laws::{cuttings, two_steps_a_byte, a_step_a_byte}` |
+//! | `Recognizer` | 115 | the grammar as tests | |
+//! | `Tracking` | 82 | what is kept of numbers, fields and UTF-8 while they are read | |
+//! | `States` | 107 | which bytes of an open sequence a state represents | |
+//! | `View` | 100 | a parser as its callers see it, and what it makes of a piece | `Parser::advance`; `laws::{cuttings, two_steps_a_byte, a_step_a_byte}` |
 //! | `Giving` | 27 | its events, one after another | `Parser::{next, events}` |
+//! | `Transitions` | 281 | what one more byte does to a state | `state.rt` |
+//! | `Putting` | 70 | what many do | `State::take` |
+//!
+//! Crates above cite the lemmas of `DivisionLaws`, `GrammarLaws`, `MachineLaws`, `NumberLaws`, `RunLaws`, `ViewLaws`.
 //!
 //! What only proofs and private clauses cite is in `specs/inside/`. A function's proof is in `proofs/` at the function's path; if there is
 //! no file, the prover found it by itself.

@@ -5,7 +5,7 @@ ghost use Rattle.std.specs.Prelude.{◌≡◌, ◌≤◌, ◌<◌, ◌&&◌, nat
 ghost use Rattle.bstr.specs.Utf8.{decoded};
 ghost use Rattle.crossterm_parse.specs.Mouse.{less};
 ghost use Rattle.crossterm_parse.specs.Numbered.{x10_by};
-ghost use Rattle.crossterm_parse.specs.inside.Numbers.{reading};
+ghost use Rattle.crossterm_parse.specs.Transitions.{reading};
 ghost use Rattle.crossterm_parse.specs.Meaning.{pressed_with, typed, single, decoded_character, letter_meaning, after_ss3, after_csi, linux_key, flags_reply, with_alt};
 
 use crate::letters::letter_key;

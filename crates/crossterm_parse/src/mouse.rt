@@ -4,9 +4,8 @@
 ghost use Rattle.std.specs.Prelude.{◌≡◌, ◌<◌, IsTrue, IsFalse};
 ghost use Rattle.crossterm_types.specs.Keys.{modifiers_of};
 ghost use Rattle.crossterm_parse.specs.Mouse.{button_of, pressed_button, dragged_button, mouse_kind, mouse_modifiers, mouse_event, mouse_report, less, let_go, released};
-ghost use Rattle.crossterm_parse.specs.inside.Automaton.{x10_after, x10_meaning_with};
+ghost use Rattle.crossterm_parse.specs.Transitions.{x10_after, x10_meaning_with, Open, Whole};
 ghost use Rattle.crossterm_parse.specs.declared.state.State.TheVariants.{X10};
-ghost use Rattle.crossterm_parse.specs.inside.Step.{Open, Whole};
 
 use crate::meaning::{Meaning, meaning_of_x10};
 use crate::modifier_field::value_of_bit;

@@ -4,7 +4,7 @@
 ghost use Rattle.std.specs.Prelude.{◌≡◌, ◌≤◌, ◌<◌, ◌+◌, ℕ, true};
 ghost use Rattle.crossterm_parse.specs.Bytes.{is_digit};
 ghost use Rattle.crossterm_parse.specs.Number.{at_most};
-ghost use Rattle.crossterm_parse.specs.inside.Numbers.{number_after, reading};
+ghost use Rattle.crossterm_parse.specs.Transitions.{number_after, reading};
 
 /// A number that is being read: one digit or more, after a `+` or not.
 #[derive(Clone, Copy)]

@@ -3,8 +3,8 @@
 //! Only crates of this tree use this module, which may change with each version.
 ghost use Rattle.std.specs.Prelude.{◌≡◌, ◌≤◌, length, take, true};
 ghost use Rattle.crossterm_parse.specs.Bytes.{is_digit};
-ghost use Rattle.crossterm_parse.specs.inside.Recognizer.{is_final, is_mouse_end};
-ghost use Rattle.crossterm_parse.specs.inside.Automaton.{parameters_after, empty_parameters, readings_at, Opens};
+ghost use Rattle.crossterm_parse.specs.Recognizer.{is_final, is_mouse_end};
+ghost use Rattle.crossterm_parse.specs.Transitions.{parameters_after, empty_parameters, readings_at, Opens};
 ghost use Rattle.crossterm_parse.specs.declared.paste.Opening.TheVariants as opening;
 ghost use Rattle.crossterm_parse.specs.declared.state.State.TheVariants as state;
 ghost use Rattle.crossterm_parse.specs.Numbered.{sgr_by, numbered_by};

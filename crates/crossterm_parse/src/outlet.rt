@@ -3,7 +3,7 @@
 //! Only crates of this tree use this module, which may change with each version.
 ghost use Rattle.std.specs.Prelude.{◌≡◌, ◌+◌, ◌≤◌, ◌<◌, ℕ, List, [], ◌∷◌, ◌++◌, length, map, IsTrue, IsFalse};
 ghost use Rattle.std.specs.List.{AllByRecursion};
-ghost use Rattle.crossterm_parse.specs.inside.Automaton.{IsLetter};
+ghost use Rattle.crossterm_parse.specs.Bytes.{IsLetter};
 ghost use Rattle.crossterm_parse.specs.Meaning.{typed};
 ghost use Rattle.crossterm_parse.specs.declared.meaning.Meaning.{Meaning};
 

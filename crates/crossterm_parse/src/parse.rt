@@ -3,10 +3,9 @@ ghost use Rattle.std.specs.Prelude.{◌≡◌, ◌≢◌, ◌↔◌, ◌+◌, �
 ghost use Rattle.std.specs.IoError.{error_kind};
 ghost use Rattle.std.specs.declared.io.ErrorKind.TheVariants.{OutOfMemory};
 ghost use Rattle.crossterm_types.specs.Seen.{seen};
-ghost use Rattle.crossterm_parse.specs.inside.Automaton.{text_of};
+ghost use Rattle.crossterm_parse.specs.Putting.{TakesPart};
 ghost use Rattle.crossterm_parse.specs.Marked.{Marked, bytes_of, marked};
-ghost use Rattle.crossterm_parse.specs.View.{ParserView, Represents, RepresentsSame, AdvancesOver, EndsNoEvent, OpensNoPaste, TakesSteps, paste_length};
-ghost use Rattle.crossterm_parse.specs.inside.Putting.{TakesPart};
+ghost use Rattle.crossterm_parse.specs.View.{ParserView, Represents, RepresentsSame, AdvancesOver, EndsNoEvent, OpensNoPaste, TakesSteps, paste_length, text_of};
 
 use crate::paste::PasteText;
 use crate::state::State;

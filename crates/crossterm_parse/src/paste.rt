@@ -6,9 +6,9 @@ ghost use Rattle.std.specs.List.{AllByRecursion};
 ghost use Rattle.std.specs.Str.{encode_utf8_all};
 ghost use Rattle.std.specs.String.{string_bytes};
 ghost use Rattle.bstr.specs.Utf8.{lossy_chars};
-ghost use Rattle.crossterm_parse.specs.inside.Automaton.{JoinsBeforeEscape, opens_with, opens_after, met_after};
+ghost use Rattle.crossterm_parse.specs.Putting.{JoinsBeforeEscape};
+ghost use Rattle.crossterm_parse.specs.Transitions.{opens_with, opens_after, met_after, Open, Closed};
 ghost use Rattle.crossterm_parse.specs.declared.state.State.TheVariants.{Paste};
-ghost use Rattle.crossterm_parse.specs.inside.Step.{Open, Closed};
 
 use crate::steps::Steps;
 use memchr::memchr;

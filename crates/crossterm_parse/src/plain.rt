@@ -4,9 +4,8 @@
 //! read byte by byte into a `State`, with the same meaning.
 ghost use Rattle.std.specs.Prelude.{◌≡◌, ℕ, Bool, List, IfSome, IsTrue};
 ghost use Rattle.crossterm_parse.specs.Bytes.{is_digit};
-ghost use Rattle.crossterm_parse.specs.inside.Automaton.{empty_parameters, readings_at, state_after};
+ghost use Rattle.crossterm_parse.specs.Transitions.{empty_parameters, readings_at, state_after, Whole};
 ghost use Rattle.crossterm_parse.specs.inside.Plain.{AreNumbers, EndsFrom, IsNumber, in_first, in_kind, in_second, in_third, read};
-ghost use Rattle.crossterm_parse.specs.inside.Step.{Whole};
 ghost use Rattle.crossterm_parse.specs.Meaning.{after_csi};
 ghost use Rattle.crossterm_parse.specs.declared.number.Number.TheVariants.{Value};
 ghost use Rattle.crossterm_parse.specs.declared.state.State.TheVariants.{Escape, Csi, Sgr};

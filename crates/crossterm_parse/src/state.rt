@@ -3,10 +3,11 @@
 //! Only crates of this tree use this module, which may change with each version.
 ghost use Rattle.std.specs.Prelude.{◌≡◌, ◌≢◌, ◌+◌, ◌<◌, ◌≤◌, ◌∷◌, [], Bool, true, false, length, take, IfNone, IfSome, IsTrue, IsFalse};
 ghost use Rattle.std.specs.List.{AllByRecursion};
-ghost use Rattle.crossterm_parse.specs.inside.Automaton.{Reads, IsCharacterOf, IsLetter, Opens, OpensWith, is_paste, meaning_with, state_after};
-ghost use Rattle.crossterm_parse.specs.inside.Step.{Open, Whole, Closed};
+ghost use Rattle.crossterm_parse.specs.Transitions.{Reads, IsCharacterOf, Opens, OpensWith, meaning_with, state_after, Open, Whole, Closed};
+ghost use Rattle.crossterm_parse.specs.Bytes.{IsLetter};
+ghost use Rattle.crossterm_parse.specs.States.{is_paste};
+ghost use Rattle.crossterm_parse.specs.Recognizer.{is_final, is_mouse_end};
 ghost use Rattle.crossterm_parse.specs.declared.state.State.TheVariants.{Escape};
-ghost use Rattle.crossterm_parse.specs.inside.Recognizer.{is_final, is_mouse_end};
 ghost use Rattle.crossterm_parse.specs.declared.paste.Opening.{Opening};
 ghost use Rattle.crossterm_parse.specs.declared.numbered.Parameters.{Parameters};
 

@@ -3,7 +3,7 @@
 //! Only crates of this tree use this module, which may change with each version.
 ghost use Rattle.std.specs.Prelude.{◌≡◌};
 ghost use Rattle.bstr.specs.Utf8.{second, continues};
-ghost use Rattle.crossterm_parse.specs.inside.Utf8.{utf8_after, begun_after};
+ghost use Rattle.crossterm_parse.specs.Transitions.{utf8_after, begun_after};
 
 use crate::character::Begun;
 

@@ -5,7 +5,7 @@ use Rattle.crossterm_read.specs.History.{Entry, Runs, answers_of, taken_by}
 use Rattle.crossterm_read.specs.OverScripts.{HistoriesAreTold, ScriptsAreTold}
 use Rattle.crossterm_read.specs.Scripted.{ScriptTells, script_none, script_on}
 use Rattle.crossterm_read.specs.Store.{EventStore, ReaderState, arrived}
-use Rattle.crossterm_read.specs.inside.Turns.{SourceDrawn, source_none, source_on}
+use Rattle.crossterm_read.specs.Sources.{SourceDrawn, source_none, source_on}
 use Rattle.crossterm_read.proofs.Accounting.{Account, accounted}
 use Rattle.crossterm_read.proofs.Histories.{history_account}
 use Rattle.crossterm_read.proofs.Spelling.{script_answered}

@@ -15,7 +15,7 @@ use Rattle.crossterm_read.specs.Device.{DeviceAnswer, Bytes, Resized, Woken, Idl
 use Rattle.crossterm_parse.specs.View.{Represents}
 use Rattle.crossterm_read.specs.Scripted.{AnswersWith, ScriptLeft, ScriptTells}
 use Rattle.crossterm_read.specs.Outcomes.{IsAnsweredBy, Outcome, Ended, Single, Produces, Happens, Delivers, DeliversAll, Answered}
-use Rattle.crossterm_read.specs.inside.Turns.{Source, at, SourceDrawn, At, Takes, GivesFirst, Turn, waited, again, fresh, other, Turns}
+use Rattle.crossterm_read.specs.Sources.{Source, at, SourceDrawn, At, Takes, GivesFirst, Turn, waited, again, fresh, other, Turns}
 
 one : UniqueDivision Whole
 one = laws.unique_division Whole nil_not_whole whole_closes

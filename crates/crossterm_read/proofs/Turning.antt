@@ -15,7 +15,7 @@ use Rattle.std.proofs.lemmas.List.{drop_all, drop-take, length-take-le}
 use Rattle.crossterm_parse.proofs.ViewLaws.{length-marked}
 use Rattle.crossterm_read.specs.Device.{DeviceAnswer, Bytes, marked_bytes}
 use Rattle.crossterm_read.specs.Outcomes.{IsAnsweredBy}
-use Rattle.crossterm_read.specs.inside.Turns.{Takes, GivesFirst, without_event, waited, again, fresh, other, Source, at, SourceDrawn, Hands}
+use Rattle.crossterm_read.specs.Sources.{Takes, GivesFirst, without_event, waited, again, fresh, other, Source, at, SourceDrawn, Hands}
 
 module _ {D : Type 0} (answered : D → List DeviceAnswer → D → Type 0) where
   from_inside : (i s t : Source D) (xs : List SourceAnswer) → i ≡ s → SourceDrawn answered i xs t → SourceDrawn answered s xs t

@@ -11,6 +11,7 @@ pub mod Replies
 pub mod Scripted
 pub mod Seats
 pub mod Shared
+pub mod Sources
 pub mod Steps
 pub mod Store
 pub mod Streams

@@ -7,7 +7,7 @@ use Rattle.crossterm_read.specs.History.{Entry, Runs, answers_of, taken_by}
 use Rattle.crossterm_read.specs.Outcomes.{Answered}
 use Rattle.crossterm_read.specs.Scripted.{ScriptLeft, ScriptTells}
 use Rattle.crossterm_read.specs.Store.{ReaderState}
-use Rattle.crossterm_read.specs.inside.Turns.{Source, SourceDrawn}
+use Rattle.crossterm_read.specs.Sources.{Source, SourceDrawn}
 
 -- A source that was asked for nothing yet: no event waits in it, and no byte.
 pub record IsNew {D : Type 0} (s : Source D) : Type 0 where

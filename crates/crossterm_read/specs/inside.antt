@@ -4,4 +4,3 @@ pub mod Numbers
 pub mod Queues
 pub mod Replies
 pub mod Slot
-pub mod Turns

@@ -38,6 +38,7 @@
 //! | `Waking` | 30 | which wakers are alike | `Waker`, `Device::waker` |
 //! | `Answers` | 41 | what a source answers | `EventSource::try_read` |
 //! | `Outcomes` | 102 | what comes of a device's answers, and the events that happen | `laws::one_happening` |
+//! | `Sources` | 106 | what a source answers, turn by turn | `DeviceSource` |
 //! | `Store` | 56 | what a reader holds | `InternalEventReader::{new, held}` |
 //! | `Replies` | 71 | what a call replies | |
 //! | `Steps` | 105 | what a poll, a read and a take do | `InternalEventReader::{poll_within, read_within, take}` |
@@ -50,6 +51,8 @@
 //! | `Seats` | 19 | what a clause says of a pass | `EventReader::{new, share, meet, close}` |
 //! | `Shared` | 15 | what it says of a share | `EventReader::{new, share}` |
 //! | `Streams` | 41 | what a stream answers, and what its worker does | `EventStream::{poll_event, poll_next}`, `StreamWorker::join` |
+//!
+//! Crates above cite the lemmas of `Mapped`, `Seating`.
 //!
 //! What only proofs and private clauses cite is in `specs/inside/`. A function's proof is in `proofs/` at the function's path; if there is
 //! no file, the prover found it by itself.

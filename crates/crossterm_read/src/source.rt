@@ -8,7 +8,7 @@ ghost use Rattle.crossterm_parse.specs.View.{Represents, paste_length};
 ghost use Rattle.crossterm_parse.specs.declared.marked.Marked.{Marked};
 ghost use Rattle.crossterm_read.specs.Answers.{SourceAnswer, answer_of, IsOwn};
 ghost use Rattle.crossterm_read.specs.Device.{AsksWith};
-ghost use Rattle.crossterm_read.specs.inside.Turns.{Source, SourceDrawn, source_none, source_on, Hands};
+ghost use Rattle.crossterm_read.specs.Sources.{Source, SourceDrawn, source_none, source_on, Hands};
 ghost use Rattle.crossterm_read.specs.declared.source.waker.Waker.{Waker};
 
 mod device;

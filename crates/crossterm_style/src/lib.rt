@@ -26,6 +26,8 @@
 //! | `Appearance` | 76 | what terminals receive shows as commands paint | `laws::{looks, styled_ends_plain}` |
 //! | `Values` | 166 | colours and attributes as JSON | `to_value` and `from_value` of each |
 //!
+//! Crates above cite the lemmas of `ActLooks`, `Fitting`, `Parameters`, `Telling`, `TextLaws`.
+//!
 //! A function's proof is in `proofs/` at the function's path; if there is no file, the prover found it by itself.
 #![tactic(auto)]
 

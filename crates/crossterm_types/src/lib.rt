@@ -28,6 +28,8 @@
 //! | `Timing` | 30 | limits of time | `PollTimeout` |
 //! | `Values` | 169 | events as JSON | `to_value` and `from_value` of each |
 //!
+//! Crates above cite the lemmas of `Lists`, `ValueLaws`.
+//!
 //! A function's proof is in `proofs/` at the function's path; if there is no file, the prover found it by itself.
 #![tactic(auto)]
 

@@ -12,7 +12,7 @@ use Rattle.crossterm_read.specs.Steps.{ReadStep, UpTo}
 use Rattle.crossterm_read.specs.Store.{EventStore}
 use Rattle.crossterm_read.specs.declared.read.call.Call.{Call}
 use Rattle.crossterm_read.specs.declared.read.call.Call.TheVariants as call
-use Rattle.crossterm_read.specs.inside.Turns.{Source, SourceDrawn, source_on}
+use Rattle.crossterm_read.specs.Sources.{Source, SourceDrawn, source_on}
 use Rattle.recorder.specs.Answering.{recorder_answering}
 use Rattle.recorder.specs.Recording.{Recording, Records, recorded}
 use Rattle.recorder.specs.Replaying.{PlaysAlike}

@@ -6,7 +6,7 @@ use Rattle.std.specs.Prelude.{Err, IfOk, Ok, Result}
 use Rattle.std.specs.declared.io.Error.{Error}
 use Rattle.crossterm_read.specs.History.{Known}
 use Rattle.crossterm_read.specs.OverScripts.{IsNew}
-use Rattle.crossterm_read.specs.inside.Turns.{Source}
+use Rattle.crossterm_read.specs.Sources.{Source}
 use Rattle.own_terminal.specs.Sessions.{BeginsAt, BeginsOver}
 
 head_number : ℕ → List ℕ → ℕ

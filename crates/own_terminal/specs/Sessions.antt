@@ -6,7 +6,7 @@ use Rattle.crossterm_read.specs.Calls.{empty}
 use Rattle.crossterm_read.specs.History.{Known, opened}
 use Rattle.crossterm_read.specs.OverScripts.{IsNew}
 use Rattle.crossterm_read.specs.Store.{ReaderState}
-use Rattle.crossterm_read.specs.inside.Turns.{Source}
+use Rattle.crossterm_read.specs.Sources.{Source}
 use Rattle.crossterm.specs.Modes.{ModeCall, Modes, SwitchesOff}
 
 -- Raw mode ends, if it is on: the device was asked to set the mode from before, and answered this.

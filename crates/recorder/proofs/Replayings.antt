@@ -10,7 +10,7 @@ use Rattle.crossterm_read.specs.Outcomes.{IsAnsweredBy}
 use Rattle.crossterm_read.specs.OverScripts.{HistoriesAreTold, ScriptsAreTold}
 use Rattle.crossterm_read.specs.Scripted.{AnswersWith, ScriptLeft, ScriptTells, faults}
 use Rattle.crossterm_read.specs.Store.{ReaderState}
-use Rattle.crossterm_read.specs.inside.Turns.{At, DrawnFor, Source, SourceDrawn, Turn, Turns, source_on, waited, again, fresh, other}
+use Rattle.crossterm_read.specs.Sources.{At, DrawnFor, Source, SourceDrawn, Turn, Turns, source_on, waited, again, fresh, other}
 use Rattle.recorder.specs.Lines.{answers_of, times_of}
 use Rattle.recorder.specs.Reads.{IsEntry, IsWritable}
 use Rattle.recorder.specs.Answering.{recorder_answering}

@@ -14,7 +14,7 @@ use Rattle.crossterm_read.specs.Store.{EventStore, ReaderState}
 use Rattle.crossterm_read.specs.declared.read.call.Call.{Call}
 use Rattle.crossterm_read.specs.Scripted.{device_answers}
 use Rattle.crossterm_read.specs.declared.source.script.Act.{Act}
-use Rattle.crossterm_read.specs.inside.Turns.{Source, SourceDrawn}
+use Rattle.crossterm_read.specs.Sources.{Source, SourceDrawn}
 use Rattle.recorder.specs.Lines.{answers_of, text, told}
 use Rattle.recorder.specs.Reads.{read_text, session}
 use Rattle.recorder.specs.Recording.{IsAnswer, Recording, Records, recorded}

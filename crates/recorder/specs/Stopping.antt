@@ -8,7 +8,7 @@ use Rattle.crossterm_types.specs.Seen.{Seen}
 use Rattle.crossterm_read.specs.Answers.{SourceAnswer}
 use Rattle.crossterm_read.specs.Device.{DeviceAnswer}
 use Rattle.crossterm_read.specs.Outcomes.{Happened}
-use Rattle.crossterm_read.specs.inside.Turns.{Source, SourceDrawn}
+use Rattle.crossterm_read.specs.Sources.{Source, SourceDrawn}
 use Rattle.recorder.specs.Lines.{answers_of, text, times_of}
 use Rattle.recorder.specs.Reads.{IsEntry, Session, read_text, session}
 use Rattle.recorder.specs.Recording.{Recording, Records, recorded}

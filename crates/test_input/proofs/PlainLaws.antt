@@ -12,11 +12,11 @@ use Rattle.crossterm_types.specs.Seen.{Seen, Paste}
 use Rattle.crossterm_parse.specs.Marked.{bytes_of}
 use Rattle.crossterm_parse.specs.declared.marked.Marked.{Marked}
 use Rattle.crossterm_parse.specs.Grammar.{begins, Whole, paste_mark, paste_start, paste_end}
-use Rattle.crossterm_parse.specs.inside.Recognizer.{is_whole, is_decided, is_shape, is_character, ends_character, ends_numbered, ends_paste, ends_digit, is_continuing, is_nil}
+use Rattle.crossterm_parse.specs.Recognizer.{is_whole, is_decided, is_shape, is_character, ends_character, ends_numbered, ends_paste, ends_digit, is_continuing, is_nil}
+use Rattle.crossterm_parse.specs.Tracking.{Kept, Tracks}
+use Rattle.crossterm_parse.specs.Transitions.{parameters_after, readings_at, number_after, reading}
 use Rattle.crossterm_parse.specs.Division.{Divides, IsUndecided}
 use Rattle.crossterm_parse.specs.Meaning.{reply_meaning, csi_meaning, flags_reply, meaning, meaning_seen, meaning_of, seen_meaning}
-use Rattle.crossterm_parse.specs.inside.Automaton.{Kept, parameters_after, readings_at}
-use Rattle.crossterm_parse.specs.inside.Numbers.{Tracks, number_after, reading}
 use Rattle.crossterm_parse.specs.Number.{number}
 use Rattle.crossterm_parse.specs.Numbered.{readings_of, numbered, sgr, last_of, front_of}
 use Rattle.crossterm_parse.specs.declared.meaning.Meaning.{Meaning}

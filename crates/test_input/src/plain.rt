@@ -2,7 +2,7 @@
 ghost use Rattle.std.specs.Prelude.{◌≡◌, ◌++◌, map, option_to_list, IfOk, OnOk};
 ghost use Rattle.std.specs.Option.{option_map};
 ghost use Rattle.crossterm_types.specs.Seen.{seen};
-ghost use Rattle.crossterm_parse.specs.inside.Recognizer.{is_lead, is_continuing, further_after, ends_character, is_character, ends_numbered, ends_reply, ends_mouse, ends_paste, ends_digit, ends_private, ends_csi, ends_escape, is_shape, is_decided};
+ghost use Rattle.crossterm_parse.specs.Recognizer.{is_lead, is_continuing, further_after, ends_character, is_character, ends_numbered, ends_reply, ends_mouse, ends_paste, ends_digit, ends_private, ends_csi, ends_escape, is_shape, is_decided};
 ghost use Rattle.crossterm_parse.specs.Meaning.{meaning_seen};
 ghost use Rattle.test_input.specs.Plain.{IsDivided};
 

@@ -2,10 +2,7 @@
 use Rattle.std.specs.Prelude.{◌≡◌, ◌≢◌, ◌≤◌, ℕ, Bool, true, List, [], ◌∷◌, ◌++◌, length, take}
 use Rattle.std.specs.List.{AllByRecursion}
 use Rattle.crossterm_parse.specs.Bytes.{is_digit}
-use Rattle.crossterm_parse.specs.inside.Automaton.{Opens, readings_at, state_after}
-use Rattle.crossterm_parse.specs.inside.Fields.{fields_of}
-use Rattle.crossterm_parse.specs.inside.Numbers.{number_after}
-use Rattle.crossterm_parse.specs.inside.Step.{Whole}
+use Rattle.crossterm_parse.specs.Transitions.{Opens, readings_at, state_after, fields_of, number_after, Whole}
 use Rattle.crossterm_parse.specs.declared.fields.Field.{Field}
 use Rattle.crossterm_parse.specs.declared.fields.Fields.{Fields}
 use Rattle.crossterm_parse.specs.declared.fields.Part.TheVariants as part

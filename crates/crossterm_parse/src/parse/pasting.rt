@@ -3,8 +3,8 @@ ghost use Rattle.std.specs.Prelude.{◌≡◌, ◌+◌, ◌-◌, ◌*◌, ◌≤
 ghost use Rattle.std.specs.Str.{encode_utf8_all};
 ghost use Rattle.std.specs.String.{string_bytes};
 ghost use Rattle.bstr.specs.Utf8.{lossy_chars};
-ghost use Rattle.crossterm_parse.specs.inside.Automaton.{is_paste};
-ghost use Rattle.crossterm_parse.specs.inside.Putting.{PutsByte, PutsOn, StaysAsItWas, TakesPart};
+ghost use Rattle.crossterm_parse.specs.States.{is_paste};
+ghost use Rattle.crossterm_parse.specs.Putting.{PutsByte, PutsOn, StaysAsItWas, TakesPart};
 ghost use Rattle.crossterm_parse.specs.Meaning.{pasted};
 
 use super::Parser;

@@ -2,8 +2,9 @@
 //!
 //! Runs of bytes are put in at once, with what comes of putting in each by itself.
 ghost use Rattle.std.specs.Prelude.{◌≡◌, ◌≢◌, ◌==◌, ◌&&◌, not, ◌+◌, ◌≤◌, ◌<◌, ℕ, List, [], None, false, true, length, take, get_or, option_to_list, IsTrue, IsFalse};
-ghost use Rattle.crossterm_parse.specs.inside.Automaton.{events_left, is_paste, meaning_with, state_after};
-ghost use Rattle.crossterm_parse.specs.inside.Putting.{PutsAll, PutsByte, PutsOn, TakesFront, Through};
+ghost use Rattle.crossterm_parse.specs.Transitions.{events_left, meaning_with, state_after};
+ghost use Rattle.crossterm_parse.specs.States.{is_paste};
+ghost use Rattle.crossterm_parse.specs.Putting.{PutsAll, PutsByte, PutsOn, TakesFront, Through};
 ghost use Rattle.crossterm_parse.specs.Marked.{marked};
 ghost use Rattle.crossterm_parse.specs.View.{AdvancesOver};
 

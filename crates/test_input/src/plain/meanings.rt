@@ -1,7 +1,6 @@
 //! What whole sequences mean, by their complete bytes.
 ghost use Rattle.std.specs.Prelude.{◌≡◌};
-ghost use Rattle.crossterm_parse.specs.inside.Automaton.{readings_at};
-ghost use Rattle.crossterm_parse.specs.inside.Numbers.{reading};
+ghost use Rattle.crossterm_parse.specs.Transitions.{readings_at, reading};
 ghost use Rattle.crossterm_parse.specs.Meaning.{character_meaning, x10_meaning, reply_meaning, csi_meaning, escape_meaning, meaning};
 ghost use Rattle.crossterm_parse.specs.Number.{number};
 ghost use Rattle.crossterm_parse.specs.Numbered.{numbered, readings_of, sgr};

@@ -1,6 +1,6 @@
 use Rattle.std.proofs.Common.{rules, ◌++◌, ◌+◌, ℕ, true, List, [], inr, take, refl, sym, ap, subst, arith, ◌∙◌}
 use Rattle.std.proofs.lemmas.List.{append-nil}
-use Rattle.crossterm_parse.specs.inside.Automaton.{is_paste}
+use Rattle.crossterm_parse.specs.States.{is_paste}
 use Rattle.crossterm_parse.specs.Marked.{marked}
 use Rattle.crossterm_parse.specs.View.{AdvancesOver}
 use Rattle.crossterm_parse.specs.declared.state.State.{State}

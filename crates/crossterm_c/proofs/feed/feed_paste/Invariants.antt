@@ -1,6 +1,6 @@
 use Rattle.std.proofs.Common.{◌≡◌, ◌≤◌, ◌-◌, ◌++◌, ℕ, Bool, true, List, take, length}
 use Rattle.crossterm_types.specs.Seen.{Seen}
-use Rattle.crossterm_parse.specs.inside.Automaton.{is_paste}
+use Rattle.crossterm_parse.specs.States.{is_paste}
 use Rattle.crossterm_parse.specs.Marked.{marked}
 use Rattle.crossterm_parse.specs.View.{AdvancesOver}
 use Rattle.crossterm_c.specs.Feeding.{view_of}

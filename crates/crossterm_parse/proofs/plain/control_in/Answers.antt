@@ -1,7 +1,6 @@
 use Rattle.std.proofs.Common.{◌≡◌, ◌<◌, ℕ, Bool, true, arith, refl, length, ap, sym, ◌∙◌, Option}
 use Rattle.std.proofs.lemmas.Bool.Decides.{nat_tests}
-use Rattle.crossterm_parse.specs.inside.Automaton.{empty_parameters, state_after}
-use Rattle.crossterm_parse.specs.inside.Step.{Open, Whole}
+use Rattle.crossterm_parse.specs.Transitions.{empty_parameters, state_after, Open, Whole}
 use Rattle.crossterm_parse.specs.declared.meaning.Meaning.{Meaning}
 use Rattle.crossterm_parse.specs.declared.state.State.TheVariants.{Csi, Sgr}
 use Rattle.crossterm_parse.proofs.PlainLaws.{ends_at_once, ends_behind}

@@ -1,8 +1,8 @@
 use Rattle.std.proofs.Common.{rules, ◌≡◌, ◌+◌, ◌-◌, arith, refl, ap, ◌∙◌, take, drop, length, true}
 use Rattle.crossterm_parse.specs.Numbered.{sgr_by}
-use Rattle.crossterm_parse.specs.inside.Automaton.{empty_parameters}
+use Rattle.crossterm_parse.specs.Transitions.{empty_parameters}
+use Rattle.crossterm_parse.specs.Recognizer.{is_mouse_end}
 use Rattle.crossterm_parse.specs.inside.Plain.{in_first, in_second, in_third, read}
-use Rattle.crossterm_parse.specs.inside.Recognizer.{is_mouse_end}
 use Rattle.crossterm_parse.specs.declared.number.Number.TheVariants.{Empty, Value}
 use Rattle.crossterm_parse.specs.declared.readings.Readings.{Readings}
 use Rattle.crossterm_parse.specs.declared.state.State.TheVariants.{Sgr}

@@ -1,7 +1,6 @@
 use Rattle.std.proofs.Common.{◌≡◌, ◌-◌, ℕ, arith, refl, length, ap, sym, ◌∙◌, Option, slice_index, take, drop}
 use Rattle.crossterm_parse.specs.Meaning.{after_ss3}
-use Rattle.crossterm_parse.specs.inside.Automaton.{state_after}
-use Rattle.crossterm_parse.specs.inside.Step.{Whole}
+use Rattle.crossterm_parse.specs.Transitions.{state_after, Whole}
 use Rattle.crossterm_parse.specs.declared.meaning.Meaning.{Meaning}
 use Rattle.crossterm_parse.specs.declared.state.State.TheVariants.{Escape, Ss3, Csi}
 use Rattle.crossterm_parse.proofs.PlainLaws.{ends_at_once, ends_behind}

@@ -1,7 +1,7 @@
 use Rattle.std.proofs.Common.{sym, subst, take, arith}
 use Rattle.std.proofs.lemmas.List.{take_more}
 use Rattle.std.specs.List.{AllByRecursion}
-use Rattle.crossterm_parse.specs.inside.Automaton.{IsLetter}
+use Rattle.crossterm_parse.specs.Bytes.{IsLetter}
 use Rattle.crossterm_parse.proofs.RunLaws.{letters_more}
 use Rattle.crossterm_parse.proofs.state.letters_in.Goals as goal
 

@@ -1,6 +1,6 @@
 use Rattle.std.proofs.Common.{take}
 use Rattle.std.specs.List.{AllByRecursion}
-use Rattle.crossterm_parse.specs.inside.Automaton.{IsLetter}
+use Rattle.crossterm_parse.specs.Bytes.{IsLetter}
 use Rattle.crossterm_parse.proofs.state.letters_in.Given as goal
 
 -- the bytes before this one are letters

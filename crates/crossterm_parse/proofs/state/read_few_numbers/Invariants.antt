@@ -1,5 +1,5 @@
 use Rattle.std.proofs.Common.{take}
-use Rattle.crossterm_parse.specs.inside.Automaton.{Opens}
+use Rattle.crossterm_parse.specs.Transitions.{Opens}
 use Rattle.crossterm_parse.specs.declared.state.State.TheVariants.{Numbered}
 use Rattle.crossterm_parse.proofs.state.read_few_numbers.Given as goal
 

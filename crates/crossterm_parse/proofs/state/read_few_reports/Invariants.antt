@@ -1,5 +1,5 @@
 use Rattle.std.proofs.Common.{take}
-use Rattle.crossterm_parse.specs.inside.Automaton.{Opens}
+use Rattle.crossterm_parse.specs.Transitions.{Opens}
 use Rattle.crossterm_parse.specs.declared.state.State.TheVariants.{Sgr}
 use Rattle.crossterm_parse.proofs.state.read_few_reports.Given as goal
 

@@ -1,5 +1,5 @@
 use Rattle.std.proofs.Common.{◌+◌, ◌-◌, drop, length, subst, sym, take}
-use Rattle.crossterm_parse.specs.inside.Automaton.{Opens}
+use Rattle.crossterm_parse.specs.Transitions.{Opens}
 use Rattle.crossterm_parse.specs.declared.paste.Opening.{Opening}
 use Rattle.crossterm_parse.specs.declared.paste.Opening.TheVariants as opening
 use Rattle.crossterm_parse.specs.declared.state.State.TheVariants.{Numbered}

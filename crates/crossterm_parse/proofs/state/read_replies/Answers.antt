@@ -1,6 +1,6 @@
 use Rattle.std.proofs.Common.{sym, subst, take, refl}
 use Rattle.std.proofs.lemmas.List.{take_more}
-use Rattle.crossterm_parse.specs.inside.Automaton.{Opens}
+use Rattle.crossterm_parse.specs.Transitions.{Opens}
 use Rattle.crossterm_parse.specs.declared.state.State.TheVariants.{Reply}
 use Rattle.crossterm_parse.proofs.RunLaws.{opens_more}
 use Rattle.crossterm_parse.proofs.state.read_replies.Goals as goal

@@ -6,7 +6,7 @@ ghost use Rattle.crossterm_parse.specs.declared.marked.Marked.{Marked};
 ghost use Rattle.crossterm_read.specs.Entries.{Looks};
 ghost use Rattle.crossterm_read.specs.Seats.{knows};
 ghost use Rattle.crossterm_read.specs.Shared.{IsPassOf};
-ghost use Rattle.crossterm_read.specs.inside.Turns.{HasPaste, SourceDrawn};
+ghost use Rattle.crossterm_read.specs.Sources.{HasPaste, SourceDrawn};
 
 use crate::read::shared::pass::Pass;
 use crate::read::shared::reader::EventReader;

@@ -1,5 +1,5 @@
 use Rattle.std.proofs.Common.{◌∙◌, ap, true, false}
-use Rattle.crossterm_parse.specs.inside.Recognizer.{ends_paste}
+use Rattle.crossterm_parse.specs.Recognizer.{ends_paste}
 use Rattle.test_input.proofs.PlainLaws.{digit_at}
 use Rattle.test_input.proofs.plain.ends_after_digit.Goals as goal
 

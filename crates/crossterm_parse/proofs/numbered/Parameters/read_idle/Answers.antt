@@ -1,7 +1,6 @@
 use Rattle.std.proofs.Common.{◌≡◌, ◌≤◌, ◌<◌, ◌+◌, ◌∙◌, ap, arith, refl, slice_index, subst, sym, take}
 use Rattle.std.proofs.lemmas.List.{take_more}
-use Rattle.crossterm_parse.specs.inside.Automaton.{Opens}
-use Rattle.crossterm_parse.specs.inside.Fields.{fields_after}
+use Rattle.crossterm_parse.specs.Transitions.{Opens, fields_after}
 use Rattle.crossterm_parse.specs.declared.fields.Fields.{Fields}
 use Rattle.crossterm_parse.specs.declared.numbered.Parameters.{Parameters}
 use Rattle.crossterm_parse.specs.declared.paste.Opening.TheVariants as opening

@@ -1,5 +1,5 @@
 use Rattle.std.proofs.Common.{◌≡◌, take}
-use Rattle.crossterm_parse.specs.inside.Automaton.{Opens}
+use Rattle.crossterm_parse.specs.Transitions.{Opens}
 use Rattle.crossterm_parse.specs.declared.paste.Opening.TheVariants as opening
 use Rattle.crossterm_parse.specs.declared.state.State.TheVariants.{Numbered, Sgr}
 use Rattle.crossterm_parse.specs.declared.utf8.Validity.TheVariants.{Sound}

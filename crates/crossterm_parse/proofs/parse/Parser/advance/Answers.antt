@@ -1,5 +1,5 @@
 use Rattle.std.proofs.Common.{rules, ◌≡◌, ◌+◌, ◌==◌, ◌&&◌, not, arith, refl, length, get_or}
-use Rattle.crossterm_parse.specs.inside.Automaton.{is_paste}
+use Rattle.crossterm_parse.specs.States.{is_paste}
 use Rattle.crossterm_parse.specs.Marked.{marked}
 use Rattle.crossterm_parse.proofs.ViewLaws.{advance_none, byte_quiet, byte_free, byte_opens, byte_rests, takes_steps}
 use Rattle.crossterm_parse.proofs.TakingLaws.{advance_on, rest_size, stopped}

@@ -1,6 +1,5 @@
 use Rattle.std.proofs.Common.{length, sym, ap, ◌∙◌}
-use Rattle.crossterm_parse.specs.View.{ParserView}
-use Rattle.crossterm_parse.specs.inside.Automaton.{text_of}
+use Rattle.crossterm_parse.specs.View.{ParserView, text_of}
 use Rattle.crossterm_parse.proofs.ViewLaws.{paste_length_is}
 use Rattle.crossterm_parse.proofs.parse.Parser.paste_len.Goals as goal
 

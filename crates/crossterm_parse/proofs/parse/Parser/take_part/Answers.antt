@@ -1,5 +1,5 @@
 use Rattle.std.proofs.Common.{rules, ◌≡◌, false, sym, ap, ◌∙◌}
-use Rattle.crossterm_parse.specs.inside.Automaton.{is_paste}
+use Rattle.crossterm_parse.specs.States.{is_paste}
 use Rattle.crossterm_parse.specs.declared.state.State.{State}
 use Rattle.crossterm_parse.specs.View.{ParserView}
 use Rattle.crossterm_parse.proofs.parse.Parser.take_part.Goals as goal

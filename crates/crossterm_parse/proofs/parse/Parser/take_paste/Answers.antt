@@ -1,7 +1,7 @@
 use Rattle.std.proofs.Common.{rules, ◌≡◌, ◌+◌, ◌==◌, ◌&&◌, not, true, inl, inr, arith, refl, sym, ap, ◌∙◌, length}
 use Rattle.std.proofs.lemmas.Bool.{false≢true}
-use Rattle.crossterm_parse.specs.inside.Automaton.{is_paste}
-use Rattle.crossterm_parse.specs.inside.Putting.{StaysAsItWas}
+use Rattle.crossterm_parse.specs.States.{is_paste}
+use Rattle.crossterm_parse.specs.Putting.{StaysAsItWas}
 use Rattle.crossterm_parse.specs.declared.state.State.{State}
 use Rattle.crossterm_parse.proofs.ViewLaws.{advance_more, advance_none}
 use Rattle.crossterm_parse.proofs.RunLaws.{advance_rest, advance_still}

@@ -1,5 +1,5 @@
 use Rattle.std.proofs.Common.{◌+◌, ◌-◌, refl, drop, take, length}
-use Rattle.crossterm_parse.specs.inside.Putting.{PutsOn, bare}
+use Rattle.crossterm_parse.specs.Putting.{PutsOn, bare}
 use Rattle.crossterm_parse.proofs.RunLaws.{on_after, opened_on}
 use Rattle.crossterm_parse.proofs.TakingLaws.{opened_outside, through_join, through_none}
 use Rattle.crossterm_parse.proofs.state.State.begin_run.Goals as goal

@@ -1,5 +1,5 @@
 use Rattle.std.proofs.Common.{rules, ◌≡◌, [], ◌∷◌, subst, option_to_list, refl, sym, Some, Option}
-use Rattle.crossterm_parse.specs.inside.Automaton.{meaning_with}
+use Rattle.crossterm_parse.specs.Transitions.{meaning_with}
 use Rattle.crossterm_parse.specs.declared.meaning.Meaning.{Meaning}
 use Rattle.crossterm_parse.proofs.state.State.close.Goals as goal
 

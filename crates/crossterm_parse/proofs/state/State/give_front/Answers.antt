@@ -1,5 +1,5 @@
 use Rattle.std.proofs.Common.{take}
-use Rattle.crossterm_parse.specs.inside.Putting.{PutsAll, PutsOn}
+use Rattle.crossterm_parse.specs.Putting.{PutsAll, PutsOn}
 use Rattle.crossterm_parse.proofs.RunLaws.{all_on}
 use Rattle.crossterm_parse.proofs.TakingLaws.{through_as}
 use Rattle.crossterm_parse.proofs.state.State.give_front.Goals as goal

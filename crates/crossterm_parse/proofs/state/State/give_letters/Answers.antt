@@ -1,7 +1,7 @@
 use Rattle.std.proofs.Common.{[], map, subst, take}
 use Rattle.std.specs.List.{AllByRecursion}
 use Rattle.crossterm_parse.specs.Meaning.{typed}
-use Rattle.crossterm_parse.specs.inside.Automaton.{IsLetter}
+use Rattle.crossterm_parse.specs.Bytes.{IsLetter}
 use Rattle.crossterm_parse.proofs.RunLaws.{take_less}
 use Rattle.crossterm_parse.proofs.TakingLaws.{all_letters}
 use Rattle.crossterm_parse.proofs.state.State.give_letters.Goals as goal

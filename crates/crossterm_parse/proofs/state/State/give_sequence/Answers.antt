@@ -1,6 +1,6 @@
 use Rattle.std.proofs.Common.{◌+◌, ◌++◌, [], ◌∷◌, Option, map, option_to_list, subst, take}
 use Rattle.crossterm_parse.specs.Meaning.{seen_meaning}
-use Rattle.crossterm_parse.specs.inside.Putting.{PutsOn, bare}
+use Rattle.crossterm_parse.specs.Putting.{PutsOn, bare}
 use Rattle.crossterm_parse.specs.declared.meaning.Meaning.{Meaning}
 use Rattle.crossterm_parse.proofs.RunLaws.{sequence_on}
 use Rattle.crossterm_parse.proofs.state.State.give_sequence.Goals as goal

@@ -1,5 +1,5 @@
 use Rattle.std.proofs.Common.{ℕ, [], ◌+◌, ◌-◌, arith, refl, subst, drop, take, length}
-use Rattle.crossterm_parse.specs.inside.Putting.{PutsOn, Through}
+use Rattle.crossterm_parse.specs.Putting.{PutsOn, Through}
 use Rattle.crossterm_parse.proofs.RunLaws.{on_after, on_still}
 use Rattle.crossterm_parse.proofs.TakingLaws.{through_join, through_none}
 use Rattle.crossterm_parse.proofs.state.State.give_whole.Goals as goal

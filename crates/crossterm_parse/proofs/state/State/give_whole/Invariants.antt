@@ -1,5 +1,5 @@
 use Rattle.std.proofs.Common.{◌-◌, length, take}
-use Rattle.crossterm_parse.specs.inside.Putting.{PutsOn, TakesFront, Through}
+use Rattle.crossterm_parse.specs.Putting.{PutsOn, TakesFront, Through}
 use Rattle.crossterm_parse.proofs.state.State.give_whole.Given as goal
 
 -- the bytes before this place were put in

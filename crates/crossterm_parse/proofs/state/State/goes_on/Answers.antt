@@ -1,8 +1,7 @@
 use Rattle.std.proofs.Common.{◌≡◌, ◌∙◌, sym, ap}
-use Rattle.crossterm_parse.specs.inside.Automaton.{state_after, meaning_with}
+use Rattle.crossterm_parse.specs.Transitions.{state_after, meaning_with, Whole}
 use Rattle.crossterm_parse.specs.declared.state.State.{State}
 use Rattle.crossterm_parse.specs.declared.state.State.TheVariants.{Numbered}
-use Rattle.crossterm_parse.specs.inside.Step.{Whole}
 use Rattle.crossterm_parse.proofs.state.State.goes_on.Goals as goal
 
 pub returns-in-Sgr-clause-yes : goal.returns-in-Sgr-clause-yes

@@ -1,5 +1,5 @@
 use Rattle.std.proofs.Common.{◌∙◌, sym, ap}
-use Rattle.crossterm_parse.specs.inside.Automaton.{meaning_with}
+use Rattle.crossterm_parse.specs.Transitions.{meaning_with}
 use Rattle.crossterm_parse.specs.declared.state.State.{State}
 use Rattle.crossterm_parse.proofs.state.State.meaning.Goals as goal
 

@@ -1,5 +1,5 @@
 use Rattle.std.proofs.Common.{◌≡◌, ℕ, arith, subst, sym, take}
-use Rattle.crossterm_parse.specs.inside.Automaton.{OpensWith}
+use Rattle.crossterm_parse.specs.Transitions.{OpensWith}
 use Rattle.crossterm_parse.proofs.RunLaws.{opens_two, opens_three}
 use Rattle.crossterm_parse.proofs.state.State.open.Goals as goal
 

@@ -1,5 +1,5 @@
 use Rattle.std.proofs.Common.{ℕ, refl, sym, subst, [], ◌∷◌}
-use Rattle.crossterm_parse.specs.inside.Automaton.{Opens}
+use Rattle.crossterm_parse.specs.Transitions.{Opens}
 use Rattle.crossterm_parse.specs.declared.state.State.TheVariants.{Escape, Csi}
 use Rattle.crossterm_parse.proofs.state.State.open_front.Goals as goal
 

@@ -1,5 +1,5 @@
 use Rattle.std.proofs.Common.{refl, take}
-use Rattle.crossterm_parse.specs.inside.Putting.{PutsOn, bare}
+use Rattle.crossterm_parse.specs.Putting.{PutsOn, bare}
 use Rattle.crossterm_parse.proofs.RunLaws.{all_on, opens_puts}
 use Rattle.crossterm_parse.proofs.TakingLaws.{opens_outside, through_none}
 use Rattle.crossterm_parse.proofs.state.State.run.Goals as goal

@@ -1,9 +1,9 @@
 use Rattle.std.proofs.Common.{rules, ◌≡◌, ◌+◌, [], false, arith, ap, refl, sym, ◌∙◌, subst, take}
-use Rattle.crossterm_parse.specs.inside.Automaton.{is_paste}
+use Rattle.crossterm_parse.specs.States.{is_paste}
+use Rattle.crossterm_parse.specs.Putting.{PutsAll, PutsByte, Through}
 use Rattle.std.proofs.lemmas.Bool.{false≢true}
 use Rattle.crossterm_parse.specs.Marked.{marked}
 use Rattle.crossterm_parse.specs.View.{AdvancesOver}
-use Rattle.crossterm_parse.specs.inside.Putting.{PutsAll, PutsByte, Through}
 use Rattle.crossterm_parse.specs.declared.state.State.{State}
 use Rattle.crossterm_parse.proofs.RunLaws.{advance_still}
 use Rattle.crossterm_parse.proofs.ViewLaws.{advance_more, advance_none}

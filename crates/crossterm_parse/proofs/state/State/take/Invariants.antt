@@ -1,6 +1,6 @@
 use Rattle.std.proofs.Common.{◌≡◌, ◌<◌, ◌-◌, true, false, length, take}
-use Rattle.crossterm_parse.specs.inside.Automaton.{is_paste}
-use Rattle.crossterm_parse.specs.inside.Putting.{TakesFront, Through}
+use Rattle.crossterm_parse.specs.States.{is_paste}
+use Rattle.crossterm_parse.specs.Putting.{TakesFront, Through}
 use Rattle.crossterm_parse.specs.Marked.{marked}
 use Rattle.crossterm_parse.specs.View.{AdvancesOver}
 use Rattle.crossterm_parse.proofs.state.State.take.Given as goal

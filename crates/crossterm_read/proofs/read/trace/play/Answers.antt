@@ -3,7 +3,7 @@ use Rattle.std.proofs.lemmas.List.{take_all}
 use Rattle.crossterm_read.specs.Outcomes.{Answered}
 use Rattle.crossterm_read.specs.Device.{DeviceAnswer}
 use Rattle.crossterm_read.specs.Scripted.{ScriptLeft, ScriptTells, script_none, script_on}
-use Rattle.crossterm_read.specs.inside.Turns.{Source, SourceDrawn, source_none, source_on}
+use Rattle.crossterm_read.specs.Sources.{Source, SourceDrawn, source_none, source_on}
 use Rattle.crossterm_read.proofs.Spelling.{script_answered}
 use Rattle.crossterm_read.specs.declared.read.call.Call.{Call}
 use Rattle.crossterm_read.specs.declared.read.call.Reply.{Reply}

@@ -1,5 +1,5 @@
 use Rattle.std.proofs.Common.{take, map}
-use Rattle.crossterm_read.specs.inside.Turns.{SourceDrawn}
+use Rattle.crossterm_read.specs.Sources.{SourceDrawn}
 use Rattle.crossterm_read.specs.Scripted.{ScriptTells}
 use Rattle.crossterm_read.specs.Calls.{said}
 use Rattle.crossterm_read.proofs.Runs.{Played}

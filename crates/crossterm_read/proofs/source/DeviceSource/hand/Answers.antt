@@ -2,7 +2,7 @@ use Rattle.std.proofs.Common.{◌≡◌, ◌≤◌, ◌<◌, ◌+◌, ◌-◌, L
 use Rattle.std.proofs.lemmas.List.{length-take-le}
 use Rattle.crossterm_parse.specs.Marked.{marked}
 use Rattle.crossterm_read.specs.Answers.{Failed}
-use Rattle.crossterm_read.specs.inside.Turns.{without_event}
+use Rattle.crossterm_read.specs.Sources.{without_event}
 use Rattle.crossterm_read.proofs.Turning.{hands_next, gives_some, gives_none, left_after, none_left, some_left, without_some}
 use Rattle.crossterm_read.proofs.source.DeviceSource.hand.Goals as goal
 

@@ -1,5 +1,5 @@
 use Rattle.std.proofs.Common.{take}
-use Rattle.crossterm_parse.specs.inside.Automaton.{Kept}
+use Rattle.crossterm_parse.specs.Tracking.{Kept}
 use Rattle.test_input.proofs.plain.meanings.read_digits.Given as goal
 
 -- the bytes before this one are read

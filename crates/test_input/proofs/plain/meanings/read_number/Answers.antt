@@ -1,5 +1,5 @@
 use Rattle.std.proofs.Common.{ℕ, ◌+◌, arith, refl, sym, subst, take}
-use Rattle.crossterm_parse.specs.inside.Numbers.{Tracks}
+use Rattle.crossterm_parse.specs.Tracking.{Tracks}
 use Rattle.crossterm_parse.specs.declared.number.Number.{Number}
 use Rattle.test_input.proofs.PlainLaws.{digit_next, digits_over}
 use Rattle.test_input.proofs.plain.meanings.read_number.Goals as goal

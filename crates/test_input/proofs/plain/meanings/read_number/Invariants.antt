@@ -1,5 +1,5 @@
 use Rattle.std.proofs.Common.{take}
-use Rattle.crossterm_parse.specs.inside.Numbers.{Tracks}
+use Rattle.crossterm_parse.specs.Tracking.{Tracks}
 use Rattle.test_input.proofs.plain.meanings.read_number.Given as goal
 
 -- the bytes before this one are read

@@ -5,7 +5,7 @@ use Rattle.crossterm_read.specs.Calls.{Poll}
 use Rattle.crossterm_read.specs.Replies.{poll_reply, replied}
 use Rattle.crossterm_read.specs.Steps.{UpTo}
 use Rattle.crossterm_read.specs.Store.{ReaderState}
-use Rattle.crossterm_read.specs.inside.Turns.{HasPaste, Source, SourceDrawn}
+use Rattle.crossterm_read.specs.Sources.{HasPaste, Source, SourceDrawn}
 use Rattle.crossterm_read.proofs.Sharing.{taken_at, some_there, produces, extends, extends_at, sits_taken, sits_put, last_after, last_poll, poll_memory}
 use Rattle.crossterm_read.proofs.read.shared.pasting.EventReader+DeviceSource+D+A+A.paste_len.Goals as goal
 

@@ -5,7 +5,7 @@ use Rattle.crossterm_read.specs.Device.{AsksAtOnce}
 use Rattle.crossterm_read.specs.Entries.{IsCall}
 use Rattle.crossterm_read.specs.Replies.{poll_reply, replied}
 use Rattle.crossterm_read.specs.Steps.{UpTo}
-use Rattle.crossterm_read.specs.inside.Turns.{HasPaste}
+use Rattle.crossterm_read.specs.Sources.{HasPaste}
 use Rattle.crossterm_read.proofs.read.shared.pasting.EventReader+DeviceSource+D+A+A.paste_len.Given as goal
 
 abbrev pub ghosts-put : goal.ghosts-put

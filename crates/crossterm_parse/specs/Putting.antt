@@ -1,7 +1,10 @@
 -- What bytes do to a parser.
 use Rattle.std.specs.Prelude.{◌≡◌, ◌≢◌, ◌⊎◌, ◌≤◌, ◌<◌, ◌==◌, ◌&&◌, not, Bool, true, false, ℕ, ◌+◌, ◌*◌, get_or, length, List, ◌++◌, ◌∷◌, [], map, take}
+use Rattle.std.specs.List.{AllByRecursion}
 use Rattle.crossterm_types.specs.Seen.{Seen}
-use Rattle.crossterm_parse.specs.inside.Automaton.{events_left, is_paste, state_after, state_left, text_left}
+use Rattle.crossterm_parse.specs.Bytes.{ESC}
+use Rattle.crossterm_parse.specs.Transitions.{events_left, state_after, state_left, text_left}
+use Rattle.crossterm_parse.specs.States.{is_paste}
 use Rattle.crossterm_parse.specs.Marked.{marked}
 use Rattle.crossterm_parse.specs.Meaning.{seen_meaning}
 use Rattle.crossterm_parse.specs.declared.meaning.Meaning.{Meaning}
@@ -59,3 +62,9 @@ pub record TakesPart (old new : ParserView) (piece : List ℕ) (more raw : Bool)
   pub full : count < length piece → is_paste old.state ≡ false → is_paste new.state ≡ false → new.room ≡ 0
   pub ends : count < length piece → is_paste old.state ≡ false → is_paste new.state ≡ false → (text : List ℕ)
       → events_left (state_after new.state (get_or piece count 0) raw (not more && (count + 1 == length piece))) text ≢ []
+
+-- A text with the bytes in front, before the next ESC, at its end.
+pub record JoinsBeforeEscape (old new bytes : List ℕ) (count : ℕ) : Type 0 where
+  pub within : count ≤ length bytes
+  pub none : AllByRecursion (λ b. b == ESC ≡ false) (take count bytes)
+  pub joined : new ≡ old ++ take count bytes

@@ -1,41 +1,110 @@
--- The state of an open sequence.
-use Rattle.std.specs.Prelude.{◌≡◌, ℕ, ◌-◌, length, take, ◌++◌, ◌==◌, if◌then◌else◌, Bool, true, false, List, [], ◌∷◌, Some, option_to_list, nat_lt, ◌<◌, ◌≤◌, ◌&&◌, Option, None, drop}
+-- What one more byte does to the state of an open sequence.
+use Rattle.std.specs.Prelude.{◌≡◌, ℕ, ◌-◌, length, take, ◌++◌, ◌==◌, if◌then◌else◌, Bool, true, false, List, [], ◌∷◌, Some, option_to_list, nat_lt, ◌<◌, ◌≤◌, ◌&&◌, Option, None, ◌+◌, ◌*◌, nat_le}
 use Rattle.std.specs.Str.{byte}
-use Rattle.std.specs.List.{AllByRecursion}
 use Rattle.std.specs.Option.{option_map}
-use Rattle.bstr.specs.Utf8.{decoded}
+use Rattle.bstr.specs.Utf8.{decoded, second, continues}
 use Rattle.crossterm_types.specs.Seen.{Seen}
 use Rattle.crossterm_types.specs.declared.event.key.KeyCode.TheVariants.{Esc}
-use Rattle.crossterm_parse.specs.Bytes.{DEL, ESC, is_digit}
-use Rattle.crossterm_parse.specs.inside.Characters.{begun_bytes}
-use Rattle.crossterm_parse.specs.Grammar.{begins, IsLead, IsContinuing, IsDigit, IsFinal, EndsNoMouse, HasNoEnd, paste_mark, paste_start}
-use Rattle.crossterm_parse.specs.inside.Recognizer.{is_decided, ends_paste, is_final, is_mouse_end, is_lead, is_continuing, further_after}
-use Rattle.crossterm_parse.specs.Fields.{cut}
-use Rattle.crossterm_parse.specs.inside.Fields.{empty_fields, fields_after, whole_of, ReadsFields}
+use Rattle.crossterm_parse.specs.Bytes.{ESC, is_digit}
+use Rattle.crossterm_parse.specs.Grammar.{begins, paste_start}
 use Rattle.crossterm_parse.specs.Meaning.{pressed_with, single, with_alt, after_ss3, after_csi, linux_key, flags_reply, decoded_character, meaning, seen_meaning, pasted}
-use Rattle.crossterm_parse.specs.inside.Numbers.{Tracks, number_after, reading}
-use Rattle.crossterm_parse.specs.Numbered.{numbered_by, sgr_by, x10_by, last_of}
-use Rattle.crossterm_parse.specs.inside.Utf8.{utf8_after, TracksUtf8}
+use Rattle.crossterm_parse.specs.Recognizer.{is_final, is_mouse_end, is_lead, is_continuing, further_after, is_decided}
+use Rattle.crossterm_parse.specs.Numbered.{numbered_by, sgr_by, x10_by}
 use Rattle.crossterm_parse.specs.declared.character.Begun.{Begun}
 use Rattle.crossterm_parse.specs.declared.character.Begun.TheVariants.{One, Two, Three}
 use Rattle.crossterm_parse.specs.declared.character.Character.{Character}
 use Rattle.crossterm_parse.specs.declared.meaning.Meaning.{Meaning}
 use Rattle.crossterm_parse.specs.declared.meaning.Meaning.TheVariants.{PrimaryDeviceAttributes}
 use Rattle.crossterm_parse.specs.declared.mouse.X10Report.{X10Report}
-use Rattle.crossterm_parse.specs.declared.mouse.X10Report.TheVariants as x10
 use Rattle.crossterm_parse.specs.declared.number.Number.{Number}
-use Rattle.crossterm_parse.specs.declared.number.Number.TheVariants.{Empty}
+use Rattle.crossterm_parse.specs.declared.number.Number.TheVariants.{Empty, Bad, Plus, Value, Big}
 use Rattle.crossterm_parse.specs.declared.numbered.Parameters.{Parameters}
 use Rattle.crossterm_parse.specs.declared.paste.Met.{Met}
-use Rattle.crossterm_parse.specs.declared.paste.Met.TheVariants as met
 use Rattle.crossterm_parse.specs.declared.paste.Opening.{Opening}
-use Rattle.crossterm_parse.specs.declared.paste.Opening.TheVariants as opening
 use Rattle.crossterm_parse.specs.declared.readings.Readings.{Readings}
 use Rattle.crossterm_parse.specs.declared.state.State.{State}
 use Rattle.crossterm_parse.specs.declared.state.State.TheVariants.{Ground, Escape, Ss3, Csi, LinuxKey, X10, Sgr, Private, Reply, Numbered, Paste, Utf8}
 use Rattle.crossterm_parse.specs.declared.utf8.Validity.{Validity}
 use Rattle.crossterm_parse.specs.declared.utf8.Validity.TheVariants.{Sound, Partial, Broken}
-use Rattle.crossterm_parse.specs.inside.Step.{Step, Open, Whole, Closed, Grown, More, Over}
+use Rattle.crossterm_parse.specs.declared.fields.Field.{Field}
+use Rattle.crossterm_parse.specs.declared.fields.Part.{Part}
+use Rattle.crossterm_parse.specs.declared.fields.Fields.{Fields}
+use Rattle.crossterm_parse.specs.declared.fields.Place.{Place}
+use Rattle.crossterm_parse.specs.Tracking.{empty_field, whole_of, begun_bytes}
+use Rattle.crossterm_parse.specs.States.{is_paste, StateRepresents}
+use Rattle.crossterm_parse.specs.declared.mouse.X10Report.TheVariants as x10
+use Rattle.crossterm_parse.specs.declared.paste.Met.TheVariants as met
+use Rattle.crossterm_parse.specs.declared.paste.Opening.TheVariants as opening
+use Rattle.crossterm_parse.specs.declared.fields.Part.TheVariants as part
+use Rattle.crossterm_parse.specs.declared.fields.Place.TheVariants as place
+
+-- The sequence goes on, it is whole and means this, or the paste is over.
+pub data Step : Type 0 where
+  Open : State → Step
+  Whole : Option Meaning → Step
+  Closed : Step
+
+-- An open character goes on, or is over and means this.
+pub data Grown : Type 0 where
+  More : Begun → Grown
+  Over : Option Meaning → Grown
+
+-- a digit after a value
+abbrev pub longer_value : ℕ → Number
+longer_value n = if nat_le n 4294967295 then Value n else Big
+
+-- one more byte
+abbrev pub number_after : Number → ℕ → Number
+number_after Empty b = if b == byte "+" then Plus else if is_digit b then Value (b - byte "0") else Bad
+number_after Plus b = if is_digit b then Value (b - byte "0") else Bad
+number_after (Value n) b = if is_digit b then longer_value (n * 10 + (b - byte "0")) else Bad
+number_after Big b = if is_digit b then Big else Bad
+number_after Bad b = Bad
+
+-- the number, where it is one of at most 32 bits
+abbrev pub reading : Number → Option ℕ
+reading Empty = None
+reading Plus = None
+reading (Value n) = Some n
+reading Big = None
+reading Bad = None
+
+-- three fields, of which the first part of the first one is read
+abbrev pub fields_of : Number → Fields
+fields_of first = record { first = record { first = first; second = Empty; part = part.First }; second = empty_field; third = Empty; place = place.First }
+
+abbrev pub empty_fields : Fields
+empty_fields = fields_of Empty
+
+-- one more byte in a field
+abbrev pub parts_at : Part → Field → ℕ → Field
+parts_at part.First f b = if b == byte ":" then record f { part = part.Second } else record f { first = number_after f.first b }
+parts_at part.Second f b = if b == byte ":" then record f { part = part.Later } else record f { second = number_after f.second b }
+parts_at part.Later f b = f
+
+abbrev pub field_after : Field → ℕ → Field
+field_after f b = parts_at f.part f b
+
+-- one more byte of the text
+abbrev pub fields_at : Place → Fields → ℕ → Fields
+fields_at place.First f b = if b == byte ";" then record f { place = place.Second } else record f { first = field_after f.first b }
+fields_at place.Second f b = if b == byte ";" then record f { place = place.Third } else record f { second = field_after f.second b }
+fields_at place.Third f b = if b == byte ";" then record f { place = place.Later } else record f { third = number_after f.third b }
+fields_at place.Later f b = f
+
+abbrev pub fields_after : Fields → ℕ → Fields
+fields_after f b = fields_at f.place f b
+
+-- one more byte
+abbrev pub begun_after : Begun → ℕ → Validity
+begun_after (One a) b = if second a b then (if nat_lt a 0xE0 then Sound else Partial (Two a b)) else Broken
+begun_after (Two a b) c = if continues c then (if nat_lt a 0xF0 then Sound else Partial (Three a b c)) else Broken
+begun_after (Three a b c) d = if continues d then Sound else Broken
+
+abbrev pub utf8_after : Validity → ℕ → Validity
+utf8_after Sound b = if nat_lt b 0x80 then Sound else if nat_le 0xC2 b && nat_le b 0xF4 then Partial (One b) else Broken
+utf8_after (Partial begun) b = begun_after begun b
+utf8_after Broken b = Broken
 
 -- what a character means that is over, or broken off
 abbrev pub over : Bool → Option ℕ → Grown
@@ -83,11 +152,6 @@ x10_after x10.Empty b = Open (X10 (x10.Code b))
 x10_after (x10.Code a) b = Open (X10 (x10.Column a b))
 x10_after (x10.Column a b) c = Whole (x10_by a b c)
 
-abbrev pub x10_bytes : X10Report → List ℕ
-x10_bytes x10.Empty = []
-x10_bytes (x10.Code a) = a ∷ []
-x10_bytes (x10.Column a b) = a ∷ b ∷ []
-
 -- how far what opens a paste is met, with the first digit and with one more byte
 abbrev pub opens_with : ℕ → Opening
 opens_with b = if b == byte "2" then opening.Two else opening.Not
@@ -104,15 +168,6 @@ number_ends opening.Two d raw b = Whole (numbered_by raw b (readings_at d))
 number_ends opening.Zero d raw b = Whole (numbered_by raw b (readings_at d))
 number_ends opening.Zeros d raw b = if b == byte "~" then Open (Paste met.Nothing) else Whole (numbered_by raw b (readings_at d))
 number_ends opening.Not d raw b = Whole (numbered_by raw b (readings_at d))
-
--- how far the end of a paste is met
-abbrev pub met_bytes : Met → List ℕ
-met_bytes met.Nothing = []
-met_bytes met.Escape = ESC ∷ []
-met_bytes met.Bracket = ESC ∷ byte "[" ∷ []
-met_bytes met.Two = ESC ∷ byte "[" ∷ byte "2" ∷ []
-met_bytes met.Zero = ESC ∷ byte "[" ∷ byte "2" ∷ byte "0" ∷ []
-met_bytes met.One = ESC ∷ byte "[" ∷ byte "2" ∷ byte "0" ∷ byte "1" ∷ []
 
 abbrev pub met_anew : ℕ → Step
 met_anew b = Open (Paste (if b == ESC then met.Escape else met.Nothing))
@@ -186,11 +241,6 @@ state_left (Open state) = state
 state_left (Whole event) = Ground
 state_left Closed = Ground
 
--- whether a paste is open
-abbrev pub is_paste : State → Bool
-is_paste (Paste m) = true
-is_paste _ = false
-
 -- the text of an open paste, with what may be the front of its end
 abbrev pub text_left : Step → State → List ℕ → ℕ → List ℕ
 text_left (Open next) state text b = if is_paste next then (if is_paste state then text ++ b ∷ [] else []) else text
@@ -201,81 +251,6 @@ abbrev pub events_left : Step → List ℕ → List Seen
 events_left (Open state) text = []
 events_left (Whole event) text = option_to_list (option_map seen_meaning event)
 events_left Closed text = pasted (take (length text - 5) text) ∷ []
-
--- the text that is kept, where one is
-abbrev pub text_of : Option (List ℕ) → List ℕ
-text_of None = []
-text_of (Some text) = text
-
-abbrev pub prefixed : Bool → List ℕ → List ℕ
-prefixed escaped bytes = if escaped then ESC ∷ bytes else bytes
-
--- they lead a character that isn't over
-abbrev pub IsBegun : Begun → Type 0
-IsBegun (One a) = IsLead a
-IsBegun (Two a b) = IsLead a × IsContinuing b × (0 < further_after a)
-IsBegun (Three a b c) = IsLead a × IsContinuing b × IsContinuing c × (1 < further_after a)
-
--- A reply that is open: its first byte after `?`, what came after it, and the number that all of these are, or none.
-pub record OpenReply (n : Number) (bytes : List ℕ) : Type 0 where
-  pub first : ℕ
-  pub more : List ℕ
-  pub is : bytes ≡ ESC ∷ byte "[" ∷ byte "?" ∷ first ∷ more
-  pub no_end : HasNoEnd (first ∷ more)
-  pub tracks : Tracks (first ∷ more) n
-
--- What is kept of a text tells of it.
-pub record Kept (d : Parameters) (text : List ℕ) : Type 0 where
-  pub reads : ReadsFields d.fields (cut (byte ";") text)
-  pub last : d.last ≡ last_of text
-  pub utf8 : TracksUtf8 text d.validity
-
--- A report of the mouse that is open: what came after `ESC [ <`.
-pub record OpenMouse (d : Parameters) (bytes : List ℕ) : Type 0 where
-  pub more : List ℕ
-  pub is : bytes ≡ ESC ∷ byte "[" ∷ byte "<" ∷ more
-  pub no_end : AllByRecursion EndsNoMouse more
-  pub kept : Kept d more
-
--- Whether a text may still be what opens a paste.
-abbrev pub IsOpening : Opening → List ℕ → Type 0
-IsOpening opening.Two text = text ≡ byte "2" ∷ []
-IsOpening opening.Zero text = text ≡ byte "2" ∷ byte "0" ∷ []
-IsOpening opening.Zeros text = text ≡ byte "2" ∷ byte "0" ∷ byte "0" ∷ []
-IsOpening opening.Not text = (more : List ℕ) → begins paste_mark (text ++ more) ≡ false
-
--- A paste that is open: its text ends as far as the end is met, and goes on as that alone would.
-pub record OpenPaste (m : Met) (bytes : List ℕ) : Type 0 where
-  pub text : List ℕ
-  pub is : bytes ≡ paste_start ++ text
-  pub before : List ℕ
-  pub ends : text ≡ before ++ met_bytes m
-  pub alike : (more : List ℕ) → ends_paste (text ++ more) ≡ ends_paste (met_bytes m ++ more)
-
--- A numbered sequence that is open: its first digit, and what came after it.
-pub record OpenNumber (d : Parameters) (o : Opening) (bytes : List ℕ) : Type 0 where
-  pub digit : ℕ
-  pub more : List ℕ
-  pub is : bytes ≡ ESC ∷ byte "[" ∷ digit ∷ more
-  pub is_digit : IsDigit digit
-  pub no_final : AllByRecursion (λ b. ¬ IsFinal b) more
-  pub kept : Kept d (digit ∷ more)
-  pub opens : IsOpening o (digit ∷ more)
-
--- The state represents these bytes of an open sequence.
-abbrev pub StateRepresents : State → List ℕ → Type 0
-StateRepresents Ground bytes = bytes ≡ []
-StateRepresents Escape bytes = bytes ≡ ESC ∷ []
-StateRepresents Ss3 bytes = bytes ≡ ESC ∷ byte "O" ∷ []
-StateRepresents Csi bytes = bytes ≡ ESC ∷ byte "[" ∷ []
-StateRepresents LinuxKey bytes = bytes ≡ ESC ∷ byte "[" ∷ byte "[" ∷ []
-StateRepresents (X10 c) bytes = bytes ≡ ESC ∷ byte "[" ∷ byte "M" ∷ x10_bytes c
-StateRepresents (Sgr d) bytes = OpenMouse d bytes
-StateRepresents Private bytes = bytes ≡ ESC ∷ byte "[" ∷ byte "?" ∷ []
-StateRepresents (Reply n) bytes = OpenReply n bytes
-StateRepresents (Numbered d o) bytes = OpenNumber d o bytes
-StateRepresents (Paste m) bytes = OpenPaste m bytes
-StateRepresents (Utf8 c) bytes = (bytes ≡ prefixed c.escaped (begun_bytes c.begun)) × IsBegun c.begun
 
 -- What a byte did is right, where these are the bytes with it.
 abbrev pub IsRight : Step → List ℕ → Bool → Bool → Type 0
@@ -292,9 +267,11 @@ Opens old new (b ∷ bs) = (mid : State) × ((raw pause : Bool) → state_after 
 abbrev pub OpensWith : State → List ℕ → Type 0
 OpensWith new bytes = (b : ℕ) × (bs : List ℕ) × (bytes ≡ ESC ∷ b ∷ bs) × Opens Escape new (b ∷ bs)
 
--- a letter, a digit, a sign or a blank of ASCII
-abbrev pub IsLetter : ℕ → Type 0
-IsLetter b = (byte " " ≤ b) × (b < DEL)
+-- A byte was read: the sequence goes on in a new state, or it is whole and the state is as it was, whatever the mode and a pause.
+pub record Reads (old new : State) (byte : ℕ) (goes_on : Bool) : Type 0 where
+  pub yes : goes_on ≡ true → (raw pause : Bool) → state_after old byte raw pause ≡ Open new
+  pub no : goes_on ≡ false → (raw pause : Bool) → state_after old byte raw pause ≡ Whole (meaning_with old byte raw)
+  pub same : goes_on ≡ false → new ≡ old
 
 -- The bytes begin with this character, which has so many of them, two or more.
 pub record IsCharacterOf (bytes : List ℕ) (c size : ℕ) : Type 0 where
@@ -302,19 +279,3 @@ pub record IsCharacterOf (bytes : List ℕ) (c size : ℕ) : Type 0 where
   pub sized : (decoded bytes).size ≡ size
   pub long : 1 < size
   pub within : size ≤ length bytes
-
--- A text with the bytes in front, before the next ESC, at its end.
-pub record JoinsBeforeEscape (old new bytes : List ℕ) (count : ℕ) : Type 0 where
-  pub within : count ≤ length bytes
-  pub none : AllByRecursion (λ b. b == ESC ≡ false) (take count bytes)
-  pub joined : new ≡ old ++ take count bytes
-
--- Where a paste is open, its text is what came after its start.
-abbrev pub kept_text : State → List ℕ → List ℕ
-kept_text state bytes = if is_paste state then drop 6 bytes else []
-
--- A byte was read: the sequence goes on in a new state, or it is whole and the state is as it was, whatever the mode and a pause.
-pub record Reads (old new : State) (byte : ℕ) (goes_on : Bool) : Type 0 where
-  pub yes : goes_on ≡ true → (raw pause : Bool) → state_after old byte raw pause ≡ Open new
-  pub no : goes_on ≡ false → (raw pause : Bool) → state_after old byte raw pause ≡ Whole (meaning_with old byte raw)
-  pub same : goes_on ≡ false → new ≡ old
