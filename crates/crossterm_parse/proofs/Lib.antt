@@ -3,6 +3,7 @@ pub mod CuttingLaws
 pub mod DivisionLaws
 pub mod EndLaws
 pub mod FieldsLaws
+pub mod FirstLaws
 pub mod GivingLaws
 pub mod GrammarLaws
 pub mod MachineLaws

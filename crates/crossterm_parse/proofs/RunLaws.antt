@@ -31,7 +31,7 @@ use Rattle.crossterm_parse.specs.declared.state.State.TheVariants.{Ground, Escap
 use Rattle.crossterm_parse.specs.declared.character.Begun.{Begun}
 use Rattle.crossterm_parse.specs.declared.character.Begun.TheVariants.{One, Two, Three}
 use Rattle.crossterm_parse.specs.declared.meaning.Meaning.{Meaning}
-use Rattle.crossterm_parse.proofs.ViewLaws.{advance_more}
+use Rattle.crossterm_parse.proofs.ViewLaws.{advance_more, advance_none}
 use Rattle.crossterm_parse.proofs.Utf8Laws.{leads, two_whole, three_whole, four_whole}
 
 same_start : (old mid new : ParserView) (b : ℕ) (raw pause : Bool) → PutsAll old mid [] → PutsByte mid new b raw pause → PutsByte old new b raw pause
@@ -245,6 +245,27 @@ whole_on raw state b (Some m) w whole pause = (
   sym (ap (λ (s : Step). text_left s state [] b) (whole pause)),
   sym (ap (λ (s : Step). w ++ events_left s []) (whole pause)),
 )
+
+-- what is whole in front of a piece, where no sequence is open
+pub front_on : (old : ParserView) (bs : List ℕ) (m : Meaning) (raw more : Bool) (n : ℕ) → old.state ≡ Ground → n ≤ length bs
+    → ((w : List Seen) → PutsOn raw (bare Ground w) (bare Ground (w ++ seen_meaning m ∷ [])) (take n bs))
+    → AdvancesOver old (record old { waiting = old.waiting ++ seen_meaning m ∷ [] }) (take n (marked bs more raw))
+front_on old bs m raw more n ground within puts before represents undecided =
+    let was = bare Ground old.waiting in
+    let is = bare Ground (old.waiting ++ seen_meaning m ∷ []) in
+    let on : 0 + n ≡ n = omega arith in
+    let over : AdvancesOver was is (take n (marked bs more raw)) = subst (λ (j : ℕ). AdvancesOver was is (take j (marked bs more raw))) on (advance_run n was was is bs more raw 0 (omega (arith, within)) (puts old.waiting) (advance_none was)) in
+    let a = over before (subst (λ (s : State). StateRepresents s (bytes_of before)) ground represents.0, refl) undecided in
+    record {
+      parts = a.parts;
+      rest = a.rest;
+      division = a.division;
+      given = a.given;
+      represents = (
+        subst (λ (s : State). StateRepresents s (bytes_of a.rest)) (sym ground) a.represents.0,
+        represents.1 ∙ ap (λ (s : State). kept_text s (bytes_of before)) ground ∙ sym (ap (λ (s : State). kept_text s (bytes_of a.rest)) ground),
+      );
+    }
 
 -- a control byte
 control_after : (b : ℕ) → b < 128 → b ≢ 27 → (raw pause : Bool) → state_after Ground b raw pause ≡ Whole (single raw b)

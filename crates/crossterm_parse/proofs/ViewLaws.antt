@@ -423,6 +423,13 @@ byte_quiet old mid piece more raw i b pause l is_byte is_pause before q =
       nothing_more mid.waiting (events_left step mid.text) (at_next.same ∙ sym at_i.same),
     )
 
+-- a front that gives an event ends one
+pub some_ends : (old : ParserView) (e : Seen) (n : ℕ) (ms : List Marked) → AdvancesOver old (record old { waiting = old.waiting ++ e ∷ [] }) (take n ms) → EndsNoEvent old ms → ⊥
+some_ends old e n ms gives q =
+    let left = left_of old (record old { waiting = old.waiting ++ e ∷ [] }) (take n ms) (drop n ms) (subst (EndsNoEvent old) (sym (take-append-drop n ms)) q) gives in
+    let none : e ∷ [] ≡ [] = nothing_more old.waiting (e ∷ []) left.same in
+    absurd (cc)
+
 twice_not : (p : Bool) → p ≡ not (not p) && true
 twice_not true = refl
 twice_not false = refl

@@ -68,3 +68,9 @@ pub record JoinsBeforeEscape (old new bytes : List ℕ) (count : ℕ) : Type 0 w
   pub within : count ≤ length bytes
   pub none : AllByRecursion (λ b. b == ESC ≡ false) (take count bytes)
   pub joined : new ≡ old ++ take count bytes
+
+-- So many bytes in front are a whole sequence with this meaning, where no sequence is open, whatever comes behind them.
+pub record GivesInFront (bytes : List ℕ) (raw : Bool) (meaning : Meaning) (count : ℕ) : Type 0 where
+  pub some : 0 < count
+  pub within : count ≤ length bytes
+  pub puts : (waiting : List Seen) → PutsOn raw (bare Ground waiting) (bare Ground (waiting ++ seen_meaning meaning ∷ [])) (take count bytes)

@@ -1,11 +1,11 @@
 -- A parser as its callers see it, and what it makes of bytes.
-use Rattle.std.specs.Prelude.{◌≡◌, ◌≤◌, ℕ, ◌+◌, ◌-◌, ◌*◌, length, sum, if◌then◌else◌, List, ◌++◌, ◌∷◌, [], false, Option, None, Some}
+use Rattle.std.specs.Prelude.{◌≡◌, ◌≤◌, ◌<◌, ℕ, ◌+◌, ◌-◌, ◌*◌, length, take, drop, option_to_list, sum, if◌then◌else◌, List, ◌++◌, ◌∷◌, [], Bool, false, Option, None, Some}
 use Rattle.std.specs.List.{filter_map, flat_map, AllByRecursion}
 use Rattle.crossterm_types.specs.Seen.{Seen}
 use Rattle.crossterm_parse.specs.Grammar.{begins, Whole, paste_start}
 use Rattle.crossterm_parse.specs.Division.{Divides, IsUndecided}
 use Rattle.crossterm_parse.specs.States.{StateRepresents, kept_text}
-use Rattle.crossterm_parse.specs.Marked.{Marked, bytes_of}
+use Rattle.crossterm_parse.specs.Marked.{Marked, bytes_of, marked}
 use Rattle.crossterm_parse.specs.Meaning.{meaning_of}
 use Rattle.crossterm_parse.specs.declared.state.State.{State}
 
@@ -48,6 +48,20 @@ abbrev pub OpensNoPaste : ParserView → List Marked → Type 0
 OpensNoPaste parser taken = (before : List Marked) × (parts : List (List Marked)) × (rest : List Marked)
     × Represents parser before × IsUndecided Whole before × Divides Whole (before ++ taken) parts rest
     × AllByRecursion (λ part. begins paste_start (bytes_of part) ≡ false) parts × (begins paste_start (bytes_of rest) ≡ false)
+
+-- The first event was taken out, where there is one, and so many bytes of a piece were put in before: none where it waited. Where nothing
+-- waited, a piece that ends no event is put in whole.
+pub record TakesFirst (old new : ParserView) (piece : List ℕ) (more raw : Bool) (event : Option Seen) (count : ℕ) : Type 0 where
+  pub within : count ≤ length piece
+  pub mid : ParserView
+  pub divided : AdvancesOver old mid (take count (marked piece more raw))
+  pub given : mid.waiting ≡ option_to_list event ++ new.waiting
+  pub represents : RepresentsSame mid new
+  pub none : event ≡ None → new.waiting ≡ []
+  pub quiet : old.waiting ≡ [] → EndsNoEvent old (marked piece more raw) → count ≡ length piece
+  pub stops : event ≡ None → count < length piece → ¬ EndsNoEvent mid (take 1 (drop count (marked piece more raw)))
+  pub full : event ≡ None → count < length piece → OpensNoPaste mid (take 1 (drop count (marked piece more raw))) → mid.room ≡ 0
+  pub room : old.room ≤ new.room + count
 
 -- The length of the paste that some undecided bytes open: what came after its start.
 abbrev pub paste_length : List ℕ → ℕ

@@ -1,7 +1,7 @@
 //! What a whole sequence means.
 //!
 //! Only crates of this tree use this module, which may change with each version.
-ghost use Rattle.std.specs.Prelude.{◌≡◌, ◌≤◌, ◌<◌, ◌&&◌, nat_le};
+ghost use Rattle.std.specs.Prelude.{◌≡◌, ◌≢◌, ◌≤◌, ◌<◌, ◌&&◌, nat_le};
 ghost use Rattle.bstr.specs.Utf8.{decoded};
 ghost use Rattle.crossterm_parse.specs.Mouse.{less};
 ghost use Rattle.crossterm_parse.specs.Numbered.{x10_by};
@@ -105,12 +105,27 @@ pub fn ascii_key(byte: u8) -> KeyEvent
     KeyEvent::new(KeyCode::Char(byte as char), modifiers)
 }
 
-/// What a byte from space to tilde means by itself.
-pub fn meaning_of_ascii(byte: u8) -> Meaning
-    requires { (32 ≤ byte) × (byte < 127) }
-    ensures { result ≡ typed byte }
+/// The key of a byte below 128 that isn't ESC: a control byte, one from space to tilde, or DEL.
+pub fn byte_key(byte: u8, raw: bool) -> KeyEvent
+    requires { (byte < 128) × (byte ≢ 27) }
+    ensures { single raw byte ≡ Some (Meaning.Key result) }
 {
-    Meaning::Key(ascii_key(byte))
+    match byte {
+        0 => KeyEvent::new(KeyCode::Char(' '), KeyModifiers::CONTROL),
+        9 => KeyEvent::new(KeyCode::Tab, KeyModifiers::NONE),
+        10 if raw => KeyEvent::new(KeyCode::Char('j'), KeyModifiers::CONTROL),
+        10 | 13 => KeyEvent::new(KeyCode::Enter, KeyModifiers::NONE),
+        1..=26 => KeyEvent::new(
+            KeyCode::Char((byte - 1 + b'a') as char),
+            KeyModifiers::CONTROL,
+        ),
+        28..=31 => KeyEvent::new(
+            KeyCode::Char((byte - 28 + b'4') as char),
+            KeyModifiers::CONTROL,
+        ),
+        32..=126 => ascii_key(byte),
+        _ => KeyEvent::new(KeyCode::Backspace, KeyModifiers::NONE),
+    }
 }
 
 /// What a byte means by itself.
@@ -118,21 +133,8 @@ pub fn meaning_of_byte(byte: u8, raw: bool) -> Option<Meaning>
     ensures { result ≡ single raw byte }
 {
     match byte {
-        0 => Some(pressed_key(KeyCode::Char(' '), KeyModifiers::CONTROL)),
-        9 => Some(pressed_alone(KeyCode::Tab)),
-        10 if raw => Some(pressed_key(KeyCode::Char('j'), KeyModifiers::CONTROL)),
-        10 | 13 => Some(pressed_alone(KeyCode::Enter)),
-        1..=26 => Some(pressed_key(
-            KeyCode::Char((byte - 1 + b'a') as char),
-            KeyModifiers::CONTROL,
-        )),
-        28..=31 => Some(pressed_key(
-            KeyCode::Char((byte - 28 + b'4') as char),
-            KeyModifiers::CONTROL,
-        )),
-        32..=126 => Some(meaning_of_ascii(byte)),
-        127 => Some(pressed_alone(KeyCode::Backspace)),
-        _ => None,
+        27 | 128..=255 => None,
+        _ => Some(Meaning::Key(byte_key(byte, raw))),
     }
 }
 

@@ -17,6 +17,7 @@ use std::marker::{Brand, Model};
 use std::sync::ledger::{Blank, Ledger};
 
 mod events;
+mod first;
 mod pasting;
 mod queue;
 
@@ -208,7 +209,7 @@ impl<A: Allocator + Clone> Parser<A> {
     pub fn is_undecided(&self) -> bool
         ensures { (before : List Marked) → Represents self.now before → (IsTrue result ↔ (before ≢ [])) }
     {
-        !matches!(self.state, State::Ground)
+        self.state.is_open()
     }
 
     /// How many bytes of the open paste came after its start, `ESC [ 200 ~`: 0 if no paste is open. This takes no memory.

@@ -2,17 +2,19 @@
 //!
 //! One that is whole is read at once, with its numbers in registers: nearly all keys and reports of the mouse come so. What isn't plain is
 //! read byte by byte into a `State`, with the same meaning.
-ghost use Rattle.std.specs.Prelude.{◌≡◌, ℕ, Bool, List, IfSome, IsTrue};
+ghost use Rattle.std.specs.Prelude.{◌≡◌, ◌<◌, ℕ, Bool, List, length, IfSome, IsTrue};
 ghost use Rattle.crossterm_parse.specs.Bytes.{is_digit};
 ghost use Rattle.crossterm_parse.specs.Transitions.{empty_parameters, readings_at, state_after, Whole};
 ghost use Rattle.crossterm_parse.specs.inside.Plain.{AreNumbers, EndsFrom, IsNumber, in_first, in_kind, in_second, in_third, read};
 ghost use Rattle.crossterm_parse.specs.Meaning.{after_csi};
+ghost use Rattle.crossterm_parse.specs.Putting.{GivesInFront};
 ghost use Rattle.crossterm_parse.specs.declared.number.Number.TheVariants.{Value};
 ghost use Rattle.crossterm_parse.specs.declared.state.State.TheVariants.{Escape, Csi, Sgr};
 
-use crate::meaning::{Meaning, meaning_after_csi, meaning_after_ss3};
+use crate::meaning::{Meaning, meaning_after_csi, meaning_after_ss3, typed_key};
 use crate::numbered::{is_final_byte, is_mouse_final};
 use crate::readings::Readings;
+use bstr::decode_utf8;
 
 /// A number in front, and the byte behind it.
 #[derive(Clone, Copy)]
@@ -241,6 +243,26 @@ pub fn sequence_in(bytes: &[u8], raw: bool) -> Option<PlainSequence>
                 count: 1 + sequence.count,
             }),
             None => None,
+        },
+        _ => None,
+    }
+}
+
+/// What a character of two bytes or more, or a plain sequence, means that is whole in front, and how many bytes it has.
+#[inline(always)]
+pub fn meaning_in(bytes: &[u8], raw: bool) -> Option<(Meaning, usize)>
+    requires { 0 < length bytes.now }
+    ensures { IfSome result (λ it. GivesInFront bytes.now raw it.0 it.1) }
+{
+    match bytes[0] {
+        27 => {
+            let sequence = sequence_in(&bytes[1..], raw)?;
+            let meaning = sequence.meaning?;
+            Some((meaning, 1 + sequence.count))
+        }
+        0xC2..=0xF4 => match decode_utf8(bytes) {
+            (Some(c), size) if size > 1 => Some((Meaning::Key(typed_key(c)), size)),
+            _ => None,
         },
         _ => None,
     }

@@ -216,6 +216,15 @@ fn read_reports(parameters: &mut Parameters, bytes: &[u8]) -> usize
 }
 
 impl State {
+    /// Whether a sequence is open.
+    #[inline(always)]
+    pub fn is_open(&self) -> bool
+        ensures yes { IsTrue result → self.now ≢ State.Ground }
+        ensures no { IsFalse result → self.now ≡ State.Ground }
+    {
+        !matches!(self, State::Ground)
+    }
+
     /// Whether a paste is open.
     pub fn is_paste(&self) -> bool
         ensures { result ≡ is_paste self.now }

@@ -11,9 +11,9 @@ use Rattle.crossterm_read.specs.Calls.{Request, Poll, Read, Take, Position, Keyb
 use Rattle.crossterm_read.specs.History.{Entry, Runs, RiseByFilter, took, takes_of}
 use Rattle.crossterm_read.specs.Store.{IsLow, EventStore, ReaderState, Arrives}
 use Rattle.crossterm_read.specs.inside.Numbers.{IsOrderly}
-use Rattle.crossterm_read.specs.Queries.{QueryReplies, QueryStep, IsAnswer, AfterReply, LeftReplies, FlagsReplies}
+use Rattle.crossterm_read.specs.Queries.{QueryReplies, QueryStep, AfterReply, LeftReplies, FlagsReplies}
 use Rattle.crossterm_read.specs.Replies.{Replied, ToTake, ToQuery, Fault}
-use Rattle.crossterm_read.specs.Steps.{Patience, End, Ready, Tried, Broke, ReadReplies, TakeReplies, TakeStep}
+use Rattle.crossterm_read.specs.Steps.{Patience, End, Ready, Tried, Broke, ReadReplies, TakeReplies}
 use Rattle.crossterm_read.proofs.Rising.{Does, none_does, take_does, both_do, does_rise}
 
 -- events arrive, and then this is done

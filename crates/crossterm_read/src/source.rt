@@ -168,7 +168,8 @@ impl<D: Device, A: Allocator + Clone> DeviceSource<D, A> {
         &self.device
     }
 
-    // Hands the untaken bytes to the parser, and gives the first event.
+    // Gives the first event of the untaken bytes.
+    #[inline(always)]
     fn hand(&mut self) -> io::Result<Option<InternalEvent<A>>>
         requires { self.old.parser.waiting ≡ [] }
         ensures hands { Hands self.old (answer_of result) self.new }
@@ -177,9 +178,9 @@ impl<D: Device, A: Allocator + Clone> DeviceSource<D, A> {
     {
         let buffer: &[u8] = &self.buffer;
         let untaken = &buffer[self.from..self.end];
-        let taken = self.parser.feed(untaken, self.end == 1024, self.raw);
+        let (event, taken) = self.parser.take_first(untaken, self.end == 1024, self.raw);
         self.from += taken;
-        if let Some(event) = self.parser.next() {
+        if let Some(event) = event {
             return Ok(Some(event));
         }
         if self.from == self.end {

@@ -66,6 +66,41 @@ fn at_once(alloc: Global, pieces: &[Piece<'_>]) -> Result<Vec<InternalEvent>, Al
     events_of(alloc, &mut parser)
 }
 
+/// Takes the events of a piece one after another, each as soon as it is whole.
+fn take_each(
+    parser: &mut Parser,
+    piece: &Piece<'_>,
+    events: &mut Vec<InternalEvent>,
+) -> Result<(), AllocError> {
+    let mut from: usize = 0;
+    for _ in 0..MOST_EVENTS {
+        let Some(rest) = piece.0.get(from..) else {
+            return Ok(());
+        };
+        let (event, taken) = parser.take_first(
+            rest,
+            matches!(piece.1, Joined),
+            matches!(piece.1, Raw),
+        );
+        from = from.saturating_add(taken);
+        match event {
+            Some(event) => events.push(event)?,
+            None => return Ok(()),
+        }
+    }
+    Ok(())
+}
+
+/// The events of the pieces, each taken as soon as it is whole.
+fn one_by_one(alloc: Global, pieces: &[Piece<'_>]) -> Result<Vec<InternalEvent>, AllocError> {
+    let mut parser = Parser::new(alloc);
+    let mut events = Vec::new(alloc);
+    for piece in pieces {
+        take_each(&mut parser, piece, &mut events)?;
+    }
+    Ok(events)
+}
+
 /// Hands one byte in, and says whether the parser is between two sequences then.
 fn ends_with(parser: &mut Parser, marked: &Marked) -> bool {
     parser.feed(&[marked.byte], !marked.pause, marked.raw);
@@ -99,13 +134,15 @@ fn agrees_singly(alloc: Global, bytes: &[Marked], divided: &Divided) -> Result<b
     Ok(agrees && events == divided.events)
 }
 
-/// Whether the parser divides the bytes of the pieces as defined, and gives the events of their parts for the pieces and for single bytes.
+/// Whether the parser divides the bytes of the pieces as defined, and gives the events of their parts for the pieces, for single bytes, and
+/// one by one.
 pub(crate) fn agrees(alloc: Global, pieces: &[Piece<'_>]) -> Result<bool, AllocError> {
     let bytes = marks_of(alloc, pieces)?;
     let divided = divide(alloc, &bytes)?;
     let singly = agrees_singly(alloc, &bytes, &divided)?;
     let together = at_once(alloc, pieces)?;
-    Ok(singly && together == divided.events)
+    let each = one_by_one(alloc, pieces)?;
+    Ok(singly && together == divided.events && each == divided.events)
 }
 
 /// The same, and that memory was there.

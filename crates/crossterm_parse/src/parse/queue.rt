@@ -1,5 +1,5 @@
 //! The events that a parser has not yet given.
-ghost use Rattle.std.specs.Prelude.{◌≡◌, ◌+◌, ◌-◌, ◌≤◌, ◌<◌, [], ◌∷◌, ◌++◌, length, map, IsTrue, IsFalse, IfNone, IfSome, OnOk, OnErr};
+ghost use Rattle.std.specs.Prelude.{◌≡◌, ◌≢◌, ◌+◌, ◌-◌, ◌≤◌, ◌<◌, [], ◌∷◌, ◌++◌, length, map, IsTrue, IsFalse, IfNone, IfSome, OnOk, OnErr};
 ghost use Rattle.std.specs.String.{string_bytes};
 ghost use Rattle.std.specs.VecDeque.{deque_len, deque_capacity};
 ghost use Rattle.crossterm_types.specs.Seen.{seen};
@@ -42,6 +42,15 @@ impl<A: Allocator + Clone> Queue<A> {
     /// The allocator.
     pub(super) fn allocator(&self) -> &A {
         self.events.allocator()
+    }
+
+    /// Whether there are none.
+    #[inline(always)]
+    pub(super) fn is_empty(&self) -> bool
+        ensures yes { IsTrue result → self.now.waiting ≡ [] }
+        ensures no { IsFalse result → self.now.waiting ≢ [] }
+    {
+        self.events.is_empty()
     }
 
     /// How many events there are.

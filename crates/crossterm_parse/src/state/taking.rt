@@ -8,7 +8,7 @@ ghost use Rattle.crossterm_parse.specs.Putting.{PutsAll, PutsByte, PutsOn, Takes
 ghost use Rattle.crossterm_parse.specs.Marked.{marked};
 ghost use Rattle.crossterm_parse.specs.View.{AdvancesOver};
 
-use crate::meaning::{Meaning, meaning_of_byte, typed_key};
+use crate::meaning::{Meaning, byte_key, typed_key};
 use crate::outlet::Outlet;
 use crate::plain::sequence_in;
 use crate::state::State;
@@ -148,11 +148,8 @@ impl State {
         if outlet.room_now() == 0 {
             return 0;
         }
-        let Some(meaning) = meaning_of_byte(bytes[0], raw) else {
-            return 0;
-        };
         steps.count(1);
-        outlet.give(meaning);
+        outlet.give(Meaning::Key(byte_key(bytes[0], raw)));
         1
     }
 

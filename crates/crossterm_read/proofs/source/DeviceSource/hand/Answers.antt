@@ -1,5 +1,7 @@
-use Rattle.std.proofs.Common.{◌≡◌, ◌≤◌, ◌<◌, ◌+◌, ◌-◌, List, ℕ, Bool, take, drop, length, arith, refl, ◌∙◌, ap, sym, length-drop}
+use Rattle.std.proofs.Common.{◌≡◌, ◌≤◌, ◌<◌, ◌+◌, ◌-◌, ◌++◌, [], List, ℕ, Bool, option_to_list, take, drop, length, arith, refl, ◌∙◌, ap, sym, length-drop}
 use Rattle.std.proofs.lemmas.List.{length-take-le}
+use Rattle.std.specs.Option.{option_map}
+use Rattle.crossterm_types.specs.Seen.{seen}
 use Rattle.crossterm_parse.specs.Marked.{marked}
 use Rattle.crossterm_read.specs.Answers.{Failed}
 use Rattle.crossterm_read.specs.Sources.{without_event}
@@ -21,19 +23,32 @@ end_above from n end buffer f h t ne =
 
 pub returns-in-Some-clause-hands : goal.returns-in-Some-clause-hands
 returns-in-Some-clause-hands g c =
-    hands_next _ _ c.feed-taken.new.self c.next.new.self _ c.self.inside.device c.feed-taken.result _ _ _ _ c.self.view_is c.requires refl c.feed-taken.ensures.taken
-    (after_front _ _ _ _ _ _ (omega arith) (omega arith) c.feed-taken.ensures.taken) c.feed-taken.ensures.divided c.feed-taken.ensures.quiet c.next.ensures.represents
-    (λ after. gives_some c.feed-taken.new.self.waiting c.next.new.self.waiting _ _ after c.in-Some.ensures.some)
+    let new = c.take_first-event.new.self in
+    let t = c.take_first-event.ensures in
+    let empty : c.self.inside.parser.waiting ≡ [] = ap (λ s. s.parser.waiting) c.self.view_is ∙ c.requires in
+    hands_next _ _ t.mid new _ c.self.inside.device c.take_first-event.result.1 _ _ _ _ c.self.view_is c.requires refl t.within
+    (after_front _ _ _ _ _ _ (omega arith) (omega arith) t.within) t.divided (λ quiet. t.quiet empty quiet) t.represents
+    (λ after. gives_some t.mid.waiting new.waiting _ _ after (t.given ∙ ap (λ e. option_to_list (option_map seen e) ++ new.waiting) c.in-Some.is))
 
 pub returns-then-self-clause-hands : goal.returns-then-self-clause-hands
 returns-then-self-clause-hands g c =
-    hands_next _ _ c.feed-taken.new.self c.next.new.self _ c.self.inside.device c.feed-taken.result _ _ _ _ c.self.view_is c.requires refl c.feed-taken.ensures.taken
-    (after_front _ _ _ _ _ _ (omega arith) (omega arith) c.feed-taken.ensures.taken) c.feed-taken.ensures.divided c.feed-taken.ensures.quiet c.next.ensures.represents
-    (λ after. gives_none c.feed-taken.new.self.waiting c.next.new.self.waiting _ _ after c.in_default.ensures.none.0 c.in_default.ensures.none.1 (sym (ap without_event (none_left _ _ _ _ _ c.if-self.true))))
+    let new = c.take_first-event.new.self in
+    let t = c.take_first-event.ensures in
+    let empty : c.self.inside.parser.waiting ≡ [] = ap (λ s. s.parser.waiting) c.self.view_is ∙ c.requires in
+    let none : new.waiting ≡ [] = t.none (ap (λ e. option_map seen e) c.in_default.is) in
+    let first : t.mid.waiting ≡ [] = t.given ∙ ap (λ e. option_to_list (option_map seen e) ++ new.waiting) c.in_default.is ∙ none in
+    hands_next _ _ t.mid new _ c.self.inside.device c.take_first-event.result.1 _ _ _ _ c.self.view_is c.requires refl t.within
+    (after_front _ _ _ _ _ _ (omega arith) (omega arith) t.within) t.divided (λ quiet. t.quiet empty quiet) t.represents
+    (λ after. gives_none t.mid.waiting new.waiting _ _ after first none (sym (ap without_event (none_left _ _ _ _ _ c.if-self.true))))
 
 pub returns-clause-hands : goal.returns-clause-hands
 returns-clause-hands g c =
-    hands_next _ _ c.feed-taken.new.self c.next.new.self _ c.self.inside.device c.feed-taken.result _ _ _ _ c.self.view_is c.requires refl c.feed-taken.ensures.taken
-    (after_front _ _ _ _ _ _ (omega arith) (omega arith) c.feed-taken.ensures.taken) c.feed-taken.ensures.divided c.feed-taken.ensures.quiet c.next.ensures.represents
-    (λ after. gives_none c.feed-taken.new.self.waiting c.next.new.self.waiting _ _ after c.in_default.ensures.none.0 c.in_default.ensures.none.1
-    (ap Failed c.from.ensures ∙ sym (without_some _ (some_left (c.self.inside.from + c.feed-taken.result) c.self.inside.end c.self.inside.buffer _ _ (end_above _ _ _ _ (omega arith) (omega arith) c.feed-taken.ensures.taken c.if-self.false) (omega arith)))))
+    let new = c.take_first-event.new.self in
+    let t = c.take_first-event.ensures in
+    let empty : c.self.inside.parser.waiting ≡ [] = ap (λ s. s.parser.waiting) c.self.view_is ∙ c.requires in
+    let none : new.waiting ≡ [] = t.none (ap (λ e. option_map seen e) c.in_default.is) in
+    let first : t.mid.waiting ≡ [] = t.given ∙ ap (λ e. option_to_list (option_map seen e) ++ new.waiting) c.in_default.is ∙ none in
+    hands_next _ _ t.mid new _ c.self.inside.device c.take_first-event.result.1 _ _ _ _ c.self.view_is c.requires refl t.within
+    (after_front _ _ _ _ _ _ (omega arith) (omega arith) t.within) t.divided (λ quiet. t.quiet empty quiet) t.represents
+    (λ after. gives_none t.mid.waiting new.waiting _ _ after first none
+    (ap Failed c.from.ensures ∙ sym (without_some _ (some_left (c.self.inside.from + c.take_first-event.result.1) c.self.inside.end c.self.inside.buffer _ _ (end_above _ _ _ _ (omega arith) (omega arith) t.within c.if-self.false) (omega arith)))))

@@ -1,0 +1,37 @@
+use Rattle.std.proofs.Common.{rules, ◌∙◌, ◌+◌, ◌++◌, [], ◌∷◌, Option, map, option_to_list, refl, subst, sym, take, arith}
+use Rattle.bstr.proofs.lemmas.PieceLemmas.{size-within}
+use Rattle.crossterm_parse.specs.Meaning.{seen_meaning}
+use Rattle.crossterm_parse.specs.Putting.{PutsOn, bare}
+use Rattle.crossterm_parse.specs.Transitions.{IsCharacterOf}
+use Rattle.crossterm_parse.specs.declared.meaning.Meaning.{Meaning}
+use Rattle.crossterm_parse.specs.declared.meaning.Meaning.TheVariants.{Key}
+use Rattle.crossterm_parse.specs.declared.state.State.TheVariants.{Ground}
+use Rattle.crossterm_parse.proofs.RunLaws.{all_on, sequence_on}
+use Rattle.crossterm_parse.proofs.TakingLaws.{one_character}
+use Rattle.crossterm_parse.proofs.plain.meaning_in.Goals as goal
+
+pub returns-in_ok-meaning-in-27 : goal.returns-in_ok-meaning-in-27
+returns-in_ok-meaning-in-27 c =
+    let it = c.in_ok-sequence-in-27.sequence in
+    record {
+      some = omega arith;
+      within = search rules;
+      puts = λ w. subst (λ (m : Option Meaning). PutsOn c.args.raw (bare Ground w) (bare Ground (w ++ map seen_meaning (option_to_list m))) (take (1 + it.count) c.args.bytes.now)) c.in_ok-meaning-in-27.was
+          (sequence_on c.args.raw Ground c.args.bytes.now it w refl c.requires c.in-27.is c.in_ok-sequence-in-27.ensures);
+    }
+
+pub returns-in-Some-default : goal.returns-in-Some-default
+returns-in-Some-default c =
+    let is : IsCharacterOf c.args.bytes.now c.in-Some-default.c c.decode.result.1 = record {
+      char = sym c.decode.ensures.char ∙ c.in-Some-default.is-0;
+      sized = sym c.decode.ensures.size;
+      long = omega (arith, c.if-size-gt1.true);
+      within = omega (arith, c.decode.ensures.size, size-within c.args.bytes.now);
+    } in
+    let key = Key c.typed_key.result in
+    record {
+      some = omega (arith, is.long);
+      within = is.within;
+      puts = λ w. all_on c.args.raw (take c.decode.result.1 c.args.bytes.now) (bare Ground w) (bare Ground (w ++ seen_meaning key ∷ []))
+          (one_character Ground c.args.bytes.now c.in-Some-default.c c.decode.result.1 key w refl is c.typed_key.ensures);
+    }
