@@ -7,7 +7,7 @@ use crate::fault::Fault;
 use crossterm::event::filter::EventFilter;
 use crossterm::event::read::InternalEventReader;
 use crossterm::event::source::DeviceSource;
-use crossterm::event::{EventReader, EventStream, Pass};
+use crossterm::event::{Event, EventReader, EventStream, InternalEvent, KeyCode, KeyEvent, Pass};
 use futures::task::Poll;
 use futures::test::MockTask;
 use std::alloc::{AllocGlobal, Global};
@@ -33,15 +33,34 @@ enum Way {
 type Reader = InternalEventReader<DeviceSource<Letters>>;
 
 fn reader(alloc: Global) -> Reader {
-    InternalEventReader::new(alloc, DeviceSource::new(alloc, Letters))
+    InternalEventReader::new(alloc, DeviceSource::new(alloc, Letters::new()))
 }
 
-/// Takes so many keys, and returns how many came.
+/// Whether it is the key of a letter: so each key is looked at.
+fn is_letter(event: &Event) -> bool {
+    matches!(
+        event,
+        Event::Key(KeyEvent {
+            code: KeyCode::Char('a'..='z'),
+            ..
+        })
+    )
+}
+
+fn is_internal_letter(event: &Option<InternalEvent>) -> bool {
+    match event {
+        Some(InternalEvent::Event(event)) => is_letter(event),
+        _ => false,
+    }
+}
+
+/// Takes so many keys, and returns how many of letters came.
 fn read(alloc: Global, count: u32) -> io::Result<u32> {
     let mut reader = reader(alloc);
     let mut taken: u32 = 0;
     for _ in 0..count {
-        if reader.read_within(1, &EventFilter)?.is_some() {
+        let event = reader.read_within(1, &EventFilter)?;
+        if is_internal_letter(&event) {
             taken = taken.saturating_add(1);
         }
     }
@@ -53,8 +72,11 @@ fn poll(alloc: Global, count: u32) -> io::Result<u32> {
     let mut reader = reader(alloc);
     let mut taken: u32 = 0;
     for _ in 0..count {
-        if reader.poll_within(1, &EventFilter)? && reader.take(&EventFilter).is_some() {
-            taken = taken.saturating_add(1);
+        if reader.poll_within(1, &EventFilter)? {
+            let event = reader.take(&EventFilter);
+            if is_internal_letter(&event) {
+                taken = taken.saturating_add(1);
+            }
         }
     }
     Ok(taken)
@@ -76,8 +98,10 @@ fn read_by<H: Wait>(
     let mut pass = pass;
     let mut taken: u32 = 0;
     for _i in 0..count {
-        shared.read(rt, &mut pass)?;
-        taken = taken.saturating_add(1);
+        let event = shared.read(rt, &mut pass)?;
+        if is_letter(&event) {
+            taken = taken.saturating_add(1);
+        }
     }
     Ok(taken)
 }
@@ -103,8 +127,10 @@ where
     let task = MockTask::new(&rt)?;
     let mut taken: u32 = 0;
     for _ in 0..count {
-        if let Poll::Ready(Ok(_)) = task.enter(|cx| stream.poll_event(cx)) {
-            taken = taken.saturating_add(1);
+        if let Poll::Ready(Ok(event)) = task.enter(|cx| stream.poll_event(cx)) {
+            if is_letter(&event) {
+                taken = taken.saturating_add(1);
+            }
         }
     }
     Ok(taken)

@@ -212,10 +212,10 @@ fn stepped<R: Wait>(rt: &R, alloc: Global) -> io::Result<String> {
     Ok(signs)
 }
 
-/// The first step is refused, since there is no room yet. Then there is room for each step.
+/// The first step is refused, since there is no room for an event yet, and the first one over bytes that are two events.
 #[test]
 fn a_step_that_is_refused_loses_nothing(rt: HostRuntime) -> io::Result<()> {
     let signs = stepped(&rt, rt.alloc())?;
-    expect!(rt; signs.as_str() == "-0x1!1", signs.as_str());
+    expect!(rt; signs.as_str() == "-0x-1!1", signs.as_str());
     Ok(())
 }
