@@ -1,5 +1,5 @@
 -- The first event of a piece.
-use Rattle.std.proofs.Common.{◌≡◌, ◌≢◌, ◌≤◌, ◌<◌, ℕ, ◌+◌, Bool, List, [], ◌∷◌, ◌++◌, length, take, drop, Option, Some, None, IfNone, IfSome, ap, sym, ◌∙◌, arith}
+use Rattle.std.proofs.Common.{◌≡◌, ◌≢◌, ◌≤◌, ◌<◌, ℕ, ◌+◌, Bool, List, [], ◌∷◌, ◌++◌, length, take, drop, Option, Some, None, IfNone, IfSome, ap, sym, ◌∙◌, arith, refl}
 use Rattle.std.specs.Option.{option_map}
 use Rattle.crossterm_types.specs.Seen.{Seen}
 use Rattle.crossterm_parse.specs.Marked.{marked}
@@ -16,6 +16,7 @@ first_waits see old new piece more raw (Some x) some none first same room = reco
   divided = advance_none old;
   given = first;
   represents = same;
+  waits = λ some. refl;
   none = λ e. absurd (cc);
   quiet = λ e q. absurd (some e);
   stops = λ e l. absurd (cc);
@@ -32,6 +33,7 @@ first_in_front old piece more raw e n empty within over = record {
   divided = over;
   given = ap (λ (es : List Seen). es ++ e ∷ []) empty ∙ ap (λ (es : List Seen). e ∷ es) (sym empty);
   represents = λ before represents. represents;
+  waits = λ some. absurd (some empty);
   none = λ e. absurd (cc);
   quiet = λ none q. absurd (some_ends old e n (marked piece more raw) over q);
   stops = λ e l. absurd (cc);
@@ -40,29 +42,31 @@ first_in_front old piece more raw e n empty within over = record {
 }
 
 -- the first one of those that are kept
-pub first_kept : {X : Type 0} (see : X → Seen) (old mid new : ParserView) (piece : List ℕ) (more raw : Bool) (n : ℕ) (r : Option X) → n ≤ length piece → AdvancesOver old mid (take n (marked piece more raw))
+pub first_kept : {X : Type 0} (see : X → Seen) (old mid new : ParserView) (piece : List ℕ) (more raw : Bool) (n : ℕ) (r : Option X) → old.waiting ≡ [] → n ≤ length piece → AdvancesOver old mid (take n (marked piece more raw))
     → (EndsNoEvent old (marked piece more raw) → n ≡ length piece) → (n < length piece → ¬ EndsNoEvent mid (take 1 (drop n (marked piece more raw))))
     → (n < length piece → OpensNoPaste mid (take 1 (drop n (marked piece more raw))) → mid.room ≡ 0) → old.room ≤ mid.room + n
     → IfNone r ((mid.waiting ≡ []) × (new.waiting ≡ [])) → IfSome r (λ x. mid.waiting ≡ see x ∷ new.waiting) → RepresentsSame mid new → mid.room ≤ new.room
     → TakesFirst old new piece more raw (option_map see r) n
-first_kept see old mid new piece more raw n None within over quiet stops full room none some same grows = record {
+first_kept see old mid new piece more raw n None empty within over quiet stops full room none some same grows = record {
   within = within;
   mid = mid;
   divided = over;
   given = none.0 ∙ sym none.1;
   represents = same;
+  waits = λ some. absurd (some empty);
   none = λ e. none.1;
   quiet = λ e. quiet;
   stops = λ e. stops;
   full = λ e. full;
   room = omega (arith, room, grows);
 }
-first_kept see old mid new piece more raw n (Some x) within over quiet stops full room none some same grows = record {
+first_kept see old mid new piece more raw n (Some x) empty within over quiet stops full room none some same grows = record {
   within = within;
   mid = mid;
   divided = over;
   given = some;
   represents = same;
+  waits = λ some. absurd (some empty);
   none = λ e. absurd (cc);
   quiet = λ e. quiet;
   stops = λ e l. absurd (cc);

@@ -1,5 +1,5 @@
 -- A parser as its callers see it, and what it makes of bytes.
-use Rattle.std.specs.Prelude.{◌≡◌, ◌≤◌, ◌<◌, ℕ, ◌+◌, ◌-◌, ◌*◌, length, take, drop, option_to_list, sum, if◌then◌else◌, List, ◌++◌, ◌∷◌, [], Bool, false, Option, None, Some}
+use Rattle.std.specs.Prelude.{◌≡◌, ◌≢◌, ◌≤◌, ◌<◌, ℕ, ◌+◌, ◌-◌, ◌*◌, length, take, drop, option_to_list, sum, if◌then◌else◌, List, ◌++◌, ◌∷◌, [], Bool, false, Option, None, Some}
 use Rattle.std.specs.List.{filter_map, flat_map, AllByRecursion}
 use Rattle.crossterm_types.specs.Seen.{Seen}
 use Rattle.crossterm_parse.specs.Grammar.{begins, Whole, paste_start}
@@ -57,6 +57,7 @@ pub record TakesFirst (old new : ParserView) (piece : List ℕ) (more raw : Bool
   pub divided : AdvancesOver old mid (take count (marked piece more raw))
   pub given : mid.waiting ≡ option_to_list event ++ new.waiting
   pub represents : RepresentsSame mid new
+  pub waits : old.waiting ≢ [] → count ≡ 0
   pub none : event ≡ None → new.waiting ≡ []
   pub quiet : old.waiting ≡ [] → EndsNoEvent old (marked piece more raw) → count ≡ length piece
   pub stops : event ≡ None → count < length piece → ¬ EndsNoEvent mid (take 1 (drop count (marked piece more raw)))

@@ -62,7 +62,7 @@ impl<A: Allocator + Clone> Parser<A> {
     }
 
     /// Returns the first event, and how many bytes of the piece were taken for it: 0 if the event waited, and else as many as it has or more.
-    /// Further events of these bytes wait. A key that is typed comes alone: then none is kept, and no memory is needed.
+    /// Further events of these bytes wait. The key of a byte that comes alone needs no memory.
     ///
     /// If there is no event, all bytes were taken, or memory was refused as by `advance`. `more` and `raw` are as of `advance`.
     ///
@@ -77,7 +77,9 @@ impl<A: Allocator + Clone> Parser<A> {
         more: bool,
         raw: bool,
     ) -> (Option<InternalEvent<A>>, usize)
-        ensures { TakesFirst self.old self.new piece.now more raw (option_map seen result.0) result.1 }
+        ensures first { TakesFirst self.old self.new piece.now more raw (option_map seen result.0) result.1 }
+        // The key of one byte is always given, if no sequence is open and no event waits.
+        ensures key { IfNone result.0 (self.old.waiting ≡ [] → self.old.state ≡ Ground → length piece.now ≡ 1 → (get_or piece.now 0 0 ≡ 27) ⊎ (128 ≤ get_or piece.now 0 0)) }
     {
         if !self.queue.is_empty() {
             return (self.next(), 0);

@@ -11,5 +11,5 @@ pub returns : goal.returns
 returns g c =
     let fed = c.feed-taken.ensures in
     let next = c.next.ensures in
-    first_kept seen c.args.self.now c.feed-taken.new.self c.next.new.self c.args.piece.now c.args.more c.args.raw c.feed-taken.result c.next.result fed.taken fed.divided fed.quiet fed.stops fed.full fed.room
+    first_kept seen c.args.self.now c.feed-taken.new.self c.next.new.self c.args.piece.now c.args.more c.args.raw c.feed-taken.result c.next.result c.requires fed.taken fed.divided fed.quiet fed.stops fed.full fed.room
     next.none next.some next.represents next.room

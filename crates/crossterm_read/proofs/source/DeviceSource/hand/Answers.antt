@@ -24,7 +24,7 @@ end_above from n end buffer f h t ne =
 pub returns-in-Some-clause-hands : goal.returns-in-Some-clause-hands
 returns-in-Some-clause-hands g c =
     let new = c.take_first-event.new.self in
-    let t = c.take_first-event.ensures in
+    let t = c.take_first-event.ensures.first in
     let empty : c.self.inside.parser.waiting ≡ [] = ap (λ s. s.parser.waiting) c.self.view_is ∙ c.requires in
     hands_next _ _ t.mid new _ c.self.inside.device c.take_first-event.result.1 _ _ _ _ c.self.view_is c.requires refl t.within
     (after_front _ _ _ _ _ _ (omega arith) (omega arith) t.within) t.divided (λ quiet. t.quiet empty quiet) t.represents
@@ -33,7 +33,7 @@ returns-in-Some-clause-hands g c =
 pub returns-then-self-clause-hands : goal.returns-then-self-clause-hands
 returns-then-self-clause-hands g c =
     let new = c.take_first-event.new.self in
-    let t = c.take_first-event.ensures in
+    let t = c.take_first-event.ensures.first in
     let empty : c.self.inside.parser.waiting ≡ [] = ap (λ s. s.parser.waiting) c.self.view_is ∙ c.requires in
     let none : new.waiting ≡ [] = t.none (ap (λ e. option_map seen e) c.in_default.is) in
     let first : t.mid.waiting ≡ [] = t.given ∙ ap (λ e. option_to_list (option_map seen e) ++ new.waiting) c.in_default.is ∙ none in
@@ -44,7 +44,7 @@ returns-then-self-clause-hands g c =
 pub returns-clause-hands : goal.returns-clause-hands
 returns-clause-hands g c =
     let new = c.take_first-event.new.self in
-    let t = c.take_first-event.ensures in
+    let t = c.take_first-event.ensures.first in
     let empty : c.self.inside.parser.waiting ≡ [] = ap (λ s. s.parser.waiting) c.self.view_is ∙ c.requires in
     let none : new.waiting ≡ [] = t.none (ap (λ e. option_map seen e) c.in_default.is) in
     let first : t.mid.waiting ≡ [] = t.given ∙ ap (λ e. option_to_list (option_map seen e) ++ new.waiting) c.in_default.is ∙ none in
