@@ -1,5 +1,5 @@
 -- The first event of a piece.
-use Rattle.std.proofs.Common.{◌≡◌, ◌≢◌, ◌≤◌, ◌<◌, ℕ, ◌+◌, Bool, List, [], ◌∷◌, ◌++◌, length, take, drop, Option, Some, None, IfNone, IfSome, ap, sym, ◌∙◌, arith, refl}
+use Rattle.std.proofs.Common.{◌≡◌, ◌≢◌, ◌≤◌, ◌<◌, inl, inr, ℕ, ◌+◌, Bool, List, [], ◌∷◌, ◌++◌, length, take, drop, Option, Some, None, IfNone, IfSome, ap, sym, ◌∙◌, arith, refl}
 use Rattle.std.specs.Option.{option_map}
 use Rattle.crossterm_types.specs.Seen.{Seen}
 use Rattle.crossterm_parse.specs.Marked.{marked}
@@ -19,16 +19,16 @@ first_waits see old new piece more raw (Some x) some none first same room = reco
   waits = λ some. refl;
   none = λ e. absurd (cc);
   quiet = λ e q. absurd (some e);
-  stops = λ e l. absurd (cc);
+  stops = λ e l. elim e [ inl none ↦ absurd (cc) | inr empty ↦ absurd (some empty) ];
   full = λ e l. absurd (cc);
   room = omega (arith, room);
 }
 
--- one in front, which isn't kept
-pub first_in_front : (old : ParserView) (piece : List ℕ) (more raw : Bool) (e : Seen) (n : ℕ) → old.waiting ≡ [] → n ≤ length piece → AdvancesOver old (record old { waiting = old.waiting ++ e ∷ [] }) (take n (marked piece more raw))
+-- one that comes alone, which isn't kept
+pub first_in_front : (old : ParserView) (piece : List ℕ) (more raw : Bool) (e : Seen) (n : ℕ) → old.waiting ≡ [] → n ≡ length piece → AdvancesOver old (record old { waiting = old.waiting ++ e ∷ [] }) (take n (marked piece more raw))
     → TakesFirst old old piece more raw (Some e) n
-first_in_front old piece more raw e n empty within over = record {
-  within = within;
+first_in_front old piece more raw e n empty whole over = record {
+  within = omega arith;
   mid = record old { waiting = old.waiting ++ e ∷ [] };
   divided = over;
   given = ap (λ (es : List Seen). es ++ e ∷ []) empty ∙ ap (λ (es : List Seen). e ∷ es) (sym empty);
@@ -36,7 +36,7 @@ first_in_front old piece more raw e n empty within over = record {
   waits = λ some. absurd (some empty);
   none = λ e. absurd (cc);
   quiet = λ none q. absurd (some_ends old e n (marked piece more raw) over q);
-  stops = λ e l. absurd (cc);
+  stops = λ e l. absurd (omega (arith, whole, l));
   full = λ e l. absurd (cc);
   room = omega arith;
 }
@@ -69,7 +69,7 @@ first_kept see old mid new piece more raw n (Some x) empty within over quiet sto
   waits = λ some. absurd (some empty);
   none = λ e. absurd (cc);
   quiet = λ e. quiet;
-  stops = λ e l. absurd (cc);
+  stops = λ e. stops;
   full = λ e l. absurd (cc);
   room = omega (arith, room, grows);
 }

@@ -1,5 +1,5 @@
 -- A parser as its callers see it, and what it makes of bytes.
-use Rattle.std.specs.Prelude.{◌≡◌, ◌≢◌, ◌≤◌, ◌<◌, ℕ, ◌+◌, ◌-◌, ◌*◌, length, take, drop, option_to_list, sum, if◌then◌else◌, List, ◌++◌, ◌∷◌, [], Bool, false, Option, None, Some}
+use Rattle.std.specs.Prelude.{◌≡◌, ◌≢◌, ◌⊎◌, ◌≤◌, ◌<◌, ℕ, ◌+◌, ◌-◌, ◌*◌, length, take, drop, option_to_list, sum, if◌then◌else◌, List, ◌++◌, ◌∷◌, [], Bool, false, Option, None, Some}
 use Rattle.std.specs.List.{filter_map, flat_map, AllByRecursion}
 use Rattle.crossterm_types.specs.Seen.{Seen}
 use Rattle.crossterm_parse.specs.Grammar.{begins, Whole, paste_start}
@@ -50,7 +50,7 @@ OpensNoPaste parser taken = (before : List Marked) × (parts : List (List Marked
     × AllByRecursion (λ part. begins paste_start (bytes_of part) ≡ false) parts × (begins paste_start (bytes_of rest) ≡ false)
 
 -- The first event was taken out, where there is one, and so many bytes of a piece were put in before: none where it waited. Where nothing
--- waited, a piece that ends no event is put in whole.
+-- waited, a piece that ends no event is put in whole, and the first byte that is left ends an event, or is of a paste.
 pub record TakesFirst (old new : ParserView) (piece : List ℕ) (more raw : Bool) (event : Option Seen) (count : ℕ) : Type 0 where
   pub within : count ≤ length piece
   pub mid : ParserView
@@ -60,7 +60,7 @@ pub record TakesFirst (old new : ParserView) (piece : List ℕ) (more raw : Bool
   pub waits : old.waiting ≢ [] → count ≡ 0
   pub none : event ≡ None → new.waiting ≡ []
   pub quiet : old.waiting ≡ [] → EndsNoEvent old (marked piece more raw) → count ≡ length piece
-  pub stops : event ≡ None → count < length piece → ¬ EndsNoEvent mid (take 1 (drop count (marked piece more raw)))
+  pub stops : (event ≡ None) ⊎ (old.waiting ≡ []) → count < length piece → ¬ EndsNoEvent mid (take 1 (drop count (marked piece more raw)))
   pub full : event ≡ None → count < length piece → OpensNoPaste mid (take 1 (drop count (marked piece more raw))) → mid.room ≡ 0
   pub room : old.room ≤ new.room + count
 

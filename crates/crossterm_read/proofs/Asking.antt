@@ -16,10 +16,11 @@ use Rattle.crossterm_read.specs.declared.read.reader.AtWake.{AtWake}
 use Rattle.crossterm_read.specs.declared.read.reader.AtWake.TheVariants.{Stops, GoesOn}
 use Rattle.crossterm_read.specs.declared.read.reader.Once.{Once}
 use Rattle.crossterm_read.specs.declared.read.reader.Once.TheVariants as once
-use Rattle.crossterm_read.specs.Store.{EventStore, ReaderState, arrived, numbered_after, next_number, Arrives, capacity, kept}
+use Rattle.crossterm_read.specs.declared.read.held.Taken.{Taken}
+use Rattle.crossterm_read.specs.Store.{EventStore, ReaderState, arrived, numbered_after, next_number, Arrives, capacity}
 use Rattle.crossterm_read.specs.Steps.{Patience, Allows, IsSpent, first_admitted, Passes, Asks, Ready, Tried, Broke, PollStep, ReadStep, RefusedOnlyWithoutRoom, TakeReplies}
 use Rattle.crossterm_read.specs.inside.Asking.{Asked, DrawsOne, held_with}
-use Rattle.crossterm_read.specs.inside.Replies.{try_reply}
+use Rattle.crossterm_read.specs.inside.Replies.{kept, try_reply}
 use Rattle.crossterm_read.specs.Replies.{poll_reply}
 use Rattle.crossterm_types.proofs.Lists.{all_append, all_push}
 
@@ -153,7 +154,7 @@ none_passed f (Failed kind ∷ zs) h = absurd (stops_not h.0.0)
     stops_not e = cc
 
 -- So a poll that met no fault saw no failure.
-pub steady_poll : {S A : Type 0} (drawn : S → List SourceAnswer → S → Type 0) (failed : S → ℕ) (f : Seen → Bool) (patience : Patience) (s t : ReaderState S) (given : Option (InternalEvent A × ℕ)) → Asked drawn failed Stops f patience s t (Ok given) → failed t.source ≡ failed s.source
+pub steady_poll : {S A : Type 0} (drawn : S → List SourceAnswer → S → Type 0) (failed : S → ℕ) (f : Seen → Bool) (patience : Patience) (s t : ReaderState S) (given : Option (Taken (InternalEvent A))) → Asked drawn failed Stops f patience s t (Ok given) → failed t.source ≡ failed s.source
 steady_poll drawn failed f patience s t (Some taken) a = by_end a.3
   where
     by_end : Asks Stops f patience s.store.held a.0 Ready → failed t.source ≡ failed s.source
@@ -166,7 +167,7 @@ module _ {S : Type 0} (drawn : S → List SourceAnswer → S → Type 0) (failed
   abbrev pub Polls : Result Bool Error → Type 0
   Polls r = (zs : List SourceAnswer) × drawn s.source zs t.source × PollStep patience f zs s.store t.store (poll_reply r) × IfErr r (λ e. RefusedOnlyWithoutRoom s.room zs (error_kind e))
 
-  pub poll_came : {A : Type 0} (m : ReaderState S) (taken : InternalEvent A × ℕ) → Asked drawn failed Stops f patience s m (Ok (Some taken)) → t.store ≡ held_with m.store (kept taken) → t.source ≡ m.source → Polls (Ok true)
+  pub poll_came : {A : Type 0} (m : ReaderState S) (taken : Taken (InternalEvent A)) → Asked drawn failed Stops f patience s m (Ok (Some taken)) → t.store ≡ held_with m.store (kept taken) → t.source ≡ m.source → Polls (Ok true)
   poll_came m taken a h e = (a.0, subst (λ (y : S). drawn s.source a.0 y) (sym e) a.1, (Ready, a.3, subst (λ (y : EventStore). Arrives s.store a.0 y) (sym h) a.2, refl), tt)
 
   pub poll_tried : (A : Type 0) → Asked {A = A} drawn failed Stops f patience s t (Ok None) → Polls (Ok false)
@@ -179,13 +180,13 @@ module _ {S : Type 0} (drawn : S → List SourceAnswer → S → Type 0) (failed
   poll_fault A e h a = (a.0, a.1, (Broke (error_kind e), a.3, a.2, inr (h, refl)), a.4)
 
   -- a read that gives this
-  abbrev pub Gives : {A : Type 0} → Result (Option (InternalEvent A × ℕ)) Error → Type 0
+  abbrev pub Gives : {A : Type 0} → Result (Option (Taken (InternalEvent A))) Error → Type 0
   Gives r = (zs : List SourceAnswer) × drawn s.source zs t.source × ReadStep patience f zs s.store t.store (try_reply r) × IfErr r (λ e. RefusedOnlyWithoutRoom s.room zs (error_kind e)) × IsSteady failed s.source zs t.source
 
-  pub read_held : {A : Type 0} → ((s : S) → drawn s [] s) → (taken : InternalEvent A × ℕ) → TakeReplies f s.store t.store (Some (kept taken)) → t.source ≡ s.source → Gives (Ok (Some taken))
+  pub read_held : {A : Type 0} → ((s : S) → drawn s [] s) → (taken : Taken (InternalEvent A)) → TakeReplies f s.store t.store (Some (kept taken)) → t.source ≡ s.source → Gives (Ok (Some taken))
   read_held law taken h e = ([], subst (λ (y : S). drawn s.source [] y) (sym e) (law s.source), (Ready, s.store, inl (ap is_some h.1, refl), arrives_none s.store, (Some (kept taken), h, refl)), tt, λ none. ap failed e)
 
-  pub read_asked : {A : Type 0} (r : Result (Option (InternalEvent A × ℕ)) Error) → Asked drawn failed GoesOn f patience s t r → Gives r
+  pub read_asked : {A : Type 0} (r : Result (Option (Taken (InternalEvent A))) Error) → Asked drawn failed GoesOn f patience s t r → Gives r
   read_asked (Ok (Some taken)) a = (a.0, a.1, (Ready, held_with t.store (kept taken), a.3, a.2, (Some (kept taken), a.6, refl)), tt, a.5)
   read_asked (Ok None) a = (a.0, a.1, (Tried, t.store, a.3, a.2, (refl, refl)), tt, a.5)
   read_asked (Err e) a = (a.0, a.1, (Broke (error_kind e), t.store, a.3, a.2, (refl, refl)), a.4, a.5)

@@ -10,7 +10,7 @@ use Rattle.crossterm_read.specs.Answers.{SourceAnswer}
 use Rattle.crossterm_read.specs.Store.{ReaderState}
 use Rattle.crossterm_read.specs.History.{Entry, Known, Meeting, StartsWith, Runs, are_of, calls_by}
 use Rattle.crossterm_read.specs.inside.Numbers.{IsOrderly}
-use Rattle.crossterm_read.specs.inside.Slot.{newcomer, first_of, one_less, one_more, longer, taught, Fits, Nobody, Holder, Open, Kept, Taken, Produces, Put, Learnt}
+use Rattle.crossterm_read.specs.inside.Slot.{newcomer, first_of, one_less, one_more, longer, taught, Fits, Nobody, Holder, Open, Kept, Took, Produces, Put, Learnt}
 use Rattle.crossterm_read.proofs.Histories.{runs_front, runs_snoc}
 use Rattle.crossterm_read.proofs.Seating.{head_same, tail_same, off, some_of, none_not, calls_by-append, calls_by-mine, calls_by-other, below, at_end, some_at, are_snoc, are_more, are_front, none_past, none_more, same_or_not, starts_on, first_there, longer_starts, longer_ours, longer_theirs, longer_whole, longer_calls}
 
@@ -100,7 +100,7 @@ module _ {S : Type 0} (drawn : S → List SourceAnswer → S → Type 0) where
   opens n by v x others new orderly fits items views room (inr h) at = absurd (none_not h.opening (sym (ap (λ (u : Known S). u.opening) new) ∙ (h.each by v at).opening))
 
   -- The pass takes the reader out.
-  takes_it : (by : ℕ) (v : Known S) (o : ReaderState S) → v.opening ≡ Some o → Pops (Kept drawn) by v (λ x w. Taken drawn v x w)
+  takes_it : (by : ℕ) (v : Known S) (o : ReaderState S) → v.opening ≡ Some o → Pops (Kept drawn) by v (λ x w. Took drawn v x w)
   takes_it by v o is x items views kept at =
       let h = known (x ∷ items) views by v o is kept at in
       let mine = h.each by v at in
@@ -407,7 +407,7 @@ module _ {S : Type 0} (drawn : S → List SourceAnswer → S → Type 0) where
       → Pushes (Kept drawn) n by v x (λ w. Put drawn made v x w) × Learns (Kept drawn) by v (λ items. items ≡ [])
   puts_as n by v x made b = (puts_it n by v x made b, has_room by v b.opening b.opened b.has)
 
-  pub takes_as : (by : ℕ) (v : Known S) (o : ReaderState S) → v.opening ≡ Some o → Pops (Kept drawn) by v (λ x w. Taken drawn v x w) × Learns (Kept drawn) by v (λ items. ⊤)
+  pub takes_as : (by : ℕ) (v : Known S) (o : ReaderState S) → v.opening ≡ Some o → Pops (Kept drawn) by v (λ x w. Took drawn v x w) × Learns (Kept drawn) by v (λ items. ⊤)
   takes_as by v o is = (takes_it by v o is, λ items views kept at. tt)
 
   pub opens_as : (n by : ℕ) (v : Known S) (x : ReaderState S) (others : ℕ) → v ≡ newcomer → IsOrderly x.store.held x.store.arrivals → x.store.arrivals < 2 ^ 64

@@ -7,7 +7,9 @@ use Rattle.crossterm_types.specs.Seen.{Seen, seen}
 use Rattle.crossterm_types.specs.declared.event.InternalEvent.{InternalEvent}
 use Rattle.crossterm_read.specs.Answers.{SourceAnswer, Gave, Nothing, Failed}
 use Rattle.crossterm_read.specs.Steps.{Patience, Allows, Passes, TakeReplies, first_admitted}
-use Rattle.crossterm_read.specs.Store.{Arrives, EventStore, ReaderState, arrived, kept, next_number}
+use Rattle.crossterm_read.specs.declared.read.held.Taken.{Taken}
+use Rattle.crossterm_read.specs.Store.{Arrives, EventStore, ReaderState, arrived, next_number}
+use Rattle.crossterm_read.specs.inside.Replies.{kept}
 use Rattle.crossterm_read.specs.declared.read.reader.AtWake.{AtWake}
 use Rattle.crossterm_read.specs.declared.read.reader.Once.TheVariants as once
 use Rattle.crossterm_read.specs.inside.Asking.{Asked, DrawsOne, held_with}
@@ -69,10 +71,10 @@ still_none wake f s t zs none a p =
 
 module _ {S : Type 0} (A : Type 0) (drawn : S → List SourceAnswer → S → Type 0) (failed : S → ℕ) (on : (s t u : S) (xs ys : List SourceAnswer) → drawn s xs t → drawn t ys u → drawn s (xs ++ ys) u) (wake : AtWake) (f : Seen → Bool) where
   -- An admitted event came, and is given.
-  pub asked_came : (s m t : ReaderState S) (i : ℕ) (patience : Patience) (taken : InternalEvent A × ℕ) → Asking A drawn failed on wake f s m i → Allows patience (i + 1) → DrawsOne drawn failed wake f m t (once.Came taken)
+  pub asked_came : (s m t : ReaderState S) (i : ℕ) (patience : Patience) (taken : Taken (InternalEvent A)) → Asking A drawn failed on wake f s m i → Allows patience (i + 1) → DrawsOne drawn failed wake f m t (once.Came taken)
       → Asked drawn failed wake f patience s t (Ok (Some taken))
   asked_came s m t i patience taken a h d =
-      let x = seen taken.0 in
+      let x = seen taken.event in
       let none : first_admitted f t.store.held ≡ None = ap (first_admitted f) d.4 ∙ still_none wake f s.store m.store a.answers a.none a.arrives a.passes in (
         a.answers ++ Gave x ∷ [],
         on s.source m.source t.source a.answers (Gave x ∷ []) a.drawn_so d.0,

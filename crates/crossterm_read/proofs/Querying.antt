@@ -13,7 +13,9 @@ use Rattle.crossterm_read.specs.declared.read.reader.AtWake.TheVariants.{Stops}
 use Rattle.crossterm_read.specs.History.{last_of}
 use Rattle.crossterm_read.specs.Queries.{QueryReplies}
 use Rattle.crossterm_read.specs.Replies.{ToTake, ToQuery, Fault, poll_reply}
-use Rattle.crossterm_read.specs.Store.{EventStore, kept}
+use Rattle.crossterm_read.specs.declared.read.held.Taken.{Taken}
+use Rattle.crossterm_read.specs.Store.{EventStore}
+use Rattle.crossterm_read.specs.inside.Replies.{kept}
 use Rattle.crossterm_read.specs.Steps.{Patience, first_admitted, Asks, End, Ready, Tried, Broke, PollStep, PollReplies, TakeReplies}
 use Rattle.crossterm_read.specs.inside.Asking.{GivesFirst, held_with}
 use Rattle.crossterm_read.proofs.Ready.{ready_there}
@@ -42,7 +44,7 @@ pub taken_admitted : (f : Seen → Bool) (s t : EventStore) (x : Seen × ℕ) �
 taken_admitted f s t x h = let p = position-Some (λ e. f e.0) s.held h.0 x h.1 in subst (λ (e : Seen × ℕ). f e.0 ≡ true) h.2 p.1
 
 -- What asking gave is admitted.
-pub given_admitted : {A : Type 0} (f : Seen → Bool) (t : EventStore) (r : Result (Option (InternalEvent A × ℕ)) Error) → GivesFirst f t r → IfOk r (λ given. IfSome given (λ x. f (seen x.0) ≡ true))
+pub given_admitted : {A : Type 0} (f : Seen → Bool) (t : EventStore) (r : Result (Option (Taken (InternalEvent A))) Error) → GivesFirst f t r → IfOk r (λ given. IfSome given (λ x. f (seen x.event) ≡ true))
 given_admitted f t (Ok (Some x)) h = taken_admitted f (held_with t (kept x)) t (kept x) h
 given_admitted f t (Ok None) h = tt
 given_admitted f t (Err e) h = tt

@@ -4,6 +4,7 @@ use Rattle.std.specs.Prelude.{is_some, IfSome, IfNone, IfErr, IfOk}
 use Rattle.std.specs.List.{range_with_len}
 use Rattle.std.specs.declared.io.Error.{Error}
 use Rattle.crossterm_read.specs.Answers.{SourceAnswer}
+use Rattle.crossterm_read.specs.declared.read.held.Taken.{Taken}
 use Rattle.crossterm_read.specs.Store.{ReaderState, capacity}
 use Rattle.crossterm_read.specs.History.{Entry, Known, Sits, Runs, Extends, EachOnce, opened, Meets, Closes, calls_by, last_of, last_from}
 use Rattle.crossterm_read.specs.inside.Numbers.{IsOrderly}
@@ -15,7 +16,7 @@ use Rattle.crossterm_types.specs.Seen.{Seen, seen}
 use Rattle.crossterm_types.specs.declared.event.InternalEvent.{InternalEvent}
 use Rattle.std.specs.IoError.{error_kind}
 use Rattle.std.specs.declared.io.ErrorKind.{ErrorKind}
-use Rattle.crossterm_read.specs.inside.Slot.{Taken, Put, Produces, Learnt, first_of, one_more, taught}
+use Rattle.crossterm_read.specs.inside.Slot.{Took, Put, Produces, Learnt, first_of, one_more, taught}
 use Rattle.crossterm_read.proofs.EachOnce.{each_once}
 use Rattle.crossterm_read.proofs.Histories.{runs_room, runs_snoc, not_fewer}
 use Rattle.crossterm_read.proofs.Querying.{fault_of}
@@ -45,7 +46,7 @@ made_knows w o n k less some is =
 
 module _ {S : Type 0} (drawn : S → List SourceAnswer → S → Type 0) where
   -- Who took the reader still sits.
-  pub sits_taken : (v w : Known S) (x : ReaderState S) → Sits v → Taken drawn v x w → Sits w
+  pub sits_taken : (v w : Known S) (x : ReaderState S) → Sits v → Took drawn v x w → Sits w
   sits_taken v w x sits t = subst Sits (sym t.after) record {
     opened = sits.opened;
     number = sits.number;
@@ -66,10 +67,10 @@ module _ {S : Type 0} (drawn : S → List SourceAnswer → S → Type 0) where
 
   -- What a put asks, after a take and one call.
   -- The same by an equal state.
-  pub taken_at : (v u : Known S) (x y : ReaderState S) → y ≡ x → Taken drawn v x u → Taken drawn v y u
-  taken_at v u x y e t = subst (λ (z : ReaderState S). Taken drawn v z u) (sym e) t
+  pub taken_at : (v u : Known S) (x y : ReaderState S) → y ≡ x → Took drawn v x u → Took drawn v y u
+  taken_at v u x y e t = subst (λ (z : ReaderState S). Took drawn v z u) (sym e) t
 
-  pub produces : (made : ReaderState S → Entry → ReaderState S → Type 0) (v u : Known S) (x y : ReaderState S) → Taken drawn v x u → (call : Request) (answers : List SourceAnswer) (r : Replied)
+  pub produces : (made : ReaderState S → Entry → ReaderState S → Type 0) (v u : Known S) (x y : ReaderState S) → Took drawn v x u → (call : Request) (answers : List SourceAnswer) (r : Replied)
       → made x (record { by = u.number; call = call; answers = answers; reply = r }) y → drawn x.source answers y.source → Step call answers x.store y.store r → capacity x ≤ capacity y → Produces drawn made u y
   produces made v u x y t call answers r such d step room = subst (λ (k : Known S). k.number ≡ u.number → Produces drawn made k y) (sym t.after) of_taken refl
     where
@@ -87,7 +88,7 @@ module _ {S : Type 0} (drawn : S → List SourceAnswer → S → Type 0) where
       }
 
   -- A take, and then a put.
-  pub extends : (made : ReaderState S → Entry → ReaderState S → Type 0) (v u w : Known S) (x y : ReaderState S) → v.has ≡ false → Taken drawn v x u → Put drawn made u y w → Extends drawn made v w
+  pub extends : (made : ReaderState S → Entry → ReaderState S → Type 0) (v u w : Known S) (x y : ReaderState S) → v.has ≡ false → Took drawn v x u → Put drawn made u y w → Extends drawn made v w
   extends made v u w x y idle t p = from_seen (subst (λ (k : Known S). Put drawn made k y w) t.after p)
     where
       from_seen : Put drawn made (record v { seen = v.seen ++ t.between; has = true }) y w → Extends drawn made v w
@@ -137,7 +138,7 @@ module _ {S : Type 0} (drawn : S → List SourceAnswer → S → Type 0) where
   }
 
   -- A take for good.
-  pub closes : (v w : Known S) (x : ReaderState S) → Taken drawn v x w → Closes drawn v x w
+  pub closes : (v w : Known S) (x : ReaderState S) → Took drawn v x w → Closes drawn v x w
   closes v w x t = record {
     opening = t.opening;
     between = t.between;
@@ -148,11 +149,11 @@ module _ {S : Type 0} (drawn : S → List SourceAnswer → S → Type 0) where
     after = t.after;
   }
 
-  pub closed_as : (r : Option (ReaderState S)) (v w : Known S) → IfSome r (λ x. Taken drawn v x w) → IfSome r (λ x. Closes drawn v x w)
+  pub closed_as : (r : Option (ReaderState S)) (v w : Known S) → IfSome r (λ x. Took drawn v x w) → IfSome r (λ x. Closes drawn v x w)
   closed_as (Some x) v w t = closes v w x t
   closed_as None v w t = tt
 
-  pub closed_sits : (r : Option (ReaderState S)) (v w : Known S) → Sits v → IfSome r (λ x. Taken drawn v x w) → IfNone r (w ≡ v) → Sits w
+  pub closed_sits : (r : Option (ReaderState S)) (v w : Known S) → Sits v → IfSome r (λ x. Took drawn v x w) → IfNone r (w ≡ v) → Sits w
   closed_sits (Some x) v w sits t same = sits_taken v w x sits t
   closed_sits None v w sits t same = subst Sits (sym same) sits
 
@@ -160,7 +161,7 @@ module _ {S : Type 0} (drawn : S → List SourceAnswer → S → Type 0) where
   closed_none P (Some x) v w there idle same = tt
   closed_none P None v w there idle same = (same, (there, ap (λ (k : Known S). k.has) same ∙ idle))
 
-  pub closed_last : (r : Option (ReaderState S)) (last : Option ℕ) (v w : Known S) → last ≡ last_from None v.mine → IfSome r (λ x. Taken drawn v x w) → IfNone r (w ≡ v) → last ≡ last_from None w.mine
+  pub closed_last : (r : Option (ReaderState S)) (last : Option ℕ) (v w : Known S) → last ≡ last_from None v.mine → IfSome r (λ x. Took drawn v x w) → IfNone r (w ≡ v) → last ≡ last_from None w.mine
   closed_last (Some x) last v w before t same = before ∙ ap (λ k. last_from None k.mine) (sym t.after)
   closed_last None last v w before t same = before ∙ ap (λ k. last_from None k.mine) (sym same)
 
@@ -198,7 +199,7 @@ last_from-push n (x ∷ es) e = last_from-push (last_of n x.reply) es e
 
 -- The number of what was taken last, after one call with this reply.
 pub last_after : {S : Type 0} (drawn : S → List SourceAnswer → S → Type 0) (made : ReaderState S → Entry → ReaderState S → Type 0) (r : Replied) (v u w : Known S) (x y : ReaderState S) (last : Option ℕ)
-    → Taken drawn v x u → (p : Put drawn made u y w) → p.0.call.reply ≡ r → last ≡ last_from None v.mine → last_of last r ≡ last_from None w.mine
+    → Took drawn v x u → (p : Put drawn made u y w) → p.0.call.reply ≡ r → last ≡ last_from None v.mine → last_of last r ≡ last_from None w.mine
 last_after drawn made r v u w x y last t p is before =
     ap (λ (n : Option ℕ). last_of n r) (before ∙ ap (λ k. last_from None k.mine) (sym t.after)) ∙ ap (last_of (last_from None u.mine)) (sym is) ∙ sym (last_from-push None u.mine p.0.call)
     ∙ ap (λ k. last_from None k.mine) (sym p.1)
@@ -211,7 +212,7 @@ poll_memory (Ok b) P h kind e = absurd (poll_not e)
     poll_not e = absurd (cc)
 poll_memory (Err x) P h kind e = subst P (fault_of (error_kind x) kind e) h
 
-pub flags_memory : (r : Result (Option KeyboardEnhancementFlags × ℕ) Error) (q : Replied) (P : ErrorKind → Type 0) → flags_said r ≡ shown q → IfErr r (λ e. P (error_kind e)) → (kind : ErrorKind) → q ≡ Fault kind → P kind
+pub flags_memory : (r : Result (Taken (Option KeyboardEnhancementFlags)) Error) (q : Replied) (P : ErrorKind → Type 0) → flags_said r ≡ shown q → IfErr r (λ e. P (error_kind e)) → (kind : ErrorKind) → q ≡ Fault kind → P kind
 flags_memory (Ok x) q P s h kind e = absurd (came_not (s ∙ ap shown e))
   where
     came_not : {x : Option Seen} → Came x ≡ Faulted kind → ⊥
@@ -222,23 +223,23 @@ flags_memory (Err x) q P s h kind e = subst P (faulted (error_kind x) kind (s �
     faulted k l e = cc
 
 -- What a read's number says, and its memory.
-pub last_read : {A : Type 0} (n : Option ℕ) (r : Result (InternalEvent A × ℕ) Error) → last_of n (read_reply r) ≡ last_said n r
+pub last_read : {A : Type 0} (n : Option ℕ) (r : Result (Taken (InternalEvent A)) Error) → last_of n (read_reply r) ≡ last_said n r
 last_read n (Ok x) = refl
 last_read n (Err e) = refl
 
-pub read_memory : {A : Type 0} (r : Result (InternalEvent A × ℕ) Error) (P : ErrorKind → Type 0) → IfErr r (λ e. P (error_kind e)) → (kind : ErrorKind) → read_reply r ≡ Fault kind → P kind
+pub read_memory : {A : Type 0} (r : Result (Taken (InternalEvent A)) Error) (P : ErrorKind → Type 0) → IfErr r (λ e. P (error_kind e)) → (kind : ErrorKind) → read_reply r ≡ Fault kind → P kind
 read_memory (Ok x) P h kind e = absurd (take_not e)
   where
     take_not : {x : Option (Seen × ℕ)} → ToTake x ≡ Fault kind → ⊥
     take_not e = absurd (cc)
 read_memory (Err x) P h kind e = subst P (fault_of (error_kind x) kind e) h
 
-pub last_try : {A : Type 0} (n : Option ℕ) (r : Result (Option (InternalEvent A × ℕ)) Error) → last_of n (try_reply r) ≡ last_tried n r
+pub last_try : {A : Type 0} (n : Option ℕ) (r : Result (Option (Taken (InternalEvent A))) Error) → last_of n (try_reply r) ≡ last_tried n r
 last_try n (Ok (Some x)) = refl
 last_try n (Ok None) = refl
 last_try n (Err e) = refl
 
-pub try_memory : {A : Type 0} (r : Result (Option (InternalEvent A × ℕ)) Error) (P : ErrorKind → Type 0) → IfErr r (λ e. P (error_kind e)) → (kind : ErrorKind) → try_reply r ≡ Fault kind → P kind
+pub try_memory : {A : Type 0} (r : Result (Option (Taken (InternalEvent A))) Error) (P : ErrorKind → Type 0) → IfErr r (λ e. P (error_kind e)) → (kind : ErrorKind) → try_reply r ≡ Fault kind → P kind
 try_memory (Ok x) P h kind e = absurd (take_not e)
   where
     take_not : {x : Option (Seen × ℕ)} → ToTake x ≡ Fault kind → ⊥
@@ -246,8 +247,8 @@ try_memory (Ok x) P h kind e = absurd (take_not e)
 try_memory (Err x) P h kind e = subst P (fault_of (error_kind x) kind e) h
 
 -- What holds of a read's event with its number holds of it without.
-pub read_kept : {A : Type 0} (P : Seen → Type 0) (taken : Result (InternalEvent A × ℕ) Error) (r : Result (InternalEvent A) Error) → read_said r ≡ shown (read_reply taken) → IfOk taken (λ x. P (seen x.0)) → IfOk r (λ e. P (seen e))
-read_kept P (Ok x) (Ok y) e h = subst P (seen_of (seen x.0) (seen y) (sym e)) h
+pub read_kept : {A : Type 0} (P : Seen → Type 0) (taken : Result (Taken (InternalEvent A)) Error) (r : Result (InternalEvent A) Error) → read_said r ≡ shown (read_reply taken) → IfOk taken (λ x. P (seen x.event)) → IfOk r (λ e. P (seen e))
+read_kept P (Ok x) (Ok y) e h = subst P (seen_of (seen x.event) (seen y) (sym e)) h
   where
     seen_of : (a b : Seen) → Came (Some a) ≡ Came (Some b) → a ≡ b
     seen_of a b e = cc

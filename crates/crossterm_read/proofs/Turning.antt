@@ -1,5 +1,5 @@
 -- One answer of a source.
-use Rattle.std.proofs.Common.{◌≡◌, ◌≢◌, ◌≤◌, ◌-◌, ◌+◌, ◌==◌, ℕ, zero, suc, Bool, false, List, [], ◌∷◌, ◌++◌, length, take, drop, refl, ap, sym, subst, ◌∙◌, arith, length-drop, ◌<◌}
+use Rattle.std.proofs.Common.{◌≡◌, ◌≢◌, ◌≤◌, ◌-◌, ◌+◌, ◌==◌, nat_lt, inl, inr, ℕ, zero, suc, Bool, false, List, [], ◌∷◌, ◌++◌, length, take, drop, refl, ap, sym, subst, ◌∙◌, arith, length-drop, ◌<◌}
 use Rattle.std.specs.List.{filter_map}
 use Rattle.crossterm_parse.specs.declared.marked.Marked.{Marked}
 use Rattle.crossterm_parse.specs.Marked.{marked}
@@ -11,7 +11,9 @@ use Rattle.crossterm_parse.specs.View.{ParserView, RepresentsSame, AdvancesOver,
 use Rattle.crossterm_read.specs.Answers.{SourceAnswer, Gave, Failed}
 use Rattle.std.specs.declared.io.ErrorKind.TheVariants.{OutOfMemory}
 use Rattle.std.proofs.Math.Seq.{drop-nil}
-use Rattle.std.proofs.lemmas.List.{drop_all, drop-take, length-take-le}
+use Rattle.std.proofs.lemmas.Bool.{cases_Bool}
+use Rattle.std.proofs.lemmas.Bool.Decides.{nat_tests}
+use Rattle.std.proofs.lemmas.List.{append_cancel_left, drop_all, drop-take, length-take-le, take-append-drop}
 use Rattle.crossterm_parse.proofs.ViewLaws.{length-marked}
 use Rattle.crossterm_read.specs.Device.{DeviceAnswer, Bytes, marked_bytes}
 use Rattle.crossterm_read.specs.Outcomes.{IsAnsweredBy}
@@ -88,13 +90,26 @@ gives_none w new left x after h i e = subst
 taken_whole : (n : ℕ) (rest : List ℕ) (more raw : Bool) → n ≡ length rest → marked (drop n rest) more raw ≡ []
 taken_whole n rest more raw h = ap (λ (l : List ℕ). marked l more raw) (drop_all n rest (omega arith))
 
+-- what is left behind a front
+marked_rest : (n : ℕ) (rest : List ℕ) (more raw : Bool) → n ≤ length rest → drop n (marked rest more raw) ≡ marked (drop n rest) more raw
+marked_rest n rest more raw h =
+    let ms = marked rest more raw in
+    append_cancel_left (take n ms) (drop n ms) (marked (drop n rest) more raw) (take-append-drop n ms ∙ marked_split n rest more raw h)
+
+not_whole : (n : ℕ) (rest : List ℕ) (more raw : Bool) (left : List Marked) → n ≤ length rest → left ≡ marked (drop n rest) more raw → left ≢ [] → n < length rest
+not_whole n rest more raw left h v some = elim (cases_Bool (nat_lt n (length rest))) [
+  | inl less ↦ grind (arith, nat_tests)
+  | inr not_less ↦ let whole : n ≡ length rest = grind (arith, nat_tests) in absurd (some (v ∙ taken_whole n rest more raw whole))
+]
+
 -- a front was taken, and then the first event given
 pub hands_next : {D : Type 0} (i s : Source D) (m new : ParserView) (left : List Marked) (d : D) (n : ℕ) (rest : List ℕ) (more raw : Bool) (x : SourceAnswer) → i ≡ s
     → s.parser.waiting ≡ [] → i.untaken ≡ marked rest more raw → n ≤ length rest → left ≡ marked (drop n rest) more raw
-    → AdvancesOver i.parser m (take n (marked rest more raw)) → (EndsNoEvent i.parser (marked rest more raw) → n ≡ length rest) → RepresentsSame m new
+    → AdvancesOver i.parser m (take n (marked rest more raw)) → (EndsNoEvent i.parser (marked rest more raw) → n ≡ length rest)
+    → (n < length rest → ¬ EndsNoEvent m (take 1 (drop n (marked rest more raw)))) → RepresentsSame m new
     → ((after : List Marked) → GivesFirst m.waiting (record { waiting = m.waiting; untaken = left; undecided = after }) x (record { waiting = new.waiting; untaken = left; undecided = after }))
     → Hands s x (record { parser = new; untaken = left; device = d })
-hands_next {D} i s m new left d n rest more raw x e w u h v a whole st gives =
+hands_next {D} i s m new left d n rest more raw x e w u h v a whole ends st gives =
     let done : Hands i x (record { parser = new; untaken = left; device = d }) = λ before represents undecided.
     let adv = a before represents undecided in (
       adv.rest,
@@ -108,6 +123,16 @@ hands_next {D} i s m new left d n rest more raw x e w u h v a whole st gives =
         division = adv.division;
         waiting = adv.given ∙ ap (λ (l : List Seen). l ++ filter_map meaning_of adv.parts) (ap (λ (y : Source D). y.parser.waiting) e ∙ w);
         quiet = λ q. v ∙ taken_whole n rest more raw (whole (before, q.0, q.1, represents, undecided, subst (λ (l : List Marked). Divides Whole (before ++ l) q.0 q.1) u q.2, q.3, q.4));
+        left = λ some q. ends (not_whole n rest more raw left h v some) (
+          adv.rest,
+          q.0,
+          q.1,
+          adv.represents,
+          adv.division.undecided,
+          subst (λ (l : List Marked). Divides Whole (adv.rest ++ take 1 l) q.0 q.1) (v ∙ sym (marked_rest n rest more raw h)) q.2,
+          q.3,
+          q.4,
+        );
       },
       gives adv.rest,
     ) in

@@ -14,7 +14,9 @@ use Rattle.crossterm_read.specs.Answers.{SourceAnswer, IsSteady}
 use Rattle.crossterm_read.specs.Device.{AsksEach, AsksWith, IsAtOnce}
 use Rattle.crossterm_read.specs.declared.read.reader.AtWake.TheVariants.{GoesOn}
 use Rattle.crossterm_read.specs.Replies.{ToTake, Fault}
-use Rattle.crossterm_read.specs.Store.{ReaderState, kept}
+use Rattle.crossterm_read.specs.declared.read.held.Taken.{Taken}
+use Rattle.crossterm_read.specs.Store.{ReaderState}
+use Rattle.crossterm_read.specs.inside.Replies.{kept}
 use Rattle.crossterm_read.specs.Steps.{Within, Asks, Ready, Broke, ReadStep, RefusedOnlyWithoutRoom}
 use Rattle.crossterm_read.specs.inside.Asking.{Asked, AsksInTime, held_with}
 use Rattle.crossterm_read.specs.Waiting.{AsksLeft, OnlyLastIsAtOnce, WasLeft}
@@ -115,7 +117,7 @@ module _ {S : Type 0} (A : Type 0) (drawn : S → List SourceAnswer → S → Ty
   pub waited_some : Asked {A = A} drawn failed GoesOn f (Within limit past) s t (Ok None) → ⊥
   waited_some a = unlimited a.3.2.passed
 
-  pub waited_read : (taken : InternalEvent A × ℕ) → Asked drawn failed GoesOn f (Within limit past) s t (Ok (Some taken))
+  pub waited_read : (taken : Taken (InternalEvent A)) → Asked drawn failed GoesOn f (Within limit past) s t (Ok (Some taken))
       → (past : ℕ) × (zs : List SourceAnswer) × drawn s.source zs t.source × ReadStep (Within None past) f zs s.store t.store (ToTake (Some (kept taken))) × Unit {0} × IsSteady failed s.source zs t.source
   waited_read taken a = (past, a.0, a.1, (Ready, held_with t.store (kept taken), subst (λ (o : Option Duration). Asks GoesOn f (Within o past) s.store.held a.0 Ready) none a.3, a.2, (Some (kept taken), a.6, refl)), tt, a.5)
 

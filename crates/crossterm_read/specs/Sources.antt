@@ -1,5 +1,5 @@
 -- What a source answers, turn by turn, by what its device answers.
-use Rattle.std.specs.Prelude.{◌≡◌, ◌≢◌, ℕ, Bool, false, List, [], ◌∷◌, ◌++◌, refl}
+use Rattle.std.specs.Prelude.{◌≡◌, ◌≢◌, ℕ, Bool, false, List, [], ◌∷◌, ◌++◌, take, refl}
 use Rattle.std.specs.List.{filter_map}
 use Rattle.std.specs.declared.io.ErrorKind.TheVariants.{OutOfMemory}
 use Rattle.std.proofs.Common.{subst, sym, ap, ◌∙◌, append_assoc}
@@ -25,7 +25,8 @@ abbrev pub EndNoEvent : List Marked → List Marked → Type 0
 EndNoEvent undecided bytes = (parts : List (List Marked)) × (rest : List Marked) × Divides Whole (undecided ++ bytes) parts rest
     × (filter_map meaning_of parts ≡ []) × (begins paste_start (bytes_of rest) ≡ false)
 
--- Of some bytes the parser takes a front, where it represented undecided ones. Those that end no event it takes whole.
+-- Of some bytes the parser takes a front, where it represented undecided ones. Those that end no event it takes whole, and the first one that
+-- is left ends an event, or is of a paste.
 pub record Takes (undecided bytes : List Marked) (mid : At) : Type 0 where
   pub taken : List Marked
   pub parts : List (List Marked)
@@ -33,6 +34,7 @@ pub record Takes (undecided bytes : List Marked) (mid : At) : Type 0 where
   pub division : Divides Whole (undecided ++ taken) parts mid.undecided
   pub waiting : mid.waiting ≡ filter_map meaning_of parts
   pub quiet : EndNoEvent undecided bytes → mid.untaken ≡ []
+  pub left : mid.untaken ≢ [] → ¬ EndNoEvent mid.undecided (take 1 mid.untaken)
 
 -- What is answered where no event came: nothing where all bytes were taken, and else that memory was refused.
 abbrev pub without_event : List Marked → SourceAnswer

@@ -1,7 +1,6 @@
 -- A reader as its callers see it.
 use Rattle.std.specs.Prelude.{◌≡◌, ℕ, ◌+◌, ◌-◌, ◌^◌, min, List, [], ◌∷◌, ◌++◌, length, ◌<◌}
-use Rattle.crossterm_types.specs.Seen.{Seen, seen}
-use Rattle.crossterm_types.specs.declared.event.InternalEvent.{InternalEvent}
+use Rattle.crossterm_types.specs.Seen.{Seen}
 use Rattle.crossterm_read.specs.Answers.{SourceAnswer, Gave, Nothing, Failed}
 
 -- The held events, each with its arrival number, and the number of the next one. An arrival number tells how many events arrived before.
@@ -23,10 +22,6 @@ pub record ReaderState (S : Type 0) : Type 0 where
 -- How many events it holds at most without memory: those that it holds, and those for which it has room.
 abbrev pub capacity : {S : Type 0} → ReaderState S → ℕ
 capacity s = length s.store.held + s.room
-
--- A held event as a clause sees it.
-abbrev pub kept : {A : Type 0} → InternalEvent A × ℕ → Seen × ℕ
-kept h = (seen h.0, h.1)
 
 -- The number after one. Numbers rise to the greatest u64 and stay there.
 abbrev pub next_number : ℕ → ℕ

@@ -38,8 +38,8 @@
 //! | `Waking` | 30 | which wakers are alike | `Waker`, `Device::waker` |
 //! | `Answers` | 41 | what a source answers | `EventSource::try_read` |
 //! | `Outcomes` | 102 | what comes of a device's answers, and the events that happen | `laws::one_happening` |
-//! | `Sources` | 106 | what a source answers, turn by turn | `DeviceSource` |
-//! | `Store` | 56 | what a reader holds | `InternalEventReader::{new, held}` |
+//! | `Sources` | 108 | what a source answers, turn by turn | `DeviceSource` |
+//! | `Store` | 51 | what a reader holds | `InternalEventReader::{new, held}` |
 //! | `Replies` | 71 | what a call replies | |
 //! | `Steps` | 105 | what a poll, a read and a take do | `InternalEventReader::{poll_within, read_within, take}` |
 //! | `Queries` | 45 | what a query does | `InternalEventReader::{position_within, keyboard_within}` |

@@ -203,6 +203,7 @@ impl<D: Device, A: Allocator + Clone> EventSource<A> for DeviceSource<D, A> {
 
     ghost drawn_on = { source_on D.answering.answered D.answering.on };
 
+    #[inline(always)]
     fn try_read(&mut self, limit: Option<Duration>) -> io::Result<Option<InternalEvent<A>>> {
         if let Some(event) = self.parser.next() {
             return Ok(Some(event));

@@ -11,7 +11,9 @@ use Rattle.crossterm_read.specs.declared.read.reader.AtWake.{AtWake}
 use Rattle.crossterm_read.specs.declared.read.reader.AtWake.TheVariants.{GoesOn}
 use Rattle.crossterm_read.specs.declared.read.reader.Once.{Once}
 use Rattle.crossterm_read.specs.declared.read.reader.Once.TheVariants as once
-use Rattle.crossterm_read.specs.Store.{EventStore, ReaderState, Arrives, kept}
+use Rattle.crossterm_read.specs.declared.read.held.Taken.{Taken}
+use Rattle.crossterm_read.specs.Store.{EventStore, ReaderState, Arrives}
+use Rattle.crossterm_read.specs.inside.Replies.{kept}
 use Rattle.crossterm_read.specs.Steps.{Patience, End, Ready, Tried, Broke, Passes, Asks, RefusedOnlyWithoutRoom, TakeReplies}
 use Rattle.std.specs.Duration.{as_nanos}
 use Rattle.std.specs.Option.{option_map}
@@ -27,19 +29,19 @@ held_with s x = record s { held = s.held ++ x ∷ [] }
 
 module _ {A : Type 0} where
   -- how asking ended that gives an event, nothing, or a fault
-  abbrev pub end_of : Result (Option (InternalEvent A × ℕ)) Error → End
+  abbrev pub end_of : Result (Option (Taken (InternalEvent A))) Error → End
   end_of (Ok (Some taken)) = Ready
   end_of (Ok None) = Tried
   end_of (Err e) = Broke (error_kind e)
 
   -- what is held with the event that is given
-  abbrev pub all_of : EventStore → Result (Option (InternalEvent A × ℕ)) Error → EventStore
+  abbrev pub all_of : EventStore → Result (Option (Taken (InternalEvent A))) Error → EventStore
   all_of t (Ok (Some taken)) = held_with t (kept taken)
   all_of t (Ok None) = t
   all_of t (Err e) = t
 
   -- An event that is given would be the first one admitted, if it was held.
-  abbrev pub GivesFirst : (Seen → Bool) → EventStore → Result (Option (InternalEvent A × ℕ)) Error → Type 0
+  abbrev pub GivesFirst : (Seen → Bool) → EventStore → Result (Option (Taken (InternalEvent A))) Error → Type 0
   GivesFirst f t (Ok (Some taken)) = TakeReplies f (held_with t (kept taken)) t (Some (kept taken))
   GivesFirst f t (Ok None) = Unit {0}
   GivesFirst f t (Err e) = Unit {0}
@@ -51,11 +53,11 @@ BrokeWhere Tried P = Unit {0}
 BrokeWhere (Broke kind) P = P kind
 
 -- There is room for an event that is given, and its number is above those of all others.
-abbrev pub HasPlace : {S A : Type 0} → ReaderState S → InternalEvent A × ℕ → Type 0
+abbrev pub HasPlace : {S A : Type 0} → ReaderState S → Taken (InternalEvent A) → Type 0
 HasPlace t taken = (0 < t.room) × IsOrderly (t.store.held ++ kept taken ∷ []) t.store.arrivals
 
 -- Some answers were drawn, and asking gave this: the first admitted event, which isn't held then, or none.
-abbrev pub Asked : {S A : Type 0} → (S → List SourceAnswer → S → Type 0) → (S → ℕ) → AtWake → (Seen → Bool) → Patience → ReaderState S → ReaderState S → Result (Option (InternalEvent A × ℕ)) Error → Type 0
+abbrev pub Asked : {S A : Type 0} → (S → List SourceAnswer → S → Type 0) → (S → ℕ) → AtWake → (Seen → Bool) → Patience → ReaderState S → ReaderState S → Result (Option (Taken (InternalEvent A))) Error → Type 0
 Asked drawn failed wake f patience s t result = (zs : List SourceAnswer) × drawn s.source zs t.source × Arrives s.store zs (all_of t.store result) × Asks wake f patience s.store.held zs (end_of result)
     × BrokeWhere (end_of result) (RefusedOnlyWithoutRoom s.room zs) × IsSteady failed s.source zs t.source × GivesFirst f t.store result
 
@@ -63,7 +65,7 @@ Asked drawn failed wake f patience s t result = (zs : List SourceAnswer) × draw
 abbrev pub DrawsOne : {S A : Type 0} → (S → List SourceAnswer → S → Type 0) → (S → ℕ) → AtWake → (Seen → Bool) → ReaderState S → ReaderState S → Once A → Type 0
 DrawsOne drawn failed wake f s t once.Refused = t ≡ s
 DrawsOne drawn failed wake f s t (once.Broke e) = drawn s.source (Failed (error_kind e) ∷ []) t.source × Arrives s.store (Failed (error_kind e) ∷ []) t.store × (wake ≡ GoesOn → error_kind e ≢ Interrupted)
-DrawsOne drawn failed wake f s t (once.Came taken) = drawn s.source (Gave (seen taken.0) ∷ []) t.source × Arrives s.store (Gave (seen taken.0) ∷ []) (held_with t.store (kept taken)) × (f (seen taken.0) ≡ true)
+DrawsOne drawn failed wake f s t (once.Came taken) = drawn s.source (Gave (seen taken.event) ∷ []) t.source × Arrives s.store (Gave (seen taken.event) ∷ []) (held_with t.store (kept taken)) × (f (seen taken.event) ≡ true)
     × (failed t.source ≡ failed s.source) × (t.store.held ≡ s.store.held) × HasPlace t taken
 DrawsOne drawn failed wake f s t once.Nothing = (z : SourceAnswer) × drawn s.source (z ∷ []) t.source × Arrives s.store (z ∷ []) t.store × Passes wake f z × (IsNoFault z → failed t.source ≡ failed s.source)
 

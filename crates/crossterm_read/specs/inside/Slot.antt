@@ -80,7 +80,7 @@ module _ {S : Type 0} (drawn : S → List SourceAnswer → S → Type 0) where
   Kept items views = ((items ≡ []) × (views ≡ newcomer ∷ [])) ⊎ Open items views
 
   -- What a take tells: the pass has seen the history whole, and has the reader as that left it.
-  pub record Taken (v : Known S) (x : ReaderState S) (w : Known S) : Type 0 where
+  pub record Took (v : Known S) (x : ReaderState S) (w : Known S) : Type 0 where
     pub opening : ReaderState S
     pub between : List Entry
     pub opened : v.opening ≡ Some opening

@@ -5,7 +5,8 @@ ghost use Rattle.std.specs.Option.{option_map};
 ghost use Rattle.crossterm_types.specs.Seen.{Seen, seen};
 ghost use Rattle.crossterm_read.specs.inside.Asking.{held_with};
 ghost use Rattle.crossterm_read.specs.inside.Queues.{AreJoined, AreKept, behind, joined, member_kept, queues_of};
-ghost use Rattle.crossterm_read.specs.Store.{Holding, kept, next_number};
+ghost use Rattle.crossterm_read.specs.inside.Replies.{kept};
+ghost use Rattle.crossterm_read.specs.Store.{Holding, next_number};
 ghost use Rattle.crossterm_read.specs.Steps.{TakeReplies, first_admitted};
 
 mod kind;
@@ -50,6 +51,13 @@ impl<'a, A: Allocator> Iterator for Held<'a, A> {
             None => None,
         }
     }
+}
+
+// What was taken, an event or what a reply reports, and its arrival number.
+#[derive(Drop)]
+pub(crate) struct Taken<E> {
+    pub(crate) event: E,
+    pub(crate) number: u64,
 }
 
 // The held events, each with its arrival number, in queues by kind, and the arrival number of the next one.
@@ -128,18 +136,17 @@ impl<A: Allocator> HeldEvents<A> {
     }
 
     // The event joins the others at their end, with its number. It takes room that is there.
-    pub(crate) fn push_reserved(&mut self, taken: (InternalEvent<A>, u64))
+    pub(crate) fn push_reserved(&mut self, taken: Taken<InternalEvent<A>>)
         requires { 0 < self.old.room }
         ensures store { self.new.store ≡ held_with self.old.store (kept taken) }
         ensures room { self.new.room + 1 ≡ self.old.room }
     {
-        let (event, arrival) = taken;
         match &mut self.queues {
             Some(queues) => {
                 let order = queues.order_from(self.next_order);
                 queues.push_reserved(Member {
-                    event,
-                    arrival,
+                    event: taken.event,
+                    arrival: taken.number,
                     order,
                 });
                 self.next_order = order + 1;
@@ -182,18 +189,31 @@ impl<A: Allocator> HeldEvents<A> {
     }
 
     // Takes the first event that is admitted, with its number. Its room stays.
-    pub(crate) fn take<F: Filter>(&mut self, filter: &F) -> Option<(InternalEvent<A>, u64)>
+    #[inline(always)]
+    pub(crate) fn take<F: Filter>(&mut self, filter: &F) -> Option<Taken<InternalEvent<A>>>
         ensures step { TakeReplies (F.admits filter.now) self.old.store self.new.store (option_map kept result) }
         ensures room { length self.new.store.held + self.new.room ≡ length self.old.store.held + self.old.room }
     {
         if self.is_empty() {
             return None;
         }
+        self.take_any(filter)
+    }
+
+    // The same, without a faster way if none is held.
+    #[inline(never)]
+    fn take_any<F: Filter>(&mut self, filter: &F) -> Option<Taken<InternalEvent<A>>>
+        ensures step { TakeReplies (F.admits filter.now) self.old.store self.new.store (option_map kept result) }
+        ensures room { length self.new.store.held + self.new.room ≡ length self.old.store.held + self.old.room }
+    {
         match &mut self.queues {
             Some(queues) => match queues.take(filter) {
                 Some(member) => {
                     self.len -= 1;
-                    Some((member.event, member.arrival))
+                    Some(Taken {
+                        event: member.event,
+                        number: member.arrival,
+                    })
                 }
                 None => None,
             },

@@ -12,13 +12,14 @@ ghost use Rattle.crossterm_read.specs.Device.{AsksAtOnce};
 ghost use Rattle.crossterm_read.specs.History.{last_of};
 ghost use Rattle.crossterm_read.specs.Queries.{KeyboardStep, LeftReplies, QueryReplies, QueryStep};
 ghost use Rattle.crossterm_read.specs.Replies.{Replied, ToQuery, flags_seen, keyboard_said, poll_reply, position_said, shown};
-ghost use Rattle.crossterm_read.specs.inside.Replies.{flags_said, last_said, read_reply};
-ghost use Rattle.crossterm_read.specs.Store.{capacity, kept};
+ghost use Rattle.crossterm_read.specs.inside.Replies.{flags_said, kept, last_said, read_reply};
+ghost use Rattle.crossterm_read.specs.Store.{capacity};
 ghost use Rattle.crossterm_read.specs.Steps.{UpTo, Within, RefusedOnlyWithoutRoom, first_admitted};
 ghost use Rattle.crossterm_read.specs.Waiting.{AsksLeft, AsksWithin};
 ghost use Rattle.std.specs.declared.time.Duration.{Duration};
 
 use crate::read::InternalEventReader;
+use crate::read::held::Taken;
 use crate::source::EventSource;
 use crossterm_types::event::filter::{
     CursorPositionFilter, Filter, KeyboardEnhancementFlagsFilter, PrimaryDeviceAttributesFilter,
@@ -54,11 +55,11 @@ fn flags_of<A: Allocator>(event: &InternalEvent<A>) -> Option<KeyboardEnhancemen
 }
 
 // The number of what was taken, or else of what was taken before.
-fn number_of<A: Allocator>(taken: &Option<(InternalEvent<A>, u64)>, before: u64) -> u64
+fn number_of<A: Allocator>(taken: &Option<Taken<InternalEvent<A>>>, before: u64) -> u64
     ensures { (x : Seen) → last_of None (ToQuery (x, before) (option_map kept taken.now)) ≡ Some result }
 {
     match taken {
-        Some((_event, number)) => *number,
+        Some(taken) => taken.number,
         None => before,
     }
 }
@@ -69,12 +70,12 @@ impl<S: EventSource<A>, A: Allocator + Clone> InternalEventReader<S, A> {
         &mut self,
         ready: io::Result<bool>,
         filter: &F,
-    ) -> io::Result<(InternalEvent<A>, u64)>
+    ) -> io::Result<Taken<InternalEvent<A>>>
         requires { poll_reply ready ≡ Ok true → first_admitted (F.admits filter.now) self.old.store.held ≢ None }
         ensures delivers { QueryReplies (F.admits filter.now) (poll_reply ready) self.old.store self.new.store (read_reply result) }
         ensures room { capacity self.new ≡ capacity self.old }
         ensures source { self.new.source ≡ self.old.source }
-        ensures admitted { IfOk result (λ x. F.admits filter.now (seen x.0) ≡ true) }
+        ensures admitted { IfOk result (λ x. F.admits filter.now (seen x.event) ≡ true) }
         ensures fault { IfErr result (λ e. (error_kind e ≡ Other) ⊎ (poll_reply ready ≡ Err (error_kind e))) }
     {
         match ready {
@@ -96,14 +97,14 @@ impl<S: EventSource<A>, A: Allocator + Clone> InternalEventReader<S, A> {
         &mut self,
         tries: u32,
         filter: &F,
-    ) -> io::Result<(InternalEvent<A>, u64)>
+    ) -> io::Result<Taken<InternalEvent<A>>>
         ensures step { (zs : List SourceAnswer) × S.drawn self.old.source zs self.new.source
             × QueryStep (F.admits filter.now) (UpTo tries) zs self.old.store self.new.store (read_reply result)
             × IfErr result (λ e. RefusedOnlyWithoutRoom self.old.room zs (error_kind e)) }
         ensures at_once { AsksAtOnce (S.asked self.old.source) (S.asked self.new.source) }
         ensures room { capacity self.old ≤ capacity self.new }
         ensures rise { S.failed self.old.source ≤ S.failed self.new.source }
-        ensures admitted { IfOk result (λ x. F.admits filter.now (seen x.0) ≡ true) }
+        ensures admitted { IfOk result (λ x. F.admits filter.now (seen x.event) ≡ true) }
         ensures err { IfErr result (λ e. (error_kind e ≡ Other) ⊎ IsOwn (error_kind e) ⊎ (S.failed self.old.source < S.failed self.new.source)) }
     {
         let ready = self.poll_within(tries, filter);
@@ -117,7 +118,7 @@ impl<S: EventSource<A>, A: Allocator + Clone> InternalEventReader<S, A> {
         timeout: PollTimeout,
         clock: &mut C,
         filter: &F,
-    ) -> io::Result<(InternalEvent<A>, u64)>
+    ) -> io::Result<Taken<InternalEvent<A>>>
         requires { as_nanos timeout.start ≤ C.told clock.old }
         ensures step { (zs : List SourceAnswer) × S.drawn self.old.source zs self.new.source
             × QueryStep (F.admits filter.now) (Within timeout.limit (C.told clock.new - as_nanos timeout.start)) zs self.old.store self.new.store (read_reply result)
@@ -126,7 +127,7 @@ impl<S: EventSource<A>, A: Allocator + Clone> InternalEventReader<S, A> {
         ensures later { C.told clock.old ≤ C.told clock.new }
         ensures first { KeepsFirst C.began clock.old clock.new }
         ensures room { capacity self.old ≤ capacity self.new }
-        ensures admitted { IfOk result (λ x. F.admits filter.now (seen x.0) ≡ true) }
+        ensures admitted { IfOk result (λ x. F.admits filter.now (seen x.event) ≡ true) }
     {
         let ready = self.poll_until(rt, timeout, clock, filter);
         self.reply_taken(ready, filter)
@@ -151,13 +152,13 @@ impl<S: EventSource<A>, A: Allocator + Clone> InternalEventReader<S, A> {
         ensures err { IfErr result (λ e. (error_kind e ≡ Other) ⊎ IsOwn (error_kind e) ⊎ (S.failed self.old.source < S.failed self.new.source)) }
     {
         match self.query_within(tries, &CursorPositionFilter) {
-            Ok((event, _number)) => Ok(place(&event)),
+            Ok(taken) => Ok(place(&taken.event)),
             Err(error) => Err(error),
         }
     }
 
     // Takes the attributes that came after the flags.
-    fn left_taken(&mut self, ready: io::Result<bool>) -> Option<(InternalEvent<A>, u64)>
+    fn left_taken(&mut self, ready: io::Result<bool>) -> Option<Taken<InternalEvent<A>>>
         requires { poll_reply ready ≡ Ok true → first_admitted is_attributes self.old.store.held ≢ None }
         ensures delivers { (x : Seen × ℕ) → LeftReplies (poll_reply ready) x self.old.store self.new.store (ToQuery x (option_map kept result)) }
         ensures room { capacity self.new ≡ capacity self.old }
@@ -194,7 +195,7 @@ impl<S: EventSource<A>, A: Allocator + Clone> InternalEventReader<S, A> {
         ensures err { IfErr result (λ e. (error_kind e ≡ Other) ⊎ IsOwn (error_kind e) ⊎ (S.failed self.old.source < S.failed self.new.source)) }
     {
         match self.query_within(tries, &KeyboardEnhancementFlagsFilter) {
-            Ok((event, _number)) => match flags_of(&event) {
+            Ok(taken) => match flags_of(&taken.event) {
                 Some(flags) => {
                     let ready = self.poll_within(tries, &PrimaryDeviceAttributesFilter);
                     let _left = self.left_taken(ready);
@@ -214,7 +215,7 @@ impl<S: EventSource<A>, A: Allocator + Clone> InternalEventReader<S, A> {
         timeout: PollTimeout,
         again: Duration,
         clock: &mut C,
-    ) -> io::Result<(Option<KeyboardEnhancementFlags>, u64)>
+    ) -> io::Result<Taken<Option<KeyboardEnhancementFlags>>>
         requires { as_nanos timeout.start ≤ C.told clock.old }
         ensures step { (now : ℕ) × (second : ℕ) × (C.told clock.old ≤ now) × (now ≤ second) × (second ≤ C.told clock.new)
             × (zs : List SourceAnswer) × (r : Replied) × S.drawn self.old.source zs self.new.source
@@ -227,13 +228,20 @@ impl<S: EventSource<A>, A: Allocator + Clone> InternalEventReader<S, A> {
         ensures room { capacity self.old ≤ capacity self.new }
     {
         match self.query_until(rt, timeout, clock, &KeyboardEnhancementFlagsFilter) {
-            Ok((event, number)) => match flags_of(&event) {
+            Ok(taken) => match flags_of(&taken.event) {
                 Some(flags) => {
                     let ready = self.poll(rt, Some(again), clock, &PrimaryDeviceAttributesFilter);
                     let left = self.left_taken(ready);
-                    Ok((Some(flags), number_of(&left, number)))
+                    let number = number_of(&left, taken.number);
+                    Ok(Taken {
+                        event: Some(flags),
+                        number,
+                    })
                 }
-                None => Ok((None, number)),
+                None => Ok(Taken {
+                    event: None,
+                    number: taken.number,
+                }),
             },
             Err(error) => Err(error),
         }

@@ -10,12 +10,12 @@ ghost use Rattle.crossterm_read.specs.Answers.{SourceAnswer, IsOwn, IsSteady};
 ghost use Rattle.crossterm_read.specs.Device.{AsksWith, AsksAtOnce};
 ghost use Rattle.crossterm_read.specs.inside.Numbers.{IsOrderly};
 ghost use Rattle.crossterm_read.specs.Replies.{Replied, poll_reply, shown, try_said};
-ghost use Rattle.crossterm_read.specs.inside.Replies.{try_reply};
-ghost use Rattle.crossterm_read.specs.Store.{ReaderState, capacity, kept};
+ghost use Rattle.crossterm_read.specs.inside.Replies.{kept, try_reply};
+ghost use Rattle.crossterm_read.specs.Store.{ReaderState, capacity};
 ghost use Rattle.crossterm_read.specs.Steps.{UpTo, PollStep, ReadStep, RefusedOnlyWithoutRoom, TakeReplies, first_admitted};
 ghost use Rattle.crossterm_read.specs.inside.Asking.{Asked, BreaksWhere, DrawsOne, HasPlace, IsRefused, held_with};
 
-use crate::read::held::{Held, HeldEvents};
+use crate::read::held::{Held, HeldEvents, Taken};
 use crate::source::{EventSource, Waker};
 use crossterm_types::event::InternalEvent;
 use crossterm_types::event::filter::Filter;
@@ -63,7 +63,7 @@ pub(crate) enum Once<A: Allocator> {
     Refused,
     Broke(io::Error),
     // An admitted event with its number, which isn't held.
-    Came((InternalEvent<A>, u64)),
+    Came(Taken<InternalEvent<A>>),
     // No event, or one that isn't admitted, which is held.
     Nothing,
 }
@@ -77,13 +77,14 @@ pub(crate) fn is_woken(error: &io::Error) -> bool
 }
 
 // The event without its number.
+#[inline(always)]
 pub(crate) fn unnumbered<A: Allocator>(
-    taken: Option<(InternalEvent<A>, u64)>,
+    taken: Option<Taken<InternalEvent<A>>>,
 ) -> Option<InternalEvent<A>>
     ensures { option_map seen result ≡ option_map (λ e. e.0) (option_map kept taken) }
 {
     match taken {
-        Some((event, _number)) => Some(event),
+        Some(taken) => Some(taken.event),
         None => None,
     }
 }
@@ -146,7 +147,8 @@ impl<S: EventSource<A>, A: Allocator> InternalEventReader<S, A> {
     }
 
     // Takes the first held event that the filter admits, with its number.
-    pub(crate) fn take_numbered<F: Filter>(&mut self, filter: &F) -> Option<(InternalEvent<A>, u64)>
+    #[inline(always)]
+    pub(crate) fn take_numbered<F: Filter>(&mut self, filter: &F) -> Option<Taken<InternalEvent<A>>>
         ensures step { TakeReplies (F.admits filter.now) self.old.store self.new.store (option_map kept result) }
         ensures room { capacity self.new ≡ capacity self.old }
         ensures source { self.new.source ≡ self.old.source }
@@ -155,7 +157,7 @@ impl<S: EventSource<A>, A: Allocator> InternalEventReader<S, A> {
     }
 
     // Holds an event that was given, behind all others.
-    pub(crate) fn hold(&mut self, given: (InternalEvent<A>, u64))
+    pub(crate) fn hold(&mut self, given: Taken<InternalEvent<A>>)
         requires { HasPlace self.old given }
         ensures store { self.new.store ≡ held_with self.old.store (kept given) }
         ensures room { capacity self.new ≡ capacity self.old }
@@ -174,6 +176,7 @@ impl<S: EventSource<A>, A: Allocator> InternalEventReader<S, A> {
 
 impl<S: EventSource<A>, A: Allocator + Clone> InternalEventReader<S, A> {
     // Makes room for an event, and asks the source once, with this limit. An event that isn't admitted is held.
+    #[inline(always)]
     pub(crate) fn draw<F: Filter>(
         &mut self,
         filter: &F,
@@ -194,7 +197,8 @@ impl<S: EventSource<A>, A: Allocator + Clone> InternalEventReader<S, A> {
         match self.source.try_read(limit) {
             Ok(Some(event)) => {
                 let admitted = filter.eval(&event);
-                let taken = (event, self.held.next_number());
+                let number = self.held.next_number();
+                let taken = Taken { event, number };
                 if admitted {
                     return Once::Came(taken);
                 }
@@ -217,12 +221,13 @@ impl<S: EventSource<A>, A: Allocator + Clone> InternalEventReader<S, A> {
     }
 
     // Asks the source until it gives an admitted event, while none is held.
+    #[inline(always)]
     fn ask<F: Filter>(
         &mut self,
         tries: u32,
         filter: &F,
         at_wake: AtWake,
-    ) -> io::Result<Option<(InternalEvent<A>, u64)>>
+    ) -> io::Result<Option<Taken<InternalEvent<A>>>>
         requires { first_admitted (F.admits filter.now) self.old.store.held ≡ None }
         ensures asked { Asked S.drawn S.failed at_wake (F.admits filter.now) (UpTo tries) self.old self.new result }
         ensures at_once { AsksAtOnce (S.asked self.old.source) (S.asked self.new.source) }
@@ -318,17 +323,18 @@ impl<S: EventSource<A>, A: Allocator + Clone> InternalEventReader<S, A> {
     }
 
     // Takes the first event that the filter admits, with its number.
+    #[inline(always)]
     pub(crate) fn read_within_numbered<F: Filter>(
         &mut self,
         tries: u32,
         filter: &F,
-    ) -> io::Result<Option<(InternalEvent<A>, u64)>>
+    ) -> io::Result<Option<Taken<InternalEvent<A>>>>
         ensures step { (zs : List SourceAnswer) × S.drawn self.old.source zs self.new.source
             × ReadStep (UpTo tries) (F.admits filter.now) zs self.old.store self.new.store (try_reply result)
             × IfErr result (λ e. RefusedOnlyWithoutRoom self.old.room zs (error_kind e))
             × IsSteady S.failed self.old.source zs self.new.source }
         ensures at_once { AsksAtOnce (S.asked self.old.source) (S.asked self.new.source) }
-        ensures admitted { IfOk result (λ taken. IfSome taken (λ x. F.admits filter.now (seen x.0) ≡ true)) }
+        ensures admitted { IfOk result (λ taken. IfSome taken (λ x. F.admits filter.now (seen x.event) ≡ true)) }
         ensures room { capacity self.old ≤ capacity self.new }
         ensures rise { S.failed self.old.source ≤ S.failed self.new.source }
         ensures err { IfErr result (λ e. IsOwn (error_kind e) ⊎ (S.failed self.old.source < S.failed self.new.source)) }

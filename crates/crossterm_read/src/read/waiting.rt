@@ -15,6 +15,7 @@ ghost use Rattle.crossterm_read.specs.declared.read.reader.AtWake.TheVariants.{G
 ghost use Rattle.crossterm_read.specs.Waiting.{AsksForever, AsksLeft, AsksWithin};
 
 use crate::read::InternalEventReader;
+use crate::read::held::Taken;
 use crate::read::reader::{AtWake, Once, is_woken};
 use crate::source::EventSource;
 use crossterm_types::event::InternalEvent;
@@ -27,6 +28,7 @@ use std::time::Duration;
 
 impl<S: EventSource<A>, A: Allocator + Clone> InternalEventReader<S, A> {
     // Asks the source once, with what is left of the limit now.
+    #[inline(always)]
     fn draw_in_time<F: Filter, C: Clock>(
         &mut self,
         timeout: &PollTimeout,
@@ -48,6 +50,7 @@ impl<S: EventSource<A>, A: Allocator + Clone> InternalEventReader<S, A> {
     }
 
     // Asks the source until it gives an admitted event, while none is held, or the limit has passed.
+    #[inline(always)]
     fn ask_in_time<F: Filter, C: Clock, R: Wait>(
         &mut self,
         rt: &R,
@@ -55,7 +58,7 @@ impl<S: EventSource<A>, A: Allocator + Clone> InternalEventReader<S, A> {
         clock: &mut C,
         filter: &F,
         at_wake: AtWake,
-    ) -> io::Result<Option<(InternalEvent<A>, u64)>>
+    ) -> io::Result<Option<Taken<InternalEvent<A>>>>
         requires time { as_nanos timeout.start ≤ C.told clock.old }
         requires none { first_admitted (F.admits filter.now) self.old.store.held ≡ None }
         ensures later { C.told clock.old ≤ C.told clock.new }
@@ -189,7 +192,7 @@ impl<S: EventSource<A>, A: Allocator + Clone> InternalEventReader<S, A> {
         ensures awake { IfErr result (λ e. error_kind e ≢ Interrupted) }
     {
         match self.read_numbered(rt, filter) {
-            Ok((event, _number)) => Ok(event),
+            Ok(taken) => Ok(taken.event),
             Err(error) => Err(error),
         }
     }
@@ -199,13 +202,13 @@ impl<S: EventSource<A>, A: Allocator + Clone> InternalEventReader<S, A> {
         &mut self,
         rt: &R,
         filter: &F,
-    ) -> io::Result<(InternalEvent<A>, u64)>
+    ) -> io::Result<Taken<InternalEvent<A>>>
         ensures step { (past : ℕ) × (zs : List SourceAnswer) × S.drawn self.old.source zs self.new.source
             × ReadStep (Within None past) (F.admits filter.now) zs self.old.store self.new.store (read_reply result)
             × IfErr result (λ e. RefusedOnlyWithoutRoom self.old.room zs (error_kind e))
             × IsSteady S.failed self.old.source zs self.new.source }
         ensures asked { AsksForever (S.asked self.old.source) (S.asked self.new.source) }
-        ensures admitted { IfOk result (λ x. F.admits filter.now (seen x.0) ≡ true) }
+        ensures admitted { IfOk result (λ x. F.admits filter.now (seen x.event) ≡ true) }
         ensures room { capacity self.old ≤ capacity self.new }
         ensures rise { S.failed self.old.source ≤ S.failed self.new.source }
         ensures err { IfErr result (λ e. IsOwn (error_kind e) ⊎ (S.failed self.old.source < S.failed self.new.source)) }

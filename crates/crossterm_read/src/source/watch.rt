@@ -25,6 +25,12 @@ pub(crate) struct Ready {
 }
 
 impl Ready {
+    const NOTHING: Ready = Ready {
+        woken: false,
+        sizes: false,
+        input: false,
+    };
+
     // Whether what has this token is ready.
     fn has(self, token: Token) -> bool {
         match token {
@@ -52,6 +58,8 @@ pub(crate) struct Watch {
     pub(crate) waker: Arc<mio::Waker>,
     // What the system can't watch, as a regular file, is ready always.
     always: Ready,
+    // What the system has said to be ready since it was asked.
+    said: Ready,
 }
 
 impl Watch {
@@ -60,16 +68,12 @@ impl Watch {
         let poll = Poll::new(rt)?;
         let waker = Arc::new(alloc, mio::Waker::new(poll.registry(), WAKER)?)?;
         let events = Events::with_capacity(alloc, 4)?;
-        let always = Ready {
-            woken: false,
-            sizes: false,
-            input: false,
-        };
         Ok(Watch {
             poll,
             events,
             waker,
-            always,
+            always: Ready::NOTHING,
+            said: Ready::NOTHING,
         })
     }
 
@@ -88,14 +92,16 @@ impl Watch {
         }
     }
 
-    /// Asks anew whether a descriptor is ready, also if the system has said so.
-    pub(crate) fn ask(&self, fd: RawFd, token: Token) -> io::Result<()> {
-        if self.always.has(token) {
+    /// Asks anew whether a descriptor is ready, if the system has said so. If it hasn't, it still will.
+    pub(crate) fn ask(&mut self, fd: RawFd, token: Token) -> io::Result<()> {
+        if !self.said.has(token) {
             return Ok(());
         }
         self.poll
             .registry()
-            .reregister(&mut SourceFd(&fd), token, Interest::READABLE)
+            .reregister(&mut SourceFd(&fd), token, Interest::READABLE)?;
+        self.said.set(token, false);
+        Ok(())
     }
 
     /// Watches a descriptor no longer.
@@ -103,6 +109,7 @@ impl Watch {
         // One that was never watched isn't now.
         let _ = self.poll.registry().deregister(&mut SourceFd(&fd));
         self.always.set(token, false);
+        self.said.set(token, false);
     }
 
     /// Waits until something is ready, and no longer than the limit.
@@ -114,10 +121,16 @@ impl Watch {
         } else {
             limit
         };
-        let Watch { poll, events, .. } = self;
+        let Watch {
+            poll,
+            events,
+            said,
+            ..
+        } = self;
         poll.poll(events, limit)?;
         for event in events.iter() {
             ready.set(event.token(), true);
+            said.set(event.token(), true);
         }
         Ok(ready)
     }

@@ -28,9 +28,9 @@ pub(super) fn time<C: Clock, A: Allocator + Clone, W: Write>(
     alloc: A,
     writer: &mut W,
 ) -> Result<(), Fault> {
-    let alone = time_key(clock, alloc.clone()?, Letters::new())?;
+    let alone = time_key(clock, alloc.clone()?, Letters::new(1))?;
     let system = SystemClock::new(clock);
-    let recorder = Recorder::new(alloc.clone()?, Letters::new(), io::sink(), system);
+    let recorder = Recorder::new(alloc.clone()?, Letters::new(1), io::sink(), system);
     let recorded = time_key(clock, alloc, recorder)?;
     print(
         writer,

@@ -1,4 +1,4 @@
-//! Keys that come alone, and are taken one after another in one way: for who counts instructions.
+//! Keys that are taken one after another in one way: for who counts instructions.
 ghost use Rattle.crossterm_read.specs.Shared.{IsPassOf};
 
 use crate::bench::input::print;
@@ -21,6 +21,8 @@ use std::thread::Threads;
 enum Way {
     /// By a read of one thread's reader.
     Read,
+    /// The same, if they come 1024 at once. Otherwise each comes alone.
+    Burst,
     /// By a poll of it, and a take.
     Poll,
     /// By a read of a shared reader.
@@ -32,8 +34,9 @@ enum Way {
 /// The reader of one thread.
 type Reader = InternalEventReader<DeviceSource<Letters>>;
 
-fn reader(alloc: Global) -> Reader {
-    InternalEventReader::new(alloc, DeviceSource::new(alloc, Letters::new()))
+/// A reader of letters that come so many at once.
+fn reader(alloc: Global, at_once: usize) -> Reader {
+    InternalEventReader::new(alloc, DeviceSource::new(alloc, Letters::new(at_once)))
 }
 
 /// Whether it is the key of a letter: so each key is looked at.
@@ -55,8 +58,8 @@ fn is_internal_letter(event: &Option<InternalEvent>) -> bool {
 }
 
 /// Takes so many keys, and returns how many of letters came.
-fn read(alloc: Global, count: u32) -> io::Result<u32> {
-    let mut reader = reader(alloc);
+fn read(alloc: Global, at_once: usize, count: u32) -> io::Result<u32> {
+    let mut reader = reader(alloc, at_once);
     let mut taken: u32 = 0;
     for _ in 0..count {
         let event = reader.read_within(1, &EventFilter)?;
@@ -69,7 +72,7 @@ fn read(alloc: Global, count: u32) -> io::Result<u32> {
 
 /// The same by a poll before each take.
 fn poll(alloc: Global, count: u32) -> io::Result<u32> {
-    let mut reader = reader(alloc);
+    let mut reader = reader(alloc, 1);
     let mut taken: u32 = 0;
     for _ in 0..count {
         if reader.poll_within(1, &EventFilter)? {
@@ -107,7 +110,7 @@ fn read_by<H: Wait>(
 }
 
 fn shared<H: Wait>(rt: &H, alloc: Global, count: u32) -> io::Result<u32> {
-    let (shared, mut passes) = EventReader::new(rt, alloc, reader(alloc), 1)?;
+    let (shared, mut passes) = EventReader::new(rt, alloc, reader(alloc, 1), 1)?;
     match passes.pop() {
         Some(pass) => read_by(rt, &shared, pass, count),
         None => Err(no_pass()),
@@ -119,7 +122,7 @@ fn streamed<H>(rt: H, alloc: Global, count: u32) -> io::Result<u32>
 where
     H: Threads + Wait + RandomSource + AllocGlobal + Copy + Send + Drop + 'static,
 {
-    let (shared, mut passes) = EventReader::new(&rt, alloc, reader(alloc), 2)?;
+    let (shared, mut passes) = EventReader::new(&rt, alloc, reader(alloc, 1), 2)?;
     let (Some(other), Some(pass)) = (passes.pop(), passes.pop()) else {
         return Err(no_pass());
     };
@@ -141,6 +144,7 @@ impl Way {
     fn named(name: &str) -> Option<Way> {
         match name {
             "read" => Some(Way::Read),
+            "burst" => Some(Way::Burst),
             "poll" => Some(Way::Poll),
             "shared" => Some(Way::Shared),
             "stream" => Some(Way::Stream),
@@ -173,7 +177,8 @@ impl Taking {
         H: Threads + Wait + RandomSource + AllocGlobal + Copy + Send + Drop + 'static,
     {
         match self.way {
-            Way::Read => read(alloc, self.keys),
+            Way::Read => read(alloc, 1, self.keys),
+            Way::Burst => read(alloc, 1024, self.keys),
             Way::Poll => poll(alloc, self.keys),
             Way::Shared => shared(&rt, alloc, self.keys),
             Way::Stream => streamed(rt, alloc, self.keys),

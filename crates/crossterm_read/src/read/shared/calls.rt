@@ -12,6 +12,7 @@ ghost use Rattle.crossterm_read.specs.inside.Replies.{last_said, read_reply};
 ghost use Rattle.crossterm_read.specs.Seats.{knows};
 ghost use Rattle.crossterm_read.specs.Shared.{IsPassOf};
 
+use crate::read::held::Taken;
 use crate::read::shared::pass::Pass;
 use crate::read::shared::reader::EventReader;
 use crate::source::EventSource;
@@ -25,24 +26,24 @@ use std::sync::Wait;
 use std::time::Duration;
 
 // The number of what was taken last, after one more call.
-pub(crate) fn last_after<T>(last: Option<u64>, taken: &io::Result<(T, u64)>) -> Option<u64>
+pub(crate) fn last_after<E>(last: Option<u64>, taken: &io::Result<Taken<E>>) -> Option<u64>
     ensures { result ≡ last_said last taken.now }
 {
     match taken {
-        Ok((_, number)) => Some(*number),
+        Ok(taken) => Some(taken.number),
         Err(_) => last,
     }
 }
 
 // The event without its number.
 fn unnumbered<A: Allocator>(
-    taken: io::Result<(InternalEvent<A>, u64)>,
+    taken: io::Result<Taken<InternalEvent<A>>>,
 ) -> io::Result<InternalEvent<A>>
     ensures reply { read_said result ≡ shown (read_reply taken) }
     ensures err { IfErr result (λ e. taken ≡ Err e) }
 {
     match taken {
-        Ok((event, _number)) => Ok(event),
+        Ok(taken) => Ok(taken.event),
         Err(error) => Err(error),
     }
 }

@@ -7,6 +7,7 @@ ghost use Rattle.crossterm_read.specs.inside.Replies.{flags_said};
 ghost use Rattle.crossterm_read.specs.Seats.{knows};
 ghost use Rattle.crossterm_read.specs.Shared.{IsPassOf};
 
+use crate::read::held::Taken;
 use crate::read::shared::calls::last_after;
 use crate::read::shared::pass::Pass;
 use crate::read::shared::reader::EventReader;
@@ -21,12 +22,12 @@ use std::time::Duration;
 
 // The flags that were taken.
 fn flagged(
-    taken: io::Result<(Option<KeyboardEnhancementFlags>, u64)>,
+    taken: io::Result<Taken<Option<KeyboardEnhancementFlags>>>,
 ) -> io::Result<Option<KeyboardEnhancementFlags>>
     ensures { keyboard_said result ≡ flags_said taken }
 {
     match taken {
-        Ok((flags, _number)) => Ok(flags),
+        Ok(taken) => Ok(taken.event),
         Err(error) => Err(error),
     }
 }

@@ -9,6 +9,7 @@ ghost use Rattle.crossterm_read.specs.inside.Replies.{read_reply};
 ghost use Rattle.crossterm_read.specs.Seats.{knows};
 ghost use Rattle.crossterm_read.specs.Shared.{IsPassOf};
 
+use crate::read::held::Taken;
 use crate::read::queries::place;
 use crate::read::shared::calls::last_after;
 use crate::read::shared::pass::Pass;
@@ -24,12 +25,12 @@ use std::sync::Wait;
 use std::time::Duration;
 
 // The place that was taken.
-fn placed<A: Allocator>(taken: io::Result<(InternalEvent<A>, u64)>) -> io::Result<(u16, u16)>
-    requires { IfOk taken (λ x. is_cursor_position (seen x.0) ≡ true) }
+fn placed<A: Allocator>(taken: io::Result<Taken<InternalEvent<A>>>) -> io::Result<(u16, u16)>
+    requires { IfOk taken (λ x. is_cursor_position (seen x.event) ≡ true) }
     ensures { position_said result ≡ shown (read_reply taken) }
 {
     match taken {
-        Ok((event, _number)) => Ok(place(&event)),
+        Ok(taken) => Ok(place(&taken.event)),
         Err(error) => Err(error),
     }
 }

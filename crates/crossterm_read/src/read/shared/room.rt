@@ -9,7 +9,7 @@ ghost use Rattle.crossterm_types.specs.Timing.{HasElapsed, KeepsFirst};
 ghost use Rattle.crossterm_read.specs.History.{opened};
 ghost use Rattle.crossterm_read.specs.Seats.{IsSeatOf, knows, number};
 ghost use Rattle.crossterm_read.specs.Store.{ReaderState};
-ghost use Rattle.crossterm_read.specs.inside.Slot.{Produces, Learnt, Put, Taken, first_of, one_less, one_more, taught};
+ghost use Rattle.crossterm_read.specs.inside.Slot.{Produces, Learnt, Put, Took, first_of, one_less, one_more, taught};
 
 use crate::read::InternalEventReader;
 use crate::read::shared::boxed::Boxed;
@@ -130,7 +130,7 @@ impl<S: EventSource<A>, A: Allocator> Room<S, A> {
         ensures seat { IsSamePass seat.old seat.new }
         ensures later { C.told clock.old ≤ C.told clock.new }
         ensures first { KeepsFirst C.began clock.old clock.new }
-        ensures taken { IfSome result (λ x. Taken S.drawn (view seat.old) x.value (view seat.new)) }
+        ensures taken { IfSome result (λ x. Took S.drawn (view seat.old) x.value (view seat.new)) }
         ensures passed { IfNone result ((view seat.new ≡ view seat.old) × HasElapsed timeout.now (C.told clock.new)) }
     {
         for _ in rt.forever() {
@@ -165,7 +165,7 @@ impl<S: EventSource<A>, A: Allocator> Room<S, A> {
         requires seat { queue.IsPassOf self.now.slot seat.old }
         requires opened { (o : ReaderState S) × ((view seat.old).opening ≡ Some o) }
         ensures seat { IsSamePass seat.old seat.new }
-        ensures taken { Taken S.drawn (view seat.old) result.value (view seat.new) }
+        ensures taken { Took S.drawn (view seat.old) result.value (view seat.new) }
     {
         let forever = PollTimeout::new(None, Duration::ZERO);
         match self.take_within(rt, seat, &forever, &mut Still) {
@@ -183,7 +183,7 @@ impl<S: EventSource<A>, A: Allocator> Room<S, A> {
         requires seat { queue.IsPassOf self.now.slot seat.old }
         requires opened { (o : ReaderState S) × ((view seat.old).opening ≡ Some o) }
         ensures seat { IsSamePass seat.old seat.new }
-        ensures taken { IfSome result (λ x. Taken S.drawn (view seat.old) x.value (view seat.new)) }
+        ensures taken { IfSome result (λ x. Took S.drawn (view seat.old) x.value (view seat.new)) }
         ensures same { IfNone result (view seat.new ≡ view seat.old) }
     {
         match self.slot.pop_as::<Takes, R>(rt, seat) {
@@ -201,7 +201,7 @@ impl<S: EventSource<A>, A: Allocator> Room<S, A> {
         requires seat { queue.IsPassOf self.slot seat.old }
         requires opened { (o : ReaderState S) × ((view seat.old).opening ≡ Some o) }
         ensures seat { IsSamePass seat.old seat.new }
-        ensures taken { IfSome result (λ x. Taken S.drawn (view seat.old) x (view seat.new)) }
+        ensures taken { IfSome result (λ x. Took S.drawn (view seat.old) x (view seat.new)) }
         ensures same { IfNone result (view seat.new ≡ view seat.old) }
     {
         match self.try_take(rt, seat) {

@@ -1,7 +1,7 @@
 //! The rule of the slot, and what each step on it says.
 ghost use Rattle.std.specs.Prelude.{◌≡◌, ℕ, List, [], ⊤};
 ghost use Rattle.crossterm_read.specs.History.{Entry};
-ghost use Rattle.crossterm_read.specs.inside.Slot.{Kept, Learnt, Put, Taken, first_of, newcomer, one_less, one_more, taught};
+ghost use Rattle.crossterm_read.specs.inside.Slot.{Kept, Learnt, Put, Took, first_of, newcomer, one_less, one_more, taught};
 
 use crate::read::shared::boxed::Boxed;
 use crate::read::shared::view::View;
@@ -53,7 +53,7 @@ impl<S> Split<View<S>> for Another {
 pub struct Takes;
 
 impl<S: EventSource<A>, A: Allocator> Outcome<Boxed<S, A>, View<S>> for Takes {
-    ghost then = { Taken S.drawn };
+    ghost then = { Took S.drawn };
 }
 
 impl<S: EventSource<A>, A: Allocator> Lesson<Boxed<S, A>, View<S>> for Takes {

@@ -11,6 +11,7 @@ ghost use Rattle.crossterm_read.specs.inside.Replies.{event_tried, last_tried, t
 ghost use Rattle.crossterm_read.specs.Seats.{knows};
 ghost use Rattle.crossterm_read.specs.Shared.{IsPassOf};
 
+use crate::read::held::Taken;
 use crate::read::shared::calls::users;
 use crate::read::shared::pass::Pass;
 use crate::read::shared::reader::EventReader;
@@ -23,25 +24,25 @@ use std::marker::Brand;
 use std::sync::Wait;
 
 // The number of what was taken last, after one more call.
-fn last_after_try<T>(last: Option<u64>, tried: &io::Result<Option<(T, u64)>>) -> Option<u64>
+fn last_after_try<E>(last: Option<u64>, tried: &io::Result<Option<Taken<E>>>) -> Option<u64>
     ensures { result ≡ last_tried last tried.now }
 {
     match tried {
-        Ok(Some((_, number))) => Some(*number),
+        Ok(Some(taken)) => Some(taken.number),
         Ok(None) | Err(_) => last,
     }
 }
 
 // The user's event without its number.
 fn users_tried<A: Allocator>(
-    tried: io::Result<Option<(InternalEvent<A>, u64)>>,
+    tried: io::Result<Option<Taken<InternalEvent<A>>>>,
 ) -> io::Result<Option<Event<A>>>
-    requires { IfOk tried (λ taken. IfSome taken (λ x. is_event (seen x.0) ≡ true)) }
+    requires { IfOk tried (λ taken. IfSome taken (λ x. is_event (seen x.event) ≡ true)) }
     ensures reply { event_tried result ≡ shown (try_reply tried) }
     ensures err { IfErr result (λ e. tried ≡ Err e) }
 {
     match tried {
-        Ok(Some((event, _number))) => Ok(Some(users(event))),
+        Ok(Some(taken)) => Ok(Some(users(taken.event))),
         Ok(None) => Ok(None),
         Err(error) => Err(error),
     }

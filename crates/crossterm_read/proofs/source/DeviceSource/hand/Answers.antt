@@ -1,4 +1,4 @@
-use Rattle.std.proofs.Common.{◌≡◌, ◌≤◌, ◌<◌, ◌+◌, ◌-◌, ◌++◌, [], List, ℕ, Bool, option_to_list, take, drop, length, arith, refl, ◌∙◌, ap, sym, length-drop}
+use Rattle.std.proofs.Common.{◌≡◌, ◌≤◌, ◌<◌, ◌+◌, ◌-◌, ◌++◌, [], List, ℕ, Bool, option_to_list, take, drop, length, arith, refl, inr, ◌∙◌, ap, sym, length-drop}
 use Rattle.std.proofs.lemmas.List.{length-take-le}
 use Rattle.std.specs.Option.{option_map}
 use Rattle.crossterm_types.specs.Seen.{seen}
@@ -27,7 +27,7 @@ returns-in-Some-clause-hands g c =
     let t = c.take_first-event.ensures.first in
     let empty : c.self.inside.parser.waiting ≡ [] = ap (λ s. s.parser.waiting) c.self.view_is ∙ c.requires in
     hands_next _ _ t.mid new _ c.self.inside.device c.take_first-event.result.1 _ _ _ _ c.self.view_is c.requires refl t.within
-    (after_front _ _ _ _ _ _ (omega arith) (omega arith) t.within) t.divided (λ quiet. t.quiet empty quiet) t.represents
+    (after_front _ _ _ _ _ _ (omega arith) (omega arith) t.within) t.divided (λ quiet. t.quiet empty quiet) (t.stops (inr empty)) t.represents
     (λ after. gives_some t.mid.waiting new.waiting _ _ after (t.given ∙ ap (λ e. option_to_list (option_map seen e) ++ new.waiting) c.in-Some.is))
 
 pub returns-then-self-clause-hands : goal.returns-then-self-clause-hands
@@ -38,7 +38,7 @@ returns-then-self-clause-hands g c =
     let none : new.waiting ≡ [] = t.none (ap (λ e. option_map seen e) c.in_default.is) in
     let first : t.mid.waiting ≡ [] = t.given ∙ ap (λ e. option_to_list (option_map seen e) ++ new.waiting) c.in_default.is ∙ none in
     hands_next _ _ t.mid new _ c.self.inside.device c.take_first-event.result.1 _ _ _ _ c.self.view_is c.requires refl t.within
-    (after_front _ _ _ _ _ _ (omega arith) (omega arith) t.within) t.divided (λ quiet. t.quiet empty quiet) t.represents
+    (after_front _ _ _ _ _ _ (omega arith) (omega arith) t.within) t.divided (λ quiet. t.quiet empty quiet) (t.stops (inr empty)) t.represents
     (λ after. gives_none t.mid.waiting new.waiting _ _ after first none (sym (ap without_event (none_left _ _ _ _ _ c.if-self.true))))
 
 pub returns-clause-hands : goal.returns-clause-hands
@@ -49,6 +49,6 @@ returns-clause-hands g c =
     let none : new.waiting ≡ [] = t.none (ap (λ e. option_map seen e) c.in_default.is) in
     let first : t.mid.waiting ≡ [] = t.given ∙ ap (λ e. option_to_list (option_map seen e) ++ new.waiting) c.in_default.is ∙ none in
     hands_next _ _ t.mid new _ c.self.inside.device c.take_first-event.result.1 _ _ _ _ c.self.view_is c.requires refl t.within
-    (after_front _ _ _ _ _ _ (omega arith) (omega arith) t.within) t.divided (λ quiet. t.quiet empty quiet) t.represents
+    (after_front _ _ _ _ _ _ (omega arith) (omega arith) t.within) t.divided (λ quiet. t.quiet empty quiet) (t.stops (inr empty)) t.represents
     (λ after. gives_none t.mid.waiting new.waiting _ _ after first none
     (ap Failed c.from.ensures ∙ sym (without_some _ (some_left (c.self.inside.from + c.take_first-event.result.1) c.self.inside.end c.self.inside.buffer _ _ (end_above _ _ _ _ (omega arith) (omega arith) t.within c.if-self.false) (omega arith)))))

@@ -23,7 +23,7 @@ invariant_of-self g c =
     let kept = subst (λ o. AreKept o h.len h.limit h.next_order) c.in-Some.is c.self.invariant in
     let room = ap (λ s. s.room) c.self.view_is in
     let more = c.requires in
-    let m : Member g.row.A.Denot = record { event = c.args.taken.0; arrival = c.args.taken.1; order = c.order_from-order.result } in
+    let m : Member g.row.A.Denot = record { event = c.args.taken.event; arrival = c.args.taken.number; order = c.order_from-order.result } in
     let done = c.order_from-order.ensures in
     kept_push c.order_from-order.new.self c.push_reserved.new.self m h.len h.limit done.joins done.below (same_length (joined q) (joined (queue_of c.in-Some.queues)) done.same ∙ kept.count) (omega arith)
     (joins_push (joined q) q p m done.joins done.below c.push_reserved.ensures.parts) (c.push_reserved.ensures.room h.limit (done.room h.limit kept.room))
@@ -33,7 +33,7 @@ returns-clause-store g c =
     let h = c.self.inside in
     let q = queue_of c.order_from-order.new.self in
     let p = queue_of c.push_reserved.new.self in
-    let m : Member g.row.A.Denot = record { event = c.args.taken.0; arrival = c.args.taken.1; order = c.order_from-order.result } in
+    let m : Member g.row.A.Denot = record { event = c.args.taken.event; arrival = c.args.taken.number; order = c.order_from-order.result } in
     let done = c.order_from-order.ensures in
     let arrivals = ap (λ s. s.store.arrivals) c.self.view_is in
     pushed_held q p m c.args.self.now.store (record { held = map member_kept (joined p); arrivals = h.arrivals })

@@ -25,13 +25,13 @@ returns-then-admitted-clause-one g c =
     let admitted = rw c.in-Ok-Some.field-0-is at c.eval-admitted.ensures in
     let x = seen c.in-Ok-Some.event in
     let s = c.self.inside.held.store in
-    let t = c.next_number.new.self in
-    let n = c.next_number.ensures in
-    let arrives = came_arrives s c.reserve.new.self.store t.store x c.next_number.result c.reserve.ensures.store n.number n.held n.arrivals in
+    let t = c.next_number-number.new.self in
+    let n = c.next_number-number.ensures in
+    let arrives = came_arrives s c.reserve.new.self.store t.store x c.next_number-number.result c.reserve.ensures.store n.number n.held n.arrivals in
     rw c.in-Ok-Some.field-0-is (draws_from g.row.A.Denot g.S.EventSource.drawn g.S.EventSource.failed g.met.S.EventSource.drawn_on c.args.at_wake (g.F.Filter.admits c.args.filter.now) _ c.args.self.now
     (record { store = t.store; room = t.room; source = c.try_read.new.self })
-    (once.Came (c.in-Ok-Some.event, c.next_number.result)) c.self.view_is
-    (d.drawn, arrives, sym admitted ∙ c.if-admitted.true, d.ok, n.held ∙ ap (λ (y : EventStore). y.held) c.reserve.ensures.store, (omega (arith, c.in-Ok.ensures.ok, n.room), orderly_arrives s (held_with t.store (x, c.next_number.result)) x c.self.invariant arrives)))
+    (once.Came (record { event = c.in-Ok-Some.event; number = c.next_number-number.result })) c.self.view_is
+    (d.drawn, arrives, sym admitted ∙ c.if-admitted.true, d.ok, n.held ∙ ap (λ (y : EventStore). y.held) c.reserve.ensures.store, (omega (arith, c.in-Ok.ensures.ok, n.room), orderly_arrives s (held_with t.store (x, c.next_number-number.result)) x c.self.invariant arrives)))
 
 pub returns-else-admitted-clause-one : goal.returns-else-admitted-clause-one
 returns-else-admitted-clause-one g c =
@@ -39,8 +39,8 @@ returns-else-admitted-clause-one g c =
     let admitted = rw c.in-Ok-Some.field-0-is at c.eval-admitted.ensures in
     let x = seen c.in-Ok-Some.event in
     let s = c.self.inside.held.store in
-    let n = c.next_number.ensures in
-    let arrives = came_arrives s c.reserve.new.self.store c.next_number.new.self.store x c.next_number.result c.reserve.ensures.store n.number n.held n.arrivals in
+    let n = c.next_number-number.ensures in
+    let arrives = came_arrives s c.reserve.new.self.store c.next_number-number.new.self.store x c.next_number-number.result c.reserve.ensures.store n.number n.held n.arrivals in
     let pushed = rw c.in-Ok-Some.field-0-is at c.push_reserved.ensures.store in
     let held = subst (λ (y : EventStore). Arrives s (Gave x ∷ []) y) (sym pushed) arrives in
     draws_from g.row.A.Denot g.S.EventSource.drawn g.S.EventSource.failed g.met.S.EventSource.drawn_on c.args.at_wake (g.F.Filter.admits c.args.filter.now) _ c.args.self.now
@@ -83,7 +83,7 @@ pub invariant_of-self-in-Ok-Some : goal.invariant_of-self-in-Ok-Some
 invariant_of-self-in-Ok-Some g c =
     let x = seen c.in-Ok-Some.event in
     let s = c.self.inside.held.store in
-    let n = c.next_number.ensures in
-    let arrives = came_arrives s c.reserve.new.self.store c.next_number.new.self.store x c.next_number.result c.reserve.ensures.store n.number n.held n.arrivals in
+    let n = c.next_number-number.ensures in
+    let arrives = came_arrives s c.reserve.new.self.store c.next_number-number.new.self.store x c.next_number-number.result c.reserve.ensures.store n.number n.held n.arrivals in
     let pushed = rw c.in-Ok-Some.field-0-is at c.push_reserved.ensures.store in
     orderly_arrives s c.push_reserved.new.self.store x c.self.invariant (subst (λ (y : EventStore). Arrives s (Gave x ∷ []) y) (sym pushed) arrives)

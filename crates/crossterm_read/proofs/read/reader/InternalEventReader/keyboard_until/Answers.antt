@@ -3,7 +3,7 @@ use Rattle.std.specs.Option.{option_map}
 use Rattle.std.specs.IoError.{error_kind}
 use Rattle.crossterm_types.specs.Seen.{Seen}
 use Rattle.crossterm_types.specs.Admitting.{is_attributes}
-use Rattle.crossterm_read.specs.Store.{kept}
+use Rattle.crossterm_read.specs.inside.Replies.{kept}
 use Rattle.crossterm_read.specs.Replies.{Came, ToTake, ToQuery, Fault}
 use Rattle.crossterm_read.specs.Queries.{AfterReply}
 use Rattle.crossterm_read.specs.Steps.{Within}
@@ -18,7 +18,7 @@ pub returns-in-Some-clause-step : goal.returns-in-Some-clause-step
 returns-in-Some-clause-step g c =
     let e = c.in-Ok.ensures.step in
     let d = c.poll-ready.ensures.step in
-    let x = kept (c.in-Ok.event, c.in-Ok.number) in
+    let x = kept c.in-Ok.taken in
     let y = option_map kept c.left_taken-left.result in
     let m = c.query_until.new.self.store in
     let n = c.poll-ready.new.self.store in
@@ -38,7 +38,7 @@ returns-in-Some-clause-step g c =
       (e.0, d.3, m, ToTake (Some x), refl, e.2, inl (x, refl, after)),
       ap (λ (z : Seen). Came (Some z)) (sym c.in-Some.ensures),
       tt,
-      λ n. last_query n x.0 x.1 y _ c.number_of.ensures,
+      λ n. last_query n x.0 x.1 y _ c.number_of-number.ensures,
       g.S.EventSource.asked c.query_until.new.self.source,
       c.query_until.ensures.limits,
       inr (subst (λ (z : g.row.S.Denot). AsksWithin (Some c.args.again) d.0 last (g.S.EventSource.asked c.query_until.new.self.source) (g.S.EventSource.asked z)) (sym c.left_taken-left.ensures.source) d.2),
@@ -47,7 +47,7 @@ returns-in-Some-clause-step g c =
 pub returns-in-Ok-clause-step : goal.returns-in-Ok-clause-step
 returns-in-Ok-clause-step g c =
     let e = c.in-Ok.ensures.step in
-    let x = kept (c.in-Ok.event, c.in-Ok.number) in
+    let x = kept c.in-Ok.taken in
     let m = c.query_until.new.self.store in
     let between = g.C.Clock.told c.query_until.new.clock in
     let again = Within (Some c.args.again) (between - between) in

@@ -3,7 +3,7 @@ use Rattle.std.specs.Option.{option_map}
 use Rattle.std.specs.IoError.{error_kind}
 use Rattle.crossterm_types.specs.Seen.{Seen}
 use Rattle.crossterm_types.specs.Admitting.{is_flags_reply, is_attributes}
-use Rattle.crossterm_read.specs.Store.{kept}
+use Rattle.crossterm_read.specs.inside.Replies.{kept}
 use Rattle.crossterm_read.specs.Replies.{Came, ToTake, ToQuery, Fault}
 use Rattle.crossterm_read.specs.Queries.{AfterReply}
 use Rattle.crossterm_read.specs.Steps.{UpTo}
@@ -22,7 +22,7 @@ pub returns-in-Some-clause-step : goal.returns-in-Some-clause-step
 returns-in-Some-clause-step g c =
     let e = c.in-Ok.ensures.step in
     let d = c.poll_within-ready.ensures.step in
-    let x : Seen × ℕ = kept (c.in-Ok.event, c.in-Ok._number) in
+    let x : Seen × ℕ = kept c.in-Ok.taken in
     let r = ToQuery x (option_map kept c.left_taken-left.result) in
     let after : AfterReply (UpTo c.args.tries) d.0 (is_attributes x.0) x c.query_within.new.self.store c.left_taken-left.new.self.store r = subst
     (λ (y : Seen). AfterReply (UpTo c.args.tries) d.0 (is_attributes y) x c.query_within.new.self.store c.left_taken-left.new.self.store r) (sym c.in-Some.ensures)
@@ -39,7 +39,7 @@ returns-in-Some-clause-step g c =
 pub returns-in-Ok-clause-step : goal.returns-in-Ok-clause-step
 returns-in-Ok-clause-step g c =
     let e = c.in-Ok.ensures.step in
-    let x : Seen × ℕ = kept (c.in-Ok.event, c.in-Ok._number) in
+    let x : Seen × ℕ = kept c.in-Ok.taken in
     let after : AfterReply (UpTo c.args.tries) [] (is_attributes x.0) x c.query_within.new.self.store c.query_within.new.self.store (ToTake (Some x)) = subst
     (λ (y : Seen). AfterReply (UpTo c.args.tries) [] (is_attributes y) x c.query_within.new.self.store c.query_within.new.self.store (ToTake (Some x))) (sym c.in-None.ensures) (refl, refl, refl) in
     (e.0, ToTake (Some x), e.1, (e.0, [], c.query_within.new.self.store, ToTake (Some x), sym (append-nil e.0), e.2, inl (x, refl, after)), ap (λ (y : Seen). Came (Some y)) (sym c.in-None.ensures), tt)

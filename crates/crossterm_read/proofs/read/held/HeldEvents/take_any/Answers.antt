@@ -4,7 +4,7 @@ use Rattle.crossterm_types.specs.Seen.{seen}
 use Rattle.crossterm_read.specs.inside.Queues.{AreKept, joined, member_kept, queue_of, queues_of}
 use Rattle.crossterm_read.proofs.Joining.{joined_same}
 use Rattle.crossterm_read.proofs.Storing.{kept_same, kept_take, taken_length, taken_replies, untaken_delivers}
-use Rattle.crossterm_read.proofs.read.held.HeldEvents.take.Goals as goal
+use Rattle.crossterm_read.proofs.read.held.HeldEvents.take_any.Goals as goal
 
 pub invariant_of-self : goal.invariant_of-self
 invariant_of-self g c =
