@@ -82,7 +82,7 @@ recorded 1 -> USAGE
 count -> USAGE";
 
 const USAGE: &str =
-    "probe: usage: probe bench [frame] [--time] | probe bench screen all|few|line|one|wide [--time] | probe bench held REPLIES | probe bench recorded | probe bench keys BINDINGS | probe bench take read|poll|shared|stream KEYS | probe bench make letters|utf8|keys|mouse|replies|paste|hostile BYTES";
+    "probe: usage: probe bench [frame] [--time] | probe bench screen all|few|line|one|wide [--time] | probe bench held REPLIES | probe bench recorded | probe bench keys BINDINGS | probe bench take read|burst|poll|shared|stream KEYS | probe bench make letters|utf8|keys|mouse|replies|paste|hostile BYTES";
 
 /// What is counted if nothing but keys came.
 const ALONE: &str = "mouse 0 pastes 0 focus 0 resizes 0 replies 0";
@@ -114,6 +114,7 @@ fn command_lines_give_their_lines(rt: HostRuntime) {
 fn keys_are_taken_in_each_way(rt: HostRuntime) -> Result<(), Fault> {
     for line in [
         "take read 5",
+        "take burst 5",
         "take poll 5",
         "take shared 5",
         "take stream 5",
