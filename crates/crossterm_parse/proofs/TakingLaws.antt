@@ -16,7 +16,7 @@ use Rattle.crossterm_parse.specs.declared.meaning.Meaning.{Meaning}
 use Rattle.crossterm_parse.specs.declared.state.State.{State}
 use Rattle.crossterm_parse.specs.declared.state.State.TheVariants.{Ground, Escape}
 use Rattle.crossterm_parse.proofs.RunLaws.{advance_rest, character_puts, letter_puts}
-use Rattle.crossterm_parse.proofs.ViewLaws.{advance_join}
+use Rattle.crossterm_parse.proofs.ViewLaws.{advance_join, marked_rest}
 
 more_seen : (w : List Seen) (ms ns : List Meaning) → (w ++ map seen_meaning ms) ++ map seen_meaning ns ≡ w ++ map seen_meaning (ms ++ ns)
 more_seen w ms ns = append_assoc w (map seen_meaning ms) (map seen_meaning ns) ∙ ap (λ (xs : List Seen). w ++ xs) (sym (map-append seen_meaning ms ns))
@@ -87,16 +87,6 @@ opened_outside zero old new bs none some = ap (λ (s : State). is_paste s) (none
 opened_outside (suc n) old new bs none some = let opens = some (omega arith) in opens_outside (opens.0 ∷ opens.1) Escape new refl opens.3
 
 -- ---- parts of a piece
-
-no_more : {X : Type 0} (i : ℕ) → drop {A = X} i [] ≡ []
-no_more zero = refl
-no_more (suc i) = refl
-
-marked_rest : (piece : List ℕ) (more raw : Bool) (i : ℕ) → drop i (marked piece more raw) ≡ marked (drop i piece) more raw
-marked_rest piece more raw zero = refl
-marked_rest [] more raw (suc i) = refl
-marked_rest (b ∷ []) more raw (suc i) = no_more i ∙ ap (λ (bs : List ℕ). marked bs more raw) (sym (no_more i))
-marked_rest (b ∷ c ∷ bs) more raw (suc i) = marked_rest (c ∷ bs) more raw i
 
 -- what is left of a piece, behind some of its bytes
 rest_of : (piece : List ℕ) (i : ℕ) → take (length piece - i) (drop i piece) ≡ drop i piece

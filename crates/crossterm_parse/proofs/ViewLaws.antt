@@ -1,5 +1,6 @@
 -- What one more byte, and one more piece, do to what a parser represents.
 use Rattle.std.proofs.Common.{◌≡◌, ◌==◌, ◌<◌, ℕ, ◌+◌, Bool, true, false, not, cond, ◌&&◌, ◌||◌, List, [], ◌∷◌, ◌++◌, length, take, get_or, zero, suc, refl, ap, sym, ◌∙◌, subst, arith, append_assoc, Option, Some, None, option_to_list, drop, inl, inr, ◌⊎◌, ◌-◌, ◌*◌, ◌≤◌, length-drop}
+use Rattle.std.proofs.Math.Seq.{drop-nil}
 use Rattle.std.proofs.lemmas.List.{append-nil, drop_more, take_more, append_cancel_left, take-append-drop, take-append-le, length_push}
 use Rattle.std.proofs.lemmas.Bool.{false≢true, cases_Bool}
 use Rattle.std.proofs.lemmas.Bool.Decides.{nat_tests}
@@ -278,6 +279,13 @@ pub length-marked : (piece : List ℕ) (more raw : Bool) → length (marked piec
 length-marked [] more raw = refl
 length-marked (b ∷ []) more raw = refl
 length-marked (b ∷ c ∷ bs) more raw = ap suc (length-marked (c ∷ bs) more raw)
+
+-- what is left of a piece's marks behind a front are the marks of what is left
+pub marked_rest : (piece : List ℕ) (more raw : Bool) (i : ℕ) → drop i (marked piece more raw) ≡ marked (drop i piece) more raw
+marked_rest piece more raw zero = refl
+marked_rest [] more raw (suc i) = refl
+marked_rest (b ∷ []) more raw (suc i) = drop-nil i ∙ ap (λ (bs : List ℕ). marked bs more raw) (sym (drop-nil i))
+marked_rest (b ∷ c ∷ bs) more raw (suc i) = marked_rest (c ∷ bs) more raw i
 
 -- one more byte of a piece
 pub advance_more : (old mid new : ParserView) (piece : List ℕ) (more raw : Bool) (i b : ℕ) (pause : Bool) → i < length piece

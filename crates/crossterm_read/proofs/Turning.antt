@@ -13,8 +13,8 @@ use Rattle.std.specs.declared.io.ErrorKind.TheVariants.{OutOfMemory}
 use Rattle.std.proofs.Math.Seq.{drop-nil}
 use Rattle.std.proofs.lemmas.Bool.{cases_Bool}
 use Rattle.std.proofs.lemmas.Bool.Decides.{nat_tests}
-use Rattle.std.proofs.lemmas.List.{append_cancel_left, drop_all, drop-take, length-take-le, take-append-drop}
-use Rattle.crossterm_parse.proofs.ViewLaws.{length-marked}
+use Rattle.std.proofs.lemmas.List.{drop_all, drop-take, length-take-le, take-append-drop}
+use Rattle.crossterm_parse.proofs.ViewLaws.{length-marked, marked_rest}
 use Rattle.crossterm_read.specs.Device.{DeviceAnswer, Bytes, marked_bytes}
 use Rattle.crossterm_read.specs.Outcomes.{IsAnsweredBy}
 use Rattle.crossterm_read.specs.Sources.{Takes, GivesFirst, without_event, waited, again, fresh, other, Source, at, SourceDrawn, Hands}
@@ -67,12 +67,10 @@ module _ {D : Type 0} (answered : D → List DeviceAnswer → D → Type 0) wher
   )
 
 -- the marks of a front and of what follows it
-pub marked_split : (n : ℕ) (bytes : List ℕ) (more raw : Bool) → n ≤ length bytes → marked bytes more raw ≡ take n (marked bytes more raw) ++ marked (drop n bytes) more raw
-marked_split zero bytes more raw h = refl
-marked_split (suc n) [] more raw h = refl
-marked_split (suc zero) (b ∷ []) more raw h = refl
-marked_split (suc (suc n)) (b ∷ []) more raw h = refl
-marked_split (suc n) (b ∷ c ∷ bs) more raw h = ap (λ (l : List Marked). record { byte = b; raw = raw; pause = false } ∷ l) (marked_split n (c ∷ bs) more raw (omega arith))
+marked_split : (n : ℕ) (bytes : List ℕ) (more raw : Bool) → marked bytes more raw ≡ take n (marked bytes more raw) ++ marked (drop n bytes) more raw
+marked_split n bytes more raw =
+    let ms = marked bytes more raw in
+    sym (take-append-drop n ms) ∙ ap (λ (l : List Marked). take n ms ++ l) (marked_rest bytes more raw n)
 
 pub gives_some : (w new : List Seen) (left : List Marked) (e : Seen) (after : List Marked) → w ≡ e ∷ new
     → GivesFirst w (record { waiting = w; untaken = left; undecided = after }) (Gave e) (record { waiting = new; untaken = left; undecided = after })
@@ -89,12 +87,6 @@ gives_none w new left x after h i e = subst
 -- nothing is left where as many were taken as there were
 taken_whole : (n : ℕ) (rest : List ℕ) (more raw : Bool) → n ≡ length rest → marked (drop n rest) more raw ≡ []
 taken_whole n rest more raw h = ap (λ (l : List ℕ). marked l more raw) (drop_all n rest (omega arith))
-
--- what is left behind a front
-marked_rest : (n : ℕ) (rest : List ℕ) (more raw : Bool) → n ≤ length rest → drop n (marked rest more raw) ≡ marked (drop n rest) more raw
-marked_rest n rest more raw h =
-    let ms = marked rest more raw in
-    append_cancel_left (take n ms) (drop n ms) (marked (drop n rest) more raw) (take-append-drop n ms ∙ marked_split n rest more raw h)
 
 not_whole : (n : ℕ) (rest : List ℕ) (more raw : Bool) (left : List Marked) → n ≤ length rest → left ≡ marked (drop n rest) more raw → left ≢ [] → n < length rest
 not_whole n rest more raw left h v some = elim (cases_Bool (nat_lt n (length rest))) [
@@ -119,7 +111,7 @@ hands_next {D} i s m new left d n rest more raw x e w u h v a whole ends st give
       record {
         taken = take n (marked rest more raw);
         parts = adv.parts;
-        cut = u ∙ marked_split n rest more raw h ∙ ap (λ (l : List Marked). take n (marked rest more raw) ++ l) (sym v);
+        cut = u ∙ marked_split n rest more raw ∙ ap (λ (l : List Marked). take n (marked rest more raw) ++ l) (sym v);
         division = adv.division;
         waiting = adv.given ∙ ap (λ (l : List Seen). l ++ filter_map meaning_of adv.parts) (ap (λ (y : Source D). y.parser.waiting) e ∙ w);
         quiet = λ q. v ∙ taken_whole n rest more raw (whole (before, q.0, q.1, represents, undecided, subst (λ (l : List Marked). Divides Whole (before ++ l) q.0 q.1) u q.2, q.3, q.4));
@@ -129,7 +121,7 @@ hands_next {D} i s m new left d n rest more raw x e w u h v a whole ends st give
           q.1,
           adv.represents,
           adv.division.undecided,
-          subst (λ (l : List Marked). Divides Whole (adv.rest ++ take 1 l) q.0 q.1) (v ∙ sym (marked_rest n rest more raw h)) q.2,
+          subst (λ (l : List Marked). Divides Whole (adv.rest ++ take 1 l) q.0 q.1) (v ∙ sym (marked_rest rest more raw n)) q.2,
           q.3,
           q.4,
         );

@@ -80,6 +80,19 @@ fn reserve_beyond<A: Allocator>(
     queue.reserve(total - queue.len())
 }
 
+// Removes the member at this place: the first one without moving the others.
+fn remove_at<A: Allocator>(queue: &mut VecDeque<Member<A>, A>, at: usize) -> Option<Member<A>>
+    ensures some { IsSome result ↔ (at < length queue.old.items) }
+    ensures value { IfSome result (λ m. m ≡ slice_index_or queue.old.items at m) }
+    ensures items { IfSome result (λ _. queue.new.items ≡ remove queue.old.items at) }
+    ensures capacity { deque_capacity queue.new ≡ deque_capacity queue.old }
+{
+    if at == 0 {
+        return queue.pop_front();
+    }
+    queue.remove(at)
+}
+
 // The member at this place gets an order number.
 fn set_order<A: Allocator>(queue: &mut VecDeque<Member<A>, A>, at: usize, order: u64)
     requires { at < length queue.old.items }
@@ -228,10 +241,10 @@ impl<A: Allocator> Queues<A> {
         ensures room { (n : ℕ) → HaveRoom self.old n → HaveRoom self.new n }
     {
         match place.kind {
-            Kind::Event => self.events.remove(place.at),
-            Kind::Cursor => self.cursors.remove(place.at),
-            Kind::Flags => self.flags.remove(place.at),
-            Kind::Attributes => self.attributes.remove(place.at),
+            Kind::Event => remove_at(&mut self.events, place.at),
+            Kind::Cursor => remove_at(&mut self.cursors, place.at),
+            Kind::Flags => remove_at(&mut self.flags, place.at),
+            Kind::Attributes => remove_at(&mut self.attributes, place.at),
         }
     }
 
