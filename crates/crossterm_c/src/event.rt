@@ -138,6 +138,7 @@ fn of_mouse(mouse: MouseEvent) -> GelvanhEvent
 }
 
 /// The numbers of what a sequence means.
+#[inline(always)]
 pub(crate) fn of_meaning(meaning: Meaning) -> GelvanhEvent
     ensures { (kept : List ℕ) → event_at kept result ≡ seen_meaning meaning }
 {
