@@ -46,6 +46,13 @@ pub(crate) fn write_proved<W: fmt::Write + ?Sized>(f: &mut W, command: &gelvanh:
     gelvanh::write_text(f, command, !Colored::ansi_color_disabled_memoized())
 }
 
+/// A value as `{}` shows it, or its error, for which `to_string` would panic.
+pub(crate) fn shown(value: &impl fmt::Display) -> Result<String, fmt::Error> {
+    let mut text = String::new();
+    fmt::write(&mut text, format_args!("{value}"))?;
+    Ok(text)
+}
+
 /// A writer of bytes as one of text, which keeps its error.
 struct Text<'a, W: ?Sized> {
     writer: &'a mut W,

@@ -1,7 +1,7 @@
 //! The terminal: its modes, its size, and its screen.
 
 use crate::macros::{commands, shown};
-use crate::{system, Command};
+use crate::{command, system, Command};
 use gelvanh::Command as Proved;
 use std::{fmt, io, process};
 
@@ -151,7 +151,7 @@ pub struct SetTitle<T>(pub T);
 
 impl<T: fmt::Display> Command for SetTitle<T> {
     fn write_ansi(&self, f: &mut impl fmt::Write) -> fmt::Result {
-        crate::command::write_proved(f, &Proved::SetTitle(&self.0.to_string()))
+        command::write_proved(f, &Proved::SetTitle(&command::shown(&self.0)?))
     }
 }
 

@@ -1,7 +1,7 @@
 //! What values are equal, how they show themselves, and the bytes of commands.
 
 use crossterm::event::{KeyCode, KeyEvent, KeyModifiers, KeyboardEnhancementFlags};
-use crossterm::style::{Attribute, Color, Colored, ContentStyle, Print, SetStyle};
+use crossterm::style::{Attribute, Color, Colored, ContentStyle, Print, SetStyle, Stylize};
 use crossterm::{cursor, event, execute, queue, style, terminal, Command, QueueableCommand, SynchronizedUpdate};
 use std::collections::hash_map::DefaultHasher;
 use std::fmt;
@@ -222,6 +222,35 @@ impl Command for Failing {
     fn write_ansi(&self, _: &mut impl fmt::Write) -> fmt::Result {
         Err(fmt::Error)
     }
+}
+
+/// A value that shows a beginning, and fails.
+#[derive(Clone, Copy)]
+struct Unshown;
+
+impl fmt::Display for Unshown {
+    fn fmt(&self, f: &mut fmt::Formatter<'_>) -> fmt::Result {
+        f.write_str("a")?;
+        Err(fmt::Error)
+    }
+}
+
+#[test]
+fn errors_of_values() {
+    fn is_error(command: impl Command) {
+        assert_eq!(command.write_ansi(&mut String::new()), Err(fmt::Error));
+        assert_eq!(queue!(io::sink(), &command).map_err(|error| error.kind()), Err(io::ErrorKind::Other));
+        assert_eq!(execute!(io::sink(), &command).map_err(|error| error.kind()), Err(io::ErrorKind::Other));
+    }
+    let styled = style::style(Unshown).red();
+    is_error(Print(Unshown));
+    is_error(Print(styled));
+    is_error(style::PrintStyledContent(styled));
+    is_error(terminal::SetTitle(Unshown));
+    // Of a style or a title nothing is written then.
+    let mut out = Vec::new();
+    assert!(queue!(out, style::PrintStyledContent(styled)).is_err() && queue!(out, terminal::SetTitle(Unshown)).is_err());
+    assert_eq!(out, b"");
 }
 
 #[test]

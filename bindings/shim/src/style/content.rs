@@ -1,5 +1,6 @@
 //! Styles, and values that have one.
 
+use crate::command;
 use crate::style::{Attributes, Color};
 use std::fmt::{self, Display};
 
@@ -98,8 +99,8 @@ impl<D: Display> StyledContent<D> {
 
     /// Writes the value in its style.
     pub(crate) fn write_to(&self, f: &mut impl fmt::Write) -> fmt::Result {
-        let text = self.content.to_string();
-        crate::command::write_proved(f, &gelvanh::Command::PrintStyledContent(self.style.proved(), &text))
+        let text = command::shown(&self.content)?;
+        command::write_proved(f, &gelvanh::Command::PrintStyledContent(self.style.proved(), &text))
     }
 }
 
