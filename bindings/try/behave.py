@@ -218,11 +218,61 @@ def streams(start):
     t.wait_told("Resize(81, 25)")
     t.type("b")
     t.wait_told("ready", 2)
-    t.type("\x04")
+    t.type("c\x1b\x04\x04")
     assert t.end() == [
         "ready", "a  Press", "Resize(81, 25)", "b  Press", "pending true", "threads 2", "threads 1",
-        "ready", "Some(Err(UnexpectedEof))", "true",
+        "ready", 'Ok("c  Press")', 'Ok("Esc  Press")', "Err(UnexpectedEof)", "over",
     ]
+
+
+def escapes(start):
+    """Esc behind another key is Esc if nothing follows, whatever comes meanwhile, or another sequence does."""
+    t = start("keys")
+    t.wait_told("raw true")
+    t.type("a\x1b")
+    t.wait_told("a  Press")
+    t.resize(90, 30)
+    t.wait_told("Resize(90, 30)")
+    t.wait_told("Esc  Press")
+    t.type("b\x1b")
+    t.wait_told("b  Press")
+    t.type("\x1b[A")
+    t.wait_told("Up  Press")
+    t.type("q")
+    told = t.end()
+    assert sorted(told[1:4]) == ["Esc  Press", "Resize(90, 30)", "a  Press"], told
+    assert told[4:] == ["b  Press", "Esc  Press", "Up  Press", "q  Press", "raw false"], told
+
+
+def cuts(start):
+    """A key whose ESC ends a block, and whose rest comes up to 5 ms later, is that key: 20 times for each shim, way, size and gap."""
+    for shim in (29, 28, 25):
+        for way in ("read", "poll", "stream"):
+            t = start(f"{shim} {way}")
+            t.wait_told("ready")
+            t.told.clear()
+            for size in (700, 1024, 4096):
+                for gap in (0, 0.001, 0.005):
+                    done = 0
+                    while done < 20:
+                        done += cut(t, size, gap)
+            t.type("Q")
+            assert t.end() == []
+
+
+def cut(t, size, gap):
+    """Types a block of Downs that ends in ESC, later the rest of an Up, and returns whether this was in time: a busy machine is late."""
+    begun = time.monotonic()
+    assert os.write(t.master, b"\x1b[B" * (size // 3) + b"\x1b") == size
+    if gap:
+        time.sleep(gap)
+    os.write(t.master, b"[Aq")
+    in_time = time.monotonic() - begun < 0.008
+    t.until(lambda: t.told.endswith(b"\n"), "count")
+    told = t.told.decode()
+    t.told.clear()
+    assert not in_time or told == f"{size // 3} Down, 1 Up, 0 Esc, 0 others\n", (size, gap, told)
+    return in_time
 
 
 # Of the examples.
@@ -262,7 +312,7 @@ def example_list(start):
 
 
 program, names = sys.argv[1], sys.argv[2:]
-ALL = (keys, resizes, limits, two_threads, many, queries, filters, ends, hangups, colours, streams)
+ALL = (keys, resizes, limits, two_threads, many, queries, filters, ends, hangups, colours, streams, escapes, cuts)
 for test in [globals()[name] for name in names] or ALL:
     test(lambda name, **how: Terminal(program, name, **how))
     print(f"{test.__name__}: as expected", flush=True)

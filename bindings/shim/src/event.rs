@@ -86,7 +86,8 @@ commands! {
 
 /// Whether an event is there, for which it waits so long at most. Then `read` returns it at once, if no other thread takes it.
 ///
-/// It waits beside another thread's `read`, and for any time, `Duration::MAX` too.
+/// It waits beside another thread's `read`, and for any time, `Duration::MAX` too. If an ESC came last, behind other bytes, it waits up to
+/// 10 ms for what follows, once.
 ///
 /// ```no_run
 /// use crossterm::event::{poll, read};
@@ -128,7 +129,7 @@ pub fn read() -> io::Result<Event> {
     }
 }
 
-/// The next event, if one is there now: it doesn't wait.
+/// The next event, if one is there now: it doesn't wait, but behind an ESC as `poll` does.
 pub fn try_read() -> Option<Event> {
     reader::wait(Some(Instant::now()), reader::State::take_event).ok().flatten()
 }

@@ -1,4 +1,5 @@
 //! What a program sees of a terminal, a line each: `behave.py` runs it in one, types, and reads the lines.
+mod cuts;
 mod stream;
 
 use crossterm::event::{poll, read, try_read, Event, KeyCode};
@@ -203,6 +204,6 @@ fn main() -> io::Result<()> {
         Some("hangup") => hangup(),
         Some("colours") => colours(),
         Some("stream") => stream::run(),
-        _ => Err(io::Error::new(io::ErrorKind::InvalidInput, "which one? behave.py has the names")),
+        how => cuts::run(how.unwrap_or_default()),
     }
 }

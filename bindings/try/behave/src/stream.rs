@@ -1,7 +1,7 @@
 //! Events as a stream, on the smallest of executors.
 
 use crate::{name, tell};
-use crossterm::event::{Event, EventStream};
+use crossterm::event::EventStream;
 use crossterm::terminal;
 use futures_core::Stream;
 use std::io;
@@ -18,7 +18,8 @@ impl Wake for Unpark {
     }
 }
 
-fn next(stream: &mut EventStream) -> Option<io::Result<Event>> {
+/// The next item of a stream, for which it waits.
+pub(crate) fn next<S: Stream + Unpin>(stream: &mut S) -> Option<S::Item> {
     let waker = Waker::from(Arc::new(Unpark(thread::current())));
     loop {
         match Pin::new(&mut *stream).poll_next(&mut Context::from_waker(&waker)) {
@@ -56,7 +57,9 @@ pub fn run() -> io::Result<()> {
     // In lines: the end of input ends a stream.
     let mut stream = EventStream::new();
     tell!("ready");
-    tell!("{:?}", next(&mut stream).map(|item| item.map_err(|e| e.kind())));
-    tell!("{:?}", next(&mut stream).is_none());
+    while let Some(item) = next(&mut stream) {
+        tell!("{:?}", item.map(|event| name(&event)).map_err(|e| e.kind()));
+    }
+    tell!("over");
     Ok(())
 }
