@@ -226,7 +226,7 @@ def streams(start):
 
 
 def escapes(start):
-    """Esc behind another key is Esc if nothing follows, whatever comes meanwhile, or another sequence does."""
+    """Esc behind other keys is Esc if nothing follows, whatever comes meanwhile, or another sequence does."""
     t = start("keys")
     t.wait_told("raw true")
     t.type("a\x1b")
@@ -242,6 +242,13 @@ def escapes(start):
     told = t.end()
     assert sorted(told[1:4]) == ["Esc  Press", "Resize(90, 30)", "a  Press"], told
     assert told[4:] == ["b  Press", "Esc  Press", "Up  Press", "q  Press", "raw false"], told
+    # As much as is read at once, and the other sequence later.
+    t = start("29 read")
+    t.wait_told("ready")
+    os.write(t.master, b"\x1b[B" * 341 + b"\x1b")
+    time.sleep(0.03)
+    t.type("\x1b[AqQ")
+    assert t.end() == ["ready", "341 Down, 1 Up, 1 Esc, 0 others"]
 
 
 def cuts(start):

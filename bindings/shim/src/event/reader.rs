@@ -85,13 +85,25 @@ pub fn wait<T>(limit: Option<Instant>, mut find: impl FnMut(&mut State) -> Optio
         if has_looked && left == Some(Duration::ZERO) {
             return Ok(None);
         }
-        state = look(state, left)?;
+        state = look(state, left, true)?;
         has_looked = true;
     }
 }
 
+/// What a function finds in the state, or in what the terminal has now. It waits for nothing: not even for what follows an open ESC, so
+/// that somebody has to wait then.
+#[cfg(feature = "event-stream")]
+pub fn find_now<T>(mut find: impl FnMut(&mut State) -> Option<T>) -> io::Result<Option<T>> {
+    let mut state = lock();
+    if let Some(found) = find(&mut state) {
+        return Ok(Some(found));
+    }
+    let mut state = look(state, Some(Duration::ZERO), false)?;
+    Ok(find(&mut state))
+}
+
 /// Waits for the terminal, or if another thread does, for what that one reads.
-fn look(mut state: MutexGuard<'static, State>, left: Option<Duration>) -> io::Result<MutexGuard<'static, State>> {
+fn look(mut state: MutexGuard<'static, State>, left: Option<Duration>, for_rest: bool) -> io::Result<MutexGuard<'static, State>> {
     let mut source = match mem::replace(&mut state.seat, Seat::Taken) {
         Seat::Taken => return Ok(wait_to_be_told(state, left)),
         Seat::Free(source) => source,
@@ -105,7 +117,7 @@ fn look(mut state: MutexGuard<'static, State>, left: Option<Duration>) -> io::Re
     };
     drop(state);
     let mut read = Vec::new();
-    let outcome = source.read(left, &mut read);
+    let outcome = source.read(left, for_rest, &mut read);
     let mut state = lock();
     state.seat = Seat::Free(source);
     state.keep(read);

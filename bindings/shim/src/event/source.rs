@@ -10,8 +10,9 @@ use std::time::{Duration, Instant};
 const ESC: u8 = 0x1b;
 /// How many bytes are read at once.
 const ROOM: usize = 1024;
-/// How long the rest of a sequence may be late, if its ESC was the last byte that was read. An ESC that is read alone is a key at once,
-/// unless other bytes were read so shortly before: Linux cuts off the last byte of 4,096.
+/// How long the rest of a sequence may be late, if its ESC was the last byte that was read.
+///
+/// An ESC that is read alone is a key at once, unless other bytes were read so shortly before. Linux cuts a block after 4,095 bytes.
 const PAUSE: Duration = Duration::from_millis(10);
 
 /// An event, and the text of a paste.
@@ -20,8 +21,9 @@ pub type Told = (flat::Event, String);
 /// An ESC that was read last: a key, or the first byte of a sequence that was cut. The parser hasn't got it yet.
 #[derive(Clone, Copy)]
 struct Open {
-    until: Instant,
-    /// Whether the read had no room for more.
+    /// How long the next byte is waited for; `None` if it didn't come, and the ESC is still open.
+    until: Option<Instant>,
+    /// Whether the read had no room for more: then the next byte decides, however late it is.
     is_full: bool,
 }
 
@@ -44,14 +46,16 @@ impl Source {
 
     /// Waits once, so long at most, and reads what is there. What was read before an error is kept too.
     ///
-    /// With an open ESC it waits for what follows that, for `PAUSE` at most. It doesn't return with an open ESC and nothing else.
-    pub fn read(&mut self, time: Option<Duration>, events: &mut Vec<Told>) -> io::Result<()> {
+    /// With `for_rest` an open ESC is waited for too: until it is decided, an event is there, or `PAUSE` is over.
+    pub fn read(&mut self, time: Option<Duration>, for_rest: bool, events: &mut Vec<Told>) -> io::Result<()> {
         if mem::take(&mut self.has_ended) {
             return Err(io::ErrorKind::UnexpectedEof.into());
         }
         loop {
+            let until = self.until().filter(|_| for_rest);
+            let time = until.map_or(time, |until| Some(until.saturating_duration_since(Instant::now())));
             let has_signal = self.read_once(time, events)?;
-            if has_signal || self.open.is_none() || !events.is_empty() {
+            if has_signal || !for_rest || self.until().is_none() || !events.is_empty() {
                 return Ok(());
             }
         }
@@ -59,7 +63,6 @@ impl Source {
 
     /// Waits and reads, and returns whether the pipe had bytes.
     fn read_once(&mut self, time: Option<Duration>, events: &mut Vec<Told>) -> io::Result<bool> {
-        let time = self.open.map_or(time, |open| Some(open.until.saturating_duration_since(Instant::now())));
         let [has_bytes, has_signal] = system::wait_for([self.terminal.as_raw_fd(), self.pipe], time)?;
         if has_signal {
             while let Some([_, ..]) = system::read_some(self.pipe, &mut [0; 64])? {}
@@ -92,7 +95,7 @@ impl Source {
             [] => return Err(io::ErrorKind::UnexpectedEof.into()),
             [front @ .., ESC] if is_shortly || !front.is_empty() => {
                 self.feed(front, true, events);
-                self.open = Some(Open { until: now + PAUSE, is_full: piece.len() == ROOM });
+                self.open = Some(Open { until: Some(now + PAUSE), is_full: piece.len() == ROOM });
                 // In a sequence, in a paste or behind an ESC it isn't the first of a sequence.
                 if self.parser.is_undecided() {
                     self.close(false, events);
@@ -103,10 +106,16 @@ impl Source {
         Ok(())
     }
 
-    /// Closes the open ESC if nothing came in time. Behind a full read it is still no key, but the next byte decides.
+    fn until(&self) -> Option<Instant> {
+        self.open.and_then(|open| open.until)
+    }
+
+    /// Closes the open ESC if it is late for the next byte, but behind a full read.
     fn close_if_late(&mut self, events: &mut Vec<Told>) {
-        if let Some(open) = self.open.filter(|open| open.until <= Instant::now()) {
-            self.close(open.is_full, events);
+        match &mut self.open {
+            Some(Open { until: Some(until), .. }) if *until > Instant::now() => (),
+            Some(open) if open.is_full => open.until = None,
+            _ => self.close(false, events),
         }
     }
 

@@ -9,7 +9,6 @@ use std::sync::atomic::{AtomicBool, Ordering};
 use std::sync::{Arc, Condvar, Mutex, MutexGuard, PoisonError};
 use std::task::{Context, Poll, Waker};
 use std::thread;
-use std::time::Instant;
 
 /// Events as a stream, which ends after the error `UnexpectedEof`.
 ///
@@ -108,7 +107,7 @@ impl EventStream {
         if let Some(fault) = self.watch.as_ref().and_then(|watch| watch.lock().fault.take()) {
             return Err(fault);
         }
-        reader::wait(Some(Instant::now()), State::take_event)
+        reader::find_now(State::take_event)
     }
 }
 
