@@ -242,13 +242,16 @@ def escapes(start):
     told = t.end()
     assert sorted(told[1:4]) == ["Esc  Press", "Resize(90, 30)", "a  Press"], told
     assert told[4:] == ["b  Press", "Esc  Press", "Up  Press", "q  Press", "raw false"], told
-    # As much as is read at once, and the other sequence later.
+    # Behind as much as is read at once the next byte decides, however late.
     t = start("29 read")
     t.wait_told("ready")
-    os.write(t.master, b"\x1b[B" * 341 + b"\x1b")
-    time.sleep(0.03)
-    t.type("\x1b[AqQ")
-    assert t.end() == ["ready", "341 Down, 1 Up, 1 Esc, 0 others"]
+    for rest, told in (("\x1b[Aq", "341 Down, 1 Up, 1 Esc, 0 others"), ("[Aq", "341 Down, 1 Up, 0 Esc, 0 others")):
+        os.write(t.master, b"\x1b[B" * 341 + b"\x1b")
+        time.sleep(0.03)
+        t.type(rest)
+        t.wait_told(told)
+    t.type("Q")
+    assert len(t.end()) == 3
 
 
 def cuts(start):
