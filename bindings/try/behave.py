@@ -242,6 +242,13 @@ def escapes(start):
     told = t.end()
     assert sorted(told[1:4]) == ["Esc  Press", "Resize(90, 30)", "a  Press"], told
     assert told[4:] == ["b  Press", "Esc  Press", "Up  Press", "q  Press", "raw false"], told
+    # Who polls with no time until nothing is there gets it too, whatever ends a wait.
+    t = start("drain")
+    t.wait_told("ready")
+    t.type("a\x1b")
+    t.wait_told("a  Press")
+    t.resize(90, 30)
+    assert "Esc  Press" in t.end()
     # Behind as much as is read at once the next byte decides, however late.
     t = start("29 read")
     t.wait_told("ready")

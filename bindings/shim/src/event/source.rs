@@ -1,7 +1,7 @@
 //! The terminal's bytes and the window's resizes, as events.
 
 use crate::system::{self, Terminal};
-use gelvanh::{flat, Parser};
+use gelvanh::{flat, Classes, Parser};
 use std::io;
 use std::mem;
 use std::os::unix::io::{AsRawFd, RawFd};
@@ -54,15 +54,15 @@ impl Source {
         loop {
             let until = self.until().filter(|_| for_rest);
             let time = until.map_or(time, |until| Some(until.saturating_duration_since(Instant::now())));
-            let has_signal = self.read_once(time, events)?;
-            if has_signal || !for_rest || self.until().is_none() || !events.is_empty() {
+            self.read_once(time, events)?;
+            // A program that polls with no time stops if there is no event of a user, and would miss the Esc.
+            if !for_rest || self.until().is_none() || events.iter().any(|(event, _)| event.class() == Classes::EVENTS) {
                 return Ok(());
             }
         }
     }
 
-    /// Waits and reads, and returns whether the pipe had bytes.
-    fn read_once(&mut self, time: Option<Duration>, events: &mut Vec<Told>) -> io::Result<bool> {
+    fn read_once(&mut self, time: Option<Duration>, events: &mut Vec<Told>) -> io::Result<()> {
         let [has_bytes, has_signal] = system::wait_for([self.terminal.as_raw_fd(), self.pipe], time)?;
         if has_signal {
             while let Some([_, ..]) = system::read_some(self.pipe, &mut [0; 64])? {}
@@ -77,7 +77,7 @@ impl Source {
             let (columns, rows) = crate::terminal::size()?;
             events.push((flat::Event::resize(columns, rows), String::new()));
         }
-        bytes.map(|()| has_signal)
+        bytes
     }
 
     fn read_bytes(&mut self, events: &mut Vec<Told>) -> io::Result<()> {

@@ -63,6 +63,17 @@ fn count() -> io::Result<()> {
     Ok(())
 }
 
+/// Waits for one event, and takes all that are there.
+fn drain() -> io::Result<()> {
+    terminal::enable_raw_mode()?;
+    tell!("ready");
+    poll(Duration::MAX)?;
+    while poll(Duration::ZERO)? {
+        tell!("{}", name(&read()?));
+    }
+    terminal::disable_raw_mode()
+}
+
 fn limits() -> io::Result<()> {
     terminal::enable_raw_mode()?;
     tell!("zero {} {:?}", poll(Duration::ZERO)?, try_read());
@@ -192,6 +203,7 @@ fn main() -> io::Result<()> {
     match std::env::args().nth(1).as_deref() {
         Some("keys") => keys(),
         Some("count") => count(),
+        Some("drain") => drain(),
         Some("limits") => limits(),
         Some("two_threads") => two_threads(),
         Some("shared_wait") => shared_wait(),
