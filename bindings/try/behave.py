@@ -3,6 +3,7 @@
 behave.py PROGRAM [TEST..]: without a test's name it runs all that are of `behave`; those whose names begin with `example_` are of the examples.
 """
 import fcntl
+import itertools
 import os
 import pty
 import select
@@ -270,9 +271,8 @@ def cuts(start):
             t.told.clear()
             for size in (700, 1024, 4096):
                 for gap in (0, 0.001, 0.005):
-                    done = 0
-                    while done < 20:
-                        done += cut(t, size, gap)
+                    tries = (cut(t, size, gap) for _ in range(40))
+                    assert sum(itertools.islice(filter(None, tries), 20)), "no try was in time"
             t.type("Q")
             assert t.end() == []
 
