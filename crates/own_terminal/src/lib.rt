@@ -55,7 +55,7 @@ use crossterm::event::timeout::SystemClock;
 use crossterm::terminal::{SttyDevice, Terminal};
 pub use events::Events;
 pub use feature::Feature;
-pub use session::{LONGEST_PASTE, Session, WithShares, WithStream};
+pub use session::{Session, WithShares, WithStream};
 use std::alloc::{Alloc, AllocError, Global};
 use std::env;
 use std::fs::{File, Files};

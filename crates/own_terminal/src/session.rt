@@ -39,9 +39,6 @@ use std::sync::Wait;
 use std::thread::Threads;
 use std::time::Duration;
 
-/// How many bytes of a paste a session keeps at most, if it isn't begun by `over_source`.
-pub const LONGEST_PASTE: usize = 16 << 20;
-
 /// A terminal, its events, its writer, and the clock that limits are measured by.
 ///
 /// When it is dropped, what was turned on is turned off, the last one first, and raw mode ends.
@@ -132,8 +129,8 @@ impl<W: Write + Drop, C: Clock + Drop> Session<DeviceSource<Input>, SttyDevice<F
 }
 
 impl<I: Device, D: ModeDevice, W: Write + Drop, C: Clock + Drop> Session<DeviceSource<I>, D, W, C> {
-    /// The session of a terminal whose events are those of a device, as of a recorder over what `open` returns. It keeps a paste of
-    /// `LONGEST_PASTE` bytes at most.
+    /// The session of a terminal whose events are those of a device, as of a recorder over what `open` returns. It keeps a paste of any
+    /// length; `over_source` bounds it.
     ///
     /// # Errors
     ///
@@ -150,7 +147,7 @@ impl<I: Device, D: ModeDevice, W: Write + Drop, C: Clock + Drop> Session<DeviceS
         ensures begins { IfOk result (λ s. BeginsOver device (knows s.pass)) }
         ensures err { IfErr result (λ e. error_kind e ≡ OutOfMemory) }
     {
-        let source = DeviceSource::bounded(alloc, device, LONGEST_PASTE);
+        let source = DeviceSource::new(alloc, device);
         Session::over_source(rt, alloc, source, term, out, clock)
     }
 
@@ -177,7 +174,7 @@ impl<I: Device, D: ModeDevice, W: Write + Drop, C: Clock + Drop> Session<DeviceS
         let Some(count) = others.checked_add(1) else {
             return Err(io::Error::from(ErrorKind::OutOfMemory));
         };
-        let source = DeviceSource::bounded(alloc, device, LONGEST_PASTE);
+        let source = DeviceSource::new(alloc, device);
         let reader = InternalEventReader::new(alloc, source);
         let (reader, passes) = EventReader::new(rt, alloc, reader, count)?;
         let mut shares = share_out(alloc, &reader, passes)?;
@@ -231,7 +228,8 @@ impl<I: Device, D: ModeDevice, W: Write + Drop, C: Clock + Drop> Session<DeviceS
 }
 
 impl<S: EventSource<Global>, D: ModeDevice, W: Write + Drop, C: Clock + Drop> Session<S, D, W, C> {
-    /// The session of a terminal whose events are those of a source, as of one that keeps longer pastes.
+    /// The session of a terminal whose events are those of a source, as of one that bounds a paste. A longer one than the source keeps ends
+    /// the session's events: each read is `OutOfMemory` from then on.
     ///
     /// # Errors
     ///
@@ -239,7 +237,7 @@ impl<S: EventSource<Global>, D: ModeDevice, W: Write + Drop, C: Clock + Drop> Se
     ///
     /// ```
     /// let (device, term) = own_terminal::open(rt, alloc, rt.stdin(), folder)?;
-    /// let source = DeviceSource::bounded(alloc, device, 1 << 30);
+    /// let source = DeviceSource::bounded(alloc, device, 1 << 20);
     /// let mut tty = Session::over_source(rt, alloc, source, term, out, SystemClock::new(rt))?;
     /// ```
     pub fn over_source<R: Wait>(

@@ -3,9 +3,9 @@
 use crate::noted::{Noted, terminal_by};
 use crate::queueing::kind;
 use crate::witness::Witness;
-use crossterm::event::KeyboardEnhancementFlags;
 use crossterm::event::source::{Answer, Device, DeviceSource, RawFlag, Script, Waker};
-use own_terminal::{Feature, LONGEST_PASTE, Session};
+use crossterm::event::{Event, KeyboardEnhancementFlags};
+use own_terminal::{Feature, Session};
 use std::alloc::Global;
 use std::io::{self, ErrorKind};
 use std::sync::Wait;
@@ -101,26 +101,29 @@ fn an_end_that_fails_keeps_no_other_from_being_written(rt: HostRuntime) -> io::R
     Ok(())
 }
 
-/// A device that opens a paste, which never ends. It counts its answers.
+/// A device that sends a paste of so many kilobytes, and its end if it is asked further. It counts its answers.
 #[derive(Drop)]
-struct Endless<'a> {
+struct Pasted<'a> {
     answers: &'a AtomicU32,
+    kilobytes: u32,
 }
 
-impl Device for Endless<'_> {
+impl Device for Pasted<'_> {
     fn answer(&mut self, buf: &mut [u8], _limit: Option<Duration>) -> io::Result<Answer> {
-        if self.answers.fetch_add(1, Ordering::SeqCst) == 0 {
-            buf[..6].copy_from_slice(b"\x1b[200~");
-            return Ok(Answer::Bytes {
-                count: 6,
-                raw: true,
-            });
-        }
-        buf.fill(b'x');
-        Ok(Answer::Bytes {
-            count: 1024,
-            raw: true,
-        })
+        let before = self.answers.fetch_add(1, Ordering::SeqCst);
+        let count = if before == 0 || before > self.kilobytes {
+            let bracket = if before == 0 {
+                b"\x1b[200~"
+            } else {
+                b"\x1b[201~"
+            };
+            buf[..6].copy_from_slice(bracket);
+            6
+        } else {
+            buf.fill(b'x');
+            1024
+        };
+        Ok(Answer::Bytes { count, raw: true })
     }
 
     fn failures(&self) -> u64 {
@@ -133,18 +136,17 @@ impl Device for Endless<'_> {
 }
 
 /// The session of such a device.
-type Pasting<'a> = Session<DeviceSource<Endless<'a>>, Noted<'a>, Vec<u8>, Still>;
+type Pasting<'a> = Session<DeviceSource<Pasted<'a>>, Noted<'a>, Vec<u8>, Still>;
 
-/// One whose source keeps so many bytes of a paste, or as many as a session does by itself.
+/// One whose source keeps so many bytes of a paste, or what a session keeps by itself.
 fn pasting<'a, R: Wait>(
     rt: &R,
     alloc: Global,
-    answers: &'a AtomicU32,
+    device: Pasted<'a>,
     calls: &'a AtomicU32,
     longest: Option<usize>,
 ) -> io::Result<Pasting<'a>> {
     let term = terminal_by(RawFlag::new(alloc)?, calls, None);
-    let device = Endless { answers };
     match longest {
         Some(longest) => {
             let source = DeviceSource::bounded(alloc, device, longest);
@@ -154,27 +156,43 @@ fn pasting<'a, R: Wait>(
     }
 }
 
-/// The kind of a read's error where a paste never ends, and how often the device was asked.
-fn ends_at<R: Wait>(
+/// The length of the paste that a read returns, or the kind of its error, and how often the device was asked.
+fn paste_length<R: Wait>(
     rt: &R,
     alloc: Global,
+    kilobytes: u32,
     longest: Option<usize>,
-) -> io::Result<(Option<ErrorKind>, u32)> {
+) -> io::Result<(Result<usize, ErrorKind>, u32)> {
     let (calls, answers) = (AtomicU32::new(0), AtomicU32::new(0));
-    let mut session = pasting(rt, alloc, &answers, &calls, longest)?;
-    let fault = kind(session.read(rt));
+    let device = Pasted {
+        answers: &answers,
+        kilobytes,
+    };
+    let mut session = pasting(rt, alloc, device, &calls, longest)?;
+    let length = match session.read(rt) {
+        Ok(Event::Paste(text)) => Ok(text.as_str().len()),
+        Ok(_) => Ok(0),
+        Err(error) => Err(error.kind()),
+    };
     drop(session);
-    Ok((fault, answers.load(Ordering::SeqCst)))
+    Ok((length, answers.load(Ordering::SeqCst)))
 }
 
 #[test]
-fn a_paste_that_never_ends_is_an_error(rt: HostRuntime) -> io::Result<()> {
-    // The start comes first, and the begun end and the piece that has no room last.
-    let (kind, answers) = ends_at(&rt, rt.alloc(), None)?;
-    expect!(rt; kind == Some(ErrorKind::OutOfMemory));
-    expect!(rt; answers as usize == LONGEST_PASTE / 1024 + 2);
-    let (kind, answers) = ends_at(&rt, rt.alloc(), Some(1 << 20))?;
-    expect!(rt; kind == Some(ErrorKind::OutOfMemory));
+fn a_session_keeps_a_paste_of_any_length(rt: HostRuntime) -> io::Result<()> {
+    // 17 MiB, as crossterm does.
+    let (length, _) = paste_length(&rt, rt.alloc(), 17 << 10, None)?;
+    expect!(rt; length == Ok(17 << 20));
+    Ok(())
+}
+
+#[test]
+fn a_paste_is_an_error_where_it_is_longer_than_its_source_keeps(rt: HostRuntime) -> io::Result<()> {
+    let (length, _) = paste_length(&rt, rt.alloc(), 1 << 10, Some(1 << 20))?;
+    expect!(rt; length == Ok(1 << 20));
+    // The start comes first, and the piece that has no room last.
+    let (length, answers) = paste_length(&rt, rt.alloc(), u32::MAX, Some(1 << 20))?;
+    expect!(rt; length == Err(ErrorKind::OutOfMemory));
     expect!(rt; answers == 1026);
     Ok(())
 }

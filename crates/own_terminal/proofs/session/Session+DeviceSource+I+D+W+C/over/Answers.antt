@@ -4,5 +4,5 @@ use Rattle.own_terminal.proofs.session.Session+DeviceSource+I+D+W+C.over.Goals a
 
 pub returns-clause-begins : goal.returns-clause-begins
 returns-clause-begins g c =
-    let new = c.bounded-source.ensures in
-    begins_over (λ s. knows s.pass) c.args.device c.bounded-source.result (record { waiting = new.waiting; represents = new.represents; untaken = new.untaken }) new.device c.over_source.result c.over_source.ensures.begins
+    let new = c.new-source.ensures in
+    begins_over (λ s. knows s.pass) c.args.device c.new-source.result (record { waiting = new.waiting; represents = new.represents; untaken = new.untaken }) new.device c.over_source.result c.over_source.ensures.begins

@@ -18,7 +18,7 @@ unreachable-requires g c =
 
 pub returns-clause-begins : goal.returns-clause-begins
 returns-clause-begins g c =
-    let new = c.bounded-source.ensures in
+    let new = c.new-source.ensures in
     let source = ap (λ r. r.source) c.new-reader.ensures in
     let reader = c.new-reader.result in
     let passes = c.in_ok-reader.passes.items in
