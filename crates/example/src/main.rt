@@ -15,8 +15,8 @@ use std::sync::Wait;
 
 const USAGE: &str = "usage: example NAME
 by itself: frames, keylog, own_command, table
-  replay FILE, replay FILE --speed N, replay FILE --probe, replay FILE --cast
-by terminal/with_terminal: browse, clock, edit, events, keys, keys FILE, record FILE, stream";
+  replay FILE, replay FILE --speed N, replay FILE --probe, replay FILE --cast; each with --front after FILE if the recording was cut
+by terminal/with_terminal: browse, clock, edit, events, keys, keys FILE, record FILE, record FILE --over, stream";
 
 /// Runs an example on standard input and output. If there is none of the name, standard error lists them.
 fn run_plain(rt: &HostRuntime, name: &str, words: &[String]) -> io::Result<()> {
@@ -50,6 +50,11 @@ fn run_in_terminal<R: AllocGlobal + Files + Wait>(
     }
 }
 
+/// Whether these words may come between a recording's file and the folder of the pipes: none, or the one by which it is written over.
+fn may_follow_file(words: &[String]) -> bool {
+    matches!(words, []) || matches!(words, [word] if word.as_str() == "--over")
+}
+
 fn main(rt: HostRuntime) -> io::Result<()> {
     let words: Vec<String> = env::args(&rt)?.skip(1).collect(rt.alloc())?;
     let Some((name, words)) = words.as_slice().split_first() else {
@@ -57,9 +62,16 @@ fn main(rt: HostRuntime) -> io::Result<()> {
     };
     // In a terminal the last word is the folder of its pipes.
     match (name.as_str(), words) {
-        ("record", [file, folder]) => {
-            let (input, out) = (rt.stdin(), rt.stdout());
-            let (mut tty, watch) = record::open(&rt, input, out, file.as_str(), folder.as_str())?;
+        ("record", [file, over @ .., folder]) if may_follow_file(over) => {
+            let (file, folder, is_over) = (file.as_str(), folder.as_str(), !over.is_empty());
+            let (mut tty, watch) = record::open(
+                &rt,
+                rt.stdin(),
+                rt.stdout(),
+                file,
+                is_over,
+                folder,
+            )?;
             record::run(&rt, &mut tty, &watch)?;
             tty.leave()
         }

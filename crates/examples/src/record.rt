@@ -2,6 +2,9 @@
 //!
 //! `example record FILE` runs it in a terminal; Esc ends it. The last row shows how many events came, and why the recording ended if it did.
 //! `example replay FILE` shows the same events again.
+//!
+//! All that is typed is in the file, passwords too: only its owner may read it. A file that is there is kept, unless `--over` follows its
+//! name; then it is written over, and who may read it stays. The first line is `# size COLUMNS ROWS`, the window's size at the beginning.
 
 use crossterm::cursor::MoveTo;
 use crossterm::event::source::DeviceSource;
@@ -16,6 +19,7 @@ use std::alloc::Global;
 use std::fs::{File, Files};
 use std::io::{self, BufWriter, ErrorKind, Stdin, Stdout, Write};
 use std::net::Net;
+use std::os::unix::fs::OpenOptionsExt;
 use std::rt::{HostRuntime, Runtime};
 use std::sync::Wait;
 use std::time::Duration;
@@ -39,16 +43,37 @@ struct View {
     events: u64,
 }
 
-/// Opens the terminal, with a recorder over what it reports, and a watch that reports why the recording ended.
+/// Makes the file of a recording. If `is_over` holds, one that is there is written over.
+fn create<R: Runtime + Files<File = File>>(rt: &R, file: &str, is_over: bool) -> io::Result<File> {
+    let mut options = File::options();
+    options.write(true).mode(0o600);
+    if is_over {
+        options.create(true).truncate(true);
+    } else {
+        options.create_new(true);
+    }
+    match options.open(rt, file) {
+        Err(error) if error.kind() == ErrorKind::AlreadyExists => {
+            eprintln!(rt; "record: {file} is there already; record {file} --over writes over it")?;
+            Err(error)
+        }
+        opened => opened,
+    }
+}
+
+/// Opens the terminal, with a recorder over what it reports, and a watch that reports why the recording ended. If `is_over` holds, a file
+/// that is there is written over.
 ///
 /// # Errors
 ///
-/// Those of the file and of `own_terminal::open`, and `OutOfMemory` if memory was refused.
+/// `AlreadyExists` if the file is there, and standard error says what to do; else those of the file and of `own_terminal::open`, and
+/// `OutOfMemory` if memory was refused.
 pub fn open<'a, R>(
     rt: &'a R,
     input: Stdin,
     out: Stdout,
     file: &str,
+    is_over: bool,
     folder: &str,
 ) -> io::Result<(Recorded<'a, R>, Watch)>
 where
@@ -56,8 +81,10 @@ where
 {
     let alloc = rt.alloc();
     let watch = Watch::new(alloc)?;
-    let file = File::create(rt, file)?;
-    let (input, term) = own_terminal::open(rt, alloc, input, folder)?;
+    let mut file = create(rt, file, is_over)?;
+    let (input, mut term) = own_terminal::open(rt, alloc, input, folder)?;
+    let size = term.window_size()?;
+    writeln!(file, "# size {} {}", size.columns, size.rows)?;
     let device = Recorder::new(alloc, input, file, SystemClock::new(rt)).watched(watch.share()?);
     let out = BufWriter::new(alloc, out)?;
     let tty = Session::over(rt, alloc, device, term, out, SystemClock::new(rt))?;

@@ -1,15 +1,18 @@
 //! Shows the events of a recording, each after the milliseconds that had passed since the beginning.
 //!
 //! `example replay FILE` shows them at once, and `example replay FILE --speed N` as they came, N times as fast. `--probe` writes what
-//! came in the words of `probe play`, and `--cast` in the format asciicast v2, which the players of asciinema read.
+//! came in the words of `probe play`, and `--cast` writes the format asciicast v2, so that a player of asciinema shows each event when it
+//! came. `--front` after the file's name replays the whole lines of a recording that was cut, as by a full disk.
 
 mod cast;
 
+use bstr::ByteSlice;
+use cast::Cast;
 use crossterm::event::InternalEvent;
 use crossterm::event::filter::EventFilter;
 use crossterm::event::read::InternalEventReader;
 use crossterm::event::source::{Act, Answer, Device, DeviceSource, Script, Waker};
-use recorder::reading::{Session, read_session};
+use recorder::reading::{Session, Wrong, read_session};
 use recorder::write_act;
 use std::alloc::{AllocError, Global};
 use std::fs::{self, Files};
@@ -37,6 +40,14 @@ fn read_form(words: &[String]) -> Option<Form> {
             Some(Form::Events(Some(speed.parse().ok()?)))
         }
         _ => None,
+    }
+}
+
+/// Whether only the whole lines are replayed, and the form, as some words ask for them.
+fn read_words(words: &[String]) -> Option<(bool, Form)> {
+    match words {
+        [word, rest @ ..] if word.as_str() == "--front" => Some((true, read_form(rest)?)),
+        _ => Some((false, read_form(words)?)),
     }
 }
 
@@ -143,33 +154,28 @@ fn write_line<W: Write>(
     }
 }
 
-/// Reads once, and writes what came. Returns whether all was read.
-fn turn<C: Clock, W: Write>(
-    reader: &mut InternalEventReader<DeviceSource<Player<'_, C>>>,
-    out: &mut W,
-) -> io::Result<bool> {
+/// A reader over a recording.
+type Replay<'a, C> = InternalEventReader<DeviceSource<Player<'a, C>>>;
+
+/// Reads once, and returns what came and when: `None` once all was read.
+fn next<C: Clock>(reader: &mut Replay<'_, C>) -> Option<(u32, io::Result<Option<InternalEvent>>)> {
     let next = reader.read_within(1, &EventFilter);
     let player = reader.source().device();
     if next.is_err() && player.is_over() {
-        return Ok(true);
+        return None;
     }
-    write_line(player.time(), next, out)?;
-    if player.speed.is_some() {
-        out.flush()?;
-    }
-    Ok(false)
+    Some((player.time(), next))
 }
 
-/// Writes the events and failures of a recording.
-fn write_events<C: Clock, W: Write>(
-    alloc: Global,
-    player: Player<'_, C>,
-    out: &mut W,
-) -> io::Result<()> {
-    let mut reader = InternalEventReader::new(alloc, DeviceSource::new(alloc, player));
+/// Writes the events and failures of a recording, each at once if it has a speed.
+fn write_events<C: Clock, W: Write>(reader: &mut Replay<'_, C>, out: &mut W) -> io::Result<()> {
     for _ in 0..u64::MAX {
-        if turn(&mut reader, out)? {
+        let Some((time, next)) = next(reader) else {
             break;
+        };
+        write_line(time, next, out)?;
+        if reader.source().device().speed.is_some() {
+            out.flush()?;
         }
     }
     Ok(())
@@ -190,30 +196,55 @@ fn write_probe<W: Write>(alloc: Global, session: &Session, out: &mut W) -> io::R
     Ok(())
 }
 
-/// Reads the recording of a file. Standard error says which line doesn't read, and why.
-fn load<R: AllocGlobal + Files + Eprint>(rt: &R, file: &str) -> io::Result<Session> {
-    let text = fs::read(rt, file)?;
-    match read_session(&rt.alloc(), text.as_slice()) {
+/// The whole lines of a text, from its beginning.
+fn whole_lines(text: &[u8]) -> &[u8] {
+    let end = text.rfind_byte(b'\n').map_or(0, |at| at.saturating_add(1));
+    &text[..end.min(text.len())]
+}
+
+/// Reads the recording in a file's text. Standard error says which line doesn't read, and why.
+fn load<R: AllocGlobal + Eprint>(rt: &R, file: &str, text: &[u8]) -> io::Result<Session> {
+    match read_session(&rt.alloc(), text) {
         Ok(session) => Ok(session),
         Err(bad) => {
             eprintln!(rt; "{file}: {bad}")?;
+            if bad.reason == Wrong::Unended {
+                eprintln!(rt; "{file}: the recording was cut; --front replays the lines before")?;
+            }
             Err(io::Error::from(ErrorKind::InvalidData))
         }
     }
 }
 
-/// Writes a recording in a form.
-fn write<R: AllocGlobal + Clock, W: Write>(
+/// A reader over the recording in a file's text.
+fn replay<'a, R: AllocGlobal + Clock + Eprint>(
+    rt: &'a R,
+    file: &str,
+    text: &[u8],
+    speed: Option<u32>,
+) -> io::Result<Replay<'a, R>> {
+    let alloc = rt.alloc();
+    let player = Player::new(alloc, rt, load(rt, file, text)?, speed)?;
+    Ok(InternalEventReader::new(alloc, DeviceSource::new(alloc, player)))
+}
+
+/// Writes the recording in a file's text in a form.
+fn write<R: AllocGlobal + Clock + Eprint, W: Write>(
     rt: &R,
+    file: &str,
+    text: &[u8],
     form: Form,
-    session: Session,
     out: &mut W,
 ) -> io::Result<()> {
     let alloc = rt.alloc();
     match form {
-        Form::Events(speed) => write_events(alloc, Player::new(alloc, rt, session, speed)?, out),
-        Form::Probe => write_probe(alloc, &session, out),
-        Form::Cast => cast::write(alloc, &session, out),
+        Form::Events(speed) => write_events(&mut replay(rt, file, text, speed)?, out),
+        Form::Probe => write_probe(alloc, &load(rt, file, text)?, out),
+        Form::Cast => {
+            let mut cast = Cast::new(alloc, load(rt, file, text)?);
+            cast.write_header(text, out)?;
+            cast.write(&mut replay(rt, file, text, None)?, out)
+        }
     }
 }
 
@@ -229,10 +260,17 @@ pub fn run<R: AllocGlobal + Files + Clock + Eprint, W: Write>(
     words: &[String],
     out: &mut W,
 ) -> io::Result<()> {
-    let Some(form) = read_form(words) else {
+    let Some((is_front, form)) = read_words(words) else {
         return Err(io::Error::from(ErrorKind::InvalidInput));
     };
-    let session = load(rt, file)?;
-    write(rt, form, session, out)?;
+    let text = fs::read(rt, file)?;
+    let text = text.as_slice();
+    write(
+        rt,
+        file,
+        if is_front { whole_lines(text) } else { text },
+        form,
+        out,
+    )?;
     out.flush()
 }

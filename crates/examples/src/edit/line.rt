@@ -81,6 +81,21 @@ pub fn wrapped(chars: &[char], from: usize, columns: usize) -> (usize, usize) {
     }
 }
 
+/// Pushes the characters of a text that a line shows, and a blank for each line end and each tab.
+fn push_shown(chars: &mut Vec<char>, text: &str) -> Result<(), AllocError> {
+    let mut last = ' ';
+    for c in text.chars() {
+        match c {
+            '\n' if last == '\r' => {}
+            '\n' | '\r' | '\t' => chars.push(' ')?,
+            _ if c.is_control() => {}
+            _ => chars.push(c)?,
+        }
+        last = c;
+    }
+    Ok(())
+}
+
 impl Line {
     /// An empty line.
     pub fn new(alloc: Global) -> Line {
@@ -103,17 +118,24 @@ impl Line {
         Ok(())
     }
 
-    /// Inserts a text, as a paste brings it, without what isn't shown.
+    /// Inserts a text, as a paste brings it: a line end or a tab is a blank, and other controls are left out. Each character is moved once,
+    /// however long the line is.
     ///
     /// # Errors
     ///
-    /// `AllocError` if memory was refused. What was inserted before stays.
+    /// `AllocError` if memory was refused. Then nothing has changed.
     pub fn insert_all(&mut self, text: &str) -> Result<(), AllocError> {
-        for c in text.chars() {
-            if !c.is_control() {
-                self.insert(c)?;
-            }
+        let before = self.chars.len();
+        if let Err(error) = push_shown(&mut self.chars, text) {
+            self.chars.truncate(before);
+            return Err(error);
         }
+        // What was pushed at the end goes to its place.
+        let end = self.chars.len();
+        let count = end.saturating_sub(before);
+        let rest = &mut self.chars.as_mut_slice()[self.at.min(end)..end];
+        rest.rotate_right(count.min(rest.len()));
+        self.at = self.at.saturating_add(count).min(end);
         Ok(())
     }
 
@@ -141,6 +163,8 @@ impl Line {
             KeyCode::Char('c' | 'd') if key.modifiers == KeyModifiers::CONTROL => {
                 return Ok(Then::Quit);
             }
+            // A control character isn't shown: as U+009D it would begin a control sequence.
+            KeyCode::Char(c) if c.is_control() => {}
             KeyCode::Char(c) if key.modifiers.difference(KeyModifiers::SHIFT).is_empty() => {
                 self.insert(c)?;
             }
