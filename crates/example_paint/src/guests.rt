@@ -6,6 +6,7 @@ use crate::telnet::{GREETING, Telnet};
 use crate::view::View;
 use crossterm::cursor::{Hide, Show};
 use crossterm::event::source::{DeviceSource, EventSource, RawFlag, ReadDevice};
+use crossterm::event::timeout::{Clock, SystemClock};
 use crossterm::event::{DisableMouseCapture, EnableMouseCapture, InternalEvent};
 use crossterm::style::{ColorOutput, ResetColor};
 use crossterm::terminal::{EnterAlternateScreen, LeaveAlternateScreen};
@@ -39,6 +40,9 @@ const PAUSE: u64 = 100;
 /// What somebody sees for whom there is no room.
 const FULL: &[u8] = b"paint: there is no room, come again later\r\n";
 
+/// What somebody sees who leaves since nothing came of them.
+const SILENT: &[u8] = b"paint: nothing came from you for too long\r\n";
+
 /// One terminal: where its events come from, and where its picture goes.
 #[derive(Drop)]
 struct Guest {
@@ -48,10 +52,12 @@ struct Guest {
     view: View,
     // Whether events may wait that the last turn didn't come to.
     is_busy: bool,
+    // When bytes came last, or the guest.
+    heard: Duration,
 }
 
 impl Guest {
-    fn new(alloc: Global, stream: TcpStream) -> io::Result<Guest> {
+    fn new(alloc: Global, stream: TcpStream, now: Duration) -> io::Result<Guest> {
         // A frame of several writes isn't held back.
         stream.set_nodelay(true)?;
         let out = stream.try_clone()?;
@@ -64,6 +70,7 @@ impl Guest {
             painter: Painter::new(),
             view: View::new(alloc)?,
             is_busy: false,
+            heard: now,
         })
     }
 
@@ -115,6 +122,10 @@ struct Studio {
     alloc: Global,
     canvas: Canvas,
     guests: Slab<Guest>,
+    // How long a guest may say nothing, so that silent ones don't keep others out.
+    silence: Duration,
+    // The time at the last look at the clock.
+    now: Duration,
     // It takes the descriptors by which somebody is turned away if no other is left.
     spare: Option<Poll>,
 }
@@ -137,7 +148,7 @@ impl Studio {
         if key >= GUESTS {
             return stream.write_all(FULL);
         }
-        let mut guest = Guest::new(self.alloc, stream)?;
+        let mut guest = Guest::new(self.alloc, stream, self.now)?;
         guest.enter(&self.canvas)?;
         let fd = guest.out.as_raw_fd();
         registry.register(&mut SourceFd(&fd), Token(key), Interest::READABLE)?;
@@ -149,10 +160,40 @@ impl Studio {
 
     /// Lets a guest go, with the screen put back.
     fn dismiss(&mut self, key: usize) {
+        self.dismiss_with(key, b"");
+    }
+
+    /// The same, with a word of farewell.
+    fn dismiss_with(&mut self, key: usize, farewell: &[u8]) {
         if let Some(mut guest) = self.guests.try_remove(key) {
             // One who is gone already takes no farewell.
             let _ = guest.leave();
+            let _ = guest.out.write_all(farewell);
         }
+    }
+
+    /// Notes that a guest isn't silent.
+    fn hear(&mut self, key: usize) {
+        if let Some(guest) = self.guests.get_mut(key) {
+            guest.heard = self.now;
+        }
+    }
+
+    /// Lets those go that were silent for too long, and returns after how long the next one will have been, if there is a guest.
+    fn dismiss_silent(&mut self) -> Option<Duration> {
+        let mut next = None;
+        for key in 0..GUESTS {
+            let Some(heard) = self.guests.get(key).map(|guest| guest.heard) else {
+                continue;
+            };
+            let silent = self.now.saturating_sub(heard);
+            if silent >= self.silence {
+                self.dismiss_with(key, SILENT);
+            } else {
+                next = earlier(next, Some(self.silence.saturating_sub(silent)));
+            }
+        }
+        next
     }
 
     fn fulfil(&mut self, key: usize, wish: Wish) {
@@ -192,6 +233,21 @@ impl Studio {
         } else if let Some(guest) = self.guests.get_mut(key) {
             guest.is_busy = true;
         }
+    }
+
+    /// Does what the guests want of whom something came, and returns whether somebody knocks.
+    fn attend(&mut self, registry: &Registry, events: &Events) -> bool {
+        let mut knocks = false;
+        for event in events.iter() {
+            match event.token() {
+                DOOR => knocks = true,
+                Token(key) => {
+                    self.hear(key);
+                    self.serve(registry, key);
+                }
+            }
+        }
+        knocks
     }
 
     /// Waits for more of a guest. One who can't be watched leaves.
@@ -256,6 +312,14 @@ impl Studio {
     }
 }
 
+/// The shorter of two limits, if there is one.
+fn earlier(a: Option<Duration>, b: Option<Duration>) -> Option<Duration> {
+    match (a, b) {
+        (Some(a), Some(b)) => Some(a.min(b)),
+        (None, limit) | (limit, None) => limit,
+    }
+}
+
 /// Waits until a guest sends something, somebody knocks, or the limit has passed. A signal doesn't end the wait with an error.
 fn wait(poll: &mut Poll, events: &mut Events, limit: Option<Duration>) -> io::Result<()> {
     match poll.poll(events, limit) {
@@ -264,39 +328,49 @@ fn wait(poll: &mut Poll, events: &mut Events, limit: Option<Duration>) -> io::Re
     }
 }
 
-/// Serves guests at a port of this machine, until a signal ends the program. No guest ends it.
+/// Serves guests at a port of this machine, until a signal ends the program. No guest ends it. One who says nothing for `silence` has to leave.
 ///
 /// # Errors
 ///
 /// The system's if it can't listen, watch or wait, and `OutOfMemory` if memory was refused at the beginning. No guest's fault is one.
-pub fn serve<N: Net>(rt: &N, alloc: Global, port: u16) -> io::Result<()> {
+pub fn serve<N: Net + std::rt::Clock>(
+    rt: &N,
+    alloc: Global,
+    port: u16,
+    silence: Duration,
+) -> io::Result<()> {
     let address = SocketAddr::from((Ipv4Addr::LOCALHOST, port));
     let mut listener = TcpListener::bind(rt, address)?;
     let mut poll = Poll::new(rt)?;
     poll.registry()
         .register(&mut listener, DOOR, Interest::READABLE)?;
     let mut events = Events::with_capacity(alloc, GUESTS)?;
+    let mut clock = SystemClock::new(rt);
     let mut studio = Studio {
         alloc,
         canvas: Canvas::new(alloc)?,
         guests: Slab::new(alloc),
+        silence,
+        now: clock.now(),
         spare: Poll::new(rt).ok(),
     };
     let mut door = None;
-    let mut is_busy = false;
+    let mut limit = None;
     for _ in 0..u64::MAX {
-        let limit = if is_busy { Some(Duration::ZERO) } else { door };
         wait(&mut poll, &mut events, limit)?;
-        for event in events.iter() {
-            match event.token() {
-                DOOR => door = Some(Duration::ZERO),
-                Token(key) => studio.serve(poll.registry(), key),
-            }
+        studio.now = clock.now();
+        if studio.attend(poll.registry(), &events) {
+            door = Some(Duration::ZERO);
         }
         if door.is_some() {
             door = studio.open_door(rt, poll.registry(), &listener);
         }
-        is_busy = studio.serve_busy(poll.registry());
+        let silent = studio.dismiss_silent();
+        limit = if studio.serve_busy(poll.registry()) {
+            Some(Duration::ZERO)
+        } else {
+            earlier(door, silent)
+        };
     }
     Ok(())
 }
