@@ -8,6 +8,7 @@ kit, is seen by the shares alone. The file strength/landed names the commit of t
 import collections
 import dataclasses
 import functools
+import graphlib
 import hashlib
 import os
 import re
@@ -104,7 +105,11 @@ class Changes:
         said = self.git("diff", "--name-only", "--no-renames", commit, "--", "crates", "strength/bodies")
         said += self.git("ls-files", "--others", "--exclude-standard", "--", "crates", "strength/bodies")
         self.files = {it for it in said.split("\n") if it}
-        self.words = self.closed({it for file in self.files for it in self.changed_names(file)})
+        self.words = {}
+        for crate, needs in self.crates():
+            words = set().union(*(self.words[it] for it in needs))
+            words.update(it for file in self.files if file.startswith(f"crates/{crate}/") for it in self.changed_names(file))
+            self.words[crate] = self.closed(crate, words)
 
     def git(self, *words):
         return subprocess.run(["git", *words], cwd=self.root, capture_output=True, text=True, errors="replace", check=True).stdout
@@ -135,11 +140,18 @@ class Changes:
         is_shared = file.endswith(".antt") and not file.endswith(("/Answers.antt", "/Invariants.antt", "/Proof.antt", "/Lib.antt"))
         return self.differing(file, definitions) if is_shared else set()
 
-    def closed(self, words):
-        """These words, and each definition that names one of them, by whatever way."""
+    def crates(self):
+        """The crates with those that each names, lowest first: a name means nothing to crates that don't stand on its own."""
+        rows = [line.split("#")[0].partition(":") for line in self.now("crates.txt").split("\n")]
+        needs = {head.split()[0]: deps.split() for head, _, deps in rows if head.strip()}
+        needs = {crate: [it for it in deps if it in needs] for crate, deps in needs.items()}
+        return [(crate, needs[crate]) for crate in graphlib.TopologicalSorter(needs).static_order()]
+
+    def closed(self, crate, words):
+        """These words, and each definition of a crate that names one of them, by whatever way."""
         if not words:
             return words
-        listed = self.git("ls-files", "-co", "--exclude-standard", "--", "crates/*/specs/*.antt").split("\n")
+        listed = self.git("ls-files", "-co", "--exclude-standard", "--", f"crates/{crate}/specs/*.antt").split("\n")
         texts = [pair for file in listed if file for pair in definitions(self.now(file)).items()]
         count = -1
         while count != len(words):
@@ -177,7 +189,7 @@ class Changes:
                 return 1
             if function:
                 text += function.owner + texts[pair.path][function.start : function.end]
-        return 2 if names_one(text, self.words) else None
+        return 2 if names_one(text, self.words[body.crate]) else None
 
 
 @dataclasses.dataclass(frozen=True)

@@ -12,6 +12,12 @@ import dataclasses
 import os
 
 
+def bytes_of(path):
+    """The bytes of a file."""
+    with open(path, "rb") as it:
+        return it.read()
+
+
 @dataclasses.dataclass(frozen=True)
 class Pair:
     """A text of a file of the crate, and what stands in its place."""
