@@ -14,7 +14,7 @@
 //! `read_chord` reads a chord as people write it, as `ctrl-x`, and `Spelled` shows one so.
 //!
 //! It is built on `crossterm_types`, for keys and their equality, on `crossterm_flags`, for tables of names, and on `crossterm_read`, for a
-//! reader that threads share. It uses their public contracts alone.
+//! reader that threads share. It uses their public contracts, and lemmas that they lend to the crates above.
 //!
 //! What is proved, beyond safety:
 //!

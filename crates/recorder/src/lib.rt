@@ -18,7 +18,7 @@
 //! let mut reader = InternalEventReader::new(alloc, DeviceSource::new(alloc, Script::new(session.acts)));
 //! ```
 //!
-//! It is built on `crossterm_read`, for devices and scripts, and on the crates below it, by their public contracts alone.
+//! It is built on `crossterm_read`, for devices and scripts, and on the crates below it, by their public contracts and lemmas that they lend.
 //!
 //! What is proved, beyond safety:
 //!

@@ -1,4 +1,4 @@
-//! The bytes of sequences, and their events into an outlet: all bytes go through here but those of an open paste.
+//! The bytes of sequences, and their events into an outlet. Not through here go the bytes of an open paste, and an event that comes alone.
 //!
 //! Runs of bytes are put in at once, with what comes of putting in each by itself.
 ghost use Rattle.std.specs.Prelude.{◌≡◌, ◌≢◌, ◌==◌, ◌&&◌, not, ◌+◌, ◌≤◌, ◌<◌, ℕ, List, [], None, false, true, length, take, get_or, option_to_list, IsTrue, IsFalse};
