@@ -63,9 +63,9 @@ class Terminal:
             columns, rows = size
             fcntl.ioctl(0, termios.TIOCSWINSZ, struct.pack('HHHH', rows, columns, 0, 0))
             os.environ.setdefault('TERM', 'xterm')
-            # A shell has its commands in the background ignore these.
-            signal.signal(signal.SIGINT, signal.SIG_DFL)
-            signal.signal(signal.SIGQUIT, signal.SIG_DFL)
+            # A shell has its commands in the background ignore INT and QUIT, nohup HUP, and Python PIPE.
+            for name in ('INT', 'QUIT', 'HUP', 'TERM', 'PIPE', 'USR1'):
+                signal.signal(getattr(signal, f'SIG{name}'), signal.SIG_DFL)
             os.environ['TMPDIR'] = self.folder
             os.environ['PATH'] = os.pathsep.join([*([path] if path else []), os.environ['PATH']])
             if isinstance(line, str):
