@@ -17,6 +17,8 @@ BUSY = ASK + 'while :; do ask raw; done'
 QUIET = ASK + 'ask raw; printf "begun\\r\\n"; exec sleep 60'
 # Switches to raw mode and turns on pastes, reads the first bytes of one, and ends in its midst.
 PASTED = ASK + 'ask raw; printf "\\033[?2004hbegun\\r\\n"; head -c 50000 >/dev/null; printf "\\033[?2004l"; exit 1'
+# The same, but reads all.
+PASTING = ASK + 'ask raw; printf "\\033[?2004hbegun\\r\\n"; exec cat >/dev/null'
 # A pasted line of a KiB, which a shell would run as a comment.
 LINE = b'#' + b'x' * 1022 + b'\r'
 SIGNALS = (signal.SIGINT, signal.SIGTERM, signal.SIGHUP)
@@ -206,15 +208,16 @@ def shell_says(terminal, command, limit=10):
     return terminal.out[start:].rpartition(b'<')[2].partition(b'>')[0]
 
 
-def paste_isnt_run(command, shell=('sh', '-i'), size=4 << 20, begun=b'begun', then=None):
+def paste_isnt_run(command, shell=('sh', '-i'), size=4 << 20, begun=b'begun', midst=None, then=None):
     """An interactive shell runs a command, into which a paste of so many bytes comes whose last line would make a file. The shell has its mode
-    after that, and there is no file. `then` does what comes in the midst or ends the command, if it doesn't end by itself."""
+    after that, and there is no file. `midst` does what comes when half is pasted, and `then` what comes after the paste."""
     with tempfile.TemporaryDirectory() as room, opened(list(shell)) as (terminal, _):
         mark = f'{room}/owned'
         mode = shell_says(terminal, b'stty -g')
         terminal.send(b'%s; printf "all %%s\\r\\n" over\n' % command.encode())
         terminal.until(begun)
-        taken = terminal.paste(b'\x1b[200~' + LINE * (size >> 10) + b'\r: >%s\r\x1b[201~' % mark.encode())
+        taken = terminal.paste(b'\x1b[200~' + LINE * (size >> 10) + b'\r: >%s\r\x1b[201~' % mark.encode(),
+                               midst=midst and (lambda: midst(terminal)))
         if then:
             then(terminal)
         terminal.until(b'all over', 10)
@@ -252,6 +255,23 @@ def paste_of_an_ended_program(shell=('sh', '-i')):
     """A program that ends with 1 in the midst of a paste of 4 MiB."""
     with as_file(PASTED) as command:
         paste_isnt_run(command, shell)
+
+
+def script_of(terminal):
+    """The process of the script that an interactive shell runs: the oldest of those that run it."""
+    return min(pid for pid, line in terminal.descendants() if WITH in line)
+
+
+def program_of(terminal):
+    """The process of the program: it reads by `cat`."""
+    return next(pid for pid, line in terminal.descendants() if line.startswith('cat'))
+
+
+def paste_of_a_killed_program():
+    """A program or a script that a signal ends in the midst of a paste of 4 MiB."""
+    for find, number in ((program_of, signal.SIGKILL), (script_of, signal.SIGTERM)):
+        with as_file(PASTING) as command:
+            paste_isnt_run(command, midst=lambda terminal, find=find, number=number: os.kill(find(terminal), number))
 
 
 def flood_is_left():

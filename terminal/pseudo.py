@@ -84,8 +84,9 @@ class Terminal:
     def send(self, data):
         os.write(self.fd, data)
 
-    def paste(self, data, limit=20):
-        """Types much, and reads meanwhile, until all is taken, or nobody takes it for a second. Returns how much was taken."""
+    def paste(self, data, limit=20, midst=None):
+        """Types much, and reads meanwhile, until all is taken, or nobody takes it for a second. Calls `midst` when half is taken. Returns how
+        much was taken."""
         os.set_blocking(self.fd, False)
         left, end, last = memoryview(data), time.time() + limit, time.time()
         while left and time.time() < min(end, last + 1):
@@ -93,6 +94,9 @@ class Terminal:
             if select.select([], [self.fd], [], 0.02)[1]:
                 with contextlib.suppress(OSError):
                     left, last = left[os.write(self.fd, left[:4096]):], time.time()
+            if midst and len(left) <= len(data) // 2:
+                midst()
+                midst = None
         os.set_blocking(self.fd, True)
         return len(data) - len(left)
 
