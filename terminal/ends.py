@@ -208,28 +208,41 @@ def shell_says(terminal, command, limit=10):
     return terminal.out[start:].rpartition(b'<')[2].partition(b'>')[0]
 
 
-def paste_isnt_run(command, shell=('sh', '-i'), size=4 << 20, begun=b'begun', midst=None, then=None):
+def paste_into(command, shell, size, begun, midst, then):
     """An interactive shell runs a command, into which a paste of so many bytes comes whose last line would make a file. The shell has its mode
-    after that, and there is no file. `midst` does what comes when half is pasted, and `then` what comes after the paste."""
+    after that. Returns whether there is a file, and whether the paste was too slow to be discarded."""
     with tempfile.TemporaryDirectory() as room, opened(list(shell)) as (terminal, _):
         mark = f'{room}/owned'
         mode = shell_says(terminal, b'stty -g')
         terminal.send(b'%s; printf "all %%s\\r\\n" over\n' % command.encode())
         terminal.until(begun)
-        taken = terminal.paste(b'\x1b[200~' + LINE * (size >> 10) + b'\r: >%s\r\x1b[201~' % mark.encode(),
-                               midst=midst and (lambda: midst(terminal)))
+        last = b'\r: >%s\r\x1b[201~' % mark.encode()
+        terminal.paste(b'\x1b[200~' + LINE * (size >> 10) + last, midst=midst and (lambda: midst(terminal)))
         if then:
             then(terminal)
         terminal.until(b'all over', 10)
         terminal.send(b'\n')
         try:
             equal('mode after a paste', shell_says(terminal, b'stty -g'), mode)
-        finally:
-            if os.path.exists(mark):
-                raise Wrong(f'the shell ran what was pasted, of which {taken} bytes were taken')
-        terminal.send(b'exit\n')
-        terminal.end()
-        terminal.none_left()
+        except Wrong:
+            if not os.path.exists(mark):
+                raise
+        if not os.path.exists(mark):
+            terminal.send(b'exit\n')
+            terminal.end()
+            terminal.none_left()
+        return os.path.exists(mark), terminal.was_slow
+
+
+def paste_isnt_run(command, shell=('sh', '-i'), size=1 << 20, begun=b'begun', midst=None, then=None):
+    """Nothing of a paste is run by the shell. `midst` does what comes when half is pasted, and `then` what comes after the paste."""
+    for _ in range(10):
+        was_run, was_slow = paste_into(command, shell, size, begun, midst, then)
+        if not was_run:
+            return
+        if not was_slow:
+            raise Wrong('the shell ran what was pasted')
+    raise Wrong('this machine is too busy for a paste')
 
 
 def esc(terminal, limit=20):
@@ -251,10 +264,10 @@ def as_file(script):
         yield f'{WITH} sh {file.name}'
 
 
-def paste_of_an_ended_program(shell=('sh', '-i')):
-    """A program that ends with 1 in the midst of a paste of 4 MiB."""
+def paste_of_an_ended_program(shell=('sh', '-i'), size=1 << 20):
+    """A program that ends with 1 in the midst of a paste."""
     with as_file(PASTED) as command:
-        paste_isnt_run(command, shell)
+        paste_isnt_run(command, shell, size)
 
 
 def script_of(terminal):
@@ -268,7 +281,7 @@ def program_of(terminal):
 
 
 def paste_of_a_killed_program():
-    """A program or a script that a signal ends in the midst of a paste of 4 MiB."""
+    """A program or a script that a signal ends in the midst of a paste."""
     for find, number in ((program_of, signal.SIGKILL), (script_of, signal.SIGTERM)):
         with as_file(PASTING) as command:
             paste_isnt_run(command, midst=lambda terminal, find=find, number=number: os.kill(find(terminal), number))

@@ -58,6 +58,7 @@ class Terminal:
         self.seen = 0
         self.answers = answers
         self.place = (1, 1)
+        self.was_slow = False
         self.pid, self.fd = pty.fork()
         if self.pid == 0:
             columns, rows = size
@@ -86,18 +87,21 @@ class Terminal:
 
     def paste(self, data, limit=20, midst=None):
         """Types much, and reads meanwhile, until all is taken, or nobody takes it for a second. Calls `midst` when half is taken. Returns how
-        much was taken."""
+        much was taken, and notes whether that was slower than `with_terminal` discards: on a busy machine this may come to a halt."""
         os.set_blocking(self.fd, False)
-        left, end, last = memoryview(data), time.time() + limit, time.time()
-        while left and time.time() < min(end, last + 1):
+        left, start, longest = memoryview(data), time.time(), 0
+        last = start
+        while left and time.time() < min(start + limit, last + 1):
             self.read(0)
             if select.select([], [self.fd], [], 0.02)[1]:
                 with contextlib.suppress(OSError):
-                    left, last = left[os.write(self.fd, left[:4096]):], time.time()
+                    left = left[os.write(self.fd, left[:4096]):]
+                longest, last = max(longest, time.time() - last), time.time()
             if midst and len(left) <= len(data) // 2:
                 midst()
                 midst = None
         os.set_blocking(self.fd, True)
+        self.was_slow = longest > 0.7 or last - start > 1.2
         return len(data) - len(left)
 
     def read(self, limit):
