@@ -198,62 +198,72 @@ def paint_turns_away():
             server.kill()
 
 
+def windows_of_guests(port, first):
+    """A telnet client's window: the picture comes again, and fits."""
+    first.sendall(b'\xff\xfb\x1f\xff\xfa\x1f\x00\x64\x00\x1e\xff\xf0')
+    read_until(first, b'leave')
+    small = guest(port)
+    read_until(small, b'leave')
+    small.sendall(b'\xff\xfb\x1f\xff\xfa\x1f\x00\x28\x00\x08\xff\xf0')
+    out = read_until(small, b'23\x1b[0m')
+    out = out[out.rindex(b'\x1b[2J'):]
+    equal('cells outside', [it for it in painted(out) if it[0] >= 8 or it[1] >= 40], [])
+    equal('the last row', row_of(out, 7), 'too small: the picture has 80 x 23')
+    small.close()
+
+
+def bad_guests(port):
+    """One who resets while it is let in, many times; one who is cut off in a sequence; and, returned, one who never reads, and one who sends 300
+    KB of escapes."""
+    for _ in range(50):
+        reset(port)
+    cut = guest(port)
+    cut.sendall(b'\x1b[<0;1')
+    cut.close()
+    deaf = socket.socket()
+    deaf.setsockopt(socket.SOL_SOCKET, socket.SO_RCVBUF, 4096)
+    deaf.connect(('127.0.0.1', port))
+    hostile = guest(port)
+    hostile.sendall(b'\x1b[' * 75000 + b'\x1b' * 150000)
+    return deaf, hostile
+
+
+def paint_much(first, second, seen, shown):
+    """800 cells a turn, none beside another: 10 MB for each who looks on."""
+    for turn in range(600):
+        ink = turn % 2 + 2
+        cells = b''.join(b'\x1b[<32;%d;%dM' % (column, row) for row in range(1, 22) for column in range(5, 81, 2))
+        second.sendall(b'\x1b[<0;1;%dM' % (ink + 1) + cells)
+        shown((20, 78), ink)
+        seen[0] = seen[0][-256:]
+        first.setblocking(False)
+        with contextlib.suppress(BlockingIOError):
+            while first.recv(1 << 20):
+                pass
+        first.setblocking(True)
+
+
 def paint_serves():
     server, port = start_server()
+    seen = [b'']
+
+    def shown(place, ink):
+        wait_for('a cell', lambda: seen.__setitem__(0, seen[0] + second.recv(65536)), lambda: painted(seen[0]).get(place, (0, 0))[1] == ink)
+
     try:
-        first = guest(port)
-        read_until(first, b'leave')
-        second = guest(port)
-        read_until(second, b'leave')
-        # A telnet client's window: the picture comes again, and fits.
-        first.sendall(b'\xff\xfb\x1f\xff\xfa\x1f\x00\x64\x00\x1e\xff\xf0')
-        read_until(first, b'leave')
-        small = guest(port)
-        read_until(small, b'leave')
-        small.sendall(b'\xff\xfb\x1f\xff\xfa\x1f\x00\x28\x00\x08\xff\xf0')
-        out = read_until(small, b'23\x1b[0m')
-        out = out[out.rindex(b'\x1b[2J'):]
-        equal('cells outside', [it for it in painted(out) if it[0] >= 8 or it[1] >= 40], [])
-        equal('the last row', row_of(out, 7), 'too small: the picture has 80 x 23')
-        small.close()
+        first, second = guest(port), guest(port)
+        for each in (first, second):
+            read_until(each, b'leave')
+        windows_of_guests(port, first)
         first.sendall(b'\x1b[<0;10;5M')
-        seen = [b'']
-
-        def shown(place, ink):
-            wait_for('a cell', lambda: seen.__setitem__(0, seen[0] + second.recv(65536)), lambda: painted(seen[0]).get(place, (0, 0))[1] == ink)
-
         shown((4, 9), 1)
-        # One who resets while it is let in, many times.
-        for _ in range(50):
-            reset(port)
-        # One who is cut off in a sequence, one who never reads, and one who sends 300 KB of escapes.
-        cut = guest(port)
-        cut.sendall(b'\x1b[<0;1')
-        cut.close()
-        deaf = socket.socket()
-        deaf.setsockopt(socket.SOL_SOCKET, socket.SO_RCVBUF, 4096)
-        deaf.connect(('127.0.0.1', port))
-        hostile = guest(port)
-        hostile.sendall(b'\x1b[' * 75000 + b'\x1b' * 150000)
-        # 800 cells a turn, none beside another: 10 MB for each who looks on.
-        for turn in range(600):
-            ink = turn % 2 + 2
-            cells = b''.join(b'\x1b[<32;%d;%dM' % (column, row) for row in range(1, 22) for column in range(5, 81, 2))
-            second.sendall(b'\x1b[<0;1;%dM' % (ink + 1) + cells)
-            shown((20, 78), ink)
-            seen[0] = seen[0][-256:]
-            first.setblocking(False)
-            with contextlib.suppress(BlockingIOError):
-                while first.recv(1 << 20):
-                    pass
-            first.setblocking(True)
+        deaf, hostile = bad_guests(port)
+        paint_much(first, second, seen, shown)
         # The one who never reads was let go.
         deaf.settimeout(5)
-        try:
+        with contextlib.suppress(ConnectionResetError):
             while deaf.recv(65536):
                 pass
-        except ConnectionResetError:
-            pass
         hostile.close()
         for sock in (first, second):
             sock.settimeout(5)
