@@ -66,6 +66,13 @@ class Slow:
         os.remove(f'{self.folder}/begun')
 
 
+def wait_for(terminal, is_so, limit=5):
+    """Reads until something is so, or the time is over."""
+    end = time.time() + limit
+    while not is_so() and time.time() < end:
+        terminal.read(0.02)
+
+
 def job_of(terminal, limit=5):
     """The process of the script in a terminal that runs it as a job."""
     end = time.time() + limit
@@ -324,6 +331,24 @@ def typed_ahead_stays():
         terminal.until(b'typed ahead')
         terminal.send(b'exit\n')
         equal('status of the shell', terminal.end(), 0)
+        terminal.none_left()
+
+
+def in_the_background():
+    """A program that a shell started in the background can't switch the mode: it waits until it is in front. Then a signal ends it as any."""
+    with as_file(QUIET) as command, opened(['sh', '-i']) as (terminal, _):
+        mode = shell_says(terminal, b'stty -g')
+        terminal.send(command.encode() + b' &\n')
+        wait_for(terminal, lambda: any(line.startswith('stty raw') for _, line in terminal.descendants()))
+        equal('mode beside a program in the background', shell_says(terminal, b'stty -g'), mode)
+        terminal.send(b'fg\n')
+        terminal.until(b'begun')
+        os.kill(script_of(terminal), signal.SIGTERM)
+        wait_for(terminal, lambda: not os.listdir(terminal.folder))
+        terminal.send(b'\n')
+        equal('mode after a program in the background', shell_says(terminal, b'stty -g'), mode)
+        terminal.send(b'exit\n')
+        terminal.end()
         terminal.none_left()
 
 
