@@ -33,9 +33,17 @@ def read(path):
 
 
 def crates():
-    """The crates, in the order of crates.txt."""
-    rows = [line.split("#")[0].partition(":")[0].split() for line in read("crates.txt").splitlines()]
-    return [row[0] for row in rows if row]
+    """The crates and those that each names, in the order of crates.txt."""
+    rows = [line.split("#")[0].partition(":") for line in read("crates.txt").splitlines()]
+    return {head.split()[0]: rest.split() for head, _, rest in rows if head.strip()}
+
+
+def with_below(crate):
+    """A crate and all that it stands on."""
+    needs, found = crates(), {crate}
+    while more := {it for one in found for it in needs[one] if it in needs} - found:
+        found |= more
+    return found
 
 
 def root_of(crate):

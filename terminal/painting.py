@@ -107,13 +107,14 @@ def read_until(sock, text):
     return out
 
 
-def start_server(descriptors=None):
-    """A server of the picture at some port, which may have so many descriptors."""
+def start_server(descriptors=None, silence=None):
+    """A server of the picture at some port, which may have so many descriptors, and lets a guest go after so many seconds of silence."""
     with socket.socket() as free:
         free.bind(('127.0.0.1', 0))
         port = free.getsockname()[1]
     limited = descriptors and (lambda: resource.setrlimit(resource.RLIMIT_NOFILE, (descriptors, descriptors)))
-    server = subprocess.Popen([program('paint'), 'serve', str(port)], stderr=subprocess.PIPE, preexec_fn=limited)
+    words = [program('paint'), 'serve', str(port), *([str(silence)] if silence else [])]
+    server = subprocess.Popen(words, stderr=subprocess.PIPE, preexec_fn=limited)
     for _ in range(100):
         try:
             # One that comes first and leaves at once doesn't end the server.
@@ -241,6 +242,29 @@ def paint_much(first, second, seen, shown):
             while first.recv(1 << 20):
                 pass
         first.setblocking(True)
+
+
+def paint_lets_silent_guests_go():
+    """Who says nothing for long enough has to leave, with the screen put back, so that 64 silent guests don't keep others out for long. Who
+    says something stays."""
+    server, port = start_server(silence=2)
+    try:
+        silent = [guest(port) for _ in range(64)]
+        for each in silent:
+            read_until(each, b'leave')
+        read_until(guest(port), b'there is no room')
+        for _ in range(6):
+            time.sleep(0.5)
+            silent[0].sendall(b'\x1b[<0;10;5M')
+        for each in silent[1:]:
+            each.settimeout(5)
+            read_until(each, b'\x1b[?1049lpaint: nothing came from you for too long\r\n')
+            equal('more for who is silent', each.recv(10), b'')
+        read_until(guest(port), b'leave')
+        silent[0].sendall(b'\x1b[<0;12;5M')
+        read_until(silent[0], b'\x1b[5;12H')
+    finally:
+        server.kill()
 
 
 def paint_serves():
