@@ -36,12 +36,11 @@ mod event;
 mod feed;
 mod held;
 mod laws;
+mod layout;
 mod outlet;
 mod parser;
 mod reader;
 mod state;
 mod table;
-#[cfg(test)]
-mod tests;
 mod text;
 mod version;
