@@ -113,7 +113,7 @@ def start_server(descriptors=None, silence=None):
         free.bind(('127.0.0.1', 0))
         port = free.getsockname()[1]
     limited = descriptors and (lambda: resource.setrlimit(resource.RLIMIT_NOFILE, (descriptors, descriptors)))
-    words = [program('paint'), 'serve', str(port), *([str(silence)] if silence else [])]
+    words = [*program('paint').split(' '), 'serve', str(port), *([str(silence)] if silence else [])]
     server = subprocess.Popen(words, stderr=subprocess.PIPE, preexec_fn=limited)
     for _ in range(100):
         try:

@@ -16,9 +16,6 @@ import time
 HERE = os.path.dirname(os.path.dirname(os.path.abspath(__file__)))
 WITH = os.path.join(HERE, 'terminal', 'with_terminal')
 
-# Examples that are programs of their own; the others are run by the program `example`.
-ALONE = ('paint',)
-
 
 class Wrong(Exception):
     """What differs from what is wanted."""
@@ -31,9 +28,7 @@ def equal(what, is_, want):
 
 def program(name):
     """The command line of an example, without its arguments."""
-    crate = f'example_{name}' if name in ALONE else 'example'
-    path = os.path.join(HERE, 'crates', crate, 'out', crate)
-    return path if name in ALONE else f'{path} {name}'
+    return f'{os.path.join(HERE, "crates", "example", "out", "example")} {name}'
 
 
 def run_as_job(words):

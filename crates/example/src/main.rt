@@ -1,11 +1,12 @@
-//! Runs one of the `examples` by its name, as `example table`.
+//! Runs one of the `example_modes` by its name, as `example table`.
 //!
-//! `browse`, `clock`, `edit`, `events`, `keys`, `record` and `stream` run in a terminal:
+//! `browse`, `clock`, `edit`, `events`, `keys`, `paint`, `record` and `stream` run in a terminal:
 //! `terminal/with_terminal crates/example/out/example browse`.
 #![tactic(auto)]
 
-use examples::{
-    browse, clock, edit, events, frames, keylog, keys, own_command, record, replay, stream, table,
+use example_modes::{
+    browse, clock, edit, events, frames, keylog, keys, own_command, paint, record, replay, stream,
+    table,
 };
 use own_terminal::Tty;
 use std::env;
@@ -14,9 +15,9 @@ use std::rt::Files;
 use std::sync::Wait;
 
 const USAGE: &str = "usage: example NAME
-by itself: frames, keylog, own_command, table
+by itself: frames, keylog, own_command, table, paint serve PORT, paint serve PORT SECONDS
   replay FILE, replay FILE --speed N, replay FILE --probe, replay FILE --cast; each with --front after FILE if the recording was cut
-by terminal/with_terminal: browse, clock, edit, events, keys, keys FILE, record FILE, record FILE --over, stream";
+by terminal/with_terminal: browse, clock, edit, events, keys, keys FILE, paint, record FILE, record FILE --over, stream";
 
 /// Runs an example on standard input and output. If there is none of the name, standard error lists them.
 fn run_plain(rt: &HostRuntime, name: &str, words: &[String]) -> io::Result<()> {
@@ -27,6 +28,9 @@ fn run_plain(rt: &HostRuntime, name: &str, words: &[String]) -> io::Result<()> {
         ("keylog", []) => keylog::run(alloc, &mut rt.reader(), &mut out),
         ("own_command", []) => own_command::run(alloc, rt.reader(), &mut out),
         ("table", []) => table::run(rt, &mut out),
+        ("paint", [word, port, more @ ..]) if word.as_str() == "serve" => {
+            paint::serve(rt, alloc, port.as_str(), more)
+        }
         ("replay", [file, form @ ..]) => replay::run(rt, file.as_str(), form, &mut out),
         _ => {
             eprintln!(rt; "{USAGE}")?;
@@ -35,7 +39,7 @@ fn run_plain(rt: &HostRuntime, name: &str, words: &[String]) -> io::Result<()> {
     }
 }
 
-/// Runs an example in a terminal: `keys`, with the bindings of a file, if the name is none of the other three.
+/// Runs an example in a terminal: `keys`, with the bindings of a file, if the name is none of the others.
 fn run_in_terminal<R: AllocGlobal + Files + Wait>(
     rt: &R,
     tty: &mut Tty<'_>,
@@ -46,6 +50,7 @@ fn run_in_terminal<R: AllocGlobal + Files + Wait>(
         "browse" => browse::run(rt, tty),
         "edit" => edit::run(rt, tty),
         "events" => events::run(rt, tty),
+        "paint" => paint::run(rt, tty),
         _ => keys::run(rt, tty, file),
     }
 }
@@ -96,7 +101,8 @@ fn main(rt: HostRuntime) -> io::Result<()> {
             stream::run(&rt, &mut tty, &mut events)?;
             tty.leave()
         }
-        (name @ ("browse" | "edit" | "events" | "keys"), [file @ .., _]) => {
+        ("paint", [word, ..]) if word.as_str() == "serve" => run_plain(&rt, "paint", words),
+        (name @ ("browse" | "edit" | "events" | "keys" | "paint"), [file @ .., _]) => {
             let mut tty = own_terminal::start(&rt, rt.stdin(), rt.stdout())?;
             run_in_terminal(&rt, &mut tty, name, file.first().map(|file| file.as_str()))?;
             tty.leave()

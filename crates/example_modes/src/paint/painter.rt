@@ -1,6 +1,6 @@
 //! Who paints, and what their events mean.
 
-use crate::canvas::{Dot, Ink, LEFT};
+use crate::paint::canvas::{Dot, Ink, LEFT};
 use crossterm::event::{
     Event, KeyCode, KeyEvent, KeyModifiers, MouseButton, MouseEvent, MouseEventKind,
 };

@@ -1,9 +1,9 @@
 //! Many terminals that paint one picture, over TCP.
 
-use crate::canvas::Canvas;
-use crate::painter::{Painter, Wish};
-use crate::telnet::{GREETING, Telnet};
-use crate::view::View;
+use crate::paint::canvas::Canvas;
+use crate::paint::painter::{Painter, Wish};
+use crate::paint::telnet::{GREETING, Telnet};
+use crate::paint::view::View;
 use crossterm::cursor::{Hide, Show};
 use crossterm::event::source::{DeviceSource, EventSource, RawFlag, ReadDevice};
 use crossterm::event::timeout::{Clock, SystemClock};

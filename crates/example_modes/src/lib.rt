@@ -12,6 +12,7 @@
 //! | `clock` | two threads: one reads, the other draws the time |
 //! | `stream` | each event of a stream |
 //! | `record` | each event as it comes, and records what the terminal sends |
+//! | `paint` | a picture that is painted with the mouse, also by many over a network |
 //!
 //! These write to standard output, as `crates/example/out/example table`. All but `table` and `replay` read standard input:
 //!
@@ -34,6 +35,7 @@ pub mod frames;
 pub mod keylog;
 pub mod keys;
 pub mod own_command;
+pub mod paint;
 pub mod record;
 pub mod replay;
 pub mod stream;

@@ -1,6 +1,6 @@
 //! What one painter sees: the colours, the picture and a line of help, as far as the window has room for them.
 
-use crate::canvas::{Canvas, LEFT, ROWS, WIDTH, color_of};
+use crate::paint::canvas::{Canvas, LEFT, ROWS, WIDTH, color_of};
 use crossterm::style::{ColorOutput, ContentStyle};
 use screen::{Buffer, Screen};
 use std::alloc::{AllocError, Global};
