@@ -1,4 +1,4 @@
-//! The functions of the modes, each called once: what they write is flushed, unless the writer failed.
+//! The functions of the modes on inputs of their own: what they write is flushed, unless the writer failed.
 
 use crate::expect;
 use probe_modes::fault::Fault;
