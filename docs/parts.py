@@ -5,13 +5,15 @@ A part begins with a line `<!-- made: KIND ARGUMENTS -->` and ends with a line `
 proved                 what each crate's root lists under 'What is proved'
 definitions            what each crate's root lists under 'What to believe'
 shapes                 the table of sequences in the root of crossterm_parse
-rows PATH HEAD HEAD    the rows `A -> B` of a test's table, without those that are errors
+rows PATH HEAD HEAD    the rows `A -> B` of a file of crates/probe/rows, without those that are errors
 file PATH              a file, as a block of code
 clauses PATH FN NAME.. clauses of a function, as a block of code
 figures PATH           a file whose lines have cells between tabs, as a table
 """
 import os
 import re
+
+import probe_rows
 
 ROOT = os.path.dirname(os.path.dirname(os.path.abspath(__file__)))
 PART = re.compile(r"^<!-- made: (.*?) -->\n(.*?)^<!-- end -->\n", re.M | re.S)
@@ -97,12 +99,13 @@ def shapes():
     return table(["Shape", "Ends at"], rows_below("crossterm_parse", "A sequence has one of these shapes"))
 
 
-def test_rows(path):
-    """The rows `A -> B` of the tables of a test, without those that are errors or print nothing."""
-    tables = re.findall(r'^(?:pub )?const \w+: &str = "\\\n(.*?)";$', read(path), re.M | re.S)
-    lines = [line.replace("\\\\", "\\") for it in tables for line in it.split("\n")]
-    found = [line.partition(" -> ")[::2] for line in lines]
-    return [(given, told) for given, told in found if told.strip() and not given.startswith(" ") and not told.startswith("probe: ")]
+def shown_rows(path):
+    """The rows `A -> B` of a file, without those that are errors, print nothing, or repeat a byte."""
+    try:
+        found = probe_rows.rows_of(path)
+    except probe_rows.RowError as error:
+        raise PageError(str(error)) from error
+    return [it for it in found if it.want and not it.want.startswith("probe: ") and not it.given.startswith(" ") and "*" not in it.given]
 
 
 def code(text):
@@ -112,7 +115,7 @@ def code(text):
 
 
 def rows(path, *heads):
-    return table(heads, [[code(given), code(told)] for given, told in test_rows(path)])
+    return table(heads, [[code(row.given), code(row.want)] for row in shown_rows(path)])
 
 
 def file(path):
