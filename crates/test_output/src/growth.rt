@@ -29,7 +29,7 @@ use crossterm::{
 };
 use crossterm_command::write_text;
 use linked_list_allocator::LocalHeap;
-use std::alloc::{AllocError, Global};
+use std::alloc::Global;
 use std::io::{self, ErrorKind};
 use test_support::expect;
 
@@ -46,99 +46,106 @@ fn colored() -> ContentStyle {
 }
 
 /// Moves of the cursor.
-fn of_places(commands: &mut Vec<AnyCommand>) -> Result<(), AllocError> {
-    commands.push(AnyCommand::MoveTo(MoveTo(65535, 0)))?;
-    commands.push(AnyCommand::MoveToColumn(MoveToColumn(1)))?;
-    commands.push(AnyCommand::MoveToRow(MoveToRow(2)))?;
-    commands.push(AnyCommand::MoveToNextLine(MoveToNextLine(3)))?;
-    commands.push(AnyCommand::MoveToPreviousLine(MoveToPreviousLine(4)))?;
-    commands.push(AnyCommand::MoveUp(MoveUp(5)))?;
-    commands.push(AnyCommand::MoveDown(MoveDown(6)))?;
-    commands.push(AnyCommand::MoveRight(MoveRight(7)))?;
-    commands.push(AnyCommand::MoveLeft(MoveLeft(8)))?;
-    Ok(())
+fn of_places() -> [AnyCommand; 9] {
+    [
+        AnyCommand::MoveTo(MoveTo(65535, 0)),
+        AnyCommand::MoveToColumn(MoveToColumn(1)),
+        AnyCommand::MoveToRow(MoveToRow(2)),
+        AnyCommand::MoveToNextLine(MoveToNextLine(3)),
+        AnyCommand::MoveToPreviousLine(MoveToPreviousLine(4)),
+        AnyCommand::MoveUp(MoveUp(5)),
+        AnyCommand::MoveDown(MoveDown(6)),
+        AnyCommand::MoveRight(MoveRight(7)),
+        AnyCommand::MoveLeft(MoveLeft(8)),
+    ]
 }
 
 /// Other commands of the cursor.
-fn of_the_cursor(commands: &mut Vec<AnyCommand>) -> Result<(), AllocError> {
-    commands.push(AnyCommand::SavePosition(SavePosition))?;
-    commands.push(AnyCommand::RestorePosition(RestorePosition))?;
-    commands.push(AnyCommand::Hide(Hide))?;
-    commands.push(AnyCommand::Show(Show))?;
-    commands.push(AnyCommand::EnableBlinking(EnableBlinking))?;
-    commands.push(AnyCommand::DisableBlinking(DisableBlinking))?;
-    commands.push(AnyCommand::SetCursorStyle(SetCursorStyle::SteadyBar))?;
-    Ok(())
+fn of_the_cursor() -> [AnyCommand; 7] {
+    [
+        AnyCommand::SavePosition(SavePosition),
+        AnyCommand::RestorePosition(RestorePosition),
+        AnyCommand::Hide(Hide),
+        AnyCommand::Show(Show),
+        AnyCommand::EnableBlinking(EnableBlinking),
+        AnyCommand::DisableBlinking(DisableBlinking),
+        AnyCommand::SetCursorStyle(SetCursorStyle::SteadyBar),
+    ]
 }
 
 /// Commands of the terminal.
-fn of_the_terminal(commands: &mut Vec<AnyCommand>, title: String) -> Result<(), AllocError> {
-    commands.push(AnyCommand::DisableLineWrap(DisableLineWrap))?;
-    commands.push(AnyCommand::EnableLineWrap(EnableLineWrap))?;
-    commands.push(AnyCommand::EnterAlternateScreen(EnterAlternateScreen))?;
-    commands.push(AnyCommand::LeaveAlternateScreen(LeaveAlternateScreen))?;
-    commands.push(AnyCommand::Clear(Clear(ClearType::Purge)))?;
-    commands.push(AnyCommand::ScrollUp(ScrollUp(9)))?;
-    commands.push(AnyCommand::ScrollDown(ScrollDown(10)))?;
-    commands.push(AnyCommand::SetSize(SetSize(80, 24)))?;
-    commands.push(AnyCommand::SetTitle(SetTitle(title)))?;
-    Ok(())
+fn of_the_terminal(title: String) -> [AnyCommand; 9] {
+    [
+        AnyCommand::DisableLineWrap(DisableLineWrap),
+        AnyCommand::EnableLineWrap(EnableLineWrap),
+        AnyCommand::EnterAlternateScreen(EnterAlternateScreen),
+        AnyCommand::LeaveAlternateScreen(LeaveAlternateScreen),
+        AnyCommand::Clear(Clear(ClearType::Purge)),
+        AnyCommand::ScrollUp(ScrollUp(9)),
+        AnyCommand::ScrollDown(ScrollDown(10)),
+        AnyCommand::SetSize(SetSize(80, 24)),
+        AnyCommand::SetTitle(SetTitle(title)),
+    ]
 }
 
 /// Commands of updates and events.
-fn of_events(commands: &mut Vec<AnyCommand>) -> Result<(), AllocError> {
-    commands.push(AnyCommand::BeginSynchronizedUpdate(BeginSynchronizedUpdate))?;
-    commands.push(AnyCommand::EndSynchronizedUpdate(EndSynchronizedUpdate))?;
-    commands.push(AnyCommand::EnableMouseCapture(EnableMouseCapture))?;
-    commands.push(AnyCommand::DisableMouseCapture(DisableMouseCapture))?;
-    commands.push(AnyCommand::EnableFocusChange(EnableFocusChange))?;
-    commands.push(AnyCommand::DisableFocusChange(DisableFocusChange))?;
-    commands.push(AnyCommand::EnableBracketedPaste(EnableBracketedPaste))?;
-    commands.push(AnyCommand::DisableBracketedPaste(DisableBracketedPaste))?;
+fn of_events() -> [AnyCommand; 10] {
     let flags = KeyboardEnhancementFlags::from_bits_retain(5);
-    commands.push(AnyCommand::PushKeyboardEnhancementFlags(PushKeyboardEnhancementFlags(flags)))?;
-    commands.push(AnyCommand::PopKeyboardEnhancementFlags(PopKeyboardEnhancementFlags))?;
-    Ok(())
+    [
+        AnyCommand::BeginSynchronizedUpdate(BeginSynchronizedUpdate),
+        AnyCommand::EndSynchronizedUpdate(EndSynchronizedUpdate),
+        AnyCommand::EnableMouseCapture(EnableMouseCapture),
+        AnyCommand::DisableMouseCapture(DisableMouseCapture),
+        AnyCommand::EnableFocusChange(EnableFocusChange),
+        AnyCommand::DisableFocusChange(DisableFocusChange),
+        AnyCommand::EnableBracketedPaste(EnableBracketedPaste),
+        AnyCommand::DisableBracketedPaste(DisableBracketedPaste),
+        AnyCommand::PushKeyboardEnhancementFlags(PushKeyboardEnhancementFlags(flags)),
+        AnyCommand::PopKeyboardEnhancementFlags(PopKeyboardEnhancementFlags),
+    ]
 }
 
 /// Commands of style.
-fn of_style(commands: &mut Vec<AnyCommand>) -> Result<(), AllocError> {
-    commands.push(AnyCommand::SetForegroundColor(SetForegroundColor(Color::Red)))?;
-    commands.push(AnyCommand::SetBackgroundColor(SetBackgroundColor(Color::Blue)))?;
-    commands.push(AnyCommand::SetUnderlineColor(SetUnderlineColor(Color::Green)))?;
-    commands.push(AnyCommand::SetColors(SetColors(Colors::new(Color::Red, Color::Blue))))?;
-    commands.push(AnyCommand::SetAttribute(SetAttribute(Attribute::Underdashed)))?;
+fn of_style() -> [AnyCommand; 8] {
     let both = Attributes::none()
         .with(Attribute::Bold)
         .with(Attribute::OverLined);
-    commands.push(AnyCommand::SetAttributes(SetAttributes(both)))?;
-    commands.push(AnyCommand::SetStyle(SetStyle(colored())))?;
-    commands.push(AnyCommand::ResetColor(ResetColor))?;
-    Ok(())
+    [
+        AnyCommand::SetForegroundColor(SetForegroundColor(Color::Red)),
+        AnyCommand::SetBackgroundColor(SetBackgroundColor(Color::Blue)),
+        AnyCommand::SetUnderlineColor(SetUnderlineColor(Color::Green)),
+        AnyCommand::SetColors(SetColors(Colors::new(Color::Red, Color::Blue))),
+        AnyCommand::SetAttribute(SetAttribute(Attribute::Underdashed)),
+        AnyCommand::SetAttributes(SetAttributes(both)),
+        AnyCommand::SetStyle(SetStyle(colored())),
+        AnyCommand::ResetColor(ResetColor),
+    ]
 }
 
 /// Commands that hold a text, and one of the clipboard.
-fn of_texts(alloc: Global, commands: &mut Vec<AnyCommand>) -> io::Result<()> {
+fn of_texts(alloc: Global) -> io::Result<[AnyCommand; 3]> {
     let styled = colored().apply(String::from_str(alloc, "st\u{e9}")?);
-    commands.push(AnyCommand::PrintStyledContent(PrintStyledContent(styled)))?;
     let copy = CopyToClipboard {
         content: Vec::from_slice(alloc, b"foob")?,
         destination: ClipboardSelection::from_str(alloc, "cp")?,
     };
-    commands.push(AnyCommand::CopyToClipboard(copy))?;
-    commands.push(AnyCommand::Print(Print(String::from_str(alloc, "print")?)))?;
-    Ok(())
+    let print = String::from_str(alloc, "print")?;
+    Ok([
+        AnyCommand::PrintStyledContent(PrintStyledContent(styled)),
+        AnyCommand::CopyToClipboard(copy),
+        AnyCommand::Print(Print(print)),
+    ])
 }
 
 /// One of each of the 46 commands.
 fn all_commands(alloc: Global) -> io::Result<Vec<AnyCommand>> {
     let mut commands = Vec::new(alloc);
-    of_places(&mut commands)?;
-    of_the_cursor(&mut commands)?;
-    of_the_terminal(&mut commands, String::from_str(alloc, "h\u{e9}")?)?;
-    of_events(&mut commands)?;
-    of_style(&mut commands)?;
-    of_texts(alloc, &mut commands)?;
+    commands.extend(of_places())?;
+    commands.extend(of_the_cursor())?;
+    commands.extend(of_the_terminal(String::from_str(alloc, "h\u{e9}")?))?;
+    commands.extend(of_events())?;
+    commands.extend(of_style())?;
+    commands.extend(of_texts(alloc)?)?;
     Ok(commands)
 }
 

@@ -1,7 +1,7 @@
 //! What a device answers.
 
-use crossterm_read::source::{Answer, Device};
-use std::io::{self, ErrorKind};
+use crossterm_read::source::{Answer, Device, Waker};
+use std::io::{self, ErrorKind, Write};
 use std::time::{Clock, Duration, Instant};
 
 /// No time at all.
@@ -10,6 +10,19 @@ pub const NOW: Option<Duration> = Some(Duration::ZERO);
 /// So long that a test which waits so long has failed.
 pub fn long() -> Option<Duration> {
     Some(Duration::from_secs(10))
+}
+
+/// Whether these bytes are taken by what feeds a device.
+pub fn sends<W: Write>(far: &mut W, bytes: &[u8]) -> bool {
+    far.write_all(bytes).is_ok()
+}
+
+/// Whether there is a waker, and it wakes.
+pub fn wakes_by(waker: io::Result<Waker>) -> bool {
+    match waker {
+        Ok(waker) => waker.wake().is_ok(),
+        Err(_) => false,
+    }
 }
 
 /// Whether these bytes are reported next.
@@ -66,11 +79,15 @@ pub fn fails<D: Device>(device: &mut D, kind: ErrorKind) -> bool {
     }
 }
 
+/// Whether this limit has passed since a moment, and five seconds haven't.
+fn has_passed<R: Clock>(rt: &R, start: io::Result<Instant>, limit: Duration) -> bool {
+    let gone = start.and_then(|start| start.elapsed(rt));
+    gone.is_ok_and(|gone| gone >= limit && gone < Duration::from_secs(5))
+}
+
 /// Whether nothing comes within so many milliseconds, and they are waited out.
-pub fn waits_out<D: Device, R: Clock>(rt: &R, device: &mut D, millis: u64) -> io::Result<bool> {
+pub fn waits_out<D: Device, R: Clock>(rt: &R, device: &mut D, millis: u64) -> bool {
     let limit = Duration::from_millis(millis);
-    let start = Instant::now(rt)?;
-    let idle = is_idle(device, Some(limit));
-    let gone = start.elapsed(rt)?;
-    Ok(idle && gone >= limit && gone < Duration::from_secs(5))
+    let start = Instant::now(rt);
+    is_idle(device, Some(limit)) && has_passed(rt, start, limit)
 }

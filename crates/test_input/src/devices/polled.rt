@@ -1,6 +1,6 @@
 //! What comes at once, and what is waited for.
 
-use crate::devices::answers::{NOW, is_idle, long, tells, tells_many, waits_out};
+use crate::devices::answers::{NOW, is_idle, long, sends, tells, tells_many, waits_out};
 use crate::devices::ends::piped;
 use crate::devices::readers::is_key;
 use crate::expect_of_each;
@@ -14,63 +14,62 @@ use std::time::Clock;
 use test_support::expect;
 
 /// Whether bytes are reported once, as they came, and nothing before and after.
-fn tells_what_came<D: Device, W: Write>(device: &mut D, far: &mut W) -> io::Result<bool> {
-    let empty = is_idle(device, NOW);
-    far.write_all(b"abc")?;
-    let came = tells(device, long(), b"abc") && is_idle(device, NOW);
-    far.write_all(&[b'x'; 1024])?;
-    let full = tells_many(device, None, b'x', 1024) && is_idle(device, NOW);
-    far.write_all(&[b'y'; 1025])?;
-    let more = tells_many(device, None, b'y', 1024) && tells_many(device, NOW, b'y', 1);
-    Ok(empty && came && full && more && is_idle(device, NOW))
+fn tells_what_came<D: Device, W: Write>(device: &mut D, far: &mut W) -> bool {
+    is_idle(device, NOW)
+        && sends(far, b"abc")
+        && tells(device, long(), b"abc")
+        && is_idle(device, NOW)
+        && sends(far, &[b'x'; 1024])
+        && tells_many(device, None, b'x', 1024)
+        && is_idle(device, NOW)
+        && sends(far, &[b'y'; 1025])
+        && tells_many(device, None, b'y', 1024)
+        && tells_many(device, NOW, b'y', 1)
+        && is_idle(device, NOW)
 }
 
 /// Whether bytes that come one at a time are reported one at a time.
-fn tells_each<D: Device, W: Write>(device: &mut D, far: &mut W) -> io::Result<bool> {
+fn tells_each<D: Device, W: Write>(device: &mut D, far: &mut W) -> bool {
     for byte in 0..200u8 {
-        far.write_all(&[byte])?;
-        if !tells(device, long(), &[byte]) {
-            return Ok(false);
+        if !sends(far, &[byte]) || !tells(device, long(), &[byte]) {
+            return false;
         }
     }
-    Ok(true)
+    true
 }
 
 /// Whether a limit is waited out: after bytes, before them, and again.
-fn keeps_limits<D: Device, W: Write, R: Clock>(
-    rt: &R,
-    device: &mut D,
-    far: &mut W,
-) -> io::Result<bool> {
-    let before = waits_out(rt, device, 30)?;
-    far.write_all(b"ab")?;
-    let came = tells(device, None, b"ab");
-    let after = waits_out(rt, device, 60)?;
-    far.write_all(&[b'x'; 2048])?;
-    let burst = tells_many(device, None, b'x', 1024) && tells_many(device, None, b'x', 1024);
-    Ok(before && came && after && burst && waits_out(rt, device, 50)?)
+fn keeps_limits<D: Device, W: Write, R: Clock>(rt: &R, device: &mut D, far: &mut W) -> bool {
+    waits_out(rt, device, 30)
+        && sends(far, b"ab")
+        && tells(device, None, b"ab")
+        && waits_out(rt, device, 60)
+        && sends(far, &[b'x'; 2048])
+        && tells_many(device, None, b'x', 1024)
+        && tells_many(device, None, b'x', 1024)
+        && waits_out(rt, device, 50)
 }
 
 /// Whether what came before the end is reported, and then the end for good, at once.
-fn tells_the_end<D: Device, W: Write + Drop>(device: &mut D, far: W) -> io::Result<bool> {
-    let mut far = far;
-    far.write_all(b"yz")?;
+fn tells_the_end<D: Device, W: Write + Drop>(device: &mut D, mut far: W) -> bool {
+    let came = sends(&mut far, b"yz");
     drop(far);
-    let rest = tells(device, None, b"yz");
-    Ok(rest && tells(device, None, b"") && tells(device, None, b"") && device.failures() == 0)
+    came && tells(device, None, b"yz")
+        && tells(device, None, b"")
+        && tells(device, None, b"")
+        && device.failures() == 0
 }
 
 /// Whether bytes come at once, limits are waited out, and the end is reported.
 fn waits_and_tells<D: Device, W: Write + Drop, R: Clock>(
     rt: &R,
     device: &mut D,
-    far: W,
-) -> io::Result<bool> {
-    let mut far = far;
-    let waits = tells_what_came(device, &mut far)?
-        && tells_each(device, &mut far)?
-        && keeps_limits(rt, device, &mut far)?;
-    Ok(waits && tells_the_end(device, far)?)
+    mut far: W,
+) -> bool {
+    let waits = tells_what_came(device, &mut far)
+        && tells_each(device, &mut far)
+        && keeps_limits(rt, device, &mut far);
+    waits && tells_the_end(device, far)
 }
 
 #[test]
