@@ -1,7 +1,8 @@
 """The rows of the program `probe`, which `check sessions` and `check rows` play: what goes in, and what comes out.
 
 They are the lines `INPUT -> OUTPUT` of the files in crates/probe/rows, and the blocks of crates/probe/README.md. The head of a file explains its
-form, and has the number of its rows, so that a lost one is missed. A line that begins with `#` is a comment.
+form, and has the number of its rows, so that a lost one is missed. A line that begins with `#` is a comment. With them come random keys, which
+docs/probe_keys.py draws and cuts.
 """
 import contextlib
 import os
@@ -10,6 +11,8 @@ import subprocess
 import tempfile
 from concurrent.futures import ThreadPoolExecutor
 from typing import NamedTuple, Optional
+
+import probe_keys
 
 ROOT = os.path.dirname(os.path.dirname(os.path.abspath(__file__)))
 FOLDER, PAGE = "crates/probe/rows", "crates/probe/README.md"
@@ -265,6 +268,13 @@ def served(program, place, piece):
     return fault_of(program, Run(place, ["serve"], bytes_of(piece), b"".join(events)))
 
 
+def cut(program, drawn):
+    """How a program cuts random keys otherwise than docs/probe_keys.py, or nothing."""
+    status, out, err = call([*program, "keys"], probe_keys.given_of(drawn))
+    wrong = f"status {status}, {err[-300:]!r}" if status or err else probe_keys.fault_in(drawn, out)
+    return wrong and f"keys{' that pass releases' * drawn.passes}, bound to {' '.join(drawn.lists)}: {wrong}"
+
+
 def tried(place, call, *arguments):
     """What a call finds wrong, or that it doesn't end."""
     try:
@@ -276,12 +286,13 @@ def tried(place, call, *arguments):
 
 
 def play(program):
-    """Plays all rows on a program, as the words that run it. Returns how many runs that took, and what is wrong."""
+    """Plays all rows and random keys on a program, as the words that run it. Returns how many runs that took, and what is wrong."""
     if not os.access(program[-1], os.X_OK):
         raise RowError(f"{program[-1]} isn't there, or can't be run")
     found = runs()
     calls = [(run.place, fault_of, program, run) for run in found]
     calls += [(place, served, program, place, piece) for place, piece in pieces()]
+    calls += [("random keys", cut, program, drawn) for drawn in probe_keys.sets()]
     with ThreadPoolExecutor(2) as pool:
         faults = [it for it in pool.map(lambda it: tried(*it), calls) if it]
     errors = {run.expected()[2].decode().rstrip("\n") for run in found} - {""}

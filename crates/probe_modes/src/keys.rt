@@ -31,10 +31,11 @@ fn chords<A: Allocator + Clone>(alloc: &A, list: &str) -> Result<Vec<KeyEvent, A
     Ok(chords)
 }
 
-/// What all lines say: the bindings and the script.
+/// What all lines say: the bindings, whether releases and modifier keys are passed on, and the script.
 #[derive(Drop)]
 struct Statements<A: Allocator> {
     keymap: Keymap<A>,
+    passes: bool,
     script: Vec<Act<A>, A>,
 }
 
@@ -42,7 +43,11 @@ impl<A: Allocator + Clone> Statements<A> {
     fn new(alloc: &A) -> Result<Statements<A>, AllocError> {
         let keymap = Keymap::new(alloc.clone()?);
         let script = Vec::new(alloc.clone()?);
-        Ok(Statements { keymap, script })
+        Ok(Statements {
+            keymap,
+            passes: false,
+            script,
+        })
     }
 
     fn add(&mut self, act: Act<A>) -> Result<(), AllocError> {
@@ -63,12 +68,22 @@ impl<A: Allocator + Clone> Statements<A> {
             Err(_) => Err(Wrong::Argument),
         }
     }
+
+    /// Passes releases and modifier keys on, by a line of one word.
+    fn pass(&mut self, rest: Option<&str>) -> Result<(), Wrong> {
+        if rest.is_some() {
+            return Err(Wrong::Argument);
+        }
+        self.passes = true;
+        Ok(())
+    }
 }
 
 impl<A: Allocator + Clone> Lines<A> for Statements<A> {
     fn add_line(&mut self, alloc: &A, line: &str) -> Result<(), Wrong> {
         match divided(line) {
             ("bind", rest) => self.bind(alloc, rest.ok_or(Wrong::Argument)?),
+            ("passing", rest) => self.pass(rest),
             _ => {
                 let act = read_act(alloc, line)?;
                 Ok(self.add(act)?)
@@ -203,6 +218,15 @@ fn share<A: Allocator + Clone, H: Wait>(
     }
 }
 
+/// A matcher of the bindings, which passes releases and modifier keys on or not.
+fn matcher<A: Allocator>(alloc: A, keymap: Keymap<A>, passes: bool) -> Matcher<A> {
+    if passes {
+        Matcher::passing(alloc, keymap)
+    } else {
+        Matcher::new(alloc, keymap)
+    }
+}
+
 /// Runs a matcher of the bindings over the script, with one pass.
 fn run_statements<A: Allocator + Clone, H: Wait, W: Write>(
     rt: &H,
@@ -210,8 +234,12 @@ fn run_statements<A: Allocator + Clone, H: Wait, W: Write>(
     statements: Statements<A>,
     writer: &mut W,
 ) -> Result<(), Fault> {
-    let Statements { keymap, script } = statements;
-    let matcher = Matcher::new(alloc.clone()?, keymap);
+    let Statements {
+        keymap,
+        passes,
+        script,
+    } = statements;
+    let matcher = matcher(alloc.clone()?, keymap, passes);
     let reader = read_script(alloc, script)?;
     let (shared, pass) = share(rt, alloc, reader)?;
     match run(rt, &shared, pass, matcher, writer) {

@@ -1,10 +1,8 @@
-//! Key bindings from outside, by rows: lists that are bound, letters that are typed, and what comes of them.
+//! Key bindings from outside, beyond the rows of `probe keys`: refused memory, keys that are fed, faults, spelled chords, and threads.
 
 mod faults;
 mod growth;
-mod passing;
-mod random;
+mod lists;
 mod refused;
-mod rows;
 mod spelling;
 mod steps;

@@ -1,6 +1,6 @@
 //! Texts of faults, and errors that a step returns as they are.
 
-use crate::bindings::rows::matcher_of;
+use crate::bindings::lists::matcher_of;
 use crossterm_read::read::InternalEventReader;
 use crossterm_read::source::{DeviceSource, RawFlag, ReadDevice};
 use keymap::{ChordFault, KeymapFault, Matcher};

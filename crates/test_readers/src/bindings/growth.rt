@@ -1,6 +1,6 @@
 //! Bindings and matchers whose memory is refused.
 
-use crate::bindings::rows::keymap_of;
+use crate::bindings::lists::keymap_of;
 use crossterm_types::event::{KeyCode, KeyEvent};
 use keymap::{Keymap, KeymapFault, Matcher, Outcome};
 use linked_list_allocator::LocalHeap;

@@ -2,10 +2,9 @@
 
 ghost use Rattle.crossterm_read.specs.Shared.{IsPassOf};
 
-use crate::bindings::rows::{keymap_of, sign_of, take_all};
+use crate::bindings::lists::{call, keymap_of, sign_of, take_all};
 use crossterm_read::read::{EventReader, InternalEventReader, Pass};
 use crossterm_read::source::{DeviceSource, Script};
-use crossterm_types::event::{KeyCode, KeyEvent};
 use keymap::{KeymapFault, Matcher, Outcome};
 use linked_list_allocator::LocalHeap;
 use std::alloc::{AllocError, Global};
@@ -32,15 +31,6 @@ fn all_blocks(alloc: Global, heap: &LocalHeap) -> Result<Vec<Block<'_>>, AllocEr
         blocks.push(block)?;
     }
     Ok(blocks)
-}
-
-/// Feeds a letter, or flushes at `|`.
-fn call(matcher: &mut Poor<'_>, letter: char) -> Result<(), KeymapFault> {
-    if letter == '|' {
-        matcher.flush()
-    } else {
-        matcher.feed(KeyEvent::from(KeyCode::Char(letter)))
-    }
 }
 
 /// Calls while a heap has nothing left, and once more with room if that is refused. Returns whether it was.

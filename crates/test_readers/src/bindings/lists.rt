@@ -1,38 +1,17 @@
-//! Rows of bound lists, letters that are typed, and outcomes.
+//! Bound lists by their letters, keys that are fed, and lists that are refused.
 
-use crossterm_types::event::{Event, KeyCode, KeyEvent};
+use crossterm_types::event::{KeyCode, KeyEvent};
 use keymap::{Keymap, KeymapFault, Matcher, Outcome};
 use std::alloc::{AllocError, Allocator, Global};
 use test_support::expect;
 
-/// Lists by their letters, what is typed, what comes of it, and the keys that are undecided then. A number is an action, and a letter a key;
-/// `|` is a flush.
-static ROWS: [(&[&str], &str, &str, &str); 14] = [
-    (&["gg", "g"], "ggg|", "01", ""),
-    (&["gg", "g"], "g|g|", "11", ""),
-    (&["gg", "g"], "g", "", "g"),
-    (&["gg", "g"], "gg", "0", ""),
-    (&["abc", "b"], "abd", "a1d", ""),
-    (&["abc", "b"], "ab", "", "ab"),
-    (&["abc", "b"], "aba", "a1", "a"),
-    (&["abc", "b"], "ab|", "a1", ""),
-    (&["aab", "ab", "b"], "aaab", "a0", ""),
-    (&["aab", "ab", "b"], "aaa|", "aaa", ""),
-    (&["aab", "ab", "b"], "abb", "12", ""),
-    (&["abcdefgh"], "abcdefgx", "abcdefgx", ""),
-    (&["abcdefgh"], "abcdefgh", "0", ""),
-    (&["abcdefgh"], "xabcdefg", "x", "abcdefg"),
-];
-
-/// How an outcome is shown. A key that is let go and passed on is `^`, a modifier key is `m`, and any other event `!`.
+/// How an outcome is shown. Any event but a key is `!`.
 pub fn sign_of<A: Allocator>(outcome: Outcome<A>) -> char {
     match outcome {
         Outcome::Action(0) => '0',
         Outcome::Action(1) => '1',
-        Outcome::Action(2) => '2',
         Outcome::Action(_) => '?',
         Outcome::Key(key) => key.code.as_char().unwrap_or('?'),
-        Outcome::Event(Event::Key(key)) => if key.is_release() { '^' } else { 'm' },
         Outcome::Event(_) => '!',
     }
 }
@@ -75,43 +54,44 @@ pub fn matcher_of(alloc: Global, lists: &[&str]) -> Option<Matcher> {
     Some(Matcher::new(alloc, keymap_of(alloc, alloc, lists)?))
 }
 
-/// Types letters, and shows what comes of them.
-fn shown(alloc: Global, matcher: &mut Matcher, typed: &str) -> Option<String> {
-    let mut text = String::new(alloc);
-    for letter in typed.chars() {
-        if letter == '|' {
-            matcher.flush().ok()?;
-        } else {
-            matcher.feed(KeyEvent::from(KeyCode::Char(letter))).ok()?;
-        }
-        take_all(matcher, &mut text).ok()?;
+/// Feeds a letter, or flushes at `|`.
+pub fn call<A: Allocator>(matcher: &mut Matcher<A>, letter: char) -> Result<(), KeymapFault> {
+    if letter == '|' {
+        matcher.flush()
+    } else {
+        matcher.feed(KeyEvent::from(KeyCode::Char(letter)))
     }
-    Some(text)
 }
 
-/// The letters of some keys.
-fn letters_of(alloc: Global, keys: &[KeyEvent]) -> Option<String> {
-    let mut text = String::new(alloc);
-    for key in keys.iter() {
-        text.push(key.code.as_char()?).ok()?;
-    }
-    Some(text)
-}
+/// Lists by their letters, what is typed, what comes of it, and the keys that are undecided then. A number is an action, and a letter a key.
+static ROWS: [(&[&str], &str, &str, &str); 8] = [
+    (&["gg", "g"], "g", "", "g"),
+    (&["gg", "g"], "gg", "0", ""),
+    (&["gg", "g"], "g|g", "1", "g"),
+    (&["abc", "b"], "ab", "", "ab"),
+    (&["abc", "b"], "aba", "a1", "a"),
+    (&["aab", "ab", "b"], "aaab|", "a0", ""),
+    (&["abcdefgh"], "abcdefgh", "0", ""),
+    (&["abcdefgh"], "xabcdefg", "x", "abcdefg"),
+];
 
 /// Whether letters come out so, and these are undecided then.
 fn comes_out(alloc: Global, (lists, typed, want, left): &(&[&str], &str, &str, &str)) -> bool {
-    let Some(mut matcher) = matcher_of(alloc, lists) else {
+    let (Some(mut matcher), Some(chords)) = (matcher_of(alloc, lists), chords_of(alloc, left))
+    else {
         return false;
     };
-    let text = shown(alloc, &mut matcher, typed);
-    match (text, letters_of(alloc, matcher.undecided())) {
-        (Some(text), Some(letters)) => text.as_str() == *want && letters.as_str() == *left,
-        _ => false,
+    let mut signs = String::new(alloc);
+    for letter in typed.chars() {
+        if call(&mut matcher, letter).is_err() || take_all(&mut matcher, &mut signs).is_err() {
+            return false;
+        }
     }
+    signs.as_str() == *want && matcher.undecided() == chords.as_slice()
 }
 
 #[test]
-fn keys_are_cut_into_the_longest_lists(rt: HostRuntime) {
+fn fed_keys_come_out_or_are_undecided(rt: HostRuntime) {
     for row in ROWS.iter() {
         expect!(rt; comes_out(rt.alloc(), row), row.1);
     }
