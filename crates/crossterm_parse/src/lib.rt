@@ -52,7 +52,7 @@
 //! | `Recognizer` | 115 | the grammar as tests | |
 //! | `Tracking` | 82 | what is kept of numbers, fields and UTF-8 while they are read | |
 //! | `States` | 107 | which bytes of an open sequence a state represents | |
-//! | `View` | 115 | a parser as its callers see it, and what it makes of a piece | `Parser::advance`; `laws::{cuttings, two_steps_a_byte, a_step_a_byte}` |
+//! | `View` | 120 | a parser as its callers see it, and what it makes of a piece | `Parser::advance`; `laws::{cuttings, two_steps_a_byte, a_step_a_byte}` |
 //! | `Giving` | 27 | its events, one after another | `Parser::{next, events}` |
 //! | `Transitions` | 281 | what one more byte does to a state | `state.rt` |
 //! | `Putting` | 76 | what many bytes do, and what comes of them | `State::take` |

@@ -5,7 +5,7 @@ ghost use Rattle.std.specs.declared.io.ErrorKind.TheVariants.{OutOfMemory};
 ghost use Rattle.crossterm_types.specs.Seen.{seen};
 ghost use Rattle.crossterm_parse.specs.Putting.{TakesPart};
 ghost use Rattle.crossterm_parse.specs.Marked.{Marked, bytes_of, marked};
-ghost use Rattle.crossterm_parse.specs.View.{ParserView, Represents, RepresentsSame, AdvancesOver, EndsNoEvent, OpensNoPaste, TakesSteps, paste_length, text_of};
+ghost use Rattle.crossterm_parse.specs.View.{ParserView, Represents, RepresentsSame, AdvancesOver, EndsNoEvent, OpensNoPaste, TakesSteps, capacity, paste_length, text_of};
 
 use crate::paste::PasteText;
 use crate::state::State;
@@ -200,7 +200,8 @@ impl<A: Allocator + Clone> Parser<A> {
         ensures none { IfNone result ((self.old.waiting ≡ []) × (self.new.waiting ≡ [])) }
         ensures some { IfSome result (λ event. self.old.waiting ≡ seen event ∷ self.new.waiting) }
         ensures represents { RepresentsSame self.old self.new }
-        ensures room { self.old.room ≤ self.new.room }
+        // No memory is taken, and no room is lost.
+        ensures capacity { capacity self.new ≡ capacity self.old }
     {
         self.queue.next()
     }
