@@ -43,7 +43,7 @@ pub struct Reader {
     held: HeldEvents,
 }
 
-/// The acts of one: a long piece is read by and by.
+/// An act as it is read: a long piece comes in several parts.
 fn reads(act: Act) -> Vec<Act> {
     match act {
         Act::Piece { bytes, raw } => bytes.chunks(AT_ONCE).map(|part| Act::Piece { bytes: part.to_vec(), raw }).collect(),

@@ -19,7 +19,7 @@ fn path_of(name: &str) -> PathBuf {
     PathBuf::from(env!("CARGO_MANIFEST_DIR")).with_file_name("crates").join("probe").join(name)
 }
 
-/// That a path can't be read, which ends the test.
+/// Ends the test, since a path can't be read.
 fn missing(name: &str, error: std::io::Error) -> ! {
     let path = path_of(name);
     panic!("{} can't be read: {error}. The rows are in the repository's folder crates/probe, beside bindings.", path.display())

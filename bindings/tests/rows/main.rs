@@ -104,7 +104,7 @@ fn rows_of_numbered() {
     Mode::Play.check("numbered.txt", &runs);
 }
 
-/// One file after the other, since it holds for the whole process whether colours are written.
+/// One file after the other, since colours are switched for the whole process.
 #[test]
 fn rows_of_commands() {
     Mode::Say.check_file("say.txt");
@@ -123,7 +123,7 @@ fn rows_of_program() {
     Mode::Play.check("program.txt", &runs);
 }
 
-/// That of the folder of `probe`, and those below it.
+/// The session in the folder of `probe`, and those below it.
 #[test]
 fn stored_sessions() {
     let folders = form::folders("sessions").into_iter().chain([String::from(".")]);

@@ -134,9 +134,9 @@ fn copy(words: &str) -> Option<CopyToClipboard<Vec<u8>>> {
     Some(CopyToClipboard { content: content(words)?, destination })
 }
 
-/// The bytes of the command that a word names, by lists of commands that stand alone, take a number, or two numbers, and by the others.
+/// The bytes of the command that a word names. First come the lists of commands that take nothing, a number, or two numbers.
 macro_rules! written {
-    ($word:ident $rest:ident: alone $($alone:ident)*; number $($of_one:ident)*; pair $($of_two:ident)*; $($other:ident $read:expr;)*) => {
+    ($word:ident $rest:ident: none $($alone:ident)*; number $($of_one:ident)*; pair $($of_two:ident)*; $($other:ident $read:expr;)*) => {
         match $word {
             $(stringify!($alone) => $rest.is_none().then(|| text_of($alone)),)*
             $(stringify!($of_one) => $rest.and_then(number).map(|n| text_of($of_one(n))),)*
@@ -151,7 +151,7 @@ macro_rules! written {
 fn said(line: &str) -> Result<Vec<u8>, Wrong> {
     let (word, rest) = divided(line);
     let written = written! { word rest:
-        alone SavePosition RestorePosition Hide Show EnableBlinking DisableBlinking DisableLineWrap EnableLineWrap EnterAlternateScreen
+        none SavePosition RestorePosition Hide Show EnableBlinking DisableBlinking DisableLineWrap EnableLineWrap EnterAlternateScreen
             LeaveAlternateScreen BeginSynchronizedUpdate EndSynchronizedUpdate EnableMouseCapture DisableMouseCapture EnableFocusChange
             DisableFocusChange EnableBracketedPaste DisableBracketedPaste PopKeyboardEnhancementFlags ResetColor;
         number MoveToColumn MoveToRow MoveToNextLine MoveToPreviousLine MoveUp MoveDown MoveRight MoveLeft ScrollUp ScrollDown;
