@@ -20,6 +20,7 @@ fn print_events() -> io::Result<()> {
 }
 
 fn main() -> io::Result<()> {
+    println!("Type, click, paste or resize; Esc ends it.");
     terminal::enable_raw_mode()?;
     execute!(stdout(), EnableMouseCapture, EnableFocusChange, EnableBracketedPaste)?;
     let printed = print_events();

@@ -306,6 +306,7 @@ def example_hello(start):
 
 def example_event_read(start):
     t = start("")
+    t.wait_shown(b"Esc ends it")
     t.until(t.is_raw, "raw mode")
     t.type("a")
     t.wait_shown(b"Char('a')")
