@@ -158,7 +158,7 @@ impl<A: Allocator + Clone> Parser<A> {
         ensures taken { result ≤ length piece.now }
         // The events not yet given grow by the meanings of the parts of the only division, and the parser represents the rest.
         ensures divided { AdvancesOver self.old self.new (take result (marked piece.now more raw)) }
-        // A piece that ends no event, with no paste open after it, takes no memory.
+        // A piece that ends no event, with no paste open after it, needs no memory.
         ensures quiet { EndsNoEvent self.old (marked piece.now more raw) → result ≡ length piece.now }
         // If there is room, neither does a piece that opens no paste.
         ensures reserved { length piece.now ≤ self.old.room → OpensNoPaste self.old (marked piece.now more raw) → result ≡ length piece.now }

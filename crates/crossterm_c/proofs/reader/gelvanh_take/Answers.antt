@@ -17,7 +17,7 @@ returns-in-Some-clause-step c texts =
     c.args.table.now c.take_at.new.table c.in-Some.at c.take_at.result first this others refl
 
 pub returns-in-Some-clause-kept : goal.returns-in-Some-clause-kept
-returns-in-Some-clause-kept c yes =
+returns-in-Some-clause-kept c took =
     let held = c.span-first.ensures.held in
     let part = part_is c.args.table.now c.span-first.result.0 c.span-first.result.1 ∙ held in (
       c.in-Some.at,
