@@ -133,25 +133,28 @@ fn known(support: io::Result<bool>) -> Answer {
     }
 }
 
-/// Asks.
+/// What a query answers, and whether the terminal is raw then.
 fn answer_of<R: Wait>(
     rt: &R,
     query: Query,
-    term: &mut Terminal<Noted<'_>>,
+    mut term: Terminal<Noted<'_>>,
     seat: &mut Seat<Source>,
     out: &mut Noting<'_>,
-) -> Answer {
+) -> (Answer, bool) {
     let (shared, pass) = (&seat.shared, &mut seat.pass);
-    match query {
-        Query::Place => placed(position(rt, term, shared, pass, out, &mut Still)),
+    let answer = match query {
+        Query::Place => placed(position(rt, &mut term, shared, pass, out, &mut Still)),
         Query::Flags => flagged(query_keyboard_enhancement_flags(
-            rt, term, shared, pass, out, &mut Still,
+            rt, &mut term, shared, pass, out, &mut Still,
         )),
         Query::Support => match term.enable_raw_mode() {
-            Ok(()) => known(supports_keyboard_enhancement(rt, term, shared, pass, out, &mut Still)),
+            Ok(()) => known(supports_keyboard_enhancement(
+                rt, &mut term, shared, pass, out, &mut Still,
+            )),
             Err(error) => Answer::Failed(error.kind()),
         },
-    }
+    };
+    (answer, matches!(term.is_raw_mode_enabled(), Ok(true)))
 }
 
 /// A query, the script, the call of the device of modes that is refused, and how many bytes the writer takes before it fails.
@@ -170,13 +173,12 @@ fn is_met<R: Wait>(
     (asked, met): &(Asked, Met),
 ) -> bool {
     let calls = AtomicU32::new(0);
-    let mut term = terminal_by(flag, &calls, asked.2);
+    let term = terminal_by(flag, &calls, asked.2);
     let mut out = Noting {
         calls: &calls,
         witness: Witness::new(alloc, asked.3, ErrorKind::BrokenPipe),
     };
-    let answer = answer_of(rt, asked.0, &mut term, &mut seat, &mut out);
-    let is_raw = matches!(term.is_raw_mode_enabled(), Ok(true));
+    let (answer, is_raw) = answer_of(rt, asked.0, term, &mut seat, &mut out);
     answer == met.0
         && calls.load(Ordering::SeqCst) == met.1
         && is_raw == met.2
