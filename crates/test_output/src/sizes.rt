@@ -12,7 +12,6 @@ use crossterm::{
     queue_all,
 };
 use std::alloc::{AllocError, Global};
-use std::io;
 use test_support::{expect, is_text};
 
 const ON: ColorOutput = ColorOutput::Enabled;
@@ -140,8 +139,8 @@ fn large_copies_are_written(rt: HostRuntime) -> Result<(), AllocError> {
 }
 
 /// Whether letters come back from the places that they represent, and name these in a copy.
-fn come_back(alloc: Global, letters: &str, places: io::Result<ClipboardSelection>) -> bool {
-    let Ok(destination) = places else {
+fn come_back(alloc: Global, letters: &str) -> bool {
+    let Ok(destination) = ClipboardSelection::from_str(alloc, letters) else {
         return false;
     };
     let is_whole = destination.0.len() == 1000;
@@ -156,7 +155,6 @@ fn come_back(alloc: Global, letters: &str, places: io::Result<ClipboardSelection
 #[test]
 fn many_letters_come_back(rt: HostRuntime) -> Result<(), AllocError> {
     let letters = "cps\u{e9}\u{1f980}".repeat(rt.alloc(), 200)?;
-    let places = ClipboardSelection::from_str(rt.alloc(), letters.as_str());
-    expect!(rt; come_back(rt.alloc(), letters.as_str(), places));
+    expect!(rt; come_back(rt.alloc(), letters.as_str()));
     Ok(())
 }

@@ -33,9 +33,12 @@ where
     R: Threads + Wait + Copy + Send + Drop + 'static,
     requires { All (IsPassOf shared.now) passes.old.items }
 {
-    match (passes.pop(), passes.pop()) {
-        (Some(other), Some(pass)) => EventStream::new(rt, alloc, shared, pass, other),
-        _ => Err(io::Error::from(ErrorKind::NotFound)),
+    let Some(other) = passes.pop() else {
+        return Err(io::Error::from(ErrorKind::NotFound));
+    };
+    match passes.pop() {
+        Some(pass) => EventStream::new(rt, alloc, shared, pass, other),
+        None => Err(io::Error::from(ErrorKind::NotFound)),
     }
 }
 
@@ -235,23 +238,46 @@ fn a_fault_is_given_once(rt: HostRuntime) -> io::Result<()> {
     Ok(())
 }
 
+type Source<R> = DeviceSource<Gated<R>>;
+
 /// Whether both passes of a stream come back, and by them the reader, while its worker polls a device that reports nothing.
+fn gives_both_back<R>(
+    rt: R,
+    alloc: Global,
+    gate: &Gate,
+    task: &MockTask,
+    shared: EventReader<Source<R>>,
+    mut passes: Vec<Pass<Source<R>>>,
+) -> bool
+where
+    R: Threads + Wait + Copy + Send + Drop + 'static,
+    requires { All (IsPassOf shared) passes.items }
+{
+    let Some(other) = passes.pop() else {
+        return false;
+    };
+    let Some(pass) = passes.pop() else {
+        return false;
+    };
+    let Ok((mut stream, worker)) = EventStream::with_worker(rt, alloc, &shared, pass, other) else {
+        return false;
+    };
+    let polls = poll(task, &mut stream) == WAITS && gate.await_endless_question(&rt);
+    let _pass = stream.close();
+    let mut other = worker.join(&rt);
+    polls && shared.close(&rt, &mut other).is_some()
+}
+
+/// Whether they do with a new reader.
 fn gives_both_passes_back<R>(rt: R, alloc: Global) -> io::Result<bool>
 where
     R: Threads + Wait + RandomSource + AllocGlobal + Copy + Send + Drop + 'static,
 {
+    let task = MockTask::new(&rt)?;
     let gate = Arc::new(alloc, Gate::new())?;
     let reader = reader_of(alloc, Gated::new(rt, alloc, &gate)?);
-    let (shared, mut passes) = EventReader::new(&rt, alloc, reader, 2)?;
-    let (Some(other), Some(pass)) = (passes.pop(), passes.pop()) else {
-        return Err(io::Error::from(ErrorKind::NotFound));
-    };
-    let (mut stream, worker) = EventStream::with_worker(rt, alloc, &shared, pass, other)?;
-    let task = MockTask::new(&rt)?;
-    let polls = poll(&task, &mut stream) == Answer::Pending && gate.await_endless_question(&rt);
-    let _pass = stream.close();
-    let mut other = worker.join(&rt);
-    Ok(polls && shared.close(&rt, &mut other).is_some())
+    let (shared, passes) = EventReader::new(&rt, alloc, reader, 2)?;
+    Ok(gives_both_back(rt, alloc, &gate, &task, shared, passes))
 }
 
 #[test]
