@@ -32,6 +32,7 @@ where
     S: EventSource<Global> + Send + 'static,
     R: Threads + Wait + Copy + Send + Drop + 'static,
     requires { All (IsPassOf shared.now) passes.old.items }
+    ensures { All (IsPassOf shared.now) passes.new.items }
 {
     let Some(other) = passes.pop() else {
         return Err(io::Error::from(ErrorKind::NotFound));

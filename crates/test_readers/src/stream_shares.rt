@@ -112,9 +112,9 @@ where
 {
     let task = MockTask::new(&rt)?;
     let (shared, mut passes) = EventReader::new(&rt, alloc, sizes(alloc)?, 4)?;
+    let mut stream = stream_by(rt, alloc, &shared, &mut passes)?;
     let one = Seat::next(&shared, &mut passes);
     let other = Seat::next(&shared, &mut passes);
-    let mut stream = stream_by(rt, alloc, &shared, &mut passes)?;
     let ((first, second), third) = thread::join(
         &rt,
         move || read_parts(&rt, alloc, one, other),
