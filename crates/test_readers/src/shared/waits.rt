@@ -1,6 +1,6 @@
 //! Three threads share a reader: one has it for a second, in a device that sleeps, and two wait for it.
 
-use crossterm_read::read::{EventReader, InternalEventReader};
+use crossterm_read::read::EventReader;
 use crossterm_read::source::{Answer, Device, EventSource, Waker};
 use crossterm_types::event::Event;
 use crossterm_types::event::filter::AnyFilter;
@@ -57,12 +57,18 @@ impl<R: Wait> Device for Sleeper<'_, R> {
     }
 }
 
+/// A seat at a reader, if there was memory.
+type Place<S> = io::Result<Seat<S>>;
+
 /// What a poll by a clock that never moves comes to: each of its waits takes the whole limit.
 fn polls<S: EventSource<Global>, R: Wait>(
     rt: &R,
-    mut seat: Seat<S>,
+    seat: Place<S>,
     limit: Option<Duration>,
 ) -> &'static str {
+    let Ok(mut seat) = seat else {
+        return "no seat";
+    };
     match seat.poll(rt, limit, AnyFilter::Event) {
         Ok(true) => "true",
         Ok(false) => "false",
@@ -71,7 +77,10 @@ fn polls<S: EventSource<Global>, R: Wait>(
 }
 
 /// Waits without a limit, and reads.
-fn reads<S: EventSource<Global>, R: Wait>(rt: &R, mut seat: Seat<S>) -> &'static str {
+fn reads<S: EventSource<Global>, R: Wait>(rt: &R, seat: Place<S>) -> &'static str {
+    let Ok(mut seat) = seat else {
+        return "no seat";
+    };
     match seat.read(rt) {
         Ok(Event::Key(_)) => "a key",
         Ok(_) => "an event",
@@ -83,24 +92,12 @@ fn reads<S: EventSource<Global>, R: Wait>(rt: &R, mut seat: Seat<S>) -> &'static
 fn both_wait<S: EventSource<Global> + Send, R: Wait + Threads + Sync>(
     rt: &R,
     asked: &AtomicBool,
-    one: Seat<S>,
-    other: Seat<S>,
+    one: Place<S>,
+    other: Place<S>,
 ) -> (&'static str, &'static str) {
     let _ = is_raised_within(rt, asked, TURNS);
     let limit = Some(Duration::from_secs(3));
     thread::join(rt, move || reads(rt, one), move || polls(rt, other, limit))
-}
-
-/// Three shares of a reader, each with a pass.
-fn three<S: EventSource<Global>, R: Wait>(
-    rt: &R,
-    alloc: Global,
-    reader: InternalEventReader<S>,
-) -> io::Result<(Seat<S>, Seat<S>, Seat<S>)> {
-    let (shared, mut passes) = EventReader::new(rt, alloc, reader, 3)?;
-    let first = Seat::next(&shared, &mut passes)?;
-    let second = Seat::next(&shared, &mut passes)?;
-    Ok((first, second, Seat::next(&shared, &mut passes)?))
 }
 
 /// What the thread that has the reader comes to, the one that reads, and the one that polls for 3 s at most.
@@ -109,11 +106,14 @@ fn three_share<R: Wait + Threads + Sync>(
     alloc: Global,
 ) -> io::Result<(&'static str, &'static str, &'static str)> {
     let asked = AtomicBool::new(false);
-    let device = Sleeper::new(rt, &asked);
-    let (first, one, other) = three(rt, alloc, reader_of(alloc, device))?;
+    let reader = reader_of(alloc, Sleeper::new(rt, &asked));
+    let (shared, mut passes) = EventReader::new(rt, alloc, reader, 3)?;
+    let first = Seat::next(&shared, &mut passes);
+    let one = Seat::next(&shared, &mut passes);
+    let other = Seat::next(&shared, &mut passes);
     let (held, (read, polled)) = thread::join(
         rt,
-        || polls(rt, first, None),
+        move || polls(rt, first, None),
         || both_wait(rt, &asked, one, other),
     );
     Ok((held, read, polled))
