@@ -4,7 +4,9 @@ use crossterm_read::read::EventReader;
 use crossterm_read::source::{Answer, Device, EventSource, Waker};
 use crossterm_types::event::Event;
 use crossterm_types::event::filter::AnyFilter;
+use crossterm_types::event::timeout::SystemClock;
 use std::alloc::Global;
+use std::rt::Clock;
 use std::sync::Wait;
 use std::sync::atomic::{AtomicBool, Ordering};
 use std::thread::Threads;
@@ -24,10 +26,15 @@ pub struct Sleeper<'a, R> {
 impl<'a, R: Wait> Sleeper<'a, R> {
     /// One that sleeps for a second, and raises the flag before.
     pub fn new(rt: &'a R, asked: &'a AtomicBool) -> Sleeper<'a, R> {
+        Sleeper::lasting(rt, asked, Duration::from_secs(1))
+    }
+
+    /// One that sleeps for so long.
+    fn lasting(rt: &'a R, asked: &'a AtomicBool, time: Duration) -> Sleeper<'a, R> {
         Sleeper {
             rt,
             asked,
-            time: Duration::from_secs(1),
+            time,
             questions: 0,
         }
     }
@@ -125,5 +132,46 @@ fn who_waits_for_the_reader_has_its_turn(rt: HostRuntime) -> io::Result<()> {
     expect!(rt; held == "false");
     expect!(rt; read == "a key");
     expect!(rt; polled == "true");
+    Ok(())
+}
+
+/// What a poll by the system's clock comes to, once the device is asked.
+fn polls_in_time<S: EventSource<Global>, R: Wait + Clock>(
+    rt: &R,
+    asked: &AtomicBool,
+    seat: Place<S>,
+    limit: Duration,
+) -> &'static str {
+    let _ = is_raised_within(rt, asked, TURNS);
+    let Ok(Seat { shared, mut pass }) = seat else {
+        return "no seat";
+    };
+    let mut clock = SystemClock::new(rt);
+    match shared.poll(rt, &mut pass, limit, &mut clock) {
+        Ok(true) => "true",
+        Ok(false) => "false",
+        Err(_) => "a fault",
+    }
+}
+
+/// What a poll of 100 ms comes to while another thread has the reader for three seconds.
+fn times_out<R: Wait + Threads + Sync + Clock>(rt: &R, alloc: Global) -> io::Result<&'static str> {
+    let asked = AtomicBool::new(false);
+    let sleeper = Sleeper::lasting(rt, &asked, Duration::from_secs(3));
+    let (shared, mut passes) = EventReader::new(rt, alloc, reader_of(alloc, sleeper), 2)?;
+    let first = Seat::next(&shared, &mut passes);
+    let one = Seat::next(&shared, &mut passes);
+    let limit = Duration::from_millis(100);
+    let (_, polled) = thread::join(
+        rt,
+        move || polls(rt, first, None),
+        || polls_in_time(rt, &asked, one, limit),
+    );
+    Ok(polled)
+}
+
+#[test]
+fn a_limit_passes_while_another_has_the_reader(rt: HostRuntime) -> io::Result<()> {
+    expect!(rt; times_out(&rt, rt.alloc())? == "false");
     Ok(())
 }
