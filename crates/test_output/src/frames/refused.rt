@@ -26,21 +26,19 @@ const ROWS: [(char, Option<CellFault>); 11] = [
 
 fn are_refused(mut buffer: Buffer) -> bool {
     for (symbol, fault) in ROWS {
-        let style = ContentStyle::new();
-        if buffer.set(0, 1, symbol, style).err() != fault
-            || buffer.fill(symbol, style).err() != fault
+        if buffer.set(0, 1, symbol, ContentStyle::new()).err() != fault
+            || buffer.fill(symbol, ContentStyle::new()).err() != fault
         {
             return false;
         }
     }
     let is_filled = buffer.cells().iter().all(|cell| cell.symbol == '~');
-    let style = ContentStyle::new();
     is_filled
-        && buffer.set(2, 0, 'x', style) == Err(CellFault::Outside)
-        && buffer.set(2, 0, '漢', style) == Err(CellFault::Outside)
-        && buffer.set(0, 2, '\u{1b}', style) == Err(CellFault::Outside)
-        && buffer.set(1, 0, '漢', style) == Err(CellFault::LastColumn)
-        && buffer.set(1, 0, '\u{17d8}', style) == Err(CellFault::Wide)
+        && buffer.set(2, 0, 'x', ContentStyle::new()) == Err(CellFault::Outside)
+        && buffer.set(2, 0, '漢', ContentStyle::new()) == Err(CellFault::Outside)
+        && buffer.set(0, 2, '\u{1b}', ContentStyle::new()) == Err(CellFault::Outside)
+        && buffer.set(1, 0, '漢', ContentStyle::new()) == Err(CellFault::LastColumn)
+        && buffer.set(1, 0, '\u{17d8}', ContentStyle::new()) == Err(CellFault::Wide)
 }
 
 /// Whether frames of another size and cursors outside are refused, with nothing written.

@@ -40,16 +40,20 @@ fn writes(screen: &mut Screen, alloc: Global, buffer: &Buffer, wanted: &str) -> 
     rest.strip_suffix(END.as_bytes()) == Some(wanted.as_bytes())
 }
 
-fn are_written(alloc: Global, mut screen: Screen, mut buffer: Buffer) -> bool {
-    let red = ContentStyle {
+/// A style with a red foreground.
+fn red() -> ContentStyle {
+    ContentStyle {
         foreground_color: Some(Color::AnsiValue(9)),
         ..ContentStyle::new()
-    };
+    }
+}
+
+fn are_written(alloc: Global, mut screen: Screen, mut buffer: Buffer) -> bool {
     let blank = writes(&mut screen, alloc, &buffer, "\x1b[0m\x1b[2J");
     let nothing = writes(&mut screen, alloc, &buffer, "");
-    let set = buffer.set(2, 1, 'a', red).is_ok()
-        && buffer.set(3, 1, 'b', red).is_ok()
-        && buffer.set(19, 1, 'c', red).is_ok()
+    let set = buffer.set(2, 1, 'a', red()).is_ok()
+        && buffer.set(3, 1, 'b', red()).is_ok()
+        && buffer.set(19, 1, 'c', red()).is_ok()
         && buffer.set(0, 2, 'd', ContentStyle::new()).is_ok();
     let some = "\x1b[2;3H\x1b[0m\x1b[38;5;9mab\x1b[2;20Hc\x1b[3;1H\x1b[0md";
     let changed = writes(&mut screen, alloc, &buffer, some);
@@ -149,10 +153,11 @@ fn write_longest(buffer: &mut Buffer, out: &mut Vec<u8>) -> bool {
         && queue!(out, ON, SetAttribute(Attribute::Reset)).is_ok()
         && queue!(out, ON, Clear(ClearType::All), MoveTo(0, 0)).is_ok();
     for column in 0..60u8 {
-        let style = longest(column);
-        let is_set = buffer.set(u16::from(column), 0, 'x', style).is_ok();
+        let is_set = buffer
+            .set(u16::from(column), 0, 'x', longest(column))
+            .is_ok();
         let is_written = queue!(out, ON, SetAttribute(Attribute::Reset)).is_ok()
-            && queue!(out, ON, SetStyle(style), Print('x')).is_ok();
+            && queue!(out, ON, SetStyle(longest(column)), Print('x')).is_ok();
         if !is_set || !is_written {
             return false;
         }

@@ -60,11 +60,10 @@ fn is_set(mut buffer: Buffer, over: &Over) -> bool {
 
 /// Whether a text is printed over halves, and an empty one leaves all as it was.
 fn are_printed(mut buffer: Buffer) -> bool {
-    let blue = colored(Color::Blue);
     let all = buffer.print(0, 0, "漢漢漢.", colored(Color::Red));
-    let none = buffer.print(1, 0, "", blue);
+    let none = buffer.print(1, 0, "", colored(Color::Blue));
     let kept = shows(&buffer, "漢\u{0}漢\u{0}漢\u{0}.", "rrrrrrr");
-    let some = buffer.print(1, 0, "a字b", blue);
+    let some = buffer.print(1, 0, "a字b", colored(Color::Blue));
     all == Ok(7)
         && none == Ok(0)
         && kept
@@ -120,15 +119,14 @@ fn prints(screen: &mut Screen, alloc: Global, buffer: &Buffer, place: &str, text
 /// Whether a character of two columns is printed once, with no move behind it, and both columns are printed when it is gone.
 fn are_drawn(alloc: Global, mut screen: Screen, mut buffer: Buffer) -> bool {
     let mut bytes: Vec<u8> = Vec::new(alloc);
-    let style = ContentStyle::new();
     let first = screen.draw(&mut bytes, ColorOutput::Enabled, &buffer, None);
-    let printed = buffer.print(1, 1, "a漢b", style);
+    let printed = buffer.print(1, 1, "a漢b", ContentStyle::new());
     let next = prints(&mut screen, alloc, &buffer, "2;2", "a漢b");
-    let over_first = buffer.set(2, 1, 'x', style);
+    let over_first = buffer.set(2, 1, 'x', ContentStyle::new());
     let second_left = prints(&mut screen, alloc, &buffer, "2;3", "x ");
-    let back = buffer.set(2, 1, '字', style);
+    let back = buffer.set(2, 1, '字', ContentStyle::new());
     let whole = prints(&mut screen, alloc, &buffer, "2;3", "字");
-    let over_second = buffer.set(3, 1, 'y', style);
+    let over_second = buffer.set(3, 1, 'y', ContentStyle::new());
     let first_left = prints(&mut screen, alloc, &buffer, "2;3", " y");
     let are_set = over_first.is_ok() && back.is_ok() && over_second.is_ok();
     first.is_ok() && printed == Ok(4) && are_set && next && second_left && whole && first_left
