@@ -93,7 +93,8 @@ struct gelvanh_event {
 /* The version of the archive, as GELVANH_VERSION_NUMBER is the header's: for a program that finds the functions by name. */
 uint32_t gelvanh_version(void);
 
-/* Takes bytes of a terminal, and returns how many. `count` is how many events they gave, which are in front of `events`.
+/* Takes bytes of a terminal, and returns how many. `count` is how many events they gave, which are in front of `events`. What is behind
+ * these is the call's to use, and so are the numbers of `state` that its kind doesn't use.
  *
  * It stops when all are taken, when the table of `room` events is full, and after the byte with which a paste opens or is over; then
  * the others are handed in again. So if a paste was open before the call, all bytes taken are of it: the caller keeps them, and if
@@ -112,7 +113,7 @@ gelvanh_bool gelvanh_is_pasting(const struct gelvanh_state *state);
 
 /* Writes the text of a paste's bytes (without the six of its end), with U+FFFD for each maximal part that isn't UTF-8, as far as the
  * next character has room. It returns how many bytes were read: the text of the others is still missing. `written` is how many bytes
- * were written. With room for three times the bytes all are read. */
+ * were written; what is behind them in `text` is the call's to use. With room for three times the bytes all are read. */
 size_t gelvanh_paste_text(const uint8_t *bytes, size_t length, uint8_t *text, size_t room, size_t *written);
 
 /* An event that is held, and how many events arrived before it. */

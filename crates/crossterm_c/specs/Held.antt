@@ -1,5 +1,5 @@
 -- Events that a caller's table holds for a reader, and which of them a call asks for.
-use Rattle.std.specs.Prelude.{ℕ, Bool, not, ◌==◌, if◌then◌else◌, List, [], take, drop, map, Option, Some, None}
+use Rattle.std.specs.Prelude.{◌≡◌, ℕ, Bool, not, ◌==◌, if◌then◌else◌, List, [], take, drop, map, Option, Some, None, position, remove, slice_index_or}
 use Rattle.std.specs.Int.RustNames.{bit_and}
 use Rattle.crossterm_types.specs.Admitting.{is_of}
 use Rattle.crossterm_types.specs.Seen.{Seen}
@@ -44,3 +44,8 @@ bits_of Attributes = 8
 -- Whether a held event is of one of these classes, whatever is kept of a paste.
 abbrev pub admits : ℕ → GelvanhHeld → Bool
 admits bits h = is_of (classes_at bits) (event_at [] h.event)
+
+-- Of these held events the first one of some classes was taken, as it is, and the others are left.
+abbrev pub TakesAsHeld : ℕ → List GelvanhHeld → GelvanhHeld → List GelvanhHeld → Type 0
+TakesAsHeld bits held taken left =
+    (i : ℕ) × (position (admits bits) held ≡ Some i) × (slice_index_or held i taken ≡ taken) × (left ≡ remove held i)

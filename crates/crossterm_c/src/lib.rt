@@ -22,7 +22,7 @@
 //! | `State` | 88 | the state of an open sequence as numbers | `gelvanh_is_undecided`, `gelvanh_is_pasting` |
 //! | `Event` | 120 | events as numbers | `gelvanh_feed` |
 //! | `Feeding` | 37 | what a call does that takes bytes | `gelvanh_feed` |
-//! | `Held` | 46 | events that are held, and their classes | `gelvanh_hold`, `gelvanh_holds`, `gelvanh_take` |
+//! | `Held` | 51 | events that are held, and their classes | `gelvanh_hold`, `gelvanh_holds`, `gelvanh_take` |
 //! | `Text` | 23 | the text of a paste, piece by piece | `gelvanh_paste_text` |
 //! | `Command` | 213 | commands as numbers, and their texts | `gelvanh_command`, `gelvanh_print` and the like |
 //! | `Outlet` | 9 | a slice that takes what fits | the same |

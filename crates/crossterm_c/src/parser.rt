@@ -21,6 +21,8 @@ use std::sync::ledger::Blank;
 /// over; then the others are handed in again. So if a paste was open before the call, all bytes taken are of it: the caller keeps them, and if the paste is over,
 /// its event is the only one, and its text that of the bytes kept but the last six (`gelvanh_paste_text`).
 ///
+/// What is behind these events is the call's to use, and so are the numbers of `state` that its kind doesn't use.
+///
 /// `more` says that bytes of the same answer of the terminal follow at once, so that ESC at the end is no Esc key yet. `raw` is the mode
 /// that the bytes came in: there a line feed is Ctrl-J, and Enter otherwise.
 #[unsafe(no_mangle)]
@@ -66,7 +68,7 @@ pub extern "C" fn gelvanh_is_pasting(state: &GelvanhState) -> bool
 /// Writes the text of a paste's bytes, with U+FFFD for each maximal part that isn't UTF-8, as far as the next character has room.
 ///
 /// It returns how many bytes were read: if they aren't all, the text of the others is still missing. `written` is how many bytes of the
-/// slice were written.
+/// slice were written. What is behind them is the call's to use.
 #[unsafe(no_mangle)]
 pub extern "C" fn gelvanh_paste_text(bytes: &[u8], text: &mut [u8], written: &mut usize) -> usize
     ensures { Writes bytes.now text.new written.new result }

@@ -5,7 +5,7 @@ ghost use Rattle.crossterm_read.specs.Answers.{Gave};
 ghost use Rattle.crossterm_read.specs.Store.{Arrives};
 ghost use Rattle.crossterm_read.specs.Steps.{TakeReplies, first_admitted};
 ghost use Rattle.crossterm_c.specs.Event.{event_at};
-ghost use Rattle.crossterm_c.specs.Held.{classes_at, held_in, store_at, taken_at};
+ghost use Rattle.crossterm_c.specs.Held.{TakesAsHeld, classes_at, held_in, store_at, taken_at};
 
 use crate::event::GelvanhEvent;
 use crate::held::{GelvanhHeld, GelvanhReader, first_of, make_room, put_behind, span, take_at};
@@ -65,6 +65,8 @@ pub extern "C" fn gelvanh_take(
     taken: &mut GelvanhHeld,
 ) -> bool
     ensures step { (texts : ℕ → List ℕ) → TakeReplies (is_of (classes_at classes)) (store_at texts reader.old table.old) (store_at texts reader.new table.new) (taken_at texts result taken.new) }
+    // It is taken as it was held, whatever its numbers are, and the others stay as they were.
+    ensures kept { IsTrue result → TakesAsHeld classes (held_in reader.old table.old) taken.new (held_in reader.new table.new) }
     ensures none { result ≡ false → (reader.new ≡ reader.old) × (table.new ≡ table.old) × (taken.new ≡ taken.old) }
 {
     let (first, held) = span(reader, table);

@@ -385,7 +385,7 @@ means_paste p ps h e = not_cons_seen _ _ (sym (ap (λ (o : Option Seen). cons_op
 abbrev NoneFirst : List (List Marked) → Type 0
 NoneFirst others = (p : List Marked) (ps : List (List Marked)) → others ≡ p ∷ ps → begins paste_start (bytes_of p) ≡ true → ⊥
 
-quiet_first : (others : List (List Marked)) → filter_map meaning_of others ≡ [] → NoneFirst others
+pub quiet_first : (others : List (List Marked)) → filter_map meaning_of others ≡ [] → NoneFirst others
 quiet_first others e p ps is h = means_paste p ps h (ap (λ (xs : List (List Marked)). filter_map meaning_of xs) (sym is) ∙ e)
 
 free_first : (others : List (List Marked)) → AllByRecursion (λ part. begins paste_start (bytes_of part) ≡ false) others → NoneFirst others
@@ -399,7 +399,7 @@ all_right P [] ys h = h
 all_right P (x ∷ xs) ys h = all_right P xs ys h.1
 
 -- what is left of an open paste is no quiet rest
-paste_left : (rest more : List Marked) (others : List (List Marked)) (last : List Marked) → begins paste_start (bytes_of rest) ≡ true → IsUndecided grammar.Whole rest
+pub paste_left : (rest more : List Marked) (others : List (List Marked)) (last : List Marked) → begins paste_start (bytes_of rest) ≡ true → IsUndecided grammar.Whole rest
     → Divides grammar.Whole (rest ++ more) others last → NoneFirst others → begins paste_start (bytes_of last) ≡ false → ⊥
 paste_left rest more [] last e u d none h = false≢true (sym h ∙ ap (λ (ms : List Marked). begins paste_start (bytes_of ms)) (sym d.joined) ∙ begins_longer rest more e)
 paste_left rest more (p ∷ ps) last e u d none h = elim (two_fronts rest p more (flat_map (λ part. part) ps ++ last) (d.joined ∙ append_assoc p (flat_map (λ part. part) ps) last)) [

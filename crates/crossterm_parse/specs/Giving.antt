@@ -1,9 +1,9 @@
 -- The events of a parser, one after another.
-use Rattle.std.specs.Prelude.{◌≡◌, ◌≤◌, ◌++◌, List, map, Option}
+use Rattle.std.specs.Prelude.{◌≡◌, ◌++◌, List, map, Option}
 use Rattle.std.specs.Iterator.{Yields, YieldsFirstBy}
 use Rattle.crossterm_types.specs.Seen.{Seen, seen}
 use Rattle.crossterm_types.specs.declared.event.InternalEvent.{InternalEvent}
-use Rattle.crossterm_parse.specs.View.{RepresentsSame}
+use Rattle.crossterm_parse.specs.View.{RepresentsSame, capacity}
 use Rattle.crossterm_parse.specs.declared.parse.events.Events.{Events}
 
 module _ {A : Type 0} where
@@ -11,11 +11,11 @@ module _ {A : Type 0} where
   abbrev pub events_left_in : Events A → List Seen
   events_left_in events = events.parser.now.waiting
 
-  -- An iterator over the events of the same parser, which represents what it represented.
+  -- An iterator over the events of the same parser, which represents what it represented. No memory is taken, and no room is lost.
   pub record KeepsParser (old new : Events A) : Type 0 where
     pub same : new.parser.ghost_name ≡ old.parser.ghost_name
     pub represents : RepresentsSame old.parser.now new.parser.now
-    pub room : old.parser.now.room ≤ new.parser.now.room
+    pub capacity : capacity new.parser.now ≡ capacity old.parser.now
 
   -- The first event that waits was given, where there is one, and nothing else changed.
   abbrev pub GivesFirst : Events A → Option (InternalEvent A) → Events A → Type 0

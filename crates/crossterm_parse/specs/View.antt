@@ -17,6 +17,10 @@ pub record ParserView : Type 0 where
   pub text : List ℕ
   pub room : ℕ
 
+-- How many events it keeps at most without memory: those that wait, and those for which it has room.
+abbrev pub capacity : ParserView → ℕ
+capacity parser = length parser.waiting + parser.room
+
 -- The parser represents these bytes, of which none has ended a sequence.
 abbrev pub Represents : ParserView → List Marked → Type 0
 Represents parser before = StateRepresents parser.state (bytes_of before) × (parser.text ≡ kept_text parser.state (bytes_of before))
@@ -50,7 +54,8 @@ OpensNoPaste parser taken = (before : List Marked) × (parts : List (List Marked
     × AllByRecursion (λ part. begins paste_start (bytes_of part) ≡ false) parts × (begins paste_start (bytes_of rest) ≡ false)
 
 -- The first event was taken out, where there is one, and so many bytes of a piece were put in before: none where it waited. Where nothing
--- waited, a piece that ends no event is put in whole, and the first byte that is left ends an event, or is of a paste.
+-- waited, a piece that ends no event is put in whole, and the first byte that is left ends an event, or is of a paste. If it is of none, and no event
+-- came, there is no room left.
 pub record TakesFirst (old new : ParserView) (piece : List ℕ) (more raw : Bool) (event : Option Seen) (count : ℕ) : Type 0 where
   pub within : count ≤ length piece
   pub mid : ParserView
@@ -61,7 +66,7 @@ pub record TakesFirst (old new : ParserView) (piece : List ℕ) (more raw : Bool
   pub none : event ≡ None → new.waiting ≡ []
   pub quiet : old.waiting ≡ [] → EndsNoEvent old (marked piece more raw) → count ≡ length piece
   pub stops : (event ≡ None) ⊎ (old.waiting ≡ []) → count < length piece → ¬ EndsNoEvent mid (take 1 (drop count (marked piece more raw)))
-  pub full : event ≡ None → count < length piece → OpensNoPaste mid (take 1 (drop count (marked piece more raw))) → mid.room ≡ 0
+  pub full : event ≡ None → count < length piece → OpensNoPaste mid (take 1 (drop count (marked piece more raw))) → new.room ≡ 0
   pub room : old.room ≤ new.room + count
 
 -- The length of the paste that some undecided bytes open: what came after its start.

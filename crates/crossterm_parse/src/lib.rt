@@ -28,7 +28,7 @@
 //! |---|---|
 //! | no complete sequence is a proper prefix of another, so bytes divide in one way only; the parser follows that division and gives each part's meaning | `laws::unique_division`; `Parser::{advance, feed, next, events, take_first}` |
 //! | however the same bytes are cut into pieces, they give the same events | `laws::cuttings` |
-//! | a piece that ends no event and leaves no paste open takes no memory; after `reserve(n)` a piece of n bytes that opens no paste is consumed whole; if a piece isn't consumed whole, the next byte belongs to a paste, or ends an event for which there is no room | `Parser::{advance, reserve}` |
+//! | a piece that ends no event and leaves no paste open needs no memory; after `reserve(n)` a piece of n bytes that opens no paste is consumed whole; if a piece isn't consumed whole, the next byte belongs to a paste, or ends an event for which there is no room | `Parser::{advance, reserve}` |
 //! | at most two steps for each byte, and at least one | `laws::{two_steps_a_byte, a_step_a_byte}` |
 //! | the length of the open paste, whose text is kept | `Parser::paste_len` |
 //!
@@ -52,7 +52,7 @@
 //! | `Recognizer` | 115 | the grammar as tests | |
 //! | `Tracking` | 82 | what is kept of numbers, fields and UTF-8 while they are read | |
 //! | `States` | 107 | which bytes of an open sequence a state represents | |
-//! | `View` | 115 | a parser as its callers see it, and what it makes of a piece | `Parser::advance`; `laws::{cuttings, two_steps_a_byte, a_step_a_byte}` |
+//! | `View` | 120 | a parser as its callers see it, and what it makes of a piece | `Parser::advance`; `laws::{cuttings, two_steps_a_byte, a_step_a_byte}` |
 //! | `Giving` | 27 | its events, one after another | `Parser::{next, events}` |
 //! | `Transitions` | 281 | what one more byte does to a state | `state.rt` |
 //! | `Putting` | 76 | what many bytes do, and what comes of them | `State::take` |

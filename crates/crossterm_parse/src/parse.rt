@@ -5,7 +5,7 @@ ghost use Rattle.std.specs.declared.io.ErrorKind.TheVariants.{OutOfMemory};
 ghost use Rattle.crossterm_types.specs.Seen.{seen};
 ghost use Rattle.crossterm_parse.specs.Putting.{TakesPart};
 ghost use Rattle.crossterm_parse.specs.Marked.{Marked, bytes_of, marked};
-ghost use Rattle.crossterm_parse.specs.View.{ParserView, Represents, RepresentsSame, AdvancesOver, EndsNoEvent, OpensNoPaste, TakesSteps, paste_length, text_of};
+ghost use Rattle.crossterm_parse.specs.View.{ParserView, Represents, RepresentsSame, AdvancesOver, EndsNoEvent, OpensNoPaste, TakesSteps, capacity, paste_length, text_of};
 
 use crate::paste::PasteText;
 use crate::state::State;
@@ -158,7 +158,7 @@ impl<A: Allocator + Clone> Parser<A> {
         ensures taken { result ≤ length piece.now }
         // The events not yet given grow by the meanings of the parts of the only division, and the parser represents the rest.
         ensures divided { AdvancesOver self.old self.new (take result (marked piece.now more raw)) }
-        // A piece that ends no event, with no paste open after it, takes no memory.
+        // A piece that ends no event, with no paste open after it, needs no memory.
         ensures quiet { EndsNoEvent self.old (marked piece.now more raw) → result ≡ length piece.now }
         // If there is room, neither does a piece that opens no paste.
         ensures reserved { length piece.now ≤ self.old.room → OpensNoPaste self.old (marked piece.now more raw) → result ≡ length piece.now }
@@ -200,7 +200,8 @@ impl<A: Allocator + Clone> Parser<A> {
         ensures none { IfNone result ((self.old.waiting ≡ []) × (self.new.waiting ≡ [])) }
         ensures some { IfSome result (λ event. self.old.waiting ≡ seen event ∷ self.new.waiting) }
         ensures represents { RepresentsSame self.old self.new }
-        ensures room { self.old.room ≤ self.new.room }
+        // No memory is taken, and no room is lost.
+        ensures capacity { capacity self.new ≡ capacity self.old }
     {
         self.queue.next()
     }

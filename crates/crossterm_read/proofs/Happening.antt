@@ -1,5 +1,5 @@
 -- What happens, over whole scripts.
-use Rattle.std.proofs.Common.{◌≡◌, false, List, [], ◌∷◌, ◌++◌, refl, ap, sym, subst, ◌∙◌, append-nil, append_assoc}
+use Rattle.std.proofs.Common.{◌≡◌, inl, inr, Bool, false, List, [], ◌∷◌, ◌++◌, refl, ap, sym, subst, ◌∙◌, append-nil, append_assoc}
 use Rattle.std.proofs.lemmas.List.Elements.{filter_map-append}
 use Rattle.std.specs.List.{filter_map, flat_map}
 use Rattle.crossterm_parse.specs.declared.marked.Marked.{Marked}
@@ -13,7 +13,7 @@ use Rattle.crossterm_read.specs.Answers.{SourceAnswer, Gave, Nothing, Failed, ga
 use Rattle.crossterm_read.specs.Device.{DeviceAnswer, Bytes, Resized, Woken, Idle, Fault, marked_bytes}
 use Rattle.crossterm_read.specs.Scripted.{AnswersWith}
 use Rattle.std.specs.declared.io.ErrorKind.TheVariants.{UnexpectedEof, Interrupted}
-use Rattle.crossterm_read.specs.Outcomes.{Outcome, Ended, Single, Produces, Happens, Delivers, DeliversAll, Answered, events_of, outcome_events, all_bytes, byte_events, Happened, HappensByDivision}
+use Rattle.crossterm_read.specs.Outcomes.{Outcome, Ended, Single, is_pasting, Produces, Happens, TakenLate, Delivers, DeliversBytes, DeliversAll, Answered, events_of, outcome_events, all_bytes, byte_events, Happened, HappensByDivision}
 
 none_divided : (before : List Marked) → IsUndecided Whole before → Divides Whole (before ++ []) [] before
 none_divided before u = record { joined = append-nil before; whole = tt; undecided = u }
@@ -34,7 +34,7 @@ divided : (before : List Marked) (ws : List DeviceAnswer) (bs : List Outcome) (a
 divided before [] [] after u h = ([], subst (λ (l : List Marked). Divides Whole (before ++ []) [] l) (sym h) (none_divided before u), refl)
 divided before [] (b ∷ bs) after u h = absurd h
 divided before (w ∷ ws) [] after u h = absurd h
-divided before (Bytes (k ∷ ks) raw ∷ ws) (Ended es ∷ bs) after u h =
+divided before (Bytes (k ∷ ks) raw ∷ ws) (Ended es pasting ∷ bs) after u h =
     let parts = h.1.0 in
     let p = divided h.0 ws bs after h.1.1.undecided h.2 in (
       parts ++ p.0,
@@ -44,15 +44,15 @@ divided before (Bytes (k ∷ ks) raw ∷ ws) (Ended es ∷ bs) after u h =
           ∙ ap (λ (l : List Seen). filter_map meaning_of parts ++ l) p.2 ∙ sym (filter_map-append meaning_of parts p.0),
     )
 divided before (Bytes (k ∷ ks) raw ∷ ws) (Single x ∷ bs) after u h = absurd h.1
-divided before (Bytes [] raw ∷ ws) (Ended es ∷ bs) after u h = absurd h.1
+divided before (Bytes [] raw ∷ ws) (Ended es pasting ∷ bs) after u h = absurd h.1
 divided before (Bytes [] raw ∷ ws) (Single x ∷ bs) after u h = passed before h.0 ws x bs after h.1.1 u (λ v. divided h.0 ws bs after v h.2)
-divided before (Resized columns rows ∷ ws) (Ended es ∷ bs) after u h = absurd h.1
+divided before (Resized columns rows ∷ ws) (Ended es pasting ∷ bs) after u h = absurd h.1
 divided before (Resized columns rows ∷ ws) (Single x ∷ bs) after u h = passed before h.0 ws x bs after h.1.1 u (λ v. divided h.0 ws bs after v h.2)
-divided before (Woken ∷ ws) (Ended es ∷ bs) after u h = absurd h.1
+divided before (Woken ∷ ws) (Ended es pasting ∷ bs) after u h = absurd h.1
 divided before (Woken ∷ ws) (Single x ∷ bs) after u h = passed before h.0 ws x bs after h.1.1 u (λ v. divided h.0 ws bs after v h.2)
-divided before (Idle ∷ ws) (Ended es ∷ bs) after u h = absurd h.1
+divided before (Idle ∷ ws) (Ended es pasting ∷ bs) after u h = absurd h.1
 divided before (Idle ∷ ws) (Single x ∷ bs) after u h = passed before h.0 ws x bs after h.1.1 u (λ v. divided h.0 ws bs after v h.2)
-divided before (Fault kind ∷ ws) (Ended es ∷ bs) after u h = absurd h.1
+divided before (Fault kind ∷ ws) (Ended es pasting ∷ bs) after u h = absurd h.1
 divided before (Fault kind ∷ ws) (Single x ∷ bs) after u h = passed before h.0 ws x bs after h.1.1 u (λ v. divided h.0 ws bs after v h.2)
 
 pub happens_by_division : HappensByDivision
@@ -64,15 +64,24 @@ gave-append (Gave x ∷ xs) ys = ap (λ (l : List Seen). x ∷ l) (gave-append x
 gave-append (Nothing ∷ xs) ys = gave-append xs ys
 gave-append (Failed kind ∷ xs) ys = gave-append xs ys
 
-gave_delivers : (es : List Seen) (xs : List SourceAnswer) → Delivers es xs → gave xs ≡ es
-gave_delivers [] [] s = refl
-gave_delivers [] (Gave x ∷ xs) s = absurd s
-gave_delivers [] (Nothing ∷ xs) s = ap gave s
-gave_delivers [] (Failed kind ∷ xs) s = gave_delivers [] xs s.2
-gave_delivers (e ∷ es) [] s = absurd s
-gave_delivers (e ∷ es) (Gave x ∷ xs) s = ap (λ (y : Seen). y ∷ gave xs) s.0 ∙ ap (λ (l : List Seen). e ∷ l) (gave_delivers es xs s.1)
-gave_delivers (e ∷ es) (Nothing ∷ xs) s = absurd s
-gave_delivers (e ∷ es) (Failed kind ∷ xs) s = gave_delivers (e ∷ es) xs s.2
+gave_late : (xs : List SourceAnswer) → TakenLate xs → gave xs ≡ []
+gave_late [] s = absurd s
+gave_late (Gave x ∷ xs) s = absurd s
+gave_late (Nothing ∷ xs) s = ap gave s
+gave_late (Failed kind ∷ xs) s = gave_late xs s.1
+
+gave_delivers : (pasting : Bool) (es : List Seen) (xs : List SourceAnswer) → Delivers pasting es xs → gave xs ≡ es
+gave_delivers pasting [] [] s = refl
+gave_delivers pasting [] (x ∷ xs) s = gave_late (x ∷ xs) s.1
+gave_delivers pasting (e ∷ es) [] s = absurd s
+gave_delivers pasting (e ∷ es) (Gave x ∷ xs) s = ap (λ (y : Seen). y ∷ gave xs) s.0 ∙ ap (λ (l : List Seen). e ∷ l) (gave_delivers pasting es xs s.1)
+gave_delivers pasting (e ∷ es) (Nothing ∷ xs) s = absurd s
+gave_delivers pasting (e ∷ es) (Failed kind ∷ xs) s = gave_delivers pasting (e ∷ es) xs s.1
+
+gave_bytes : (pasting : Bool) (es : List Seen) (xs : List SourceAnswer) → DeliversBytes pasting es xs → gave xs ≡ es
+gave_bytes pasting [] xs (inl none) = ap gave none
+gave_bytes pasting [] xs (inr late) = gave_late xs late.1
+gave_bytes pasting (e ∷ es) xs s = gave_delivers pasting (e ∷ es) xs s
 
 gave_single : (x : SourceAnswer) (rest : List SourceAnswer) → gave (x ∷ rest) ≡ outcome_events (Single x) ++ gave rest
 gave_single (Gave x) rest = refl
@@ -82,25 +91,25 @@ gave_single (Failed kind) rest = refl
 gave_all : (bs : List Outcome) (xs : List SourceAnswer) → DeliversAll bs xs → gave xs ≡ events_of bs
 gave_all [] xs s = ap gave s
 gave_all (Single x ∷ bs) xs s = ap gave s.1 ∙ gave_single x s.0 ∙ ap (λ (l : List Seen). outcome_events (Single x) ++ l) (gave_all bs s.0 s.2)
-gave_all (Ended es ∷ bs) xs s = ap gave s.2 ∙ gave-append s.0 s.1 ∙ ap (λ (l : List Seen). l ++ gave s.1) (gave_delivers es s.0 s.4) ∙ ap (λ (l : List Seen). es ++ l) (gave_all bs s.1 s.5)
+gave_all (Ended es pasting ∷ bs) xs s = ap gave s.2 ∙ gave-append s.0 s.1 ∙ ap (λ (l : List Seen). l ++ gave s.1) (gave_bytes pasting es s.0 s.3) ∙ ap (λ (l : List Seen). es ++ l) (gave_all bs s.1 s.4)
 
 produces_some : (before : List Marked) (w : DeviceAnswer) → (b : Outcome) × (mid : List Marked) × Produces before w b mid
 produces_some before (Bytes [] raw) = (Single (Failed UnexpectedEof), before, (refl, refl))
 produces_some before (Bytes (k ∷ ks) raw) =
     let d = laws.some_division Whole nil_not_whole whole_or_not (before ++ marked_bytes (k ∷ ks) raw) in
-    (Ended (filter_map meaning_of d.0), d.1, (d.0, d.2, refl))
+    (Ended (filter_map meaning_of d.0) (is_pasting d.1), d.1, (d.0, d.2, refl, refl))
 produces_some before (Resized columns rows) = (Single (Gave (Resize columns rows)), before, (refl, refl))
 produces_some before Woken = (Single (Failed Interrupted), before, (refl, refl))
 produces_some before Idle = (Single Nothing, before, (refl, refl))
 produces_some before (Fault kind) = (Single (Failed kind), before, (refl, refl))
 
-happens_some : (before : List Marked) (ws : List DeviceAnswer) → (bs : List Outcome) × (after : List Marked) × Happens before ws bs after
+pub happens_some : (before : List Marked) (ws : List DeviceAnswer) → (bs : List Outcome) × (after : List Marked) × Happens before ws bs after
 happens_some before [] = ([], before, refl)
 happens_some before (w ∷ ws) = let b = produces_some before w in let r = happens_some b.1 ws in (b.0 ∷ r.0, r.1, (b.1, b.2, r.2))
 
 -- no event comes past the end
 end_produces : (before mid : List Marked) (b : Outcome) → Produces before (Bytes [] false) b mid → (outcome_events b ≡ []) × (mid ≡ before)
-end_produces before mid (Ended es) h = absurd h
+end_produces before mid (Ended es pasting) h = absurd h
 end_produces before mid (Single x) h = (ap (λ (y : SourceAnswer). outcome_events (Single y)) h.0, h.1)
 
 abbrev Extends : List Marked → List DeviceAnswer → List Outcome → Type 0

@@ -3,6 +3,7 @@ pub mod Asking
 pub mod Counting
 pub mod Cutting
 pub mod EachOnce
+pub mod Fronts
 pub mod Happening
 pub mod Histories
 pub mod Joining
@@ -13,10 +14,12 @@ pub mod Numbers
 pub mod Querying
 pub mod Reading
 pub mod Ready
+pub mod Results
 pub mod Rising
 pub mod Runs
 pub mod Scripts
 pub mod Seating
+pub mod Settled
 pub mod Sharing
 pub mod Storing
 pub mod Spelling

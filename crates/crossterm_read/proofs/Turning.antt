@@ -1,5 +1,5 @@
 -- One answer of a source.
-use Rattle.std.proofs.Common.{◌≡◌, ◌≢◌, ◌≤◌, ◌-◌, ◌+◌, ◌==◌, nat_lt, inl, inr, ℕ, zero, suc, Bool, false, List, [], ◌∷◌, ◌++◌, length, take, drop, refl, ap, sym, subst, ◌∙◌, arith, length-drop, ◌<◌}
+use Rattle.std.proofs.Common.{◌≡◌, ◌≢◌, ◌≤◌, ◌-◌, ◌+◌, ◌==◌, nat_lt, inl, inr, ℕ, zero, suc, Bool, List, [], ◌∷◌, ◌++◌, length, take, drop, refl, ap, sym, subst, ◌∙◌, arith, length-drop, ◌<◌}
 use Rattle.std.specs.List.{filter_map}
 use Rattle.crossterm_parse.specs.declared.marked.Marked.{Marked}
 use Rattle.crossterm_parse.specs.Marked.{marked}
@@ -7,7 +7,7 @@ use Rattle.crossterm_types.specs.Seen.{Seen}
 use Rattle.crossterm_parse.specs.Division.{Divides}
 use Rattle.crossterm_parse.specs.Grammar.{Whole}
 use Rattle.crossterm_parse.specs.Meaning.{meaning_of}
-use Rattle.crossterm_parse.specs.View.{ParserView, RepresentsSame, AdvancesOver, EndsNoEvent}
+use Rattle.crossterm_parse.specs.View.{ParserView, RepresentsSame, AdvancesOver, EndsNoEvent, OpensNoPaste, capacity}
 use Rattle.crossterm_read.specs.Answers.{SourceAnswer, Gave, Failed}
 use Rattle.std.specs.declared.io.ErrorKind.TheVariants.{OutOfMemory}
 use Rattle.std.proofs.Math.Seq.{drop-nil}
@@ -24,12 +24,13 @@ module _ {D : Type 0} (answered : D → List DeviceAnswer → D → Type 0) wher
   from_inside i s t xs e d = subst (λ (y : Source D). SourceDrawn answered y xs t) e d
 
   pub other_turn : (i s : Source D) (new : ParserView) (left : List Marked) (d : D) (w : DeviceAnswer) (x : SourceAnswer) → i ≡ s → i.parser.waiting ≡ [] → new.waiting ≡ [] → i.untaken ≡ [] → left ≡ []
-      → RepresentsSame i.parser new → answered i.device (w ∷ []) d → IsAnsweredBy w x → SourceDrawn answered s (x ∷ []) (record { parser = new; untaken = left; device = d })
-  other_turn i s new left d w x e ws wt us ut st h a = from_inside i s (record { parser = new; untaken = left; device = d }) (x ∷ []) e (
+      → RepresentsSame i.parser new → capacity new ≡ capacity i.parser → answered i.device (w ∷ []) d → IsAnsweredBy w x → SourceDrawn answered s (x ∷ []) (record { parser = new; untaken = left; device = d })
+  other_turn i s new left d w x e ws wt us ut st r h a = from_inside i s (record { parser = new; untaken = left; device = d }) (x ∷ []) e (
     w ∷ [],
     h,
     λ before represents undecided.
-        let same : at (record { parser = new; untaken = left; device = d }) before ≡ at i before = λ j. record { waiting = (wt ∙ sym ws) j; untaken = (ut ∙ sym us) j; undecided = before } in
+        let room : new.room ≡ i.parser.room = let count = ap length wt in let last = ap length ws in omega (arith, r, count, last) in
+        let same : at (record { parser = new; untaken = left; device = d }) before ≡ at i before = λ j. record { waiting = (wt ∙ sym ws) j; untaken = (ut ∙ sym us) j; undecided = before; room = room j } in
         (before, st before represents, undecided, (w ∷ [], [], at (record { parser = new; untaken = left; device = d }) before, refl, other w ws us refl a same, (refl, refl))),
   )
 
@@ -72,17 +73,17 @@ marked_split n bytes more raw =
     let ms = marked bytes more raw in
     sym (take-append-drop n ms) ∙ ap (λ (l : List Marked). take n ms ++ l) (marked_rest bytes more raw n)
 
-pub gives_some : (w new : List Seen) (left : List Marked) (e : Seen) (after : List Marked) → w ≡ e ∷ new
-    → GivesFirst w (record { waiting = w; untaken = left; undecided = after }) (Gave e) (record { waiting = new; untaken = left; undecided = after })
-gives_some w new left e after h = subst
-    (λ (l : List Seen). GivesFirst l (record { waiting = l; untaken = left; undecided = after }) (Gave e) (record { waiting = new; untaken = left; undecided = after }))
+pub gives_some : (w new : List Seen) (left : List Marked) (e : Seen) (after : List Marked) (n : ℕ) → w ≡ e ∷ new
+    → GivesFirst w (record { waiting = w; untaken = left; undecided = after; room = n }) (Gave e) (record { waiting = new; untaken = left; undecided = after; room = n })
+gives_some w new left e after n h = subst
+    (λ (l : List Seen). GivesFirst l (record { waiting = l; untaken = left; undecided = after; room = n }) (Gave e) (record { waiting = new; untaken = left; undecided = after; room = n }))
     (sym h) (refl, refl)
 
-pub gives_none : (w new : List Seen) (left : List Marked) (x : SourceAnswer) (after : List Marked) → w ≡ [] → new ≡ [] → x ≡ without_event left
-    → GivesFirst w (record { waiting = w; untaken = left; undecided = after }) x (record { waiting = new; untaken = left; undecided = after })
-gives_none w new left x after h i e = subst
-    (λ (l : List Seen). GivesFirst l (record { waiting = l; untaken = left; undecided = after }) x (record { waiting = new; untaken = left; undecided = after }))
-    (sym h) (e, λ j. record { waiting = i j; untaken = left; undecided = after })
+pub gives_none : (w new : List Seen) (left : List Marked) (x : SourceAnswer) (after : List Marked) (n : ℕ) → w ≡ [] → new ≡ [] → x ≡ without_event left
+    → GivesFirst w (record { waiting = w; untaken = left; undecided = after; room = n }) x (record { waiting = new; untaken = left; undecided = after; room = n })
+gives_none w new left x after n h i e = subst
+    (λ (l : List Seen). GivesFirst l (record { waiting = l; untaken = left; undecided = after; room = n }) x (record { waiting = new; untaken = left; undecided = after; room = n }))
+    (sym h) (e, λ j. record { waiting = i j; untaken = left; undecided = after; room = n })
 
 -- nothing is left where as many were taken as there were
 taken_whole : (n : ℕ) (rest : List ℕ) (more raw : Bool) → n ≡ length rest → marked (drop n rest) more raw ≡ []
@@ -98,14 +99,14 @@ not_whole n rest more raw left h v some = elim (cases_Bool (nat_lt n (length res
 pub hands_next : {D : Type 0} (i s : Source D) (m new : ParserView) (left : List Marked) (d : D) (n : ℕ) (rest : List ℕ) (more raw : Bool) (x : SourceAnswer) → i ≡ s
     → s.parser.waiting ≡ [] → i.untaken ≡ marked rest more raw → n ≤ length rest → left ≡ marked (drop n rest) more raw
     → AdvancesOver i.parser m (take n (marked rest more raw)) → (EndsNoEvent i.parser (marked rest more raw) → n ≡ length rest)
-    → (n < length rest → ¬ EndsNoEvent m (take 1 (drop n (marked rest more raw)))) → RepresentsSame m new
-    → ((after : List Marked) → GivesFirst m.waiting (record { waiting = m.waiting; untaken = left; undecided = after }) x (record { waiting = new.waiting; untaken = left; undecided = after }))
+    → (n < length rest → ¬ EndsNoEvent m (take 1 (drop n (marked rest more raw)))) → (m.waiting ≡ [] → n < length rest → OpensNoPaste m (take 1 (drop n (marked rest more raw))) → new.room ≡ 0) → RepresentsSame m new
+    → ((after : List Marked) → GivesFirst m.waiting (record { waiting = m.waiting; untaken = left; undecided = after; room = new.room }) x (record { waiting = new.waiting; untaken = left; undecided = after; room = new.room }))
     → Hands s x (record { parser = new; untaken = left; device = d })
-hands_next {D} i s m new left d n rest more raw x e w u h v a whole ends st gives =
+hands_next {D} i s m new left d n rest more raw x e w u h v a whole ends full st gives =
     let done : Hands i x (record { parser = new; untaken = left; device = d }) = λ before represents undecided.
     let adv = a before represents undecided in (
       adv.rest,
-      record { waiting = m.waiting; untaken = left; undecided = adv.rest },
+      record { waiting = m.waiting; untaken = left; undecided = adv.rest; room = new.room },
       st adv.rest adv.represents,
       adv.division.undecided,
       record {
@@ -116,6 +117,16 @@ hands_next {D} i s m new left d n rest more raw x e w u h v a whole ends st give
         waiting = adv.given ∙ ap (λ (l : List Seen). l ++ filter_map meaning_of adv.parts) (ap (λ (y : Source D). y.parser.waiting) e ∙ w);
         quiet = λ q. v ∙ taken_whole n rest more raw (whole (before, q.0, q.1, represents, undecided, subst (λ (l : List Marked). Divides Whole (before ++ l) q.0 q.1) u q.2, q.3, q.4));
         left = λ some q. ends (not_whole n rest more raw left h v some) (
+          adv.rest,
+          q.0,
+          q.1,
+          adv.represents,
+          adv.division.undecided,
+          subst (λ (l : List Marked). Divides Whole (adv.rest ++ take 1 l) q.0 q.1) (v ∙ sym (marked_rest rest more raw n)) q.2,
+          q.3,
+          q.4,
+        );
+        full = λ none some q. full none (not_whole n rest more raw left h v some) (
           adv.rest,
           q.0,
           q.1,

@@ -3,6 +3,7 @@ pub mod Calls
 pub mod Device
 pub mod Entries
 pub mod History
+pub mod OneResult
 pub mod Outcomes
 pub mod OverScripts
 pub mod Queries

@@ -1,32 +1,39 @@
 -- What a source answers, turn by turn, by what its device answers.
 use Rattle.std.specs.Prelude.{◌≡◌, ◌≢◌, ℕ, Bool, false, List, [], ◌∷◌, ◌++◌, take, refl}
-use Rattle.std.specs.List.{filter_map}
+use Rattle.std.specs.List.{AllByRecursion, filter_map}
 use Rattle.std.specs.declared.io.ErrorKind.TheVariants.{OutOfMemory}
 use Rattle.std.proofs.Common.{subst, sym, ap, ◌∙◌, append_assoc}
 use Rattle.crossterm_types.specs.Seen.{Seen}
 use Rattle.crossterm_parse.specs.declared.marked.Marked.{Marked}
-use Rattle.crossterm_parse.specs.Grammar.{begins, Whole, paste_start}
+use Rattle.crossterm_parse.specs.Grammar.{Whole}
 use Rattle.crossterm_parse.specs.Marked.{bytes_of}
 use Rattle.crossterm_parse.specs.Meaning.{meaning_of}
 use Rattle.crossterm_parse.specs.Division.{Divides, IsUndecided}
 use Rattle.crossterm_parse.specs.View.{ParserView, Represents, paste_length}
 use Rattle.crossterm_read.specs.Answers.{SourceAnswer, Gave, Nothing, Failed}
 use Rattle.crossterm_read.specs.Device.{DeviceAnswer, Bytes, marked_bytes}
-use Rattle.crossterm_read.specs.Outcomes.{IsAnsweredBy}
+use Rattle.crossterm_read.specs.Outcomes.{IsAnsweredBy, is_pasting}
 
--- Where a source stands: the events that wait, the bytes that weren't taken yet, and those of no whole sequence that were.
+-- Where a source stands: the events that wait, the bytes that weren't taken yet, those of no whole sequence that were, and for how many more events
+-- there is room without memory.
 pub record At : Type 0 where
   pub waiting : List Seen
   pub untaken : List Marked
   pub undecided : List Marked
+  pub room : ℕ
 
 -- After undecided bytes these end no event, and no paste is open after them.
 abbrev pub EndNoEvent : List Marked → List Marked → Type 0
 EndNoEvent undecided bytes = (parts : List (List Marked)) × (rest : List Marked) × Divides Whole (undecided ++ bytes) parts rest
-    × (filter_map meaning_of parts ≡ []) × (begins paste_start (bytes_of rest) ≡ false)
+    × (filter_map meaning_of parts ≡ []) × (is_pasting rest ≡ false)
+
+-- After undecided bytes these open no paste, and none was open.
+abbrev pub OpenNoPaste : List Marked → List Marked → Type 0
+OpenNoPaste undecided bytes = (parts : List (List Marked)) × (rest : List Marked) × Divides Whole (undecided ++ bytes) parts rest
+    × AllByRecursion (λ part. is_pasting part ≡ false) parts × (is_pasting rest ≡ false)
 
 -- Of some bytes the parser takes a front, where it represented undecided ones. Those that end no event it takes whole, and the first one that
--- is left ends an event, or is of a paste.
+-- is left ends an event, or is of a paste. If it is of none, and no event came, there is no room left.
 pub record Takes (undecided bytes : List Marked) (mid : At) : Type 0 where
   pub taken : List Marked
   pub parts : List (List Marked)
@@ -35,6 +42,7 @@ pub record Takes (undecided bytes : List Marked) (mid : At) : Type 0 where
   pub waiting : mid.waiting ≡ filter_map meaning_of parts
   pub quiet : EndNoEvent undecided bytes → mid.untaken ≡ []
   pub left : mid.untaken ≢ [] → ¬ EndNoEvent mid.undecided (take 1 mid.untaken)
+  pub full : mid.waiting ≡ [] → mid.untaken ≢ [] → OpenNoPaste mid.undecided (take 1 mid.untaken) → mid.room ≡ 0
 
 -- What is answered where no event came: nothing where all bytes were taken, and else that memory was refused.
 abbrev pub without_event : List Marked → SourceAnswer
@@ -66,7 +74,7 @@ pub record Source (D : Type 0) : Type 0 where
   pub device : D
 
 abbrev pub at : {D : Type 0} → Source D → List Marked → At
-at s before = record { waiting = s.parser.waiting; untaken = s.untaken; undecided = before }
+at s before = record { waiting = s.parser.waiting; untaken = s.untaken; undecided = before; room = s.parser.room }
 
 -- For these answers of the device, whatever undecided bytes the parser represented.
 abbrev pub DrawnFor : {D : Type 0} → Source D → List DeviceAnswer → List SourceAnswer → Source D → Type 0

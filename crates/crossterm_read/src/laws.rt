@@ -1,5 +1,6 @@
 //! What holds of all that happens.
 ghost use Rattle.crossterm_read.specs.Calls.{CountsTries};
+ghost use Rattle.crossterm_read.specs.OneResult.{OneResult, OneShown};
 ghost use Rattle.crossterm_read.specs.Outcomes.{HappensByDivision};
 ghost use Rattle.crossterm_read.specs.OverScripts.{HistoriesAreTold, ScriptsAreTold};
 
@@ -22,4 +23,14 @@ pub fn scripts_are_told()
 /// events that were taken and those that are held are, each once, the first ones of all that happens by the script.
 pub fn histories_are_told()
     ensures { HistoriesAreTold }
+{}
+
+/// The law of results: two runs of the same calls over the same answers have the same replies, and leave the same events. That holds if no
+/// call was refused memory, and the bytes of no answer both end an event and leave a paste open.
+///
+/// A query that took the keyboard's flags, and no attributes after them, may have been refused memory unseen, so it counts as one that was.
+/// If no call is such a query, the replies that callers see say whether memory was refused.
+pub fn one_result()
+    ensures result { OneResult }
+    ensures shown { OneShown }
 {}

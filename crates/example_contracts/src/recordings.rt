@@ -1,7 +1,8 @@
 //! What a program learns of a session that it recorded, by public contracts alone.
 //!
 //! `read_two` reads twice from a device whose answers are recorded. Unless the recording ended early, this is known: its text reads back, and
-//! the same calls over a script of it return the same, and leave the same events. So a test that plays the recording sees what was seen.
+//! the same calls over a script of it return the same, and leave the same events, if no memory is refused. So a test that plays the
+//! recording sees what was seen.
 
 ghost use Rattle.std.specs.Prelude.{◌≡◌, IfErr, IfOk, List, [], ◌∷◌, None, map};
 ghost use Rattle.std.specs.IoError.{error_kind};
@@ -11,6 +12,7 @@ ghost use Rattle.crossterm_read.specs.Replies.{try_said};
 ghost use Rattle.crossterm_read.specs.declared.read.call.Call.TheVariants as call;
 ghost use Rattle.example_contracts.specs.Recorded.{CallsReplay};
 
+use crossterm_read::laws::one_result;
 use crossterm_read::read::InternalEventReader;
 use crossterm_read::source::{Device, DeviceSource};
 use crossterm_types::event::InternalEvent;
@@ -61,6 +63,7 @@ pub fn read_two<D: Device, W: Write + Drop, C: Clock + Drop, A: Allocator + Clon
     let first = reader.read_within(tries, &AnyFilter::Event);
     let second = reader.read_within(tries, &AnyFilter::Event);
     laws::replays::<D, W>();
+    one_result();
     Ok(TwoReads {
         first,
         second,

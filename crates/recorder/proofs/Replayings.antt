@@ -1,12 +1,14 @@
 -- A recording replays.
-use Rattle.std.proofs.Common.{◌≡◌, ◌≢◌, ◌≤◌, ◌<◌, arith, ℕ, ◌+◌, List, [], ◌∷◌, ◌++◌, Option, None, false, ap, refl, sym, subst, ◌∙◌, append_assoc}
+use Rattle.std.proofs.Common.{◌≡◌, ◌≢◌, ◌≤◌, ◌<◌, arith, ℕ, ◌+◌, List, [], ◌∷◌, ◌++◌, map, Option, None, false, ap, refl, sym, subst, ◌∙◌, append_assoc}
 use Rattle.std.specs.List.{AllByRecursion}
 use Rattle.crossterm_read.specs.Answers.{SourceAnswer}
-use Rattle.crossterm_read.specs.Calls.{joined}
+use Rattle.crossterm_read.specs.Calls.{Plays, joined}
 use Rattle.crossterm_read.specs.Device.{Answering, DeviceAnswer, Bytes, Resized, Woken, Idle, Fault}
 use Rattle.crossterm_read.specs.History.{Entry, Runs}
 use Rattle.crossterm_read.specs.History as history
+use Rattle.crossterm_read.specs.OneResult.{OneResult}
 use Rattle.crossterm_read.specs.Outcomes.{IsAnsweredBy}
+use Rattle.crossterm_read.specs.Replies.{shown}
 use Rattle.crossterm_read.specs.OverScripts.{HistoriesAreTold, ScriptsAreTold}
 use Rattle.crossterm_read.specs.Scripted.{AnswersWith, ScriptLeft, ScriptTells, faults}
 use Rattle.crossterm_read.specs.Store.{ReaderState}
@@ -134,10 +136,15 @@ replays told contents answered s t xs new before after d =
           );
     }
 
-pub plays_alike : {D W : Type 0} (told : ScriptsAreTold) (contents : W → Option (List ℕ)) (answered : D → List DeviceAnswer → D → Type 0) → PlaysAlike contents answered
-plays_alike told contents answered s t calls drawn replies last new before after d run =
-    let r : Replayed contents answered s.device (joined drawn) t.device = replays told contents answered s t (joined drawn) new before after d in
-    (r, λ ends. record { drawn = drawn; replies = replies; last = last; answered = r.replays ends; run = run; shows = refl; left = refl })
+pub plays_alike : {D W : Type 0} (told : ScriptsAreTold) (one : OneResult) (contents : W → Option (List ℕ)) (answered : D → List DeviceAnswer → D → Type 0) → PlaysAlike contents answered
+plays_alike told one contents answered s t calls drawn replies last new before after d run =
+    let r : Replayed contents answered s.device (joined drawn) t.device = replays told contents answered s t (joined drawn) new before after d in (
+      r,
+      λ ends.
+          let plays : Plays (recorded r.given) calls (map shown replies) (map (λ h. h.0) last.held) =
+          record { drawn = drawn; replies = replies; last = last; answered = r.replays ends; run = run; shows = refl; left = refl } in
+          (plays, λ apart fine others kept other good. one (recorded r.given) calls (map shown replies) others (map (λ h. h.0) last.held) kept apart plays fine other good),
+    )
 
 -- ---- shared readers
 

@@ -2,14 +2,16 @@
 use Rattle.std.specs.Prelude.{◌≡◌, ◌≢◌, ◌≤◌, ℕ, List, [], ◌∷◌, length, map, Option, None, Ok}
 use Rattle.std.specs.List.{AllByRecursion}
 use Rattle.std.specs.Io.KnownBytes.{Appends}
+use Rattle.crossterm_types.specs.Seen.{Seen}
 use Rattle.crossterm_read.specs.Answers.{SourceAnswer}
 use Rattle.crossterm_read.specs.Calls.{IsAccounted, Plays, Run, empty, joined}
 use Rattle.crossterm_read.specs.Device.{DeviceAnswer, Bytes, Resized, Woken, Idle, Fault}
 use Rattle.crossterm_read.specs.History.{Entry, Runs, taken_by}
 use Rattle.crossterm_read.specs.History as history
+use Rattle.crossterm_read.specs.OneResult.{IsUnrefused, PastesApart}
 use Rattle.crossterm_read.specs.Outcomes.{Answered}
 use Rattle.crossterm_read.specs.OverScripts.{IsNew}
-use Rattle.crossterm_read.specs.Replies.{Replied, shown}
+use Rattle.crossterm_read.specs.Replies.{Replied, Said, shown}
 use Rattle.crossterm_read.specs.Store.{EventStore, ReaderState}
 use Rattle.crossterm_read.specs.declared.read.call.Call.{Call}
 use Rattle.crossterm_read.specs.Scripted.{device_answers}
@@ -71,11 +73,18 @@ AnswersAsTold A = (acts : List (Act A)) → AllByRecursion IsLine (map told acts
 abbrev pub RecordsLines : Type 0
 RecordsLines = (ws : List DeviceAnswer) → AllByRecursion IsAnswer ws → AllByRecursion IsLine (recorded ws)
 
--- The calls of a reader over such a source play over the recording: they have one run, which `read::play` has over a script of it.
+-- Any other run of these calls over a script of the recording has this result, if no call of either was refused memory.
+abbrev pub IsOnlyResult : List DeviceAnswer → List Call → List Replied → List Seen → Type 0
+IsOnlyResult device_answers calls replies held = PastesApart device_answers → AllByRecursion IsUnrefused replies
+    → (others : List Said) (kept : List Seen) (other : Plays device_answers calls others kept) → AllByRecursion IsUnrefused other.replies
+    → (map shown replies ≡ others) × (held ≡ kept)
+
+-- The calls of a reader over such a source play over the recording: they have one run, which `read::play` has over a script of it. Its result is the only one.
 abbrev pub PlaysAlike : {D W : Type 0} → (W → Option (List ℕ)) → (D → List DeviceAnswer → D → Type 0) → Type 0
 PlaysAlike {D} {W} contents answered = (s t : Source (Recording D W)) (calls : List Call) (drawn : List (List SourceAnswer)) (replies : List Replied) (last : EventStore)
     → IsNew s → s.device.stop ≡ None → t.device.stop ≡ None → SourceDrawn (Records contents answered) s (joined drawn) t → Run empty calls drawn replies last
-    → (r : Replayed contents answered s.device (joined drawn) t.device) × (EndsLast r.given → Plays (recorded r.given) calls (map shown replies) (map (λ h. h.0) last.held))
+    → (r : Replayed contents answered s.device (joined drawn) t.device) × (EndsLast r.given →
+    Plays (recorded r.given) calls (map shown replies) (map (λ h. h.0) last.held) × IsOnlyResult (recorded r.given) calls replies (map (λ h. h.0) last.held))
 
 -- So does a shared reader that held nothing at first, whichever threads made its calls: what it took, and what it holds, are each once the first ones of
 -- all that happens by a script of the recording.

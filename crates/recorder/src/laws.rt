@@ -4,7 +4,7 @@ ghost use Rattle.recorder.specs.Replaying.{AnswersAsTold, HistoriesReplay, Plays
 ghost use Rattle.recorder.specs.Stopping.{CutsKeep, FailuresTear, FrontsHappen, FrontsRead, OneList};
 
 use crossterm_parse::laws::unique_division;
-use crossterm_read::laws::{histories_are_told, scripts_are_told};
+use crossterm_read::laws::{histories_are_told, one_result, scripts_are_told};
 use crossterm_read::source::Device;
 use std::alloc::Allocator;
 use std::io::Write;
@@ -17,11 +17,15 @@ pub fn reads_back()
 
 /// The law of recordings: what a new source over a recorder answers comes of a script of the recording. That holds as long as the recording
 /// wasn't stopped, and nothing came after the end of input.
+///
+/// So calls over a script of it have the result that they had, if they weren't refused memory, and the bytes of no answer both end an event
+/// and leave a paste open.
 pub fn replays<D: Device, W: Write>()
     ensures replays { Replays W.contents D.answering.answered }
     ensures plays { PlaysAlike W.contents D.answering.answered }
 {
     scripts_are_told();
+    one_result();
 }
 
 /// The law of recordings that a shared reader made: the events that its passes took or that it holds are, each once, the first of all that

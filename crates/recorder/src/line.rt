@@ -1,5 +1,5 @@
 //! Acts as lines of text.
-ghost use Rattle.std.specs.Prelude.{◌≡◌, ◌<◌, ℕ, List, [], ◌∷◌, ◌++◌, OnOk, IfOk, slice_index};
+ghost use Rattle.std.specs.Prelude.{◌≡◌, ◌<◌, ℕ, List, [], ◌∷◌, ◌++◌, OnErr, OnOk, IfOk, length, slice_index, take};
 ghost use Rattle.hex.specs.Hex.{encode_lower, lower_digits};
 ghost use Rattle.crossterm_read.specs.Device.{Bytes, Resized, Fault};
 ghost use Rattle.recorder.specs.Lines as spec;
@@ -7,6 +7,7 @@ ghost use Rattle.recorder.specs.inside.Said.{told_answer};
 
 use crate::kinds::kind_name;
 use crossterm_read::source::Act;
+use itoa::Buffer;
 use std::alloc::{AllocError, Allocator};
 use std::io::{ErrorKind, Write};
 
@@ -31,7 +32,8 @@ fn digit(n: u8) -> u8
 
 // Appends a word.
 fn push_word<A: Allocator>(out: &mut Vec<u8, A>, word: &str) -> Result<(), AllocError>
-    ensures { OnOk result (out.new.items ≡ out.old.items ++ word.now) }
+    ensures ok { OnOk result (out.new.items ≡ out.old.items ++ word.now) }
+    ensures keeps { take (length out.old.items) out.new.items ≡ out.old.items }
 {
     out.extend_from_slice(word.as_bytes())
 }
@@ -39,7 +41,8 @@ fn push_word<A: Allocator>(out: &mut Vec<u8, A>, word: &str) -> Result<(), Alloc
 // Appends hexadecimal digits.
 #[tactic(auto, unfolding(hex::specs::Hex::encode_with))]
 fn push_hex<A: Allocator>(out: &mut Vec<u8, A>, bytes: &[u8]) -> Result<(), AllocError>
-    ensures { OnOk result (out.new.items ≡ out.old.items ++ encode_lower bytes.now) }
+    ensures ok { OnOk result (out.new.items ≡ out.old.items ++ encode_lower bytes.now) }
+    ensures keeps { take (length out.old.items) out.new.items ≡ out.old.items }
 {
     for byte in bytes {
         out.push(digit(*byte / 16))?;
@@ -50,7 +53,8 @@ fn push_hex<A: Allocator>(out: &mut Vec<u8, A>, bytes: &[u8]) -> Result<(), Allo
 
 // Appends the line of bytes.
 fn push_bytes<A: Allocator>(out: &mut Vec<u8, A>, bytes: &[u8], raw: bool) -> Result<(), AllocError>
-    ensures { OnOk result (out.new.items ≡ out.old.items ++ spec.line (Bytes bytes.now raw)) }
+    ensures ok { OnOk result (out.new.items ≡ out.old.items ++ spec.line (Bytes bytes.now raw)) }
+    ensures keeps { take (length out.old.items) out.new.items ≡ out.old.items }
 {
     if raw {
         push_word(out, "raw ")?;
@@ -64,17 +68,21 @@ fn push_bytes<A: Allocator>(out: &mut Vec<u8, A>, bytes: &[u8], raw: bool) -> Re
 
 // Appends the line of a size.
 fn push_size<A: Allocator>(out: &mut Vec<u8, A>, columns: u16, rows: u16) -> Result<(), AllocError>
-    ensures { OnOk result (out.new.items ≡ out.old.items ++ spec.line (Resized columns rows)) }
+    ensures ok { OnOk result (out.new.items ≡ out.old.items ++ spec.line (Resized columns rows)) }
+    ensures keeps { take (length out.old.items) out.new.items ≡ out.old.items }
 {
-    match write!(out, "resize {columns} {rows}") {
-        Ok(()) => Ok(()),
-        Err(_) => Err(AllocError),
-    }
+    let mut digits = Buffer::new();
+    push_word(out, "resize ")?;
+    push_word(out, digits.format(columns))?;
+    push_word(out, " ")?;
+    push_word(out, digits.format(rows))?;
+    Ok(())
 }
 
 // Appends the line of a fault.
 fn push_fault<A: Allocator>(out: &mut Vec<u8, A>, kind: ErrorKind) -> Result<(), AllocError>
-    ensures { OnOk result (out.new.items ≡ out.old.items ++ spec.line (Fault kind)) }
+    ensures ok { OnOk result (out.new.items ≡ out.old.items ++ spec.line (Fault kind)) }
+    ensures keeps { take (length out.old.items) out.new.items ≡ out.old.items }
 {
     push_word(out, "fault ")?;
     push_word(out, kind_name(kind))?;
@@ -83,7 +91,8 @@ fn push_fault<A: Allocator>(out: &mut Vec<u8, A>, kind: ErrorKind) -> Result<(),
 
 // Appends the line of an answer, without its end.
 fn push_line<A: Allocator>(out: &mut Vec<u8, A>, told: Told<'_>) -> Result<(), AllocError>
-    ensures { OnOk result (out.new.items ≡ out.old.items ++ spec.line (told_answer told.entry)) }
+    ensures ok { OnOk result (out.new.items ≡ out.old.items ++ spec.line (told_answer told.entry)) }
+    ensures keeps { take (length out.old.items) out.new.items ≡ out.old.items }
 {
     match told {
         Told::Bytes { bytes, raw } => push_bytes(out, bytes, raw),
@@ -96,7 +105,8 @@ fn push_line<A: Allocator>(out: &mut Vec<u8, A>, told: Told<'_>) -> Result<(), A
 
 // Appends the line of an answer and its end.
 fn push_told<A: Allocator>(out: &mut Vec<u8, A>, told: Told<'_>) -> Result<(), AllocError>
-    ensures { OnOk result (out.new.items ≡ out.old.items ++ spec.lines (told_answer told.entry ∷ [])) }
+    ensures ok { OnOk result (out.new.items ≡ out.old.items ++ spec.lines (told_answer told.entry ∷ [])) }
+    ensures keeps { take (length out.old.items) out.new.items ≡ out.old.items }
 {
     push_line(out, told)?;
     out.push(b'\n')?;
@@ -150,12 +160,20 @@ fn said<A: Allocator>(act: &Act<A>) -> Told<'_>
 ///
 /// # Errors
 ///
-/// Memory was refused, and then the text may end with a part of the line.
+/// Memory was refused, and then the text is as it was.
 pub fn write_act<A: Allocator, B: Allocator>(
     out: &mut Vec<u8, B>,
     act: &Act<A>,
 ) -> Result<(), AllocError>
-    ensures { OnOk result (out.new.items ≡ out.old.items ++ spec.lines (spec.told act.now ∷ [])) }
+    ensures ok { OnOk result (out.new.items ≡ out.old.items ++ spec.lines (spec.told act.now ∷ [])) }
+    ensures err { OnErr result (out.new.items ≡ out.old.items) }
 {
-    push_told(out, said(act))
+    let count = out.len();
+    match push_told(out, said(act)) {
+        Ok(()) => Ok(()),
+        Err(refused) => {
+            out.truncate(count);
+            Err(refused)
+        }
+    }
 }

@@ -18,8 +18,6 @@ mod modes;
 #[cfg(test)]
 mod noted;
 #[cfg(test)]
-mod order;
-#[cfg(test)]
 mod queries;
 #[cfg(test)]
 mod queueing;

@@ -30,9 +30,14 @@ fn begun<'a, R: Wait>(
 /// Raw mode and three features are turned on, in this order.
 fn turn_on(session: &mut Witnessed<'_>) -> io::Result<()> {
     session.enable_raw_mode()?;
-    session.turn_on(Feature::AlternateScreen)?;
-    session.turn_on(Feature::HiddenCursor)?;
-    session.turn_on(Feature::Keyboard(KeyboardEnhancementFlags::REPORT_EVENT_TYPES))
+    for feature in [
+        Feature::AlternateScreen,
+        Feature::HiddenCursor,
+        Feature::Keyboard(KeyboardEnhancementFlags::REPORT_EVENT_TYPES),
+    ] {
+        session.turn_on(feature)?;
+    }
+    Ok(())
 }
 
 const TURNED_ON: &[u8] = b"\x1b[?1049h\x1b[?25l\x1b[>2u";
@@ -46,13 +51,13 @@ const TURNED_ON_AND_OFF: &[u8] = b"\x1b[?1049h\x1b[?25l\x1b[>2u\x1b[<1u\x1b[?25h
 type Met = (Option<ErrorKind>, Option<ErrorKind>, u32);
 
 /// A session begins, all is turned on, and it ends, perhaps once it was left.
-fn led<R: Wait>(rt: &R, alloc: Global, out: &mut Witness, leaves: bool) -> io::Result<Met> {
+fn led<R: Wait>(rt: &R, alloc: Global, out: &mut Witness, leaves: bool) -> Option<Met> {
     let calls = AtomicU32::new(0);
-    let mut session = begun(rt, alloc, &calls, out)?;
+    let mut session = begun(rt, alloc, &calls, out).ok()?;
     let turned_on = kind(turn_on(&mut session));
     let left = if leaves { kind(session.leave()) } else { None };
     drop(session);
-    Ok((turned_on, left, calls.load(Ordering::SeqCst)))
+    Some((turned_on, left, calls.load(Ordering::SeqCst)))
 }
 
 /// Whether this comes of a session whose writer fails after so many bytes, and the writer saw this.
@@ -63,42 +68,37 @@ fn comes<R: Wait>(
     leaves: bool,
     met: Met,
     saw: (&[u8], u32, u32),
-) -> io::Result<bool> {
+) -> bool {
     let mut out = Witness::new(alloc, room, ErrorKind::BrokenPipe);
-    let is_met = led(rt, alloc, &mut out, leaves)? == met;
-    Ok(is_met && out.saw(saw.0, saw.1, saw.2))
+    led(rt, alloc, &mut out, leaves) == Some(met) && out.saw(saw.0, saw.1, saw.2)
 }
 
 const BROKEN: Option<ErrorKind> = Some(ErrorKind::BrokenPipe);
 
 #[test]
-fn a_session_that_ends_turns_off_what_it_turned_on(rt: HostRuntime) -> io::Result<()> {
+fn a_session_that_ends_turns_off_what_it_turned_on(rt: HostRuntime) {
     // Each feature is flushed as it is turned on and off, and the end once more; then the mode from before is set.
     let (met, saw) = ((None, None, 123), (TURNED_ON_AND_OFF, 7, 0));
-    expect!(rt; comes(&rt, rt.alloc(), usize::MAX, false, met, saw)?);
-    Ok(())
+    expect!(rt; comes(&rt, rt.alloc(), usize::MAX, false, met, saw));
 }
 
 #[test]
-fn a_session_that_left_turns_nothing_off_at_its_end(rt: HostRuntime) -> io::Result<()> {
+fn a_session_that_left_turns_nothing_off_at_its_end(rt: HostRuntime) {
     let (met, saw) = ((None, None, 123), (TURNED_ON_AND_OFF, 8, 0));
-    expect!(rt; comes(&rt, rt.alloc(), usize::MAX, true, met, saw)?);
-    Ok(())
+    expect!(rt; comes(&rt, rt.alloc(), usize::MAX, true, met, saw));
 }
 
 #[test]
-fn a_writer_that_fails_once_is_offered_all_else(rt: HostRuntime) -> io::Result<()> {
+fn a_writer_that_fails_once_is_offered_all_else(rt: HostRuntime) {
     // It fails as the third feature is flushed, which is listed all the same.
     let (met, saw) = ((BROKEN, None, 123), (TURNED_ON_AND_OFF, 8, 8));
-    expect!(rt; comes(&rt, rt.alloc(), TURNED_ON.len(), true, met, saw)?);
-    Ok(())
+    expect!(rt; comes(&rt, rt.alloc(), TURNED_ON.len(), true, met, saw));
 }
 
 #[test]
-fn an_end_that_fails_keeps_no_other_from_being_written(rt: HostRuntime) -> io::Result<()> {
+fn an_end_that_fails_keeps_no_other_from_being_written(rt: HostRuntime) {
     let (met, saw) = ((None, BROKEN, 123), (WITH_ONE_END_CUT, 7, 6));
-    expect!(rt; comes(&rt, rt.alloc(), TURNED_ON.len() + 2, true, met, saw)?);
-    Ok(())
+    expect!(rt; comes(&rt, rt.alloc(), TURNED_ON.len() + 2, true, met, saw));
 }
 
 /// A device that sends a paste of so many kilobytes, and its end if it is asked further. It counts its answers.
@@ -156,43 +156,47 @@ fn pasting<'a, R: Wait>(
     }
 }
 
+/// The length of the paste that a session reads, or the kind of its error.
+fn read_length<R: Wait>(rt: &R, session: io::Result<Pasting<'_>>) -> Result<usize, ErrorKind> {
+    let Ok(mut session) = session else {
+        return Err(ErrorKind::NotFound);
+    };
+    match session.read(rt) {
+        Ok(Event::Paste(text)) => Ok(text.as_str().len()),
+        Ok(_) => Ok(0),
+        Err(error) => Err(error.kind()),
+    }
+}
+
 /// The length of the paste that a read returns, or the kind of its error, and how often the device was asked.
 fn paste_length<R: Wait>(
     rt: &R,
     alloc: Global,
     kilobytes: u32,
     longest: Option<usize>,
-) -> io::Result<(Result<usize, ErrorKind>, u32)> {
+) -> (Result<usize, ErrorKind>, u32) {
     let (calls, answers) = (AtomicU32::new(0), AtomicU32::new(0));
     let device = Pasted {
         answers: &answers,
         kilobytes,
     };
-    let mut session = pasting(rt, alloc, device, &calls, longest)?;
-    let length = match session.read(rt) {
-        Ok(Event::Paste(text)) => Ok(text.as_str().len()),
-        Ok(_) => Ok(0),
-        Err(error) => Err(error.kind()),
-    };
-    drop(session);
-    Ok((length, answers.load(Ordering::SeqCst)))
+    let length = read_length(rt, pasting(rt, alloc, device, &calls, longest));
+    (length, answers.load(Ordering::SeqCst))
 }
 
 #[test]
-fn a_session_keeps_a_paste_of_any_length(rt: HostRuntime) -> io::Result<()> {
+fn a_session_keeps_a_paste_of_any_length(rt: HostRuntime) {
     // 17 MiB, as crossterm does.
-    let (length, _) = paste_length(&rt, rt.alloc(), 17 << 10, None)?;
+    let (length, _) = paste_length(&rt, rt.alloc(), 17 << 10, None);
     expect!(rt; length == Ok(17 << 20));
-    Ok(())
 }
 
 #[test]
-fn a_paste_is_an_error_where_it_is_longer_than_its_source_keeps(rt: HostRuntime) -> io::Result<()> {
-    let (length, _) = paste_length(&rt, rt.alloc(), 1 << 10, Some(1 << 20))?;
+fn a_paste_is_an_error_where_it_is_longer_than_its_source_keeps(rt: HostRuntime) {
+    let (length, _) = paste_length(&rt, rt.alloc(), 1 << 10, Some(1 << 20));
     expect!(rt; length == Ok(1 << 20));
     // The start comes first, and the piece that has no room last.
-    let (length, answers) = paste_length(&rt, rt.alloc(), u32::MAX, Some(1 << 20))?;
+    let (length, answers) = paste_length(&rt, rt.alloc(), u32::MAX, Some(1 << 20));
     expect!(rt; length == Err(ErrorKind::OutOfMemory));
     expect!(rt; answers == 1026);
-    Ok(())
 }

@@ -1,8 +1,8 @@
 //! A session whose events another thread reads too, and one with a stream of them.
 
 use crate::noted::{Noted, terminal_by};
-use crossterm::event::EventStream;
 use crossterm::event::source::{DeviceSource, RawFlag, Script};
+use crossterm::event::{Event, EventStream};
 use futures::StreamExt;
 use futures::executor::block_on;
 use own_terminal::{Events, Session};
@@ -27,9 +27,7 @@ type Shared<'a> = Session<Source, Noted<'a>, Vec<u8>, Still>;
 
 /// A device that reports the letters, and then the end of input.
 fn letters(alloc: Global) -> Result<Script, AllocError> {
-    let mut acts = Vec::new(alloc);
-    acts.push(text(alloc, LETTERS)?)?;
-    Ok(Script::new(acts))
+    Ok(Script::new(Vec::from_array(alloc, [text(alloc, LETTERS)?])?))
 }
 
 /// The letters so far with one more, and none if it came before. An `a` is 97.
@@ -78,54 +76,62 @@ fn begun<'a, R: Wait>(
 }
 
 /// Whether two threads read all letters, and none of them twice.
-fn is_each_read_once<R: Threads + Wait + Sync>(rt: &R, alloc: Global) -> io::Result<bool> {
-    let calls = AtomicU32::new(0);
-    let (mut session, mut others) = begun(rt, alloc, &calls)?;
+fn is_each_read_once<R: Threads + Wait + Sync>(
+    rt: &R,
+    mut session: Shared<'_>,
+    mut others: Vec<Events<Source>>,
+) -> bool {
     let Some(mut events) = others.pop() else {
-        return Ok(false);
+        return false;
     };
     let (ours, theirs) = thread::join(
         rt,
         || read_by_session(rt, &mut session),
         || read_by_share(rt, &mut events),
     );
-    Ok(others.is_empty() && ours & theirs == 0 && ours | theirs == ALL)
+    others.is_empty() && ours & theirs == 0 && ours | theirs == ALL
 }
 
 #[test]
 fn two_threads_read_each_event_of_a_session_once(rt: HostRuntime) -> io::Result<()> {
     for _ in 0..20u32 {
-        expect!(rt; is_each_read_once(&rt, rt.alloc())?);
+        let calls = AtomicU32::new(0);
+        let (session, others) = begun(&rt, rt.alloc(), &calls)?;
+        expect!(rt; is_each_read_once(&rt, session, others));
     }
     Ok(())
 }
 
-/// What a stream gives next: a letter, or the kind of its error.
-fn next_of<R: AllocGlobal + RandomSource + time::Clock + Wait + Drop>(
-    rt: &R,
-    events: &mut EventStream<Source, R>,
-) -> io::Result<Option<Result<char, ErrorKind>>> {
-    match block_on(rt, events.next())? {
-        Some(Ok(event)) => Ok(Some(Ok(letter_of(&event)))),
-        Some(Err(error)) => Ok(Some(Err(error.kind()))),
-        None => Ok(None),
+/// What a stream gives.
+#[derive(Clone, Copy, PartialEq)]
+enum Given {
+    Letter(char),
+    Fault(ErrorKind),
+    Nothing,
+}
+
+/// What came of a wait for a stream's next event.
+fn given_by(next: io::Result<Option<io::Result<Event>>>) -> Given {
+    match next {
+        Ok(Some(Ok(event))) => Given::Letter(letter_of(&event)),
+        Ok(Some(Err(error))) => Given::Fault(error.kind()),
+        _ => Given::Nothing,
     }
 }
 
-/// What a stream gives up to its first error, and that error's kind.
+/// What a stream gives up to its first error, and that error.
 fn streamed<R: AllocGlobal + RandomSource + time::Clock + Wait + Drop>(
     rt: &R,
     events: &mut EventStream<Source, R>,
-) -> io::Result<(u32, Option<ErrorKind>)> {
+) -> (u32, Given) {
     let mut seen = 0;
     for _ in rt.forever() {
-        match next_of(rt, events)? {
-            Some(Ok(letter)) => seen = with_letter(seen, letter),
-            Some(Err(kind)) => return Ok((seen, Some(kind))),
-            None => break,
+        match given_by(block_on(rt, events.next())) {
+            Given::Letter(letter) => seen = with_letter(seen, letter),
+            other => return (seen, other),
         }
     }
-    Ok((seen, None))
+    (seen, Given::Nothing)
 }
 
 #[test]
@@ -142,8 +148,8 @@ fn a_stream_beside_a_session_gives_each_event(rt: HostRuntime) -> io::Result<()>
             Vec::new(alloc),
             Still,
         )?;
-        let given = streamed(&rt, &mut events)?;
-        expect!(rt; given == (ALL, Some(ErrorKind::UnexpectedEof)));
+        let streamed = streamed(&rt, &mut events);
+        expect!(rt; streamed == (ALL, Given::Fault(ErrorKind::UnexpectedEof)));
         expect!(rt; session.leave().is_ok() && session.out.is_empty());
     }
     Ok(())

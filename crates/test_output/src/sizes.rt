@@ -12,8 +12,6 @@ use crossterm::{
     queue_all,
 };
 use std::alloc::{AllocError, Global};
-use std::io;
-use std::test::Fail;
 use test_support::{expect, is_text};
 
 const ON: ColorOutput = ColorOutput::Enabled;
@@ -46,22 +44,11 @@ fn the_greatest_numbers_are_written(rt: HostRuntime) {
     expect!(rt; arrives(rt.alloc(), &ScrollDown(65535), b"\x1b[65535T"));
 }
 
-/// The parameters of all attributes, in declared order.
-static PARAMETERS: [&str; 28] = [
-    "0", "1", "2", "3", "4", "4:2", "4:3", "4:4", "4:5", "5", "6", "7", "8", "9", "20", "21", "22",
-    "23", "24", "25", "27", "28", "29", "51", "52", "53", "54", "55",
-];
-
-/// The sequences of all attributes.
-fn all_sequences(alloc: Global) -> Result<String, AllocError> {
-    let mut text = String::new(alloc);
-    for parameter in PARAMETERS {
-        text.push_str("\x1b[")?;
-        text.push_str(parameter)?;
-        text.push_str("m")?;
-    }
-    Ok(text)
-}
+/// The sequences of all attributes, in declared order.
+const SEQUENCES: &str = "\
+\x1b[0m\x1b[1m\x1b[2m\x1b[3m\x1b[4m\x1b[4:2m\x1b[4:3m\x1b[4:4m\x1b[4:5m\x1b[5m\x1b[6m\x1b[7m\x1b[8m\x1b[9m\
+\x1b[20m\x1b[21m\x1b[22m\x1b[23m\x1b[24m\x1b[25m\x1b[27m\x1b[28m\x1b[29m\
+\x1b[51m\x1b[52m\x1b[53m\x1b[54m\x1b[55m";
 
 /// The set of all attributes.
 pub fn all_attributes() -> Attributes {
@@ -73,10 +60,9 @@ pub fn all_attributes() -> Attributes {
 }
 
 #[test]
-fn all_attributes_are_written(rt: HostRuntime) -> Result<(), AllocError> {
-    let text = all_sequences(rt.alloc())?;
-    expect!(rt; arrives(rt.alloc(), &SetAttributes(all_attributes()), text.as_bytes()));
-    Ok(())
+fn all_attributes_are_written(rt: HostRuntime) {
+    let all = SetAttributes(all_attributes());
+    expect!(rt; arrives(rt.alloc(), &all, SEQUENCES.as_bytes()));
 }
 
 /// 100,000 bytes, of characters of one and of more bytes.
@@ -105,9 +91,8 @@ fn long_texts_are_printed(rt: HostRuntime) -> Result<(), AllocError> {
     let text = long_text(rt.alloc())?;
     expect!(rt; text.len() == 100_000);
     expect!(rt; arrives(rt.alloc(), &Print(text.as_str()), text.as_bytes()));
-    let mut list = Vec::new(rt.alloc());
-    list.push(AnyCommand::Print(Print(text.clone()?)))?;
-    expect!(rt; is_printed(rt.alloc(), text.as_str(), list.as_slice()));
+    let list = [AnyCommand::Print(Print(text.clone()?))];
+    expect!(rt; is_printed(rt.alloc(), text.as_str(), &list));
     Ok(())
 }
 
@@ -135,33 +120,41 @@ fn long_texts_are_enclosed(rt: HostRuntime) -> Result<(), AllocError> {
     Ok(())
 }
 
+/// Whether a copy of this content and one more `M` is written as this and the code of the `M`.
+fn is_copied(alloc: Global, mut content: Vec<u8>, coded: &str) -> bool {
+    let is_large = content.push(b'M').is_ok() && content.len() == 1_048_576;
+    match CopyToClipboard::to_clipboard_from(alloc, content) {
+        Ok(copy) => is_large && encloses(alloc, &copy, "\x1b]52;c;", coded, "TQ==\x1b\\"),
+        Err(_) => false,
+    }
+}
+
 #[test]
-fn large_copies_are_written(rt: HostRuntime) -> Result<(), Fail> {
+fn large_copies_are_written(rt: HostRuntime) -> Result<(), AllocError> {
     // 1 MiB: 349,525 times three bytes, and one more.
-    let mut content = b"Man".as_slice().repeat(rt.alloc(), 349_525)?;
-    content.push(b'M')?;
-    expect!(rt; content.len() == 1_048_576);
     let coded = "TWFu".repeat(rt.alloc(), 349_525)?;
-    let copy = CopyToClipboard::to_clipboard_from(rt.alloc(), content)?;
-    expect!(rt; encloses(rt.alloc(), &copy, "\x1b]52;c;", coded.as_str(), "TQ==\x1b\\"));
+    let content = b"Man".as_slice().repeat(rt.alloc(), 349_525)?;
+    expect!(rt; is_copied(rt.alloc(), content, coded.as_str()));
     Ok(())
 }
 
 /// Whether letters come back from the places that they represent, and name these in a copy.
-fn letters_come_back(alloc: Global, letters: &str) -> io::Result<bool> {
-    let destination = ClipboardSelection::from_str(alloc, letters)?;
+fn come_back(alloc: Global, letters: &str) -> bool {
+    let Ok(destination) = ClipboardSelection::from_str(alloc, letters) else {
+        return false;
+    };
     let is_whole = destination.0.len() == 1000;
     let is_shown = is_text(format!(in alloc; "{destination}"), letters);
     let copy = CopyToClipboard {
         content: "foo",
         destination,
     };
-    Ok(is_whole && is_shown && encloses(alloc, &copy, "\x1b]52;", letters, ";Zm9v\x1b\\"))
+    is_whole && is_shown && encloses(alloc, &copy, "\x1b]52;", letters, ";Zm9v\x1b\\")
 }
 
 #[test]
-fn many_letters_come_back(rt: HostRuntime) -> io::Result<()> {
+fn many_letters_come_back(rt: HostRuntime) -> Result<(), AllocError> {
     let letters = "cps\u{e9}\u{1f980}".repeat(rt.alloc(), 200)?;
-    expect!(rt; letters_come_back(rt.alloc(), letters.as_str())?);
+    expect!(rt; come_back(rt.alloc(), letters.as_str()));
     Ok(())
 }

@@ -31,9 +31,14 @@ impl Witness {
         }
     }
 
+    /// Whether it took these bytes.
+    pub fn has(&self, bytes: &[u8]) -> bool {
+        self.bytes.as_slice() == bytes
+    }
+
     /// Whether it took these bytes, was flushed so often in its whole life, and was called so often after it failed.
     pub fn saw(&self, bytes: &[u8], flushes: u32, later: u32) -> bool {
-        self.bytes.as_slice() == bytes && self.flushes == flushes && self.later == later
+        self.has(bytes) && self.flushes == flushes && self.later == later
     }
 
     /// Fails if nothing more is taken, once.

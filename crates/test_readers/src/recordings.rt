@@ -2,14 +2,14 @@
 
 use crossterm_read::read::InternalEventReader;
 use crossterm_read::source::{Answer, Device, DeviceSource, Script};
-use crossterm_types::event::InternalEvent;
 use crossterm_types::event::filter::EventFilter;
+use crossterm_types::event::{Event, InternalEvent, KeyCode};
 use linked_list_allocator::LocalHeap;
 use recorder::reading::{Session, Wrong, read_session};
 use recorder::{Recorder, Stop, Watch};
 use std::alloc::{AllocError, Global};
 use std::io::{self, ErrorKind, Write};
-use test_support::{Calls, Came, Ticking, expect, is_refused_below_a_size, is_text};
+use test_support::{Calls, Came, Ticking, expect, is_refused_below_a_size, is_text, script_of};
 
 /// A session, and how it is recorded by a clock that goes on by a millisecond an answer.
 const ACTS: &str = "\
@@ -101,55 +101,76 @@ fn sign_of(answer: &io::Result<Answer>) -> char {
     }
 }
 
-/// Asks a device twelve times, and shows its answers.
-fn asked(alloc: Global, device: &mut impl Device) -> Option<String> {
-    let mut signs = String::new(alloc);
-    let mut buf = [0u8; 1024];
-    for _ in 0..12u32 {
-        let answer = device.answer(&mut buf, None);
-        signs.push(sign_of(&answer)).ok()?;
-    }
-    Some(signs)
-}
-
 /// What the session's answers are, whatever becomes of its recording.
 const ANSWERS: &str = "prswifpipf..";
 
-/// What is written if a writer takes so many bytes, and why the recording ended. All must be answered as it should be, and watches must
-/// report what the recorder does.
-fn written(alloc: Global, recorder: Recording) -> Option<(Vec<u8>, Option<Stop>)> {
-    let (watch, late) = (Watch::new(alloc).ok()?, Watch::new(alloc).ok()?);
-    let mut recorder = recorder.watched(watch.share().ok()?);
-    if watch.stopped().is_some() || asked(alloc, &mut recorder)?.as_str() != ANSWERS {
-        return None;
+/// Whether a device answers as the session does.
+fn answers<D: Device>(device: &mut D) -> bool {
+    let mut buf = [0u8; 1024];
+    for want in ANSWERS.chars() {
+        if sign_of(&device.answer(&mut buf, None)) != want {
+            return false;
+        }
     }
-    let stop = recorder.stopped();
-    if watch.stopped() != stop {
-        return None;
-    }
-    let recorder = recorder.watched(late.share().ok()?);
-    if late.stopped() != stop {
-        return None;
-    }
-    Some((recorder.into_writer().bytes, stop))
+    true
+}
+
+/// Two watches, and a share of each.
+#[derive(Drop)]
+struct Watches {
+    early: Watch,
+    early_share: Watch,
+    late: Watch,
+    late_share: Watch,
+}
+
+/// Watches of no recorder yet.
+fn two_watches(alloc: Global) -> io::Result<Watches> {
+    let early = Watch::new(alloc)?;
+    let late = Watch::new(alloc)?;
+    Ok(Watches {
+        early_share: early.share()?,
+        late_share: late.share()?,
+        early,
+        late,
+    })
+}
+
+/// Whether a recorder answers as it should, its writer has these bytes then, and it ends so. Watches must report what the recorder does,
+/// one from before the first answer on, and one from after the last.
+fn is_written(recorder: Recording, watches: Watches, want: &[u8], stop: Option<Stop>) -> bool {
+    let Watches {
+        early,
+        early_share,
+        late,
+        late_share,
+    } = watches;
+    let mut recorder = recorder.watched(early_share);
+    let is_told = early.stopped().is_none();
+    let answered = answers(&mut recorder);
+    let is_ended = recorder.stopped() == stop && early.stopped() == stop;
+    let recorder = recorder.watched(late_share);
+    let is_seen = late.stopped() == stop;
+    let bytes = recorder.into_writer().bytes;
+    is_told && answered && is_ended && is_seen && bytes.as_slice() == want
 }
 
 /// Whether a writer that takes so many bytes has as many, and the recording says so.
-fn is_written(alloc: Global, left: usize) -> Option<bool> {
-    let (bytes, stop) = written(alloc, recording(alloc, left)?)?;
+fn is_cut_short(alloc: Global, left: usize) -> Option<bool> {
+    let watches = two_watches(alloc).ok()?;
+    let recorder = recording(alloc, left)?;
     let want = RECORDED.as_bytes();
     if left < want.len() {
-        return Some(
-            bytes.as_slice() == &want[..left] && stop == Some(Stop::Failed(ErrorKind::StorageFull)),
-        );
+        let stop = Some(Stop::Failed(ErrorKind::StorageFull));
+        return Some(is_written(recorder, watches, &want[..left], stop));
     }
-    Some(bytes.as_slice() == want && stop.is_none())
+    Some(is_written(recorder, watches, want, None))
 }
 
 #[test]
 fn a_session_is_recorded_as_far_as_its_writer_goes(rt: HostRuntime) {
     for left in 0..=RECORDED.len() {
-        expect!(rt; is_written(rt.alloc(), left) == Some(true), "what was written");
+        expect!(rt; is_cut_short(rt.alloc(), left) == Some(true), "what was written");
     }
 }
 
@@ -172,11 +193,11 @@ fn whole(most: usize) -> usize {
 
 /// Whether a recording with so much room has the entries that fit, and says whether it was cut.
 fn is_bounded(alloc: Global, most: usize) -> Option<bool> {
+    let watches = two_watches(alloc).ok()?;
     let recorder = recording(alloc, RECORDED.len())?.most(most as u64);
-    let (bytes, stop) = written(alloc, recorder)?;
-    let want = RECORDED.as_bytes().get(..whole(most))?;
-    let is_cut = stop == Some(Stop::Cut);
-    Some(bytes.as_slice() == want && is_cut == (most < RECORDED.len()))
+    let want = RECORDED.as_bytes().get(..whole(most)).unwrap_or(b"?");
+    let stop = (most < RECORDED.len()).then_some(Stop::Cut);
+    Some(is_written(recorder, watches, want, stop))
 }
 
 #[test]
@@ -233,40 +254,48 @@ fn a_text_reads_as_a_session_or_names_its_bad_line(rt: HostRuntime) {
     }
 }
 
-/// What was read, as a line.
-fn line_of(alloc: Global, came: io::Result<Option<InternalEvent>>) -> Result<String, AllocError> {
-    match came {
-        Ok(event) => format!(in alloc; "{event:?}\n"),
-        Err(fault) => {
-            let kind = fault.kind();
-            format!(in alloc; "{kind:?}\n")
-        }
+/// What a reader reads.
+type Read = io::Result<Option<InternalEvent>>;
+
+/// Whether two reads give the same event, or fail with the same kind.
+fn are_same(one: Read, other: Read) -> bool {
+    match (one, other) {
+        (Ok(one), Ok(other)) => one == other,
+        (Err(one), Err(other)) => one.kind() == other.kind(),
+        _ => false,
     }
 }
 
-/// What a reader reads of a session's acts, an event or a fault on each line, up to the end of input.
-fn played(alloc: Global, session: Session) -> Result<String, AllocError> {
+/// Whether a read gives the key that the session begins with.
+fn is_up(came: &Read) -> bool {
+    matches!(came, Ok(Some(InternalEvent::Event(Event::Key(key)))) if key.code == KeyCode::Up)
+}
+
+/// Whether two sessions are read alike up to the end of input, and the key is among the events.
+fn play_alike(alloc: Global, session: Session, recorded: Session) -> bool {
     let source = DeviceSource::new(alloc, Script::new(session.acts));
     let mut reader = InternalEventReader::new(alloc, source);
-    let mut lines = String::new(alloc);
+    let mut again = script_of(alloc, recorded.acts);
+    let mut has_up = false;
     for _ in 0..12u32 {
-        let line = line_of(alloc, reader.read_within(9, &EventFilter))?;
-        lines.push_str(line.as_str())?;
+        let came = reader.read_within(9, &EventFilter);
+        has_up = has_up || is_up(&came);
+        if !are_same(came, again.read_within(9, &EventFilter)) {
+            return false;
+        }
     }
-    Ok(lines)
+    has_up
 }
 
-/// Whether what was recorded plays as the session does.
-fn replays(alloc: Global) -> Option<bool> {
-    let live = played(alloc, read_session(&alloc, ACTS.as_bytes()).ok()?).ok()?;
-    let (bytes, _) = written(alloc, recording(alloc, RECORDED.len())?)?;
-    let again = played(alloc, read_session(&alloc, bytes.as_slice()).ok()?).ok()?;
-    Some(live.as_str() == again.as_str() && live.as_str().contains("Up"))
-}
-
+/// What is recorded of the session, as the first test says, plays as the session does.
 #[test]
 fn a_recording_replays(rt: HostRuntime) {
-    expect!(rt; replays(rt.alloc()) == Some(true));
+    let alloc = rt.alloc();
+    let session = read_session(&alloc, ACTS.as_bytes());
+    match (session, read_session(&alloc, RECORDED.as_bytes())) {
+        (Ok(session), Ok(recorded)) => expect!(rt; play_alike(alloc, session, recorded)),
+        _ => expect!(rt; false, "two sessions"),
+    }
 }
 
 /// A recording that is read over a heap.

@@ -1,11 +1,11 @@
 //! The reader that threads share.
 
 mod bell;
+mod calls;
 mod closing;
 mod limits;
 mod order;
 mod pastes;
-mod queries;
 mod refused;
 mod waits;
 mod waking;

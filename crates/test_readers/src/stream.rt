@@ -32,10 +32,14 @@ where
     S: EventSource<Global> + Send + 'static,
     R: Threads + Wait + Copy + Send + Drop + 'static,
     requires { All (IsPassOf shared.now) passes.old.items }
+    ensures { All (IsPassOf shared.now) passes.new.items }
 {
-    match (passes.pop(), passes.pop()) {
-        (Some(other), Some(pass)) => EventStream::new(rt, alloc, shared, pass, other),
-        _ => Err(io::Error::from(ErrorKind::NotFound)),
+    let Some(other) = passes.pop() else {
+        return Err(io::Error::from(ErrorKind::NotFound));
+    };
+    match passes.pop() {
+        Some(pass) => EventStream::new(rt, alloc, shared, pass, other),
+        None => Err(io::Error::from(ErrorKind::NotFound)),
     }
 }
 
@@ -47,16 +51,6 @@ where
 {
     let (shared, mut passes) = EventReader::new(&rt, alloc, reader_of(alloc, device), 2)?;
     stream_by(rt, alloc, &shared, &mut passes)
-}
-
-/// A stream over a device that has a letter once its gate is open.
-fn gated<R>(rt: R, alloc: Global) -> io::Result<(Arc<Gate>, Over<Gated<R>, R>)>
-where
-    R: Threads + Wait + Copy + Send + Drop + 'static,
-{
-    let gate = Arc::new(alloc, Gate::new())?;
-    let stream = stream_of(rt, alloc, Gated::new(rt, alloc, &gate)?)?;
-    Ok((gate, stream))
 }
 
 /// What a stream answers to a task.
@@ -83,6 +77,11 @@ fn poll<D: Device, R: Wait + Drop>(task: &MockTask, stream: &mut Over<D, R>) -> 
     outcome(task.enter(|cx| stream.poll_next(cx)))
 }
 
+/// One poll of the future of a stream's next event by this task.
+fn poll_of_next<D: Device, R: Wait + Drop>(task: &MockTask, stream: &mut Over<D, R>) -> Answer {
+    outcome(task.poll(&mut stream.next()))
+}
+
 /// Whether a task is woken before the turns are over.
 fn is_woken<R: Wait>(rt: &R, task: &MockTask) -> bool {
     for _ in 0..TURNS {
@@ -94,24 +93,113 @@ fn is_woken<R: Wait>(rt: &R, task: &MockTask) -> bool {
     false
 }
 
-/// Whether two tasks wait in turn, and the second one is woken once the gate is open, and has the letter then.
-fn wakes_the_newest<R>(rt: R, alloc: Global) -> io::Result<bool>
+/// What is done with a stream, by the first of two tasks or by the second, and what must come of it. The stream's device has the letter `a`
+/// once its gate is open.
+#[derive(Clone, Copy)]
+enum Step {
+    /// The first task polls the stream.
+    First(Answer),
+    /// The second task polls the stream.
+    Second(Answer),
+    /// The first task polls the future of the next event.
+    Next(Answer),
+    /// The gate is opened.
+    Open,
+    /// The first task is woken.
+    WakesFirst,
+    /// The second task is woken.
+    WakesSecond,
+    /// The device is asked without a limit.
+    Asks,
+}
+
+/// Whether a step comes to what it must.
+fn holds<R: Wait + Drop>(
+    rt: &R,
+    gate: &Gate,
+    tasks: &(MockTask, MockTask),
+    stream: &mut Over<Gated<R>, R>,
+    step: Step,
+) -> bool {
+    match step {
+        Step::First(want) => poll(&tasks.0, stream) == want,
+        Step::Second(want) => poll(&tasks.1, stream) == want,
+        Step::Next(want) => poll_of_next(&tasks.0, stream) == want,
+        Step::Open => {
+            gate.open();
+            true
+        }
+        Step::WakesFirst => is_woken(rt, &tasks.0),
+        Step::WakesSecond => is_woken(rt, &tasks.1),
+        Step::Asks => gate.await_endless_question(rt),
+    }
+}
+
+/// Whether all steps come to what they must. The stream is dropped then, and its worker must end with it, and the reader with the worker.
+fn all_hold<R: Wait + Drop>(
+    rt: &R,
+    gate: &Gate,
+    tasks: &(MockTask, MockTask),
+    mut stream: Over<Gated<R>, R>,
+    steps: &[Step],
+) -> bool {
+    for step in steps {
+        if !holds(rt, gate, tasks, &mut stream, *step) {
+            return false;
+        }
+    }
+    drop(stream);
+    gate.await_drop(rt)
+}
+
+/// Whether all steps of a row come to what they must, with a new stream.
+fn row_holds<R>(rt: R, alloc: Global, steps: &[Step]) -> io::Result<bool>
 where
     R: Threads + Wait + RandomSource + AllocGlobal + Copy + Send + Drop + 'static,
 {
-    let (gate, mut stream) = gated(rt, alloc)?;
-    let first = MockTask::new(&rt)?;
-    let second = MockTask::new(&rt)?;
-    let wait = poll(&first, &mut stream) == Answer::Pending
-        && poll(&second, &mut stream) == Answer::Pending;
-    gate.open();
-    let woken = is_woken(&rt, &second);
-    Ok(wait && woken && poll(&second, &mut stream) == Answer::Letter('a'))
+    let tasks = (MockTask::new(&rt)?, MockTask::new(&rt)?);
+    let gate = Arc::new(alloc, Gate::new())?;
+    let stream = stream_of(rt, alloc, Gated::new(rt, alloc, &gate)?)?;
+    Ok(all_hold(&rt, &gate, &tasks, stream, steps))
 }
 
+const WAITS: Answer = Answer::Pending;
+
+const LETTER: Answer = Answer::Letter('a');
+
+/// What is tested, and the steps.
+static ROWS: [(&str, &[Step]); 4] = [
+    (
+        "the newest who waits is woken",
+        &[
+            Step::First(WAITS),
+            Step::Second(WAITS),
+            Step::Open,
+            Step::WakesSecond,
+            Step::Second(LETTER),
+        ],
+    ),
+    (
+        "the next event is a future, whose task is woken",
+        &[
+            Step::Next(WAITS),
+            Step::Open,
+            Step::WakesFirst,
+            Step::Next(LETTER),
+        ],
+    ),
+    (
+        "a stream that is dropped ends its worker while it polls",
+        &[Step::First(WAITS), Step::Asks],
+    ),
+    ("a stream that is never polled ends its worker", &[]),
+];
+
 #[test]
-fn the_newest_is_woken(rt: HostRuntime) -> io::Result<()> {
-    expect!(rt; wakes_the_newest(rt, rt.alloc())?);
+fn streams_wake_who_waits_and_end_their_workers(rt: HostRuntime) -> io::Result<()> {
+    for (name, steps) in &ROWS {
+        expect!(rt; row_holds(rt, rt.alloc(), steps)?, name);
+    }
     Ok(())
 }
 
@@ -136,13 +224,13 @@ fn goes_on_after_a_fault<R>(rt: R, alloc: Global) -> io::Result<bool>
 where
     R: Threads + Wait + RandomSource + AllocGlobal + Copy + Send + Drop + 'static,
 {
-    let mut stream = stream_of(rt, alloc, FailsOnce::new(rt, alloc)?)?;
     let task = MockTask::new(&rt)?;
+    let mut stream = stream_of(rt, alloc, FailsOnce::new(rt, alloc)?)?;
     let first = answer_within(&rt, &task, &mut stream, TURNS);
     let second = answer_within(&rt, &task, &mut stream, TURNS);
     let later = answer_within(&rt, &task, &mut stream, 100);
     let fault = first == Answer::Fault(ErrorKind::InvalidData);
-    Ok(fault && second == Answer::Letter('a') && later == Answer::Pending)
+    Ok(fault && second == LETTER && later == WAITS)
 }
 
 #[test]
@@ -151,84 +239,46 @@ fn a_fault_is_given_once(rt: HostRuntime) -> io::Result<()> {
     Ok(())
 }
 
-/// Whether the worker of a stream ends with it, and the reader with the worker.
-fn ends_with<R: Wait + Drop>(rt: &R, gate: &Gate, stream: Over<Gated<R>, R>) -> bool {
-    drop(stream);
-    gate.await_drop(rt)
-}
-
-/// Whether the worker of a stream that is dropped while it polls ends, and the reader with it.
-fn ends_its_worker<R>(rt: R, alloc: Global) -> io::Result<bool>
-where
-    R: Threads + Wait + RandomSource + AllocGlobal + Copy + Send + Drop + 'static,
-{
-    let (gate, mut stream) = gated(rt, alloc)?;
-    let task = MockTask::new(&rt)?;
-    let polls = poll(&task, &mut stream) == Answer::Pending && gate.await_endless_question(&rt);
-    Ok(polls && ends_with(&rt, &gate, stream))
-}
-
-#[test]
-fn a_stream_that_is_dropped_ends_its_worker(rt: HostRuntime) -> io::Result<()> {
-    expect!(rt; ends_its_worker(rt, rt.alloc())?);
-    Ok(())
-}
-
-/// Whether the worker of a stream that was never polled ends with it.
-fn ends_an_idle_worker<R>(rt: R, alloc: Global) -> io::Result<bool>
-where
-    R: Threads + Wait + Copy + Send + Drop + 'static,
-{
-    let (gate, stream) = gated(rt, alloc)?;
-    Ok(ends_with(&rt, &gate, stream))
-}
-
-#[test]
-fn a_stream_that_is_never_polled_ends_its_worker(rt: HostRuntime) -> io::Result<()> {
-    expect!(rt; ends_an_idle_worker(rt, rt.alloc())?);
-    Ok(())
-}
-
-/// One poll of the future of a stream's next event by this task.
-fn poll_of_next<D: Device, R: Wait + Drop>(task: &MockTask, stream: &mut Over<D, R>) -> Answer {
-    outcome(task.poll(&mut stream.next()))
-}
-
-/// Whether the future of the next event waits, and has the letter once its task is woken.
-fn gives_the_next<R>(rt: R, alloc: Global) -> io::Result<bool>
-where
-    R: Threads + Wait + RandomSource + AllocGlobal + Copy + Send + Drop + 'static,
-{
-    let (gate, mut stream) = gated(rt, alloc)?;
-    let task = MockTask::new(&rt)?;
-    let waits = poll_of_next(&task, &mut stream) == Answer::Pending;
-    gate.open();
-    Ok(waits && is_woken(&rt, &task) && poll_of_next(&task, &mut stream) == Answer::Letter('a'))
-}
-
-#[test]
-fn the_next_event_is_a_future(rt: HostRuntime) -> io::Result<()> {
-    expect!(rt; gives_the_next(rt, rt.alloc())?);
-    Ok(())
-}
+type Source<R> = DeviceSource<Gated<R>>;
 
 /// Whether both passes of a stream come back, and by them the reader, while its worker polls a device that reports nothing.
+fn gives_both_back<R>(
+    rt: R,
+    alloc: Global,
+    gate: &Gate,
+    task: &MockTask,
+    shared: EventReader<Source<R>>,
+    mut passes: Vec<Pass<Source<R>>>,
+) -> bool
+where
+    R: Threads + Wait + Copy + Send + Drop + 'static,
+    requires { All (IsPassOf shared) passes.items }
+{
+    let Some(other) = passes.pop() else {
+        return false;
+    };
+    let Some(pass) = passes.pop() else {
+        return false;
+    };
+    let Ok((mut stream, worker)) = EventStream::with_worker(rt, alloc, &shared, pass, other) else {
+        return false;
+    };
+    let polls = poll(task, &mut stream) == WAITS && gate.await_endless_question(&rt);
+    let _pass = stream.close();
+    let mut other = worker.join(&rt);
+    polls && shared.close(&rt, &mut other).is_some()
+}
+
+/// Whether they do with a new reader.
 fn gives_both_passes_back<R>(rt: R, alloc: Global) -> io::Result<bool>
 where
     R: Threads + Wait + RandomSource + AllocGlobal + Copy + Send + Drop + 'static,
 {
+    let task = MockTask::new(&rt)?;
     let gate = Arc::new(alloc, Gate::new())?;
     let reader = reader_of(alloc, Gated::new(rt, alloc, &gate)?);
-    let (shared, mut passes) = EventReader::new(&rt, alloc, reader, 2)?;
-    let (Some(other), Some(pass)) = (passes.pop(), passes.pop()) else {
-        return Err(io::Error::from(ErrorKind::NotFound));
-    };
-    let (mut stream, worker) = EventStream::with_worker(rt, alloc, &shared, pass, other)?;
-    let task = MockTask::new(&rt)?;
-    let polls = poll(&task, &mut stream) == Answer::Pending && gate.await_endless_question(&rt);
-    let _pass = stream.close();
-    let mut other = worker.join(&rt);
-    Ok(polls && shared.close(&rt, &mut other).is_some())
+    let (shared, passes) = EventReader::new(&rt, alloc, reader, 2)?;
+    Ok(gives_both_back(rt, alloc, &gate, &task, shared, passes))
 }
 
 #[test]

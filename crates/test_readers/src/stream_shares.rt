@@ -9,7 +9,6 @@ use crossterm_types::event::Event;
 use futures::task::Poll;
 use futures::test::MockTask;
 use std::alloc::{AllocError, AllocGlobal, Global};
-use std::io::ErrorKind;
 use std::random::RandomSource;
 use std::sync::Wait;
 use std::thread::Threads;
@@ -40,57 +39,70 @@ fn number_of(event: io::Result<Event>) -> Option<u64> {
     }
 }
 
-/// What one of them took.
-type Part = Result<Vec<u64>, AllocError>;
+/// A seat at the reader, if there was memory.
+type Place = io::Result<Seat<Source>>;
 
-/// What a pass reads of its part. A number that isn't the pass's own last one ends it.
-fn read_part<R: Wait>(rt: &R, alloc: Global, mut seat: Seat<Source>) -> Part {
+/// What a pass reads of its part: nothing without a seat, and less if memory is refused. A number that isn't the pass's own last one ends it.
+fn read_part<R: Wait>(rt: &R, alloc: Global, seat: Place) -> Vec<u64> {
     let mut taken = Vec::new(alloc);
+    let Ok(mut seat) = seat else {
+        return taken;
+    };
     for _ in 0..PART {
-        match number_of(seat.read(rt)) {
-            Some(number) if seat.pass.last() == Some(number) => taken.push(number)?,
-            _ => break,
+        let Some(number) = number_of(seat.read(rt)) else {
+            break;
+        };
+        if seat.pass.last() != Some(number) || taken.push(number).is_err() {
+            break;
         }
     }
-    Ok(taken)
+    taken
 }
 
-/// What a stream gives of its part, before the turns are over.
+/// What two threads read of their parts.
+fn read_parts<R: Wait + Threads + Sync>(
+    rt: &R,
+    alloc: Global,
+    one: Place,
+    other: Place,
+) -> (Vec<u64>, Vec<u64>) {
+    thread::join(
+        rt,
+        move || read_part(rt, alloc, one),
+        move || read_part(rt, alloc, other),
+    )
+}
+
+/// The number of the next event of a stream, before the turns are over.
+fn next_of<R: Wait + Drop>(
+    rt: &R,
+    task: &MockTask,
+    stream: &mut EventStream<Source, R>,
+) -> Option<u64> {
+    for _ in 0..TURNS {
+        match task.enter(|cx| stream.poll_event(cx)) {
+            Poll::Ready(event) => return number_of(event),
+            Poll::Pending => nap(rt),
+        }
+    }
+    None
+}
+
+/// What a stream gives of its part.
 fn stream_part<R: Wait + Drop>(
     rt: &R,
     alloc: Global,
     task: &MockTask,
     stream: &mut EventStream<Source, R>,
-) -> Part {
+) -> Vec<u64> {
     let mut taken = Vec::new(alloc);
-    for _ in 0..TURNS {
-        if taken.len() == PART {
-            break;
-        }
-        match task.enter(|cx| stream.poll_event(cx)) {
-            Poll::Ready(event) => match number_of(event) {
-                Some(number) => taken.push(number)?,
-                None => break,
-            },
-            Poll::Pending => nap(rt),
+    for _ in 0..PART {
+        match next_of(rt, task, stream) {
+            Some(number) if taken.push(number).is_ok() => {}
+            _ => break,
         }
     }
-    Ok(taken)
-}
-
-/// Two shares of a reader, each with a pass, and a stream.
-type Three<R> = (Seat<Source>, Seat<Source>, EventStream<Source, R>);
-
-/// Opens a reader for two passes and a stream.
-fn three<R>(rt: R, alloc: Global) -> io::Result<Three<R>>
-where
-    R: Threads + Wait + Copy + Send + Drop + 'static,
-{
-    let (shared, mut passes) = EventReader::new(&rt, alloc, sizes(alloc)?, 4)?;
-    let one = Seat::next(&shared, &mut passes)?;
-    let other = Seat::next(&shared, &mut passes)?;
-    let stream = stream_by(rt, alloc, &shared, &mut passes)?;
-    Ok((one, other, stream))
+    taken
 }
 
 /// Whether two passes and a stream take each event once.
@@ -98,20 +110,17 @@ fn is_each_once<R>(rt: R, alloc: Global) -> io::Result<bool>
 where
     R: Threads + Wait + RandomSource + AllocGlobal + Copy + Send + Sync + Drop + 'static,
 {
-    let (one, other, mut stream) = three(rt, alloc)?;
     let task = MockTask::new(&rt)?;
+    let (shared, mut passes) = EventReader::new(&rt, alloc, sizes(alloc)?, 4)?;
+    let mut stream = stream_by(rt, alloc, &shared, &mut passes)?;
+    let one = Seat::next(&shared, &mut passes);
+    let other = Seat::next(&shared, &mut passes);
     let ((first, second), third) = thread::join(
         &rt,
-        move || {
-            thread::join(
-                &rt,
-                move || read_part(&rt, alloc, one),
-                move || read_part(&rt, alloc, other),
-            )
-        },
+        move || read_parts(&rt, alloc, one, other),
         || stream_part(&rt, alloc, &task, &mut stream),
     );
-    Ok(are_all(alloc, &[first?, second?, third?], u64::from(EVENTS))?)
+    Ok(are_all(&[first, second, third], u64::from(EVENTS)))
 }
 
 #[test]

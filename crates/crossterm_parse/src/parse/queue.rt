@@ -107,7 +107,7 @@ impl<A: Allocator + Clone> Queue<A> {
     pub(super) fn next(&mut self) -> Option<InternalEvent<A>>
         ensures none { IfNone result ((self.old.waiting ≡ []) × (self.new.waiting ≡ [])) }
         ensures some { IfSome result (λ event. self.old.waiting ≡ seen event ∷ self.new.waiting) }
-        ensures room { self.old.room ≤ self.new.room }
+        ensures capacity { length self.new.waiting + self.new.room ≡ length self.old.waiting + self.old.room }
     {
         self.events.pop_front()
     }

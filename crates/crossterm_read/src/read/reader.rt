@@ -261,6 +261,8 @@ impl<S: EventSource<A>, A: Allocator + Clone> InternalEventReader<S, A> {
         ensures step { (zs : List SourceAnswer) × S.drawn self.old.source zs self.new.source
             × PollStep (UpTo tries) (F.admits filter.now) zs self.old.store self.new.store (poll_reply result)
             × IfErr result (λ e. RefusedOnlyWithoutRoom self.old.room zs (error_kind e)) }
+        // If an admitted event is held, nothing changes, so no memory is taken.
+        ensures held { is_some (first_admitted (F.admits filter.now) self.old.store.held) ≡ true → self.new ≡ self.old }
         // The source is asked with limit zero alone, and so at once.
         ensures at_once { AsksAtOnce (S.asked self.old.source) (S.asked self.new.source) }
         // No room is lost.
@@ -307,6 +309,8 @@ impl<S: EventSource<A>, A: Allocator + Clone> InternalEventReader<S, A> {
             × ReadStep (UpTo tries) (F.admits filter.now) zs self.old.store self.new.store r × (try_said result ≡ shown r)
             × IfErr result (λ e. RefusedOnlyWithoutRoom self.old.room zs (error_kind e))
             × IsSteady S.failed self.old.source zs self.new.source }
+        // If an admitted event is held, no memory is taken, and the source isn't asked.
+        ensures held { is_some (first_admitted (F.admits filter.now) self.old.store.held) ≡ true → (capacity self.new ≡ capacity self.old) × (self.new.source ≡ self.old.source) }
         // The source is asked with limit zero alone, and so at once.
         ensures at_once { AsksAtOnce (S.asked self.old.source) (S.asked self.new.source) }
         // No room is lost, and failures never fall.
@@ -333,6 +337,7 @@ impl<S: EventSource<A>, A: Allocator + Clone> InternalEventReader<S, A> {
             × ReadStep (UpTo tries) (F.admits filter.now) zs self.old.store self.new.store (try_reply result)
             × IfErr result (λ e. RefusedOnlyWithoutRoom self.old.room zs (error_kind e))
             × IsSteady S.failed self.old.source zs self.new.source }
+        ensures held { is_some (first_admitted (F.admits filter.now) self.old.store.held) ≡ true → (capacity self.new ≡ capacity self.old) × (self.new.source ≡ self.old.source) }
         ensures at_once { AsksAtOnce (S.asked self.old.source) (S.asked self.new.source) }
         ensures admitted { IfOk result (λ taken. IfSome taken (λ x. F.admits filter.now (seen x.event) ≡ true)) }
         ensures room { capacity self.old ≤ capacity self.new }

@@ -1,5 +1,5 @@
 //! Polls with a limit of time, and reads without one.
-ghost use Rattle.std.specs.Prelude.{◌≡◌, ◌≢◌, ◌⊎◌, ◌-◌, ◌≤◌, ◌<◌, IfOk, IfErr, IfSome, IsTrue, ℕ, List, None, true};
+ghost use Rattle.std.specs.Prelude.{◌≡◌, ◌≢◌, ◌⊎◌, ◌-◌, ◌≤◌, ◌<◌, IfOk, IfErr, IfSome, IsTrue, ℕ, List, None, is_some, true};
 ghost use Rattle.std.specs.Duration.{as_nanos};
 ghost use Rattle.std.specs.IoError.{error_kind};
 ghost use Rattle.std.specs.declared.io.ErrorKind.TheVariants.{Interrupted};
@@ -114,6 +114,8 @@ impl<S: EventSource<A>, A: Allocator + Clone> InternalEventReader<S, A> {
             × (zs : List SourceAnswer) × S.drawn self.old.source zs self.new.source
             × PollStep (Within limit (C.told clock.new - start)) (F.admits filter.now) zs self.old.store self.new.store (poll_reply result)
             × IfErr result (λ e. RefusedOnlyWithoutRoom self.old.room zs (error_kind e)) }
+        // If an admitted event is held, nothing changes, so no memory is taken.
+        ensures held { is_some (first_admitted (F.admits filter.now) self.old.store.held) ≡ true → self.new ≡ self.old }
         // The clock doesn't go back, and which time was the first stays so.
         ensures later { C.told clock.old ≤ C.told clock.new }
         ensures first { KeepsFirst C.began clock.old clock.new }
@@ -142,6 +144,7 @@ impl<S: EventSource<A>, A: Allocator + Clone> InternalEventReader<S, A> {
         ensures step { (zs : List SourceAnswer) × S.drawn self.old.source zs self.new.source
             × PollStep (Within timeout.limit (C.told clock.new - as_nanos timeout.start)) (F.admits filter.now) zs self.old.store self.new.store (poll_reply result)
             × IfErr result (λ e. RefusedOnlyWithoutRoom self.old.room zs (error_kind e)) }
+        ensures held { is_some (first_admitted (F.admits filter.now) self.old.store.held) ≡ true → self.new ≡ self.old }
         ensures limits { AsksLeft timeout (C.told clock.new) (S.asked self.old.source) (S.asked self.new.source) }
         ensures later { C.told clock.old ≤ C.told clock.new }
         ensures first { KeepsFirst C.began clock.old clock.new }
@@ -182,6 +185,8 @@ impl<S: EventSource<A>, A: Allocator + Clone> InternalEventReader<S, A> {
             × ReadStep (Within None past) (F.admits filter.now) zs self.old.store self.new.store r × (read_said result ≡ shown r)
             × IfErr result (λ e. RefusedOnlyWithoutRoom self.old.room zs (error_kind e))
             × IsSteady S.failed self.old.source zs self.new.source }
+        // If an admitted event is held, no memory is taken, and the source isn't asked.
+        ensures held { is_some (first_admitted (F.admits filter.now) self.old.store.held) ≡ true → (capacity self.new ≡ capacity self.old) × (self.new.source ≡ self.old.source) }
         // The device is asked without a limit.
         ensures asked { AsksForever (S.asked self.old.source) (S.asked self.new.source) }
         // No room is lost, and failures never fall.
@@ -207,6 +212,7 @@ impl<S: EventSource<A>, A: Allocator + Clone> InternalEventReader<S, A> {
             × ReadStep (Within None past) (F.admits filter.now) zs self.old.store self.new.store (read_reply result)
             × IfErr result (λ e. RefusedOnlyWithoutRoom self.old.room zs (error_kind e))
             × IsSteady S.failed self.old.source zs self.new.source }
+        ensures held { is_some (first_admitted (F.admits filter.now) self.old.store.held) ≡ true → (capacity self.new ≡ capacity self.old) × (self.new.source ≡ self.old.source) }
         ensures asked { AsksForever (S.asked self.old.source) (S.asked self.new.source) }
         ensures admitted { IfOk result (λ x. F.admits filter.now (seen x.event) ≡ true) }
         ensures room { capacity self.old ≤ capacity self.new }

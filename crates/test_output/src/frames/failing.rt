@@ -55,11 +55,33 @@ fn own_kind(fault: DrawFault) -> ErrorKind {
     }
 }
 
+/// A screen and a paper, and sheets for a frame and the next one.
+#[derive(Drop)]
+struct Frames {
+    screen: Screen,
+    paper: Paper,
+    first: Sheet,
+    second: Sheet,
+}
+
+/// These, of two rows.
+fn all_of(alloc: Global, width: u16) -> Result<Frames, AllocError> {
+    Ok(Frames {
+        screen: Screen::new(alloc, width, 2)?,
+        paper: Paper::new(alloc, width, 2)?,
+        first: sheet(alloc, width, 'Ж', 3)?,
+        second: sheet(alloc, width, 'x', 1)?,
+    })
+}
+
 /// Draws a frame that breaks off after so many bytes, and then another one, which has to be shown.
-fn breaks_at(alloc: Global, width: u16, room: usize) -> Result<Came, AllocError> {
-    let mut screen = Screen::new(alloc, width, 2)?;
-    let mut paper = Paper::new(alloc, width, 2)?;
-    let first = sheet(alloc, width, 'Ж', 3)?;
+fn breaks_at(alloc: Global, frames: Frames, room: usize) -> Came {
+    let Frames {
+        mut screen,
+        mut paper,
+        first,
+        second,
+    } = frames;
     let mut short = Short {
         bytes: Vec::new(alloc),
         room,
@@ -68,25 +90,24 @@ fn breaks_at(alloc: Global, width: u16, room: usize) -> Result<Came, AllocError>
     let drawn = screen.draw(&mut short, ColorOutput::Enabled, &first.buffer, cursor);
     paper.write(&short.bytes);
     match drawn.err().map(own_kind) {
-        None if paper.shows(&first.marks, cursor) => return Ok(Came::Whole),
+        None if paper.shows(&first.marks, cursor) => return Came::Whole,
         Some(ErrorKind::BrokenPipe) if short.bytes.len() == room => {}
-        _ => return Ok(Came::Wrong),
+        _ => return Came::Wrong,
     }
-    let second = sheet(alloc, width, 'x', 1)?;
     let mut bytes: Vec<u8> = Vec::new(alloc);
     let drawn = screen.draw(&mut bytes, ColorOutput::Enabled, &second.buffer, None);
     paper.is_spoilt = false;
     paper.write(&bytes);
     if drawn.is_ok() && paper.shows(&second.marks, None) {
-        return Ok(Came::Broken);
+        return Came::Broken;
     }
-    Ok(Came::Wrong)
+    Came::Wrong
 }
 
 /// Whether each frame is shown that comes after a broken one, and how many bytes a whole one has.
 fn are_shown(alloc: Global) -> Result<bool, AllocError> {
     for room in 0..1000usize {
-        match breaks_at(alloc, 4, room)? {
+        match breaks_at(alloc, all_of(alloc, 4)?, room) {
             Came::Broken => {}
             Came::Whole => return Ok(room > 40),
             Came::Wrong => return Ok(false),
@@ -98,7 +119,7 @@ fn are_shown(alloc: Global) -> Result<bool, AllocError> {
 /// Whether frames are that come after a long one, which is given to the writer in parts.
 fn are_long_shown(alloc: Global) -> Result<bool, AllocError> {
     for room in [0, 1, 3000, 4095, 4096, 4097, 7000, 8191] {
-        if breaks_at(alloc, 5000, room)? != Came::Broken {
+        if breaks_at(alloc, all_of(alloc, 5000)?, room) != Came::Broken {
             return Ok(false);
         }
     }

@@ -70,9 +70,9 @@ const WITHOUT_MARKS: [Row; 6] = [
     (0, 2, "\n", Err(CellFault::Outside), ".........."),
 ];
 
-/// Two rows of five dots.
-fn dots(alloc: Global) -> Result<Buffer, AllocError> {
-    let mut buffer = Buffer::new(alloc, 5, 2)?;
+/// So many dots.
+fn dots(alloc: Global, width: u16, height: u16) -> Result<Buffer, AllocError> {
+    let mut buffer = Buffer::new(alloc, width, height)?;
     let _ = buffer.fill('.', ContentStyle::new());
     Ok(buffer)
 }
@@ -87,65 +87,49 @@ fn shows(buffer: &Buffer, wanted: &str) -> bool {
 }
 
 /// Whether a text is printed so.
-fn is_printed(alloc: Global, row: &Row) -> Result<bool, AllocError> {
+fn is_printed(mut buffer: Buffer, row: &Row) -> bool {
     let (column, line, text, result, wanted) = *row;
-    let mut buffer = dots(alloc)?;
     let came = buffer.print(column, line, text, ContentStyle::new());
-    Ok(came == result && shows(&buffer, wanted))
+    came == result && shows(&buffer, wanted)
 }
 
 /// Whether a text is printed so, with what is replaced in it.
-fn is_replaced(alloc: Global, row: &Replacing) -> Result<bool, AllocError> {
+fn is_replaced(mut buffer: Buffer, row: &Replacing) -> bool {
     let (column, line, text, replacement, result, wanted) = *row;
-    let mut buffer = dots(alloc)?;
     let came = buffer.print_replacing(column, line, text, replacement, ContentStyle::new());
-    Ok(came == result && shows(&buffer, wanted))
+    came == result && shows(&buffer, wanted)
 }
 
 /// Whether a text is printed so without its characters of no column.
-fn is_left_out(alloc: Global, row: &Row) -> Result<bool, AllocError> {
+fn is_left_out(mut buffer: Buffer, row: &Row) -> bool {
     let (column, line, text, result, wanted) = *row;
-    let mut buffer = dots(alloc)?;
     let came = buffer.print_without_marks(column, line, text, ContentStyle::new());
-    Ok(came == result && shows(&buffer, wanted))
-}
-
-fn are_printed(alloc: Global) -> Result<bool, AllocError> {
-    for row in &ROWS {
-        if !is_printed(alloc, row)? {
-            return Ok(false);
-        }
-    }
-    for row in &REPLACING {
-        if !is_replaced(alloc, row)? {
-            return Ok(false);
-        }
-    }
-    for row in &WITHOUT_MARKS {
-        if !is_left_out(alloc, row)? {
-            return Ok(false);
-        }
-    }
-    Ok(true)
+    came == result && shows(&buffer, wanted)
 }
 
 #[test]
 fn texts_are_clipped_replaced_or_refused(rt: HostRuntime) -> Result<(), AllocError> {
-    expect!(rt; are_printed(rt.alloc())?);
+    for row in &ROWS {
+        expect!(rt; is_printed(dots(rt.alloc(), 5, 2)?, row), row.2);
+    }
+    for row in &REPLACING {
+        expect!(rt; is_replaced(dots(rt.alloc(), 5, 2)?, row), row.2);
+    }
+    for row in &WITHOUT_MARKS {
+        expect!(rt; is_left_out(dots(rt.alloc(), 5, 2)?, row), row.2);
+    }
     Ok(())
 }
 
 /// Whether a plain border is drawn round three rows of four dots.
-fn is_bordered(alloc: Global) -> Result<bool, AllocError> {
-    let mut buffer = Buffer::new(alloc, 4, 3)?;
-    let _ = buffer.fill('.', ContentStyle::new());
+fn is_bordered(mut buffer: Buffer) -> bool {
     let area = buffer.area();
     let came = buffer.border(area, Border::PLAIN, ContentStyle::new());
-    Ok(came == Ok(()) && shows(&buffer, "┌──┐│..│└──┘"))
+    came == Ok(()) && shows(&buffer, "┌──┐│..│└──┘")
 }
 
 #[test]
 fn a_plain_border_has_its_lines(rt: HostRuntime) -> Result<(), AllocError> {
-    expect!(rt; is_bordered(rt.alloc())?);
+    expect!(rt; is_bordered(dots(rt.alloc(), 4, 3)?));
     Ok(())
 }

@@ -1,5 +1,6 @@
 //! What is refused, by name.
 
+use crate::frames::rows::pair;
 use crossterm_command::{ColorOutput, CommandFault};
 use crossterm_style::ContentStyle;
 use screen::{Buffer, CellFault, DrawFault, Screen};
@@ -23,50 +24,54 @@ const ROWS: [(char, Option<CellFault>); 11] = [
     ('~', None),
 ];
 
-fn are_refused(alloc: Global) -> Result<bool, AllocError> {
-    let mut buffer = Buffer::new(alloc, 2, 2)?;
+fn are_refused(mut buffer: Buffer) -> bool {
     for (symbol, fault) in ROWS {
-        let style = ContentStyle::new();
-        if buffer.set(0, 1, symbol, style).err() != fault
-            || buffer.fill(symbol, style).err() != fault
+        if buffer.set(0, 1, symbol, ContentStyle::new()).err() != fault
+            || buffer.fill(symbol, ContentStyle::new()).err() != fault
         {
-            return Ok(false);
+            return false;
         }
     }
     let is_filled = buffer.cells().iter().all(|cell| cell.symbol == '~');
-    let style = ContentStyle::new();
-    Ok(
-        is_filled
-            && buffer.set(2, 0, 'x', style) == Err(CellFault::Outside)
-            && buffer.set(2, 0, '漢', style) == Err(CellFault::Outside)
-            && buffer.set(0, 2, '\u{1b}', style) == Err(CellFault::Outside)
-            && buffer.set(1, 0, '漢', style) == Err(CellFault::LastColumn)
-            && buffer.set(1, 0, '\u{17d8}', style) == Err(CellFault::Wide),
-    )
+    is_filled
+        && buffer.set(2, 0, 'x', ContentStyle::new()) == Err(CellFault::Outside)
+        && buffer.set(2, 0, '漢', ContentStyle::new()) == Err(CellFault::Outside)
+        && buffer.set(0, 2, '\u{1b}', ContentStyle::new()) == Err(CellFault::Outside)
+        && buffer.set(1, 0, '漢', ContentStyle::new()) == Err(CellFault::LastColumn)
+        && buffer.set(1, 0, '\u{17d8}', ContentStyle::new()) == Err(CellFault::Wide)
 }
 
 /// Whether frames of another size and cursors outside are refused, with nothing written.
-fn are_frames_refused(alloc: Global) -> Result<bool, AllocError> {
-    let mut screen = Screen::new(alloc, 2, 2)?;
+fn are_frames_refused(
+    alloc: Global,
+    mut screen: Screen,
+    buffer: &Buffer,
+    small: Result<Buffer, AllocError>,
+) -> bool {
     let mut bytes: Vec<u8> = Vec::new(alloc);
     let colors = ColorOutput::Enabled;
-    let small = Buffer::new(alloc, 2, 1)?;
-    let buffer = Buffer::new(alloc, 2, 2)?;
-    let is_size = matches!(
-        screen.draw(&mut bytes, colors, &small, None),
-        Err(DrawFault::Size)
-    );
-    let right = screen.draw(&mut bytes, colors, &buffer, Some((2, 0)));
-    let below = screen.draw(&mut bytes, colors, &buffer, Some((0, 2)));
+    let is_size = match small {
+        Ok(small) => {
+            matches!(
+                screen.draw(&mut bytes, colors, &small, None),
+                Err(DrawFault::Size)
+            )
+        }
+        Err(_) => false,
+    };
+    let right = screen.draw(&mut bytes, colors, buffer, Some((2, 0)));
+    let below = screen.draw(&mut bytes, colors, buffer, Some((0, 2)));
     let is_cursor = matches!(right, Err(DrawFault::Cursor))
         && matches!(below, Err(DrawFault::Cursor));
-    Ok(is_size && is_cursor && bytes.is_empty())
+    is_size && is_cursor && bytes.is_empty()
 }
 
 #[test]
 fn faults_have_names(rt: HostRuntime) -> Result<(), AllocError> {
-    expect!(rt; are_refused(rt.alloc())?);
-    expect!(rt; are_frames_refused(rt.alloc())?);
+    let alloc = rt.alloc();
+    expect!(rt; are_refused(Buffer::new(alloc, 2, 2)?));
+    let (screen, buffer) = pair(alloc, 2, 2)?;
+    expect!(rt; are_frames_refused(alloc, screen, &buffer, Buffer::new(alloc, 2, 1)));
     Ok(())
 }
 

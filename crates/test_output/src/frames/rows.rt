@@ -9,13 +9,21 @@ use crossterm_command::ColorOutput;
 use crossterm_style::{Color, ContentStyle};
 use screen::{Buffer, Screen};
 use std::alloc::{AllocError, Global};
-use std::io;
 use test_support::expect;
 
 /// What begins each frame, and what ends one whose cursor is hidden.
 const BEGIN: &str = "\x1b[?2026h";
 
 const END: &str = "\x1b[0m\x1b[?25l\x1b[?2026l";
+
+/// A screen, and a buffer of its size.
+pub fn pair(alloc: Global, width: u16, height: u16) -> Result<(Screen, Buffer), AllocError> {
+    let screen = Screen::new(alloc, width, height)?;
+    match Buffer::new(alloc, width, height) {
+        Ok(buffer) => Ok((screen, buffer)),
+        Err(error) => Err(error),
+    }
+}
 
 /// What a frame is to write between its beginning and its end.
 fn writes(screen: &mut Screen, alloc: Global, buffer: &Buffer, wanted: &str) -> bool {
@@ -32,28 +40,31 @@ fn writes(screen: &mut Screen, alloc: Global, buffer: &Buffer, wanted: &str) -> 
     rest.strip_suffix(END.as_bytes()) == Some(wanted.as_bytes())
 }
 
-fn are_written(alloc: Global) -> Result<bool, AllocError> {
-    let mut screen = Screen::new(alloc, 20, 3)?;
-    let mut buffer = Buffer::new(alloc, 20, 3)?;
-    let red = ContentStyle {
+/// A style with a red foreground.
+fn red() -> ContentStyle {
+    ContentStyle {
         foreground_color: Some(Color::AnsiValue(9)),
         ..ContentStyle::new()
-    };
+    }
+}
+
+fn are_written(alloc: Global, mut screen: Screen, mut buffer: Buffer) -> bool {
     let blank = writes(&mut screen, alloc, &buffer, "\x1b[0m\x1b[2J");
     let nothing = writes(&mut screen, alloc, &buffer, "");
-    let set = buffer.set(2, 1, 'a', red).is_ok()
-        && buffer.set(3, 1, 'b', red).is_ok()
-        && buffer.set(19, 1, 'c', red).is_ok()
+    let set = buffer.set(2, 1, 'a', red()).is_ok()
+        && buffer.set(3, 1, 'b', red()).is_ok()
+        && buffer.set(19, 1, 'c', red()).is_ok()
         && buffer.set(0, 2, 'd', ContentStyle::new()).is_ok();
     let some = "\x1b[2;3H\x1b[0m\x1b[38;5;9mab\x1b[2;20Hc\x1b[3;1H\x1b[0md";
     let changed = writes(&mut screen, alloc, &buffer, some);
     let still = writes(&mut screen, alloc, &buffer, "");
-    Ok(blank && nothing && set && changed && still)
+    blank && nothing && set && changed && still
 }
 
 #[test]
 fn neighbours_are_grouped_and_the_rest_is_left(rt: HostRuntime) -> Result<(), AllocError> {
-    expect!(rt; are_written(rt.alloc())?);
+    let (screen, buffer) = pair(rt.alloc(), 20, 3)?;
+    expect!(rt; are_written(rt.alloc(), screen, buffer));
     Ok(())
 }
 
@@ -83,9 +94,7 @@ fn paint(buffer: &mut Buffer, cells: &[(char, u8, u8, bool)]) -> bool {
 }
 
 /// Whether of styles that differ in colours alone the colours are written, and a reset where that is shorter.
-fn are_recolored(alloc: Global) -> Result<bool, AllocError> {
-    let mut screen = Screen::new(alloc, 9, 1)?;
-    let mut buffer = Buffer::new(alloc, 9, 1)?;
+fn are_recolored(alloc: Global, mut screen: Screen, mut buffer: Buffer) -> bool {
     let blank = writes(&mut screen, alloc, &buffer, "\x1b[0m\x1b[2J");
     let colors = [
         ('a', 9, 0, false),
@@ -100,24 +109,24 @@ fn are_recolored(alloc: Global) -> Result<bool, AllocError> {
     let is_set = paint(&mut buffer, &colors);
     let wanted =
         "\x1b[1;1H\x1b[0m\x1b[38;5;9ma\x1b[48;5;4mb\x1b[38;5;10mc\x1b[49md\x1b[0me\x1b[48;5;4mf\x1b[0m\x1b[48;5;4m\x1b[1mg\x1b[38;5;9mh";
-    Ok(blank && is_set && writes(&mut screen, alloc, &buffer, wanted))
+    blank && is_set && writes(&mut screen, alloc, &buffer, wanted)
 }
 
 /// Whether of colours nothing is written between cells if none are to be written, so that what is bold stays bold.
-fn are_uncolored(alloc: Global) -> Result<bool, AllocError> {
-    let mut screen = Screen::new(alloc, 2, 1)?;
-    let mut buffer = Buffer::new(alloc, 2, 1)?;
+fn are_uncolored(alloc: Global, mut screen: Screen, mut buffer: Buffer) -> bool {
     let is_set = paint(&mut buffer, &[('a', 9, 0, true), ('b', 10, 4, true)]);
     let mut bytes: Vec<u8> = Vec::new(alloc);
     let drawn = screen.draw(&mut bytes, ColorOutput::Disabled, &buffer, None);
     let wanted = b"\x1b[1;1H\x1b[0m\x1b[m\x1b[1mab\x1b[0m\x1b[?25l\x1b[?2026l";
-    Ok(is_set && drawn.is_ok() && bytes.as_slice().ends_with(wanted))
+    is_set && drawn.is_ok() && bytes.as_slice().ends_with(wanted)
 }
 
 #[test]
 fn colours_alone_are_written_where_the_rest_is_set(rt: HostRuntime) -> Result<(), AllocError> {
-    expect!(rt; are_recolored(rt.alloc())?);
-    expect!(rt; are_uncolored(rt.alloc())?);
+    let (screen, buffer) = pair(rt.alloc(), 9, 1)?;
+    expect!(rt; are_recolored(rt.alloc(), screen, buffer));
+    let (screen, buffer) = pair(rt.alloc(), 2, 1)?;
+    expect!(rt; are_uncolored(rt.alloc(), screen, buffer));
     Ok(())
 }
 
@@ -136,32 +145,40 @@ fn longest(color: u8) -> ContentStyle {
     }
 }
 
-/// Whether a row in which each cell has the longest style, and another one than its neighbours, is written as by commands.
-fn are_long_written(alloc: Global) -> io::Result<bool> {
-    let mut screen = Screen::new(alloc, 60, 1)?;
-    let mut buffer = Buffer::new(alloc, 60, 1)?;
-    let mut wanted: Vec<u8> = Vec::new(alloc);
-    let colors = ColorOutput::Enabled;
-    queue!(wanted, colors, BeginSynchronizedUpdate)?;
-    queue!(wanted, colors, SetAttribute(Attribute::Reset))?;
-    queue!(wanted, colors, Clear(ClearType::All), MoveTo(0, 0))?;
+const ON: ColorOutput = ColorOutput::Enabled;
+
+/// Sets each of 60 cells in the longest style, another one than its neighbours have, and writes by commands what a frame of them is.
+fn write_longest(buffer: &mut Buffer, out: &mut Vec<u8>) -> bool {
+    let is_begun = queue!(out, ON, BeginSynchronizedUpdate).is_ok()
+        && queue!(out, ON, SetAttribute(Attribute::Reset)).is_ok()
+        && queue!(out, ON, Clear(ClearType::All), MoveTo(0, 0)).is_ok();
     for column in 0..60u8 {
-        let style = longest(column);
-        if buffer.set(u16::from(column), 0, 'x', style).is_err() {
-            return Ok(false);
+        let is_set = buffer
+            .set(u16::from(column), 0, 'x', longest(column))
+            .is_ok();
+        let is_written = queue!(out, ON, SetAttribute(Attribute::Reset)).is_ok()
+            && queue!(out, ON, SetStyle(longest(column)), Print('x')).is_ok();
+        if !is_set || !is_written {
+            return false;
         }
-        queue!(wanted, colors, SetAttribute(Attribute::Reset))?;
-        queue!(wanted, colors, SetStyle(style), Print('x'))?;
     }
-    queue!(wanted, colors, SetAttribute(Attribute::Reset), Hide)?;
-    queue!(wanted, colors, EndSynchronizedUpdate)?;
+    let is_ended = queue!(out, ON, SetAttribute(Attribute::Reset), Hide).is_ok()
+        && queue!(out, ON, EndSynchronizedUpdate).is_ok();
+    is_begun && is_ended
+}
+
+/// Whether a row of the longest styles is written as by commands.
+fn are_long_written(alloc: Global, mut screen: Screen, mut buffer: Buffer) -> bool {
+    let mut wanted: Vec<u8> = Vec::new(alloc);
+    let is_wanted = write_longest(&mut buffer, &mut wanted);
     let mut bytes: Vec<u8> = Vec::new(alloc);
-    let drawn = screen.draw(&mut bytes, colors, &buffer, None);
-    Ok(drawn.is_ok() && bytes == wanted && bytes.len() > 8192)
+    let drawn = screen.draw(&mut bytes, ON, &buffer, None);
+    is_wanted && drawn.is_ok() && bytes == wanted && bytes.len() > 8192
 }
 
 #[test]
-fn the_longest_styles_are_written(rt: HostRuntime) -> io::Result<()> {
-    expect!(rt; are_long_written(rt.alloc())?);
+fn the_longest_styles_are_written(rt: HostRuntime) -> Result<(), AllocError> {
+    let (screen, buffer) = pair(rt.alloc(), 60, 1)?;
+    expect!(rt; are_long_written(rt.alloc(), screen, buffer));
     Ok(())
 }

@@ -6,35 +6,53 @@ use screen::Screen;
 use std::alloc::{AllocError, Global};
 use test_support::expect;
 
-/// Whether frames are shown at a size: the first, one with all cells changed, and one after the screen has forgotten all.
-fn are_shown(alloc: Global, width: u16, height: u16) -> Result<bool, AllocError> {
+/// A screen of another size, which becomes one of this size.
+fn resized(alloc: Global, width: u16, height: u16) -> Result<Screen, AllocError> {
     let mut screen = Screen::new(alloc, 7, 7)?;
     screen.resize(width, height)?;
-    let mut paper = Paper::new(alloc, width, height)?;
-    let mut sheet = Sheet::new(alloc, width, height)?;
-    for turn in 0..3u32 {
-        let mut bytes: Vec<u8> = Vec::new(alloc);
-        let drawn = screen.draw(&mut bytes, ColorOutput::Enabled, &sheet.buffer, None);
-        paper.write(&bytes);
-        if drawn.is_err() || !paper.shows(&sheet.marks, None) {
-            return Ok(false);
-        }
-        if turn == 1 {
-            screen.forget();
-            paper = Paper::new(alloc, width, height)?;
-        }
-        for column in 0..width {
-            sheet.set(column, 0, 'ß', turn);
-        }
+    Ok(screen)
+}
+
+/// Whether a frame is shown on a paper.
+fn is_shown(alloc: Global, screen: &mut Screen, sheet: &Sheet, paper: &mut Paper) -> bool {
+    let mut bytes: Vec<u8> = Vec::new(alloc);
+    let drawn = screen.draw(&mut bytes, ColorOutput::Enabled, &sheet.buffer, None);
+    paper.write(&bytes);
+    drawn.is_ok() && paper.shows(&sheet.marks, None)
+}
+
+/// Changes all cells of the first row.
+fn change(sheet: &mut Sheet, style: u32) {
+    for column in 0..sheet.buffer.width() {
+        sheet.set(column, 0, 'ß', style);
     }
-    Ok(true)
+}
+
+/// Whether frames are shown: the first, one with all cells changed, and on another paper one after the screen has forgotten all.
+fn are_shown(
+    alloc: Global,
+    mut screen: Screen,
+    mut sheet: Sheet,
+    mut paper: Paper,
+    mut other: Paper,
+) -> bool {
+    let first = is_shown(alloc, &mut screen, &sheet, &mut paper);
+    change(&mut sheet, 0);
+    let second = is_shown(alloc, &mut screen, &sheet, &mut paper);
+    screen.forget();
+    change(&mut sheet, 1);
+    first && second && is_shown(alloc, &mut screen, &sheet, &mut other)
 }
 
 #[test]
 fn sizes_from_the_least_to_the_widest(rt: HostRuntime) -> Result<(), AllocError> {
-    expect!(rt; are_shown(rt.alloc(), 0, 0)?);
-    expect!(rt; are_shown(rt.alloc(), 1, 1)?);
-    expect!(rt; are_shown(rt.alloc(), 1, 3)?);
-    expect!(rt; are_shown(rt.alloc(), 65_535, 1)?);
+    let alloc = rt.alloc();
+    for (width, height) in [(0, 0), (1, 1), (1, 3), (65_535, 1)] {
+        let screen = resized(alloc, width, height)?;
+        let sheet = Sheet::new(alloc, width, height)?;
+        let paper = Paper::new(alloc, width, height)?;
+        let other = Paper::new(alloc, width, height)?;
+        expect!(rt; are_shown(alloc, screen, sheet, paper, other));
+    }
     Ok(())
 }

@@ -1,5 +1,6 @@
 //! Characters of two columns in a buffer. The second cell of one is written as U+0000.
 
+use crate::frames::rows::pair;
 use crossterm_command::ColorOutput;
 use crossterm_style::{Color, ContentStyle};
 use screen::{Buffer, Cell, CellFault, Screen};
@@ -50,62 +51,47 @@ fn shows(buffer: &Buffer, symbols: &str, letters: &str) -> bool {
 }
 
 /// Whether a character is set so.
-fn is_set(alloc: Global, over: &Over) -> Result<bool, AllocError> {
+fn is_set(mut buffer: Buffer, over: &Over) -> bool {
     let (column, symbol, result, symbols, letters) = *over;
-    let mut buffer = Buffer::new(alloc, 6, 1)?;
     let printed = buffer.print(0, 0, ".漢漢.", colored(Color::Red));
     let came = buffer.set(column, 0, symbol, colored(Color::Blue));
-    Ok(printed == Ok(6) && came == result && shows(&buffer, symbols, letters))
-}
-
-fn are_set(alloc: Global) -> Result<bool, AllocError> {
-    for over in &OVER {
-        if !is_set(alloc, over)? {
-            return Ok(false);
-        }
-    }
-    Ok(true)
+    printed == Ok(6) && came == result && shows(&buffer, symbols, letters)
 }
 
 /// Whether a text is printed over halves, and an empty one leaves all as it was.
-fn are_printed(alloc: Global) -> Result<bool, AllocError> {
-    let mut buffer = Buffer::new(alloc, 7, 1)?;
-    let blue = colored(Color::Blue);
+fn are_printed(mut buffer: Buffer) -> bool {
     let all = buffer.print(0, 0, "漢漢漢.", colored(Color::Red));
-    let none = buffer.print(1, 0, "", blue);
+    let none = buffer.print(1, 0, "", colored(Color::Blue));
     let kept = shows(&buffer, "漢\u{0}漢\u{0}漢\u{0}.", "rrrrrrr");
-    let some = buffer.print(1, 0, "a字b", blue);
-    Ok(
-        all == Ok(7)
-            && none == Ok(0)
-            && kept
-            && some == Ok(4)
-            && shows(&buffer, " a字\u{0}b .", "rbbbbrr"),
-    )
+    let some = buffer.print(1, 0, "a字b", colored(Color::Blue));
+    all == Ok(7)
+        && none == Ok(0)
+        && kept
+        && some == Ok(4)
+        && shows(&buffer, " a字\u{0}b .", "rbbbbrr")
 }
 
-/// Whether rows are filled with pairs.
-fn are_filled(alloc: Global) -> Result<bool, AllocError> {
-    let blue = colored(Color::Blue);
-    let mut even = Buffer::new(alloc, 4, 2)?;
-    let mut odd = Buffer::new(alloc, 3, 2)?;
-    let mut narrow = Buffer::new(alloc, 1, 2)?;
-    let are_filled = even.fill('字', blue).is_ok()
-        && odd.fill('字', blue).is_ok()
-        && narrow.fill('字', blue).is_ok();
-    Ok(
-        are_filled
-            && shows(&even, "字\u{0}字\u{0}字\u{0}字\u{0}", "bbbbbbbb")
-            && shows(&odd, "字\u{0} 字\u{0} ", "bbbbbb")
-            && shows(&narrow, "  ", "bb"),
-    )
+/// Widths, and two rows that are filled with pairs.
+const FILLED: [(u16, &str, &str); 3] = [
+    (4, "字\u{0}字\u{0}字\u{0}字\u{0}", "bbbbbbbb"),
+    (3, "字\u{0} 字\u{0} ", "bbbbbb"),
+    (1, "  ", "bb"),
+];
+
+/// Whether rows are filled so.
+fn is_filled(mut buffer: Buffer, symbols: &str, letters: &str) -> bool {
+    buffer.fill('字', colored(Color::Blue)).is_ok() && shows(&buffer, symbols, letters)
 }
 
 #[test]
 fn halves_become_spaces(rt: HostRuntime) -> Result<(), AllocError> {
-    expect!(rt; are_set(rt.alloc())?);
-    expect!(rt; are_printed(rt.alloc())?);
-    expect!(rt; are_filled(rt.alloc())?);
+    for over in &OVER {
+        expect!(rt; is_set(Buffer::new(rt.alloc(), 6, 1)?, over), over.3);
+    }
+    expect!(rt; are_printed(Buffer::new(rt.alloc(), 7, 1)?));
+    for (width, symbols, letters) in FILLED {
+        expect!(rt; is_filled(Buffer::new(rt.alloc(), width, 2)?, symbols, letters), symbols);
+    }
     Ok(())
 }
 
@@ -131,26 +117,24 @@ fn prints(screen: &mut Screen, alloc: Global, buffer: &Buffer, place: &str, text
 }
 
 /// Whether a character of two columns is printed once, with no move behind it, and both columns are printed when it is gone.
-fn are_drawn(alloc: Global) -> Result<bool, AllocError> {
-    let mut screen = Screen::new(alloc, 6, 2)?;
-    let mut buffer = Buffer::new(alloc, 6, 2)?;
+fn are_drawn(alloc: Global, mut screen: Screen, mut buffer: Buffer) -> bool {
     let mut bytes: Vec<u8> = Vec::new(alloc);
-    let style = ContentStyle::new();
     let first = screen.draw(&mut bytes, ColorOutput::Enabled, &buffer, None);
-    let printed = buffer.print(1, 1, "a漢b", style);
+    let printed = buffer.print(1, 1, "a漢b", ContentStyle::new());
     let next = prints(&mut screen, alloc, &buffer, "2;2", "a漢b");
-    let over_first = buffer.set(2, 1, 'x', style);
+    let over_first = buffer.set(2, 1, 'x', ContentStyle::new());
     let second_left = prints(&mut screen, alloc, &buffer, "2;3", "x ");
-    let back = buffer.set(2, 1, '字', style);
+    let back = buffer.set(2, 1, '字', ContentStyle::new());
     let whole = prints(&mut screen, alloc, &buffer, "2;3", "字");
-    let over_second = buffer.set(3, 1, 'y', style);
+    let over_second = buffer.set(3, 1, 'y', ContentStyle::new());
     let first_left = prints(&mut screen, alloc, &buffer, "2;3", " y");
     let are_set = over_first.is_ok() && back.is_ok() && over_second.is_ok();
-    Ok(first.is_ok() && printed == Ok(4) && are_set && next && second_left && whole && first_left)
+    first.is_ok() && printed == Ok(4) && are_set && next && second_left && whole && first_left
 }
 
 #[test]
 fn pairs_are_printed_once(rt: HostRuntime) -> Result<(), AllocError> {
-    expect!(rt; are_drawn(rt.alloc())?);
+    let (screen, buffer) = pair(rt.alloc(), 6, 2)?;
+    expect!(rt; are_drawn(rt.alloc(), screen, buffer));
     Ok(())
 }

@@ -4,7 +4,7 @@ use crate::bindings::lists::keymap_of;
 use crossterm_types::event::{KeyCode, KeyEvent};
 use keymap::{Keymap, KeymapFault, Matcher, Outcome};
 use linked_list_allocator::LocalHeap;
-use std::alloc::{AllocError, Global};
+use std::alloc::AllocError;
 use test_support::{Calls, Came, expect, is_refused_below_a_size};
 
 /// Binds a list that is to have this number. If memory is refused, there may be no binding of that number.
@@ -78,8 +78,8 @@ fn refused_memory_changes_nothing(rt: HostRuntime) -> Result<(), AllocError> {
 }
 
 /// How many bytes of a heap some lists take, or `None` if one isn't bound.
-fn bytes_of(alloc: Global, heap: &LocalHeap) -> Option<usize> {
-    let _keymap = keymap_of(alloc, heap, &["g", "gg", "ab", "abcdefgh"])?;
+fn bytes_of(heap: &LocalHeap) -> Option<usize> {
+    let _keymap = keymap_of(heap, &["g", "gg", "ab", "abcdefgh"])?;
     Some(heap.used())
 }
 
@@ -87,9 +87,6 @@ fn bytes_of(alloc: Global, heap: &LocalHeap) -> Option<usize> {
 #[test]
 fn lists_take_little_memory(rt: HostRuntime) -> Result<(), AllocError> {
     let heap = LocalHeap::new(rt.alloc(), 16_777_216)?;
-    match bytes_of(rt.alloc(), &heap) {
-        Some(bytes) => expect!(rt; 0 < bytes && bytes < 32_768),
-        None => expect!(rt; false),
-    }
+    expect!(rt; matches!(bytes_of(&heap), Some(1..32_768)));
     Ok(())
 }

@@ -2,7 +2,8 @@
 
 use crossterm_types::event::{KeyCode, KeyEvent};
 use keymap::{Keymap, KeymapFault, Matcher, Outcome};
-use std::alloc::{AllocError, Allocator, Global};
+use std::alloc::{Allocator, Global};
+use std::str::Chars;
 use test_support::expect;
 
 /// How an outcome is shown. Any event but a key is `!`.
@@ -16,42 +17,42 @@ pub fn sign_of<A: Allocator>(outcome: Outcome<A>) -> char {
     }
 }
 
-/// Takes the outcomes that wait, 32 at most, and shows them.
-pub fn take_all<A: Allocator>(
-    matcher: &mut Matcher<A>,
-    signs: &mut String,
-) -> Result<(), AllocError> {
+/// Takes the outcomes that wait, 32 at most. Returns whether they are the next of these, and no more wait.
+pub fn are_next<A: Allocator>(matcher: &mut Matcher<A>, wants: &mut Chars<'_>) -> bool {
     for _ in 0..32u32 {
-        match matcher.next() {
-            Some(outcome) => signs.push(sign_of(outcome))?,
-            None => break,
+        let Some(outcome) = matcher.next() else {
+            return true;
+        };
+        if wants.next() != Some(sign_of(outcome)) {
+            return false;
         }
     }
-    Ok(())
+    false
 }
 
-/// A list of letters as chords.
-fn chords_of(alloc: Global, letters: &str) -> Option<Vec<KeyEvent>> {
-    let mut chords = Vec::new(alloc);
-    for letter in letters.chars() {
-        chords.push(KeyEvent::from(KeyCode::Char(letter))).ok()?;
+/// Binds a list of nine letters at most.
+fn bind<A: Allocator + Clone>(keymap: &mut Keymap<A>, list: &str) -> Result<usize, KeymapFault> {
+    let mut chords = [KeyEvent::from(KeyCode::Null); 9];
+    for (chord, letter) in chords.iter_mut().zip(list.chars()) {
+        *chord = KeyEvent::from(KeyCode::Char(letter));
     }
-    Some(chords)
+    keymap.bind(&chords[..list.len().min(9)], list)
 }
 
 /// A keymap of some lists, whose memory is of an allocator.
-pub fn keymap_of<A: Allocator + Clone>(alloc: Global, own: A, lists: &[&str]) -> Option<Keymap<A>> {
-    let mut keymap = Keymap::new(own);
-    for list in lists.iter() {
-        let chords = chords_of(alloc, list)?;
-        keymap.bind(&chords, list).ok()?;
+pub fn keymap_of<A: Allocator + Clone>(alloc: A, lists: &[&str]) -> Option<Keymap<A>> {
+    let mut keymap = Keymap::new(alloc);
+    for list in lists {
+        if bind(&mut keymap, list).is_err() {
+            return None;
+        }
     }
     Some(keymap)
 }
 
 /// A matcher of some lists.
 pub fn matcher_of(alloc: Global, lists: &[&str]) -> Option<Matcher> {
-    Some(Matcher::new(alloc, keymap_of(alloc, alloc, lists)?))
+    Some(Matcher::new(alloc, keymap_of(alloc, lists)?))
 }
 
 /// Feeds a letter, or flushes at `|`.
@@ -75,25 +76,41 @@ static ROWS: [(&[&str], &str, &str, &str); 8] = [
     (&["abcdefgh"], "xabcdefg", "x", "abcdefg"),
 ];
 
+/// Whether keys are these letters.
+fn are_letters(keys: &[KeyEvent], letters: &str) -> bool {
+    let mut wants = letters.chars();
+    for key in keys {
+        match wants.next() {
+            Some(letter) if *key == KeyEvent::from(KeyCode::Char(letter)) => {}
+            _ => return false,
+        }
+    }
+    wants.next().is_none()
+}
+
 /// Whether letters come out so, and these are undecided then.
-fn comes_out(alloc: Global, (lists, typed, want, left): &(&[&str], &str, &str, &str)) -> bool {
-    let (Some(mut matcher), Some(chords)) = (matcher_of(alloc, lists), chords_of(alloc, left))
-    else {
-        return false;
-    };
-    let mut signs = String::new(alloc);
+fn come_out(matcher: &mut Matcher, typed: &str, want: &str, left: &str) -> bool {
+    let mut wants = want.chars();
     for letter in typed.chars() {
-        if call(&mut matcher, letter).is_err() || take_all(&mut matcher, &mut signs).is_err() {
+        if call(matcher, letter).is_err() || !are_next(matcher, &mut wants) {
             return false;
         }
     }
-    signs.as_str() == *want && matcher.undecided() == chords.as_slice()
+    wants.next().is_none() && are_letters(matcher.undecided(), left)
+}
+
+/// Whether a row is right.
+fn is_right(alloc: Global, (lists, typed, want, left): &(&[&str], &str, &str, &str)) -> bool {
+    match matcher_of(alloc, lists) {
+        Some(mut matcher) => come_out(&mut matcher, typed, want, left),
+        None => false,
+    }
 }
 
 #[test]
 fn fed_keys_come_out_or_are_undecided(rt: HostRuntime) {
-    for row in ROWS.iter() {
-        expect!(rt; comes_out(rt.alloc(), row), row.1);
+    for row in &ROWS {
+        expect!(rt; is_right(rt.alloc(), row), row.1);
     }
 }
 
@@ -101,18 +118,24 @@ fn fed_keys_come_out_or_are_undecided(rt: HostRuntime) {
 fn refusal_of(alloc: Global, lists: &[&str]) -> Option<KeymapFault> {
     let mut keymap = Keymap::new(alloc);
     let mut last = None;
-    for list in lists.iter() {
-        let chords = chords_of(alloc, list)?;
-        last = keymap.bind(&chords, list).err();
+    for list in lists {
+        last = bind(&mut keymap, list).err();
     }
     last
 }
 
+/// Lists, and why the last one is refused.
+static REFUSED: [(&[&str], Option<KeymapFault>); 5] = [
+    (&["g"], None),
+    (&[""], Some(KeymapFault::Empty)),
+    (&["abcdefghi"], Some(KeymapFault::TooLong)),
+    (&["abcdefgh"], None),
+    (&["gg", "g", "gg"], Some(KeymapFault::Taken)),
+];
+
 #[test]
 fn lists_are_refused(rt: HostRuntime) {
-    expect!(rt; refusal_of(rt.alloc(), &["g"]).is_none());
-    expect!(rt; refusal_of(rt.alloc(), &[""]) == Some(KeymapFault::Empty));
-    expect!(rt; refusal_of(rt.alloc(), &["abcdefghi"]) == Some(KeymapFault::TooLong));
-    expect!(rt; refusal_of(rt.alloc(), &["abcdefgh"]).is_none());
-    expect!(rt; refusal_of(rt.alloc(), &["gg", "g", "gg"]) == Some(KeymapFault::Taken));
+    for (lists, want) in &REFUSED {
+        expect!(rt; refusal_of(rt.alloc(), lists) == *want);
+    }
 }

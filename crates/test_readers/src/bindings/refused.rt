@@ -2,16 +2,18 @@
 
 ghost use Rattle.crossterm_read.specs.Shared.{IsPassOf};
 
-use crate::bindings::lists::{call, keymap_of, sign_of, take_all};
+use crate::bindings::lists::{are_next, call, keymap_of, sign_of};
+use crate::parts::{Given, acts_of};
 use crossterm_read::read::{EventReader, InternalEventReader, Pass};
 use crossterm_read::source::{DeviceSource, Script};
-use keymap::{KeymapFault, Matcher, Outcome};
+use keymap::{Keymap, KeymapFault, Matcher, Outcome};
 use linked_list_allocator::LocalHeap;
 use std::alloc::{AllocError, Global};
 use std::io::{self, ErrorKind};
+use std::str::Chars;
 use std::sync::Wait;
 use std::time::Duration;
-use test_support::{Still, expect, text};
+use test_support::{Still, expect};
 
 type Poor<'a> = Matcher<&'a LocalHeap>;
 
@@ -21,47 +23,57 @@ type Block<'a> = Vec<u8, &'a LocalHeap>;
 const SIZE: usize = 16_384;
 
 /// All that is left of a heap, in its smallest blocks, so that each later allocation is refused.
-fn all_blocks(alloc: Global, heap: &LocalHeap) -> Result<Vec<Block<'_>>, AllocError> {
+fn all_blocks(alloc: Global, heap: &LocalHeap) -> Vec<Block<'_>> {
     let mut blocks = Vec::new(alloc);
     for _ in 0..SIZE {
         let mut block = Vec::new(heap);
-        if block.reserve_exact(1).is_err() {
+        if block.reserve_exact(1).is_err() || blocks.push(block).is_err() {
             break;
         }
-        blocks.push(block)?;
     }
-    Ok(blocks)
+    blocks
 }
 
-/// Calls while a heap has nothing left, and once more with room if that is refused. Returns whether it was.
-fn calls_without_room(
+/// Calls while a heap has nothing left, and once more with room if that is refused. Returns whether it was, if that went well.
+fn call_without_room(
     alloc: Global,
     heap: &LocalHeap,
     matcher: &mut Poor<'_>,
     letter: char,
 ) -> Option<bool> {
-    let blocks = all_blocks(alloc, heap).ok()?;
+    let blocks = all_blocks(alloc, heap);
     let first = call(matcher, letter);
     drop(blocks);
-    if first == Err(KeymapFault::Memory) {
-        call(matcher, letter).ok()?;
+    match first {
+        Ok(()) => Some(false),
+        Err(KeymapFault::Memory) => call(matcher, letter).is_ok().then_some(true),
+        Err(_) => None,
     }
-    Some(first.is_err())
 }
 
-/// Feeds letters and flushes without taking an outcome. Returns what is refused on the way, and then all outcomes.
-fn fed(alloc: Global, lists: &[&str], typed: &str) -> Option<(String, String)> {
-    let heap = LocalHeap::new(alloc, SIZE).ok()?;
-    let mut matcher = Matcher::new(&heap, keymap_of(alloc, &heap, lists)?);
-    let mut refused = String::new(alloc);
+/// Feeds letters and flushes without taking an outcome. Returns whether these calls are refused on the way, and no others.
+fn are_refused(
+    alloc: Global,
+    heap: &LocalHeap,
+    matcher: &mut Poor<'_>,
+    typed: &str,
+    refused: &str,
+) -> bool {
+    let mut wants = refused.chars();
     for letter in typed.chars() {
-        if calls_without_room(alloc, &heap, &mut matcher, letter)? {
-            refused.push(letter).ok()?;
+        match call_without_room(alloc, heap, matcher, letter) {
+            Some(false) => {}
+            Some(true) if wants.next() == Some(letter) => {}
+            _ => return false,
         }
     }
-    let mut signs = String::new(alloc);
-    take_all(&mut matcher, &mut signs).ok()?;
-    Some((refused, signs))
+    wants.next().is_none()
+}
+
+/// Whether these outcomes wait, and no others.
+fn wait(matcher: &mut Poor<'_>, signs: &str) -> bool {
+    let mut wants = signs.chars();
+    are_next(matcher, &mut wants) && wants.next().is_none()
 }
 
 /// Lists, what is typed, which calls are refused, and what comes of all. The room for outcomes grows to 16, to 25, and to 36.
@@ -78,18 +90,23 @@ static ROWS: [(&[&str], &str, &str, &str); 4] = [
 ];
 
 /// Whether that is refused, and that comes.
-fn goes_on(alloc: Global, row: &(&[&str], &str, &str, &str)) -> bool {
-    match fed(alloc, row.0, row.1) {
-        Some((refused, signs)) => refused.as_str() == row.2 && signs.as_str() == row.3,
+fn goes_on(alloc: Global, heap: &LocalHeap, row: &(&[&str], &str, &str, &str)) -> bool {
+    match keymap_of(heap, row.0) {
+        Some(keymap) => {
+            let mut matcher = Matcher::new(heap, keymap);
+            are_refused(alloc, heap, &mut matcher, row.1, row.2) && wait(&mut matcher, row.3)
+        }
         None => false,
     }
 }
 
 #[test]
-fn a_call_that_is_refused_loses_nothing(rt: HostRuntime) {
-    for row in ROWS.iter() {
-        expect!(rt; goes_on(rt.alloc(), row), row.1);
+fn a_call_that_is_refused_loses_nothing(rt: HostRuntime) -> Result<(), AllocError> {
+    for row in &ROWS {
+        let heap = LocalHeap::new(rt.alloc(), SIZE)?;
+        expect!(rt; goes_on(rt.alloc(), &heap, row), row.1);
     }
+    Ok(())
 }
 
 type Source<'a> = DeviceSource<Script, &'a LocalHeap>;
@@ -97,8 +114,6 @@ type Source<'a> = DeviceSource<Script, &'a LocalHeap>;
 type Shared<'a> = EventReader<Source<'a>, &'a LocalHeap>;
 
 type PassOf<'a> = Pass<Source<'a>, &'a LocalHeap>;
-
-type Came<'a> = io::Result<Option<Outcome<&'a LocalHeap>>>;
 
 /// A matcher that steps over a script. The memory of both is a heap's.
 #[derive(Drop)]
@@ -110,102 +125,127 @@ struct Stepper<'a> {
 }
 
 impl<'a> Stepper<'a> {
-    /// A matcher with `gg` as 0 and `g` as 1, over a script of these pieces.
+    /// A matcher with these bindings, over a script.
     fn new<R: Wait>(
         rt: &R,
-        alloc: Global,
         heap: &'a LocalHeap,
-        pieces: &[&str],
-    ) -> io::Result<Stepper<'a>> {
-        let mut acts = Vec::new(alloc);
-        for piece in pieces.iter() {
-            acts.push(text(alloc, piece.as_bytes())?)?;
-        }
-        let Some(keymap) = keymap_of(alloc, heap, &["gg", "g"]) else {
-            return Err(io::Error::from(ErrorKind::OutOfMemory));
-        };
+        script: Script,
+        keymap: Keymap<&'a LocalHeap>,
+    ) -> Option<Stepper<'a>> {
         let matcher = Matcher::new(heap, keymap);
-        let reader = InternalEventReader::new(heap, DeviceSource::new(heap, Script::new(acts)));
-        let (shared, mut passes) = EventReader::new(rt, heap, reader, 1)?;
-        match passes.pop() {
-            Some(pass) => Ok(Stepper {
-                shared,
-                pass,
-                matcher,
-            }),
-            None => Err(io::Error::from(ErrorKind::NotFound)),
+        let reader = InternalEventReader::new(heap, DeviceSource::new(heap, script));
+        match EventReader::new(rt, heap, reader, 1) {
+            Ok((shared, mut passes)) => match passes.pop() {
+                Some(pass) => Some(Stepper {
+                    shared,
+                    pass,
+                    matcher,
+                }),
+                None => None,
+            },
+            Err(_) => None,
         }
     }
 
-    /// Steps once, without a wait.
-    fn step<R: Wait>(&mut self, rt: &R) -> Came<'a> {
+    /// Steps once, without a wait, and shows what comes.
+    fn step<R: Wait>(&mut self, rt: &R) -> char {
         let limit = Some(Duration::ZERO);
-        self.matcher
-            .step(rt, &self.shared, &mut self.pass, limit, &mut Still)
+        shown(
+            self.matcher
+                .step(rt, &self.shared, &mut self.pass, limit, &mut Still),
+        )
     }
 }
 
-/// Whether a step was refused for want of memory.
-fn is_refused(came: &Came<'_>) -> bool {
+/// How a step is shown: `_` if nothing came, `-` if memory was refused, `.` at the end of input, `?` for another error, else its outcome.
+fn shown(came: io::Result<Option<Outcome<&LocalHeap>>>) -> char {
     match came {
-        Ok(_) => false,
-        Err(error) => error.kind() == ErrorKind::OutOfMemory,
+        Ok(Some(outcome)) => sign_of(outcome),
+        Ok(None) => '_',
+        Err(error) => match error.kind() {
+            ErrorKind::OutOfMemory => '-',
+            ErrorKind::UnexpectedEof => '.',
+            _ => '?',
+        },
     }
 }
 
-/// Steps while a heap has nothing left, and once more with room if that is refused: then a `-` is shown.
-fn step_without_room<'a, R: Wait>(
+/// Steps while a heap has nothing left, and once more with room if that is refused. Returns what came at last, and whether it was refused.
+fn step_without_room<R: Wait>(
     rt: &R,
     alloc: Global,
-    heap: &'a LocalHeap,
-    stepper: &mut Stepper<'a>,
-    signs: &mut String,
-) -> Came<'a> {
-    let blocks = all_blocks(alloc, heap)?;
-    let came = stepper.step(rt);
+    heap: &LocalHeap,
+    stepper: &mut Stepper<'_>,
+) -> (char, bool) {
+    let blocks = all_blocks(alloc, heap);
+    let first = stepper.step(rt);
     drop(blocks);
-    if !is_refused(&came) {
-        return came;
+    if first == '-' {
+        return (stepper.step(rt), true);
     }
-    signs.push('-')?;
-    stepper.step(rt)
+    (first, false)
 }
 
-/// Steps so to the end of input, and shows what comes.
-fn step_all<'a, R: Wait>(
+/// Whether steps to the end of input come to these. A step that is refused shows as a `-` before what it comes to with room.
+fn steps_come<R: Wait>(
     rt: &R,
     alloc: Global,
-    heap: &'a LocalHeap,
-    stepper: &mut Stepper<'a>,
-    signs: &mut String,
-) -> io::Result<()> {
+    heap: &LocalHeap,
+    stepper: &mut Stepper<'_>,
+    wants: &mut Chars<'_>,
+) -> bool {
     for _ in 0..32u32 {
-        match step_without_room(rt, alloc, heap, stepper, signs) {
-            Ok(Some(outcome)) => signs.push(sign_of(outcome))?,
-            Ok(None) => {}
-            Err(error) if error.kind() == ErrorKind::UnexpectedEof => break,
-            Err(error) => return Err(error),
+        let (sign, is_refused) = step_without_room(rt, alloc, heap, stepper);
+        if is_refused && wants.next() != Some('-') {
+            return false;
+        }
+        match sign {
+            '.' => return true,
+            '_' => {}
+            _ => {
+                if wants.next() != Some(sign) {
+                    return false;
+                }
+            }
         }
     }
-    Ok(())
+    false
 }
 
-/// What comes of a script, if each step is refused memory that it asks for.
-fn stepped<R: Wait>(rt: &R, alloc: Global) -> io::Result<String> {
-    let heap = LocalHeap::new(alloc, SIZE)?;
-    let mut stepper = Stepper::new(rt, alloc, &heap, &["g", "g", "x", "g\x1b[I", "g"])?;
-    let mut signs = String::new(alloc);
-    step_all(rt, alloc, &heap, &mut stepper, &mut signs)?;
-    if call(&mut stepper.matcher, '|').is_ok() {
-        take_all(&mut stepper.matcher, &mut signs)?;
-    }
-    Ok(signs)
+/// Whether that comes of a script whose steps are refused the memory that they ask for, and then of a flush.
+fn all_come<R: Wait>(
+    rt: &R,
+    alloc: Global,
+    heap: &LocalHeap,
+    script: Script,
+    signs: &str,
+) -> Option<bool> {
+    let keymap = keymap_of(heap, &["gg", "g"])?;
+    let mut stepper = Stepper::new(rt, heap, script, keymap)?;
+    let mut wants = signs.chars();
+    Some(
+        steps_come(rt, alloc, heap, &mut stepper, &mut wants)
+            && call(&mut stepper.matcher, '|').is_ok()
+            && are_next(&mut stepper.matcher, &mut wants)
+            && wants.next().is_none(),
+    )
 }
+
+const PIECES: [Given; 5] = [
+    Given::Text(b"g"),
+    Given::Text(b"g"),
+    Given::Text(b"x"),
+    Given::Text(b"g\x1b[I"),
+    Given::Text(b"g"),
+];
 
 /// The first step is refused, since there is no room for an event yet, and the first one over bytes that are two events.
 #[test]
 fn a_step_that_is_refused_loses_nothing(rt: HostRuntime) -> io::Result<()> {
-    let signs = stepped(&rt, rt.alloc())?;
-    expect!(rt; signs.as_str() == "-0x-1!1", signs.as_str());
+    let alloc = rt.alloc();
+    let acts = acts_of(alloc, &PIECES)?;
+    let heap = LocalHeap::new(alloc, SIZE)?;
+    let came = all_come(&rt, alloc, &heap, Script::new(acts), "-0x-1!1");
+    expect!(rt; came == Some(true));
     Ok(())
 }

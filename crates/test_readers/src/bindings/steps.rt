@@ -1,37 +1,20 @@
 //! Steps over a reader that threads share.
 
+use crate::bindings::lists::matcher_of;
+use crate::parts::one_by_one;
 use crossterm_read::source::{DeviceSource, Script};
-use crossterm_types::event::{KeyCode, KeyEvent};
-use keymap::{Keymap, Matcher, Outcome};
-use std::alloc::{AllocError, Global};
+use keymap::{Matcher, Outcome};
+use std::alloc::Global;
 use std::sync::Wait;
 use std::thread::Threads;
 use std::time::Duration;
 use std::{io, thread};
-use test_support::{Reader, Seat, Still, expect, script_of, text, two};
+use test_support::{Seat, Still, expect, two};
 
 /// How many letters the script has.
-const LETTERS: usize = 1000;
+const LETTERS: u32 = 1000;
 
 type Source = DeviceSource<Script>;
-
-/// A script of pieces of one letter each.
-fn letters(alloc: Global) -> Result<Reader<Script>, AllocError> {
-    let mut acts = Vec::new(alloc);
-    for _ in 0..LETTERS {
-        acts.push(text(alloc, b"g")?)?;
-    }
-    Ok(script_of(alloc, acts))
-}
-
-/// A matcher that binds the letter.
-fn matcher(alloc: Global) -> Option<Matcher> {
-    let mut keymap = Keymap::new(alloc);
-    keymap
-        .bind(&[KeyEvent::from(KeyCode::Char('g'))], "go")
-        .ok()?;
-    Some(Matcher::new(alloc, keymap))
-}
 
 /// Steps once, and returns whether that gave the action; `None` is a fault.
 fn step_once<R: Wait>(rt: &R, seat: &mut Seat<Source>, matcher: &mut Matcher) -> Option<bool> {
@@ -44,8 +27,8 @@ fn step_once<R: Wait>(rt: &R, seat: &mut Seat<Source>, matcher: &mut Matcher) ->
 }
 
 /// Steps to the end of input, and counts the actions.
-fn step_all<R: Wait>(rt: &R, mut seat: Seat<Source>, mut matcher: Matcher) -> usize {
-    let mut count: usize = 0;
+fn step_all<R: Wait>(rt: &R, mut seat: Seat<Source>, mut matcher: Matcher) -> u32 {
+    let mut count: u32 = 0;
     for _ in rt.forever() {
         match step_once(rt, &mut seat, &mut matcher) {
             Some(true) => count = count.saturating_add(1),
@@ -57,8 +40,8 @@ fn step_all<R: Wait>(rt: &R, mut seat: Seat<Source>, mut matcher: Matcher) -> us
 }
 
 /// Reads to the end of input, and counts the letters.
-fn read_all<R: Wait>(rt: &R, mut seat: Seat<Source>) -> usize {
-    let mut count: usize = 0;
+fn read_all<R: Wait>(rt: &R, mut seat: Seat<Source>) -> u32 {
+    let mut count: u32 = 0;
     for _ in rt.forever() {
         match seat.letter(rt) {
             Some(_) => count = count.saturating_add(1),
@@ -70,10 +53,10 @@ fn read_all<R: Wait>(rt: &R, mut seat: Seat<Source>) -> usize {
 
 /// Whether two threads, of which one steps and the other reads, take each letter once.
 fn is_each_once<R: Wait + Threads + Sync>(rt: &R, alloc: Global) -> io::Result<bool> {
-    let Some(matcher) = matcher(alloc) else {
+    let Some(matcher) = matcher_of(alloc, &["g"]) else {
         return Ok(false);
     };
-    let (one, other) = two(rt, alloc, letters(alloc)?)?;
+    let (one, other) = two(rt, alloc, one_by_one(alloc, b"g", LETTERS)?)?;
     let (stepped, read) = thread::join(
         rt,
         move || step_all(rt, one, matcher),

@@ -1,13 +1,14 @@
 //! The last share gives the reader back.
 
-use crossterm_read::source::Script;
+use crossterm_read::source::{DeviceSource, Script};
 use crossterm_types::event::InternalEvent;
 use crossterm_types::event::filter::{AnyFilter, EventFilter};
-use std::alloc::Global;
 use std::io;
 use std::sync::Wait;
 use std::time::Duration;
-use test_support::{Reader, alone, expect, letter_of, telling, two};
+use test_support::{Reader, Seat, alone, expect, letter_of, telling, two};
+
+type Source = DeviceSource<Script>;
 
 /// The letter of an event, and `?` for a reply.
 fn own_letter(event: &InternalEvent) -> char {
@@ -44,32 +45,36 @@ fn goes_on<R: Wait>(rt: &R, closed: Option<Reader<Script>>) -> bool {
     }
 }
 
+/// Whether a poll with limit zero returns this.
+fn polls<R: Wait>(rt: &R, seat: &mut Seat<Source>, filter: AnyFilter, want: bool) -> bool {
+    matches!(seat.poll(rt, Some(Duration::ZERO), filter), Ok(ready) if ready == want)
+}
+
 /// Whether a reader is closed by the last of two shares alone, with what polls held.
-fn is_closed_last<R: Wait>(rt: &R, alloc: Global) -> io::Result<bool> {
-    let (mut one, other) = two(rt, alloc, telling(alloc, b"abc")?)?;
-    let zero = Some(Duration::ZERO);
+fn is_closed_last<R: Wait>(rt: &R, mut one: Seat<Source>, other: Seat<Source>) -> bool {
     // The first poll holds `a`. The second asks once, since no event of its kind is held, and so holds `b`.
-    let first = one.poll(rt, zero, AnyFilter::Event)?;
-    let second = one.poll(rt, zero, AnyFilter::Cursor)?;
+    let first = polls(rt, &mut one, AnyFilter::Event, true);
+    let second = polls(rt, &mut one, AnyFilter::Cursor, false);
     let shares = one.close(rt).is_none();
-    Ok(first && !second && shares && goes_on(rt, other.close(rt)))
+    first && second && shares && goes_on(rt, other.close(rt))
 }
 
 #[test]
 fn the_last_share_gives_what_was_left(rt: HostRuntime) -> io::Result<()> {
-    expect!(rt; is_closed_last(&rt, rt.alloc())?);
+    let (one, other) = two(&rt, rt.alloc(), telling(rt.alloc(), b"abc")?)?;
+    expect!(rt; is_closed_last(&rt, one, other));
     Ok(())
 }
 
 /// Whether a share that was dropped counts no more.
-fn is_closed_alone<R: Wait>(rt: &R, alloc: Global) -> io::Result<bool> {
-    let mut seat = alone(rt, alloc, telling(alloc, b"abc")?)?;
-    drop(seat.shared.share()?);
-    Ok(seat.letter(rt) == Some('a') && seat.close(rt).is_some())
+fn is_closed_alone<R: Wait>(rt: &R, mut seat: Seat<Source>) -> bool {
+    let is_dropped = seat.shared.share().is_ok();
+    is_dropped && seat.letter(rt) == Some('a') && seat.close(rt).is_some()
 }
 
 #[test]
 fn a_share_that_is_dropped_is_none(rt: HostRuntime) -> io::Result<()> {
-    expect!(rt; is_closed_alone(&rt, rt.alloc())?);
+    let seat = alone(&rt, rt.alloc(), telling(rt.alloc(), b"abc")?)?;
+    expect!(rt; is_closed_alone(&rt, seat));
     Ok(())
 }

@@ -1,17 +1,20 @@
 //! Each event comes to one pass, in the order of arrival.
+ghost use Rattle.std.specs.Prelude.{All};
 ghost use Rattle.crossterm_read.specs.Shared.{IsPassOf};
 
-use crate::parts::are_all;
+use crate::parts::{are_all, one_by_one};
 use crossterm_read::read::{EventReader, Pass};
 use crossterm_read::source::{DeviceSource, Script};
 use std::alloc::{AllocError, Global};
 use std::sync::Wait;
 use std::thread::Threads;
 use std::{io, thread};
-use test_support::{Reader, Seat, expect, letter_in, script_of, text};
+use test_support::{Reader, Seat, expect, letter_in};
 
-/// How many letters the script has.
-const LETTERS: u64 = 1000;
+/// How often the script has the alphabet, and how many letters that are.
+const TIMES: u32 = 40;
+
+const LETTERS: u64 = 1040;
 
 /// The letter at a place of the script.
 fn letter_at(place: u64) -> u8 {
@@ -23,17 +26,10 @@ fn letter_at(place: u64) -> u8 {
 
 /// A script of pieces of one letter each.
 fn letters(alloc: Global) -> Result<Reader<Script>, AllocError> {
-    let mut acts = Vec::new(alloc);
-    for place in 0..LETTERS {
-        acts.push(text(alloc, &[letter_at(place)])?)?;
-    }
-    Ok(script_of(alloc, acts))
+    one_by_one(alloc, b"abcdefghijklmnopqrstuvwxyz", TIMES)
 }
 
 type Source = DeviceSource<Script>;
-
-/// What one thread read: the arrival numbers of its letters.
-type Drained = Result<Vec<u64>, AllocError>;
 
 /// The arrival number of the letter that was read last, and `u64::MAX` if the script has another letter there.
 fn number_of(letter: char, last: Option<u64>) -> u64 {
@@ -43,33 +39,37 @@ fn number_of(letter: char, last: Option<u64>) -> u64 {
     }
 }
 
-/// Reads to the end of input.
-fn drain<R: Wait>(rt: &R, alloc: Global, mut seat: Seat<Source>) -> Drained {
+/// Reads to the end of input, and returns the arrival numbers of the letters: none without a seat, and fewer if memory is refused.
+fn drain<R: Wait>(rt: &R, alloc: Global, seat: io::Result<Seat<Source>>) -> Vec<u64> {
     let mut taken = Vec::new(alloc);
+    let Ok(mut seat) = seat else {
+        return taken;
+    };
     for _ in rt.forever() {
-        match seat.letter(rt) {
-            Some(letter) => taken.push(number_of(letter, seat.pass.last()))?,
-            None => break,
+        let Some(letter) = seat.letter(rt) else {
+            break;
+        };
+        if taken.push(number_of(letter, seat.pass.last())).is_err() {
+            break;
         }
     }
-    Ok(taken)
+    taken
 }
 
-/// Two seats at a reader.
-type Two = (Seat<Source>, Seat<Source>);
+/// Two seats at a reader, if there was memory.
+type Two = (io::Result<Seat<Source>>, io::Result<Seat<Source>>);
 
-/// Four shares of a reader, each with a pass.
-fn four<R: Wait>(rt: &R, alloc: Global, reader: Reader<Script>) -> io::Result<(Two, Two)> {
-    let (shared, mut passes) = EventReader::new(rt, alloc, reader, 4)?;
-    let a = Seat::next(&shared, &mut passes)?;
-    let b = Seat::next(&shared, &mut passes)?;
-    let c = Seat::next(&shared, &mut passes)?;
-    let d = Seat::next(&shared, &mut passes)?;
-    Ok(((a, b), (c, d)))
+/// Two more shares of a reader, each with a pass.
+fn two_of(shared: &EventReader<Source>, passes: &mut Vec<Pass<Source>>) -> Two
+    requires { All (IsPassOf shared.now) passes.old.items }
+    ensures { All (IsPassOf shared.now) passes.new.items }
+{
+    let one = Seat::next(shared, passes);
+    (one, Seat::next(shared, passes))
 }
 
 /// What two threads read.
-fn drained<R: Wait + Threads + Sync>(rt: &R, alloc: Global, two: Two) -> (Drained, Drained) {
+fn drained<R: Wait + Threads + Sync>(rt: &R, alloc: Global, two: Two) -> (Vec<u64>, Vec<u64>) {
     let (one, other) = two;
     thread::join(
         rt,
@@ -80,13 +80,15 @@ fn drained<R: Wait + Threads + Sync>(rt: &R, alloc: Global, two: Two) -> (Draine
 
 /// Whether four threads take each event once.
 fn is_each_once<R: Wait + Threads + Sync>(rt: &R, alloc: Global) -> io::Result<bool> {
-    let (one, other) = four(rt, alloc, letters(alloc)?)?;
+    let (shared, mut passes) = EventReader::new(rt, alloc, letters(alloc)?, 4)?;
+    let one = two_of(&shared, &mut passes);
+    let other = two_of(&shared, &mut passes);
     let ((a, b), (c, d)) = thread::join(
         rt,
         move || drained(rt, alloc, one),
         move || drained(rt, alloc, other),
     );
-    Ok(are_all(alloc, &[a?, b?, c?, d?], LETTERS)?)
+    Ok(are_all(&[a, b, c, d], LETTERS))
 }
 
 #[test]

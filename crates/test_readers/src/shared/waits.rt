@@ -1,10 +1,12 @@
 //! Three threads share a reader: one has it for a second, in a device that sleeps, and two wait for it.
 
-use crossterm_read::read::{EventReader, InternalEventReader};
+use crossterm_read::read::EventReader;
 use crossterm_read::source::{Answer, Device, EventSource, Waker};
 use crossterm_types::event::Event;
 use crossterm_types::event::filter::AnyFilter;
+use crossterm_types::event::timeout::SystemClock;
 use std::alloc::Global;
+use std::rt::Clock;
 use std::sync::Wait;
 use std::sync::atomic::{AtomicBool, Ordering};
 use std::thread::Threads;
@@ -24,10 +26,15 @@ pub struct Sleeper<'a, R> {
 impl<'a, R: Wait> Sleeper<'a, R> {
     /// One that sleeps for a second, and raises the flag before.
     pub fn new(rt: &'a R, asked: &'a AtomicBool) -> Sleeper<'a, R> {
+        Sleeper::lasting(rt, asked, Duration::from_secs(1))
+    }
+
+    /// One that sleeps for so long.
+    fn lasting(rt: &'a R, asked: &'a AtomicBool, time: Duration) -> Sleeper<'a, R> {
         Sleeper {
             rt,
             asked,
-            time: Duration::from_secs(1),
+            time,
             questions: 0,
         }
     }
@@ -57,12 +64,18 @@ impl<R: Wait> Device for Sleeper<'_, R> {
     }
 }
 
+/// A seat at a reader, if there was memory.
+type Place<S> = io::Result<Seat<S>>;
+
 /// What a poll by a clock that never moves comes to: each of its waits takes the whole limit.
 fn polls<S: EventSource<Global>, R: Wait>(
     rt: &R,
-    mut seat: Seat<S>,
+    seat: Place<S>,
     limit: Option<Duration>,
 ) -> &'static str {
+    let Ok(mut seat) = seat else {
+        return "no seat";
+    };
     match seat.poll(rt, limit, AnyFilter::Event) {
         Ok(true) => "true",
         Ok(false) => "false",
@@ -71,7 +84,10 @@ fn polls<S: EventSource<Global>, R: Wait>(
 }
 
 /// Waits without a limit, and reads.
-fn reads<S: EventSource<Global>, R: Wait>(rt: &R, mut seat: Seat<S>) -> &'static str {
+fn reads<S: EventSource<Global>, R: Wait>(rt: &R, seat: Place<S>) -> &'static str {
+    let Ok(mut seat) = seat else {
+        return "no seat";
+    };
     match seat.read(rt) {
         Ok(Event::Key(_)) => "a key",
         Ok(_) => "an event",
@@ -83,24 +99,12 @@ fn reads<S: EventSource<Global>, R: Wait>(rt: &R, mut seat: Seat<S>) -> &'static
 fn both_wait<S: EventSource<Global> + Send, R: Wait + Threads + Sync>(
     rt: &R,
     asked: &AtomicBool,
-    one: Seat<S>,
-    other: Seat<S>,
+    one: Place<S>,
+    other: Place<S>,
 ) -> (&'static str, &'static str) {
     let _ = is_raised_within(rt, asked, TURNS);
     let limit = Some(Duration::from_secs(3));
     thread::join(rt, move || reads(rt, one), move || polls(rt, other, limit))
-}
-
-/// Three shares of a reader, each with a pass.
-fn three<S: EventSource<Global>, R: Wait>(
-    rt: &R,
-    alloc: Global,
-    reader: InternalEventReader<S>,
-) -> io::Result<(Seat<S>, Seat<S>, Seat<S>)> {
-    let (shared, mut passes) = EventReader::new(rt, alloc, reader, 3)?;
-    let first = Seat::next(&shared, &mut passes)?;
-    let second = Seat::next(&shared, &mut passes)?;
-    Ok((first, second, Seat::next(&shared, &mut passes)?))
 }
 
 /// What the thread that has the reader comes to, the one that reads, and the one that polls for 3 s at most.
@@ -109,11 +113,14 @@ fn three_share<R: Wait + Threads + Sync>(
     alloc: Global,
 ) -> io::Result<(&'static str, &'static str, &'static str)> {
     let asked = AtomicBool::new(false);
-    let device = Sleeper::new(rt, &asked);
-    let (first, one, other) = three(rt, alloc, reader_of(alloc, device))?;
+    let reader = reader_of(alloc, Sleeper::new(rt, &asked));
+    let (shared, mut passes) = EventReader::new(rt, alloc, reader, 3)?;
+    let first = Seat::next(&shared, &mut passes);
+    let one = Seat::next(&shared, &mut passes);
+    let other = Seat::next(&shared, &mut passes);
     let (held, (read, polled)) = thread::join(
         rt,
-        || polls(rt, first, None),
+        move || polls(rt, first, None),
         || both_wait(rt, &asked, one, other),
     );
     Ok((held, read, polled))
@@ -125,5 +132,46 @@ fn who_waits_for_the_reader_has_its_turn(rt: HostRuntime) -> io::Result<()> {
     expect!(rt; held == "false");
     expect!(rt; read == "a key");
     expect!(rt; polled == "true");
+    Ok(())
+}
+
+/// What a poll by the system's clock comes to, once the device is asked.
+fn polls_in_time<S: EventSource<Global>, R: Wait + Clock>(
+    rt: &R,
+    asked: &AtomicBool,
+    seat: Place<S>,
+    limit: Duration,
+) -> &'static str {
+    let _ = is_raised_within(rt, asked, TURNS);
+    let Ok(Seat { shared, mut pass }) = seat else {
+        return "no seat";
+    };
+    let mut clock = SystemClock::new(rt);
+    match shared.poll(rt, &mut pass, limit, &mut clock) {
+        Ok(true) => "true",
+        Ok(false) => "false",
+        Err(_) => "a fault",
+    }
+}
+
+/// What a poll of 100 ms comes to while another thread has the reader for three seconds.
+fn times_out<R: Wait + Threads + Sync + Clock>(rt: &R, alloc: Global) -> io::Result<&'static str> {
+    let asked = AtomicBool::new(false);
+    let sleeper = Sleeper::lasting(rt, &asked, Duration::from_secs(3));
+    let (shared, mut passes) = EventReader::new(rt, alloc, reader_of(alloc, sleeper), 2)?;
+    let first = Seat::next(&shared, &mut passes);
+    let one = Seat::next(&shared, &mut passes);
+    let limit = Duration::from_millis(100);
+    let (_, polled) = thread::join(
+        rt,
+        move || polls(rt, first, None),
+        || polls_in_time(rt, &asked, one, limit),
+    );
+    Ok(polled)
+}
+
+#[test]
+fn a_limit_passes_while_another_has_the_reader(rt: HostRuntime) -> io::Result<()> {
+    expect!(rt; times_out(&rt, rt.alloc())? == "false");
     Ok(())
 }

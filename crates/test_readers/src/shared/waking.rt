@@ -82,8 +82,8 @@ fn has_the_second<S: EventSource<Global>, R: Wait>(
 /// Whether a poll is woken from another thread, and each letter comes to one pass, the second one to the other.
 fn is_woken<R: Wait + Threads + Sync>(rt: &R, alloc: Global) -> io::Result<bool> {
     let signs = Signs::new();
-    let reader = reader_of(alloc, Bell::new(rt, alloc, &signs)?);
-    let (one, other) = two(rt, alloc, reader)?;
+    let bell = Bell::new(rt, alloc, &signs)?;
+    let (one, other) = two(rt, alloc, reader_of(alloc, bell))?;
     let (first, woken) = poll_and_wake(rt, &signs, one, &other.shared);
     Ok(has_the_second(rt, other, first) && woken)
 }
@@ -123,8 +123,8 @@ fn polls_meanwhile<S: EventSource<Global>, R: Wait>(
 /// woken it.
 fn waits_alone<R: Wait + Threads + Sync>(rt: &R, alloc: Global) -> io::Result<bool> {
     let signs = Signs::new();
-    let reader = reader_of(alloc, Bell::new(rt, alloc, &signs)?);
-    let (one, other) = two(rt, alloc, reader)?;
+    let bell = Bell::new(rt, alloc, &signs)?;
+    let (one, other) = two(rt, alloc, reader_of(alloc, bell))?;
     let (ended, polled) = thread::join(
         rt,
         move || polls_endlessly(rt, one),

@@ -26,7 +26,7 @@ returns-clause-ok g c still =
     CallsReplay g.W.Write.contents g.D.Device.answering.answered r left.source.device
     (call.Read c.args.tries filters.Event ∷ call.Read c.args.tries filters.Event ∷ [])
     (try_said c.read_within-first.result ∷ try_said c.read_within-second.result ∷ []) (map (λ h. h.0) left.store.held)) device
-    (two_replay g.W.Write.contents g.D.Device.answering c.replays.ensures.plays c.args.tries filters.Event
+    (two_replay g.W.Write.contents g.D.Device.answering c.replays.ensures.plays c.one_result.ensures.shown c.args.tries filters.Event
     begun.source mid.source left.source mid.store left.store
     a.0 b.0 a.1 b.1 (try_said c.read_within-first.result) (try_said c.read_within-second.result)
     (subst IsNew (sym source) (record { waiting = new.waiting; represents = new.represents; untaken = new.untaken }))

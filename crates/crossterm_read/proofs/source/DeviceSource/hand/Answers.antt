@@ -1,7 +1,7 @@
-use Rattle.std.proofs.Common.{◌≡◌, ◌≤◌, ◌<◌, ◌+◌, ◌-◌, ◌++◌, [], List, ℕ, Bool, option_to_list, take, drop, length, arith, refl, inr, ◌∙◌, ap, sym, length-drop}
+use Rattle.std.proofs.Common.{◌≡◌, ◌≤◌, ◌<◌, ◌+◌, ◌-◌, ◌++◌, ◌∷◌, [], List, ℕ, Bool, option_to_list, take, drop, length, arith, refl, inr, ◌∙◌, ap, sym, length-drop}
 use Rattle.std.proofs.lemmas.List.{length-take-le}
 use Rattle.std.specs.Option.{option_map}
-use Rattle.crossterm_types.specs.Seen.{seen}
+use Rattle.crossterm_types.specs.Seen.{Seen, seen}
 use Rattle.crossterm_parse.specs.Marked.{marked}
 use Rattle.crossterm_read.specs.Answers.{Failed}
 use Rattle.crossterm_read.specs.Sources.{without_event}
@@ -21,14 +21,18 @@ end_above from n end buffer f h t ne =
     let e : length (take (end - from) (drop from buffer)) ≡ end - from = length-take-le (end - from) (drop from buffer) (omega (arith, length-drop from buffer)) in
     omega (arith, ne)
 
+not_none : (e : Seen) (es : List Seen) → e ∷ es ≡ [] → ⊥
+not_none e es h = cc
+
 pub returns-in-Some-clause-hands : goal.returns-in-Some-clause-hands
 returns-in-Some-clause-hands g c =
     let new = c.take_first-event.new.self in
     let t = c.take_first-event.ensures.first in
     let empty : c.self.inside.parser.waiting ≡ [] = ap (λ s. s.parser.waiting) c.self.view_is ∙ c.requires in
+    let given : t.mid.waiting ≡ seen c.in-Some.event ∷ new.waiting = t.given ∙ ap (λ e. option_to_list (option_map seen e) ++ new.waiting) c.in-Some.is in
     hands_next _ _ t.mid new _ c.self.inside.device c.take_first-event.result.1 _ _ _ _ c.self.view_is c.requires refl t.within
-    (after_front _ _ _ _ _ _ (omega arith) (omega arith) t.within) t.divided (λ quiet. t.quiet empty quiet) (t.stops (inr empty)) t.represents
-    (λ after. gives_some t.mid.waiting new.waiting _ _ after (t.given ∙ ap (λ e. option_to_list (option_map seen e) ++ new.waiting) c.in-Some.is))
+    (after_front _ _ _ _ _ _ (omega arith) (omega arith) t.within) t.divided (λ quiet. t.quiet empty quiet) (t.stops (inr empty)) (λ none. absurd (not_none _ _ (sym given ∙ none))) t.represents
+    (λ after. gives_some t.mid.waiting new.waiting _ _ after new.room given)
 
 pub returns-then-self-clause-hands : goal.returns-then-self-clause-hands
 returns-then-self-clause-hands g c =
@@ -38,8 +42,8 @@ returns-then-self-clause-hands g c =
     let none : new.waiting ≡ [] = t.none (ap (λ e. option_map seen e) c.in_default.is) in
     let first : t.mid.waiting ≡ [] = t.given ∙ ap (λ e. option_to_list (option_map seen e) ++ new.waiting) c.in_default.is ∙ none in
     hands_next _ _ t.mid new _ c.self.inside.device c.take_first-event.result.1 _ _ _ _ c.self.view_is c.requires refl t.within
-    (after_front _ _ _ _ _ _ (omega arith) (omega arith) t.within) t.divided (λ quiet. t.quiet empty quiet) (t.stops (inr empty)) t.represents
-    (λ after. gives_none t.mid.waiting new.waiting _ _ after first none (sym (ap without_event (none_left _ _ _ _ _ c.if-self.true))))
+    (after_front _ _ _ _ _ _ (omega arith) (omega arith) t.within) t.divided (λ quiet. t.quiet empty quiet) (t.stops (inr empty)) (λ e. t.full (ap (λ e. option_map seen e) c.in_default.is)) t.represents
+    (λ after. gives_none t.mid.waiting new.waiting _ _ after new.room first none (sym (ap without_event (none_left _ _ _ _ _ c.if-self.true))))
 
 pub returns-clause-hands : goal.returns-clause-hands
 returns-clause-hands g c =
@@ -49,6 +53,6 @@ returns-clause-hands g c =
     let none : new.waiting ≡ [] = t.none (ap (λ e. option_map seen e) c.in_default.is) in
     let first : t.mid.waiting ≡ [] = t.given ∙ ap (λ e. option_to_list (option_map seen e) ++ new.waiting) c.in_default.is ∙ none in
     hands_next _ _ t.mid new _ c.self.inside.device c.take_first-event.result.1 _ _ _ _ c.self.view_is c.requires refl t.within
-    (after_front _ _ _ _ _ _ (omega arith) (omega arith) t.within) t.divided (λ quiet. t.quiet empty quiet) (t.stops (inr empty)) t.represents
-    (λ after. gives_none t.mid.waiting new.waiting _ _ after first none
+    (after_front _ _ _ _ _ _ (omega arith) (omega arith) t.within) t.divided (λ quiet. t.quiet empty quiet) (t.stops (inr empty)) (λ e. t.full (ap (λ e. option_map seen e) c.in_default.is)) t.represents
+    (λ after. gives_none t.mid.waiting new.waiting _ _ after new.room first none
     (ap Failed c.from.ensures ∙ sym (without_some _ (some_left (c.self.inside.from + c.take_first-event.result.1) c.self.inside.end c.self.inside.buffer _ _ (end_above _ _ _ _ (omega arith) (omega arith) t.within c.if-self.false) (omega arith)))))

@@ -16,30 +16,30 @@ pub returns-in-Ok-Resize-clause-drawn : goal.returns-in-Ok-Resize-clause-drawn
 returns-in-Ok-Resize-clause-drawn g c =
     let t = rw (c.in-Ok-Resize.field-0-is) at c.in-Ok-Resize.ensures in
     other_turn g.D.Device.answering.answered _ c.args.self.now c.next.new.self _ c.answer.new.self _ _ c.self.view_is c.in_default.ensures.none.0 c.in_default.ensures.none.1
-    (none_left c.self.inside.from c.self.inside.end _ _ _ (omega arith)) (none_left c.self.inside.from c.self.inside.end _ _ _ (omega arith)) c.next.ensures.represents t.answered refl
+    (none_left c.self.inside.from c.self.inside.end _ _ _ (omega arith)) (none_left c.self.inside.from c.self.inside.end _ _ _ (omega arith)) c.next.ensures.represents c.next.ensures.capacity t.answered refl
 
 pub returns-in-Ok-Woken-clause-drawn : goal.returns-in-Ok-Woken-clause-drawn
 returns-in-Ok-Woken-clause-drawn g c =
     let t = rw (c.in-Ok-Woken.field-0-is) at c.in-Ok-Woken.ensures in
     other_turn g.D.Device.answering.answered _ c.args.self.now c.next.new.self _ c.answer.new.self _ _ c.self.view_is c.in_default.ensures.none.0 c.in_default.ensures.none.1
-    (none_left c.self.inside.from c.self.inside.end _ _ _ (omega arith)) (none_left c.self.inside.from c.self.inside.end _ _ _ (omega arith)) c.next.ensures.represents t.answered (ap Failed c.from-in-Ok-Woken.ensures)
+    (none_left c.self.inside.from c.self.inside.end _ _ _ (omega arith)) (none_left c.self.inside.from c.self.inside.end _ _ _ (omega arith)) c.next.ensures.represents c.next.ensures.capacity t.answered (ap Failed c.from-in-Ok-Woken.ensures)
 
 pub returns-in-Ok-Idle-clause-drawn : goal.returns-in-Ok-Idle-clause-drawn
 returns-in-Ok-Idle-clause-drawn g c =
     let t = rw (c.in-Ok-Idle.field-0-is) at c.in-Ok-Idle.ensures in
     other_turn g.D.Device.answering.answered _ c.args.self.now c.next.new.self _ c.answer.new.self _ _ c.self.view_is c.in_default.ensures.none.0 c.in_default.ensures.none.1
-    (none_left c.self.inside.from c.self.inside.end _ _ _ (omega arith)) (none_left c.self.inside.from c.self.inside.end _ _ _ (omega arith)) c.next.ensures.represents t.answered refl
+    (none_left c.self.inside.from c.self.inside.end _ _ _ (omega arith)) (none_left c.self.inside.from c.self.inside.end _ _ _ (omega arith)) c.next.ensures.represents c.next.ensures.capacity t.answered refl
 
 pub returns-in-Err-clause-drawn : goal.returns-in-Err-clause-drawn
 returns-in-Err-clause-drawn g c =
     other_turn g.D.Device.answering.answered _ c.args.self.now c.next.new.self _ c.answer.new.self _ _ c.self.view_is c.in_default.ensures.none.0 c.in_default.ensures.none.1
-    (none_left c.self.inside.from c.self.inside.end _ _ _ (omega arith)) (none_left c.self.inside.from c.self.inside.end _ _ _ (omega arith)) c.next.ensures.represents c.in-Err.ensures.answered refl
+    (none_left c.self.inside.from c.self.inside.end _ _ _ (omega arith)) (none_left c.self.inside.from c.self.inside.end _ _ _ (omega arith)) c.next.ensures.represents c.next.ensures.capacity c.in-Err.ensures.answered refl
 
 pub returns-then-count-eq0-clause-drawn : goal.returns-then-count-eq0-clause-drawn
 returns-then-count-eq0-clause-drawn g c =
     let t = rw (c.in-Ok-Bytes.field-0-is) at c.in-Ok-Bytes.ensures in
     other_turn g.D.Device.answering.answered _ c.args.self.now c.next.new.self _ c.answer.new.self _ _ c.self.view_is c.in_default.ensures.none.0 c.in_default.ensures.none.1
-    (none_left c.self.inside.from c.self.inside.end _ _ _ (omega arith)) (none_left c.self.inside.from c.self.inside.end _ _ _ (omega arith)) c.next.ensures.represents
+    (none_left c.self.inside.from c.self.inside.end _ _ _ (omega arith)) (none_left c.self.inside.from c.self.inside.end _ _ _ (omega arith)) c.next.ensures.represents c.next.ensures.capacity
     (subst (λ (n : ℕ). g.D.Device.answering.answered c.self.inside.device (Bytes (take n c.answer.new.buf) c.in-Ok-Bytes.raw ∷ []) c.answer.new.self) c.if-count-eq0.true t.answered) (ap Failed c.from.ensures)
 
 pub returns-else-count-eq0-clause-drawn : goal.returns-else-count-eq0-clause-drawn
