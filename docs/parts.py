@@ -142,14 +142,29 @@ def figures(path):
     return table(heads, rows)
 
 
+def written_form(paragraph, olds, source):
+    """The cell of what to write in place of a wrong body: its old texts, or what a line `# write: CELL` of it says. Each code of that cell is
+    one of the source, spaces apart, or a word of crates.txt, or the name of a file."""
+    said = re.search(r"^# write: (.*)$", paragraph, re.M)
+    if not said:
+        return code(" ".join(olds))
+    known = re.sub(r"\s", "", source)
+    for each in re.findall(r"`([^`]+)`", said[1]):
+        if re.sub(r"\s", "", each) not in known and each not in read("crates.txt").split() and not os.path.exists(f"{ROOT}/{each}"):
+            raise PageError(f"no source has `{each}`, which the table of messages says to write")
+    return said[1]
+
+
 def messages(path):
     """What a file of wrong bodies says of messages: each with the form that leads to it, and the one that passes."""
-    rows = []
+    rows, crate = [], os.path.basename(os.path.dirname(path))
+    source = read(f"crates/{crate}/" + re.search(r"^file: (.*)$", read(path), re.M)[1])
     for paragraph in re.split(r"\n\n+", read(path)):
         lines = {word: re.findall(rf"^{word}: ?(.*)$", paragraph, re.M) for word in ("error", "old", "new")}
         if lines["error"]:
             written = " ".join(filter(None, lines["new"]))
-            rows.append([lines["error"][0].replace("`", ""), code(written) if written else "without it", code(" ".join(lines["old"]))])
+            instead = code(written) if written else "without it"
+            rows.append([lines["error"][0].replace("`", ""), instead, written_form(paragraph, lines["old"], source)])
     return table(["Message", "Instead of", "Write"], rows)
 
 

@@ -53,10 +53,10 @@ PAGE = """<!DOCTYPE html>
 
 
 class Site:
-    """The pages of some crates of a repository."""
+    """The pages of some crates of a repository, the lowest first. The index lists them in another order."""
 
-    def __init__(self, root, crates):
-        self.tree = Tree(root, crates)
+    def __init__(self, root, crates, listed):
+        self.tree, self.listed = Tree(root, crates), listed
         self.links = Links(self.tree)
         self.places = Places(self.tree, self.links)
         self.definitions = Definitions(root, crates, self.links)
@@ -106,7 +106,8 @@ class Site:
     def index(self):
         """The page of all crates."""
         parts = ["<h1>Gelvanh API</h1>", f"<p>{ABOUT}</p>"]
-        for crate, module in self.tree.roots.items():
+        for crate in self.listed:
+            module = self.tree.roots[crate]
             own = [it for it in self.places.on_page if it.crate == crate]
             count = sum(len(self.places.on_page[it]) for it in own)
             sentence = self.prose.sentence(module.docs)
@@ -114,7 +115,7 @@ class Site:
             below = f'<p class="modules">{inner}</p>' if inner else ""
             head = f'<h2>{link(module, crate)} <small>{count} item{"s" if count != 1 else ""}</small></h2>'
             parts.append(f'<section class="crate" id="{crate}">{head}<p>{sentence}</p>{below}</section>')
-        side = "".join(f'<li><a href="{it.page}">{crate}</a></li>' for crate, it in self.tree.roots.items())
+        side = "".join(f'<li><a href="{self.tree.roots[it].page}">{it}</a></li>' for it in self.listed)
         side = f'<nav aria-label="Crates"><h2>Crates</h2><ul>{side}</ul></nav>'
         return PAGE.format(title="Gelvanh API", side=side, main="\n".join(parts))
 

@@ -37,7 +37,9 @@ pub use worker::StreamWorker;
 ///
 /// ```
 /// let (shared, mut passes) = EventReader::new(&rt, alloc, reader, 2)?;
-/// let (Some(other), Some(pass)) = (passes.pop(), passes.pop()) else { .. };
+/// let (Some(other), Some(pass)) = (passes.pop(), passes.pop()) else {
+///     return Ok(());
+/// };
 /// let mut events = EventStream::new(rt, alloc, &shared, pass, other)?;
 /// let first = block_on(&rt, events.next())?;
 /// ```

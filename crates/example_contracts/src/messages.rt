@@ -7,11 +7,15 @@ ghost use Rattle.crossterm_read.specs.Shared.{IsPassOf};
 use crossterm::cursor::Show;
 use crossterm::event::source::EventSource;
 use crossterm::event::{Event, EventReader, Pass};
-use crossterm::style::ColorOutput;
+use crossterm::style::{ColorOutput, ContentStyle, Print, PrintStyledContent, SetStyle};
 use crossterm::{QueueableCommand, queue};
 use std::alloc::Global;
 use std::io::{self, ErrorKind, Write};
 use std::sync::Wait;
+use std::time::Duration;
+
+/// Milliseconds that a key may take.
+const LIMIT: u64 = 700;
 
 /// Lines, and how many of them are shown.
 #[derive(Drop)]
@@ -30,6 +34,11 @@ impl Lines {
         let count = self.items.len();
         self.show(count)
     }
+
+    /// The line at a place, if there is one.
+    pub fn line_at(&self, i: usize) -> Option<u8> {
+        self.items.get(i).copied()
+    }
 }
 
 /// Lets the lines go.
@@ -40,6 +49,11 @@ pub fn forget(lines: Lines) {
 /// The sum of two lengths, or the greatest number.
 pub fn both(a: usize, b: usize) -> usize {
     a.saturating_add(b)
+}
+
+/// How far a row is below another one, or 0.
+pub fn below(row: u16, other: u16) -> u16 {
+    row.saturating_sub(other)
 }
 
 /// How many cells a window has, or the greatest number.
@@ -72,6 +86,24 @@ pub fn powers_below(n: u64) -> u32 {
         count += 1;
     }
     count
+}
+
+/// How many digits a number has.
+pub fn digits(mut n: u64) -> u32 {
+    let mut count = 1u32;
+    for _ in 0..20 {
+        if n < 10 {
+            break;
+        }
+        n /= 10;
+        count = count.saturating_add(1);
+    }
+    count
+}
+
+/// How long a key may take.
+pub fn limit() -> Duration {
+    Duration::from_millis(LIMIT)
 }
 
 /// The number, if it is at most so large.
@@ -110,4 +142,48 @@ pub fn next_event<S: EventSource<Global>>(
 /// The writer's.
 pub fn show<W: Write>(w: &mut W, colors: ColorOutput) -> io::Result<()> {
     queue!(w, colors, Show)
+}
+
+/// Prints a text in a style.
+fn paint<W: Write>(w: &mut W, text: &str, style: ContentStyle) -> io::Result<()> {
+    queue!(
+        w,
+        ColorOutput::Enabled,
+        PrintStyledContent(style.apply(text))
+    )
+}
+
+/// Prints two texts in one style.
+///
+/// # Errors
+///
+/// The writer's.
+pub fn paint_two<W: Write>(w: &mut W) -> io::Result<()> {
+    let style = &ContentStyle::new();
+    paint(w, "a", *style)?;
+    paint(w, "b", *style)
+}
+
+/// Prints a text in a style, and another one before it if it has a mark.
+///
+/// # Errors
+///
+/// The writer's.
+pub fn paint_marked<W: Write>(w: &mut W, is_marked: bool) -> io::Result<()> {
+    let plain = &ContentStyle::new();
+    if is_marked {
+        paint(w, "*", *plain)?;
+    }
+    paint(w, "ab", *plain)
+}
+
+/// Sets a style before each of two texts.
+///
+/// # Errors
+///
+/// The writer's.
+pub fn set_twice<W: Write>(w: &mut W, colors: ColorOutput) -> io::Result<()> {
+    let look = &ContentStyle::new();
+    queue!(w, colors, SetStyle(*look), Print("a"))?;
+    queue!(w, colors, SetStyle(*look), Print("b"))
 }

@@ -8,7 +8,7 @@
 //! let go = keymap.bind(&[KeyEvent::from(KeyCode::Char('g'))], "go")?;
 //! let mut matcher = Matcher::new(alloc, keymap);
 //! matcher.feed(KeyEvent::from(KeyCode::Char('g')))?;
-//! assert_eq!(matcher.next(), Some(Outcome::Action(go)));
+//! assert_eq!(rt; matcher.next(), Some(Outcome::Action(go)));
 //! ```
 //!
 //! `read_chord` reads a chord as people write it, as `ctrl-x`, and `Spelled` shows one so.

@@ -17,7 +17,7 @@ use thiserror::Error;
 /// Why a text is no chord. As an `io::Error` it has the kind `InvalidInput`.
 ///
 /// ```
-/// assert_eq!(read_chord("control-x"), Err(ChordFault::UnknownModifier));
+/// assert_eq!(rt; read_chord("control-x"), Err(ChordFault::UnknownModifier));
 /// ```
 #[derive(Clone, Copy, Debug, PartialEq, Eq, Error)]
 pub enum ChordFault {
@@ -327,7 +327,7 @@ fn part_of(code: KeyCode) -> Part
 /// A key's chord as people write it, as `ctrl-x`. `read_chord` reads it back.
 ///
 /// ```
-/// assert_eq!(format!("{}", Spelled(KeyEvent::from(KeyCode::Esc))), "esc");
+/// assert_eq!(rt; format!(in alloc; "{}", Spelled(KeyEvent::from(KeyCode::Esc)))?.as_str(), "esc");
 /// ```
 #[derive(Clone, Copy)]
 pub struct Spelled(pub KeyEvent);

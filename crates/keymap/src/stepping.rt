@@ -20,8 +20,8 @@ use std::sync::Wait;
 use std::time::Duration;
 
 impl<A: Allocator + Clone> Matcher<A> {
-    /// Returns an outcome that waits. Else it polls the reader with the limit: if an event is there, it reads one, and if none came within
-    /// the limit, it flushes. Then it returns the first outcome, or `None`.
+    /// Returns an outcome that waits. Else it polls the reader with the limit: if an event is there, it reads one. If the limit passes
+    /// before, or a wake-up ends the poll, it flushes. Then it returns the first outcome, or `None`.
     ///
     /// A key that isn't let go is fed. Any other event flushes, and then becomes an outcome of its own; a matcher made by `passing` passes
     /// releases and modifier keys on without a flush. The read waits if another pass took the event before. With no limit the poll waits.

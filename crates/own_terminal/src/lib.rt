@@ -200,7 +200,7 @@ where
 ///
 /// ```
 /// let (mut tty, mut events) = own_terminal::start_streaming(&rt, rt.stdin(), rt.stdout())?;
-/// while let Some(event) = block_on(&rt, events.next()) {
+/// while let Some(event) = block_on(&rt, events.next())? {
 ///     show(&mut tty, event?)?;
 /// }
 /// ```

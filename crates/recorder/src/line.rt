@@ -155,7 +155,8 @@ fn said<A: Allocator>(act: &Act<A>) -> Told<'_>
 /// Appends an act to a text, as one line: `piece HEX`, `raw HEX`, `resize COLUMNS ROWS`, `wake`, `idle` or `fault KIND`.
 ///
 /// ```
-/// write_act(&mut text, &Act::Resize(80, 24))?;    // resize 80 24
+/// let act: Act = Act::Resize(80, 24);
+/// write_act(&mut text, &act)?;    // resize 80 24
 /// ```
 ///
 /// # Errors

@@ -318,7 +318,7 @@ impl<A: Allocator + Clone> Session<A> {
 /// milliseconds after the beginning; all others are passed over.
 ///
 /// ```
-/// let session = read_session(alloc, b"# 20\npiece 61\n")?;
+/// let session = read_session(&alloc, b"# 20\npiece 61\n")?;
 /// let mut reader = InternalEventReader::new(alloc, DeviceSource::new(alloc, Script::new(session.acts)));
 /// ```
 ///

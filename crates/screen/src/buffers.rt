@@ -317,7 +317,7 @@ impl<A: Allocator> Buffer<A> {
     ///
     /// ```
     /// let used = buffer.print_replacing(0, 2, "a\tb", '?', ContentStyle::new())?;
-    /// assert_eq!(used, 3);
+    /// assert_eq!(rt; used, 3);
     /// ```
     ///
     /// # Errors
@@ -349,7 +349,7 @@ impl<A: Allocator> Buffer<A> {
     ///
     /// ```
     /// let used = buffer.print_without_marks(0, 2, "e\u{301}t\u{e9}", ContentStyle::new())?;
-    /// assert_eq!(used, 3);
+    /// assert_eq!(rt; used, 3);
     /// ```
     ///
     /// # Errors

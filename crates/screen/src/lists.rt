@@ -10,7 +10,7 @@ use std::marker::Model;
 /// ```
 /// let mut list = ListState::new(100, 24);
 /// list.down();
-/// assert_eq!(list.chosen(), Some(1));
+/// assert_eq!(rt; list.chosen(), Some(1));
 /// ```
 #[derive(Clone, Copy, PartialEq, Eq, Debug)]
 pub struct ListState {

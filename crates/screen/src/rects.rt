@@ -6,7 +6,7 @@ ghost use Rattle.screen.specs.Rects.{Has, HasWithin, inner, shared};
 ///
 /// ```
 /// let area = buffer.area();
-/// buffer.border(area, ContentStyle::new())?;
+/// buffer.border(area, Border::PLAIN, ContentStyle::new())?;
 /// let list = area.inner(1, 1);
 /// ```
 #[derive(Clone, Copy, PartialEq, Eq, Debug)]

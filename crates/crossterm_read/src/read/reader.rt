@@ -33,7 +33,7 @@ use std::time::Duration;
 /// match reader.read_within(1, &EventFilter) {
 ///     Ok(Some(InternalEvent::Event(Event::Key(key)))) => answer_key(w, key.code)?,
 ///     Ok(_) => {}
-///     Err(error) if error.kind() == ErrorKind::UnexpectedEof => break,
+///     Err(error) if error.kind() == ErrorKind::UnexpectedEof => return Ok(()),
 ///     Err(error) => return Err(error),
 /// }
 /// ```
