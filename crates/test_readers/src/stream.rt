@@ -301,9 +301,12 @@ where
     R: Threads + Wait + Copy + Send + Drop + 'static,
     requires { All (IsPassOf shared.now) passes.items }
 {
-    match (passes.pop(), passes.pop()) {
-        (Some(other), Some(pass)) => EventStream::with_worker(rt, alloc, shared, pass, other),
-        _ => Err(io::Error::from(ErrorKind::NotFound)),
+    let Some(other) = passes.pop() else {
+        return Err(io::Error::from(ErrorKind::NotFound));
+    };
+    match passes.pop() {
+        Some(pass) => EventStream::with_worker(rt, alloc, shared, pass, other),
+        None => Err(io::Error::from(ErrorKind::NotFound)),
     }
 }
 
