@@ -28,6 +28,14 @@ fn digit(call: Call) -> u32 {
     }
 }
 
+/// Notes one more digit of a number, and returns the number.
+pub fn note_digit(calls: &AtomicU32, digit: u32) -> u32 {
+    let before = calls.load(Ordering::SeqCst);
+    let after = before.saturating_mul(10).saturating_add(digit);
+    calls.store(after, Ordering::SeqCst);
+    after
+}
+
 /// The size of the device's window.
 pub const SIZE: WindowSize = WindowSize {
     rows: 24,
@@ -53,9 +61,7 @@ impl Noted<'_> {
         ensures rise { self.old.failures ≤ self.new.failures }
         ensures err { OnErr result (Refuses self.old.failures self.new.failures) }
     {
-        let before = self.calls.load(Ordering::SeqCst);
-        let calls = before.saturating_mul(10).saturating_add(digit(call));
-        self.calls.store(calls, Ordering::SeqCst);
+        note_digit(self.calls, digit(call));
         if self.refused == Some(call) {
             self.failures = self.failures.saturating_add(1);
             return Err(io::Error::from(ErrorKind::PermissionDenied));

@@ -1,6 +1,6 @@
 //! Queries of a terminal: what they write, in which mode they ask, in which order, and what they answer.
 
-use crate::noted::{Call, Noted, terminal_by};
+use crate::noted::{Call, Noted, note_digit, terminal_by};
 use crate::queries::Given::{Idle, Raw, TimedOut, Woken};
 use crate::witness::Witness;
 use crossterm::cursor::position;
@@ -64,22 +64,14 @@ struct Noting<'a> {
     witness: Witness,
 }
 
-impl Noting<'_> {
-    fn note(&self, digit: u32) {
-        let before = self.calls.load(Ordering::SeqCst);
-        let calls = before.saturating_mul(10).saturating_add(digit);
-        self.calls.store(calls, Ordering::SeqCst);
-    }
-}
-
 impl Write for Noting<'_> {
     fn write(&mut self, buf: &[u8]) -> io::Result<usize> {
-        self.note(5);
+        note_digit(self.calls, 5);
         self.witness.write(buf)
     }
 
     fn flush(&mut self) -> io::Result<()> {
-        self.note(6);
+        note_digit(self.calls, 6);
         self.witness.flush()
     }
 }

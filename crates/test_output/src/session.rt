@@ -1,34 +1,35 @@
 //! A session with a terminal: what its end turns off, also where its writer fails.
 
-use crate::noted::{Noted, terminal_by};
+use crate::noted::{Call, Noted, note_digit, terminal_by};
 use crate::queueing::kind;
 use crate::witness::Witness;
 use crossterm::event::source::{Answer, Device, DeviceSource, RawFlag, Script, Waker};
 use crossterm::event::{Event, KeyboardEnhancementFlags};
 use own_terminal::{Feature, Session};
 use std::alloc::Global;
-use std::io::{self, ErrorKind};
+use std::io::{self, ErrorKind, Write};
 use std::sync::Wait;
 use std::sync::atomic::{AtomicU32, Ordering};
 use std::time::Duration;
 use test_support::{Still, expect};
 
-/// The session of a script without an act, that writes to a witness.
-type Witnessed<'a> = Session<DeviceSource<Script>, Noted<'a>, &'a mut Witness, Still>;
+/// The session of a script without an act, with a writer.
+type Writing<'a, W> = Session<DeviceSource<Script>, Noted<'a>, W, Still>;
 
-/// A session in which nothing is turned on yet.
-fn begun<'a, R: Wait>(
+/// A session in which nothing is turned on yet. Its device of modes refuses a call, perhaps.
+fn begun<'a, R: Wait, W: Write + Drop>(
     rt: &R,
     alloc: Global,
     calls: &'a AtomicU32,
-    out: &'a mut Witness,
-) -> io::Result<Witnessed<'a>> {
-    let term = terminal_by(RawFlag::new(alloc)?, calls, None);
+    refused: Option<Call>,
+    out: W,
+) -> io::Result<Writing<'a, W>> {
+    let term = terminal_by(RawFlag::new(alloc)?, calls, refused);
     Session::over(rt, alloc, Script::new(Vec::new(alloc)), term, out, Still)
 }
 
 /// Raw mode and three features are turned on, in this order.
-fn turn_on(session: &mut Witnessed<'_>) -> io::Result<()> {
+fn turn_on<W: Write + Drop>(session: &mut Writing<'_, W>) -> io::Result<()> {
     session.enable_raw_mode()?;
     for feature in [
         Feature::AlternateScreen,
@@ -53,7 +54,7 @@ type Met = (Option<ErrorKind>, Option<ErrorKind>, u32);
 /// A session begins, all is turned on, and it ends, perhaps once it was left.
 fn led<R: Wait>(rt: &R, alloc: Global, out: &mut Witness, leaves: bool) -> Option<Met> {
     let calls = AtomicU32::new(0);
-    let mut session = begun(rt, alloc, &calls, out).ok()?;
+    let mut session = begun(rt, alloc, &calls, None, out).ok()?;
     let turned_on = kind(turn_on(&mut session));
     let left = if leaves { kind(session.leave()) } else { None };
     drop(session);
@@ -99,6 +100,102 @@ fn a_writer_that_fails_once_is_offered_all_else(rt: HostRuntime) {
 fn an_end_that_fails_keeps_no_other_from_being_written(rt: HostRuntime) {
     let (met, saw) = ((None, BROKEN, 123), (WITH_ONE_END_CUT, 7, 6));
     expect!(rt; comes(&rt, rt.alloc(), TURNED_ON.len() + 2, true, met, saw));
+}
+
+/// A call of a writer that fails: the calls up to it, by their digits, and the kind of its error.
+type Fault = (u32, ErrorKind);
+
+/// A writer that notes its calls beside those of a device of modes, and fails at some of them.
+#[derive(Drop)]
+struct Faulty<'a> {
+    calls: &'a AtomicU32,
+    faults: &'static [Fault],
+}
+
+impl Faulty<'_> {
+    fn note(&self, digit: u32) -> io::Result<()> {
+        let calls = note_digit(self.calls, digit);
+        for fault in self.faults {
+            if fault.0 == calls {
+                return Err(io::Error::from(fault.1));
+            }
+        }
+        Ok(())
+    }
+}
+
+impl Write for Faulty<'_> {
+    fn write(&mut self, buf: &[u8]) -> io::Result<usize> {
+        self.note(5)?;
+        Ok(buf.len())
+    }
+
+    fn flush(&mut self) -> io::Result<()> {
+        self.note(6)
+    }
+}
+
+/// The calls of a writer that fail while a session is left, and the call of the device of modes that is refused; the kind of the error that
+/// this returns, and the calls of both, by their digits.
+type Leaving = (&'static [Fault], Option<Call>, Option<ErrorKind>, u32);
+
+/// The digits are 3 for the mode from before, 5 for a write and 6 for a flush. A write that fails isn't flushed.
+static LEAVINGS: [Leaving; 5] = [
+    (&[], None, None, 56565663),
+    (
+        &[],
+        Some(Call::SetMode),
+        Some(ErrorKind::PermissionDenied),
+        56565663,
+    ),
+    // The last flush alone fails.
+    (
+        &[(5656566, ErrorKind::StorageFull)],
+        None,
+        Some(ErrorKind::StorageFull),
+        56565663,
+    ),
+    // The last flush fails, and the mode is refused.
+    (
+        &[(5656566, ErrorKind::StorageFull)],
+        Some(Call::SetMode),
+        Some(ErrorKind::StorageFull),
+        56565663,
+    ),
+    // All ends fail, each otherwise, and what comes after them.
+    (
+        &[
+            (5, ErrorKind::TimedOut),
+            (55, ErrorKind::WriteZero),
+            (555, ErrorKind::BrokenPipe),
+            (5556, ErrorKind::StorageFull),
+        ],
+        Some(Call::SetMode),
+        Some(ErrorKind::TimedOut),
+        55563,
+    ),
+];
+
+/// What comes of leaving a session in which all was turned on: the kind of the error, and the calls.
+fn left<R: Wait>(rt: &R, alloc: Global, row: &Leaving) -> Option<(Option<ErrorKind>, u32)> {
+    let calls = AtomicU32::new(0);
+    let out = Faulty {
+        calls: &calls,
+        faults: row.0,
+    };
+    let mut session = begun(rt, alloc, &calls, row.1, out).ok()?;
+    let turned_on = turn_on(&mut session).is_ok();
+    calls.store(0, Ordering::SeqCst);
+    let left = kind(session.leave());
+    let noted = calls.load(Ordering::SeqCst);
+    turned_on.then_some((left, noted))
+}
+
+#[test]
+fn raw_mode_ends_last_and_the_first_error_is_returned(rt: HostRuntime) {
+    for row in &LEAVINGS {
+        expect!(rt; left(&rt, rt.alloc(), row) == Some((row.2, row.3)));
+    }
 }
 
 /// A device that sends a paste of so many kilobytes, and its end if it is asked further. It counts its answers.

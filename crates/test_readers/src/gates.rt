@@ -17,6 +17,7 @@ use test_support::{TURNS, is_raised_within, nap, rest};
 pub struct Gate {
     is_open: AtomicBool,
     asked_forever: AtomicBool,
+    has_ended: AtomicBool,
     is_gone: AtomicBool,
 }
 
@@ -26,6 +27,7 @@ impl Gate {
         Gate {
             is_open: AtomicBool::new(false),
             asked_forever: AtomicBool::new(false),
+            has_ended: AtomicBool::new(false),
             is_gone: AtomicBool::new(false),
         }
     }
@@ -35,9 +37,15 @@ impl Gate {
         self.is_open.store(true, Ordering::SeqCst);
     }
 
-    /// Whether the device was asked without a limit before the turns were over.
+    /// Whether the device is asked without a limit from now on, before the turns are over.
     pub fn await_endless_question<R: Wait>(&self, rt: &R) -> bool {
+        self.asked_forever.store(false, Ordering::SeqCst);
         is_raised_within(rt, &self.asked_forever, TURNS)
+    }
+
+    /// Whether the device was asked until its input ended.
+    pub fn has_ended(&self) -> bool {
+        self.has_ended.load(Ordering::SeqCst)
     }
 
     /// Whether the device is dropped long before it would end by itself.
@@ -52,6 +60,8 @@ pub struct Gated<R: Drop> {
     rt: R,
     gate: Arc<Gate>,
     rings: Arc<AtomicBool>,
+    // How many wake-ups it still passes over.
+    missed: u32,
     turns: u32,
 }
 
@@ -62,8 +72,16 @@ impl<R: Wait + Drop> Gated<R> {
             rt,
             gate: Arc::try_clone(gate)?,
             rings: Arc::new(alloc, AtomicBool::new(false))?,
+            missed: 0,
             turns: TURNS,
         })
+    }
+
+    /// The same device, which passes over so many wake-ups, as if they came to another who has it. It has half of its turns.
+    pub fn missing(mut self, wakes: u32) -> Gated<R> {
+        self.missed = wakes;
+        self.turns = TURNS / 2;
+        self
     }
 
     // One turn of who asks without a limit.
@@ -80,6 +98,9 @@ impl<R: Wait + Drop> Gated<R> {
                 raw: false,
             };
         }
+        if self.turns == 0 {
+            self.gate.has_ended.store(true, Ordering::SeqCst);
+        }
         rest(&mut self.turns)
     }
 }
@@ -90,6 +111,7 @@ impl<R: Drop> Drop for Gated<R> {
             rt: _,
             gate,
             rings: _,
+            missed: _,
             turns: _,
         } = self;
         gate.is_gone.store(true, Ordering::SeqCst);
@@ -99,7 +121,10 @@ impl<R: Drop> Drop for Gated<R> {
 impl<R: Wait + Drop> Device for Gated<R> {
     fn answer(&mut self, buf: &mut [u8], limit: Option<Duration>) -> io::Result<Answer> {
         if self.rings.swap(false, Ordering::SeqCst) {
-            return Ok(Answer::Woken);
+            if self.missed == 0 {
+                return Ok(Answer::Woken);
+            }
+            self.missed -= 1;
         }
         match limit {
             Some(_) => Ok(Answer::Idle),

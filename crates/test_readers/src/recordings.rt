@@ -1,14 +1,18 @@
 //! Recordings from outside: what is written of a session, what reads as one, and what is left if the writer fails or the room is used up.
 
 use crossterm_read::read::InternalEventReader;
-use crossterm_read::source::{Answer, Device, DeviceSource, Script};
+use crossterm_read::source::{Answer, Device, DeviceSource, Script, Waker};
 use crossterm_types::event::filter::EventFilter;
+use crossterm_types::event::timeout::SystemClock;
 use crossterm_types::event::{Event, InternalEvent, KeyCode};
 use linked_list_allocator::LocalHeap;
 use recorder::reading::{Session, Wrong, read_session};
 use recorder::{Recorder, Stop, Watch};
 use std::alloc::{AllocError, Global};
+use std::cell::Cell;
 use std::io::{self, ErrorKind, Write};
+use std::rt::Clock;
+use std::time::Duration;
 use test_support::{Calls, Came, Ticking, expect, is_refused_below_a_size, is_text, script_of};
 
 /// A session, and how it is recorded by a clock that goes on by a millisecond an answer.
@@ -136,16 +140,26 @@ fn two_watches(alloc: Global) -> io::Result<Watches> {
     })
 }
 
-/// Whether a recorder answers as it should, its writer has these bytes then, and it ends so. Watches must report what the recorder does,
-/// one from before the first answer on, and one from after the last.
-fn is_written(recorder: Recording, watches: Watches, want: &[u8], stop: Option<Stop>) -> bool {
+/// Whether a recorder answers as it should, perhaps with a bound, its writer has these bytes then, and it ends so. Watches must report what
+/// the recorder does, one from before the bound on, and one from after the last answer.
+fn is_written(
+    recorder: Recording,
+    watches: Watches,
+    most: Option<u64>,
+    want: &[u8],
+    stop: Option<Stop>,
+) -> bool {
     let Watches {
         early,
         early_share,
         late,
         late_share,
     } = watches;
-    let mut recorder = recorder.watched(early_share);
+    let watched = recorder.watched(early_share);
+    let mut recorder = match most {
+        Some(most) => watched.most(most),
+        None => watched,
+    };
     let is_told = early.stopped().is_none();
     let answered = answers(&mut recorder);
     let is_ended = recorder.stopped() == stop && early.stopped() == stop;
@@ -162,9 +176,9 @@ fn is_cut_short(alloc: Global, left: usize) -> Option<bool> {
     let want = RECORDED.as_bytes();
     if left < want.len() {
         let stop = Some(Stop::Failed(ErrorKind::StorageFull));
-        return Some(is_written(recorder, watches, &want[..left], stop));
+        return Some(is_written(recorder, watches, None, &want[..left], stop));
     }
-    Some(is_written(recorder, watches, want, None))
+    Some(is_written(recorder, watches, None, want, None))
 }
 
 #[test]
@@ -194,10 +208,10 @@ fn whole(most: usize) -> usize {
 /// Whether a recording with so much room has the entries that fit, and says whether it was cut.
 fn is_bounded(alloc: Global, most: usize) -> Option<bool> {
     let watches = two_watches(alloc).ok()?;
-    let recorder = recording(alloc, RECORDED.len())?.most(most as u64);
+    let recorder = recording(alloc, RECORDED.len())?;
     let want = RECORDED.as_bytes().get(..whole(most)).unwrap_or(b"?");
     let stop = (most < RECORDED.len()).then_some(Stop::Cut);
-    Some(is_written(recorder, watches, want, stop))
+    Some(is_written(recorder, watches, Some(most as u64), want, stop))
 }
 
 #[test]
@@ -205,6 +219,84 @@ fn a_recording_with_a_bound_ends_with_a_whole_entry(rt: HostRuntime) {
     for most in 0..=RECORDED.len() {
         expect!(rt; is_bounded(rt.alloc(), most) == Some(true), "the bound");
     }
+}
+
+/// A system whose clock a device moves.
+#[derive(Drop)]
+struct System {
+    seconds: Cell<u64>,
+}
+
+impl Clock for System {
+    fn monotonic(&self) -> io::Result<Duration> {
+        Ok(Duration::from_secs(self.seconds.get()))
+    }
+
+    fn since_1970(&self) -> io::Result<Duration> {
+        Err(io::Error::from(ErrorKind::Unsupported))
+    }
+}
+
+/// A device that is woken at once, and fails an hour after it is asked again, with a number of the system.
+#[derive(Drop)]
+struct Late<'a> {
+    system: &'a System,
+    has_woken: bool,
+    failures: u64,
+}
+
+/// EREMOTEIO, which has no kind of its own.
+const NUMBER: i32 = 121;
+
+impl Device for Late<'_> {
+    ghost failed = { λ device. device.failures };
+
+    fn answer(&mut self, _buf: &mut [u8], _limit: Option<Duration>) -> io::Result<Answer> {
+        if !self.has_woken {
+            self.has_woken = true;
+            return Ok(Answer::Woken);
+        }
+        if self.failures == 0 {
+            self.system.seconds.set(3600);
+            self.failures = 1;
+            return Err(io::Error::from_raw_os_error(NUMBER));
+        }
+        Ok(Answer::Idle)
+    }
+
+    fn failures(&self) -> u64 {
+        self.failures
+    }
+
+    fn waker(&self) -> io::Result<Waker> {
+        Ok(Waker::none())
+    }
+}
+
+/// Whether a recorder over such a device returns its answers as they are, and each is written with the time at which it came.
+fn is_in_time(alloc: Global) -> bool {
+    let system = System {
+        seconds: Cell::new(0),
+    };
+    let device = Late {
+        system: &system,
+        has_woken: false,
+        failures: 0,
+    };
+    let mut recorder = Recorder::new(alloc, device, Vec::new(alloc), SystemClock::new(&system));
+    let mut buf = [0u8; 1024];
+    let is_woken = matches!(recorder.answer(&mut buf, None), Ok(Answer::Woken));
+    let has_number = match recorder.answer(&mut buf, None) {
+        Ok(_) => false,
+        Err(error) => error.raw_os_error() == Some(NUMBER),
+    };
+    let want: &[u8] = b"# 0\nwake\n# 3600000\nfault Uncategorized\n";
+    is_woken && has_number && recorder.into_writer().as_slice() == want
+}
+
+#[test]
+fn answers_are_returned_as_they_are_and_have_their_own_times(rt: HostRuntime) {
+    expect!(rt; is_in_time(rt.alloc()));
 }
 
 /// Texts, and what they read as: how many acts and the last time, or the error.
@@ -298,6 +390,30 @@ fn a_recording_replays(rt: HostRuntime) {
     }
 }
 
+/// The first so many lines of the recording.
+fn front(lines: usize) -> &'static [u8] {
+    let mut place = 0usize;
+    let mut ends = 0usize;
+    for byte in RECORDED.bytes() {
+        if ends == lines {
+            break;
+        }
+        place = place.saturating_add(1);
+        if byte == b'\n' {
+            ends = ends.saturating_add(1);
+        }
+    }
+    RECORDED.as_bytes().get(..place).unwrap_or(b"?")
+}
+
+/// Whether this is the line that memory is refused at: those before it are read, and this one isn't.
+fn is_refused_at(heap: &LocalHeap, line: usize) -> bool {
+    let Some(before) = line.checked_sub(1) else {
+        return false;
+    };
+    read_session(&heap, front(before)).is_ok() && read_session(&heap, front(line)).is_err()
+}
+
 /// A recording that is read over a heap.
 #[derive(Drop)]
 struct Readings;
@@ -310,7 +426,7 @@ impl Calls for Readings {
             } else {
                 Came::Wrong
             }),
-            Err(bad) => Ok(if bad.reason == Wrong::Memory {
+            Err(bad) => Ok(if bad.reason == Wrong::Memory && is_refused_at(heap, bad.line) {
                 Came::Refused
             } else {
                 Came::Wrong
@@ -320,7 +436,9 @@ impl Calls for Readings {
 }
 
 #[test]
-fn refused_memory_is_no_shorter_session(rt: HostRuntime) -> Result<(), AllocError> {
+fn refused_memory_is_no_shorter_session_and_names_its_line(
+    rt: HostRuntime,
+) -> Result<(), AllocError> {
     expect!(rt; is_refused_below_a_size(rt.alloc(), &Readings)?);
     Ok(())
 }

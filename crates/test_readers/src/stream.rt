@@ -5,7 +5,7 @@ ghost use Rattle.crossterm_read.specs.Shared.{IsPassOf};
 use crate::gates::{FailsOnce, Gate, Gated};
 use crossterm_read::read::{EventReader, Pass};
 use crossterm_read::source::{Device, DeviceSource, EventSource};
-use crossterm_read::stream::EventStream;
+use crossterm_read::stream::{EventStream, StreamWorker};
 use crossterm_types::event::Event;
 use futures::task::Poll;
 use futures::test::MockTask;
@@ -14,9 +14,11 @@ use std::alloc::{AllocGlobal, Global};
 use std::io;
 use std::io::ErrorKind;
 use std::random::RandomSource;
+use std::sync::atomic::{AtomicBool, Ordering};
 use std::sync::{Arc, Wait};
-use std::thread::Threads;
-use test_support::{TURNS, expect, letter_of, nap, reader_of};
+use std::thread::{self, Threads};
+use std::time::Duration;
+use test_support::{TURNS, expect, is_raised_within, letter_of, nap, reader_of, sleep};
 
 /// A stream over a device.
 type Over<D, R> = EventStream<DeviceSource<D>, R>;
@@ -284,5 +286,73 @@ where
 #[test]
 fn a_stream_gives_both_passes_back(rt: HostRuntime) -> io::Result<()> {
     expect!(rt; gives_both_passes_back(rt, rt.alloc())?);
+    Ok(())
+}
+
+/// A stream by the last two of some passes, and its worker.
+fn with_worker_by<S, R>(
+    rt: R,
+    alloc: Global,
+    shared: &EventReader<S>,
+    mut passes: Vec<Pass<S>>,
+) -> io::Result<(EventStream<S, R>, StreamWorker<S>)>
+where
+    S: EventSource<Global> + Send + 'static,
+    R: Threads + Wait + Copy + Send + Drop + 'static,
+    requires { All (IsPassOf shared.now) passes.items }
+{
+    let Some(other) = passes.pop() else {
+        return Err(io::Error::from(ErrorKind::NotFound));
+    };
+    match passes.pop() {
+        Some(pass) => EventStream::with_worker(rt, alloc, shared, pass, other),
+        None => Err(io::Error::from(ErrorKind::NotFound)),
+    }
+}
+
+/// Whether a stream gives the letter once somebody waits for its worker. It is closed then, while its worker polls.
+fn is_read_on<R: Wait + Drop>(
+    rt: &R,
+    gate: &Gate,
+    task: &MockTask,
+    mut stream: Over<Gated<R>, R>,
+    is_awaited: &AtomicBool,
+) -> bool {
+    let begins = is_raised_within(rt, is_awaited, TURNS);
+    sleep(rt, Duration::from_millis(50));
+    gate.open();
+    let letter = answer_within(rt, task, &mut stream, TURNS / 2) == LETTER;
+    let polls = letter && poll(task, &mut stream) == WAITS && gate.await_endless_question(rt);
+    let _pass = stream.close();
+    begins && polls
+}
+
+/// Whether a stream is read on while its worker is awaited, and the worker, which misses two wake-ups, ends long before its device.
+fn is_seen_off<R>(rt: R, alloc: Global) -> io::Result<bool>
+where
+    R: Threads + Wait + RandomSource + AllocGlobal + Copy + Send + Sync + Drop + 'static,
+{
+    let task = MockTask::new(&rt)?;
+    let gate = Arc::new(alloc, Gate::new())?;
+    let device = Gated::new(rt, alloc, &gate)?.missing(2);
+    let (shared, passes) = EventReader::new(&rt, alloc, reader_of(alloc, device), 2)?;
+    let (stream, worker) = with_worker_by(rt, alloc, &shared, passes)?;
+    let is_awaited = AtomicBool::new(false);
+    let (is_read, _pass) = thread::join(
+        &rt,
+        || is_read_on(&rt, &gate, &task, stream, &is_awaited),
+        || {
+            is_awaited.store(true, Ordering::SeqCst);
+            worker.join(&rt)
+        },
+    );
+    Ok(is_read && !gate.has_ended())
+}
+
+#[test]
+fn a_worker_is_awaited_while_its_stream_is_read_and_woken_until_it_ends(
+    rt: HostRuntime,
+) -> io::Result<()> {
+    expect!(rt; is_seen_off(rt, rt.alloc())?);
     Ok(())
 }
