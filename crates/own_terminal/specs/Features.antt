@@ -1,5 +1,5 @@
 -- What a terminal is told to switch a feature on, and off again.
-use Rattle.std.specs.Prelude.{ℕ, List, [], ◌∷◌, ◌++◌, codes, Option}
+use Rattle.std.specs.Prelude.{◌≡◌, ◌≢◌, ℕ, List, [], ◌∷◌, ◌++◌, All, codes, length, Option}
 use Rattle.std.specs.Io.KnownBytes.{Keeps}
 use Rattle.crossterm_command.specs.Controls.{control, reset, set}
 use Rattle.crossterm_command.specs.Tokens.{Token, text_of}
@@ -33,3 +33,26 @@ all_switched_off (f ∷ fs) = all_switched_off fs ++ text_of (switches_off f)
 abbrev pub EndsOffered : List Feature → Option (List ℕ) → Option (List ℕ) → Type 0
 EndsOffered [] old new = Keeps old new
 EndsOffered (f ∷ fs) old new = (between : Option (List ℕ)) × EndsOffered fs old between × AppendsFront between new (text_of (switches_off f))
+
+-- What a feature is, whatever the flags of a keyboard: two are of one kind if this is the same of both.
+abbrev pub without_flags : Feature → Feature
+without_flags feature.AlternateScreen = feature.AlternateScreen
+without_flags feature.HiddenCursor = feature.HiddenCursor
+without_flags feature.MouseCapture = feature.MouseCapture
+without_flags feature.BracketedPaste = feature.BracketedPaste
+without_flags feature.FocusChange = feature.FocusChange
+without_flags (feature.Keyboard _) = feature.Keyboard (record { 0 = 0 })
+
+-- No feature of a list is of this kind.
+abbrev pub Lacks : Feature → List Feature → Type 0
+Lacks kind fs = All (λ f. without_flags f ≢ without_flags kind) fs
+
+-- The last feature of a kind is at this place of a list.
+abbrev pub IsLastAt : Feature → List Feature → ℕ → Type 0
+IsLastAt kind fs at = (before after : List Feature) × (last : Feature) × (fs ≡ before ++ last ∷ after) × (length before ≡ at)
+    × (without_flags last ≡ without_flags kind) × Lacks kind after
+
+-- A list becomes another one, which lacks the last of its features of a kind alone.
+abbrev pub LosesLast : Feature → List Feature → List Feature → Type 0
+LosesLast kind old new = (before after : List Feature) × (last : Feature) × (old ≡ before ++ last ∷ after) × (new ≡ before ++ after)
+    × (without_flags last ≡ without_flags kind) × Lacks kind after

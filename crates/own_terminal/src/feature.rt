@@ -1,11 +1,11 @@
 //! What a program switches on in its terminal, and off again.
 
-ghost use Rattle.std.specs.Prelude.{◌≡◌, [], IfSome, OnErr, OnOk};
+ghost use Rattle.std.specs.Prelude.{◌≡◌, [], IfNone, IfSome, OnErr, OnOk};
 ghost use Rattle.std.specs.Io.KnownBytes.{Appends};
 ghost use Rattle.crossterm_command.specs.Tokens.{text_of};
 ghost use Rattle.crossterm_command.specs.Writing.{AppendsFront};
 ghost use Rattle.crossterm_command.specs.declared.color_output.ColorOutput.TheVariants.{Enabled};
-ghost use Rattle.own_terminal.specs.Features.{EndsOffered, all_switched_off, switches_off, switches_on};
+ghost use Rattle.own_terminal.specs.Features.{EndsOffered, IsLastAt, Lacks, all_switched_off, switches_off, switches_on, without_flags};
 
 use arrayvec::ArrayString;
 use crossterm::Command;
@@ -62,6 +62,16 @@ fn send<W: Write, C: Command>(out: &mut W, command: &C) -> io::Result<()>
 }
 
 impl Feature {
+    /// What it is, whatever the flags of a keyboard.
+    fn without_flags(self) -> Feature
+        ensures { result ≡ without_flags self }
+    {
+        match self {
+            Feature::Keyboard(_) => Feature::Keyboard(KeyboardEnhancementFlags::empty()),
+            other => other,
+        }
+    }
+
     /// Switches it on.
     pub(crate) fn enter<W: Write>(self, out: &mut W) -> io::Result<()>
         ensures ok { OnOk result (Appends (W.contents out.old) (W.contents out.new) (text_of (switches_on self))) }
@@ -91,6 +101,21 @@ impl Feature {
             Feature::Keyboard(_) => send(out, &PopKeyboardEnhancementFlags),
         }
     }
+}
+
+/// The place of the last feature of a kind in a list, if it has one.
+pub(crate) fn last_of(features: &[Feature], kind: Feature) -> Option<usize>
+    ensures some { IfSome result (IsLastAt kind features.now) }
+    ensures none { IfNone result (Lacks kind features.now) }
+{
+    let mut rest = features;
+    while let [before @ .., last] = rest {
+        if last.without_flags() == kind.without_flags() {
+            return Some(before.len());
+        }
+        rest = before;
+    }
+    None
 }
 
 /// Switches features off, the last one first, and takes them from their list. All are tried, and the error is the first one's.

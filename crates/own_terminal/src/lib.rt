@@ -28,7 +28,7 @@
 //!
 //! | Proved | By the contract of |
 //! |---|---|
-//! | a feature that is turned on writes exactly its text, and is listed, also if the writer fails; leaving empties the list, and if it succeeds it wrote what turns each off, the last one first, and set the mode from before; at an error each end was written whole, in part or not at all, and the device did what its clause says | `Session::{turn_on, leave, enable_raw_mode, disable_raw_mode}` |
+//! | a feature that is turned on writes exactly its text, and is listed, also if the writer fails; one that is turned off is the last of its kind, and stays listed if the writer fails; leaving empties the list, and if it succeeds it wrote what turns each off, the last one first, and set the mode from before; at an error each end was written whole, in part or not at all, and the device did what its clause says | `Session::{turn_on, turn_off, leave, enable_raw_mode, disable_raw_mode}` |
 //! | events are read by the calls of the only pass of a new reader; polls, queries and sizes are those of the libraries, and leave the list of features alone | `Session::{over, over_source, read, poll, position, supports_keyboard_enhancement, size}` |
 //! | further shares of a session's events are as many as were asked for, of the session's reader, and each read or poll is the next call of its own pass in the one history; a stream reads by such a pass too | `Session::{over_shared, over_streaming}`, `start_shared`, `start_streaming`, `Events::{read, poll}` |
 //!
@@ -36,7 +36,7 @@
 //!
 //! | Definitions | Of | Contract |
 //! |---|---|---|
-//! | `Features` | the texts that switch features on and off | `Session::{turn_on, leave}` |
+//! | `Features` | the texts that switch features on and off, and which is the last of a kind | `Session::{turn_on, turn_off, leave}` |
 //! | `Sessions` | the mode that a session ends, and how it begins | `Session::{over, over_source, over_shared, over_streaming, leave, disable_raw_mode}` |
 //!
 //! A function's proof is in `proofs/` at the function's path; if there is no file, the prover found it by itself.
@@ -121,10 +121,21 @@ pub fn open<R: Files<File = File> + Net>(
     Ok((input, Terminal::new(device, raw)))
 }
 
-/// The folder of the pipes: the program's last argument.
-fn folder<R: Runtime + Alloc<A = Global>>(rt: &R) -> io::Result<String> {
-    match env::args(rt)?.skip(1).last() {
-        Some(folder) => Ok(folder),
+/// The program's arguments, and behind them the folder of the pipes, which `with_terminal` adds.
+///
+/// # Errors
+///
+/// `InvalidInput` if there is no argument, since `with_terminal` didn't start the program, and standard error says so; `InvalidData` if one
+/// isn't UTF-8; `OutOfMemory`.
+///
+/// ```
+/// let (words, folder) = own_terminal::arguments(&rt)?;
+/// let (input, term) = own_terminal::open(&rt, rt.alloc(), rt.stdin(), folder.as_str())?;
+/// ```
+pub fn arguments<R: Runtime + Alloc<A = Global>>(rt: &R) -> io::Result<(Vec<String>, String)> {
+    let mut words: Vec<String> = env::args(rt)?.skip(1).collect(rt.alloc())?;
+    match words.pop() {
+        Some(folder) => Ok((words, folder)),
         None => {
             eprintln!(rt; "this program needs a terminal: start it by terminal/with_terminal")?;
             Err(io::Error::from(ErrorKind::InvalidInput))
@@ -139,7 +150,7 @@ where
     ensures { IfOk result (λ parts. parts.1.prior ≡ None) }
 {
     let alloc = rt.alloc();
-    let folder = folder(rt)?;
+    let (_, folder) = arguments(rt)?;
     let out = BufWriter::new(alloc, out)?;
     let (input, term) = open(rt, alloc, input, folder.as_str())?;
     Ok((input, term, out))

@@ -1,6 +1,6 @@
 //! A terminal with its events, and the writer of a program.
 
-ghost use Rattle.std.specs.Prelude.{◌≡◌, ◌≤◌, ◌⊎◌, ◌++◌, ◌∷◌, [], All, IfErr, IfOk, IsOk, IsTrue, None, OnErr, OnOk, Option, Result, Some, is_some, length, map};
+ghost use Rattle.std.specs.Prelude.{◌≡◌, ◌≤◌, ◌⊎◌, ◌++◌, ◌∷◌, [], ℕ, All, IfErr, IfOk, IsOk, IsTrue, None, OnErr, OnOk, Option, Result, Some, is_some, length, map};
 ghost use Rattle.std.specs.IoError.{error_kind};
 ghost use Rattle.std.specs.Io.KnownBytes.{Appends, Keeps};
 ghost use Rattle.std.specs.Result.{result_map_both};
@@ -19,11 +19,11 @@ ghost use Rattle.crossterm_command.specs.Writing.{AppendsFront};
 ghost use Rattle.crossterm.specs.Asking.{InRawMode, InTwoSeconds, Queries, keyboard_query, position_query};
 ghost use Rattle.crossterm.specs.Modes.{Refuses, Sizes, SwitchesOff, SwitchesOn};
 ghost use Rattle.crossterm.specs.declared.terminal.size.WindowSize.{WindowSize};
-ghost use Rattle.own_terminal.specs.Features.{EndsOffered, all_switched_off, switches_on};
+ghost use Rattle.own_terminal.specs.Features.{EndsOffered, IsLastAt, Lacks, LosesLast, all_switched_off, switches_off, switches_on};
 ghost use Rattle.own_terminal.specs.Sessions.{BeginsAt, BeginsOver, BeginsShared, EndsRaw};
 
 use crate::events::{Events, share_out};
-use crate::feature::{Feature, switch_off_flushed};
+use crate::feature::{Feature, last_of, switch_off_flushed};
 use crate::{Input, open};
 use crossterm::cursor;
 use crossterm::event::read::InternalEventReader;
@@ -417,6 +417,31 @@ impl<S: EventSource<Global>, D: ModeDevice, W: Write + Drop, C: Clock + Drop> Se
             Ok(()) => feature.enter(&mut self.out),
             Err(error) => Err(io::Error::from(error)),
         }
+    }
+
+    /// Turns off what was turned on: the last one of its kind, whatever the flags of a keyboard. If there is none, nothing is written.
+    ///
+    /// # Errors
+    ///
+    /// The writer's: a beginning was written, and the session's end turns it off once more.
+    ///
+    /// ```
+    /// tty.turn_off(Feature::MouseCapture)?;
+    /// ```
+    pub fn turn_off(&mut self, feature: Feature) -> io::Result<()>
+        ensures ok { OnOk result ((LosesLast feature self.old.features.items self.new.features.items
+            × Appends (W.contents self.old.out) (W.contents self.new.out) (text_of (switches_off feature)))
+            ⊎ (Lacks feature self.old.features.items × (self.new.features ≡ self.old.features) × (self.new.out ≡ self.old.out))) }
+        ensures err { OnErr result ((at : ℕ) × IsLastAt feature self.old.features.items at × (self.new.features ≡ self.old.features)
+            × AppendsFront (W.contents self.old.out) (W.contents self.new.out) (text_of (switches_off feature))) }
+        ensures others { (self.new.term ≡ self.old.term) × (self.new.pass ≡ self.old.pass) }
+    {
+        let Some(at) = last_of(&self.features, feature) else {
+            return Ok(());
+        };
+        feature.leave(&mut self.out)?;
+        self.features.remove(at);
+        Ok(())
     }
 
     /// Turns all off that is turned on, the last one first, and ends raw mode, as the session's end does.
