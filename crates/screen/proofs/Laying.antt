@@ -16,14 +16,14 @@ cell_stands : (b : Bool) (c : Cell) → Stands c → Stands (cond b (emptied c) 
 cell_stands true c h = inr (refl, space_printed)
 cell_stands false c h = h
 
-all_cons : (c : Cell) (cells : List Cell) → Stands c → All Stands cells → All Stands (c ∷ cells)
+pub all_cons : (c : Cell) (cells : List Cell) → Stands c → All Stands cells → All Stands (c ∷ cells)
 all_cons c cells h all zero d lt = h
 all_cons c cells h all (suc k) d lt = all k d (omega (arith, lt))
 
-all_rest : (c : Cell) (cells : List Cell) → All Stands (c ∷ cells) → All Stands cells
+pub all_rest : (c : Cell) (cells : List Cell) → All Stands (c ∷ cells) → All Stands cells
 all_rest c cells all k d lt = all (suc k) d (omega (arith, lt))
 
-all_first : (c : Cell) (cells : List Cell) → All Stands (c ∷ cells) → Stands c
+pub all_first : (c : Cell) (cells : List Cell) → All Stands (c ∷ cells) → Stands c
 all_first c cells all = all zero c (omega arith)
 
 ended_stand : (xs : List Cell) → All Stands xs → All Stands (ended xs)

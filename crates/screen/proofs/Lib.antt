@@ -6,6 +6,7 @@ pub mod Taking
 pub mod Filling
 pub mod Prints
 pub mod Alignments
+pub mod Styling
 pub mod Edges
 pub mod Recolorings
 pub mod Runs

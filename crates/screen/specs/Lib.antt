@@ -6,6 +6,7 @@ pub mod Buffers
 pub mod Rects
 pub mod Alignments
 pub mod Borders
+pub mod Areas
 pub mod Scrolls
 pub mod Updates
 pub mod Drawings

@@ -36,6 +36,10 @@ pub record Becomes (old : Scroll) (count height at : ℕ) (new : Scroll) : Type 
   pub choice : new.chosen ≡ limited count at
   pub moves : MovesTo count height new.chosen old.top new.top
 
+-- how many entries are a page: one in each row. Where there is no row, as in one row.
+abbrev pub page : ℕ → ℕ
+page height = if height == 0 then 1 else height
+
 -- which entry is chosen, where there is any
 abbrev pub chosen_of : Scroll → Option ℕ
 chosen_of s = if s.count == 0 then None else Some s.chosen

@@ -97,7 +97,14 @@ impl<A: Allocator> Buffer<A> {
     }
 
     /// Sets it so many times side by side.
-    fn across(&mut self, column: u16, row: u16, count: u16, symbol: char, style: &ContentStyle)
+    pub(crate) fn across(
+        &mut self,
+        column: u16,
+        row: u16,
+        count: u16,
+        symbol: char,
+        style: &ContentStyle,
+    )
         requires place { (column + count ≤ self.old.width) × (row < self.old.height) }
         requires few { column + count < 65536 }
         requires symbol { IsNarrow symbol }

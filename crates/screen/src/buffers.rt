@@ -1,11 +1,13 @@
 //! Buffers: the cells that a program wants to show.
 ghost use Rattle.std.specs.Prelude.{◌≡◌, ℕ, ◌+◌, ◌*◌, ◌-◌, ◌<◌, ◌≤◌, false, OnOk, OnErr, IsOk, IfOk, IfErr, IfSome, None, Some, chars, length, replicate, vec_capacity};
 ghost use Rattle.std.specs.List.{All};
+ghost use Rattle.screen.specs.Areas.{with_style};
 ghost use Rattle.screen.specs.Buffers.{clipped, column_refusal, filled, filled_with, print_refusal, refusal, with_shown, with_symbol, with_text};
 ghost use Rattle.screen.specs.Cells.{AreLaidOut, ArePaired, IsPrinted, StayInRows, Stands, blank, symbol_fault};
 ghost use Rattle.screen.specs.Texts.{columns, replaced, replacement_fault, text_columns, text_fault, within, without_marks};
 ghost use Rattle.screen.specs.inside.Edits.{edited};
 
+use crate::areas::style_cells;
 use crate::cells::{Cell, symbol_fault, takes_two};
 use crate::faults::CellFault;
 use crate::overwriting::{fill, fill_rows, overwrite};
@@ -198,6 +200,21 @@ impl<A: Allocator> Buffer<A> {
         }
         fill_rows(&mut self.cells, self.width, Cell { symbol, style });
         Ok(())
+    }
+
+    /// Gives a style, in place of its own, to each character whose first column is in a rectangle. A character of two columns gets it in both.
+    /// The characters stay. Columns and rows of the rectangle that the buffer doesn't have don't count.
+    ///
+    /// ```
+    /// let mut style = ContentStyle::new();
+    /// style.background_color = Some(Color::DarkBlue);
+    /// let (title, _) = buffer.area().split_rows(1);
+    /// buffer.set_style(title, style);
+    /// ```
+    pub fn set_style(&mut self, area: Rect, style: ContentStyle)
+        ensures { self.new ≡ with_style self.old area style }
+    {
+        style_cells(&mut self.cells, (self.width, self.height), &area, &style);
     }
 
     /// Sets a character, by its column and its row from 0. If it takes two columns, the next one is its second. A character that loses one of

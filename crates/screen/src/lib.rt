@@ -20,8 +20,8 @@
 //! Control characters and those of no column or of more than two are refused by name (`CellFault`). `Buffer::print_replacing` replaces them, and
 //! `Buffer::print_without_marks` leaves out those of no column.
 //!
-//! A `Rect` is some columns and rows: `Buffer::print_in` aligns a text in one, and `Buffer::border` draws lines round it. A `ListState` says
-//! which entries of a list are in sight.
+//! A `Rect` is some columns and rows: `Buffer::print_in` aligns a text in one, `Buffer::border` draws lines round it, and `Buffer::set_style` and
+//! `Buffer::fill_area` change all of it. A `ListState` says which entries of a list are in sight.
 //!
 //! If a frame broke off within a control sequence, the next one begins with ESC, which ends such a sequence at a terminal. The definitions
 //! speak of whole sequences and don't say so.
@@ -34,17 +34,20 @@
 //! |---|---|
 //! | a frame shows the buffer (the fourth theorem): it leads from each grid that shows the last one to a grid that shows this one, with the cursor where it was asked to be, and prints one character for each cell that differs and no other | `Screen::draw` |
 //! | a frame is one synchronized update; it has at most one move for each run of characters side by side, one setting of the style for each run of characters in one style, and a handful at its ends | `Screen::draw` |
-//! | a screen has as much memory after a frame as before; screens and buffers give none back, and a size that they have memory for isn't refused | `Screen::{draw, new, resize}`, `Buffer::{new, resize, fill, set, print, print_replacing, print_without_marks, print_in, border}` |
+//! | a screen has as much memory after a frame as before; screens and buffers give none back, and a size that they have memory for isn't refused | `Screen::{draw, new, resize}`, `Buffer::{new, resize, fill, set, print, print_replacing, print_without_marks, print_in, border, set_style, fill_area}` |
 //! | a wrong size or place writes nothing and changes nothing; at any other error a beginning of the frame was written and nothing else, and nothing is known of the cells | `Screen::draw` |
 //! | a character that doesn't take one column or two is refused by name, `set` refuses one of two in a row's last column too, and a refusal changes nothing | `Buffer::{fill, set, print, print_replacing, print_without_marks, print_in, border}` |
-//! | no half of a character of two columns is alone: what loses its other half is a space in the style that it had | `Buffer::{cells, fill, set, print, print_replacing, print_without_marks, print_in, border}` |
+//! | no half of a character of two columns is alone: what loses its other half is a space in the style that it had | `Buffer::{cells, fill, set, print, print_replacing, print_without_marks, print_in, border, set_style, fill_area}` |
 //! | of a text as many characters are printed as have room in the row, and the number of the columns that they took is returned | `Buffer::{print, print_replacing, print_without_marks}` |
 //! | of any text, each character that no cell can hold is replaced by a given one | `Buffer::print_replacing` |
 //! | of a text, the characters of no column are left out, and the others are printed or refused as in `print` | `Buffer::print_without_marks` |
 //! | a text in a row of a rectangle is aligned by the columns that it takes, and has as many characters as have room in the columns that the buffer has of it | `Buffer::print_in` |
 //! | a border is four corners and the lines between them, and what isn't under them stays, but for halves; it is refused if the rectangle isn't within the buffer, has fewer than two columns or rows, or a character of it doesn't take one column | `Buffer::border` |
+//! | a style over a rectangle is the style of each character whose first column is in it, in both of its columns; no character and no other style changes | `Buffer::set_style` |
+//! | a rectangle is filled with a character of one column as far as the buffer has it, and what isn't under it stays, but for halves; a character that doesn't take one column is refused by name | `Buffer::fill_area` |
 //! | what two rectangles have in common, and what is left of one without a margin, has the columns and rows that it has to have, and no others | `Rect::{contains, intersection, inner}` |
-//! | the chosen entry of a list is in sight, no row is empty as long as an entry above is out of sight, and the list scrolls no further than it must | `ListState::{choose, up, down, first, last, resize}` |
+//! | of a rectangle that is split, each column and row is in one of both parts and not in the other one | `Rect::{split_columns, split_rows}` |
+//! | the chosen entry of a list is in sight, no row is empty as long as an entry above is out of sight, and the list scrolls no further than it must | `ListState::{choose, up, down, page_up, page_down, first, last, resize}` |
 //! | as an `io::Error`, a fault has the kind `InvalidInput`; the fault of a command is the error that it becomes by itself | `From<CellFault>` and `From<DrawFault>` of `io::Error` |
 //!
 //! What to believe, in the order in which it reads (`specs/`), and where it is proved:
@@ -56,10 +59,11 @@
 //! | `Overwriting` | 43 | the cells that a character takes, and what becomes of the halves beside them | `Buffer::{set, print, print_replacing, print_without_marks}` |
 //! | `Texts` | 54 | the cells of a text's characters, what has room, and what is replaced in it or left out | `Buffer::{print, print_replacing, print_without_marks}` |
 //! | `Buffers` | 81 | the pictures that buffers hold | `Buffer` |
-//! | `Rects` | 26 | a rectangle's columns and rows, what two have in common, and what is left without a margin | `Rect` |
+//! | `Rects` | 38 | a rectangle's columns and rows, what two have in common, what is left without a margin, and two parts | `Rect` |
 //! | `Alignments` | 36 | how many columns of a rectangle a buffer has, and the one that a text begins in | `Buffer::print_in` |
 //! | `Borders` | 66 | the characters of a border, one after another, and when there is none | `Buffer::border` |
-//! | `Scrolls` | 45 | which entries of a list are in sight, and how far it scrolls | `ListState` |
+//! | `Areas` | 46 | a style over a rectangle, and a character in all places of one | `Buffer::{set_style, fill_area}` |
+//! | `Scrolls` | 49 | which entries of a list are in sight, and how far it scrolls | `ListState` |
 //! | `Screens` | 17 | a screen, and what it drew last | `Screen` |
 //! | `Updates` | 116 | which characters have to be printed, and how few moves and styles do it | `Screen::draw` |
 //! | `Drawings` | 130 | what a frame does to each grid, how many characters it prints, and what is refused | `Screen::draw`, `From<DrawFault>` of `io::Error` |
@@ -70,6 +74,7 @@
 #![tactic(auto)]
 
 mod alignment;
+mod areas;
 mod borders;
 mod buffers;
 mod cells;

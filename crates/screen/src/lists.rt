@@ -1,6 +1,6 @@
 //! Lists that scroll.
 ghost use Rattle.std.specs.Prelude.{◌≡◌, ◌⊎◌, ◌+◌, ◌-◌, ◌<◌, ◌≤◌, IfSome};
-ghost use Rattle.screen.specs.Scrolls.{Becomes, InSight, IsFull, MovesTo, chosen_of, entry_at, limited};
+ghost use Rattle.screen.specs.Scrolls.{Becomes, InSight, IsFull, MovesTo, chosen_of, entry_at, limited, page};
 
 use std::marker::Model;
 
@@ -38,6 +38,13 @@ fn limited(count: usize, at: usize) -> usize
     ensures { result ≡ limited count at }
 {
     at.min(count.saturating_sub(1))
+}
+
+/// How many entries are a page.
+fn page(height: u16) -> usize
+    ensures { result ≡ page height }
+{
+    usize::from(height.max(1))
 }
 
 /// The first row's entry, moved no further than it must be for another one to be in sight and no row to be empty.
@@ -134,6 +141,28 @@ impl ListState {
         ensures { Becomes self.old self.old.count self.old.height (self.old.chosen + 1) self.new }
     {
         self.choose(self.chosen.saturating_add(1));
+    }
+
+    /// Chooses the entry a page before, or the first one if there is none: as many entries before as there are rows, and one if there is no row.
+    ///
+    /// ```
+    /// let mut list = ListState::new(100, 24);
+    /// list.page_down();
+    /// assert_eq!(rt; list.chosen(), Some(24));
+    /// list.page_up();
+    /// assert_eq!(rt; list.chosen(), Some(0));
+    /// ```
+    pub fn page_up(&mut self)
+        ensures { Becomes self.old self.old.count self.old.height (self.old.chosen - page self.old.height) self.new }
+    {
+        self.choose(self.chosen.saturating_sub(page(self.height)));
+    }
+
+    /// Chooses the entry a page behind, or the last one if there is none: as many entries behind as there are rows, and one if there is no row.
+    pub fn page_down(&mut self)
+        ensures { Becomes self.old self.old.count self.old.height (self.old.chosen + page self.old.height) self.new }
+    {
+        self.choose(self.chosen.saturating_add(page(self.height)));
     }
 
     /// Chooses the first entry.

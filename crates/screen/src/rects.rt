@@ -1,6 +1,6 @@
 //! Rectangles of columns and rows.
 ghost use Rattle.std.specs.Prelude.{◌≡◌, ◌+◌, ◌↔◌, ◌<◌, ℕ, IsTrue};
-ghost use Rattle.screen.specs.Rects.{Has, HasWithin, inner, shared};
+ghost use Rattle.screen.specs.Rects.{Has, HasWithin, OneHas, front, inner, rest, shared};
 
 /// A rectangle of columns and rows, by the first ones, from 0, and their numbers. It may go beyond a buffer.
 ///
@@ -57,7 +57,42 @@ fn inner(span: Span, margin: u16) -> Span
     (span.0, 0)
 }
 
+/// The first ones, so many or all if there are fewer.
+fn front(span: Span, count: u16) -> Span
+    ensures { result ≡ front span count }
+{
+    (span.0, if count < span.1 { count } else { span.1 })
+}
+
+/// What is behind these.
+fn rest(span: Span, count: u16) -> Span
+    ensures { result ≡ rest span count }
+{
+    let (first, taken) = front(span, count);
+    let start = end((first, taken));
+    if start < 65536 {
+        return (start as u16, span.1 - taken);
+    }
+    (first, 0)
+}
+
 impl Rect {
+    /// A rectangle by its first column and row, and the numbers of its columns and rows.
+    ///
+    /// ```
+    /// let footer = Rect::new(0, 23, 80, 1);
+    /// ```
+    pub const fn new(x: u16, y: u16, width: u16, height: u16) -> Rect
+        ensures { result ≡ record { x = x; y = y; width = width; height = height } }
+    {
+        Rect {
+            x,
+            y,
+            width,
+            height,
+        }
+    }
+
     /// Whether it has a column and a row.
     pub fn contains(self, column: u16, row: u16) -> bool
         ensures { IsTrue result ↔ Has self column row }
@@ -99,5 +134,43 @@ impl Rect {
             width,
             height,
         }
+    }
+
+    /// The first columns, so many or all if it has fewer, and the others. If the others begin behind 65535, their width is 0.
+    ///
+    /// ```
+    /// let (names, sizes) = buffer.area().split_columns(20);
+    /// ```
+    pub fn split_columns(self, at: u16) -> (Rect, Rect)
+        ensures places { (column row : ℕ) → column < 65536 → Has self column row ↔ OneHas result.0 result.1 column row }
+        ensures front { (result.0.x, result.0.width) ≡ front (self.x, self.width) at }
+        ensures rest { (result.1.x, result.1.width) ≡ rest (self.x, self.width) at }
+        ensures rows { (result.0.y ≡ self.y) × (result.0.height ≡ self.height) × (result.1.y ≡ self.y) × (result.1.height ≡ self.height) }
+    {
+        let (first, columns) = front((self.x, self.width), at);
+        let (next, others) = rest((self.x, self.width), at);
+        (
+            Rect::new(first, self.y, columns, self.height),
+            Rect::new(next, self.y, others, self.height),
+        )
+    }
+
+    /// The first rows, so many or all if it has fewer, and the others. If the others begin behind 65535, their height is 0.
+    ///
+    /// ```
+    /// let (title, list) = buffer.area().split_rows(1);
+    /// ```
+    pub fn split_rows(self, at: u16) -> (Rect, Rect)
+        ensures places { (column row : ℕ) → row < 65536 → Has self column row ↔ OneHas result.0 result.1 column row }
+        ensures front { (result.0.y, result.0.height) ≡ front (self.y, self.height) at }
+        ensures rest { (result.1.y, result.1.height) ≡ rest (self.y, self.height) at }
+        ensures columns { (result.0.x ≡ self.x) × (result.0.width ≡ self.width) × (result.1.x ≡ self.x) × (result.1.width ≡ self.width) }
+    {
+        let (first, rows) = front((self.y, self.height), at);
+        let (next, others) = rest((self.y, self.height), at);
+        (
+            Rect::new(self.x, first, self.width, rows),
+            Rect::new(self.x, next, self.width, others),
+        )
     }
 }
