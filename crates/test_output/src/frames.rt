@@ -1,5 +1,6 @@
 //! Screens from outside: what is written is read by a plain program of the test, which shows it on cells of its own.
 
+mod areas;
 mod failing;
 mod growth;
 mod paper;

@@ -102,6 +102,105 @@ fn an_end_that_fails_keeps_no_other_from_being_written(rt: HostRuntime) {
     expect!(rt; comes(&rt, rt.alloc(), TURNED_ON.len() + 2, true, met, saw));
 }
 
+/// Features that are turned on, and some that are turned off again, by a writer that fails once after so many bytes.
+struct Turning {
+    on: &'static [Feature],
+    off: &'static [Feature],
+    room: usize,
+    /// The kind of the error of turning off.
+    error: Option<ErrorKind>,
+    /// What was written up to the session's end.
+    text: &'static [u8],
+}
+
+const SCREEN_CURSOR_FOCUS: &[Feature] = &[
+    Feature::AlternateScreen,
+    Feature::HiddenCursor,
+    Feature::FocusChange,
+];
+
+static TURNINGS: [Turning; 5] = [
+    Turning {
+        on: SCREEN_CURSOR_FOCUS,
+        off: &[Feature::HiddenCursor],
+        room: usize::MAX,
+        error: None,
+        text: b"\x1b[?1049h\x1b[?25l\x1b[?1004h\x1b[?25h\x1b[?1004l\x1b[?1049l",
+    },
+    // What isn't turned on, or isn't any more, is passed over.
+    Turning {
+        on: SCREEN_CURSOR_FOCUS,
+        off: &[
+            Feature::MouseCapture,
+            Feature::FocusChange,
+            Feature::FocusChange,
+        ],
+        room: usize::MAX,
+        error: None,
+        text: b"\x1b[?1049h\x1b[?25l\x1b[?1004h\x1b[?1004l\x1b[?25h\x1b[?1049l",
+    },
+    // The last of two ends, and the first one with the session.
+    Turning {
+        on: &[
+            Feature::FocusChange,
+            Feature::HiddenCursor,
+            Feature::FocusChange,
+        ],
+        off: &[Feature::FocusChange],
+        room: usize::MAX,
+        error: None,
+        text: b"\x1b[?1004h\x1b[?25l\x1b[?1004h\x1b[?1004l\x1b[?25h\x1b[?1004l",
+    },
+    // A keyboard's flags are of one kind.
+    Turning {
+        on: &[
+            Feature::HiddenCursor,
+            Feature::Keyboard(KeyboardEnhancementFlags::REPORT_EVENT_TYPES),
+        ],
+        off: &[Feature::Keyboard(KeyboardEnhancementFlags::DISAMBIGUATE_ESCAPE_CODES)],
+        room: usize::MAX,
+        error: None,
+        text: b"\x1b[?25l\x1b[>2u\x1b[<1u\x1b[?25h",
+    },
+    // What failed is turned off by the session's end.
+    Turning {
+        on: &[Feature::HiddenCursor],
+        off: &[Feature::HiddenCursor],
+        room: 8,
+        error: BROKEN,
+        text: b"\x1b[?25l\x1b[\x1b[?25h",
+    },
+];
+
+/// The kind of the error of turning off, if all could be turned on.
+fn turned_off<R: Wait>(
+    rt: &R,
+    alloc: Global,
+    row: &Turning,
+    out: &mut Witness,
+) -> Option<Option<ErrorKind>> {
+    let calls = AtomicU32::new(0);
+    let mut session = begun(rt, alloc, &calls, None, out).ok()?;
+    for feature in row.on {
+        session.turn_on(*feature).ok()?;
+    }
+    for feature in row.off {
+        if let Err(error) = session.turn_off(*feature) {
+            return Some(Some(error.kind()));
+        }
+    }
+    Some(None)
+}
+
+#[test]
+fn what_is_turned_off_is_the_last_of_its_kind(rt: HostRuntime) {
+    for row in &TURNINGS {
+        let mut out = Witness::new(rt.alloc(), row.room, ErrorKind::BrokenPipe);
+        expect!(rt; turned_off(&rt, rt.alloc(), row, &mut out) == Some(row.error));
+        expect!(rt; out.has(row.text));
+    }
+}
+
 /// A call of a writer that fails: the calls up to it, by their digits, and the kind of its error.
 type Fault = (u32, ErrorKind);
 
