@@ -1,6 +1,6 @@
 //! Attributes of a text.
 
-use std::ops::{BitAnd, BitOr, BitXor};
+use core::ops::{BitAnd, BitOr, BitXor};
 
 /// Declares the attributes, and the list of all.
 macro_rules! attributes {

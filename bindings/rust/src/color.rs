@@ -1,6 +1,6 @@
 //! Colours.
 
-use std::str::FromStr;
+use core::str::FromStr;
 
 /// A colour. In the names `Dark` is the normal one of a pair, and the plain name the bright one.
 ///
@@ -111,12 +111,14 @@ impl Color {
     /// assert_eq!(Color::parse_ansi("5;9;1"), None);
     /// ```
     pub fn parse_ansi(ansi: &str) -> Option<Color> {
-        let numbers = ansi.split(';').map(|number| number.parse().ok()).collect::<Option<Vec<u8>>>()?;
-        match numbers[..] {
-            [5, place] => Some(PALETTE.get(usize::from(place)).copied().unwrap_or(Color::AnsiValue(place))),
-            [2, r, g, b] => Some(Color::Rgb { r, g, b }),
-            _ => None,
-        }
+        let mut numbers = ansi.split(';').map(|number| number.parse::<u8>().ok());
+        let mut next = || numbers.next().flatten();
+        let color = match next()? {
+            5 => next().map(|place| PALETTE.get(usize::from(place)).copied().unwrap_or(Color::AnsiValue(place)))?,
+            2 => Color::Rgb { r: next()?, g: next()?, b: next()? },
+            _ => return None,
+        };
+        numbers.next().is_none().then_some(color)
     }
 }
 
@@ -125,8 +127,8 @@ impl TryFrom<&str> for Color {
     type Error = ();
 
     fn try_from(name: &str) -> Result<Color, ()> {
-        let name = name.to_lowercase();
-        NAMES.iter().find(|(_, known)| *known == name).map(|(color, _)| *color).ok_or(())
+        let is_name = |known: &str| name.chars().flat_map(char::to_lowercase).eq(known.chars());
+        NAMES.iter().find(|(_, known)| is_name(known)).map(|(color, _)| *color).ok_or(())
     }
 }
 

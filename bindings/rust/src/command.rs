@@ -1,11 +1,9 @@
-//! Commands, and how their bytes get to a writer.
+//! Commands, and how their bytes get into a slice.
 
 use crate::attribute::{Attribute, Attributes};
 use crate::color::Color;
 use crate::key::KeyboardEnhancementFlags;
 use crate::raw;
-use std::fmt::{self, Display};
-use std::io;
 
 /// How a text looks.
 #[derive(Clone, Copy, Debug, Default, PartialEq, Eq, Hash)]
@@ -273,81 +271,4 @@ pub fn put_command(slice: &mut [u8], command: &Command, colors: bool) -> Option<
         other => raw::command(&numbers(other), colors, slice),
     };
     (told < 2).then_some(length)
-}
-
-/// The bytes of a command, on the stack if they are few.
-struct Bytes {
-    short: [u8; 64],
-    long: Vec<u8>,
-    length: usize,
-}
-
-impl Bytes {
-    #[inline]
-    fn of(command: &Command, colors: bool) -> Option<Bytes> {
-        let mut bytes = Bytes { short: [0; 64], long: Vec::new(), length: 0 };
-        bytes.length = put_command(&mut bytes.short, command, colors)?;
-        if bytes.length > bytes.short.len() {
-            bytes.long = vec![0; bytes.length];
-            put_command(&mut bytes.long, command, colors)?;
-        }
-        Some(bytes)
-    }
-
-    #[inline]
-    fn as_slice(&self) -> &[u8] {
-        self.short.get(..self.length).unwrap_or(&self.long)
-    }
-}
-
-/// Writes a command as text.
-///
-/// # Errors
-///
-/// The writer's.
-///
-/// ```
-/// use gelvanh::{write_text, Command};
-///
-/// let mut text = String::new();
-/// write_text(&mut text, &Command::MoveTo(65535, 0), true)?;
-/// assert_eq!(text, "\x1b[1;65536H");
-/// # Ok::<(), std::fmt::Error>(())
-/// ```
-#[inline]
-pub fn write_text<W: fmt::Write + ?Sized>(writer: &mut W, command: &Command, colors: bool) -> fmt::Result {
-    let bytes = Bytes::of(command, colors).ok_or(fmt::Error)?;
-    writer.write_str(std::str::from_utf8(bytes.as_slice()).map_err(|_| fmt::Error)?)
-}
-
-/// The parameters of a command that ends with `m`, as `38;5;9` of a red text.
-pub fn parameters(command: &Command) -> String {
-    let mut text = String::new();
-    // A text has room for all, so only a command that isn't there could fail.
-    let _ = write_text(&mut text, command, true);
-    text.trim_start_matches("\x1b[").trim_end_matches('m').to_string()
-}
-
-impl Attribute {
-    /// The attribute's parameter in a sequence: `1` of bold, `4:3` of undercurled.
-    pub fn sgr(self) -> String {
-        parameters(&Command::SetAttribute(self))
-    }
-}
-
-/// The sequence that sets the attribute.
-impl Display for Attribute {
-    fn fmt(&self, f: &mut fmt::Formatter<'_>) -> fmt::Result {
-        write_text(f, &Command::SetAttribute(*self), true)
-    }
-}
-
-/// Writes a command on a writer.
-///
-/// # Errors
-///
-/// The writer's, which may have taken a beginning of the bytes.
-pub fn write_command<W: io::Write + ?Sized>(writer: &mut W, command: &Command, colors: bool) -> io::Result<()> {
-    let bytes = Bytes::of(command, colors).ok_or(io::ErrorKind::InvalidInput)?;
-    writer.write_all(bytes.as_slice())
 }

@@ -1,7 +1,6 @@
 //! From the archive's numbers to events.
 
-use crate::event::{Event, InternalEvent, MouseButton, MouseEvent, MouseEventKind};
-use crate::held::Classes;
+use crate::event::{Classes, Event, InternalEvent, MouseButton, MouseEvent, MouseEventKind};
 use crate::key::{KeyCode, KeyEvent, KeyEventKind, KeyEventState, KeyModifiers, KeyboardEnhancementFlags, MEDIA, MODIFIERS};
 use crate::raw;
 
@@ -111,22 +110,31 @@ impl raw::Event {
     /// The event of these numbers, but that of a paste. It is `None` if they are no event's, as those of a parser never are.
     #[inline]
     pub fn to_event(&self) -> Option<InternalEvent> {
-        if self.kind == 3 {
-            return key_of(self).map(|key| InternalEvent::Event(Event::Key(key)));
+        match self.kind {
+            6 => Some(InternalEvent::CursorPosition(self.column, self.row)),
+            7 => Some(InternalEvent::KeyboardEnhancementFlags(KeyboardEnhancementFlags::from_bits_retain(self.flags))),
+            8 => Some(InternalEvent::PrimaryDeviceAttributes),
+            _ => self.to_user_event().map(InternalEvent::Event),
         }
-        Some(match self.kind {
-            4 => InternalEvent::Event(Event::Mouse(mouse_of(self))),
-            1 => InternalEvent::Event(Event::FocusGained),
-            2 => InternalEvent::Event(Event::FocusLost),
-            6 => InternalEvent::CursorPosition(self.column, self.row),
-            7 => InternalEvent::KeyboardEnhancementFlags(KeyboardEnhancementFlags::from_bits_retain(self.flags)),
-            8 => InternalEvent::PrimaryDeviceAttributes,
-            9 => InternalEvent::Event(Event::Resize(self.column, self.row)),
-            _ => return None,
-        })
     }
 
-    /// The same, with that of a paste, whose text is asked for. Without the feature `bracketed-paste` a paste is none.
+    /// The same, if a user brought the event about.
+    #[inline]
+    pub fn to_user_event(&self) -> Option<Event> {
+        if self.kind == 3 {
+            return key_of(self).map(Event::Key);
+        }
+        match self.kind {
+            4 => Some(Event::Mouse(mouse_of(self))),
+            1 => Some(Event::FocusGained),
+            2 => Some(Event::FocusLost),
+            9 => Some(Event::Resize(self.column, self.row)),
+            _ => None,
+        }
+    }
+
+    /// The event of these numbers, with that of a paste, whose text is asked for. Without the feature `bracketed-paste` a paste is none.
+    #[cfg(feature = "std")]
     #[inline]
     pub fn to_event_with(&self, text: impl FnOnce() -> Option<String>) -> Option<InternalEvent> {
         if !self.is_paste() {

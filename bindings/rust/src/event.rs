@@ -2,6 +2,7 @@
 
 use crate::key::{KeyEvent, KeyEventKind, KeyModifiers, KeyboardEnhancementFlags};
 use crate::variants::is_variants;
+use core::ops::BitOr;
 
 /// An event that a user of the terminal brings about.
 ///
@@ -129,6 +130,42 @@ pub enum InternalEvent {
     KeyboardEnhancementFlags(KeyboardEnhancementFlags),
     /// The terminal's attributes, which aren't read further.
     PrimaryDeviceAttributes,
+}
+
+/// Classes of events, of which a call takes the first. They are joined by `|`.
+#[derive(Clone, Copy, Debug, PartialEq, Eq)]
+pub struct Classes(u32);
+
+impl Classes {
+    /// What a user brought about.
+    pub const EVENTS: Classes = Classes(1);
+    /// Replies with the cursor's place.
+    pub const CURSOR: Classes = Classes(2);
+    /// Replies with the keyboard's flags.
+    pub const FLAGS: Classes = Classes(4);
+    /// Replies with the terminal's attributes.
+    pub const ATTRIBUTES: Classes = Classes(8);
+    /// All of them.
+    pub const ALL: Classes = Classes(15);
+
+    #[cfg(feature = "std")]
+    pub(crate) fn bits(self) -> u32 {
+        self.0
+    }
+
+    /// Whether all of the other classes are among these.
+    #[inline]
+    pub fn has(self, other: Classes) -> bool {
+        self.0 & other.0 == other.0
+    }
+}
+
+impl BitOr for Classes {
+    type Output = Classes;
+
+    fn bitor(self, other: Classes) -> Classes {
+        Classes(self.0 | other.0)
+    }
 }
 
 /// What the mouse did, and where, from 0.

@@ -4,7 +4,7 @@
 #[derive(Clone, Debug)]
 pub struct FlagIter<F: 'static> {
     left: u8,
-    table: std::slice::Iter<'static, (&'static str, u8)>,
+    table: core::slice::Iter<'static, (&'static str, u8)>,
     set_of: fn(u8) -> F,
 }
 
@@ -29,7 +29,7 @@ impl<F> Iterator for FlagIter<F> {
         if let Some((_, flag)) = self.next_named() {
             return Some(flag);
         }
-        let left = std::mem::take(&mut self.left);
+        let left = core::mem::take(&mut self.left);
         (left != 0).then(|| (self.set_of)(left))
     }
 }
@@ -47,7 +47,7 @@ impl<F> Iterator for FlagNames<F> {
 }
 
 /// Writes names and ` | ` between them, and the bits without a name as `0x80`.
-pub(crate) fn write_names(f: &mut impl std::fmt::Write, bits: u8, table: &[(&str, u8)]) -> std::fmt::Result {
+pub(crate) fn write_names(f: &mut impl core::fmt::Write, bits: u8, table: &[(&str, u8)]) -> core::fmt::Result {
     let mut left = bits;
     let mut between = "";
     for (name, bit) in table.iter().filter(|(_, bit)| bits & bit != 0) {
@@ -199,8 +199,8 @@ macro_rules! flags {
         }
 
         /// `NAME(ONE | TWO)`, and `NAME(0x0)` of the empty set.
-        impl std::fmt::Debug for $name {
-            fn fmt(&self, f: &mut std::fmt::Formatter<'_>) -> std::fmt::Result {
+        impl core::fmt::Debug for $name {
+            fn fmt(&self, f: &mut core::fmt::Formatter<'_>) -> core::fmt::Result {
                 if self.is_empty() {
                     return f.write_str(concat!(stringify!($name), "(0x0)"));
                 }
@@ -216,7 +216,7 @@ macro_rules! flags {
         $crate::flags::operators!($name: Sub sub SubAssign sub_assign difference);
         $crate::flags::formats!($name: Binary LowerHex Octal UpperHex);
 
-        impl std::ops::Not for $name {
+        impl core::ops::Not for $name {
             type Output = $name;
 
             fn not(self) -> $name {
@@ -251,7 +251,7 @@ pub(crate) use flags;
 /// An operator of two sets, and the one that assigns.
 macro_rules! operators {
     ($name:ident: $trait:ident $call:ident $assign:ident $assign_call:ident $as:ident) => {
-        impl std::ops::$trait for $name {
+        impl core::ops::$trait for $name {
             type Output = $name;
 
             fn $call(self, other: $name) -> $name {
@@ -259,7 +259,7 @@ macro_rules! operators {
             }
         }
 
-        impl std::ops::$assign for $name {
+        impl core::ops::$assign for $name {
             fn $assign_call(&mut self, other: $name) {
                 *self = self.$as(other);
             }
@@ -271,9 +271,9 @@ pub(crate) use operators;
 /// The formats that show a set's bits as a number.
 macro_rules! formats {
     ($name:ident: $($format:ident)*) => {$(
-        impl std::fmt::$format for $name {
-            fn fmt(&self, f: &mut std::fmt::Formatter<'_>) -> std::fmt::Result {
-                std::fmt::$format::fmt(&self.0, f)
+        impl core::fmt::$format for $name {
+            fn fmt(&self, f: &mut core::fmt::Formatter<'_>) -> core::fmt::Result {
+                core::fmt::$format::fmt(&self.0, f)
             }
         }
     )*};

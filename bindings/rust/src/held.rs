@@ -1,29 +1,39 @@
 //! Events that wait to be asked for.
 
-use crate::event::InternalEvent;
+use crate::event::{Classes, Event, InternalEvent};
+use crate::parser::Parser;
 use crate::raw;
-use std::ops::BitOr;
 
-/// Classes of events, of which a call takes the first. They are joined by `|`.
-#[derive(Clone, Copy, Debug, PartialEq, Eq)]
-pub struct Classes(u32);
-
-impl Classes {
-    /// What a user brought about.
-    pub const EVENTS: Classes = Classes(1);
-    /// Replies with the cursor's place.
-    pub const CURSOR: Classes = Classes(2);
-    /// Replies with the keyboard's flags.
-    pub const FLAGS: Classes = Classes(4);
-    /// Replies with the terminal's attributes.
-    pub const ATTRIBUTES: Classes = Classes(8);
+/// An event that was taken, as numbers, which become an event without the table.
+#[derive(Debug)]
+pub enum Taken {
+    /// Any but a paste.
+    Numbers(raw::Event),
+    /// The text of a paste.
+    Paste(String),
 }
 
-impl BitOr for Classes {
-    type Output = Classes;
+impl Taken {
+    /// The event. It is `None` if the numbers are no event's, as those of a parser never are, and for a paste without the feature
+    /// `bracketed-paste`.
+    #[inline]
+    pub fn into_event(self) -> Option<InternalEvent> {
+        match self {
+            Taken::Numbers(event) => event.to_event(),
+            paste => paste.into_user_event().map(InternalEvent::Event),
+        }
+    }
 
-    fn bitor(self, other: Classes) -> Classes {
-        Classes(self.0 | other.0)
+    /// The same, if a user brought the event about.
+    #[inline]
+    pub fn into_user_event(self) -> Option<Event> {
+        match self {
+            Taken::Numbers(event) => event.to_user_event(),
+            #[cfg(feature = "bracketed-paste")]
+            Taken::Paste(text) => Some(Event::Paste(text)),
+            #[cfg(not(feature = "bracketed-paste"))]
+            Taken::Paste(_) => None,
+        }
     }
 }
 
@@ -79,23 +89,52 @@ impl HeldEvents {
         debug_assert!(is_held, "the table has room");
     }
 
+    /// Holds the events of some bytes behind the others, as `Parser::flat` gives them. Those of other classes than these are dropped.
+    ///
+    /// ```
+    /// use gelvanh::{Classes, HeldEvents, Parser};
+    ///
+    /// let (mut parser, mut held) = (Parser::default(), HeldEvents::default());
+    /// held.feed(&mut parser, b"a\x1b[3;4Rb", false, true, Classes::EVENTS);
+    /// assert!(held.holds(Classes::EVENTS) && !held.holds(Classes::CURSOR));
+    /// ```
+    pub fn feed(&mut self, parser: &mut Parser, piece: &[u8], more: bool, raw: bool, classes: Classes) {
+        let mut told = parser.flat(piece, more, raw);
+        while let Some(event) = told.next() {
+            if classes.has(event.class()) {
+                let text = if event.is_paste() { told.paste_text().unwrap_or_default() } else { String::new() };
+                self.hold(event, text);
+            }
+        }
+    }
+
     /// Whether an event of these classes is held.
     #[inline]
     pub fn holds(&self, classes: Classes) -> bool {
-        raw::holds(&self.reader, &self.table, classes.0)
+        raw::holds(&self.reader, &self.table, classes.bits())
     }
 
     /// Takes the first event of these classes. The others stay, in their order.
     #[inline]
     pub fn take(&mut self, classes: Classes) -> Option<InternalEvent> {
         loop {
-            let taken = raw::take(&mut self.reader, &mut self.table, classes.0)?;
-            if let Some(event) = taken.event.to_event_with(|| self.text_of(taken.arrival)) {
+            if let Some(event) = self.take_flat(classes)?.into_event() {
                 return Some(event);
             }
         }
     }
 
+    /// The same, as numbers.
+    #[inline]
+    pub fn take_flat(&mut self, classes: Classes) -> Option<Taken> {
+        let raw::Held { event, arrival } = raw::take(&mut self.reader, &mut self.table, classes.bits())?;
+        if event.is_paste() {
+            return Some(Taken::Paste(self.text_of(arrival).unwrap_or_default()));
+        }
+        Some(Taken::Numbers(event))
+    }
+
+    #[cold]
     fn text_of(&mut self, arrival: u64) -> Option<String> {
         let place = self.texts.iter().position(|(number, _)| *number == arrival)?;
         Some(self.texts.remove(place).1)

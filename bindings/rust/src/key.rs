@@ -2,9 +2,9 @@
 
 use crate::flags::flags;
 use crate::variants::is_variants;
-use std::cmp::Ordering;
-use std::fmt::{self, Display};
-use std::hash::{Hash, Hasher};
+use core::cmp::Ordering;
+use core::fmt::{self, Display};
+use core::hash::{Hash, Hasher};
 
 flags! {
     /// The modifiers that were held, as a set.

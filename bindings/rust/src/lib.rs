@@ -26,11 +26,14 @@
 //! # Ok::<(), std::io::Error>(())
 //! ```
 //!
+//! Without the feature `std` it needs no standard library: `flat::FlatParser` and `put_command` are there, and all types but the text of a paste.
+//!
 //! What is proved is the archive's code: that the events are the meanings of the parts of the only division of the bytes, that those held are
 //! taken in their order, by class, and that a command's bytes are its text. This wrapper isn't: its part is the declarations of `raw`, which
 //! hold all its `unsafe`, and from numbers to enums.
 #![deny(unsafe_code)]
 #![deny(missing_docs)]
+#![cfg_attr(not(feature = "std"), no_std)]
 
 mod attribute;
 mod color;
@@ -38,23 +41,33 @@ mod command;
 mod decode;
 mod event;
 mod flags;
+pub mod flat;
+#[cfg(feature = "std")]
 mod held;
 mod key;
+#[cfg(feature = "std")]
 mod parser;
 #[allow(unsafe_code)]
+#[cfg_attr(not(feature = "std"), allow(dead_code))]
 mod raw;
 #[cfg(feature = "serde")]
 mod texts;
 mod variants;
+#[cfg(feature = "std")]
+mod writing;
 
 pub use attribute::{Attribute, Attributes};
 pub use color::Color;
-pub use command::{parameters, put_command, write_command, write_text, ClearType, Command, CursorStyle, Style};
-pub use event::{Event, InternalEvent, MouseButton, MouseEvent, MouseEventKind};
+pub use command::{put_command, ClearType, Command, CursorStyle, Style};
+pub use event::{Classes, Event, InternalEvent, MouseButton, MouseEvent, MouseEventKind};
 pub use flags::{FlagIter, FlagNames};
-pub use held::{Classes, HeldEvents};
+#[cfg(feature = "std")]
+pub use held::{HeldEvents, Taken};
 pub use key::{KeyCode, KeyEvent, KeyEventKind, KeyEventState, KeyModifiers, KeyboardEnhancementFlags, MediaKeyCode, ModifierKeyCode};
+#[cfg(feature = "std")]
 pub use parser::{Events, Parser};
+#[cfg(feature = "std")]
+pub use writing::{parameters, write_command, write_text};
 
 /// The version of the archive that is linked, by its three numbers: that of this crate, if the archive is the one that goes with it.
 ///
@@ -65,10 +78,4 @@ pub use parser::{Events, Parser};
 pub fn archive_version() -> (u8, u8, u8) {
     let [_, major, minor, patch] = raw::version().to_be_bytes();
     (major, minor, patch)
-}
-
-/// The events before they are given a shape, as numbers.
-pub mod flat {
-    pub use crate::parser::{FlatEvents, FlatParser};
-    pub use crate::raw::Event;
 }

@@ -88,7 +88,7 @@ const _: () = {
     assert!(size_of::<Command>() == 24 && align_of::<Command>() == 4);
 };
 
-use std::mem::{align_of, size_of};
+use core::mem::{align_of, size_of};
 
 extern "C" {
     fn gelvanh_version() -> u32;
@@ -155,7 +155,8 @@ pub fn is_pasting(state: &State) -> bool {
     unsafe { gelvanh_is_pasting(state) }
 }
 
-/// How many bytes were read and written.
+/// Writes the text of a paste's bytes, without the six of its end, and returns how many bytes were read and written. What isn't UTF-8 is
+/// U+FFFD. It stops at a character for which there is no room; with room for three times the bytes all are read.
 pub fn paste_text(bytes: &[u8], text: &mut [u8]) -> (usize, usize) {
     let mut written = 0;
     let read = unsafe { gelvanh_paste_text(bytes.as_ptr(), bytes.len(), text.as_mut_ptr(), text.len(), &mut written) };
@@ -182,6 +183,13 @@ pub fn take(reader: &mut Reader, table: &mut [Held], classes: u32) -> Option<Hel
 
 /// What came of a command, and its length.
 pub type Told = (u32, usize);
+
+/// The text of a command that a call wrote into a slice.
+#[inline]
+pub fn text_of(written: &[u8]) -> &str {
+    // SAFETY: the archive's contract: these are the command's characters, which are ASCII but for those of a `&str`.
+    unsafe { core::str::from_utf8_unchecked(written) }
+}
 
 #[inline]
 pub fn command(command: &Command, colors: bool, slice: &mut [u8]) -> Told {
