@@ -329,6 +329,19 @@ def example_list(start):
         assert bytes(t.out).endswith(told + b"\r\n"), bytes(t.out)
 
 
+def example_menu(start):
+    for typed, chosen in (("\x1b[B\x1b[B\r", b"Rename\r\n"), ("\x1b[<65;1;1M\r", b"Save\r\n"), ("\x1b[<0;3;4M\r", b"Quit\r\n"), ("\x1b", b"")):
+        t = start("")
+        t.wait_shown(b"Quit")
+        assert t.is_raw()
+        # The window has room for half of it.
+        t.resize(3, 2)
+        t.wait_shown(b"\x1b[1mOpe\x1b[2;1H\x1b[0mSav")
+        t.type(typed)
+        assert t.end() == []
+        assert bytes(t.out).endswith(b"\x1b[?1049l" + chosen), bytes(t.out)
+
+
 program, names = sys.argv[1], sys.argv[2:]
 ALL = (keys, resizes, limits, two_threads, many, queries, filters, ends, hangups, colours, streams, escapes, cuts)
 for test in [globals()[name] for name in names] or ALL:

@@ -46,25 +46,132 @@ pub(crate) fn write_proved<W: fmt::Write + ?Sized>(f: &mut W, command: &gelvanh:
     gelvanh::write_text(f, command, !Colored::ansi_color_disabled_memoized())
 }
 
-/// A value as `{}` shows it, or its error, for which `to_string` would panic.
-pub(crate) fn shown(value: &impl fmt::Display) -> Result<String, fmt::Error> {
-    let mut text = String::new();
-    fmt::write(&mut text, format_args!("{value}"))?;
-    Ok(text)
+/// The text of a value as `{}` shows it: on the stack as long as it is short.
+pub(crate) struct Shown {
+    short: [u8; 128],
+    length: usize,
+    /// The whole text, if it is long.
+    long: String,
 }
 
-/// A writer of bytes as one of text, which keeps its error.
-struct Text<'a, W: ?Sized> {
+impl Shown {
+    /// The value's text, or its error, for which `to_string` would panic.
+    #[inline]
+    pub(crate) fn of(value: &impl fmt::Display) -> Result<Shown, fmt::Error> {
+        let mut text = Shown { short: [0; 128], length: 0, long: String::new() };
+        fmt::write(&mut text, format_args!("{value}"))?;
+        Ok(text)
+    }
+
+    #[inline]
+    pub(crate) fn as_str(&self) -> &str {
+        if self.long.is_empty() {
+            // It is made of whole texts.
+            return std::str::from_utf8(&self.short[..self.length]).unwrap_or_default();
+        }
+        &self.long
+    }
+}
+
+impl fmt::Write for Shown {
+    #[inline]
+    fn write_str(&mut self, text: &str) -> fmt::Result {
+        if self.long.is_empty() {
+            if let Some(room) = self.short[self.length..].get_mut(..text.len()) {
+                room.copy_from_slice(text.as_bytes());
+                self.length += text.len();
+                return Ok(());
+            }
+            self.long = self.as_str().to_string();
+        }
+        self.long.push_str(text);
+        Ok(())
+    }
+}
+
+/// So many bytes of commands wait for one write at most: those of four or five.
+const WAITING: usize = 128;
+
+/// Commands on their way to a writer, which gets as many at once as fit.
+#[doc(hidden)]
+pub struct Run<'a, W: Write + ?Sized> {
     writer: &'a mut W,
+    waiting: [u8; WAITING],
+    length: usize,
+    /// The writer's error. Nothing is written after it.
     error: Option<io::Error>,
 }
 
-impl<W: Write + ?Sized> fmt::Write for Text<'_, W> {
+impl<'a, W: Write + ?Sized> Run<'a, W> {
+    #[inline]
+    pub fn new(writer: &'a mut W) -> Run<'a, W> {
+        Run { writer, waiting: [0; WAITING], length: 0, error: None }
+    }
+
+    /// Puts a command behind the others.
+    #[inline]
+    pub fn put(&mut self, command: impl Command) -> io::Result<()> {
+        if command.write_ansi(self).is_ok() {
+            return Ok(());
+        }
+        // What came before a command that failed by itself is written all the same.
+        self.end()?;
+        Err(io::Error::new(io::ErrorKind::Other, "a command's write_ansi failed"))
+    }
+
+    /// Writes what waits.
+    #[inline]
+    pub fn end(&mut self) -> io::Result<()> {
+        let _ = self.hand_on();
+        self.error.take().map_or(Ok(()), Err)
+    }
+
+    #[inline]
+    fn hand_on(&mut self) -> fmt::Result {
+        let length = std::mem::take(&mut self.length);
+        write_or_keep(self.writer, &self.waiting[..length], &mut self.error)
+    }
+}
+
+/// Writes bytes, and keeps the writer's error.
+#[inline]
+fn write_or_keep<W: Write + ?Sized>(writer: &mut W, bytes: &[u8], kept: &mut Option<io::Error>) -> fmt::Result {
+    if bytes.is_empty() || kept.is_some() {
+        return if kept.is_some() { Err(fmt::Error) } else { Ok(()) };
+    }
+    writer.write_all(bytes).map_err(|error| {
+        *kept = Some(error);
+        fmt::Error
+    })
+}
+
+impl<W: Write + ?Sized> fmt::Write for Run<'_, W> {
+    #[inline]
     fn write_str(&mut self, text: &str) -> fmt::Result {
-        self.writer.write_all(text.as_bytes()).map_err(|error| {
-            self.error = Some(error);
-            fmt::Error
-        })
+        if let Some(room) = self.waiting[self.length..].get_mut(..text.len()) {
+            room.copy_from_slice(text.as_bytes());
+            self.length += text.len();
+            return Ok(());
+        }
+        self.hand_on()?;
+        match self.waiting.get_mut(..text.len()) {
+            Some(room) => {
+                room.copy_from_slice(text.as_bytes());
+                self.length = text.len();
+                Ok(())
+            }
+            None => write_or_keep(self.writer, text.as_bytes(), &mut self.error),
+        }
+    }
+}
+
+/// Writes what waits, as where a command's value isn't there and `?` ends the run.
+impl<W: Write + ?Sized> Drop for Run<'_, W> {
+    #[inline]
+    fn drop(&mut self) {
+        if self.length > 0 {
+            let _ = self.hand_on();
+        }
     }
 }
 
@@ -89,10 +196,10 @@ pub trait QueueableCommand {
 
 impl<W: Write + ?Sized> QueueableCommand for W {
     fn queue(&mut self, command: impl Command) -> io::Result<&mut Self> {
-        let mut text = Text { writer: &mut *self, error: None };
-        if command.write_ansi(&mut text).is_err() {
-            return Err(text.error.unwrap_or_else(|| io::Error::new(io::ErrorKind::Other, "a command's write_ansi failed")));
-        }
+        let mut run = Run::new(&mut *self);
+        run.put(command)?;
+        run.end()?;
+        drop(run);
         Ok(self)
     }
 }

@@ -123,7 +123,7 @@ pub fn poll(timeout: Duration) -> io::Result<bool> {
 /// `UnexpectedEof` at the end of input, or the system's.
 pub fn read() -> io::Result<Event> {
     loop {
-        if let Some(event) = reader::wait(None, reader::State::take_event)? {
+        if let Some(event) = next(None)? {
             return Ok(event);
         }
     }
@@ -131,5 +131,16 @@ pub fn read() -> io::Result<Event> {
 
 /// The next event, if one is there now: it doesn't wait, but behind an ESC as `poll` does.
 pub fn try_read() -> Option<Event> {
-    reader::wait(Some(Instant::now()), reader::State::take_event).ok().flatten()
+    next(Some(Instant::now())).ok().flatten()
+}
+
+/// The next event, if one comes until the limit.
+fn next(limit: Option<Instant>) -> io::Result<Option<Event>> {
+    while let Some(taken) = reader::wait(limit, reader::State::take_event)? {
+        // Without the lock, since it takes as long as the rest.
+        if let Some(event) = taken.into_user_event() {
+            return Ok(Some(event));
+        }
+    }
+    Ok(None)
 }

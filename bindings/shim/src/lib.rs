@@ -39,4 +39,6 @@ pub mod style;
 pub mod terminal;
 pub mod tty;
 
+#[doc(hidden)]
+pub use command::Run;
 pub use command::{Command, ExecutableCommand, QueueableCommand, SynchronizedUpdate};

@@ -16,9 +16,10 @@ macro_rules! queue {
         use ::std::io::Write as _;
         match $writer.by_ref() {
             writer => (|| -> ::std::io::Result<()> {
-                let _ = &writer;
-                $($crate::QueueableCommand::queue(writer, $command)?;)*
-                ::std::result::Result::Ok(())
+                #[allow(unused_mut)]
+                let mut run = $crate::Run::new(writer);
+                $(run.put($command)?;)*
+                run.end()
             })(),
         }
     }};
@@ -38,7 +39,10 @@ macro_rules! execute {
         use ::std::io::Write as _;
         match $writer.by_ref() {
             writer => (|| -> ::std::io::Result<()> {
-                $($crate::QueueableCommand::queue(writer, $command)?;)*
+                let mut run = $crate::Run::new(&mut *writer);
+                $(run.put($command)?;)*
+                run.end()?;
+                ::std::mem::drop(run);
                 ::std::io::Write::flush(writer)
             })(),
         }

@@ -151,7 +151,7 @@ pub struct SetTitle<T>(pub T);
 
 impl<T: fmt::Display> Command for SetTitle<T> {
     fn write_ansi(&self, f: &mut impl fmt::Write) -> fmt::Result {
-        command::write_proved(f, &Proved::SetTitle(&command::shown(&self.0)?))
+        command::write_proved(f, &Proved::SetTitle(command::Shown::of(&self.0)?.as_str()))
     }
 }
 

@@ -178,6 +178,26 @@ fn bytes_of_commands() -> io::Result<()> {
     Ok(())
 }
 
+/// A text that is shown in so many pieces of three bytes.
+struct Pieces(usize);
+
+impl fmt::Display for Pieces {
+    fn fmt(&self, f: &mut fmt::Formatter<'_>) -> fmt::Result {
+        (0..self.0).try_for_each(|_| f.write_str("\u{e9}."))
+    }
+}
+
+/// Texts that fill 128 bytes almost, that are longer by a piece, and that are much longer.
+#[test]
+fn texts_in_pieces() {
+    style::force_color_output(true);
+    for pieces in [0, 1, 41, 42, 43, 44, 85, 86, 1000] {
+        let text = "\u{e9}.".repeat(pieces);
+        assert_eq!(style::style(Pieces(pieces)).red().to_string(), format!("\x1b[38;5;9m{text}\x1b[39m"));
+        assert_eq!(terminal::SetTitle(Pieces(pieces)).to_string(), format!("\x1b]0;{text}\x07"));
+    }
+}
+
 #[cfg(feature = "osc52")]
 #[test]
 fn bytes_of_a_copy() -> io::Result<()> {

@@ -3,7 +3,7 @@
 use crate::event::reader::{self, Asking, State};
 use crate::system;
 use crate::terminal::{disable_raw_mode, enable_raw_mode};
-use gelvanh::{Classes, InternalEvent};
+use gelvanh::{Classes, InternalEvent, Taken};
 use std::io;
 use std::time::{Duration, Instant};
 
@@ -43,7 +43,8 @@ pub fn position() -> io::Result<(u16, u16)> {
         let _asking = Asking::begin();
         system::send(b"\x1b[6n")?;
         let limit = Instant::now().checked_add(LIMIT);
-        match reader::wait(limit, |state: &mut State| state.take_reply(Classes::CURSOR))? {
+        let reply = reader::wait(limit, |state: &mut State| state.take_reply(Classes::CURSOR))?;
+        match reply.and_then(Taken::into_event) {
             Some(InternalEvent::CursorPosition(column, row)) => Ok((column, row)),
             _ => Err(not_answered("the cursor's place")),
         }
@@ -62,7 +63,8 @@ pub fn supports_keyboard_enhancement() -> io::Result<bool> {
         system::send(b"\x1b[?u\x1b[c")?;
         let limit = Instant::now().checked_add(LIMIT);
         let reply = reader::wait(limit, |state: &mut State| state.take_reply(Classes::FLAGS | Classes::ATTRIBUTES))?;
-        let speaks = matches!(reply.ok_or_else(|| not_answered("its flags"))?, InternalEvent::KeyboardEnhancementFlags(_));
+        let reply = reply.ok_or_else(|| not_answered("its flags"))?.into_event();
+        let speaks = matches!(reply, Some(InternalEvent::KeyboardEnhancementFlags(_)));
         if speaks {
             reader::wait(limit, |state: &mut State| state.take_reply(Classes::ATTRIBUTES))?;
         }

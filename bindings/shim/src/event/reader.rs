@@ -3,8 +3,8 @@
 //! One thread at a time waits for the terminal: it has taken the source out, and holds no lock. The others wait, each until its own
 //! limit. A thread that came back, with events or without, wakes all others, and one of these takes the source then.
 
-use crate::event::source::{Source, Told};
-use gelvanh::{Classes, Event, HeldEvents, InternalEvent};
+use crate::event::source::{Sink, Source};
+use gelvanh::{Classes, HeldEvents, Taken};
 use std::io;
 use std::mem;
 use std::sync::{Condvar, Mutex, MutexGuard, PoisonError};
@@ -31,10 +31,12 @@ pub struct State {
     held: HeldEvents,
     /// How many calls wait for a reply.
     asking: usize,
+    /// How many threads wait to be told of a change.
+    waiting: usize,
     seat: Seat,
 }
 
-static STATE: Mutex<State> = Mutex::new(State { held: HeldEvents::new(), asking: 0, seat: Seat::Unopened });
+static STATE: Mutex<State> = Mutex::new(State { held: HeldEvents::new(), asking: 0, waiting: 0, seat: Seat::Unopened });
 static CHANGED: Condvar = Condvar::new();
 
 fn lock() -> MutexGuard<'static, State> {
@@ -46,24 +48,25 @@ impl State {
         self.held.holds(Classes::EVENTS)
     }
 
-    pub fn take_event(&mut self) -> Option<Event> {
-        match self.held.take(Classes::EVENTS)? {
-            InternalEvent::Event(event) => Some(event),
-            _ => None,
-        }
+    pub fn take_event(&mut self) -> Option<Taken> {
+        self.held.take_flat(Classes::EVENTS)
     }
 
     /// The first reply of some classes.
-    pub fn take_reply(&mut self, classes: Classes) -> Option<InternalEvent> {
-        self.held.take(classes)
+    pub fn take_reply(&mut self, classes: Classes) -> Option<Taken> {
+        self.held.take_flat(classes)
     }
 
-    /// Holds what was read behind what is there. A reply that nobody asked for is dropped.
-    fn keep(&mut self, read: Vec<Told>) {
-        for (event, text) in read {
-            if self.asking > 0 || event.class() == Classes::EVENTS {
-                self.held.hold(event, text);
-            }
+    /// Where events go. A reply that nobody asked for is dropped.
+    fn sink(&mut self) -> Sink<'_> {
+        let classes = if self.asking > 0 { Classes::ALL } else { Classes::EVENTS };
+        Sink { held: &mut self.held, classes }
+    }
+
+    /// Wakes those that wait to be told.
+    fn tell(&self) {
+        if self.waiting > 0 {
+            CHANGED.notify_all();
         }
     }
 }
@@ -105,6 +108,7 @@ pub fn find_now<T>(mut find: impl FnMut(&mut State) -> Option<T>) -> io::Result<
 /// Waits for the terminal, or if another thread does, for what that one reads.
 fn look(mut state: MutexGuard<'static, State>, left: Option<Duration>, for_rest: bool) -> io::Result<MutexGuard<'static, State>> {
     let mut source = match mem::replace(&mut state.seat, Seat::Taken) {
+        Seat::Taken if left == Some(Duration::ZERO) => return Ok(state),
         Seat::Taken => return Ok(wait_to_be_told(state, left)),
         Seat::Free(source) => source,
         Seat::Unopened => match Source::open() {
@@ -115,21 +119,28 @@ fn look(mut state: MutexGuard<'static, State>, left: Option<Duration>, for_rest:
             }
         },
     };
-    drop(state);
-    let mut read = Vec::new();
-    let outcome = source.read(left, for_rest, &mut read);
-    let mut state = lock();
-    state.seat = Seat::Free(source);
-    state.keep(read);
-    CHANGED.notify_all();
-    outcome.map(|()| state)
+    loop {
+        drop(state);
+        let came = source.wait(left, for_rest);
+        state = lock();
+        let given = came.and_then(|came| source.give(came, state.sink()));
+        // A program that polls with no time stops if there is no event of a user, and would miss the Esc: the open ESC is waited for.
+        if given.is_err() || !for_rest || !source.is_open() || state.has_event() {
+            state.seat = Seat::Free(source);
+            state.tell();
+            return given.map(|()| state);
+        }
+    }
 }
 
-fn wait_to_be_told(state: MutexGuard<'static, State>, left: Option<Duration>) -> MutexGuard<'static, State> {
-    match left {
+fn wait_to_be_told(mut state: MutexGuard<'static, State>, left: Option<Duration>) -> MutexGuard<'static, State> {
+    state.waiting += 1;
+    state = match left {
         None => CHANGED.wait(state).unwrap_or_else(PoisonError::into_inner),
         Some(left) => CHANGED.wait_timeout(state, left).unwrap_or_else(PoisonError::into_inner).0,
-    }
+    };
+    state.waiting -= 1;
+    state
 }
 
 /// Lets each waiting thread look again at what it waits for.
@@ -138,7 +149,7 @@ pub fn wake_all() {
     // With the lock, so that a thread either waits already or hasn't looked yet.
     let state = lock();
     crate::system::wake();
-    CHANGED.notify_all();
+    state.tell();
     drop(state);
 }
 

@@ -107,7 +107,12 @@ impl EventStream {
         if let Some(fault) = self.watch.as_ref().and_then(|watch| watch.lock().fault.take()) {
             return Err(fault);
         }
-        reader::find_now(State::take_event)
+        while let Some(taken) = reader::find_now(State::take_event)? {
+            if let Some(event) = taken.into_user_event() {
+                return Ok(Some(event));
+            }
+        }
+        Ok(None)
     }
 }
 

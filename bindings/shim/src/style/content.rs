@@ -99,8 +99,8 @@ impl<D: Display> StyledContent<D> {
 
     /// Writes the value in its style.
     pub(crate) fn write_to(&self, f: &mut impl fmt::Write) -> fmt::Result {
-        let text = command::shown(&self.content)?;
-        command::write_proved(f, &gelvanh::Command::PrintStyledContent(self.style.proved(), &text))
+        let text = command::Shown::of(&self.content)?;
+        command::write_proved(f, &gelvanh::Command::PrintStyledContent(self.style.proved(), text.as_str()))
     }
 }
 
