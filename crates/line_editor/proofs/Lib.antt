@@ -1,0 +1,13 @@
+pub mod Stepping
+pub mod Sizing
+pub mod Placing
+pub mod Settling
+pub mod Editing
+pub mod Acting
+pub mod Keeping
+pub mod Undoing
+pub mod Furthest
+pub mod Seeing
+pub mod Searching
+pub mod Showing
+pub mod Running

@@ -1,0 +1,11 @@
+pub mod Splits
+pub mod Words
+pub mod Places
+pub mod Edits
+pub mod Recent
+pub mod Shown
+pub mod States
+pub mod Bounds
+pub mod Laws
+pub mod Views
+pub mod Seen

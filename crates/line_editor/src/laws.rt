@@ -1,0 +1,48 @@
+//! Laws of lines and of their editor. None of these functions does anything when it runs: its contract is the law.
+ghost use Rattle.std.specs.Prelude.{List, ℕ};
+ghost use Rattle.line_editor.specs.declared.actions.Action.{Action};
+ghost use Rattle.line_editor.specs.declared.places.Target.{Target};
+ghost use Rattle.line_editor.specs.Laws.{CanBeUndone, CutsOut, KeepsHistory, KeepsText, RedoesUndone, WritesAt, YanksBack};
+ghost use Rattle.line_editor.specs.Seen.{Fits};
+ghost use Rattle.line_editor.specs.Splits.{Split};
+ghost use Rattle.line_editor.specs.States.{EditorState};
+
+/// A move keeps the text.
+pub fn keeps_text()
+    ensures { (target : Target) (d : Split) → KeepsText target d }
+{}
+
+/// What is erased was one piece of the text, and the rest of the text stays.
+pub fn cuts_out()
+    ensures { (target : Target) (d : Split) → CutsOut target d }
+{}
+
+/// What is inserted is at the cursor, and the rest of the text stays.
+pub fn writes_at()
+    ensures { (text : List ℕ) (d : Split) → WritesAt text d }
+{}
+
+/// A kill and a yank give the text back, if what was before and what was behind don't become one cluster in between.
+pub fn yanks_back()
+    ensures { (target : Target) (d : Split) → YanksBack target d }
+{}
+
+/// An action keeps the accepted lines.
+pub fn keeps_history()
+    ensures { (action : Action) (w : EditorState) → KeepsHistory action w }
+{}
+
+/// After actions for which there are steps enough, some number of undos gives back the text, and all that could be undone before.
+pub fn can_be_undone()
+    ensures { (actions : List Action) (w : EditorState) → CanBeUndone actions w }
+{}
+
+/// A redo gives back what an undo took.
+pub fn redoes_undone()
+    ensures { (w : EditorState) → RedoesUndone w }
+{}
+
+/// What is seen of a line has room in a row, and so has the cursor, where it is in the line.
+pub fn fits()
+    ensures { (room : ℕ) (d : Split) → Fits room d }
+{}

@@ -1,0 +1,67 @@
+//! Lines that are edited: an editor of one line, with the actions of GNU readline, undo and a history.
+//!
+//! An `Editor` has a `Line`, a text with a cursor that is never within an extended grapheme cluster (Unicode's UAX 29). An `Action` is done
+//! by `Editor::act`. Moves, erasures and kills take a `Target`, the next stop in a direction. `Line::seen` says what is seen of the line in a
+//! row. Nothing is read or drawn here.
+//!
+//! ```
+//! let mut editor = Editor::new(alloc, Limits::default())?;
+//! editor.paste("two words")?;
+//! editor.act(Action::Kill(Target::Back(Stop::WordStart)))?;
+//! assert_eq!(rt; editor.line().text(), "two ");
+//! ```
+//!
+//! It is built on the kit's `unicode_segmentation`, for clusters, and `unicode_width`, for columns, by their public contracts.
+//!
+//! What is proved, beyond safety:
+//!
+//! | Proved | By the contract of |
+//! |---|---|
+//! | what each action makes of an editor, and each refusal by name: a text is refused as too long exactly if it has no room, and nothing has changed | `Editor::{act, paste}` |
+//! | some actions are done one after another, or those before the first that is refused | `Editor::run` |
+//! | a move is never refused, and a line is let go without memory | `Editor::{act, let_go}` |
+//! | an accepted line has its text, and is the newest of as many lines as the limit says | `Editor::accept` |
+//! | a line has no control character, and none of more than two columns | `Line::{text, before, cut, seen}`, `Editor::accept` |
+//! | a move keeps the text; what is erased was one piece; what is written is at the cursor; a kill and a yank give the text back | `laws::{keeps_text, cuts_out, writes_at, yanks_back}` |
+//! | undo gives back what was there before any actions, as long as the steps suffice, and redo what was undone | `laws::{can_be_undone, redoes_undone}` |
+//! | an action keeps the accepted lines | `laws::keeps_history` |
+//! | of a line as much is seen as has room, with the cursor where it is in the line | `Line::seen`, `laws::fits` |
+//! | as an `io::Error`, refused memory has the kind `OutOfMemory`, and a text that is too long `InvalidInput` | `From<EditFault>` of `io::Error` |
+//!
+//! What to believe, in the order in which it reads (`specs/`), and where it is proved:
+//!
+//! | Definitions | Of | Contract |
+//! |---|---|---|
+//! | `Splits` | a line as what is before its cursor and what is behind | `Line` |
+//! | `Words` | the characters of words, and white space | |
+//! | `Places` | the places to which a cursor goes | |
+//! | `Edits` | what is inserted, erased and transposed | |
+//! | `Recent` | lists of lines, the newest first | |
+//! | `Shown` | the characters that a line has | `Line::text` |
+//! | `States` | an editor's state, and what each action makes of it | `Editor` |
+//! | `Bounds` | which texts have room, and what is refused | `Editor::{act, run, paste}` |
+//! | `Laws` | what edits keep | `laws` |
+//! | `Views` | what is seen of a line in a row | `Line::seen` |
+//! | `Seen` | what is true of what is seen | `Line::seen`, `laws::fits` |
+//!
+//! A function's proof is in `proofs/` at the function's path; if there is no file, the prover found it by itself.
+#![tactic(auto)]
+
+mod actions;
+mod editor;
+mod fault;
+pub mod laws;
+mod limits;
+mod lines;
+mod places;
+mod recent;
+mod shown;
+mod texts;
+mod views;
+
+pub use actions::Action;
+pub use editor::Editor;
+pub use fault::EditFault;
+pub use limits::Limits;
+pub use lines::Line;
+pub use places::{Stop, Target};
