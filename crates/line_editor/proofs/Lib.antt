@@ -11,3 +11,4 @@ pub mod Seeing
 pub mod Searching
 pub mod Showing
 pub mod Running
+pub mod Loading

@@ -9,7 +9,7 @@ use Rattle.line_editor.specs.States.{behind_front, first_with, or_else}
 use Rattle.line_editor.proofs.Stepping.{chars_before-start}
 
 -- the lines from one on: its own text, and the lines behind it
-from_line : (xs : List Split) (at : ℕ) (t : List ℕ) → Some t ≡ option_map text_of (slice_get xs at)
+pub from_line : (xs : List Split) (at : ℕ) (t : List ℕ) → Some t ≡ option_map text_of (slice_get xs at)
     → (d : Split) × (drop at xs ≡ d ∷ drop (suc at) xs) × (text_of d ≡ t)
 from_line [] at t e = cc
 from_line (x ∷ xs) zero t e = (x, refl, sym (some_same t (text_of x) e))
@@ -18,7 +18,7 @@ from_line (x ∷ xs) zero t e = (x, refl, sym (some_same t (text_of x) e))
     some_same a b e = cc
 from_line (x ∷ xs) (suc at) t e = from_line xs at t e
 
-past_lines : (xs : List Split) (at : ℕ) → None ≡ option_map text_of (slice_get xs at) → (drop at xs ≡ []) × (drop (suc at) xs ≡ [])
+pub past_lines : (xs : List Split) (at : ℕ) → None ≡ option_map text_of (slice_get xs at) → (drop at xs ≡ []) × (drop (suc at) xs ≡ [])
 past_lines [] zero e = (refl, refl)
 past_lines [] (suc at) e = (refl, refl)
 past_lines (x ∷ xs) zero e = cc

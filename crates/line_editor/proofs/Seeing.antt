@@ -1,5 +1,5 @@
 -- What is seen of a line, and how many columns it takes.
-use Rattle.std.proofs.Common.{◌≡◌, ℕ, ◌+◌, ◌-◌, ◌<◌, ◌≤◌, List, [], ◌∷◌, ◌++◌, length, reverse, refl, sym, ap, ◌∙◌, inl, inr, arith, append_assoc, length-append, leb, slice_range, subst}
+use Rattle.std.proofs.Common.{◌≡◌, ℕ, ◌+◌, ◌-◌, ◌<◌, ◌≤◌, true, List, [], ◌∷◌, ◌++◌, length, reverse, refl, sym, ap, ◌∙◌, inl, inr, arith, append_assoc, length-append, leb, slice_range, subst}
 use Rattle.std.proofs.lemmas.Bool.{cases_Bool, leb-true}
 use Rattle.std.proofs.lemmas.List.{length-reverse, reverse-append, reverse-reverse}
 use Rattle.std.specs.Str.{chars, IsUtf8, IsCharBoundary}
@@ -7,11 +7,11 @@ use Rattle.unicode_segmentation.specs.Segments.{chars_before, chars_from}
 use Rattle.line_editor.specs.Splits.{Split, split_at}
 use Rattle.line_editor.specs.Edits.{from_to}
 use Rattle.line_editor.specs.Places.{is_between}
-use Rattle.line_editor.specs.Seen.{Fits}
+use Rattle.line_editor.specs.Seen.{Fits, KeepsClusters}
 use Rattle.line_editor.specs.Views.{Start, columns, columns_of, end_seen, furthest, last_seen, place_or, seen, start, start_at, start_or}
 use Rattle.line_editor.proofs.Furthest.{columns-append, last_seen-far, start-far}
-use Rattle.line_editor.proofs.Keeping.{IsFrom, IsFrom-last, IsFrom-none, IsFrom-one, from_to-IsFrom}
-use Rattle.line_editor.proofs.Settling.{chars-slice_range}
+use Rattle.line_editor.proofs.Keeping.{IsFrom, IsFrom-last, IsFrom-none, IsFrom-one, from_to-IsFrom, text_of-IsFrom}
+use Rattle.line_editor.proofs.Settling.{Stands, chars-slice_range}
 use Rattle.line_editor.proofs.Stepping.{chars_before-start, chars_from-end}
 
 -- nothing is before the start, nor behind the end
@@ -110,6 +110,59 @@ fits room d some =
           let far = last_seen-far room s.column d.before part back d (λ _. ap (λ t. record { before = d.before; after = t }) e) h le in
           let all : P d.after = subst P (sym e) far in
           omega (arith, all, ap length end.1.after, length-append end.0 (end_seen room s.column d).after, ap length e, length-append part back);
+    }
+
+-- ---- both ends
+
+or-Stands : (s best : Start) → Stands best.place → Stands (start_or s best).place
+or-Stands s best h = elim (cases_Bool (is_between s.place.before s.place.after)) [ inl here ↦ rw here here | inr not_here ↦ rw not_here h ]
+
+furthest-Stands : (room used : ℕ) (before after : List ℕ) (best : Start) → Stands best.place → Stands (furthest room used before after best).place
+furthest-Stands room used [] after best h = h
+furthest-Stands room used (c ∷ before) after best h =
+    let s : Start = record { place = record { before = before; after = c ∷ after }; column = used + columns_of c } in
+    elim (cases_Bool (leb (used + columns_of c) room)) [
+      | inl here ↦ rw here (furthest-Stands room (used + columns_of c) before (c ∷ after) (start_or s best) (or-Stands s best h))
+      | inr not_here ↦ rw not_here h
+    ]
+
+place-or-Stands : (q best : Split) → Stands best → Stands (place_or q best)
+place-or-Stands q best h = elim (cases_Bool (is_between q.before q.after)) [ inl here ↦ rw here here | inr not_here ↦ rw not_here h ]
+
+last_seen-Stands : (room used : ℕ) (before after : List ℕ) (best : Split) → Stands best → Stands (last_seen room used before after best)
+last_seen-Stands room used before [] best h = h
+last_seen-Stands room used before (c ∷ after) best h =
+    let q : Split = record { before = c ∷ before; after = after } in
+    elim (cases_Bool (leb (used + columns_of c) room)) [
+      | inl here ↦ rw here (last_seen-Stands room (used + columns_of c) (c ∷ before) after (place_or q best) (place-or-Stands q best h))
+      | inr not_here ↦ rw not_here h
+    ]
+
+pub keeps_clusters : (room : ℕ) (d : Split) → KeepsClusters room d
+keeps_clusters room d stands =
+    let begin = furthest-Holds (room - 1) d d.before d.after [] 0 (record { place = d; column = 0 }) (IsFrom-none d) refl
+    ([], IsFrom-none d, refl, omega arith) in
+    let s = start room d in
+    let p = s.place in
+    let q = end_seen room s.column d in
+    let end = last_seen-Ends room s.column d d.before d.after [] s.column d (IsFrom-none d) (omega arith) ([], IsFrom-none d, omega (arith, begin.3)) in
+    let all = IsFrom-join p d q begin.0 end.0 begin.1 end.1 in
+    let part : seen room d ≡ begin.0 ++ end.0 = from_to-IsFrom p q (begin.0 ++ end.0) all in
+    let behind : p.after ≡ seen room d ++ q.after = all.after ∙ ap (λ t. t ++ q.after) (sym part) in
+    let ahead : q.before ≡ reverse (reverse p.before ++ seen room d) =
+    all.before ∙ ap (λ t. reverse t ++ p.before) (sym part)
+    ∙ sym (reverse-append (reverse p.before) (seen room d) ∙ ap (λ t. reverse (seen room d) ++ t) (reverse-reverse p.before)) in
+    let starts = furthest-Stands (room - 1) 0 d.before d.after (record { place = d; column = 0 }) stands in
+    let stops = last_seen-Stands room s.column d.before d.after d stands in
+    let P : List ℕ → Type 0 = λ t. is_between t (seen room d ++ q.after) ≡ true in
+    let Q : List ℕ → Type 0 = λ t. is_between p.before t ≡ true in
+    let R : List ℕ → Type 0 = λ t. is_between t q.after ≡ true in
+    record {
+      front = reverse p.before;
+      back = q.after;
+      text = text_of-IsFrom p d begin.0 begin.1 ∙ ap (λ t. reverse p.before ++ t) behind;
+      begins = subst P (sym (reverse-reverse p.before)) (subst Q behind starts);
+      ends = subst R ahead stops;
     }
 
 -- the text between both places is what is seen

@@ -6,6 +6,8 @@ pub mod Recent
 pub mod Shown
 pub mod States
 pub mod Bounds
+pub mod History
 pub mod Laws
 pub mod Views
 pub mod Seen
+pub mod inside

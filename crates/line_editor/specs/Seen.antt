@@ -1,10 +1,10 @@
 -- What is true of what is seen of a line.
 use Rattle.std.specs.Prelude.{◌≡◌, ℕ, ◌+◌, ◌<◌, ◌≤◌, true, List, ◌++◌, length, reverse}
-use Rattle.line_editor.specs.Splits.{Split}
+use Rattle.line_editor.specs.Splits.{Split, text_of}
 use Rattle.line_editor.specs.Places.{is_between}
 use Rattle.line_editor.specs.Views.{column, columns, seen}
 
--- What is seen has room, and its cursor is in the row, where it is in the line.
+-- What is seen has room, and its cursor is in the row, at its place in the line.
 pub record IsSeen (room : ℕ) (d : Split) : Type 0 where
   pub cursor : column room d < room
   pub text : columns (seen room d) ≤ room
@@ -24,3 +24,15 @@ pub record IsSeen (room : ℕ) (d : Split) : Type 0 where
 -- In a row of one column or more a line is seen so.
 abbrev pub Fits : ℕ → Split → Type 0
 Fits room d = 0 < room → IsSeen room d
+
+-- What is seen is a piece of the line's text that begins and ends between clusters.
+pub record IsInClusters (room : ℕ) (d : Split) : Type 0 where
+  pub front : List ℕ
+  pub back : List ℕ
+  pub text : text_of d ≡ front ++ (seen room d ++ back)
+  pub begins : is_between (reverse front) (seen room d ++ back) ≡ true
+  pub ends : is_between (reverse (front ++ seen room d)) back ≡ true
+
+-- If the cursor is between clusters, what is seen begins and ends so.
+abbrev pub KeepsClusters : ℕ → Split → Type 0
+KeepsClusters room d = is_between d.before d.after ≡ true → IsInClusters room d

@@ -6,6 +6,7 @@ ghost use Rattle.line_editor.specs.declared.actions.Action.{Action};
 ghost use Rattle.line_editor.specs.declared.fault.EditFault.TheVariants.{Memory};
 ghost use Rattle.line_editor.specs.Bounds.{AreAllowed, StopsAt, fault_of, is_too_long, room_of, written};
 ghost use Rattle.line_editor.specs.Edits.{cut, inserted, meeting};
+ghost use Rattle.line_editor.specs.History.{loaded, saved};
 ghost use Rattle.line_editor.specs.Places.{place};
 ghost use Rattle.line_editor.specs.Shown.{AreShown, shown};
 ghost use Rattle.line_editor.specs.Splits.{text_of};
@@ -13,6 +14,7 @@ ghost use Rattle.line_editor.specs.States.{IsMove, accepted, after, changed, dro
 
 use crate::actions::Action;
 use crate::fault::EditFault;
+use crate::history::{history_of, saved};
 use crate::limits::Limits;
 use crate::lines::Line;
 use crate::places::{Stop, Target};
@@ -531,6 +533,59 @@ impl<A: Allocator + Clone> Editor<A> {
     {
         match self.accepted_text() {
             Ok(text) => Ok(text),
+            Err(_) => Err(EditFault::Memory),
+        }
+    }
+
+    /// The text of the history: the accepted lines, the oldest first, with a line feed behind each. Loading it gives the same history.
+    ///
+    /// # Errors
+    ///
+    /// `Memory` if memory was refused.
+    ///
+    /// ```
+    /// let text = editor.history_text()?;
+    /// other.load_history(text.as_str())?;
+    /// ```
+    pub fn history_text(&self) -> Result<String<A>, EditFault>
+        ensures text { IfOk result (λ text. chars (string_bytes text) ≡ saved self.now.history) }
+        ensures fault { IfErr result (λ fault. fault ≡ Memory) }
+    {
+        let alloc = match self.alloc.clone() {
+            Ok(alloc) => alloc,
+            Err(_) => return Err(EditFault::Memory),
+        };
+        match saved(alloc, &self.history) {
+            Ok(text) => Ok(text),
+            Err(_) => Err(EditFault::Memory),
+        }
+    }
+
+    /// Takes the history from a text, a line a line, the oldest first. The line stays as it is.
+    ///
+    /// Of each line the characters are taken that `paste` takes. Empty lines, and lines of more bytes than the limit, are left out. Of too
+    /// many lines the last ones are taken.
+    ///
+    /// # Errors
+    ///
+    /// `Memory` if memory was refused. Then nothing has changed.
+    ///
+    /// ```
+    /// editor.load_history("first\nsecond\n")?;
+    /// editor.act(Action::Older)?;
+    /// assert_eq!(rt; editor.line().text(), "second");
+    /// ```
+    pub fn load_history(&mut self, text: &str) -> Result<(), EditFault>
+        ensures ok { OnOk result (self.new ≡ loaded (chars text.now) self.old) }
+        ensures err { OnErr result (self.new ≡ self.old) }
+        ensures fault { IfErr result (λ fault. fault ≡ Memory) }
+    {
+        match history_of(&self.alloc, self.limits, text) {
+            Ok(history) => {
+                self.history = history;
+                self.back = 0;
+                Ok(())
+            }
             Err(_) => Err(EditFault::Memory),
         }
     }

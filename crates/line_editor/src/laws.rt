@@ -3,7 +3,7 @@ ghost use Rattle.std.specs.Prelude.{List, ℕ};
 ghost use Rattle.line_editor.specs.declared.actions.Action.{Action};
 ghost use Rattle.line_editor.specs.declared.places.Target.{Target};
 ghost use Rattle.line_editor.specs.Laws.{CanBeUndone, CutsOut, KeepsHistory, KeepsText, RedoesUndone, WritesAt, YanksBack};
-ghost use Rattle.line_editor.specs.Seen.{Fits};
+ghost use Rattle.line_editor.specs.Seen.{Fits, KeepsClusters};
 ghost use Rattle.line_editor.specs.Splits.{Split};
 ghost use Rattle.line_editor.specs.States.{EditorState};
 
@@ -42,7 +42,12 @@ pub fn redoes_undone()
     ensures { (w : EditorState) → RedoesUndone w }
 {}
 
-/// What is seen of a line has room in a row, and so has the cursor, where it is in the line.
+/// What is seen of a line has room in a row, and so has the cursor, at its place in the line.
 pub fn fits()
     ensures { (room : ℕ) (d : Split) → Fits room d }
+{}
+
+/// What is seen of a line begins and ends between clusters, if the cursor is between clusters.
+pub fn keeps_clusters()
+    ensures { (room : ℕ) (d : Split) → KeepsClusters room d }
 {}

@@ -25,7 +25,8 @@
 //! | a move keeps the text; what is erased was one piece; what is written is at the cursor; a kill and a yank give the text back | `laws::{keeps_text, cuts_out, writes_at, yanks_back}` |
 //! | undo gives back what was there before any actions, as long as the steps suffice, and redo what was undone | `laws::{can_be_undone, redoes_undone}` |
 //! | an action keeps the accepted lines | `laws::keeps_history` |
-//! | of a line as much is seen as has room, with the cursor where it is in the line | `Line::seen`, `laws::fits` |
+//! | of a line as much is seen as has room, from one place between clusters to another, with the cursor at its place in the line | `Line::seen`, `laws::{fits, keeps_clusters}` |
+//! | the text of a history is its lines, the oldest first; a history that is loaded is the last lines of a text that have room | `Editor::{history_text, load_history}` |
 //! | as an `io::Error`, refused memory has the kind `OutOfMemory`, and a text that is too long `InvalidInput` | `From<EditFault>` of `io::Error` |
 //!
 //! What to believe, in the order in which it reads (`specs/`), and where it is proved:
@@ -40,9 +41,12 @@
 //! | `Shown` | the characters that a line has | `Line::text` |
 //! | `States` | an editor's state, and what each action makes of it | `Editor` |
 //! | `Bounds` | which texts have room, and what is refused | `Editor::{act, run, paste}` |
+//! | `History` | a history as a text, and the history that a text holds | `Editor::{history_text, load_history}` |
 //! | `Laws` | what edits keep | `laws` |
 //! | `Views` | what is seen of a line in a row | `Line::seen` |
-//! | `Seen` | what is true of what is seen | `Line::seen`, `laws::fits` |
+//! | `Seen` | what is true of what is seen | `Line::seen`, `laws::{fits, keeps_clusters}` |
+//!
+//! `specs/inside/` says the same of a part, and no public clause cites it.
 //!
 //! A function's proof is in `proofs/` at the function's path; if there is no file, the prover found it by itself.
 #![tactic(auto)]
@@ -50,6 +54,7 @@
 mod actions;
 mod editor;
 mod fault;
+mod history;
 pub mod laws;
 mod limits;
 mod lines;

@@ -6,7 +6,7 @@ ghost use Rattle.unicode_segmentation.specs.Segments.{chars_before, chars_from};
 ghost use Rattle.line_editor.specs.Bounds.{size};
 ghost use Rattle.line_editor.specs.Edits.{cut, empty, end_of, erased, inserted, joined, meeting, settled, start_of, transposed};
 ghost use Rattle.line_editor.specs.Places.{place};
-ghost use Rattle.line_editor.specs.Seen.{IsSeen};
+ghost use Rattle.line_editor.specs.Seen.{IsInClusters, IsSeen};
 ghost use Rattle.line_editor.specs.Shown.{AreShown};
 ghost use Rattle.line_editor.specs.Splits.{split_at, text_of};
 ghost use Rattle.line_editor.specs.Views.{column, seen};
@@ -220,6 +220,7 @@ impl<A: Allocator> Line<A> {
         ensures column { result.1 ≡ column room self.now }
         ensures few { result.1 ≤ 65535 }
         ensures fits { 0 < room → IsSeen room self.now }
+        ensures clusters { IsInClusters room self.now }
     {
         let text = self.text.as_str();
         let (from, column) = start_seen(text, self.at, room);

@@ -26,7 +26,7 @@ pub enum Stop {
     Edge,
 }
 
-/// Where an action reaches from the cursor.
+/// How far an action reaches from the cursor.
 ///
 /// ```
 /// let word_back = Target::Back(Stop::WordStart);
