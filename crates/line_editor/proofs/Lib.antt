@@ -12,3 +12,4 @@ pub mod Searching
 pub mod Showing
 pub mod Running
 pub mod Loading
+pub mod Turning

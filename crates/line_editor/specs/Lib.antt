@@ -7,6 +7,8 @@ pub mod Shown
 pub mod States
 pub mod Bounds
 pub mod History
+pub mod Keys
+pub mod Turns
 pub mod Laws
 pub mod Views
 pub mod Seen

@@ -2,7 +2,7 @@
 //!
 //! An `Editor` has a `Line`, a text with a cursor that is never within an extended grapheme cluster (Unicode's UAX 29). An `Action` is done
 //! by `Editor::act`. Moves, erasures and kills take a `Target`, the next stop in a direction. `Line::seen` says what is seen of the line in a
-//! row. Nothing is read or drawn here.
+//! row. `Editor::turn` takes an event: a key does what `command_of` says, and a paste is pasted. Nothing is read or drawn here.
 //!
 //! ```
 //! let mut editor = Editor::new(alloc, Limits::default())?;
@@ -11,7 +11,8 @@
 //! assert_eq!(rt; editor.line().text(), "two ");
 //! ```
 //!
-//! It is built on the kit's `unicode_segmentation`, for clusters, and `unicode_width`, for columns, by their public contracts.
+//! It is built on `crossterm_types`, for keys and events, and on the crates `unicode_segmentation`, for clusters, and `unicode_width`, for
+//! columns. It uses their public contracts, and lemmas that they lend.
 //!
 //! What is proved, beyond safety:
 //!
@@ -27,6 +28,8 @@
 //! | an action keeps the accepted lines | `laws::keeps_history` |
 //! | of a line as much is seen as has room, from one place between clusters to another, with the cursor at its place in the line | `Line::seen`, `laws::{fits, keeps_clusters}` |
 //! | the text of a history is its lines, the oldest first; a history that is loaded is the last lines of a text that have room | `Editor::{history_text, load_history}` |
+//! | a key asks for what the table of GNU readline's keys says | `command_of` |
+//! | the lines that come out of any events are those of their turns, one after another; a refusal leaves the turns before it | `Editor::{turn, turns}` |
 //! | as an `io::Error`, refused memory has the kind `OutOfMemory`, and a text that is too long `InvalidInput` | `From<EditFault>` of `io::Error` |
 //!
 //! What to believe, in the order in which it reads (`specs/`), and where it is proved:
@@ -42,6 +45,8 @@
 //! | `States` | an editor's state, and what each action makes of it | `Editor` |
 //! | `Bounds` | which texts have room, and what is refused | `Editor::{act, run, paste}` |
 //! | `History` | a history as a text, and the history that a text holds | `Editor::{history_text, load_history}` |
+//! | `Keys` | the keys of GNU readline, and what each asks for | `command_of` |
+//! | `Turns` | what an editor makes of events, and the lines that come out | `Editor::{turn, turns}` |
 //! | `Laws` | what edits keep | `laws` |
 //! | `Views` | what is seen of a line in a row | `Line::seen` |
 //! | `Seen` | what is true of what is seen | `Line::seen`, `laws::{fits, keeps_clusters}` |
@@ -55,18 +60,23 @@ mod actions;
 mod editor;
 mod fault;
 mod history;
+mod keys;
 pub mod laws;
 mod limits;
 mod lines;
+mod outcome;
 mod places;
 mod recent;
 mod shown;
 mod texts;
+mod turns;
 mod views;
 
 pub use actions::Action;
 pub use editor::Editor;
 pub use fault::EditFault;
+pub use keys::{KeyCommand, command_of};
 pub use limits::Limits;
 pub use lines::Line;
+pub use outcome::Outcome;
 pub use places::{Stop, Target};

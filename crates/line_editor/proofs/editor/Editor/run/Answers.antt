@@ -1,19 +1,12 @@
 use Rattle.std.proofs.Common.{◌≡◌, ◌∙◌, ◌+◌, List, [], ◌∷◌, ◌++◌, sym, ap, take, drop, get_or, subst, append_assoc}
 use Rattle.std.proofs.lemmas.List.{take-append-drop, take_all, take_more}
-use Rattle.std.specs.Prelude.{Result, Ok, Err, IfErr}
-use Rattle.std.specs.Result.{IsErrAnd}
 use Rattle.line_editor.specs.declared.actions.Action.{Action}
 use Rattle.line_editor.specs.declared.actions.Action.TheVariants.{Insert}
 use Rattle.line_editor.specs.declared.fault.EditFault.{EditFault}
 use Rattle.line_editor.specs.Bounds.{AreAllowed, StopsAt, fault_of, written}
 use Rattle.line_editor.specs.States.{EditorState, after, run}
-use Rattle.line_editor.proofs.Running.{allowed_end, run_end}
+use Rattle.line_editor.proofs.Running.{allowed_end, err_as, run_end}
 use Rattle.line_editor.proofs.editor.Editor.run.Goals as goal
-
--- a fact of an error holds of the result that has it
-err_as : {T E : Type 0} (r : Result T E) (P : E → Type 0) (x : E) → IsErrAnd r (λ y. y ≡ x) → P x → IfErr r P
-err_as (Ok a) P x h p = absurd h
-err_as (Err e) P x h p = subst P (sym h) p
 
 pub returns-in_err-act-clause-err : goal.returns-in_err-act-clause-err
 returns-in_err-act-clause-err g c =
