@@ -13,3 +13,7 @@ pub mod Showing
 pub mod Running
 pub mod Loading
 pub mod Turning
+pub mod Naming
+pub mod Held
+pub mod Bounding
+pub mod Reloading

@@ -7,8 +7,11 @@ pub mod Shown
 pub mod States
 pub mod Bounds
 pub mod History
+pub mod Tasks
+pub mod Bounded
 pub mod Keys
 pub mod Turns
+pub mod Names
 pub mod Laws
 pub mod Views
 pub mod Seen

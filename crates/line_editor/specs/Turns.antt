@@ -4,7 +4,6 @@ use Rattle.std.specs.Str.{chars}
 use Rattle.std.specs.declared.string.String.{String}
 use Rattle.crossterm_types.specs.Seen.{Seen}
 use Rattle.crossterm_types.specs.Seen as seen
-use Rattle.line_editor.specs.declared.actions.Action.{Action}
 use Rattle.line_editor.specs.declared.actions.Action.TheVariants.{Erase}
 use Rattle.line_editor.specs.declared.fault.EditFault.{EditFault}
 use Rattle.line_editor.specs.declared.fault.EditFault.TheVariants.{TooLong}
@@ -14,20 +13,11 @@ use Rattle.line_editor.specs.declared.outcome.Outcome.{Outcome}
 use Rattle.line_editor.specs.declared.outcome.Outcome.TheVariants as outcome
 use Rattle.line_editor.specs.declared.places.Stop.TheVariants.{Cluster}
 use Rattle.line_editor.specs.declared.places.Target.TheVariants.{Forward}
-use Rattle.line_editor.specs.Bounds.{is_too_long, written}
+use Rattle.line_editor.specs.Bounds.{is_too_long}
 use Rattle.line_editor.specs.Keys.{command_of}
-use Rattle.line_editor.specs.Shown.{shown}
 use Rattle.line_editor.specs.Splits.{text_of}
-use Rattle.line_editor.specs.States.{EditorState, accepted, after, dropped, pasted}
-
--- An event is nothing to an editor, or it acts, pastes, accepts the line, lets it go, or closes.
-pub data Task : Type 0 where
-  Nothing : Task
-  Acts : Action → Task
-  Pastes : List ℕ → Task
-  Accepts : Task
-  LetsGo : Task
-  Closes : Task
+use Rattle.line_editor.specs.States.{EditorState}
+use Rattle.line_editor.specs.Tasks.{Task, Acts, Pastes, Accepts, LetsGo, Closes, Nothing, done, task_text}
 
 -- An empty line is closed, and in another one the cluster at the cursor is erased.
 abbrev pub erase_or_close : List ℕ → Task
@@ -51,21 +41,6 @@ abbrev pub task_of : Seen → EditorState → Task
 task_of (seen.Key key) w = task_of_key (command_of key) w
 task_of (seen.Paste text) w = Pastes (chars text)
 task_of event w = Nothing
-
--- A task makes one state of another.
-abbrev pub done : Task → EditorState → EditorState
-done Nothing w = w
-done (Acts action) w = after action w
-done (Pastes text) w = pasted text w
-done Accepts w = accepted w
-done LetsGo w = dropped w
-done Closes w = w
-
--- A task writes what its action writes, or what is shown of a paste.
-abbrev pub task_text : Task → EditorState → List ℕ
-task_text (Acts action) w = written action w
-task_text (Pastes text) w = shown text
-task_text task w = []
 
 -- An outcome as a clause sees it: a line is its text.
 pub data Answer : Type 0 where

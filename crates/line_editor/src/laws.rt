@@ -2,10 +2,14 @@
 ghost use Rattle.std.specs.Prelude.{List, ℕ};
 ghost use Rattle.line_editor.specs.declared.actions.Action.{Action};
 ghost use Rattle.line_editor.specs.declared.places.Target.{Target};
+ghost use Rattle.line_editor.specs.declared.limits.Limits.{Limits};
+ghost use Rattle.line_editor.specs.Bounded.{LoadsSaved, StaysBounded};
 ghost use Rattle.line_editor.specs.Laws.{CanBeUndone, CutsOut, KeepsHistory, KeepsText, RedoesUndone, WritesAt, YanksBack};
+ghost use Rattle.line_editor.specs.Names.{ReadsBack};
 ghost use Rattle.line_editor.specs.Seen.{Fits, KeepsClusters};
 ghost use Rattle.line_editor.specs.Splits.{Split};
 ghost use Rattle.line_editor.specs.States.{EditorState};
+ghost use Rattle.line_editor.specs.Tasks.{Task};
 
 /// A move keeps the text.
 pub fn keeps_text()
@@ -50,4 +54,19 @@ pub fn fits()
 /// What is seen of a line begins and ends between clusters, if the cursor is between clusters.
 pub fn keeps_clusters()
     ensures { (room : ℕ) (d : Split) → KeepsClusters room d }
+{}
+
+/// The name of an action reads as this action.
+pub fn reads_back()
+    ensures { (action : Action) → ReadsBack action }
+{}
+
+/// From its beginning on, an editor stays within its limits, whatever is done to it that isn't refused as too long.
+pub fn stays_bounded()
+    ensures { (limits : Limits) (tasks : List Task) → StaysBounded limits tasks }
+{}
+
+/// Loading the text of an editor's history gives this history.
+pub fn loads_saved()
+    ensures { (w : EditorState) → LoadsSaved w }
 {}

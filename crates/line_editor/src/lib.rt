@@ -27,8 +27,10 @@
 //! | undo gives back what was there before any actions, as long as the steps suffice, and redo what was undone | `laws::{can_be_undone, redoes_undone}` |
 //! | an action keeps the accepted lines | `laws::keeps_history` |
 //! | of a line as much is seen as has room, from one place between clusters to another, with the cursor at its place in the line | `Line::seen`, `laws::{fits, keeps_clusters}` |
-//! | the text of a history is its lines, the oldest first; a history that is loaded is the last lines of a text that have room | `Editor::{history_text, load_history}` |
+//! | the text of a history is its lines, the oldest first; a history that is loaded is the last lines of a text that have room; loading what was saved gives the same history | `Editor::{history_text, load_history}`, `laws::loads_saved` |
+//! | a line has no more bytes than its limit, the history no more lines and undo no more steps, whatever is done that isn't refused | `laws::stays_bounded` |
 //! | a key asks for what the table of GNU readline's keys says | `command_of` |
+//! | what reads as the name of an action, and that an action's name reads as this action | `Action::from_name`, `Display` of `Action`; `laws::reads_back` |
 //! | the lines that come out of any events are those of their turns, one after another; a refusal leaves the turns before it | `Editor::{turn, turns}` |
 //! | as an `io::Error`, refused memory has the kind `OutOfMemory`, and a text that is too long `InvalidInput` | `From<EditFault>` of `io::Error` |
 //!
@@ -45,8 +47,11 @@
 //! | `States` | an editor's state, and what each action makes of it | `Editor` |
 //! | `Bounds` | which texts have room, and what is refused | `Editor::{act, run, paste}` |
 //! | `History` | a history as a text, and the history that a text holds | `Editor::{history_text, load_history}` |
+//! | `Tasks` | what is done to an editor by its calls | `laws::stays_bounded` |
+//! | `Bounded` | what is true of an editor, whatever was done to it | `laws::{stays_bounded, loads_saved}` |
 //! | `Keys` | the keys of GNU readline, and what each asks for | `command_of` |
 //! | `Turns` | what an editor makes of events, and the lines that come out | `Editor::{turn, turns}` |
+//! | `Names` | the names of actions, and what reads as one | `Action::from_name`, `Display` of `Target` and `Action`; `laws::reads_back` |
 //! | `Laws` | what edits keep | `laws` |
 //! | `Views` | what is seen of a line in a row | `Line::seen` |
 //! | `Seen` | what is true of what is seen | `Line::seen`, `laws::{fits, keeps_clusters}` |
@@ -64,6 +69,7 @@ mod keys;
 pub mod laws;
 mod limits;
 mod lines;
+mod names;
 mod outcome;
 mod places;
 mod recent;

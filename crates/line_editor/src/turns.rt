@@ -3,7 +3,9 @@ ghost use Rattle.std.specs.Prelude.{◌≡◌, ◌++◌, true, false, map, IfErr
 ghost use Rattle.crossterm_types.specs.Seen.{seen_event};
 ghost use Rattle.line_editor.specs.declared.fault.EditFault.TheVariants.{TooLong};
 ghost use Rattle.line_editor.specs.Bounds.{fault_of, is_too_long};
-ghost use Rattle.line_editor.specs.Turns.{AreTaken, StopsBefore, after_events, answer, answer_of, done, event_text, lines_in, lines_of_events, task_of, task_of_command, task_text, texts, turned};
+ghost use Rattle.line_editor.specs.Tasks as tasks;
+ghost use Rattle.line_editor.specs.Tasks.{done, task_text};
+ghost use Rattle.line_editor.specs.Turns.{AreTaken, StopsBefore, after_events, answer, answer_of, event_text, lines_in, lines_of_events, task_of, task_of_command, texts, turned};
 ghost use Rattle.line_editor.specs.Turns as turns;
 
 use crate::actions::Action;
@@ -19,11 +21,11 @@ use std::alloc::Allocator;
 impl<A: Allocator + Clone> Editor<A> {
     // Does an action, and the line goes on.
     fn act_on(&mut self, action: Action) -> Result<Outcome<A>, EditFault>
-        ensures ok { OnOk result (self.new ≡ done (turns.Acts action) self.old) }
+        ensures ok { OnOk result (self.new ≡ done (tasks.Acts action) self.old) }
         ensures answer { IfOk result (λ outcome. answer_of outcome ≡ turns.Going) }
-        ensures room { OnOk result (is_too_long (task_text (turns.Acts action) self.old) self.old ≡ false) }
+        ensures room { OnOk result (is_too_long (task_text (tasks.Acts action) self.old) self.old ≡ false) }
         ensures err { OnErr result (self.new ≡ self.old) }
-        ensures fault { IfErr result (λ fault. fault ≡ fault_of (task_text (turns.Acts action) self.old) self.old) }
+        ensures fault { IfErr result (λ fault. fault ≡ fault_of (task_text (tasks.Acts action) self.old) self.old) }
     {
         match self.act(action) {
             Ok(()) => Ok(Outcome::Going),
