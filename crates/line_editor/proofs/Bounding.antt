@@ -51,6 +51,19 @@ fresh-bounded limits = record {
   steps = omega arith;
 }
 
+-- how far back in the history an editor is has no bound
+bounded-back : (w : EditorState) (back : ℕ) → IsBounded w → IsBounded (record w { back = back })
+bounded-back w back h = record {
+  line = h.line;
+  unfinished = h.unfinished;
+  past = h.past;
+  undone = h.undone;
+  history = h.history;
+  killed = h.killed;
+  lines = h.lines;
+  steps = h.steps;
+}
+
 module _ (w : EditorState) (h : IsBounded w) where
   bounded-changed : (d : Split) → IsHeld w.limits d → IsBounded (changed d w)
   bounded-changed d k = record {
@@ -180,18 +193,7 @@ module _ (w : EditorState) (h : IsBounded w) where
 
   bounded-newer : (line : Option Split) → IfSome line (IsHeld w.limits) → IsBounded (newer_to line w)
   bounded-newer None k = h
-  bounded-newer (Some d) k =
-      let b = bounded-changed d k in
-      record {
-        line = b.line;
-        unfinished = b.unfinished;
-        past = b.past;
-        undone = b.undone;
-        history = b.history;
-        killed = b.killed;
-        lines = b.lines;
-        steps = b.steps;
-      }
+  bounded-newer (Some d) k = bounded-back (changed d w) (w.back - 1) (bounded-changed d k)
 
   newer-held : (back : ℕ) → IfSome (newer_line back w) (IsHeld w.limits)
   newer-held zero = h.unfinished

@@ -35,7 +35,7 @@ module _ (target : Target) (text inside : List ℕ) (from to at : ℕ) (d : Spli
       ∙ ap (λ (p : Split). from_to p (split_at text to)) (start ∙ ap (start_of target) same)
       ∙ ap (λ (q : Split). from_to (start_of target d) q) (end ∙ ap (end_of target) same)
 
--- where two clusters meet: at the cursor, if something is behind it
+-- two clusters meet at the cursor if something is behind it
 pub meeting_here : (before after : List ℕ) → (after ≡ [] → ⊥) → meeting before after ≡ record { before = before; after = after }
 meeting_here before [] some = absurd (some refl)
 meeting_here before (c ∷ after) some = refl
@@ -71,7 +71,7 @@ some_after text at u b lt none =
     let back : drop at text ≡ [] = sym (encodes-chars (drop at text) (IsUtf8-drop text at u b)) ∙ ap encodes none in
     omega (arith, ap length back, length-drop at text, lt)
 
--- what is before the place where clusters meet
+-- what is before the place at which clusters meet
 pub before_meeting : (text inside part : List ℕ) (middle at : ℕ) (d : Split) (c : ℕ) (before : List ℕ) → text ≡ inside → split_at inside at ≡ d
     → split_at text middle ≡ meeting (chars_before text at) (chars_from text at) → part ≡ take middle text → reverse (chars part) ≡ c ∷ before
     → (meeting d.before d.after).before ≡ c ∷ before

@@ -5,7 +5,7 @@ use Rattle.std.proofs.lemmas.List.{length-reverse, reverse-append, reverse-rever
 use Rattle.line_editor.specs.Splits.{Split}
 use Rattle.line_editor.specs.Places.{is_between}
 use Rattle.line_editor.specs.Views.{Start, columns, columns_of, furthest, last_seen, place_or, start, start_or}
-use Rattle.line_editor.proofs.Settling.{Stands}
+use Rattle.line_editor.proofs.Settling.{IsSettled}
 
 pub columns-append : (a b : List ℕ) → columns (a ++ b) ≡ columns a + columns b
 columns-append [] b = omega arith
@@ -23,7 +23,7 @@ or-back s best n a b = elim (cases_Bool (is_between s.place.before s.place.after
 or-from : (s best : Start) (n : ℕ) → n ≤ length s.place.before → n ≤ length best.place.before → n ≤ length (start_or s best).place.before
 or-from s best n a b = elim (cases_Bool (is_between s.place.before s.place.after)) [ inl here ↦ rw here a | inr not_here ↦ rw not_here b ]
 
-or-here : (s best : Start) → Stands s.place → (start_or s best).place ≡ s.place
+or-here : (s best : Start) → IsSettled s.place → (start_or s best).place ≡ s.place
 or-here s best h = rw h refl
 
 -- a start is never nearer than the one that was there
@@ -40,8 +40,8 @@ furthest-back room used (c ∷ before) after best n a b =
 
 -- it is as far back as any place between clusters from which there is room
 furthest-far : (room used : ℕ) (between before after : List ℕ) (best : Start)
-    → (Stands (record { before = between ++ before; after = after }) → best.place ≡ record { before = between ++ before; after = after })
-    → Stands (record { before = before; after = reverse between ++ after }) → used + columns between ≤ room
+    → (IsSettled (record { before = between ++ before; after = after }) → best.place ≡ record { before = between ++ before; after = after })
+    → IsSettled (record { before = before; after = reverse between ++ after }) → used + columns between ≤ room
     → length (furthest room used (between ++ before) after best).place.before ≤ length before
 furthest-far room used [] before after best b h le =
     let here = b h in
@@ -51,7 +51,7 @@ furthest-far room used (c ∷ between) before after best b h le =
     let room_for : leb (used + columns_of c) room ≡ true = le-leb (used + columns_of c) room (omega (arith, le)) in
     let same : reverse (c ∷ between) ++ after ≡ reverse between ++ (c ∷ after) =
     ap (λ t. t ++ after) (reverse-append (c ∷ []) between) ∙ append_assoc (reverse between) (c ∷ []) after in
-    let P : List ℕ → Type 0 = λ t. Stands (record { before = before; after = t }) in
+    let P : List ℕ → Type 0 = λ t. IsSettled (record { before = before; after = t }) in
     rw room_for (furthest-far room (used + columns_of c) between before (c ∷ after) (start_or s best) (or-here s best) (subst P same h) (omega (arith, le)))
 
 pub start-far : (room : ℕ) (d : Split) (front part : List ℕ) → reverse d.before ≡ front ++ part → is_between (reverse front) (part ++ d.after) ≡ true
@@ -59,8 +59,8 @@ pub start-far : (room : ℕ) (d : Split) (front part : List ℕ) → reverse d.b
 start-far room d front part e h le =
     let split : d.before ≡ reverse part ++ reverse front = sym (reverse-reverse d.before) ∙ ap reverse e ∙ reverse-append front part in
     let P : List ℕ → Type 0 = λ t. length (furthest (room - 1) 0 t d.after (record { place = record { before = t; after = d.after }; column = 0 })).place.before ≤ length (reverse front) in
-    let Q : List ℕ → Type 0 = λ t. Stands (record { before = reverse front; after = t }) in
-    let stands : Stands (record { before = reverse front; after = reverse (reverse part) ++ d.after }) =
+    let Q : List ℕ → Type 0 = λ t. IsSettled (record { before = reverse front; after = t }) in
+    let stands : IsSettled (record { before = reverse front; after = reverse (reverse part) ++ d.after }) =
     subst Q (ap (λ t. t ++ d.after) (sym (reverse-reverse part))) h in
     let far = furthest-far (room - 1) 0 (reverse part) (reverse front) d.after
     (record { place = record { before = reverse part ++ reverse front; after = d.after }; column = 0 }) (λ _. refl) stands (omega (arith, le, columns-reverse part)) in
@@ -72,7 +72,7 @@ start-far room d front part e h le =
 place-on : (q best : Split) (n : ℕ) → length q.after ≤ n → length best.after ≤ n → length (place_or q best).after ≤ n
 place-on q best n a b = elim (cases_Bool (is_between q.before q.after)) [ inl here ↦ rw here a | inr not_here ↦ rw not_here b ]
 
-place-here : (q best : Split) → Stands q → place_or q best ≡ q
+place-here : (q best : Split) → IsSettled q → place_or q best ≡ q
 place-here q best h = rw h refl
 
 last_seen-on : (room used : ℕ) (before after : List ℕ) (best : Split) (n : ℕ) → length after ≤ n → length best.after ≤ n
@@ -88,8 +88,8 @@ last_seen-on room used before (c ∷ after) best n a b =
 
 -- it is as far on as any place between clusters up to which there is room
 pub last_seen-far : (room used : ℕ) (before part after : List ℕ) (best : Split)
-    → (Stands (record { before = before; after = part ++ after }) → best ≡ record { before = before; after = part ++ after })
-    → Stands (record { before = reverse part ++ before; after = after }) → used + columns part ≤ room
+    → (IsSettled (record { before = before; after = part ++ after }) → best ≡ record { before = before; after = part ++ after })
+    → IsSettled (record { before = reverse part ++ before; after = after }) → used + columns part ≤ room
     → length (last_seen room used before (part ++ after) best).after ≤ length after
 last_seen-far room used before [] after best b h le =
     let here = b h in
@@ -99,5 +99,5 @@ last_seen-far room used before (c ∷ part) after best b h le =
     let room_for : leb (used + columns_of c) room ≡ true = le-leb (used + columns_of c) room (omega (arith, le)) in
     let same : reverse (c ∷ part) ++ before ≡ reverse part ++ (c ∷ before) =
     ap (λ t. t ++ before) (reverse-append (c ∷ []) part) ∙ append_assoc (reverse part) (c ∷ []) before in
-    let P : List ℕ → Type 0 = λ t. Stands (record { before = t; after = after }) in
+    let P : List ℕ → Type 0 = λ t. IsSettled (record { before = t; after = after }) in
     rw room_for (last_seen-far room (used + columns_of c) (c ∷ before) part after (place_or q best) (place-here q best) (subst P same h) (omega (arith, le)))

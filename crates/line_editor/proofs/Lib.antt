@@ -17,3 +17,4 @@ pub mod Naming
 pub mod Held
 pub mod Bounding
 pub mod Reloading
+pub mod Browsing

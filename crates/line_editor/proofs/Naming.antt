@@ -1,8 +1,8 @@
 -- The name of an action reads as this action.
-use Rattle.std.proofs.Common.{◌≡◌, ◌∙◌, ℕ, ◌==◌, true, List, [], ◌∷◌, ◌++◌, length, refl, sym, ap, inl, inr, arith, append-nil}
+use Rattle.std.proofs.Common.{◌≡◌, ◌∙◌, ℕ, ◌==◌, true, List, [], ◌∷◌, length, refl, sym, ap, inl, inr, arith, append-nil}
 use Rattle.std.proofs.lemmas.Bool.{and_from, cases_Bool, eqb-true, lt-ltb}
 use Rattle.std.proofs.lemmas.Str.{chars-encodes}
-use Rattle.std.specs.Prelude.{Some, None, codes, if◌then◌else◌, nat_lt}
+use Rattle.std.specs.Prelude.{Bool, Option, Some, None, codes, if◌then◌else◌, nat_lt}
 use Rattle.std.specs.Char.{IsScalar, encode_utf8}
 use Rattle.std.specs.Cmp.Lexicographic.{same_text}
 use Rattle.std.specs.List.{AllByRecursion}
@@ -16,43 +16,25 @@ use Rattle.line_editor.specs.declared.actions.Action.TheVariants.{Insert, Go, Er
 use Rattle.line_editor.specs.declared.places.Stop.TheVariants.{Cluster, WordStart, WordEnd, Blank, Edge}
 use Rattle.line_editor.specs.declared.places.Target.{Target}
 use Rattle.line_editor.specs.declared.places.Target.TheVariants.{Back, Forward}
-use Rattle.line_editor.specs.Names.{ReadsBack, action_rows, char_name, char_named, one_char, verb_named}
+use Rattle.line_editor.specs.Names.{ReadsBack, action_name, action_rows, char_name, char_named, one_char, target_name, target_rows, verb_named}
 
-go_back : (target : Target) → ReadsBack (Go target)
-go_back (Back Cluster) h = refl
-go_back (Back WordStart) h = refl
-go_back (Back WordEnd) h = refl
-go_back (Back Blank) h = refl
-go_back (Back Edge) h = refl
-go_back (Forward Cluster) h = refl
-go_back (Forward WordStart) h = refl
-go_back (Forward WordEnd) h = refl
-go_back (Forward Blank) h = refl
-go_back (Forward Edge) h = refl
+-- ---- a target
 
-erase_back : (target : Target) → ReadsBack (Erase target)
-erase_back (Back Cluster) h = refl
-erase_back (Back WordStart) h = refl
-erase_back (Back WordEnd) h = refl
-erase_back (Back Blank) h = refl
-erase_back (Back Edge) h = refl
-erase_back (Forward Cluster) h = refl
-erase_back (Forward WordStart) h = refl
-erase_back (Forward WordEnd) h = refl
-erase_back (Forward Blank) h = refl
-erase_back (Forward Edge) h = refl
+target_back : (target : Target) → value_in target_rows (target_name target) ≡ Some target
+target_back (Back Cluster) = refl
+target_back (Back WordStart) = refl
+target_back (Back WordEnd) = refl
+target_back (Back Blank) = refl
+target_back (Back Edge) = refl
+target_back (Forward Cluster) = refl
+target_back (Forward WordStart) = refl
+target_back (Forward WordEnd) = refl
+target_back (Forward Blank) = refl
+target_back (Forward Edge) = refl
 
-kill_back : (target : Target) → ReadsBack (Kill target)
-kill_back (Back Cluster) h = refl
-kill_back (Back WordStart) h = refl
-kill_back (Back WordEnd) h = refl
-kill_back (Back Blank) h = refl
-kill_back (Back Edge) h = refl
-kill_back (Forward Cluster) h = refl
-kill_back (Forward WordStart) h = refl
-kill_back (Forward WordEnd) h = refl
-kill_back (Forward Blank) h = refl
-kill_back (Forward Edge) h = refl
+-- a name whose first hyphen is at this place is read by its verb
+abbrev read_at : Bool → List ℕ → List ℕ → List ℕ → Option Action
+read_at found verb rest name = if found then verb_named verb rest else value_in action_rows name
 
 -- ---- a character
 
@@ -70,17 +52,23 @@ char_back c h =
       | inr not_here ↦ rw not_here (ap (λ t. option_or (one_char t) (if same (codes "space") (encode_utf8 c) then Some 32 else None)) (chars-encode_utf8 c (is_text c h)))
     ]
 
-insert_back : (c : ℕ) → ReadsBack (Insert c)
-insert_back c h =
-    let name = codes "insert-" ++ char_name c in
-    let found : nat_lt 6 (length name) ≡ true = lt-ltb 6 (length name) (omega arith) in
-    ap (λ b. if b then verb_named (codes "insert") (char_name c) else value_in action_rows name) found ∙ ap (option_map Insert) (char_back c h)
-
 pub reads_back : (action : Action) → ReadsBack action
-reads_back (Insert c) h = insert_back c h
-reads_back (Go target) h = go_back target h
-reads_back (Erase target) h = erase_back target h
-reads_back (Kill target) h = kill_back target h
+reads_back (Insert c) h =
+    let name = action_name (Insert c) in
+    let found : nat_lt 6 (length name) ≡ true = lt-ltb 6 (length name) (omega arith) in
+    ap (λ b. read_at b (codes "insert") (char_name c) name) found ∙ ap (option_map Insert) (char_back c h)
+reads_back (Go target) h =
+    let name = action_name (Go target) in
+    let found : nat_lt 2 (length name) ≡ true = lt-ltb 2 (length name) (omega arith) in
+    ap (λ b. read_at b (codes "go") (target_name target) name) found ∙ ap (option_map Go) (target_back target)
+reads_back (Erase target) h =
+    let name = action_name (Erase target) in
+    let found : nat_lt 5 (length name) ≡ true = lt-ltb 5 (length name) (omega arith) in
+    ap (λ b. read_at b (codes "erase") (target_name target) name) found ∙ ap (option_map Erase) (target_back target)
+reads_back (Kill target) h =
+    let name = action_name (Kill target) in
+    let found : nat_lt 4 (length name) ≡ true = lt-ltb 4 (length name) (omega arith) in
+    ap (λ b. read_at b (codes "kill") (target_name target) name) found ∙ ap (option_map Kill) (target_back target)
 reads_back Yank h = refl
 reads_back Transpose h = refl
 reads_back Undo h = refl

@@ -1,4 +1,4 @@
--- Where the cursor is brought to at the ends of a line.
+-- Moves at the ends of a line.
 use Rattle.std.proofs.Common.{◌≡◌, ◌≤◌, ℕ, List, length, refl}
 use Rattle.line_editor.specs.declared.places.Stop.{Stop}
 use Rattle.line_editor.specs.declared.places.Target.{Target}

@@ -11,7 +11,7 @@ use Rattle.line_editor.specs.Seen.{Fits, KeepsClusters}
 use Rattle.line_editor.specs.Views.{Start, columns, columns_of, end_seen, furthest, last_seen, place_or, seen, start, start_at, start_or}
 use Rattle.line_editor.proofs.Furthest.{columns-append, last_seen-far, start-far}
 use Rattle.line_editor.proofs.Keeping.{IsFrom, IsFrom-last, IsFrom-none, IsFrom-one, from_to-IsFrom, text_of-IsFrom}
-use Rattle.line_editor.proofs.Settling.{Stands, chars-slice_range}
+use Rattle.line_editor.proofs.Settling.{IsSettled, chars-slice_range}
 use Rattle.line_editor.proofs.Stepping.{chars_before-start, chars_from-end}
 
 -- nothing is before the start, nor behind the end
@@ -114,27 +114,27 @@ fits room d some =
 
 -- ---- both ends
 
-or-Stands : (s best : Start) → Stands best.place → Stands (start_or s best).place
-or-Stands s best h = elim (cases_Bool (is_between s.place.before s.place.after)) [ inl here ↦ rw here here | inr not_here ↦ rw not_here h ]
+or-IsSettled : (s best : Start) → IsSettled best.place → IsSettled (start_or s best).place
+or-IsSettled s best h = elim (cases_Bool (is_between s.place.before s.place.after)) [ inl here ↦ rw here here | inr not_here ↦ rw not_here h ]
 
-furthest-Stands : (room used : ℕ) (before after : List ℕ) (best : Start) → Stands best.place → Stands (furthest room used before after best).place
-furthest-Stands room used [] after best h = h
-furthest-Stands room used (c ∷ before) after best h =
+furthest-IsSettled : (room used : ℕ) (before after : List ℕ) (best : Start) → IsSettled best.place → IsSettled (furthest room used before after best).place
+furthest-IsSettled room used [] after best h = h
+furthest-IsSettled room used (c ∷ before) after best h =
     let s : Start = record { place = record { before = before; after = c ∷ after }; column = used + columns_of c } in
     elim (cases_Bool (leb (used + columns_of c) room)) [
-      | inl here ↦ rw here (furthest-Stands room (used + columns_of c) before (c ∷ after) (start_or s best) (or-Stands s best h))
+      | inl here ↦ rw here (furthest-IsSettled room (used + columns_of c) before (c ∷ after) (start_or s best) (or-IsSettled s best h))
       | inr not_here ↦ rw not_here h
     ]
 
-place-or-Stands : (q best : Split) → Stands best → Stands (place_or q best)
-place-or-Stands q best h = elim (cases_Bool (is_between q.before q.after)) [ inl here ↦ rw here here | inr not_here ↦ rw not_here h ]
+place-or-IsSettled : (q best : Split) → IsSettled best → IsSettled (place_or q best)
+place-or-IsSettled q best h = elim (cases_Bool (is_between q.before q.after)) [ inl here ↦ rw here here | inr not_here ↦ rw not_here h ]
 
-last_seen-Stands : (room used : ℕ) (before after : List ℕ) (best : Split) → Stands best → Stands (last_seen room used before after best)
-last_seen-Stands room used before [] best h = h
-last_seen-Stands room used before (c ∷ after) best h =
+last_seen-IsSettled : (room used : ℕ) (before after : List ℕ) (best : Split) → IsSettled best → IsSettled (last_seen room used before after best)
+last_seen-IsSettled room used before [] best h = h
+last_seen-IsSettled room used before (c ∷ after) best h =
     let q : Split = record { before = c ∷ before; after = after } in
     elim (cases_Bool (leb (used + columns_of c) room)) [
-      | inl here ↦ rw here (last_seen-Stands room (used + columns_of c) (c ∷ before) after (place_or q best) (place-or-Stands q best h))
+      | inl here ↦ rw here (last_seen-IsSettled room (used + columns_of c) (c ∷ before) after (place_or q best) (place-or-IsSettled q best h))
       | inr not_here ↦ rw not_here h
     ]
 
@@ -152,8 +152,8 @@ keeps_clusters room d stands =
     let ahead : q.before ≡ reverse (reverse p.before ++ seen room d) =
     all.before ∙ ap (λ t. reverse t ++ p.before) (sym part)
     ∙ sym (reverse-append (reverse p.before) (seen room d) ∙ ap (λ t. reverse (seen room d) ++ t) (reverse-reverse p.before)) in
-    let starts = furthest-Stands (room - 1) 0 d.before d.after (record { place = d; column = 0 }) stands in
-    let stops = last_seen-Stands room s.column d.before d.after d stands in
+    let starts = furthest-IsSettled (room - 1) 0 d.before d.after (record { place = d; column = 0 }) stands in
+    let stops = last_seen-IsSettled room s.column d.before d.after d stands in
     let P : List ℕ → Type 0 = λ t. is_between t (seen room d ++ q.after) ≡ true in
     let Q : List ℕ → Type 0 = λ t. is_between p.before t ≡ true in
     let R : List ℕ → Type 0 = λ t. is_between t q.after ≡ true in

@@ -1,4 +1,4 @@
--- The cursor stands between two clusters wherever it is brought to.
+-- A cursor that is brought to a stop is between two clusters.
 use Rattle.std.proofs.Common.{◌≡◌, ℕ, ◌≤◌, true, List, [], ◌∷◌, ◌++◌, length, reverse, take, drop, slice_range, refl, sym, subst, ap, ◌∙◌, inl, inr, arith, take_at, drop_at, length-append, length-drop, ◌-◌, take-append-drop}
 use Rattle.std.proofs.lemmas.Bool.{cases_Bool, and_parts, false≢true}
 use Rattle.std.proofs.lemmas.List.{length-reverse, reverse-append, reverse-reverse}
@@ -16,9 +16,9 @@ use Rattle.line_editor.specs.Splits.{Split, ahead, behind, split_at, text_of}
 use Rattle.line_editor.specs.Edits.{empty, from_to, joined}
 use Rattle.line_editor.specs.Places.{back_from, is_between, forward_from, place, stops}
 
--- The cursor is between two clusters, or at an end.
-abbrev pub Stands : Split → Type 0
-Stands d = is_between d.before d.after ≡ true
+-- the cursor is between two clusters, or at an end
+abbrev pub IsSettled : Split → Type 0
+IsSettled d = is_between d.before d.after ≡ true
 
 pub between-start : (after : List ℕ) → is_between [] after ≡ true
 unfolding is_grapheme_break
@@ -29,7 +29,7 @@ unfolding is_grapheme_break
 between-end [] = refl
 between-end (c ∷ before) = refl
 
--- A rule stops between clusters alone.
+-- a rule holds between clusters alone
 abbrev pub Keeps : Rule → Type 0
 Keeps r = (before after : List ℕ) → r before after ≡ true → is_between before after ≡ true
 
@@ -40,33 +40,33 @@ stops-Keeps WordEnd before after h = (and_parts _ _ h).0
 stops-Keeps Blank before after h = (and_parts _ _ h).0
 stops-Keeps Edge before after h = absurd (false≢true h)
 
-pub ahead-Stands : (r : Rule) → Keeps r → (before after : List ℕ) → Stands (ahead r before after)
-ahead-Stands r keeps before [] = between-end before
-ahead-Stands r keeps before (c ∷ after) =
+pub ahead-IsSettled : (r : Rule) → Keeps r → (before after : List ℕ) → IsSettled (ahead r before after)
+ahead-IsSettled r keeps before [] = between-end before
+ahead-IsSettled r keeps before (c ∷ after) =
     elim (cases_Bool (r before (c ∷ after))) [
       | inl here ↦ rw here (keeps before (c ∷ after) here)
-      | inr not_here ↦ rw not_here (ahead-Stands r keeps (c ∷ before) after)
+      | inr not_here ↦ rw not_here (ahead-IsSettled r keeps (c ∷ before) after)
     ]
 
-pub behind-Stands : (r : Rule) → Keeps r → (before after : List ℕ) → Stands (behind r before after)
-behind-Stands r keeps [] after = between-start after
-behind-Stands r keeps (c ∷ before) after =
+pub behind-IsSettled : (r : Rule) → Keeps r → (before after : List ℕ) → IsSettled (behind r before after)
+behind-IsSettled r keeps [] after = between-start after
+behind-IsSettled r keeps (c ∷ before) after =
     elim (cases_Bool (r (c ∷ before) after)) [
       | inl here ↦ rw here (keeps (c ∷ before) after here)
-      | inr not_here ↦ rw not_here (behind-Stands r keeps before (c ∷ after))
+      | inr not_here ↦ rw not_here (behind-IsSettled r keeps before (c ∷ after))
     ]
 
-pub back_from-Stands : (r : Rule) → Keeps r → (before after : List ℕ) → Stands (back_from r before after)
-back_from-Stands r keeps [] after = between-start after
-back_from-Stands r keeps (c ∷ before) after = behind-Stands r keeps before (c ∷ after)
+pub back_from-IsSettled : (r : Rule) → Keeps r → (before after : List ℕ) → IsSettled (back_from r before after)
+back_from-IsSettled r keeps [] after = between-start after
+back_from-IsSettled r keeps (c ∷ before) after = behind-IsSettled r keeps before (c ∷ after)
 
-pub forward_from-Stands : (r : Rule) → Keeps r → (before after : List ℕ) → Stands (forward_from r before after)
-forward_from-Stands r keeps before [] = between-end before
-forward_from-Stands r keeps before (c ∷ after) = ahead-Stands r keeps (c ∷ before) after
+pub forward_from-IsSettled : (r : Rule) → Keeps r → (before after : List ℕ) → IsSettled (forward_from r before after)
+forward_from-IsSettled r keeps before [] = between-end before
+forward_from-IsSettled r keeps before (c ∷ after) = ahead-IsSettled r keeps (c ∷ before) after
 
-pub place-Stands : (target : Target) (d : Split) → Stands (place target d)
-place-Stands (Back stop) d = back_from-Stands (stops stop) (stops-Keeps stop) d.before d.after
-place-Stands (Forward stop) d = forward_from-Stands (stops stop) (stops-Keeps stop) d.before d.after
+pub place-IsSettled : (target : Target) (d : Split) → IsSettled (place target d)
+place-IsSettled (Back stop) d = back_from-IsSettled (stops stop) (stops-Keeps stop) d.before d.after
+place-IsSettled (Forward stop) d = forward_from-IsSettled (stops stop) (stops-Keeps stop) d.before d.after
 
 -- a text, wherever its cursor is
 pub text_of-split_at : (text : List ℕ) (at : ℕ) → IsUtf8 text → IsCharBoundary text at → text_of (split_at text at) ≡ chars text
@@ -98,21 +98,21 @@ module _ (text with new : List ℕ) (from to at : ℕ)
       ap chars (ap (drop at) e ∙ drop_at (take from text ++ with) (drop to text) at spliced-at) in
       rw (front, back) refl
 
--- What a line's place in its text has to be.
+-- a place in a text that a line's cursor may have
 abbrev pub Placed : List ℕ → ℕ → Type 0
-Placed text at = IsCharBoundary text at × Stands (split_at text at)
+Placed text at = IsCharBoundary text at × IsSettled (split_at text at)
 
 pub place-Placed : (target : Target) (d : Split) (text inside : List ℕ) (at : ℕ) → text ≡ inside → IsCharBoundary text at
     → split_at text at ≡ place target d → Placed inside at
 place-Placed target d text inside at e b f =
     let P : List ℕ → Type 0 = λ t. Placed t at in
-    subst P e (b, subst Stands (sym f) (place-Stands target d))
+    subst P e (b, subst IsSettled (sym f) (place-IsSettled target d))
 
 pub ahead-Placed : (text inside : List ℕ) (at place : ℕ) → text ≡ inside → IsCharBoundary text place
     → split_at text place ≡ ahead is_between (chars_before text at) (chars_from text at) → Placed inside place
 ahead-Placed text inside at place e b f =
     let P : List ℕ → Type 0 = λ t. Placed t place in
-    subst P e (b, subst Stands (sym f) (ahead-Stands is_between (stops-Keeps Cluster) (chars_before text at) (chars_from text at)))
+    subst P e (b, subst IsSettled (sym f) (ahead-IsSettled is_between (stops-Keeps Cluster) (chars_before text at) (chars_from text at)))
 
 pub empty-Placed : (text : List ℕ) → text ≡ [] → Placed text 0
 empty-Placed text e =

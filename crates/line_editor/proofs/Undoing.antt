@@ -87,7 +87,7 @@ pub record Leads (text : List ℕ) (past : List Split) (n : ℕ) (w : EditorStat
   pub ends : EndsIn text extra w
   pub room : length w.past + n ≤ w.limits.steps
 
--- where there are any lines, they alone matter
+-- if there are any lines, they alone matter
 ends-lines : (text : List ℕ) (x : Split) (extra : List Split) (v w : EditorState) → EndsIn text (x ∷ extra) v → EndsIn text (x ∷ extra) w
 ends-lines text x [] v w h = h
 ends-lines text x (y ∷ extra) v w h = ends-lines text y extra v w h
@@ -102,7 +102,7 @@ ends-same text [] v w e f h = (e ∙ h.0, f)
 ends-same text (d ∷ []) v w e f h = h
 ends-same text (d ∷ x ∷ extra) v w e f h = ends-same text (x ∷ extra) v w e f h
 
--- the same lines, where there are any
+-- the same lines, if there are any
 ends-typed : (text : List ℕ) (extra : List Split) (v w : EditorState) → v.typing ≡ true → EndsIn text extra v → EndsIn text extra w
 ends-typed text [] v w t h = absurd (false≢true (sym h.1 ∙ t))
 ends-typed text (d ∷ []) v w t h = h

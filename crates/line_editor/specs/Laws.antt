@@ -1,7 +1,7 @@
 -- What edits keep.
 use Rattle.std.specs.Prelude.{◌≡◌, ◌≤◌, ◌+◌, ℕ, zero, suc, ⊤, true, false, List, [], ◌∷◌, ◌++◌, length, reverse}
 use Rattle.line_editor.specs.declared.actions.Action.{Action}
-use Rattle.line_editor.specs.declared.actions.Action.TheVariants.{Undo, Redo}
+use Rattle.line_editor.specs.declared.actions.Action.TheVariants.{Newer, Older, Redo, Undo}
 use Rattle.line_editor.specs.declared.places.Target.{Target}
 use Rattle.line_editor.specs.Splits.{Split, text_of}
 use Rattle.line_editor.specs.Edits.{cut, end_of, erased, inserted, start_of}
@@ -29,6 +29,22 @@ YanksBack target d =
 -- An action keeps the accepted lines.
 abbrev pub KeepsHistory : Action → EditorState → Type 0
 KeepsHistory action w = (after action w).history ≡ w.history
+
+-- ---- history
+
+-- The line goes back in the history so many times.
+abbrev pub older_times : ℕ → EditorState → EditorState
+older_times zero w = w
+older_times (suc n) w = older_times n (after Older w)
+
+-- The line comes forth in the history so many times.
+abbrev pub newer_times : ℕ → EditorState → EditorState
+newer_times zero w = w
+newer_times (suc n) w = newer_times n (after Newer w)
+
+-- Back in the history and forth again as often, the line is the one that was left.
+abbrev pub ComesBack : ℕ → EditorState → Type 0
+ComesBack n w = w.back ≡ 0 → n ≤ length w.history → (newer_times n (older_times n w)).line ≡ w.line
 
 -- ---- undo
 

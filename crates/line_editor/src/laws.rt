@@ -4,7 +4,7 @@ ghost use Rattle.line_editor.specs.declared.actions.Action.{Action};
 ghost use Rattle.line_editor.specs.declared.places.Target.{Target};
 ghost use Rattle.line_editor.specs.declared.limits.Limits.{Limits};
 ghost use Rattle.line_editor.specs.Bounded.{LoadsSaved, StaysBounded};
-ghost use Rattle.line_editor.specs.Laws.{CanBeUndone, CutsOut, KeepsHistory, KeepsText, RedoesUndone, WritesAt, YanksBack};
+ghost use Rattle.line_editor.specs.Laws.{CanBeUndone, ComesBack, CutsOut, KeepsHistory, KeepsText, RedoesUndone, WritesAt, YanksBack};
 ghost use Rattle.line_editor.specs.Names.{ReadsBack};
 ghost use Rattle.line_editor.specs.Seen.{Fits, KeepsClusters};
 ghost use Rattle.line_editor.specs.Splits.{Split};
@@ -34,6 +34,11 @@ pub fn yanks_back()
 /// An action keeps the accepted lines.
 pub fn keeps_history()
     ensures { (action : Action) (w : EditorState) → KeepsHistory action w }
+{}
+
+/// Back in the history and forth again as often, the line is the one that was left.
+pub fn comes_back()
+    ensures { (n : ℕ) (w : EditorState) → ComesBack n w }
 {}
 
 /// After actions for which there are steps enough, some number of undos gives back the text, and all that could be undone before.

@@ -25,7 +25,7 @@
 //! | a line has no control character, and none of more than two columns | `Line::{text, before, cut, seen}`, `Editor::accept` |
 //! | a move keeps the text; what is erased was one piece; what is written is at the cursor; a kill and a yank give the text back | `laws::{keeps_text, cuts_out, writes_at, yanks_back}` |
 //! | undo gives back what was there before any actions, as long as the steps suffice, and redo what was undone | `laws::{can_be_undone, redoes_undone}` |
-//! | an action keeps the accepted lines | `laws::keeps_history` |
+//! | an action keeps the accepted lines, and back in the history and forth again is the line that was left | `laws::{keeps_history, comes_back}` |
 //! | of a line as much is seen as has room, from one place between clusters to another, with the cursor at its place in the line | `Line::seen`, `laws::{fits, keeps_clusters}` |
 //! | the text of a history is its lines, the oldest first; a history that is loaded is the last lines of a text that have room; loading what was saved gives the same history | `Editor::{history_text, load_history}`, `laws::loads_saved` |
 //! | a line has no more bytes than its limit, the history no more lines and undo no more steps, whatever is done that isn't refused | `laws::stays_bounded` |
@@ -34,7 +34,7 @@
 //! | the lines that come out of any events are those of their turns, one after another; a refusal leaves the turns before it | `Editor::{turn, turns}` |
 //! | as an `io::Error`, refused memory has the kind `OutOfMemory`, and a text that is too long `InvalidInput` | `From<EditFault>` of `io::Error` |
 //!
-//! What to believe, in the order in which it reads (`specs/`), and where it is proved:
+//! What to believe, in the order in which it reads (`specs/`), and the contracts that it is proved by:
 //!
 //! | Definitions | Of | Contract |
 //! |---|---|---|
