@@ -2,10 +2,10 @@
 use Rattle.std.proofs.Common.{◌≡◌, ℕ, ◌+◌, ◌-◌, ◌≤◌, true, List, [], ◌∷◌, ◌++◌, length, reverse, refl, sym, subst, ap, ◌∙◌, inl, inr, arith, append_assoc, leb}
 use Rattle.std.proofs.lemmas.Bool.{cases_Bool, le-leb}
 use Rattle.std.proofs.lemmas.List.{length-reverse, reverse-append, reverse-reverse}
+use Rattle.line_editor.specs.Edits.{IsSettled}
 use Rattle.line_editor.specs.Splits.{Split}
 use Rattle.line_editor.specs.Places.{is_between}
 use Rattle.line_editor.specs.Views.{Start, columns, columns_of, furthest, last_seen, place_or, start, start_or}
-use Rattle.line_editor.proofs.Settling.{IsSettled}
 
 pub columns-append : (a b : List ℕ) → columns (a ++ b) ≡ columns a + columns b
 columns-append [] b = omega arith

@@ -5,13 +5,13 @@ use Rattle.std.proofs.lemmas.List.{length-reverse, reverse-append, reverse-rever
 use Rattle.std.specs.Str.{chars, IsUtf8, IsCharBoundary}
 use Rattle.unicode_segmentation.specs.Segments.{chars_before, chars_from}
 use Rattle.line_editor.specs.Splits.{Split, split_at}
-use Rattle.line_editor.specs.Edits.{from_to}
+use Rattle.line_editor.specs.Edits.{IsSettled, from_to}
 use Rattle.line_editor.specs.Places.{is_between}
 use Rattle.line_editor.specs.Seen.{Fits, KeepsClusters}
 use Rattle.line_editor.specs.Views.{Start, columns, columns_of, end_seen, furthest, last_seen, place_or, seen, start, start_at, start_or}
 use Rattle.line_editor.proofs.Furthest.{columns-append, last_seen-far, start-far}
 use Rattle.line_editor.proofs.Keeping.{IsFrom, IsFrom-last, IsFrom-none, IsFrom-one, from_to-IsFrom, text_of-IsFrom}
-use Rattle.line_editor.proofs.Settling.{IsSettled, chars-slice_range}
+use Rattle.line_editor.proofs.Settling.{chars-slice_range}
 use Rattle.line_editor.proofs.Stepping.{chars_before-start, chars_from-end}
 
 -- nothing is before the start, nor behind the end

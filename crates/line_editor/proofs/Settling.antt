@@ -13,12 +13,8 @@ use Rattle.line_editor.specs.declared.places.Stop.TheVariants.{Cluster, WordStar
 use Rattle.line_editor.specs.declared.places.Target.{Target}
 use Rattle.line_editor.specs.declared.places.Target.TheVariants.{Back, Forward}
 use Rattle.line_editor.specs.Splits.{Split, ahead, behind, split_at, text_of}
-use Rattle.line_editor.specs.Edits.{empty, from_to, joined}
+use Rattle.line_editor.specs.Edits.{IsSettled, empty, from_to, joined}
 use Rattle.line_editor.specs.Places.{back_from, is_between, forward_from, place, stops}
-
--- the cursor is between two clusters, or at an end
-abbrev pub IsSettled : Split → Type 0
-IsSettled d = is_between d.before d.after ≡ true
 
 pub between-start : (after : List ℕ) → is_between [] after ≡ true
 unfolding is_grapheme_break

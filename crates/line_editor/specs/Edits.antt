@@ -1,5 +1,5 @@
 -- What edits make of a line.
-use Rattle.std.specs.Prelude.{ℕ, ◌-◌, List, [], ◌∷◌, ◌++◌, length, reverse, take}
+use Rattle.std.specs.Prelude.{◌≡◌, true, ℕ, ◌-◌, List, [], ◌∷◌, ◌++◌, length, reverse, take}
 use Rattle.line_editor.specs.declared.places.Target.{Target}
 use Rattle.line_editor.specs.declared.places.Stop.TheVariants.{Cluster}
 use Rattle.line_editor.specs.declared.places.Target.TheVariants.{Back, Forward}
@@ -9,6 +9,10 @@ use Rattle.line_editor.specs.Places.{back_from, is_between, place}
 -- The empty line has no characters.
 abbrev pub empty : Split
 empty = record { before = []; after = [] }
+
+-- A line is settled if its cursor is between clusters, or at an end.
+abbrev pub IsSettled : Split → Type 0
+IsSettled d = is_between d.before d.after ≡ true
 
 -- A line is settled by bringing a cursor within a cluster to this cluster's end.
 abbrev pub settled : Split → Split

@@ -1,6 +1,7 @@
 -- What is true of what is seen of a line.
 use Rattle.std.specs.Prelude.{◌≡◌, ℕ, ◌+◌, ◌<◌, ◌≤◌, true, List, ◌++◌, length, reverse}
 use Rattle.line_editor.specs.Splits.{Split, text_of}
+use Rattle.line_editor.specs.Edits.{IsSettled}
 use Rattle.line_editor.specs.Places.{is_between}
 use Rattle.line_editor.specs.Views.{column, columns, seen}
 
@@ -35,4 +36,4 @@ pub record IsInClusters (room : ℕ) (d : Split) : Type 0 where
 
 -- If the cursor is between clusters, what is seen begins and ends so.
 abbrev pub KeepsClusters : ℕ → Split → Type 0
-KeepsClusters room d = is_between d.before d.after ≡ true → IsInClusters room d
+KeepsClusters room d = IsSettled d → IsInClusters room d

@@ -20,8 +20,9 @@
 //! |---|---|
 //! | what each action makes of an editor, and each refusal by name: a text is refused as too long exactly if it has no room, and nothing has changed | `Editor::{act, paste}` |
 //! | some actions are done one after another, or those before the first that is refused | `Editor::run` |
-//! | a move is never refused, and a line is let go without memory | `Editor::{act, let_go}` |
+//! | neither a move nor letting a line go is ever refused | `Editor::{act, let_go}` |
 //! | an accepted line has its text, and is the newest of as many lines as the limit says | `Editor::accept` |
+//! | a line's cursor is between clusters, whatever was typed, pasted or erased | `Line::before` |
 //! | a line has no control character, and none of more than two columns | `Line::{text, before, cut, seen}`, `Editor::accept` |
 //! | a move keeps the text; what is erased was one piece; what is written is at the cursor; a kill and a yank give the text back | `laws::{keeps_text, cuts_out, writes_at, yanks_back}` |
 //! | undo gives back what was there before any actions, as long as the steps suffice, and redo what was undone | `laws::{can_be_undone, redoes_undone}` |

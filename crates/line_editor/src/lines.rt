@@ -4,7 +4,7 @@ ghost use Rattle.std.specs.String.{string_bytes};
 ghost use Rattle.std.specs.Str.{chars, IsCharBoundary};
 ghost use Rattle.unicode_segmentation.specs.Segments.{chars_before, chars_from};
 ghost use Rattle.line_editor.specs.Bounds.{size};
-ghost use Rattle.line_editor.specs.Edits.{cut, empty, end_of, erased, inserted, joined, meeting, settled, start_of, transposed};
+ghost use Rattle.line_editor.specs.Edits.{IsSettled, cut, empty, end_of, erased, inserted, joined, meeting, settled, start_of, transposed};
 ghost use Rattle.line_editor.specs.Places.{place};
 ghost use Rattle.line_editor.specs.Seen.{IsInClusters, IsSeen};
 ghost use Rattle.line_editor.specs.Shown.{AreShown};
@@ -160,6 +160,7 @@ impl<A: Allocator> Line<A> {
     /// ```
     pub fn before(&self) -> &str
         ensures text { reverse (chars result.now) ≡ self.now.before }
+        ensures between { IsSettled self.now }
         ensures shown { AreShown (chars result.now) }
     {
         &self.text.as_str()[..self.at]
