@@ -1,4 +1,4 @@
-//! Tests of flags, keys, events, colours and styles: tables that come from outside, as names and JSON forms, and what no contract says.
+//! Tests of flags, keys, events, colours, styles and lines that are edited: tables that come from outside, as names and JSON forms, and what no contract says.
 #![tactic(auto)]
 
 #[cfg(test)]
@@ -13,6 +13,8 @@ mod events;
 mod flags;
 #[cfg(test)]
 mod keys;
+#[cfg(test)]
+mod lines;
 #[cfg(test)]
 mod looks;
 #[cfg(test)]

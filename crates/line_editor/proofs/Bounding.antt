@@ -1,0 +1,315 @@
+-- An editor stays within its limits.
+use Rattle.std.proofs.Common.{◌≡◌, ℕ, ◌+◌, ◌-◌, ◌<◌, ◌≤◌, true, false, List, [], ◌∷◌, ◌++◌, length, map, reverse, take, drop, refl, sym, subst, ◌∙◌, inl, inr, arith, append-nil}
+use Rattle.std.proofs.lemmas.Bool.{and_parts, and_from, cases_Bool, leb-true, ltb-false, ltb-true}
+use Rattle.std.proofs.lemmas.List.{reverse-append, reverse-reverse}
+use Rattle.std.specs.Prelude.{Option, Some, None, IfSome, suc, zero, slice_get}
+use Rattle.std.specs.List.{AllByRecursion, filter}
+use Rattle.unicode_segmentation.proofs.TextLemmas.{encode_utf8_nonempty}
+use Rattle.line_editor.specs.declared.actions.Action.{Action}
+use Rattle.line_editor.specs.declared.actions.Action.TheVariants.{Insert, Go, Erase, Kill, Yank, Transpose, Undo, Redo, Older, Newer, Search}
+use Rattle.line_editor.specs.declared.limits.Limits.{Limits}
+use Rattle.line_editor.specs.declared.places.Stop.TheVariants.{Edge}
+use Rattle.line_editor.specs.declared.places.Target.{Target}
+use Rattle.line_editor.specs.declared.places.Target.TheVariants.{Forward}
+use Rattle.line_editor.specs.Bounded.{AreRoomy, IsBounded, IsHeld, IsKept, StaysBounded, all_done}
+use Rattle.line_editor.specs.Bounds.{is_too_long, room_of, size, written}
+use Rattle.line_editor.specs.Edits.{cut, empty, erased, inserted, meeting, settled, transposed}
+use Rattle.line_editor.specs.History.{ended, has_room, lines_of, loaded}
+use Rattle.line_editor.specs.Places.{place}
+use Rattle.line_editor.specs.Shown.{AreShown, is_shown, shown}
+use Rattle.line_editor.specs.Splits.{Split, text_of}
+use Rattle.line_editor.specs.States.{EditorState, after, changed, dropped, erase_cut, found, fresh, kill_cut, left_for, moved, newer_from, newer_line, newer_to, older_to, redo_to, remembered, searched_to, transpose_at, type_char, typed, undo_to, unfinished_at, write}
+use Rattle.line_editor.specs.Tasks.{Task, Acts, Pastes, Accepts, LetsGo, Loads, Closes, Nothing, done, task_text}
+use Rattle.line_editor.proofs.Held.{Found, all-drop, all-get, all-take, cut-shown, end-after, found-held, held-erased, held-inserted, held-moved, held-same, held-settled, held-transposed}
+use Rattle.line_editor.proofs.Keeping.{keeps_text}
+use Rattle.line_editor.proofs.Showing.{shown-filter}
+use Rattle.line_editor.proofs.Sizing.{size-cons}
+
+take-short : (n : ℕ) (lines : List Split) → length (take n lines) ≤ n
+take-short zero lines = omega arith
+take-short (suc n) [] = omega arith
+take-short (suc n) (d ∷ lines) = omega (arith, take-short n lines)
+
+pub size-some : (c : ℕ) (text : List ℕ) → 0 < size (c ∷ text)
+size-some c text = omega (arith, size-cons c text, encode_utf8_nonempty c)
+
+has_room_for : (text : List ℕ) (w : EditorState) → is_too_long text w ≡ false → size text ≤ w.limits.bytes - size (text_of w.line)
+has_room_for text w h = ltb-false (room_of w) (size text) h
+
+held-empty : (limits : Limits) → IsHeld limits empty
+held-empty limits = (refl, omega arith)
+
+fresh-bounded : (limits : Limits) → IsBounded (fresh limits)
+fresh-bounded limits = record {
+  line = held-empty limits;
+  unfinished = held-empty limits;
+  past = tt;
+  undone = tt;
+  history = tt;
+  killed = refl;
+  lines = omega arith;
+  steps = omega arith;
+}
+
+-- how far back in the history an editor is has no bound
+bounded-back : (w : EditorState) (back : ℕ) → IsBounded w → IsBounded (record w { back = back })
+bounded-back w back h = record {
+  line = h.line;
+  unfinished = h.unfinished;
+  past = h.past;
+  undone = h.undone;
+  history = h.history;
+  killed = h.killed;
+  lines = h.lines;
+  steps = h.steps;
+}
+
+module _ (w : EditorState) (h : IsBounded w) where
+  bounded-changed : (d : Split) → IsHeld w.limits d → IsBounded (changed d w)
+  bounded-changed d k = record {
+    line = k;
+    unfinished = h.unfinished;
+    past = all-take w.limits (IsHeld w.limits) w.limits.steps (w.line ∷ w.past) (h.line, h.past);
+    undone = tt;
+    history = h.history;
+    killed = h.killed;
+    lines = h.lines;
+    steps = omega (arith, take-short w.limits.steps (w.line ∷ w.past));
+  }
+
+  bounded-typed : (d : Split) → IsHeld w.limits d → IsBounded (typed d w)
+  bounded-typed d k = record {
+    line = k;
+    unfinished = h.unfinished;
+    past = elim (cases_Bool w.typing) [ inl on ↦ rw on h.past | inr off ↦ rw off (bounded-changed d k).past ];
+    undone = tt;
+    history = h.history;
+    killed = h.killed;
+    lines = h.lines;
+    steps = elim (cases_Bool w.typing) [ inl on ↦ rw on (omega (arith, h.steps)) | inr off ↦ rw off (omega (arith, take-short w.limits.steps (w.line ∷ w.past))) ];
+  }
+
+  bounded-moved : (d : Split) → IsHeld w.limits d → IsBounded (moved d w)
+  bounded-moved d k = record {
+    line = k;
+    unfinished = h.unfinished;
+    past = h.past;
+    undone = h.undone;
+    history = h.history;
+    killed = h.killed;
+    lines = h.lines;
+    steps = h.steps;
+  }
+
+  bounded-type : (c : ℕ) → is_too_long (shown (c ∷ [])) w ≡ false → IsBounded (type_char c w)
+  bounded-type c room =
+      elim (cases_Bool (is_shown c)) [
+        | inl here ↦ rw here (
+            let one : shown (c ∷ []) ≡ c ∷ [] = rw here refl in
+            let P : List ℕ → Type 0 = λ t. is_too_long t w ≡ false in
+            bounded-typed (inserted (c ∷ []) w.line)
+            (held-inserted w.limits (c ∷ []) w.line h.line (and_from _ _ here refl) (has_room_for (c ∷ []) w (subst P one room))))
+        | inr not_here ↦ rw not_here h
+      ]
+
+  bounded-write : (text : List ℕ) → AreShown text → is_too_long text w ≡ false → IsBounded (write text w)
+  bounded-write [] k room = h
+  bounded-write (c ∷ text) k room =
+      bounded-changed (inserted (c ∷ text) w.line) (held-inserted w.limits (c ∷ text) w.line h.line k (has_room_for (c ∷ text) w room))
+
+  bounded-erase : (piece : List ℕ) (target : Target) → IsBounded (erase_cut piece target w)
+  bounded-erase [] target = h
+  bounded-erase (c ∷ piece) target = bounded-changed (erased target w.line) (held-erased w.limits target w.line h.line)
+
+  bounded-kill : (piece : List ℕ) (target : Target) → AreShown piece → IsBounded (kill_cut piece target w)
+  bounded-kill [] target k = h
+  bounded-kill (c ∷ piece) target k =
+      let b = bounded-changed (erased target w.line) (held-erased w.limits target w.line h.line) in
+      record {
+        line = b.line;
+        unfinished = b.unfinished;
+        past = b.past;
+        undone = b.undone;
+        history = b.history;
+        killed = k;
+        lines = b.lines;
+        steps = b.steps;
+      }
+
+  bounded-transpose : (before : List ℕ) → IsBounded (transpose_at before w)
+  bounded-transpose [] = h
+  bounded-transpose (c ∷ before) = bounded-changed (transposed w.line) (held-transposed w.limits w.line h.line)
+
+  bounded-undo : (past : List Split) → AllByRecursion (IsHeld w.limits) past → length past + length w.undone ≤ w.limits.steps → IsBounded (undo_to past w)
+  bounded-undo [] k le = h
+  bounded-undo (d ∷ past) k le = record {
+    line = k.0;
+    unfinished = h.unfinished;
+    past = k.1;
+    undone = (h.line, h.undone);
+    history = h.history;
+    killed = h.killed;
+    lines = h.lines;
+    steps = omega (arith, le);
+  }
+
+  bounded-redo : (undone : List Split) → AllByRecursion (IsHeld w.limits) undone → length w.past + length undone ≤ w.limits.steps → IsBounded (redo_to undone w)
+  bounded-redo [] k le = h
+  bounded-redo (d ∷ undone) k le = record {
+    line = k.0;
+    unfinished = h.unfinished;
+    past = (h.line, h.past);
+    undone = k.1;
+    history = h.history;
+    killed = h.killed;
+    lines = h.lines;
+    steps = omega (arith, le);
+  }
+
+  -- ---- history
+
+  held-unfinished : (back : ℕ) → IsHeld w.limits (unfinished_at back w.line w.unfinished)
+  held-unfinished zero = h.line
+  held-unfinished (suc back) = h.unfinished
+
+  -- a line of the history, so far back
+  bounded-left : (d : Split) (back : ℕ) → IsHeld w.limits d → IsBounded (record (left_for d w) { back = back })
+  bounded-left d back k =
+      let b = bounded-changed d k in
+      record {
+        line = b.line;
+        unfinished = held-unfinished w.back;
+        past = b.past;
+        undone = b.undone;
+        history = b.history;
+        killed = b.killed;
+        lines = b.lines;
+        steps = b.steps;
+      }
+
+  bounded-older : (line : Option Split) → IfSome line (IsHeld w.limits) → IsBounded (older_to line w)
+  bounded-older None k = h
+  bounded-older (Some d) k = bounded-left d (w.back + 1) k
+
+  bounded-newer : (line : Option Split) → IfSome line (IsHeld w.limits) → IsBounded (newer_to line w)
+  bounded-newer None k = h
+  bounded-newer (Some d) k = bounded-back (changed d w) (w.back - 1) (bounded-changed d k)
+
+  newer-held : (back : ℕ) → IfSome (newer_line back w) (IsHeld w.limits)
+  newer-held zero = h.unfinished
+  newer-held (suc back) = all-get w.limits w.history back h.history
+
+  bounded-newer_from : (back : ℕ) → IsBounded (newer_from back w)
+  bounded-newer_from zero = h
+  bounded-newer_from (suc back) = bounded-newer (newer_line back w) (newer-held back)
+
+  bounded-search : (o : Option (ℕ × List ℕ)) → IfSome o (Found w.limits (reverse w.line.before)) → IsBounded (searched_to o w)
+  bounded-search None k = h
+  bounded-search (Some found) k =
+      bounded-left (settled (record { before = w.line.before; after = found.1 })) found.0 (held-settled w.limits w.line.before found.1 k)
+
+  bounded-after : (action : Action) → is_too_long (written action w) w ≡ false → IsBounded (after action w)
+  bounded-after (Insert c) room = bounded-type c room
+  bounded-after (Go target) room = bounded-moved (place target w.line) (held-moved w.limits target w.line h.line)
+  bounded-after (Erase target) room = bounded-erase (cut target w.line) target
+  bounded-after (Kill target) room = bounded-kill (cut target w.line) target (cut-shown w.limits target w.line h.line)
+  bounded-after Yank room = bounded-write w.killed h.killed room
+  bounded-after Transpose room = bounded-transpose (meeting w.line.before w.line.after).before
+  bounded-after Undo room = bounded-undo w.past h.past h.steps
+  bounded-after Redo room = bounded-redo w.undone h.undone h.steps
+  bounded-after Older room = bounded-older (slice_get w.history w.back) (all-get w.limits w.history w.back h.history)
+  bounded-after Newer room = bounded-newer_from w.back
+  bounded-after Search room =
+      bounded-search (found w) (found-held w.limits (reverse w.line.before) w.back (drop w.back w.history) (all-drop w.limits w.history w.back h.history))
+
+  -- ---- lines that go
+
+  bounded-ended : (history : List Split) → AllByRecursion (IsKept w.limits) history → length history ≤ w.limits.lines
+      → IsBounded (record (dropped w) { history = history })
+  bounded-ended history k le = record {
+    line = held-empty w.limits;
+    unfinished = held-empty w.limits;
+    past = tt;
+    undone = tt;
+    history = k;
+    killed = h.killed;
+    lines = le;
+    steps = omega arith;
+  }
+
+  -- a line that isn't empty is kept with its cursor at its end
+  kept-end : (c : ℕ) (text : List ℕ) → text_of w.line ≡ c ∷ text → IsKept w.limits (place (Forward Edge) w.line)
+  kept-end c text e =
+      let same : text_of (place (Forward Edge) w.line) ≡ c ∷ text = keeps_text (Forward Edge) w.line ∙ e in
+      let P : List ℕ → Type 0 = λ t. 0 < size t in
+      (held-moved w.limits (Forward Edge) w.line h.line, subst P (sym same) (size-some c text), end-after w.line)
+
+  bounded-remembered : (text : List ℕ) → text_of w.line ≡ text
+      → IsBounded (record (dropped w) { history = remembered w.limits w.line text w.history })
+  bounded-remembered [] e = bounded-ended w.history h.history h.lines
+  bounded-remembered (c ∷ text) e =
+      let all = place (Forward Edge) w.line ∷ w.history in
+      bounded-ended (take w.limits.lines all) (all-take w.limits (IsKept w.limits) w.limits.lines all (kept-end c text e, h.history))
+      (take-short w.limits.lines all)
+
+-- ---- a history that is loaded
+
+-- a line that is loaded has the text
+text_of-ended : (text : List ℕ) → text_of (ended text) ≡ text
+text_of-ended text = append-nil (reverse (reverse text)) ∙ reverse-reverse text
+
+kept-ended : (limits : Limits) (text : List ℕ) → AreShown text → has_room limits text ≡ true → IsKept limits (ended text)
+kept-ended limits text k room =
+    let parts = and_parts _ _ room in
+    let P : List ℕ → Type 0 = λ t. 0 < size t in (
+      held-same limits (text_of (ended text)) text (text_of-ended text) (k, leb-true (size text) limits.bytes parts.1),
+      subst P (sym (text_of-ended text)) (ltb-true 0 (size text) parts.0),
+      refl,
+    )
+
+all-append : (P : Split → Type 0) (a b : List Split) → AllByRecursion P a → AllByRecursion P b → AllByRecursion P (a ++ b)
+all-append P [] b h k = k
+all-append P (d ∷ a) b h k = (h.0, all-append P a b h.1 k)
+
+pub all-reverse : (P : Split → Type 0) (lines : List Split) → AllByRecursion P lines → AllByRecursion P (reverse lines)
+all-reverse P [] h = tt
+all-reverse P (d ∷ lines) h =
+    subst (AllByRecursion P) (sym (reverse-append (d ∷ []) lines)) (all-append P (reverse lines) (d ∷ []) (all-reverse P lines h.1) (h.0, tt))
+
+all-loaded : (limits : Limits) (lines : List (List ℕ)) → AllByRecursion (IsKept limits) (map ended (filter (has_room limits) (map shown lines)))
+all-loaded limits [] = tt
+all-loaded limits (line ∷ lines) =
+    elim (cases_Bool (has_room limits (shown line))) [
+      | inl here ↦ rw here (kept-ended limits (shown line) (shown-filter line) here, all-loaded limits lines)
+      | inr not_here ↦ rw not_here (all-loaded limits lines)
+    ]
+
+bounded-loaded : (w : EditorState) → IsBounded w → (text : List ℕ) → IsBounded (loaded text w)
+bounded-loaded w h text =
+    let all = reverse (map ended (filter (has_room w.limits) (map shown (lines_of text)))) in
+    record {
+      line = h.line;
+      unfinished = h.unfinished;
+      past = h.past;
+      undone = h.undone;
+      history = all-take w.limits (IsKept w.limits) w.limits.lines all (all-reverse (IsKept w.limits) (map ended (filter (has_room w.limits) (map shown (lines_of text)))) (all-loaded w.limits (lines_of text)));
+      killed = h.killed;
+      lines = take-short w.limits.lines all;
+      steps = h.steps;
+    }
+
+bounded-done : (task : Task) (w : EditorState) → IsBounded w → is_too_long (task_text task w) w ≡ false → IsBounded (done task w)
+bounded-done (Acts action) w h room = bounded-after w h action room
+bounded-done (Pastes text) w h room = bounded-write w h (shown text) (shown-filter text) room
+bounded-done Accepts w h room = bounded-remembered w h (text_of w.line) refl
+bounded-done LetsGo w h room = bounded-ended w h w.history h.history h.lines
+bounded-done (Loads text) w h room = bounded-loaded w h text
+bounded-done Closes w h room = h
+bounded-done Nothing w h room = h
+
+bounded-all : (tasks : List Task) (w : EditorState) → IsBounded w → AreRoomy tasks w → IsBounded (all_done tasks w)
+bounded-all [] w h room = h
+bounded-all (task ∷ tasks) w h room = bounded-all tasks (done task w) (bounded-done task w h room.0) room.1
+
+pub stays_bounded : (limits : Limits) (tasks : List Task) → StaysBounded limits tasks
+stays_bounded limits tasks room = bounded-all tasks (fresh limits) (fresh-bounded limits) room

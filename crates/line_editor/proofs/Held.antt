@@ -1,0 +1,168 @@
+-- Edits of lines that are held give lines that are held.
+use Rattle.std.proofs.Common.{◌≡◌, ℕ, ◌+◌, ◌-◌, ◌≤◌, List, [], ◌∷◌, ◌++◌, length, reverse, take, drop, refl, sym, subst, ap, ◌∙◌, inl, inr, arith, length-append}
+use Rattle.std.proofs.lemmas.Bool.{cases_Bool, eqb-true}
+use Rattle.std.proofs.lemmas.Str.{encodes-append}
+use Rattle.std.specs.Prelude.{Option, Some, None, IfSome, ◌==◌, encode_utf8_all, slice_get, suc, zero}
+use Rattle.std.specs.List.{AllByRecursion}
+use Rattle.line_editor.specs.declared.limits.Limits.{Limits}
+use Rattle.line_editor.specs.declared.places.Stop.TheVariants.{Cluster, Edge}
+use Rattle.line_editor.specs.declared.places.Target.{Target}
+use Rattle.line_editor.specs.declared.places.Target.TheVariants.{Back, Forward}
+use Rattle.line_editor.specs.Bounded.{IsHeld, IsKept}
+use Rattle.line_editor.specs.Bounds.{size}
+use Rattle.line_editor.specs.Edits.{cut, end_of, erased, from_to, inserted, meeting, settled, start_of, transposed}
+use Rattle.line_editor.specs.Places.{place, stops}
+use Rattle.line_editor.specs.Shown.{AreShown}
+use Rattle.line_editor.specs.Splits.{Split, ahead, text_of}
+use Rattle.line_editor.specs.States.{behind_front, first_with, or_else}
+use Rattle.line_editor.proofs.Keeping.{cuts_out, ends-IsFrom, from_to-IsFrom, keeps_text, text_of-IsFrom, text_of-joined, writes_at}
+use Rattle.line_editor.proofs.Showing.{shown-append, shown-back, shown-front}
+
+pub size-append : (a b : List ℕ) → size (a ++ b) ≡ size a + size b
+size-append a b = ap length (encodes-append a b) ∙ length-append (encode_utf8_all a) (encode_utf8_all b)
+
+-- a text that is held
+abbrev pub Holds : Limits → List ℕ → Type 0
+Holds limits text = AreShown text × (size text ≤ limits.bytes)
+
+module _ (limits : Limits) where
+  pub held-same : (a b : List ℕ) → a ≡ b → Holds limits b → Holds limits a
+  held-same a b e h = subst (Holds limits) (sym e) h
+
+  pub held-moved : (target : Target) (d : Split) → IsHeld limits d → IsHeld limits (place target d)
+  held-moved target d h = held-same (text_of (place target d)) (text_of d) (keeps_text target d) h
+
+  pub held-inserted : (text : List ℕ) (d : Split) → IsHeld limits d → AreShown text → size text ≤ limits.bytes - size (text_of d) → IsHeld limits (inserted text d)
+  held-inserted text d h k few =
+      let front = reverse d.before in
+      held-same (text_of (inserted text d)) (front ++ (text ++ d.after)) (writes_at text d) (
+        shown-append front (text ++ d.after) (shown-front front d.after h.0) (shown-append text d.after k (shown-back front d.after h.0)),
+        omega (arith, few, h.1, size-append front (text ++ d.after), size-append text d.after, size-append front d.after),
+      )
+
+  pub held-erased : (target : Target) (d : Split) → IsHeld limits d → IsHeld limits (erased target d)
+  held-erased target d h =
+      let front = reverse (start_of target d).before in
+      let back = (end_of target d).after in
+      let piece = cut target d in
+      let out = cuts_out target d in
+      let all : Holds limits (front ++ (piece ++ back)) = held-same (front ++ (piece ++ back)) (text_of d) (sym out.was) h in
+      held-same (text_of (erased target d)) (front ++ back) out.stays (
+        shown-append front back (shown-front front (piece ++ back) all.0) (shown-back piece back (shown-back front (piece ++ back) all.0)),
+        omega (arith, all.1, size-append front (piece ++ back), size-append piece back, size-append front back),
+      )
+
+  pub cut-shown : (target : Target) (d : Split) → IsHeld limits d → AreShown (cut target d)
+  cut-shown target d h =
+      let front = reverse (start_of target d).before in
+      let back = (end_of target d).after in
+      let piece = cut target d in
+      let all : Holds limits (front ++ (piece ++ back)) = held-same (front ++ (piece ++ back)) (text_of d) (sym (cuts_out target d).was) h in
+      shown-front piece back (shown-back front (piece ++ back) all.0)
+
+  meeting-text : (before after : List ℕ) → text_of (meeting before after) ≡ reverse before ++ after
+  meeting-text before [] = keeps_text (Back Cluster) (record { before = before; after = [] })
+  meeting-text before (c ∷ after) = refl
+
+  pub held-transposed : (d : Split) → IsHeld limits d → IsHeld limits (transposed d)
+  held-transposed d h =
+      let m = meeting d.before d.after in
+      let p = place (Back Cluster) m in
+      let q = place (Forward Cluster) m in
+      let left = ends-IsFrom (Back Cluster) m in
+      let right = ends-IsFrom (Forward Cluster) m in
+      let x = from_to p m in
+      let y = from_to m q in
+      let front = reverse p.before in
+      let first : x ≡ left.0 = from_to-IsFrom p m left.0 left.1 in
+      let second : y ≡ right.0 = from_to-IsFrom m q right.0 right.1 in
+      let text : text_of m ≡ front ++ (x ++ (y ++ q.after)) =
+      text_of-IsFrom p m left.0 left.1
+      ∙ ap (λ t. front ++ t) (left.1.after ∙ ap (λ t. t ++ m.after) (sym first))
+      ∙ ap (λ t. front ++ (x ++ t)) (right.1.after ∙ ap (λ t. t ++ q.after) (sym second)) in
+      let all : Holds limits (front ++ (x ++ (y ++ q.after))) =
+      held-same (front ++ (x ++ (y ++ q.after))) (text_of d) (sym text ∙ meeting-text d.before d.after) h in
+      let behind = shown-back front (x ++ (y ++ q.after)) all.0 in
+      let later = shown-back x (y ++ q.after) behind in
+      held-same (text_of (transposed d)) (front ++ ((y ++ x) ++ q.after)) (text_of-joined p (y ++ x) q) (
+        shown-append front ((y ++ x) ++ q.after) (shown-front front (x ++ (y ++ q.after)) all.0)
+            (shown-append (y ++ x) q.after (shown-append y x (shown-front y q.after later) (shown-front x (y ++ q.after) behind)) (shown-back y q.after later)),
+        omega (
+          arith,
+          all.1,
+          size-append front (x ++ (y ++ q.after)),
+          size-append x (y ++ q.after),
+          size-append y q.after,
+          size-append front ((y ++ x) ++ q.after),
+          size-append (y ++ x) q.after,
+          size-append y x,
+        ),
+      )
+
+  -- ---- lists
+
+  pub all-take : (P : Split → Type 0) (n : ℕ) (lines : List Split) → AllByRecursion P lines → AllByRecursion P (take n lines)
+  all-take P zero lines h = tt
+  all-take P (suc n) [] h = tt
+  all-take P (suc n) (d ∷ lines) h = (h.0, all-take P n lines h.1)
+
+  pub all-get : (lines : List Split) (at : ℕ) → AllByRecursion (IsKept limits) lines → IfSome (slice_get lines at) (IsHeld limits)
+  all-get [] at h = tt
+  all-get (d ∷ lines) zero h = h.0.0
+  all-get (d ∷ lines) (suc at) h = all-get lines at h.1
+
+  pub all-drop : (lines : List Split) (at : ℕ) → AllByRecursion (IsKept limits) lines → AllByRecursion (IsKept limits) (drop at lines)
+  all-drop lines zero h = h
+  all-drop [] (suc at) h = tt
+  all-drop (d ∷ lines) (suc at) h = all-drop lines at h.1
+
+  -- ---- a search
+
+  some-weaker : {X : Type 0} (P Q : X → Type 0) (o : Option X) → ((x : X) → P x → Q x) → IfSome o P → IfSome o Q
+  some-weaker P Q (Some x) f h = f x h
+  some-weaker P Q None f h = tt
+
+  behind-front : (front text : List ℕ) → IfSome (behind_front front text) (λ rest. text ≡ front ++ rest)
+  behind-front [] text = refl
+  behind-front (c ∷ front) [] = tt
+  behind-front (c ∷ front) (x ∷ text) =
+      elim (cases_Bool (c == x)) [
+        | inl here ↦ rw here (some-weaker (λ rest. text ≡ front ++ rest) (λ rest. x ∷ text ≡ (c ∷ front) ++ rest) (behind_front front text)
+            (λ rest e. ap (λ n. n ∷ text) (sym (eqb-true c x here)) ∙ ap (λ t. c ∷ t) e) (behind-front front text))
+        | inr not_here ↦ rw not_here tt
+      ]
+
+  -- a front and what was found behind it
+  abbrev pub Found : List ℕ → ℕ × List ℕ → Type 0
+  Found front found = Holds limits (front ++ found.1)
+
+  or-else : (front : List ℕ) (o : Option (List ℕ)) (n : ℕ) (other : Option (ℕ × List ℕ)) → IfSome o (λ rest. Holds limits (front ++ rest))
+      → IfSome other (Found front) → IfSome (or_else o n other) (Found front)
+  or-else front (Some rest) n other h k = h
+  or-else front None n other h k = k
+
+  pub found-held : (front : List ℕ) (passed : ℕ) (lines : List Split) → AllByRecursion (IsKept limits) lines → IfSome (first_with front passed lines) (Found front)
+  found-held front passed [] h = tt
+  found-held front passed (d ∷ lines) h =
+      or-else front (behind_front front (text_of d)) (passed + 1) (first_with front (passed + 1) lines)
+      (some-weaker (λ rest. text_of d ≡ front ++ rest) (λ rest. Holds limits (front ++ rest)) (behind_front front (text_of d))
+      (λ rest e. held-same (front ++ rest) (text_of d) (sym e) h.0.0) (behind-front front (text_of d)))
+      (found-held front (passed + 1) lines h.1)
+
+  pub held-settled : (before after : List ℕ) → Holds limits (reverse before ++ after) → IsHeld limits (settled (record { before = before; after = after }))
+  held-settled before after h =
+      let p : Split = record { before = before; after = [] } in
+      let q : Split = record { before = []; after = after } in
+      held-same (text_of (settled (record { before = before; after = after }))) (reverse before ++ after) (text_of-joined p [] q) h
+
+-- the end of a line has nothing behind it
+pub edge-end : (before after : List ℕ) → (ahead (stops Edge) before after).after ≡ []
+edge-end before [] = refl
+edge-end before (c ∷ after) = edge-end (c ∷ before) after
+
+pub end-after : (d : Split) → (place (Forward Edge) d).after ≡ []
+end-after d = by d.before d.after
+  where
+    by : (before after : List ℕ) → (place (Forward Edge) (record { before = before; after = after })).after ≡ []
+    by before [] = refl
+    by before (c ∷ after) = edge-end (c ∷ before) after

@@ -1,0 +1,88 @@
+-- The name of an action reads as this action.
+use Rattle.std.proofs.Common.{◌≡◌, ◌∙◌, ℕ, ◌==◌, true, List, [], ◌∷◌, length, refl, sym, ap, inl, inr, arith, append-nil}
+use Rattle.std.proofs.lemmas.Bool.{and_from, cases_Bool, eqb-true, lt-ltb}
+use Rattle.std.proofs.lemmas.Str.{chars-encodes}
+use Rattle.std.specs.Prelude.{Bool, Option, Some, None, codes, if◌then◌else◌, nat_lt}
+use Rattle.std.specs.Char.{IsScalar, encode_utf8}
+use Rattle.std.specs.Cmp.Lexicographic.{same_text}
+use Rattle.std.specs.List.{AllByRecursion}
+use Rattle.std.specs.Option.{option_map, option_or}
+use Rattle.std.specs.Str.{chars, IsUtf8}
+use Rattle.crossterm_flags.specs.Values.{same}
+use Rattle.crossterm_flags.specs.Variants.{value_in}
+use Rattle.unicode_segmentation.proofs.TextLemmas.{chars-encode_utf8}
+use Rattle.line_editor.specs.declared.actions.Action.{Action}
+use Rattle.line_editor.specs.declared.actions.Action.TheVariants.{Insert, Go, Erase, Kill, Yank, Transpose, Undo, Redo, Older, Newer, Search}
+use Rattle.line_editor.specs.declared.places.Stop.TheVariants.{Cluster, WordStart, WordEnd, Blank, Edge}
+use Rattle.line_editor.specs.declared.places.Target.{Target}
+use Rattle.line_editor.specs.declared.places.Target.TheVariants.{Back, Forward}
+use Rattle.line_editor.specs.Names.{ReadsBack, action_name, action_rows, char_name, char_named, one_char, target_name, target_rows, verb_named}
+
+-- ---- a target
+
+target_back : (target : Target) → value_in target_rows (target_name target) ≡ Some target
+target_back (Back Cluster) = refl
+target_back (Back WordStart) = refl
+target_back (Back WordEnd) = refl
+target_back (Back Blank) = refl
+target_back (Back Edge) = refl
+target_back (Forward Cluster) = refl
+target_back (Forward WordStart) = refl
+target_back (Forward WordEnd) = refl
+target_back (Forward Blank) = refl
+target_back (Forward Edge) = refl
+
+-- a name whose first hyphen is at this place is read by its verb
+abbrev read_at : Bool → List ℕ → List ℕ → List ℕ → Option Action
+read_at found verb rest name = if found then verb_named verb rest else value_in action_rows name
+
+-- ---- a character
+
+is_text : (c : ℕ) → IsScalar c → IsUtf8 (encode_utf8 c)
+is_text c h = (c ∷ [], (and_from _ _ h refl, append-nil (encode_utf8 c)))
+
+space-chars : chars (codes "space") ≡ codes "space"
+unfolding encode_utf8
+space-chars = chars-encodes (codes "space") refl
+
+char_back : (c : ℕ) → IsScalar c → char_named (char_name c) ≡ Some c
+char_back c h =
+    elim (cases_Bool (c == 32)) [
+      | inl here ↦ rw here (ap (λ t. option_or (one_char t) (Some 32)) space-chars ∙ ap Some (sym (eqb-true c 32 here)))
+      | inr not_here ↦ rw not_here (ap (λ t. option_or (one_char t) (if same (codes "space") (encode_utf8 c) then Some 32 else None)) (chars-encode_utf8 c (is_text c h)))
+    ]
+
+pub reads_back : (action : Action) → ReadsBack action
+reads_back (Insert c) h =
+    let name = action_name (Insert c) in
+    let found : nat_lt 6 (length name) ≡ true = lt-ltb 6 (length name) (omega arith) in
+    ap (λ b. read_at b (codes "insert") (char_name c) name) found ∙ ap (option_map Insert) (char_back c h)
+reads_back (Go target) h =
+    let name = action_name (Go target) in
+    let found : nat_lt 2 (length name) ≡ true = lt-ltb 2 (length name) (omega arith) in
+    ap (λ b. read_at b (codes "go") (target_name target) name) found ∙ ap (option_map Go) (target_back target)
+reads_back (Erase target) h =
+    let name = action_name (Erase target) in
+    let found : nat_lt 5 (length name) ≡ true = lt-ltb 5 (length name) (omega arith) in
+    ap (λ b. read_at b (codes "erase") (target_name target) name) found ∙ ap (option_map Erase) (target_back target)
+reads_back (Kill target) h =
+    let name = action_name (Kill target) in
+    let found : nat_lt 4 (length name) ≡ true = lt-ltb 4 (length name) (omega arith) in
+    ap (λ b. read_at b (codes "kill") (target_name target) name) found ∙ ap (option_map Kill) (target_back target)
+reads_back Yank h = refl
+reads_back Transpose h = refl
+reads_back Undo h = refl
+reads_back Redo h = refl
+reads_back Older h = refl
+reads_back Newer h = refl
+reads_back Search h = refl
+
+-- ---- a text that is no name
+
+pub none_named : {X : Type 0} (rows : List (List ℕ × X)) (text : List ℕ) → AllByRecursion (λ row. text ≡ row.0 → ⊥) rows → value_in rows text ≡ None
+none_named [] text h = refl
+none_named (row ∷ rows) text h =
+    elim (cases_Bool (same row.0 text)) [
+      | inl here ↦ absurd (h.0 (sym (same_text row.0 text (sym here))))
+      | inr not_here ↦ rw not_here (none_named rows text h.1)
+    ]

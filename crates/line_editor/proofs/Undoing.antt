@@ -1,0 +1,228 @@
+-- What can be undone.
+use Rattle.std.proofs.Common.{◌≡◌, ℕ, ◌+◌, ◌≤◌, true, false, List, [], ◌∷◌, ◌++◌, length, refl, sym, ap, ◌∙◌, inl, inr, arith}
+use Rattle.std.specs.Prelude.{zero, suc, Option, Some, None, slice_get}
+use Rattle.std.proofs.lemmas.Bool.{cases_Bool, false≢true}
+use Rattle.std.proofs.lemmas.List.{take_all}
+use Rattle.line_editor.specs.declared.actions.Action.{Action}
+use Rattle.line_editor.specs.declared.actions.Action.TheVariants.{Insert, Go, Erase, Kill, Yank, Transpose, Undo, Redo, Older, Newer, Search}
+use Rattle.line_editor.specs.declared.limits.Limits.{Limits}
+use Rattle.line_editor.specs.declared.places.Target.{Target}
+use Rattle.line_editor.specs.Splits.{Split, text_of}
+use Rattle.line_editor.specs.Edits.{cut, meeting}
+use Rattle.line_editor.specs.Laws.{ArePlain, CanBeUndone, IsPlain, KeepsHistory, RedoesUndone, undo_times}
+use Rattle.line_editor.specs.Shown.{is_shown}
+use Rattle.line_editor.specs.States.{EditorState, after, erase_cut, found, kill_cut, newer_from, newer_line, newer_to, older_to, pushed, redo_to, run, searched_to, transpose_at, type_char, typed, undo_to, write}
+use Rattle.line_editor.proofs.Keeping.{keeps_text}
+
+-- ---- history
+
+type_history : (c : ℕ) (w : EditorState) → (type_char c w).history ≡ w.history
+type_history c w = elim (cases_Bool (is_shown c)) [ inl here ↦ rw here refl | inr not_here ↦ rw not_here refl ]
+
+erase_history : (text : List ℕ) (target : Target) (w : EditorState) → (erase_cut text target w).history ≡ w.history
+erase_history [] target w = refl
+erase_history (c ∷ text) target w = refl
+
+kill_history : (text : List ℕ) (target : Target) (w : EditorState) → (kill_cut text target w).history ≡ w.history
+kill_history [] target w = refl
+kill_history (c ∷ text) target w = refl
+
+write_history : (text : List ℕ) (w : EditorState) → (write text w).history ≡ w.history
+write_history [] w = refl
+write_history (c ∷ text) w = refl
+
+transpose_history : (before : List ℕ) (w : EditorState) → (transpose_at before w).history ≡ w.history
+transpose_history [] w = refl
+transpose_history (c ∷ before) w = refl
+
+undo_history : (past : List Split) (w : EditorState) → (undo_to past w).history ≡ w.history
+undo_history [] w = refl
+undo_history (d ∷ past) w = refl
+
+redo_history : (undone : List Split) (w : EditorState) → (redo_to undone w).history ≡ w.history
+redo_history [] w = refl
+redo_history (d ∷ undone) w = refl
+
+older_history : (line : Option Split) (w : EditorState) → (older_to line w).history ≡ w.history
+older_history None w = refl
+older_history (Some d) w = refl
+
+newer_history : (line : Option Split) (w : EditorState) → (newer_to line w).history ≡ w.history
+newer_history None w = refl
+newer_history (Some d) w = refl
+
+newer_from_history : (back : ℕ) (w : EditorState) → (newer_from back w).history ≡ w.history
+newer_from_history zero w = refl
+newer_from_history (suc back) w = newer_history (newer_line back w) w
+
+search_history : (found : Option (ℕ × List ℕ)) (w : EditorState) → (searched_to found w).history ≡ w.history
+search_history None w = refl
+search_history (Some found) w = refl
+
+pub keeps_history : (action : Action) (w : EditorState) → KeepsHistory action w
+keeps_history (Insert c) w = type_history c w
+keeps_history (Go target) w = refl
+keeps_history (Erase target) w = erase_history (cut target w.line) target w
+keeps_history (Kill target) w = kill_history (cut target w.line) target w
+keeps_history Yank w = write_history w.killed w
+keeps_history Transpose w = transpose_history (meeting w.line.before w.line.after).before w
+keeps_history Undo w = undo_history w.past w
+keeps_history Redo w = redo_history w.undone w
+keeps_history Older w = older_history (slice_get w.history w.back) w
+keeps_history Newer w = newer_from_history w.back w
+keeps_history Search w = search_history (found w) w
+
+-- ---- undo
+
+-- the text is one that was there, or the last of some lines that can be had again has it
+abbrev pub EndsIn : List ℕ → List Split → EditorState → Type 0
+EndsIn text [] w = (text_of w.line ≡ text) × (w.typing ≡ false)
+EndsIn text (d ∷ []) w = text_of d ≡ text
+EndsIn text (d ∷ e ∷ extra) w = EndsIn text (e ∷ extra) w
+
+-- the text is there again after so many undos, and what could be undone before; so many actions more have steps
+pub record Leads (text : List ℕ) (past : List Split) (n : ℕ) (w : EditorState) : Type 0 where
+  pub extra : List Split
+  pub lines : w.past ≡ extra ++ past
+  pub ends : EndsIn text extra w
+  pub room : length w.past + n ≤ w.limits.steps
+
+-- if there are any lines, they alone matter
+ends-lines : (text : List ℕ) (x : Split) (extra : List Split) (v w : EditorState) → EndsIn text (x ∷ extra) v → EndsIn text (x ∷ extra) w
+ends-lines text x [] v w h = h
+ends-lines text x (y ∷ extra) v w h = ends-lines text y extra v w h
+
+ends-cons : (text : List ℕ) (d : Split) (extra : List Split) (v w : EditorState) → d ≡ v.line → EndsIn text extra v → EndsIn text (d ∷ extra) w
+ends-cons text d [] v w e h = ap text_of e ∙ h.0
+ends-cons text d (x ∷ extra) v w e h = ends-lines text x extra v w h
+
+-- the same lines, in another state with the same text
+ends-same : (text : List ℕ) (extra : List Split) (v w : EditorState) → text_of w.line ≡ text_of v.line → w.typing ≡ false → EndsIn text extra v → EndsIn text extra w
+ends-same text [] v w e f h = (e ∙ h.0, f)
+ends-same text (d ∷ []) v w e f h = h
+ends-same text (d ∷ x ∷ extra) v w e f h = ends-same text (x ∷ extra) v w e f h
+
+-- the same lines, if there are any
+ends-typed : (text : List ℕ) (extra : List Split) (v w : EditorState) → v.typing ≡ true → EndsIn text extra v → EndsIn text extra w
+ends-typed text [] v w t h = absurd (false≢true (sym h.1 ∙ t))
+ends-typed text (d ∷ []) v w t h = h
+ends-typed text (d ∷ x ∷ extra) v w t h = ends-typed text (x ∷ extra) v w t h
+
+module _ (text : List ℕ) (past : List Split) (n : ℕ) (w : EditorState) (h : Leads text past (suc n) w) where
+  -- a change
+  leads-changed : (v : EditorState) → v.past ≡ pushed w → v.limits ≡ w.limits → Leads text past n v
+  leads-changed v e l =
+      let whole : pushed w ≡ w.line ∷ w.past = take_all w.limits.steps (w.line ∷ w.past) (omega (arith, h.room)) in
+      record {
+        extra = w.line ∷ h.extra;
+        lines = e ∙ whole ∙ ap (λ t. w.line ∷ t) h.lines;
+        ends = ends-cons text w.line h.extra w v refl h.ends;
+        room = omega (arith, h.room, ap length (e ∙ whole), ap (λ (x : Limits). x.steps) l);
+      }
+
+  -- no change of the text
+  leads-same : (v : EditorState) → v.past ≡ w.past → v.limits ≡ w.limits → text_of v.line ≡ text_of w.line → v.typing ≡ false → Leads text past n v
+  leads-same v e l f t = record {
+    extra = h.extra;
+    lines = e ∙ h.lines;
+    ends = ends-same text h.extra w v f t h.ends;
+    room = omega (arith, h.room, ap length e, ap (λ (x : Limits). x.steps) l);
+  }
+
+  -- no change at all
+  leads-none : Leads text past n w
+  leads-none = record { extra = h.extra; lines = h.lines; ends = h.ends; room = omega (arith, h.room) }
+
+  -- what is typed
+  leads-typed : (d : Split) → Leads text past n (typed d w)
+  leads-typed d =
+      elim (cases_Bool w.typing) [
+        | inl on ↦ record {
+          extra = h.extra;
+          lines = (rw on refl) ∙ h.lines;
+          ends = ends-typed text h.extra w (typed d w) on h.ends;
+          room = omega (arith, h.room, ap length (still on));
+        }
+        | inr off ↦ leads-changed (typed d w) (rw off refl) refl
+      ]
+    where
+      still : w.typing ≡ true → (typed d w).past ≡ w.past
+      still on = rw on refl
+
+  leads-type : (c : ℕ) → Leads text past n (type_char c w)
+  leads-type c = elim (cases_Bool (is_shown c)) [ inl here ↦ rw here (leads-typed _) | inr not_here ↦ rw not_here leads-none ]
+
+  leads-erase : (piece : List ℕ) (target : Target) → Leads text past n (erase_cut piece target w)
+  leads-erase [] target = leads-none
+  leads-erase (c ∷ piece) target = leads-changed _ refl refl
+
+  leads-kill : (piece : List ℕ) (target : Target) → Leads text past n (kill_cut piece target w)
+  leads-kill [] target = leads-none
+  leads-kill (c ∷ piece) target = leads-changed _ refl refl
+
+  leads-write : (piece : List ℕ) → Leads text past n (write piece w)
+  leads-write [] = leads-none
+  leads-write (c ∷ piece) = leads-changed _ refl refl
+
+  leads-transpose : (before : List ℕ) → Leads text past n (transpose_at before w)
+  leads-transpose [] = leads-none
+  leads-transpose (c ∷ before) = leads-changed _ refl refl
+
+  leads-older : (line : Option Split) → Leads text past n (older_to line w)
+  leads-older None = leads-none
+  leads-older (Some d) = leads-changed _ refl refl
+
+  leads-newer : (line : Option Split) → Leads text past n (newer_to line w)
+  leads-newer None = leads-none
+  leads-newer (Some d) = leads-changed _ refl refl
+
+  leads-search : (found : Option (ℕ × List ℕ)) → Leads text past n (searched_to found w)
+  leads-search None = leads-none
+  leads-search (Some found) = leads-changed _ refl refl
+
+  leads-newer_from : (back : ℕ) → Leads text past n (newer_from back w)
+  leads-newer_from zero = leads-none
+  leads-newer_from (suc back) = leads-newer (newer_line back w)
+
+pub leads-after : (text : List ℕ) (past : List Split) (n : ℕ) (w : EditorState) → Leads text past (suc n) w → (action : Action) → IsPlain action
+    → Leads text past n (after action w)
+leads-after text past n w h (Insert c) f = leads-type text past n w h c
+leads-after text past n w h (Go target) f = leads-same text past n w h _ refl refl (keeps_text target w.line) refl
+leads-after text past n w h (Erase target) f = leads-erase text past n w h (cut target w.line) target
+leads-after text past n w h (Kill target) f = leads-kill text past n w h (cut target w.line) target
+leads-after text past n w h Yank f = leads-write text past n w h w.killed
+leads-after text past n w h Transpose f = leads-transpose text past n w h (meeting w.line.before w.line.after).before
+leads-after text past n w h Undo f = absurd f
+leads-after text past n w h Redo f = absurd f
+leads-after text past n w h Older f = leads-older text past n w h (slice_get w.history w.back)
+leads-after text past n w h Newer f = leads-newer_from text past n w h w.back
+leads-after text past n w h Search f = leads-search text past n w h (found w)
+
+pub leads-run : (text : List ℕ) (past : List Split) (actions : List Action) (w : EditorState) → ArePlain actions → Leads text past (length actions) w
+    → Leads text past 0 (run actions w)
+leads-run text past [] w f h = h
+leads-run text past (a ∷ actions) w f h = leads-run text past actions (after a w) f.1 (leads-after text past (length actions) w h a f.0)
+
+-- so many undos as there are lines
+undone : (text : List ℕ) (past extra : List Split) (w : EditorState) → w.past ≡ extra ++ past → EndsIn text extra w
+    → (n : ℕ) × (text_of (undo_times n w).line ≡ text) × ((undo_times n w).past ≡ past)
+undone text past [] w e h = (zero, h.0, e)
+undone text past (d ∷ []) w e h =
+    let step : after Undo w ≡ undo_to (d ∷ past) w = ap (λ t. undo_to t w) e in
+    (suc zero, ap (λ (x : EditorState). text_of x.line) step ∙ h, ap (λ (x : EditorState). x.past) step)
+undone text past (d ∷ x ∷ extra) w e h =
+    let v = undo_to (d ∷ ((x ∷ extra) ++ past)) w in
+    let step : after Undo w ≡ v = ap (λ t. undo_to t w) e in
+    let rest = undone text past (x ∷ extra) v refl (ends-lines text x extra w v h) in
+    (suc rest.0, ap (λ (y : EditorState). text_of (undo_times rest.0 y).line) step ∙ rest.1, ap (λ (y : EditorState). (undo_times rest.0 y).past) step ∙ rest.2)
+
+pub can_be_undone : (actions : List Action) (w : EditorState) → CanBeUndone actions w
+can_be_undone actions w plain rests enough =
+    let all = leads-run (text_of w.line) w.past actions w plain (record { extra = []; lines = refl; ends = (refl, rests); room = enough }) in
+    undone (text_of w.line) w.past all.extra (run actions w) all.lines all.ends
+
+pub redoes_undone : (w : EditorState) → RedoesUndone w
+redoes_undone w d past e = ap (λ t. after Redo (undo_to t w)) e ∙ (record_with w d past e)
+  where
+    record_with : (w : EditorState) (d : Split) (past : List Split) → w.past ≡ d ∷ past → after Redo (undo_to (d ∷ past) w) ≡ record w { typing = false }
+    record_with w d past e = ap (λ t. record w { past = t; typing = false }) (sym e)

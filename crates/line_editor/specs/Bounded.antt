@@ -1,0 +1,47 @@
+-- What is true of an editor, whatever was done to it.
+use Rattle.std.specs.Prelude.{◌≡◌, ⊤, ◌+◌, ◌<◌, ◌≤◌, false, List, [], ◌∷◌, length}
+use Rattle.std.specs.List.{AllByRecursion}
+use Rattle.line_editor.specs.declared.limits.Limits.{Limits}
+use Rattle.line_editor.specs.Bounds.{is_too_long, size}
+use Rattle.line_editor.specs.History.{history_of, saved}
+use Rattle.line_editor.specs.Shown.{AreShown}
+use Rattle.line_editor.specs.Splits.{Split, text_of}
+use Rattle.line_editor.specs.States.{EditorState, fresh}
+use Rattle.line_editor.specs.Tasks.{Task, done, task_text}
+
+-- A line is held if each of its characters is shown, and it has no more bytes than the limit.
+abbrev pub IsHeld : Limits → Split → Type 0
+IsHeld limits d = AreShown (text_of d) × (size (text_of d) ≤ limits.bytes)
+
+-- A line of the history is held, isn't empty, and has its cursor at its end.
+abbrev pub IsKept : Limits → Split → Type 0
+IsKept limits d = IsHeld limits d × (0 < size (text_of d)) × (d.after ≡ [])
+
+-- All lines of an editor are held, and there are no more of them than the limits say.
+pub record IsBounded (w : EditorState) : Type 0 where
+  pub line : IsHeld w.limits w.line
+  pub unfinished : IsHeld w.limits w.unfinished
+  pub past : AllByRecursion (IsHeld w.limits) w.past
+  pub undone : AllByRecursion (IsHeld w.limits) w.undone
+  pub history : AllByRecursion (IsKept w.limits) w.history
+  pub killed : AreShown w.killed
+  pub lines : length w.history ≤ w.limits.lines
+  pub steps : length w.past + length w.undone ≤ w.limits.steps
+
+-- Tasks are done one after another.
+abbrev pub all_done : List Task → EditorState → EditorState
+all_done [] w = w
+all_done (task ∷ tasks) w = all_done tasks (done task w)
+
+-- What each of some tasks writes has room.
+abbrev pub AreRoomy : List Task → EditorState → Type 0
+AreRoomy [] w = ⊤
+AreRoomy (task ∷ tasks) w = (is_too_long (task_text task w) w ≡ false) × AreRoomy tasks (done task w)
+
+-- From its beginning on, an editor stays within its limits, whatever is done to it that isn't refused as too long.
+abbrev pub StaysBounded : Limits → List Task → Type 0
+StaysBounded limits tasks = AreRoomy tasks (fresh limits) → IsBounded (all_done tasks (fresh limits))
+
+-- The history that is loaded from the text of a bounded editor's history is this history.
+abbrev pub LoadsSaved : EditorState → Type 0
+LoadsSaved w = IsBounded w → history_of w.limits (saved w.history) ≡ w.history

@@ -1,0 +1,100 @@
+-- The names of targets and actions, and what reads as one.
+use Rattle.std.specs.Prelude.{◌≡◌, ⊤, ℕ, Bool, ◌==◌, ◌++◌, if◌then◌else◌, nat_lt, codes, List, [], ◌∷◌, length, Option, Some, None}
+use Rattle.std.specs.Char.{IsScalar, encode_utf8}
+use Rattle.std.specs.List.{after_first, before_first, position_or_len}
+use Rattle.std.specs.Option.{option_map, option_or}
+use Rattle.std.specs.Str.{chars}
+use Rattle.crossterm_flags.specs.Values.{same}
+use Rattle.crossterm_flags.specs.Variants.{value_in}
+use Rattle.line_editor.specs.declared.actions.Action.{Action}
+use Rattle.line_editor.specs.declared.actions.Action.TheVariants.{Insert, Go, Erase, Kill, Yank, Transpose, Undo, Redo, Older, Newer, Search}
+use Rattle.line_editor.specs.declared.places.Stop.TheVariants.{Cluster, WordStart, WordEnd, Blank, Edge}
+use Rattle.line_editor.specs.declared.places.Target.{Target}
+use Rattle.line_editor.specs.declared.places.Target.TheVariants.{Back, Forward}
+
+-- ---- how a name is spelled
+
+-- Each target has a name.
+abbrev pub target_name : Target → List ℕ
+target_name (Back Cluster) = codes "char-back"
+target_name (Forward Cluster) = codes "char-forward"
+target_name (Back WordStart) = codes "word-back"
+target_name (Forward WordStart) = codes "word-start-forward"
+target_name (Back WordEnd) = codes "word-end-back"
+target_name (Forward WordEnd) = codes "word-forward"
+target_name (Back Blank) = codes "blank-back"
+target_name (Forward Blank) = codes "blank-forward"
+target_name (Back Edge) = codes "line-start"
+target_name (Forward Edge) = codes "line-end"
+
+-- A character's name is itself, and that of a blank is a word.
+abbrev pub char_name : ℕ → List ℕ
+char_name c = if c == 32 then codes "space" else encode_utf8 c
+
+-- An action's name is a verb, and what it is done to.
+abbrev pub action_name : Action → List ℕ
+action_name (Insert c) = codes "insert-" ++ char_name c
+action_name (Go target) = codes "go-" ++ target_name target
+action_name (Erase target) = codes "erase-" ++ target_name target
+action_name (Kill target) = codes "kill-" ++ target_name target
+action_name Yank = codes "yank"
+action_name Transpose = codes "transpose"
+action_name Undo = codes "undo"
+action_name Redo = codes "redo"
+action_name Older = codes "older"
+action_name Newer = codes "newer"
+action_name Search = codes "search"
+
+-- ---- what reads as a name
+
+-- Targets by their names.
+abbrev pub target_rows : List (List ℕ × Target)
+target_rows =
+    (codes "char-back", Back Cluster) ∷ (codes "char-forward", Forward Cluster) ∷ (codes "word-back", Back WordStart) ∷
+    (codes "word-start-forward", Forward WordStart) ∷ (codes "word-end-back", Back WordEnd) ∷ (codes "word-forward", Forward WordEnd) ∷
+    (codes "blank-back", Back Blank) ∷ (codes "blank-forward", Forward Blank) ∷ (codes "line-start", Back Edge) ∷
+    (codes "line-end", Forward Edge) ∷ []
+
+-- Actions that are done to nothing else, by their names.
+abbrev pub action_rows : List (List ℕ × Action)
+action_rows =
+    (codes "yank", Yank) ∷ (codes "transpose", Transpose) ∷ (codes "undo", Undo) ∷ (codes "redo", Redo) ∷ (codes "older", Older) ∷
+    (codes "newer", Newer) ∷ (codes "search", Search) ∷ []
+
+-- A text of one character is this character.
+abbrev pub one_char : List ℕ → Option ℕ
+one_char (c ∷ []) = Some c
+one_char text = None
+
+-- A text reads as a character if it is one, or as a blank if it is the word for it.
+abbrev pub char_named : List ℕ → Option ℕ
+char_named text = option_or (one_char (chars text)) (if same (codes "space") text then Some 32 else None)
+
+-- A verb and what follows it read as an action.
+abbrev pub verb_named : List ℕ → List ℕ → Option Action
+verb_named verb rest =
+    if same (codes "go") verb then option_map Go (value_in target_rows rest)
+    else (if same (codes "erase") verb then option_map Erase (value_in target_rows rest)
+    else (if same (codes "kill") verb then option_map Kill (value_in target_rows rest)
+    else (if same (codes "insert") verb then option_map Insert (char_named rest) else None)))
+
+-- The hyphen that ends a verb is the first one of a text.
+abbrev pub is_hyphen : ℕ → Bool
+is_hyphen b = b == 45
+
+-- A text with a hyphen reads as a verb and the rest, and one without is looked up.
+abbrev pub action_named : List ℕ → Option Action
+action_named name =
+    if nat_lt (position_or_len is_hyphen name) (length name) then verb_named (before_first is_hyphen name) (after_first is_hyphen name)
+    else value_in action_rows name
+
+-- ---- reading back
+
+-- An action's character is one that Rust has.
+abbrev pub HasScalar : Action → Type 0
+HasScalar (Insert c) = IsScalar c
+HasScalar action = ⊤
+
+-- An action's name reads as this action.
+abbrev pub ReadsBack : Action → Type 0
+ReadsBack action = HasScalar action → action_named (action_name action) ≡ Some action

@@ -1,0 +1,35 @@
+//! What a line editor does.
+
+use crate::places::Target;
+
+/// One thing that an editor does. The names of GNU readline's commands are in brackets.
+///
+/// ```
+/// editor.act(Action::Insert('x'))?;
+/// editor.act(Action::Go(Target::Back(Stop::Edge)))?;
+/// ```
+#[derive(Clone, Copy, PartialEq, Eq, Debug)]
+pub enum Action {
+    /// Types a character at the cursor (`self-insert`). A control character, or one of more than two columns, isn't typed.
+    Insert(char),
+    /// Brings the cursor to a target (`backward-char`, `forward-word`, `end-of-line` and others).
+    Go(Target),
+    /// Erases what is between the cursor and a target (`backward-delete-char`, `delete-char`).
+    Erase(Target),
+    /// Erases it, and keeps it for a yank (`kill-line`, `backward-kill-word` and others).
+    Kill(Target),
+    /// Writes the text that was killed last (`yank`).
+    Yank,
+    /// Exchanges the clusters before and behind the cursor, and the last two at a line's end (`transpose-chars`).
+    Transpose,
+    /// Brings back the line before the last change (`undo`). Characters that were typed side by side are one change.
+    Undo,
+    /// Brings back the line that was undone last.
+    Redo,
+    /// Shows the next older accepted line (`previous-history`).
+    Older,
+    /// Shows the next newer one, and at last the line that was left (`next-history`).
+    Newer,
+    /// Shows the next older accepted line that begins with the text before the cursor (`history-search-backward`).
+    Search,
+}

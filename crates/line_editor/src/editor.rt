@@ -1,0 +1,592 @@
+//! An editor of a line, an action at a time.
+ghost use Rattle.std.specs.Prelude.{◌≡◌, false, List, [], IfErr, IfOk, IsOk, OnOk, OnErr, slice_get};
+ghost use Rattle.std.specs.Str.{chars};
+ghost use Rattle.std.specs.String.{string_bytes};
+ghost use Rattle.line_editor.specs.declared.actions.Action.{Action};
+ghost use Rattle.line_editor.specs.declared.fault.EditFault.TheVariants.{Memory};
+ghost use Rattle.line_editor.specs.Bounds.{AreAllowed, StopsAt, fault_of, is_too_long, room_of, written};
+ghost use Rattle.line_editor.specs.Edits.{cut, inserted, meeting};
+ghost use Rattle.line_editor.specs.History.{loaded, saved};
+ghost use Rattle.line_editor.specs.Places.{place};
+ghost use Rattle.line_editor.specs.Shown.{AreShown, shown};
+ghost use Rattle.line_editor.specs.Splits.{text_of};
+ghost use Rattle.line_editor.specs.States.{IsMove, accepted, after, changed, dropped, erase_cut, found, fresh, kill_cut, left_for, moved, newer_from, newer_line, older_to, pasted, redo_to, remembered, run, searched_to, transpose_at, type_char, typed, undo_to, write};
+
+use crate::actions::Action;
+use crate::fault::EditFault;
+use crate::history::{history_of, saved};
+use crate::limits::Limits;
+use crate::lines::Line;
+use crate::places::{Stop, Target};
+use crate::recent::RecentLines;
+use crate::shown::{is_shown, shown, shown_len};
+use crate::texts::is_nothing;
+use std::alloc::{AllocError, Allocator, Global};
+use std::marker::Model;
+
+/// An editor of one line, with the text that was killed last, the changes that can be undone, and the history of accepted lines.
+///
+/// ```
+/// let mut editor = Editor::new(alloc, Limits::default())?;
+/// editor.paste("two words")?;
+/// editor.act(Action::Kill(Target::Back(Stop::WordStart)))?;
+/// assert_eq!(rt; editor.line().text(), "two ");
+/// ```
+#[derive(Drop)]
+pub struct Editor<A: Allocator = Global> {
+    alloc: A,
+    limits: Limits,
+    line: Line<A>,
+    killed: String<A>,
+    past: RecentLines<A>,
+    undone: RecentLines<A>,
+    history: RecentLines<A>,
+    back: usize,
+    unfinished: Line<A>,
+    typing: bool,
+}
+
+impl<A: Allocator> Model for Editor<A> {
+    ghost use Rattle.std.specs.String.{string_bytes};
+    ghost use Rattle.std.specs.Str.{chars};
+    ghost use Rattle.line_editor.specs.States.{EditorState};
+
+    ghost Value = { EditorState };
+
+    ghost view = { λ e. record {
+      limits = e.limits;
+      line = e.line;
+      killed = chars (string_bytes e.killed);
+      past = e.past;
+      undone = e.undone;
+      history = e.history;
+      back = e.back;
+      unfinished = e.unfinished;
+      typing = e.typing;
+    } };
+
+    ghost use Rattle.line_editor.specs.Shown.{AreShown};
+
+    ghost invariant = { λ e. AreShown (chars (string_bytes e.killed)) };
+}
+
+// An editor with nothing written.
+fn started<A: Allocator + Clone>(alloc: A, limits: Limits) -> Result<Editor<A>, AllocError>
+    ensures { IfOk result (λ editor. editor ≡ fresh limits) }
+{
+    Ok(Editor {
+        limits,
+        line: Line::new(alloc.clone()?),
+        killed: String::new(alloc.clone()?),
+        past: RecentLines::new(alloc.clone()?),
+        undone: RecentLines::new(alloc.clone()?),
+        history: RecentLines::new(alloc.clone()?),
+        back: 0,
+        unfinished: Line::new(alloc.clone()?),
+        typing: false,
+        alloc,
+    })
+}
+
+impl<A: Allocator> Editor<A> {
+    /// The line.
+    ///
+    /// ```
+    /// let text = editor.line().text();
+    /// ```
+    pub fn line(&self) -> &Line<A>
+        ensures { result.now ≡ self.now.line }
+    {
+        &self.line
+    }
+
+    /// The bounds of the line, the history and the changes that can be undone.
+    ///
+    /// ```
+    /// assert_eq!(rt; editor.limits(), Limits::default());
+    /// ```
+    pub fn limits(&self) -> Limits
+        ensures { result ≡ self.now.limits }
+    {
+        self.limits
+    }
+
+    // The bytes that have room in the line.
+    fn room(&self) -> usize
+        ensures { result ≡ room_of self.now }
+    {
+        self.limits.bytes.saturating_sub(self.line.text().len())
+    }
+
+    // Whether what an action writes has no room.
+    fn is_too_long(&self, action: Action) -> bool
+        ensures { result ≡ is_too_long (written action self.now) self.now }
+    {
+        match action {
+            Action::Insert(c) => is_shown(c) && self.room() < c.len_utf8(),
+            Action::Yank => self.room() < self.killed.as_str().len(),
+            Action::Go(_)
+            | Action::Erase(_)
+            | Action::Kill(_)
+            | Action::Transpose
+            | Action::Undo
+            | Action::Redo
+            | Action::Older
+            | Action::Newer
+            | Action::Search => false,
+        }
+    }
+
+    /// Lets the line go, and an empty one begins. The history and the killed text stay. This takes no memory.
+    ///
+    /// ```
+    /// editor.let_go();
+    /// assert_eq!(rt; editor.line().text(), "");
+    /// ```
+    pub fn let_go(&mut self)
+        ensures { self.new ≡ dropped self.old }
+    {
+        self.line.clear();
+        self.unfinished.clear();
+        self.past.clear();
+        self.undone.clear();
+        self.back = 0;
+        self.typing = false;
+    }
+}
+
+impl<A: Allocator + Clone> Editor<A> {
+    /// An editor with an empty line and nothing before it.
+    ///
+    /// # Errors
+    ///
+    /// `Memory` if memory was refused.
+    ///
+    /// ```
+    /// let mut editor = Editor::new(alloc, Limits { lines: 50, ..Limits::default() })?;
+    /// ```
+    pub fn new(alloc: A, limits: Limits) -> Result<Editor<A>, EditFault>
+        ensures ok { IfOk result (λ editor. editor ≡ fresh limits) }
+        ensures fault { IfErr result (λ fault. fault ≡ Memory) }
+    {
+        match started(alloc, limits) {
+            Ok(editor) => Ok(editor),
+            Err(_) => Err(EditFault::Memory),
+        }
+    }
+
+    // Another line takes the line's place, and the one before can be undone.
+    fn change(&mut self, line: Line<A>) -> Result<(), AllocError>
+        ensures ok { OnOk result (self.new ≡ changed line self.old) }
+        ensures err { OnErr result (self.new ≡ self.old) }
+    {
+        self.past.put(&mut self.line, line, self.limits.steps)?;
+        self.undone.clear();
+        self.typing = false;
+        Ok(())
+    }
+
+    // The same for a line with a character more, which is undone with those typed just before.
+    fn change_on(&mut self, line: Line<A>) -> Result<(), AllocError>
+        ensures ok { OnOk result (self.new ≡ typed line self.old) }
+        ensures err { OnErr result (self.new ≡ self.old) }
+    {
+        if self.typing {
+            self.line = line;
+            self.undone.clear();
+            return Ok(());
+        }
+        self.change(line)?;
+        self.typing = true;
+        Ok(())
+    }
+
+    // Types a character.
+    fn type_char(&mut self, c: char) -> Result<(), AllocError>
+        ensures ok { OnOk result (self.new ≡ type_char c self.old) }
+        ensures err { OnErr result (self.new ≡ self.old) }
+    {
+        if !is_shown(c) {
+            return Ok(());
+        }
+        let mut utf8 = [0u8; 4];
+        let line = self.line.inserted(c.encode_utf8(&mut utf8))?;
+        self.change_on(line)
+    }
+
+    // Brings the cursor to a target.
+    fn go(&mut self, target: Target)
+        ensures { self.new ≡ moved (place target self.old.line) self.old }
+    {
+        self.line.go(target);
+        self.typing = false;
+    }
+
+    // Erases what a target reaches.
+    fn erase(&mut self, target: Target) -> Result<(), AllocError>
+        ensures ok { OnOk result (self.new ≡ erase_cut (cut target self.old.line) target self.old) }
+        ensures err { OnErr result (self.new ≡ self.old) }
+    {
+        if is_nothing(self.line.cut(target)) {
+            return Ok(());
+        }
+        let line = self.line.erased(target)?;
+        self.change(line)
+    }
+
+    // Erases what a target reaches, and keeps it.
+    fn kill(&mut self, target: Target) -> Result<(), AllocError>
+        ensures ok { OnOk result (self.new ≡ kill_cut (cut target self.old.line) target self.old) }
+        ensures err { OnErr result (self.new ≡ self.old) }
+    {
+        let text = self.line.cut(target);
+        if is_nothing(text) {
+            return Ok(());
+        }
+        let killed = String::from_str(self.alloc.clone()?, text)?;
+        let line = self.line.erased(target)?;
+        self.change(line)?;
+        self.killed = killed;
+        Ok(())
+    }
+
+    // Writes the text that was killed last.
+    fn yank(&mut self) -> Result<(), AllocError>
+        ensures ok { OnOk result (self.new ≡ write self.old.killed self.old) }
+        ensures err { OnErr result (self.new ≡ self.old) }
+    {
+        if is_nothing(self.killed.as_str()) {
+            return Ok(());
+        }
+        let line = self.line.inserted(self.killed.as_str())?;
+        self.change(line)
+    }
+
+    // Transposes two clusters, if there are two.
+    fn transpose(&mut self) -> Result<(), AllocError>
+        ensures ok { OnOk result (self.new ≡ transpose_at (meeting self.old.line.before self.old.line.after).before self.old) }
+        ensures err { OnErr result (self.new ≡ self.old) }
+    {
+        if !self.line.has_two() {
+            return Ok(());
+        }
+        let line = self.line.transposed()?;
+        self.change(line)
+    }
+
+    // Brings back the newest line of the past.
+    fn undo(&mut self) -> Result<(), AllocError>
+        ensures ok { OnOk result (self.new ≡ undo_to self.old.past self.old) }
+        ensures err { OnErr result (self.new ≡ self.old) }
+    {
+        if self.past.len() == 0 {
+            return Ok(());
+        }
+        self.past.exchange(&mut self.line, &mut self.undone)?;
+        self.typing = false;
+        Ok(())
+    }
+
+    // Brings back the line that was undone last.
+    fn redo(&mut self) -> Result<(), AllocError>
+        ensures ok { OnOk result (self.new ≡ redo_to self.old.undone self.old) }
+        ensures err { OnErr result (self.new ≡ self.old) }
+    {
+        if self.undone.len() == 0 {
+            return Ok(());
+        }
+        self.undone.exchange(&mut self.line, &mut self.past)?;
+        self.typing = false;
+        Ok(())
+    }
+
+    // Shows a line of the history, and keeps the line if it isn't one.
+    fn leave_for(&mut self, line: Line<A>) -> Result<(), AllocError>
+        ensures ok { OnOk result (self.new ≡ left_for line self.old) }
+        ensures err { OnErr result (self.new ≡ self.old) }
+    {
+        if self.back > 0 {
+            return self.change(line);
+        }
+        let unfinished = self.line.copy()?;
+        self.change(line)?;
+        self.unfinished = unfinished;
+        Ok(())
+    }
+
+    // Shows the next older line.
+    fn older(&mut self) -> Result<(), AllocError>
+        ensures ok { OnOk result (self.new ≡ older_to (slice_get self.old.history self.old.back) self.old) }
+        ensures err { OnErr result (self.new ≡ self.old) }
+    {
+        let back = self.back;
+        if back >= self.history.len() {
+            return Ok(());
+        }
+        match self.history.copy_of(back)? {
+            None => Ok(()),
+            Some(line) => {
+                self.leave_for(line)?;
+                self.back = back + 1;
+                Ok(())
+            }
+        }
+    }
+
+    // The line so far back in the history, or the unfinished one.
+    fn newer_line(&self, back: usize) -> Result<Option<Line<A>>, AllocError>
+        ensures { IfOk result (λ line. line ≡ newer_line back self.now) }
+    {
+        if back == 0 {
+            let unfinished = self.unfinished.copy()?;
+            return Ok(Some(unfinished));
+        }
+        self.history.copy_of(back - 1)
+    }
+
+    // Shows the next newer line, and at last the unfinished one.
+    fn newer(&mut self) -> Result<(), AllocError>
+        ensures ok { OnOk result (self.new ≡ newer_from self.old.back self.old) }
+        ensures err { OnErr result (self.new ≡ self.old) }
+    {
+        if self.back == 0 {
+            return Ok(());
+        }
+        let back = self.back - 1;
+        match self.newer_line(back)? {
+            None => Ok(()),
+            Some(line) => {
+                self.change(line)?;
+                self.back = back;
+                Ok(())
+            }
+        }
+    }
+
+    // Shows the next older line that begins with the text before the cursor.
+    fn search(&mut self) -> Result<(), AllocError>
+        ensures ok { OnOk result (self.new ≡ searched_to (found self.old) self.old) }
+        ensures err { OnErr result (self.new ≡ self.old) }
+    {
+        match self.history.find(self.line.before(), self.back) {
+            None => Ok(()),
+            Some((back, rest)) => {
+                let line = Line::of_parts(self.alloc.clone()?, self.line.before(), rest)?;
+                self.leave_for(line)?;
+                self.back = back;
+                Ok(())
+            }
+        }
+    }
+
+    // Does one thing for which there is room.
+    fn perform(&mut self, action: Action) -> Result<(), AllocError>
+        ensures ok { OnOk result (self.new ≡ after action self.old) }
+        ensures err { OnErr result (self.new ≡ self.old) }
+        ensures free { IsMove action → IsOk result }
+    {
+        match action {
+            Action::Insert(c) => self.type_char(c),
+            Action::Go(target) => {
+                self.go(target);
+                Ok(())
+            }
+            Action::Erase(target) => self.erase(target),
+            Action::Kill(target) => self.kill(target),
+            Action::Yank => self.yank(),
+            Action::Transpose => self.transpose(),
+            Action::Undo => self.undo(),
+            Action::Redo => self.redo(),
+            Action::Older => self.older(),
+            Action::Newer => self.newer(),
+            Action::Search => self.search(),
+        }
+    }
+
+    /// Does one thing. A move is never refused.
+    ///
+    /// # Errors
+    ///
+    /// `TooLong` if what is typed or yanked has no room in the line, and else `Memory` if memory was refused. Then nothing has changed.
+    ///
+    /// ```
+    /// editor.act(Action::Insert('x'))?;
+    /// editor.act(Action::Undo)?;
+    /// ```
+    pub fn act(&mut self, action: Action) -> Result<(), EditFault>
+        ensures ok { OnOk result (self.new ≡ after action self.old) }
+        ensures room { OnOk result (is_too_long (written action self.old) self.old ≡ false) }
+        ensures err { OnErr result (self.new ≡ self.old) }
+        ensures fault { IfErr result (λ fault. fault ≡ fault_of (written action self.old) self.old) }
+        ensures free { IsMove action → IsOk result }
+    {
+        if self.is_too_long(action) {
+            return Err(EditFault::TooLong);
+        }
+        match self.perform(action) {
+            Ok(()) => Ok(()),
+            Err(_) => Err(EditFault::Memory),
+        }
+    }
+
+    /// Does some things, one after another.
+    ///
+    /// # Errors
+    ///
+    /// `TooLong` or `Memory` if one of them was refused so, as by `act`. Then those before it were done, and nothing else.
+    ///
+    /// ```
+    /// editor.run(&[Action::Insert('a'), Action::Insert('b')])?;
+    /// ```
+    pub fn run(&mut self, actions: &[Action]) -> Result<(), EditFault>
+        ensures ok { OnOk result (self.new ≡ run actions.now self.old) }
+        ensures room { OnOk result (AreAllowed actions.now self.old) }
+        ensures err { IfErr result (λ fault. StopsAt fault actions.now self.old self.new) }
+    {
+        for action in actions {
+            self.act(*action)?;
+        }
+        Ok(())
+    }
+
+    // Writes a text's characters that come into a line.
+    fn write_shown(&mut self, text: &str) -> Result<(), AllocError>
+        ensures ok { OnOk result (self.new ≡ pasted (chars text.now) self.old) }
+        ensures err { OnErr result (self.new ≡ self.old) }
+    {
+        let text = shown(self.alloc.clone()?, text)?;
+        if is_nothing(text.as_str()) {
+            return Ok(());
+        }
+        let line = self.line.inserted(text.as_str())?;
+        self.change(line)
+    }
+
+    /// Writes a text at the cursor, as one change (`bracketed-paste-begin`). Control characters and those of more than two columns are left
+    /// out.
+    ///
+    /// # Errors
+    ///
+    /// `TooLong` if what is left of the text has no room in the line, and else `Memory` if memory was refused. Then nothing has changed.
+    ///
+    /// ```
+    /// editor.paste("one\ttwo\n")?;
+    /// assert_eq!(rt; editor.line().text(), "onetwo");
+    /// ```
+    pub fn paste(&mut self, text: &str) -> Result<(), EditFault>
+        ensures ok { OnOk result (self.new ≡ pasted (chars text.now) self.old) }
+        ensures room { OnOk result (is_too_long (shown (chars text.now)) self.old ≡ false) }
+        ensures err { OnErr result (self.new ≡ self.old) }
+        ensures fault { IfErr result (λ fault. fault ≡ fault_of (shown (chars text.now)) self.old) }
+    {
+        if self.room() < shown_len(text) {
+            return Err(EditFault::TooLong);
+        }
+        match self.write_shown(text) {
+            Ok(()) => Ok(()),
+            Err(_) => Err(EditFault::Memory),
+        }
+    }
+
+    // The line becomes the newest of the history, unless it is empty.
+    fn remember(&mut self) -> Result<(), AllocError>
+        ensures ok { OnOk result (self.new ≡ record self.old { history = remembered self.old.limits self.old.line (text_of self.old.line) self.old.history }) }
+        ensures err { OnErr result (self.new ≡ self.old) }
+    {
+        if is_nothing(self.line.text()) {
+            return Ok(());
+        }
+        let mut line = self.line.copy()?;
+        line.go(Target::Forward(Stop::Edge));
+        self.history.add(line, self.limits.lines)
+    }
+
+    // The line's text. The line is remembered, and let go.
+    fn accepted_text(&mut self) -> Result<String<A>, AllocError>
+        ensures text { IfOk result (λ text. chars (string_bytes text) ≡ text_of self.old.line) }
+        ensures shown { IfOk result (λ text. AreShown (chars (string_bytes text))) }
+        ensures ok { OnOk result (self.new ≡ accepted self.old) }
+        ensures err { OnErr result (self.new ≡ self.old) }
+    {
+        let text = String::from_str(self.alloc.clone()?, self.line.text())?;
+        self.remember()?;
+        self.let_go();
+        Ok(text)
+    }
+
+    /// Accepts the line, and returns its text (`accept-line`). It becomes the newest of the history unless it is empty, and an empty line
+    /// begins.
+    ///
+    /// # Errors
+    ///
+    /// `Memory` if memory was refused. Then nothing has changed.
+    ///
+    /// ```
+    /// let text = editor.accept()?;
+    /// ```
+    pub fn accept(&mut self) -> Result<String<A>, EditFault>
+        ensures text { IfOk result (λ text. chars (string_bytes text) ≡ text_of self.old.line) }
+        ensures shown { IfOk result (λ text. AreShown (chars (string_bytes text))) }
+        ensures ok { OnOk result (self.new ≡ accepted self.old) }
+        ensures err { OnErr result (self.new ≡ self.old) }
+        ensures fault { IfErr result (λ fault. fault ≡ Memory) }
+    {
+        match self.accepted_text() {
+            Ok(text) => Ok(text),
+            Err(_) => Err(EditFault::Memory),
+        }
+    }
+
+    /// The text of the history: the accepted lines, the oldest first, with a line feed behind each. Loading it gives the same history.
+    ///
+    /// # Errors
+    ///
+    /// `Memory` if memory was refused.
+    ///
+    /// ```
+    /// let text = editor.history_text()?;
+    /// other.load_history(text.as_str())?;
+    /// ```
+    pub fn history_text(&self) -> Result<String<A>, EditFault>
+        ensures text { IfOk result (λ text. chars (string_bytes text) ≡ saved self.now.history) }
+        ensures fault { IfErr result (λ fault. fault ≡ Memory) }
+    {
+        let alloc = match self.alloc.clone() {
+            Ok(alloc) => alloc,
+            Err(_) => return Err(EditFault::Memory),
+        };
+        match saved(alloc, &self.history) {
+            Ok(text) => Ok(text),
+            Err(_) => Err(EditFault::Memory),
+        }
+    }
+
+    /// Takes the history from a text, a line a line, the oldest first. The line stays as it is.
+    ///
+    /// Of each line the characters are taken that `paste` takes. Empty lines, and lines of more bytes than the limit, are left out. Of too
+    /// many lines the last ones are taken.
+    ///
+    /// # Errors
+    ///
+    /// `Memory` if memory was refused. Then nothing has changed.
+    ///
+    /// ```
+    /// editor.load_history("first\nsecond\n")?;
+    /// editor.act(Action::Older)?;
+    /// assert_eq!(rt; editor.line().text(), "second");
+    /// ```
+    pub fn load_history(&mut self, text: &str) -> Result<(), EditFault>
+        ensures ok { OnOk result (self.new ≡ loaded (chars text.now) self.old) }
+        ensures err { OnErr result (self.new ≡ self.old) }
+        ensures fault { IfErr result (λ fault. fault ≡ Memory) }
+    {
+        match history_of(&self.alloc, self.limits, text) {
+            Ok(history) => {
+                self.history = history;
+                self.back = 0;
+                Ok(())
+            }
+            Err(_) => Err(EditFault::Memory),
+        }
+    }
+}

@@ -1,0 +1,38 @@
+//! Why an edit is refused.
+ghost use Rattle.std.specs.Prelude.{◌≡◌};
+ghost use Rattle.std.specs.IoError.{error_kind};
+ghost use Rattle.line_editor.specs.Bounds.{kind_of};
+
+use std::io;
+use std::io::ErrorKind;
+use thiserror::Error;
+
+/// Why a call of an editor is refused. Then nothing has changed.
+///
+/// As an `io::Error`, `Memory` has the kind `OutOfMemory`, and `TooLong` has `InvalidInput`.
+///
+/// ```
+/// let mut editor = Editor::new(alloc, Limits { bytes: 2, ..Limits::default() })?;
+/// assert_eq!(rt; editor.paste("abc"), Err(EditFault::TooLong));
+/// ```
+#[derive(Clone, Copy, Debug, PartialEq, Eq, Error)]
+pub enum EditFault {
+    /// Memory was refused.
+    #[error("out of memory")]
+    Memory,
+    /// The line would have more bytes than its limit.
+    #[error("the line would be too long")]
+    TooLong,
+}
+
+impl From<EditFault> for io::Error {
+    ghost from_gives = { λ fault error. error_kind error ≡ kind_of fault };
+
+    /// Of the kind `OutOfMemory` if memory was refused, else `InvalidInput`.
+    fn from(fault: EditFault) -> io::Error {
+        match fault {
+            EditFault::Memory => io::Error::from(ErrorKind::OutOfMemory),
+            EditFault::TooLong => io::Error::from(ErrorKind::InvalidInput),
+        }
+    }
+}

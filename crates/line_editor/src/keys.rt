@@ -1,0 +1,157 @@
+//! What a key asks of an editor: the Emacs bindings of GNU readline.
+ghost use Rattle.std.specs.Prelude.{◌≡◌};
+ghost use Rattle.line_editor.specs.Keys as spec;
+
+use crate::actions::Action;
+use crate::places::{Stop, Target};
+use crossterm_types::event::{KeyCode, KeyEvent, KeyEventKind};
+
+/// What a key asks of an editor.
+#[derive(Clone, Copy, PartialEq, Eq, Debug)]
+pub enum KeyCommand {
+    /// An action.
+    Act(Action),
+    /// To accept the line (`accept-line`).
+    Accept,
+    /// To let the line go (Ctrl-C).
+    Interrupt,
+    /// To erase the cluster at the cursor, or to close an empty line (`delete-char`, which is an end of file on an empty line).
+    EraseOrClose,
+}
+
+// What a key asks for without Control and Alt.
+fn plain(code: KeyCode) -> Option<KeyCommand>
+    ensures { result ≡ spec.plain code }
+{
+    let action = match code {
+        KeyCode::Char(c) => Action::Insert(c),
+        KeyCode::Enter => return Some(KeyCommand::Accept),
+        KeyCode::Backspace => Action::Erase(Target::Back(Stop::Cluster)),
+        KeyCode::Delete => Action::Erase(Target::Forward(Stop::Cluster)),
+        KeyCode::Left => Action::Go(Target::Back(Stop::Cluster)),
+        KeyCode::Right => Action::Go(Target::Forward(Stop::Cluster)),
+        KeyCode::Home => Action::Go(Target::Back(Stop::Edge)),
+        KeyCode::End => Action::Go(Target::Forward(Stop::Edge)),
+        KeyCode::Up => Action::Older,
+        KeyCode::Down => Action::Newer,
+        _ => return None,
+    };
+    Some(KeyCommand::Act(action))
+}
+
+// What a character asks for with Control.
+fn control_char(c: char) -> Option<KeyCommand>
+    ensures { result ≡ spec.row_in spec.control_rows c }
+{
+    let action = match c {
+        'a' => Action::Go(Target::Back(Stop::Edge)),
+        'b' => Action::Go(Target::Back(Stop::Cluster)),
+        'c' => return Some(KeyCommand::Interrupt),
+        'd' => return Some(KeyCommand::EraseOrClose),
+        'e' => Action::Go(Target::Forward(Stop::Edge)),
+        'f' => Action::Go(Target::Forward(Stop::Cluster)),
+        'h' => Action::Erase(Target::Back(Stop::Cluster)),
+        'j' => return Some(KeyCommand::Accept),
+        'k' => Action::Kill(Target::Forward(Stop::Edge)),
+        'm' => return Some(KeyCommand::Accept),
+        'n' => Action::Newer,
+        'p' => Action::Older,
+        'r' => Action::Search,
+        't' => Action::Transpose,
+        'u' => Action::Kill(Target::Back(Stop::Edge)),
+        'w' => Action::Kill(Target::Back(Stop::Blank)),
+        'y' => Action::Yank,
+        '_' => Action::Undo,
+        '7' => Action::Undo,
+        _ => return None,
+    };
+    Some(KeyCommand::Act(action))
+}
+
+// What a key asks for with Control.
+fn control(code: KeyCode) -> Option<KeyCommand>
+    ensures { result ≡ spec.control code }
+{
+    match code {
+        KeyCode::Char(c) => control_char(c.to_ascii_lowercase()),
+        KeyCode::Left => Some(KeyCommand::Act(Action::Go(Target::Back(Stop::WordStart)))),
+        KeyCode::Right => Some(KeyCommand::Act(Action::Go(Target::Forward(Stop::WordEnd)))),
+        _ => None,
+    }
+}
+
+// What a character asks for with Alt.
+fn alt_char(c: char) -> Option<KeyCommand>
+    ensures { result ≡ spec.row_in spec.alt_rows c }
+{
+    let action = match c {
+        'b' => Action::Go(Target::Back(Stop::WordStart)),
+        'd' => Action::Kill(Target::Forward(Stop::WordEnd)),
+        'f' => Action::Go(Target::Forward(Stop::WordEnd)),
+        _ => return None,
+    };
+    Some(KeyCommand::Act(action))
+}
+
+// What a key asks for with Alt.
+fn alt(code: KeyCode) -> Option<KeyCommand>
+    ensures { result ≡ spec.alt code }
+{
+    match code {
+        KeyCode::Char(c) => alt_char(c.to_ascii_lowercase()),
+        KeyCode::Backspace => Some(KeyCommand::Act(Action::Kill(Target::Back(Stop::WordStart)))),
+        _ => None,
+    }
+}
+
+// What a key asks for with Control and Alt.
+fn both(code: KeyCode) -> Option<KeyCommand>
+    ensures { result ≡ spec.both code }
+{
+    match code {
+        KeyCode::Char('_') => Some(KeyCommand::Act(Action::Redo)),
+        KeyCode::Char('7') => Some(KeyCommand::Act(Action::Redo)),
+        _ => None,
+    }
+}
+
+/// What a key asks of an editor, by the Emacs bindings of GNU readline, and `None` if it is bound to nothing or was let go.
+///
+/// | Keys | Command of readline |
+/// |---|---|
+/// | a character, also with Shift | `self-insert` |
+/// | Ctrl-A, Home; Ctrl-E, End | `beginning-of-line`, `end-of-line` |
+/// | Ctrl-B, Left; Ctrl-F, Right | `backward-char`, `forward-char` |
+/// | Alt-B, Ctrl-Left; Alt-F, Ctrl-Right | `backward-word`, `forward-word` |
+/// | Backspace, Ctrl-H; Ctrl-D, Delete | `backward-delete-char`, `delete-char` |
+/// | Ctrl-K; Ctrl-U | `kill-line`, `unix-line-discard` |
+/// | Alt-D; Alt-Backspace; Ctrl-W | `kill-word`, `backward-kill-word`, `unix-word-rubout` |
+/// | Ctrl-Y; Ctrl-T | `yank`, `transpose-chars` |
+/// | Ctrl-_ | `undo` |
+/// | Up, Ctrl-P; Down, Ctrl-N | `previous-history`, `next-history` |
+/// | Ctrl-R | `history-search-backward`, in place of `reverse-search-history` |
+/// | Enter, Ctrl-J, Ctrl-M | `accept-line` |
+/// | Ctrl-C | an interrupt |
+/// | Ctrl-Alt-_ | a redo, which readline hasn't |
+///
+/// Terminals report Ctrl-_ as Ctrl-7, and both are bound. Ctrl-W takes every white space for the end of a word, and readline blanks and
+/// tabs alone. Shift makes no difference but in the character, and large letters with Control or Alt are as small ones.
+///
+/// ```
+/// let key = KeyEvent::new(KeyCode::Char('k'), KeyModifiers::CONTROL);
+/// assert_eq!(rt; command_of(&key), Some(KeyCommand::Act(Action::Kill(Target::Forward(Stop::Edge)))));
+/// ```
+pub fn command_of(key: &KeyEvent) -> Option<KeyCommand>
+    ensures { result ≡ spec.command_of key.now }
+{
+    match key.kind {
+        KeyEventKind::Release => None,
+        KeyEventKind::Press | KeyEventKind::Repeat => match key.modifiers.bits() & 254 {
+            0 => plain(key.code),
+            2 => control(key.code),
+            4 => alt(key.code),
+            6 => both(key.code),
+            _ => None,
+        },
+    }
+}

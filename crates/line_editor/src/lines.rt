@@ -1,0 +1,309 @@
+//! A line of text with a cursor.
+ghost use Rattle.std.specs.Prelude.{◌≡◌, ℕ, ◌-◌, ◌<◌, ◌≤◌, List, [], ◌∷◌, ◌++◌, IfOk, MatchBool, take, drop, length, reverse};
+ghost use Rattle.std.specs.String.{string_bytes};
+ghost use Rattle.std.specs.Str.{chars, IsCharBoundary};
+ghost use Rattle.unicode_segmentation.specs.Segments.{chars_before, chars_from};
+ghost use Rattle.line_editor.specs.Bounds.{size};
+ghost use Rattle.line_editor.specs.Edits.{IsSettled, cut, empty, end_of, erased, inserted, joined, meeting, settled, start_of, transposed};
+ghost use Rattle.line_editor.specs.Places.{place};
+ghost use Rattle.line_editor.specs.Seen.{IsInClusters, IsSeen};
+ghost use Rattle.line_editor.specs.Shown.{AreShown};
+ghost use Rattle.line_editor.specs.Splits.{split_at, text_of};
+ghost use Rattle.line_editor.specs.Views.{column, seen};
+
+use crate::places::{Stop, Target, ahead, place_of};
+use crate::texts::split_last;
+use crate::views::{end_seen, start_seen};
+use std::alloc::{AllocError, Allocator, Global};
+use std::marker::Model;
+
+/// A line of text with a cursor, which is between two extended grapheme clusters (UAX 29) or at an end of the line. A line has no control
+/// characters, and none of more than two columns.
+///
+/// ```
+/// editor.paste("cafe\u{301}")?;
+/// editor.act(Action::Go(Target::Back(Stop::Cluster)))?;
+/// assert_eq!(rt; editor.line().before(), "caf");
+/// ```
+#[derive(Drop)]
+pub struct Line<A: Allocator = Global> {
+    text: String<A>,
+    // The bytes before the cursor.
+    at: usize,
+}
+
+impl<A: Allocator> Model for Line<A> {
+    ghost use Rattle.std.specs.Prelude.{◌≡◌, true};
+    ghost use Rattle.std.specs.String.{string_bytes};
+    ghost use Rattle.std.specs.Str.{chars, IsCharBoundary};
+    ghost use Rattle.unicode_segmentation.specs.Segments.{breaks_at};
+    ghost use Rattle.line_editor.specs.Splits.{Split, split_at};
+    ghost use Rattle.line_editor.specs.Places.{is_between};
+    ghost use Rattle.line_editor.specs.Shown.{AreShown};
+
+    ghost Value = { Split };
+
+    ghost view = { λ l. split_at (string_bytes l.text) l.at };
+
+    ghost invariant = { λ l. IsCharBoundary (string_bytes l.text) l.at × (breaks_at is_between (string_bytes l.text) l.at ≡ true)
+        × AreShown (chars (string_bytes l.text)) };
+}
+
+/// A text in which another one takes the place of what is between two places.
+fn spliced<A: Allocator>(
+    alloc: A,
+    text: &str,
+    from: usize,
+    to: usize,
+    with: &str,
+) -> Result<String<A>, AllocError>
+    requires from { IsCharBoundary text.now from }
+    requires to { IsCharBoundary text.now to }
+    ensures { IfOk result (λ new. string_bytes new ≡ (take from text.now ++ with.now) ++ drop to text.now) }
+{
+    let mut new = String::from_str(alloc, &text[..from])?;
+    new.push_str(with)?;
+    new.push_str(&text[to..])?;
+    Ok(new)
+}
+
+/// A line of such a text, with the cursor behind what was written, or behind the cluster that this ends in.
+fn edited<A: Allocator>(
+    alloc: A,
+    text: &str,
+    from: usize,
+    to: usize,
+    with: &str,
+) -> Result<Line<A>, AllocError>
+    requires order { from ≤ to }
+    requires from { IsCharBoundary text.now from }
+    requires to { IsCharBoundary text.now to }
+    requires text { AreShown (chars text.now) }
+    requires with { AreShown (chars with.now) }
+    ensures { IfOk result (λ line. line ≡ joined (split_at text.now from) (chars with.now) (split_at text.now to)) }
+{
+    let new = spliced(alloc, text, from, to, with)?;
+    let whole = new.as_str();
+    let at = ahead(whole, whole.len() - (text.len() - to), Stop::Cluster);
+    Ok(Line { text: new, at })
+}
+
+/// The start and the end of what a target reaches.
+fn reach(text: &str, at: usize, target: Target) -> (usize, usize)
+    requires { IsCharBoundary text.now at }
+    ensures order { result.0 ≤ result.1 }
+    ensures from { IsCharBoundary text.now result.0 }
+    ensures to { IsCharBoundary text.now result.1 }
+    ensures start { split_at text.now result.0 ≡ start_of target (split_at text.now at) }
+    ensures end { split_at text.now result.1 ≡ end_of target (split_at text.now at) }
+{
+    let place = place_of(text, at, target);
+    match target {
+        Target::Back(_) => (place, at),
+        Target::Forward(_) => (at, place),
+    }
+}
+
+/// The place at which two clusters meet that are transposed: a given one, and at the end the one before the last cluster.
+fn meeting(text: &str, at: usize) -> usize
+    requires { IsCharBoundary text.now at }
+    ensures boundary { IsCharBoundary text.now result }
+    ensures place { split_at text.now result ≡ meeting (chars_before text.now at) (chars_from text.now at) }
+{
+    if at < text.len() {
+        return at;
+    }
+    place_of(text, at, Target::Back(Stop::Cluster))
+}
+
+impl<A: Allocator> Line<A> {
+    /// An empty line.
+    pub(crate) fn new(alloc: A) -> Line<A>
+        ensures { result ≡ empty }
+    {
+        Line {
+            text: String::new(alloc),
+            at: 0,
+        }
+    }
+
+    /// A line of two texts, with the cursor behind the first one, or behind the cluster that this ends in.
+    ///
+    /// # Errors
+    ///
+    /// `AllocError` if memory was refused.
+    pub(crate) fn of_parts(alloc: A, before: &str, after: &str) -> Result<Line<A>, AllocError>
+        requires before { AreShown (chars before.now) }
+        requires after { AreShown (chars after.now) }
+        ensures { IfOk result (λ line. line ≡ settled (record { before = reverse (chars before.now); after = chars after.now })) }
+    {
+        edited(alloc, after, 0, 0, before)
+    }
+
+    /// The text of the line.
+    ///
+    /// ```
+    /// assert_eq!(rt; editor.line().text(), "");
+    /// ```
+    pub fn text(&self) -> &str
+        ensures text { chars result.now ≡ text_of self.now }
+        ensures len { length result.now ≡ size (text_of self.now) }
+        ensures shown { AreShown (chars result.now) }
+    {
+        self.text.as_str()
+    }
+
+    /// The text before the cursor.
+    ///
+    /// ```
+    /// let before = editor.line().before();
+    /// ```
+    pub fn before(&self) -> &str
+        ensures text { reverse (chars result.now) ≡ self.now.before }
+        ensures between { IsSettled self.now }
+        ensures shown { AreShown (chars result.now) }
+    {
+        &self.text.as_str()[..self.at]
+    }
+
+    /// The text from the cursor on.
+    ///
+    /// ```
+    /// let after = editor.line().after();
+    /// ```
+    pub fn after(&self) -> &str
+        ensures { chars result.now ≡ self.now.after }
+    {
+        &self.text.as_str()[self.at..]
+    }
+
+    /// Brings the cursor to a target.
+    pub(crate) fn go(&mut self, target: Target)
+        ensures { self.new ≡ place target self.old }
+    {
+        self.at = place_of(self.text.as_str(), self.at, target);
+    }
+
+    /// Lets the text go. Its memory stays.
+    pub(crate) fn clear(&mut self)
+        ensures { self.new ≡ empty }
+    {
+        self.text.clear();
+        self.at = 0;
+    }
+}
+
+impl<A: Allocator> Line<A> {
+    /// Whether there are two clusters to transpose: something is before the place at which they meet.
+    pub(crate) fn has_two(&self) -> bool
+        ensures { MatchBool result ((c : ℕ) × (before : List ℕ) × ((meeting self.now.before self.now.after).before ≡ c ∷ before))
+            ((meeting self.now.before self.now.after).before ≡ []) }
+    {
+        let text = self.text.as_str();
+        let middle = meeting(text, self.at);
+        match split_last(&text[..middle]) {
+            None => false,
+            Some(_) => true,
+        }
+    }
+
+    /// The text that is seen of the line in a row of so many columns, and the cursor's column in it, from 0.
+    ///
+    /// As much of the line is seen as has room, in whole clusters, with one column for the cursor. If the line is longer than the row, the
+    /// cursor is as far to the right as it can be.
+    ///
+    /// ```
+    /// let (text, column) = editor.line().seen(40);
+    /// ```
+    pub fn seen(&self, room: u16) -> (&str, usize)
+        ensures text { chars result.0.now ≡ seen room self.now }
+        ensures shown { AreShown (chars result.0.now) }
+        ensures column { result.1 ≡ column room self.now }
+        ensures few { result.1 ≤ 65535 }
+        ensures fits { 0 < room → IsSeen room self.now }
+        ensures clusters { IsInClusters room self.now }
+    {
+        let text = self.text.as_str();
+        let (from, column) = start_seen(text, self.at, room);
+        let to = end_seen(text, self.at, column, room);
+        (&text[from..to], column)
+    }
+}
+
+impl<A: Allocator + Clone> Line<A> {
+    /// The text that a target reaches.
+    ///
+    /// ```
+    /// let word = editor.line().cut(Target::Back(Stop::WordStart));
+    /// ```
+    pub fn cut(&self, target: Target) -> &str
+        ensures text { chars result.now ≡ cut target self.now }
+        ensures shown { AreShown (chars result.now) }
+    {
+        let text = self.text.as_str();
+        let (from, to) = reach(text, self.at, target);
+        &text[from..to]
+    }
+
+    /// The same line once more.
+    ///
+    /// # Errors
+    ///
+    /// `AllocError` if memory was refused.
+    pub(crate) fn copy(&self) -> Result<Line<A>, AllocError>
+        ensures { IfOk result (λ line. line ≡ self.now) }
+    {
+        let text = String::from_str(self.text.allocator().clone()?, self.text.as_str())?;
+        Ok(Line { text, at: self.at })
+    }
+
+    /// The line with a text inserted at the cursor.
+    ///
+    /// # Errors
+    ///
+    /// `AllocError` if memory was refused.
+    pub(crate) fn inserted(&self, text: &str) -> Result<Line<A>, AllocError>
+        requires { AreShown (chars text.now) }
+        ensures { IfOk result (λ line. line ≡ inserted (chars text.now) self.now) }
+    {
+        let alloc = self.text.allocator().clone()?;
+        edited(alloc, self.text.as_str(), self.at, self.at, text)
+    }
+
+    /// The line without what a target reaches.
+    ///
+    /// # Errors
+    ///
+    /// `AllocError` if memory was refused.
+    pub(crate) fn erased(&self, target: Target) -> Result<Line<A>, AllocError>
+        ensures { IfOk result (λ line. line ≡ erased target self.now) }
+    {
+        let alloc = self.text.allocator().clone()?;
+        let text = self.text.as_str();
+        let (from, to) = reach(text, self.at, target);
+        edited(alloc, text, from, to, "")
+    }
+
+    /// The line with the clusters before and behind the cursor exchanged, and at its end the last two.
+    ///
+    /// # Errors
+    ///
+    /// `AllocError` if memory was refused.
+    pub(crate) fn transposed(&self) -> Result<Line<A>, AllocError>
+        ensures { IfOk result (λ line. line ≡ transposed self.now) }
+    {
+        let text = self.text.as_str();
+        let middle = meeting(text, self.at);
+        let from = place_of(text, middle, Target::Back(Stop::Cluster));
+        let to = place_of(text, middle, Target::Forward(Stop::Cluster));
+        let mut with = String::from_str(self.text.allocator().clone()?, &text[middle..to])?;
+        with.push_str(&text[from..middle])?;
+        edited(
+            self.text.allocator().clone()?,
+            text,
+            from,
+            to,
+            with.as_str(),
+        )
+    }
+}

@@ -1,0 +1,143 @@
+//! Actions by name, so that a file of key bindings can say them.
+ghost use Rattle.std.specs.Prelude.{◌≡◌, Some};
+ghost use Rattle.std.specs.Str.{chars};
+ghost use Rattle.crossterm_flags.specs.Variants.{value_in};
+ghost use Rattle.line_editor.specs.Names as spec;
+
+use crate::actions::Action;
+use crate::places::{Stop, Target};
+use crate::texts::{is_nothing, split_first};
+use std::fmt;
+
+impl fmt::Display for Target {
+    ghost output = { λ target. Some (spec.target_name target) };
+
+    fn fmt<W: fmt::Write>(&self, f: &mut fmt::Formatter<W>) -> fmt::Result {
+        match self {
+            Target::Back(Stop::Cluster) => write!(f, "char-back"),
+            Target::Forward(Stop::Cluster) => write!(f, "char-forward"),
+            Target::Back(Stop::WordStart) => write!(f, "word-back"),
+            Target::Forward(Stop::WordStart) => write!(f, "word-start-forward"),
+            Target::Back(Stop::WordEnd) => write!(f, "word-end-back"),
+            Target::Forward(Stop::WordEnd) => write!(f, "word-forward"),
+            Target::Back(Stop::Blank) => write!(f, "blank-back"),
+            Target::Forward(Stop::Blank) => write!(f, "blank-forward"),
+            Target::Back(Stop::Edge) => write!(f, "line-start"),
+            Target::Forward(Stop::Edge) => write!(f, "line-end"),
+        }
+    }
+}
+
+impl fmt::Display for Action {
+    ghost output = { λ action. Some (spec.action_name action) };
+
+    fn fmt<W: fmt::Write>(&self, f: &mut fmt::Formatter<W>) -> fmt::Result {
+        match self {
+            Action::Insert(' ') => write!(f, "insert-space"),
+            Action::Insert(c) => write!(f, "insert-{c}"),
+            Action::Go(target) => write!(f, "go-{target}"),
+            Action::Erase(target) => write!(f, "erase-{target}"),
+            Action::Kill(target) => write!(f, "kill-{target}"),
+            Action::Yank => write!(f, "yank"),
+            Action::Transpose => write!(f, "transpose"),
+            Action::Undo => write!(f, "undo"),
+            Action::Redo => write!(f, "redo"),
+            Action::Older => write!(f, "older"),
+            Action::Newer => write!(f, "newer"),
+            Action::Search => write!(f, "search"),
+        }
+    }
+}
+
+// The target of a name.
+fn target_named(name: &str) -> Option<Target>
+    ensures { result ≡ value_in spec.target_rows name.now }
+{
+    match name {
+        "char-back" => Some(Target::Back(Stop::Cluster)),
+        "char-forward" => Some(Target::Forward(Stop::Cluster)),
+        "word-back" => Some(Target::Back(Stop::WordStart)),
+        "word-start-forward" => Some(Target::Forward(Stop::WordStart)),
+        "word-end-back" => Some(Target::Back(Stop::WordEnd)),
+        "word-forward" => Some(Target::Forward(Stop::WordEnd)),
+        "blank-back" => Some(Target::Back(Stop::Blank)),
+        "blank-forward" => Some(Target::Forward(Stop::Blank)),
+        "line-start" => Some(Target::Back(Stop::Edge)),
+        "line-end" => Some(Target::Forward(Stop::Edge)),
+        _ => None,
+    }
+}
+
+// The action of a name without a verb.
+fn word_named(name: &str) -> Option<Action>
+    ensures { result ≡ value_in spec.action_rows name.now }
+{
+    match name {
+        "yank" => Some(Action::Yank),
+        "transpose" => Some(Action::Transpose),
+        "undo" => Some(Action::Undo),
+        "redo" => Some(Action::Redo),
+        "older" => Some(Action::Older),
+        "newer" => Some(Action::Newer),
+        "search" => Some(Action::Search),
+        _ => None,
+    }
+}
+
+// The character of a text that has one.
+fn one_char(text: &str) -> Option<char>
+    ensures { result ≡ spec.one_char (chars text.now) }
+{
+    match split_first(text) {
+        None => None,
+        Some((c, rest)) => { if is_nothing(rest) { Some(c) } else { None } }
+    }
+}
+
+// The character of a name.
+fn char_named(name: &str) -> Option<char>
+    ensures { result ≡ spec.char_named name.now }
+{
+    match one_char(name) {
+        Some(c) => Some(c),
+        None => { if name == "space" { Some(' ') } else { None } }
+    }
+}
+
+// The action of a verb and what follows it.
+fn verb_named(verb: &str, rest: &str) -> Option<Action>
+    ensures { result ≡ spec.verb_named verb.now rest.now }
+{
+    match verb {
+        "go" => target_named(rest).map(Action::Go),
+        "erase" => target_named(rest).map(Action::Erase),
+        "kill" => target_named(rest).map(Action::Kill),
+        "insert" => char_named(rest).map(Action::Insert),
+        _ => None,
+    }
+}
+
+impl Action {
+    /// The action of a name, and `None` if there is no such. `Display` writes the names.
+    ///
+    /// | Names | Actions |
+    /// |---|---|
+    /// | `insert-x`, `insert-space` | typing of a character |
+    /// | `go-`, `erase-` or `kill-`, and a target's name | moves, erasures and kills |
+    /// | `yank`, `transpose`, `undo`, `redo`, `older`, `newer`, `search` | the others |
+    ///
+    /// Targets are `char-back`, `char-forward`, `word-back`, `word-forward`, `word-end-back`, `word-start-forward`, `blank-back`,
+    /// `blank-forward`, `line-start` and `line-end`.
+    ///
+    /// ```
+    /// assert_eq!(rt; Action::from_name("kill-word-back"), Some(Action::Kill(Target::Back(Stop::WordStart))));
+    /// ```
+    pub fn from_name(name: &str) -> Option<Action>
+        ensures { result ≡ spec.action_named name.now }
+    {
+        match name.split_once('-') {
+            None => word_named(name),
+            Some((verb, rest)) => verb_named(verb, rest),
+        }
+    }
+}

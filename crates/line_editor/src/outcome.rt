@@ -1,0 +1,17 @@
+//! What comes of an event.
+
+use std::alloc::{Allocator, Global};
+
+/// What comes of an event that an editor takes.
+#[derive(Drop)]
+#[derive_where(Debug, PartialEq, Eq)]
+pub enum Outcome<A: Allocator = Global> {
+    /// The line goes on.
+    Going,
+    /// The line was accepted, and this is its text.
+    Line(String<A>),
+    /// The line was let go, by Ctrl-C.
+    Interrupted,
+    /// The empty line was closed, by Ctrl-D.
+    Closed,
+}

@@ -1,0 +1,168 @@
+//! Lines, the newest first.
+ghost use Rattle.std.specs.Prelude.{◌≡◌, [], ◌∷◌, IfOk, IfSome, OnOk, OnErr, drop, length, slice_get, take};
+ghost use Rattle.std.specs.Option.{option_map};
+ghost use Rattle.std.specs.Str.{chars};
+ghost use Rattle.line_editor.specs.Recent.{first_or, pushed_if, rest_of};
+ghost use Rattle.line_editor.specs.Shown.{AreShown};
+ghost use Rattle.line_editor.specs.Splits.{text_of};
+ghost use Rattle.line_editor.specs.States.{first_with};
+
+use crate::lines::Line;
+use crate::texts::behind_front;
+use std::alloc::{AllocError, Allocator, Global};
+use std::collections::VecDeque;
+use std::marker::Model;
+use std::mem;
+
+/// Lines, of which the newest is the first.
+#[derive(Drop)]
+pub(crate) struct RecentLines<A: Allocator = Global> {
+    lines: VecDeque<Line<A>, A>,
+}
+
+impl<A: Allocator> Model for RecentLines<A> {
+    ghost use Rattle.std.specs.Prelude.{List};
+    ghost use Rattle.line_editor.specs.Splits.{Split};
+
+    ghost Value = { List Split };
+
+    ghost view = { λ r. r.lines.items };
+}
+
+impl<A: Allocator> RecentLines<A> {
+    /// No lines.
+    pub(crate) fn new(alloc: A) -> RecentLines<A>
+        ensures { result ≡ [] }
+    {
+        RecentLines {
+            lines: VecDeque::new(alloc),
+        }
+    }
+
+    /// How many lines there are.
+    pub(crate) fn len(&self) -> usize
+        ensures { result ≡ length self.now }
+    {
+        self.lines.len()
+    }
+
+    /// Lets all lines go.
+    pub(crate) fn clear(&mut self)
+        ensures { self.new ≡ [] }
+    {
+        self.lines.clear();
+    }
+
+    /// Adds a line, and lets the oldest ones go beyond a limit.
+    ///
+    /// # Errors
+    ///
+    /// `AllocError` if memory was refused. Then nothing has changed.
+    pub(crate) fn add(&mut self, line: Line<A>, limit: usize) -> Result<(), AllocError>
+        ensures ok { OnOk result (self.new ≡ take limit (line ∷ self.old)) }
+        ensures err { OnErr result (self.new ≡ self.old) }
+    {
+        self.lines.reserve(1)?;
+        self.lines.push_front_reserved(line);
+        self.lines.truncate(limit);
+        Ok(())
+    }
+
+    /// Adds a line, whose place another one takes, and lets the oldest ones go beyond a limit.
+    ///
+    /// # Errors
+    ///
+    /// `AllocError` if memory was refused. Then nothing has changed.
+    pub(crate) fn put(
+        &mut self,
+        line: &mut Line<A>,
+        new: Line<A>,
+        limit: usize,
+    ) -> Result<(), AllocError>
+        ensures ok { OnOk result (self.new ≡ take limit (line.old ∷ self.old)) }
+        ensures line { OnOk result (line.new ≡ new) }
+        ensures err { OnErr result (self.new ≡ self.old) }
+        ensures line_err { OnErr result (line.new ≡ line.old) }
+    {
+        self.lines.reserve(1)?;
+        let old = mem::replace(line, new);
+        self.lines.push_front_reserved(old);
+        self.lines.truncate(limit);
+        Ok(())
+    }
+
+    /// Takes the newest line, if there is one, in exchange for another, which becomes the newest of a second list.
+    ///
+    /// # Errors
+    ///
+    /// `AllocError` if memory was refused. Then nothing has changed.
+    pub(crate) fn exchange(
+        &mut self,
+        line: &mut Line<A>,
+        to: &mut RecentLines<A>,
+    ) -> Result<(), AllocError>
+        ensures ok { OnOk result (self.new ≡ rest_of self.old) }
+        ensures line { OnOk result (line.new ≡ first_or line.old self.old) }
+        ensures to { OnOk result (to.new ≡ pushed_if self.old line.old to.old) }
+        ensures err { OnErr result (self.new ≡ self.old) }
+        ensures line_err { OnErr result (line.new ≡ line.old) }
+        ensures to_err { OnErr result (to.new ≡ to.old) }
+    {
+        to.lines.reserve(1)?;
+        match self.lines.pop_front() {
+            None => {}
+            Some(first) => {
+                let old = mem::replace(line, first);
+                to.lines.push_front_reserved(old);
+            }
+        }
+        Ok(())
+    }
+}
+
+impl<A: Allocator> RecentLines<A> {
+    /// The text of the line with so many newer ones, if there is one.
+    pub(crate) fn text_at(&self, at: usize) -> Option<&str>
+        ensures text { option_map (λ text. chars text.now) result ≡ option_map text_of (slice_get self.now at) }
+        ensures shown { IfSome result (λ text. AreShown (chars text.now)) }
+    {
+        match self.lines.get(at) {
+            None => None,
+            Some(line) => Some(line.text()),
+        }
+    }
+
+    /// The first line behind so many newer ones that begins with a text: its number from 1, and the rest of it.
+    pub(crate) fn find(&self, front: &str, from: usize) -> Option<(usize, &str)>
+        ensures found { option_map (λ found. (found.0, chars found.1.now)) result ≡ first_with (chars front.now) from (drop from self.now) }
+        ensures shown { IfSome result (λ found. AreShown (chars found.1.now)) }
+    {
+        for at in from..self.lines.len() {
+            if let Some(text) = self.text_at(at) {
+                if let Some(rest) = behind_front(text, front) {
+                    return Some((at + 1, rest));
+                }
+            }
+        }
+        None
+    }
+}
+
+impl<A: Allocator + Clone> RecentLines<A> {
+    /// The line with so many newer ones, if there is one, once more.
+    ///
+    /// # Errors
+    ///
+    /// `AllocError` if memory was refused.
+    pub(crate) fn copy_of(&self, at: usize) -> Result<Option<Line<A>>, AllocError>
+        ensures { IfOk result (λ line. line ≡ slice_get self.now at) }
+    {
+        match self.lines.get(at) {
+            None => Ok(None),
+            Some(line) => {
+                let line = line.copy()?;
+                Ok(Some(line))
+            }
+        }
+    }
+}

@@ -1,0 +1,73 @@
+//! Texts by their characters.
+ghost use Rattle.std.specs.Prelude.{◌≡◌, ◌<◌, ℕ, List, [], ◌∷◌, IfSome, MatchBool, MatchOption, length, reverse};
+ghost use Rattle.std.specs.Option.{option_map};
+ghost use Rattle.std.specs.Str.{chars};
+ghost use Rattle.line_editor.specs.Shown.{AreShown};
+ghost use Rattle.line_editor.specs.States.{behind_front};
+
+/// The last character of a text, and the text before it.
+pub(crate) fn split_last(text: &str) -> Option<(char, &str)>
+    ensures { MatchOption result (reverse (chars text.now) ≡ [])
+        (λ (c, front). (reverse (chars text.now) ≡ c ∷ reverse (chars front.now)) × (length front.now < length text.now)) }
+{
+    let mut chars = text.chars();
+    match chars.next_back() {
+        Some(c) => Some((c, chars.as_str())),
+        None => None,
+    }
+}
+
+/// The first character of a text, and the text behind it.
+pub(crate) fn split_first(text: &str) -> Option<(char, &str)>
+    ensures { MatchOption result (chars text.now ≡ [])
+        (λ (c, rest). (chars text.now ≡ c ∷ chars rest.now) × (length rest.now < length text.now)) }
+{
+    let mut chars = text.chars();
+    match chars.next() {
+        Some(c) => Some((c, chars.as_str())),
+        None => None,
+    }
+}
+
+/// Whether a text has no characters.
+pub(crate) fn is_nothing(text: &str) -> bool
+    ensures { MatchBool result (chars text.now ≡ []) ((c : ℕ) × (rest : List ℕ) × (chars text.now ≡ c ∷ rest)) }
+{
+    match split_first(text) {
+        None => true,
+        Some(_) => false,
+    }
+}
+
+/// What is behind a character in a text that begins with it.
+fn past_char<'a>(text: &'a str, c: char) -> Option<&'a str>
+    ensures { MatchOption result ((front : List ℕ) → behind_front (c ∷ front) (chars text.now) ≡ None)
+        (λ rest. (chars text.now ≡ c ∷ chars rest.now) × (length rest.now < length text.now)) }
+{
+    match split_first(text) {
+        None => None,
+        Some((d, rest)) => {
+            if c != d {
+                return None;
+            }
+            Some(rest)
+        }
+    }
+}
+
+/// What is behind a front in a text that begins with it.
+pub(crate) fn behind_front<'a>(text: &'a str, front: &str) -> Option<&'a str>
+    ensures behind { option_map (λ rest. chars rest.now) result ≡ behind_front (chars front.now) (chars text.now) }
+    ensures shown { AreShown (chars text.now) → IfSome result (λ rest. AreShown (chars rest.now)) }
+{
+    let mut rest = text;
+    let mut wanted = front;
+    while let Some((c, front)) = split_first(wanted) {
+        match past_char(rest, c) {
+            None => return None,
+            Some(back) => rest = back,
+        }
+        wanted = front;
+    }
+    Some(rest)
+}
