@@ -1,41 +1,59 @@
 //! Bytes to events.
-ghost use Rattle.std.specs.Prelude.{◌≡◌, ◌≢◌, ◌⊎◌, ◌≤◌, ◌<◌, not, true, false, Bool, ℕ, List, ◌++◌, length, take};
+ghost use Rattle.std.specs.Prelude.{◌≡◌, ◌≢◌, ◌⊎◌, ◌≤◌, ◌<◌, ◌+◌, not, true, false, Bool, ℕ, List, ◌++◌, length, take, IsTrue};
 ghost use Rattle.crossterm_types.specs.Seen.{Seen};
 ghost use Rattle.crossterm_parse.specs.States.{is_paste};
 ghost use Rattle.crossterm_parse.specs.Putting.{PutsAll};
 ghost use Rattle.crossterm_parse.specs.Marked.{marked};
-ghost use Rattle.crossterm_c.specs.Feeding.{Feeds, Pastes, view_of};
+ghost use Rattle.crossterm_c.specs.Feeding.{Pastes, view_of};
+ghost use Rattle.crossterm_c.specs.inside.Table.{FillsBy};
 
-use crate::event::{GelvanhEvent, paste_end};
-use crate::table::Table;
+use crate::event::paste_end;
+use crate::table::{Entry, Table};
 use crossterm_parse::paste::{Met, before_escape};
 use crossterm_parse::state::State;
 use crossterm_parse::steps::Steps;
 use std::sync::ledger::{Blank, Ledger};
 
+/// Up to where a table is filled, and the number of the next event.
+#[derive(Clone, Copy)]
+pub(crate) struct Fill {
+    pub(crate) end: usize,
+    pub(crate) number: u64,
+}
+
 /// Takes bytes outside of a paste: all, those up to the start of a paste, or those before the first event for which the table has no room.
-/// It returns how many bytes it took, and how many events it gave.
-fn feed_sequences<L: Ledger>(
+/// It returns how many bytes it took, and up to where the table is filled then.
+fn feed_sequences<E: Entry, L: Ledger>(
     state: &mut State,
     piece: &[u8],
     more: bool,
     raw: bool,
-    events: &mut [GelvanhEvent],
+    entries: &mut [E],
+    fill: Fill,
     steps: &mut Steps<L>,
-) -> (usize, usize)
-    requires { is_paste state.old ≡ false }
+) -> (usize, Fill)
+    requires outside { is_paste state.old ≡ false }
+    requires within { fill.end ≤ length entries.old }
     ensures taken { result.0 ≤ length piece.now }
-    ensures given { result.1 ≤ length events.new }
-    ensures room { length events.new ≡ length events.old }
-    ensures feeds { (bytes : List ℕ) → Feeds state.old state.new (take result.1 events.new) bytes (take result.0 (marked piece.now more raw)) }
-    ensures all { (result.0 ≡ length piece.now) ⊎ (result.1 ≡ length events.new) ⊎ (is_paste state.new ≡ true) }
-    ensures some { 0 < length events.old → 0 < length piece.now → 0 < result.0 }
+    ensures fills { (bytes : List ℕ) → FillsBy E.made state.old state.new entries.old fill.end fill.number entries.new result.1.end result.1.number bytes (take result.0 (marked piece.now more raw)) }
+    ensures all { (result.0 ≡ length piece.now) ⊎ (result.1.end ≡ length entries.new) ⊎ (is_paste state.new ≡ true) }
+    ensures few { result.1.end ≤ fill.end + result.0 }
+    ensures some { fill.end < length entries.old → 0 < length piece.now → 0 < result.0 }
 {
-    let mut table = Table { events, given: 0 };
+    let Fill { end, number } = fill;
+    let mut table = Table {
+        entries,
+        end,
+        number,
+    };
     let taken = state.take(piece, more, raw, &mut table, steps);
-    let Table { events, given } = table;
-    let _ = &*events;
-    (taken, given)
+    let Table {
+        entries,
+        end,
+        number,
+    } = table;
+    let _ = &*entries;
+    (taken, Fill { end, number })
 }
 
 /// Takes the bytes of an open paste before the next ESC, if none of its end is met, and returns how many.
@@ -62,6 +80,7 @@ fn feed_paste<L: Ledger>(state: &mut State, piece: &[u8], steps: &mut Steps<L>) 
     ensures pastes { (more raw : Bool) → Pastes state.old state.new (take result.0 piece.now) result.1 (take result.0 (marked piece.now more raw)) }
     ensures all { (result.0 ≡ length piece.now) ⊎ (result.1 ≡ true) }
     ensures some { 0 < length piece.now → 0 < result.0 }
+    ensures ends { IsTrue result.1 → 0 < result.0 }
     ensures pasting { is_paste state.new ≡ not result.1 }
 {
     let mut place = 0;
@@ -79,36 +98,42 @@ fn feed_paste<L: Ledger>(state: &mut State, piece: &[u8], steps: &mut Steps<L>) 
     (place, false)
 }
 
-/// Takes bytes, and gives their events in a table, from its front on. It returns how many of both. Steps are counted in a new ledger, which
-/// costs nothing.
-pub(crate) fn feed<L: Ledger>(
+/// Takes bytes, and puts their events into a table, behind the entries that are filled. It returns how many bytes it took, and up to where the
+/// table is filled then. Steps are counted in a new ledger, which costs nothing.
+pub(crate) fn feed<E: Entry, L: Ledger>(
     state: &mut State,
     piece: &[u8],
     more: bool,
     raw: bool,
-    events: &mut [GelvanhEvent],
+    entries: &mut [E],
+    fill: Fill,
     blank: Blank,
-) -> (usize, usize)
+) -> (usize, Fill)
     requires name { blank.name ≡ L.name }
     requires parts { (blank.parts ≡ L.parts) × (0 < L.parts) }
+    requires within { fill.end ≤ length entries.old }
     ensures taken { result.0 ≤ length piece.now }
-    ensures given { result.1 ≤ length events.new }
-    ensures room { length events.new ≡ length events.old }
-    ensures feeds { Feeds state.old state.new (take result.1 events.new) (take result.0 piece.now) (take result.0 (marked piece.now more raw)) }
-    ensures all { (result.0 ≡ length piece.now) ⊎ (result.1 ≡ length events.new) ⊎ (is_paste state.new ≢ is_paste state.old) }
-    ensures some { 0 < length events.old → 0 < length piece.now → 0 < result.0 }
+    ensures fills { FillsBy E.made state.old state.new entries.old fill.end fill.number entries.new result.1.end result.1.number (take result.0 piece.now) (take result.0 (marked piece.now more raw)) }
+    ensures all { (result.0 ≡ length piece.now) ⊎ (result.1.end ≡ length entries.new) ⊎ (is_paste state.new ≢ is_paste state.old) }
+    ensures few { result.1.end ≤ fill.end + result.0 }
+    ensures some { fill.end < length entries.old → 0 < length piece.now → 0 < result.0 }
 {
     let mut steps: Steps<L> = Steps::new(blank);
     if !state.is_paste() {
-        return feed_sequences(state, piece, more, raw, events, &mut steps);
+        return feed_sequences(state, piece, more, raw, entries, fill, &mut steps);
     }
-    if events.is_empty() {
-        return (0, 0);
+    let Fill { end, number } = fill;
+    if end == entries.len() {
+        return (0, fill);
     }
     let (taken, over) = feed_paste(state, piece, &mut steps);
     if !over {
-        return (taken, 0);
+        return (taken, fill);
     }
-    events[0] = paste_end();
-    (taken, 1)
+    entries[end] = E::of(paste_end(), number);
+    let fill = Fill {
+        end: end + 1,
+        number: number.saturating_add(1),
+    };
+    (taken, fill)
 }

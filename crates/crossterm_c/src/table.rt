@@ -1,51 +1,90 @@
-//! The caller's table, which takes the events of sequences.
-ghost use Rattle.std.specs.Prelude.{◌≡◌, ◌+◌, ◌-◌, ◌<◌, ◌++◌, ◌∷◌, [], length, take};
+//! A caller's table, which takes the events of sequences: events alone, or held ones with their numbers.
+ghost use Rattle.std.specs.Prelude.{◌≡◌, ◌+◌, ◌-◌, ◌<◌, ◌++◌, ◌∷◌, ℕ, [], length, take};
 ghost use Rattle.std.proofs.Common.{refl, ◌∙◌};
+ghost use Rattle.crossterm_read.specs.Store.{next_number};
+ghost use Rattle.crossterm_c.specs.declared.event.GelvanhEvent.{GelvanhEvent};
+ghost use Rattle.crossterm_c.specs.Held.{held_as};
 ghost use Rattle.crossterm_c.specs.inside.Table.{Filled, filled_none, filled_on};
 
 use crate::event::{GelvanhEvent, of_key, of_meaning};
+use crate::held::GelvanhHeld;
 use crossterm_parse::meaning::{Meaning, ascii_key};
 use crossterm_parse::outlet::Outlet;
 
-/// The table, and how many events of it were given.
-#[derive(Drop)]
-pub(crate) struct Table<'a> {
-    pub(crate) events: &'a mut [GelvanhEvent],
-    pub(crate) given: usize,
+/// An entry of a table, which is made of an event and of its number.
+pub(crate) trait Entry: Copy {
+    /// What is made of them.
+    ghost made: { GelvanhEvent → ℕ → Self };
+
+    fn of(event: GelvanhEvent, number: u64) -> Self
+        ensures { result ≡ made event number };
 }
 
-impl Table<'_> {
-    /// Puts an event after those that were given.
+impl Entry for GelvanhEvent {
+    ghost made = { λ e n. e };
+
     #[inline(always)]
-    fn push(&mut self, event: GelvanhEvent)
-        requires { self.old.given < length self.old.events.now }
-        ensures same { self.new.events.ghost_name ≡ self.old.events.ghost_name }
-        ensures given { self.new.given ≡ self.old.given + 1 }
-        ensures events { take self.new.given self.new.events.now ≡ take self.old.given self.old.events.now ++ event ∷ [] }
-        ensures room { length self.new.events.now ≡ length self.old.events.now }
-    {
-        self.events[self.given] = event;
-        self.given += 1;
+    fn of(event: GelvanhEvent, _number: u64) -> GelvanhEvent {
+        event
     }
 }
 
-impl Outlet for Table<'_> {
-    ghost given = { λ s meanings t. (t.events.ghost_name ≡ s.events.ghost_name) × Filled s.events.now s.given meanings t.events.now t.given };
+impl Entry for GelvanhHeld {
+    ghost made = { held_as };
 
-    ghost room = { λ t. length t.events.now - t.given };
+    #[inline(always)]
+    fn of(event: GelvanhEvent, number: u64) -> GelvanhHeld {
+        GelvanhHeld {
+            event,
+            arrival: number,
+        }
+    }
+}
 
-    ghost given_none = { λ t. (refl, filled_none t.events.now t.given) };
+/// A table whose first entries are filled.
+#[derive(Drop)]
+pub(crate) struct Table<'a, E: Entry> {
+    pub(crate) entries: &'a mut [E],
+    /// How many entries are filled.
+    pub(crate) end: usize,
+    /// The number of the next event.
+    pub(crate) number: u64,
+}
 
-    ghost given_on = { λ s t u xs ys first more. (more.0 ∙ first.0, filled_on s.events.now t.events.now u.events.now s.given t.given u.given xs ys first.1 more.1) };
+impl<E: Entry> Table<'_, E> {
+    /// Puts an event behind the entries that are filled.
+    #[inline(always)]
+    fn push(&mut self, event: GelvanhEvent)
+        requires { self.old.end < length self.old.entries.now }
+        ensures same { self.new.entries.ghost_name ≡ self.old.entries.ghost_name }
+        ensures end { self.new.end ≡ self.old.end + 1 }
+        ensures number { self.new.number ≡ next_number self.old.number }
+        ensures entries { take self.new.end self.new.entries.now ≡ take self.old.end self.old.entries.now ++ E.made event self.old.number ∷ [] }
+        ensures room { length self.new.entries.now ≡ length self.old.entries.now }
+    {
+        self.entries[self.end] = E::of(event, self.number);
+        self.end += 1;
+        self.number = self.number.saturating_add(1);
+    }
+}
+
+impl<E: Entry> Outlet for Table<'_, E> {
+    ghost given = { λ s meanings t. (t.entries.ghost_name ≡ s.entries.ghost_name) × Filled E.made s.entries.now s.end s.number meanings t.entries.now t.end t.number };
+
+    ghost room = { λ t. length t.entries.now - t.end };
+
+    ghost given_none = { λ t. (refl, filled_none E.made t.entries.now t.end t.number) };
+
+    ghost given_on = { λ s t u xs ys first more. (more.0 ∙ first.0, filled_on E.made s.entries.now t.entries.now u.entries.now s.end t.end u.end s.number t.number u.number xs ys first.1 more.1) };
 
     #[inline(always)]
     fn has_room(&mut self) -> bool {
-        self.given < self.events.len()
+        self.end < self.entries.len()
     }
 
     #[inline(always)]
     fn room_now(&self) -> usize {
-        self.events.len().saturating_sub(self.given)
+        self.entries.len().saturating_sub(self.end)
     }
 
     #[inline(always)]
