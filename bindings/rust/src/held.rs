@@ -73,12 +73,7 @@ impl Default for HeldEvents {
 impl HeldEvents {
     /// None, and no table yet.
     pub const fn new() -> HeldEvents {
-        HeldEvents {
-            reader: raw::Reader { first: 0, held: 0, arrivals: 0 },
-            table: Vec::new(),
-            texts: Vec::new(),
-            may_hold_replies: false,
-        }
+        HeldEvents { reader: raw::Reader { first: 0, held: 0, arrivals: 0 }, table: Vec::new(), texts: Vec::new(), may_hold_replies: false }
     }
 
     /// Makes room for so many more events, or for some of them at least.

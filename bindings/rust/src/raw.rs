@@ -51,18 +51,19 @@ pub struct Held {
 
 impl Held {
     /// An entry of a table without an event.
-    pub const NONE: Held = Held {
-        event: Event { kind: 0, code: 0, value: 0, column: 0, row: 0, modifiers: 0, press: 0, state: 0, flags: 0 },
-        arrival: 0,
-    };
+    pub const NONE: Held =
+        Held { event: Event { kind: 0, code: 0, value: 0, column: 0, row: 0, modifiers: 0, press: 0, state: 0, flags: 0 }, arrival: 0 };
 }
 
 /// Which places of a table hold events.
 #[repr(C)]
 #[derive(Clone, Copy, Default, Debug, PartialEq, Eq)]
 pub struct Reader {
+    /// The place of the first held event.
     pub first: usize,
+    /// How many are held.
     pub held: usize,
+    /// The number of the next event.
     pub arrivals: u64,
 }
 
@@ -127,14 +128,7 @@ extern "C" {
         room: usize,
         count: *mut usize,
     ) -> usize;
-    fn gelvanh_take_some(
-        reader: *mut Reader,
-        table: *mut Held,
-        room: usize,
-        classes: u32,
-        taken: *mut Held,
-        most: usize,
-    ) -> usize;
+    fn gelvanh_take_some(reader: *mut Reader, table: *mut Held, room: usize, classes: u32, taken: *mut Held, most: usize) -> usize;
     fn gelvanh_command(command: *const Command, colors: bool, slice: *mut u8, room: usize, length: *mut usize) -> u32;
     fn gelvanh_print(text: *const u8, length: usize, slice: *mut u8, room: usize, written: *mut usize) -> u32;
     fn gelvanh_set_title(title: *const u8, length: usize, slice: *mut u8, room: usize, written: *mut usize) -> u32;

@@ -1,4 +1,4 @@
-use Rattle.std.proofs.Common.{rules, Bool, ℕ, List, [], ◌∙◌, sym, ap, arith, inr, refl, subst, take, drop, length, length-set, None}
+use Rattle.std.proofs.Common.{rules, Bool, ℕ, List, [], ◌∙◌, sym, ap, arith, inr, subst, take, drop, length, length-set}
 use Rattle.std.proofs.lemmas.List.{take_more_set}
 use Rattle.std.specs.List.{position}
 use Rattle.crossterm_types.specs.Admitting.{is_of}

@@ -1,4 +1,4 @@
-use Rattle.std.proofs.Common.{rules, List, ◌∙◌, ◌<◌, ◌+◌, ◌-◌, sym, ap, arith, length, length-set, subst, take, drop}
+use Rattle.std.proofs.Common.{List, ◌∙◌, ◌<◌, ◌+◌, ◌-◌, sym, ap, arith, length, length-set, subst, take, drop}
 use Rattle.crossterm_c.specs.Held.{TakesEach}
 use Rattle.crossterm_c.specs.declared.held.GelvanhHeld.{GelvanhHeld}
 use Rattle.crossterm_c.proofs.HeldLaws.{behind_one, front_taken, member_of, part_left}

@@ -1,6 +1,6 @@
-use Rattle.std.proofs.Common.{rules, List, [], ◌∷◌, not, take, ap, sym, ◌∙◌, subst}
+use Rattle.std.proofs.Common.{rules, [], ◌∷◌, not, take, ap, ◌∙◌, subst}
 use Rattle.crossterm_parse.specs.Marked.{marked}
-use Rattle.crossterm_c.specs.Feeding.{Feeds, Pastes}
+use Rattle.crossterm_c.specs.Feeding.{Pastes}
 use Rattle.crossterm_c.specs.inside.Table.{puts_none}
 use Rattle.crossterm_c.proofs.FeedingLaws.{feeds_closed, feeds_nothing, feeds_open, put_one}
 use Rattle.crossterm_c.proofs.feed.feed.Goals as goal

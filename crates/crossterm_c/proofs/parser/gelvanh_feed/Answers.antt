@@ -1,4 +1,4 @@
-use Rattle.std.proofs.Common.{rules, List, [], ◌∷◌, ◌∙◌, subst, sym, take}
+use Rattle.std.proofs.Common.{rules, List, ◌∙◌, subst, sym, take}
 use Rattle.crossterm_parse.specs.Marked.{marked}
 use Rattle.crossterm_parse.specs.declared.state.State.{State}
 use Rattle.crossterm_c.specs.Feeding.{Feeds}
