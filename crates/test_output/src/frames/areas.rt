@@ -91,9 +91,8 @@ fn is_styled(mut buffer: Buffer) -> bool {
 
 /// Whether the rectangle is filled, and each half that is left is a space.
 fn is_filled(mut buffer: Buffer) -> bool {
-    let style = ContentStyle::new();
-    let wide = buffer.fill_area(area(), '漢', style);
-    let came = buffer.fill_area(area(), '#', style);
+    let wide = buffer.fill_area(area(), '漢', ContentStyle::new());
+    let came = buffer.fill_area(area(), '#', ContentStyle::new());
     wide == Err(CellFault::Wide)
         && came == Ok(())
         && buffer
