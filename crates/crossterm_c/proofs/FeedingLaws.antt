@@ -1,7 +1,7 @@
 -- What a call takes.
 use Rattle.std.proofs.lemmas.Bool.Decides.{nat_tests}
 use Rattle.std.proofs.Common.{◌≡◌, ◌==◌, ◌<◌, ◌+◌, not, get_or, arith, slice_set, map, ℕ, Bool, true, false, if◌then◌else◌, List, [], ◌∷◌, ◌++◌, take, length, ◌-◌, refl, ap, sym, ◌∙◌, subst}
-use Rattle.std.proofs.lemmas.List.{append-nil, length-set, map-append, take_more, take_more_set}
+use Rattle.std.proofs.lemmas.List.{append-nil, map-append, take_more}
 use Rattle.crossterm_types.specs.Seen.{Seen}
 use Rattle.crossterm_types.specs.Seen as seen
 use Rattle.crossterm_types.specs.declared.event.key.KeyEvent.{KeyEvent}
@@ -19,11 +19,10 @@ use Rattle.crossterm_parse.specs.declared.state.State.TheVariants.{Ground}
 use Rattle.crossterm_parse.proofs.RunLaws.{advance_still}
 use Rattle.crossterm_parse.proofs.TakingLaws.{all_letters}
 use Rattle.crossterm_parse.proofs.ViewLaws.{advance_byte}
-use Rattle.crossterm_read.specs.Store.{next_number}
 use Rattle.crossterm_c.specs.Event.{event_at}
 use Rattle.crossterm_c.specs.Feeding.{Feeds, Pastes, kept_after, kept_with, view_of}
-use Rattle.crossterm_c.specs.Held.{numbered}
 use Rattle.crossterm_c.specs.inside.Table.{Filled, PutsEvents, filled_on}
+use Rattle.crossterm_c.specs.declared.table.Table.{Table}
 use Rattle.crossterm_c.specs.declared.event.GelvanhEvent.{GelvanhEvent}
 
 no_text : (t : Bool) (text : List ℕ) → t ≡ false → [] ≡ (if t then text else [])
@@ -94,40 +93,17 @@ feeds_closed old new e bytes taken was is means pastes kept waiting =
     (subst (λ (bs : List ℕ). AdvancesOver (view_of old kept waiting) (view_of new bs (waiting ++ pasted (take (length (kept ++ bytes) - 6) (kept ++ bytes)) ∷ [])) taken)
     (after_closed (is_paste new) (kept_with old kept bytes) is) (pastes kept waiting))
 
--- an event more
-pub put_one : {E : Type 0} (made : GelvanhEvent → ℕ → E) (old : List E) (m a b : ℕ) (e : GelvanhEvent) (x : E) → m < length old → x ≡ made e a → b ≡ next_number a
-    → PutsEvents made old m a (e ∷ []) (slice_set old m x) (m + 1) b
-put_one made old m a b e x l is next = record {
-  room = length-set old m x;
-  within = λ _. omega (arith, l, length-set old m x);
-  entries = take_more_set old m x l ∙ ap (λ y. take m old ++ y ∷ []) is;
-  count = refl;
-  number = next;
-}
-
 -- an event more, by its meaning
-pub filled_one : {E : Type 0} (made : GelvanhEvent → ℕ → E) (old new : List E) (m a n b : ℕ) (e : GelvanhEvent) (meaning : Meaning) → m < length old → n ≡ m + 1 → b ≡ next_number a → length new ≡ length old
-    → take n new ≡ take m old ++ made e a ∷ [] → ((kept : List ℕ) → event_at kept e ≡ seen_meaning meaning) → Filled made old m a (meaning ∷ []) new n b
-filled_one made old new m a n b e meaning room on next size more is = record {
-  given = e ∷ [];
-  means = λ kept. ap (λ (x : Seen). x ∷ []) (is kept);
-  puts = record { room = size; within = λ _. omega (arith, room, on, size); entries = more; count = on; number = next };
-}
+pub filled_one : (old new : Table) (e : GelvanhEvent) (meaning : Meaning) → PutsEvents old (e ∷ []) new → ((kept : List ℕ) → event_at kept e ≡ seen_meaning meaning) → Filled old (meaning ∷ []) new
+filled_one old new e meaning puts is = record { given = e ∷ []; means = λ kept. ap (λ (x : Seen). x ∷ []) (is kept); puts = puts }
 
 -- a key more
-pub one_letter : {E : Type 0} (made : GelvanhEvent → ℕ → E) (old mid new : List E) (m k n a c b : ℕ) (e : GelvanhEvent) (key : KeyEvent) (letters : List ℕ) (i : ℕ) → i < length letters
-    → Filled made old m a (map typed (take i letters)) mid k c → k < length mid → n ≡ k + 1 → b ≡ next_number c → length new ≡ length mid → take n new ≡ take k mid ++ made e c ∷ []
-    → ((kept : List ℕ) → event_at kept e ≡ seen.Key key) → meaning.Key key ≡ typed (get_or letters i 0) → Filled made old m a (map typed (take (i + 1) letters)) new n b
-one_letter made old mid new m k n a c b e key letters i l filled room on next size more is means =
+pub one_letter : (s t u : Table) (e : GelvanhEvent) (key : KeyEvent) (letters : List ℕ) (i : ℕ) → i < length letters → Filled s (map typed (take i letters)) t → PutsEvents t (e ∷ []) u
+    → ((kept : List ℕ) → event_at kept e ≡ seen.Key key) → meaning.Key key ≡ typed (get_or letters i 0) → Filled s (map typed (take (i + 1) letters)) u
+one_letter s t u e key letters i l filled puts is means =
     let byte = get_or letters i 0 in
-    let one = filled_one made mid new k c n b e (typed byte) room on next size more (λ kept. is kept ∙ ap (λ (x : Meaning). seen_meaning x) means) in
-    subst (λ (ms : List Meaning). Filled made old m a ms new n b) (sym (ap (λ (bs : List ℕ). map typed bs) (take_more letters i 0 l) ∙ map-append typed (take i letters) (byte ∷ [])))
-    (filled_on made old mid new m k n a c b (map typed (take i letters)) (typed byte ∷ []) filled one)
-
--- events without numbers are themselves
-pub numbered_same : (n : ℕ) (events : List GelvanhEvent) → numbered (λ e n. e) n events ≡ events
-numbered_same n [] = refl
-numbered_same n (e ∷ events) = ap (λ (es : List GelvanhEvent). e ∷ es) (numbered_same (next_number n) events)
+    subst (λ (ms : List Meaning). Filled s ms u) (sym (ap (λ (bs : List ℕ). map typed bs) (take_more letters i 0 l) ∙ map-append typed (take i letters) (byte ∷ [])))
+    (filled_on s t u (map typed (take i letters)) (typed byte ∷ []) filled (filled_one t u e (typed byte) puts (λ kept. is kept ∙ ap (λ (x : Meaning). seen_meaning x) means)))
 
 -- a letter that comes alone
 pub feeds_letter : (s : State) (piece : List ℕ) (more raw : Bool) (e : GelvanhEvent) (key : KeyEvent) → s ≡ Ground → length piece ≡ 1 → IsLetter (get_or piece 0 0)

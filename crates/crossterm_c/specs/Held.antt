@@ -60,14 +60,10 @@ abbrev pub TakesEach : ℕ → List GelvanhHeld → List GelvanhHeld → List Ge
 TakesEach bits held [] left = left ≡ held
 TakesEach bits held (h ∷ taken) left = (mid : List GelvanhHeld) × TakesAsHeld bits held h mid × TakesEach bits mid taken left
 
--- An event as it is held with its number.
-abbrev pub held_as : GelvanhEvent → ℕ → GelvanhHeld
-held_as e n = record { event = e; arrival = n }
-
--- What is made of some events and of their numbers, from one on: of held events `held_as`.
-abbrev pub numbered : {E : Type 0} → (GelvanhEvent → ℕ → E) → ℕ → List GelvanhEvent → List E
-numbered made n [] = []
-numbered made n (e ∷ events) = made e n ∷ numbered made (next_number n) events
+-- Events as they are held, with their numbers, from one on.
+abbrev pub numbered : ℕ → List GelvanhEvent → List GelvanhHeld
+numbered n [] = []
+numbered n (e ∷ events) = record { event = e; arrival = n } ∷ numbered (next_number n) events
 
 -- The number of the next event after some more.
 abbrev pub number_after : ℕ → List GelvanhEvent → ℕ
@@ -78,7 +74,7 @@ number_after n (e ∷ events) = number_after (next_number n) events
 pub record FeedsHeld (old new : State) (before : GelvanhReader) (table : List GelvanhHeld) (after : GelvanhReader) (left : List GelvanhHeld) (count : ℕ) (bytes : List ℕ) (taken : List Marked) : Type 0 where
   pub given : List GelvanhEvent
   pub feeds : Feeds old new given bytes taken
-  pub held : held_in after left ≡ held_in before table ++ numbered held_as before.arrivals given
+  pub held : held_in after left ≡ held_in before table ++ numbered before.arrivals given
   pub arrivals : after.arrivals ≡ number_after before.arrivals given
   pub size : count ≡ length given
 

@@ -5,10 +5,13 @@ ghost use Rattle.crossterm_parse.specs.States.{is_paste};
 ghost use Rattle.crossterm_c.specs.Held.{FeedsHeld, TakesEach, admits, held_in};
 ghost use Rattle.crossterm_c.specs.State.{state_at};
 
-use crate::feed::{Fill, feed};
-use crate::held::{GelvanhHeld, GelvanhReader, is_admitted, make_room, span};
+use crate::event::of_key;
+use crate::feed::{feed, is_lone_letter};
+use crate::held::{GelvanhHeld, GelvanhReader, is_admitted, make_room, put_behind, span};
 use crate::reader::gelvanh_take;
 use crate::state::{GelvanhState, flatten, state_of};
+use crate::table::Table;
+use crossterm_parse::meaning::ascii_key;
 use std::marker::Brand;
 use std::sync::ledger::Blank;
 
@@ -36,26 +39,41 @@ pub extern "C" fn gelvanh_feed_held(
 {
     let (first, held) = span(reader, table);
     let first = make_room(table, first, held, piece.len());
+    if held < table.len() && is_lone_letter(state, piece) {
+        let event = of_key(ascii_key(piece[0]));
+        let arrival = reader.arrivals;
+        put_behind(table, first, held, GelvanhHeld { event, arrival });
+        *count = 1;
+        *reader = GelvanhReader {
+            first,
+            held: held + 1,
+            arrivals: arrival.saturating_add(1),
+        };
+        return 1;
+    }
     let mut open = state_of(state);
-    let fill = Fill {
+    let mut places = Table {
+        is_held: true,
+        events: &mut [],
+        held: table,
         end: first + held,
         number: reader.arrivals,
     };
-    let (taken, fill) = feed::<GelvanhHeld, Brand>(
-        &mut open,
-        piece,
-        more,
-        raw,
-        table,
-        fill,
-        Blank::new(1),
-    );
+    let taken = feed::<Brand>(&mut open, piece, more, raw, &mut places, Blank::new(1));
+    let Table {
+        is_held: _,
+        events: _,
+        held: table,
+        end,
+        number,
+    } = places;
+    let _ = &*table;
     *state = flatten(&open);
-    *count = fill.end - (first + held);
+    *count = end - (first + held);
     *reader = GelvanhReader {
         first,
-        held: fill.end - first,
-        arrivals: fill.number,
+        held: end - first,
+        arrivals: number,
     };
     taken
 }

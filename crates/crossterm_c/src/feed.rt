@@ -1,59 +1,49 @@
 //! Bytes to events.
-ghost use Rattle.std.specs.Prelude.{◌≡◌, ◌≢◌, ◌⊎◌, ◌≤◌, ◌<◌, ◌+◌, not, true, false, Bool, ℕ, List, ◌++◌, length, take, IsTrue};
+ghost use Rattle.std.specs.Prelude.{◌≡◌, ◌≢◌, ◌⊎◌, ◌≤◌, ◌<◌, ◌+◌, not, true, false, Bool, ℕ, List, ◌++◌, length, take, get_or, IsTrue};
 ghost use Rattle.crossterm_types.specs.Seen.{Seen};
+ghost use Rattle.crossterm_parse.specs.Bytes.{IsLetter};
 ghost use Rattle.crossterm_parse.specs.States.{is_paste};
 ghost use Rattle.crossterm_parse.specs.Putting.{PutsAll};
 ghost use Rattle.crossterm_parse.specs.Marked.{marked};
 ghost use Rattle.crossterm_c.specs.Feeding.{Pastes, view_of};
-ghost use Rattle.crossterm_c.specs.inside.Table.{FillsBy};
+ghost use Rattle.crossterm_c.specs.State.{state_at};
+ghost use Rattle.crossterm_c.specs.inside.Table.{FillsBy, capacity};
 
 use crate::event::paste_end;
-use crate::table::{Entry, Table};
+use crate::state::GelvanhState;
+use crate::table::Table;
 use crossterm_parse::paste::{Met, before_escape};
 use crossterm_parse::state::State;
 use crossterm_parse::steps::Steps;
 use std::sync::ledger::{Blank, Ledger};
 
-/// Up to where a table is filled, and the number of the next event.
-#[derive(Clone, Copy)]
-pub(crate) struct Fill {
-    pub(crate) end: usize,
-    pub(crate) number: u64,
+/// Whether a letter comes alone, and no sequence is open: it is a key by itself.
+#[inline(always)]
+pub(crate) fn is_lone_letter(state: &GelvanhState, piece: &[u8]) -> bool
+    ensures { IsTrue result → (state_at state.now ≡ State.Ground) × (length piece.now ≡ 1) × IsLetter (get_or piece.now 0 0) }
+{
+    state.kind == 0 && (piece.len() == 1 && matches!(piece[0], 32..=126))
 }
 
 /// Takes bytes outside of a paste: all, those up to the start of a paste, or those before the first event for which the table has no room.
-/// It returns how many bytes it took, and up to where the table is filled then.
-fn feed_sequences<E: Entry, L: Ledger>(
+/// It returns how many.
+fn feed_sequences<L: Ledger>(
     state: &mut State,
     piece: &[u8],
     more: bool,
     raw: bool,
-    entries: &mut [E],
-    fill: Fill,
+    table: &mut Table<'_>,
     steps: &mut Steps<L>,
-) -> (usize, Fill)
+) -> usize
     requires outside { is_paste state.old ≡ false }
-    requires within { fill.end ≤ length entries.old }
-    ensures taken { result.0 ≤ length piece.now }
-    ensures fills { (bytes : List ℕ) → FillsBy E.made state.old state.new entries.old fill.end fill.number entries.new result.1.end result.1.number bytes (take result.0 (marked piece.now more raw)) }
-    ensures all { (result.0 ≡ length piece.now) ⊎ (result.1.end ≡ length entries.new) ⊎ (is_paste state.new ≡ true) }
-    ensures few { result.1.end ≤ fill.end + result.0 }
-    ensures some { fill.end < length entries.old → 0 < length piece.now → 0 < result.0 }
+    requires within { table.old.end ≤ capacity table.old }
+    ensures taken { result ≤ length piece.now }
+    ensures fills { (bytes : List ℕ) → FillsBy state.old state.new table.old table.new bytes (take result (marked piece.now more raw)) }
+    ensures all { (result ≡ length piece.now) ⊎ (table.new.end ≡ capacity table.new) ⊎ (is_paste state.new ≡ true) }
+    ensures few { table.new.end ≤ table.old.end + result }
+    ensures some { table.old.end < capacity table.old → 0 < length piece.now → 0 < result }
 {
-    let Fill { end, number } = fill;
-    let mut table = Table {
-        entries,
-        end,
-        number,
-    };
-    let taken = state.take(piece, more, raw, &mut table, steps);
-    let Table {
-        entries,
-        end,
-        number,
-    } = table;
-    let _ = &*entries;
-    (taken, Fill { end, number })
+    state.take(piece, more, raw, table, steps)
 }
 
 /// Takes the bytes of an open paste before the next ESC, if none of its end is met, and returns how many.
@@ -98,42 +88,35 @@ fn feed_paste<L: Ledger>(state: &mut State, piece: &[u8], steps: &mut Steps<L>) 
     (place, false)
 }
 
-/// Takes bytes, and puts their events into a table, behind the entries that are filled. It returns how many bytes it took, and up to where the
-/// table is filled then. Steps are counted in a new ledger, which costs nothing.
-pub(crate) fn feed<E: Entry, L: Ledger>(
+/// Takes bytes, and puts their events into a table, behind the places that are filled. It returns how many. Steps are counted in a new ledger,
+/// which costs nothing.
+pub(crate) fn feed<L: Ledger>(
     state: &mut State,
     piece: &[u8],
     more: bool,
     raw: bool,
-    entries: &mut [E],
-    fill: Fill,
+    table: &mut Table<'_>,
     blank: Blank,
-) -> (usize, Fill)
+) -> usize
     requires name { blank.name ≡ L.name }
     requires parts { (blank.parts ≡ L.parts) × (0 < L.parts) }
-    requires within { fill.end ≤ length entries.old }
-    ensures taken { result.0 ≤ length piece.now }
-    ensures fills { FillsBy E.made state.old state.new entries.old fill.end fill.number entries.new result.1.end result.1.number (take result.0 piece.now) (take result.0 (marked piece.now more raw)) }
-    ensures all { (result.0 ≡ length piece.now) ⊎ (result.1.end ≡ length entries.new) ⊎ (is_paste state.new ≢ is_paste state.old) }
-    ensures few { result.1.end ≤ fill.end + result.0 }
-    ensures some { fill.end < length entries.old → 0 < length piece.now → 0 < result.0 }
+    requires within { table.old.end ≤ capacity table.old }
+    ensures taken { result ≤ length piece.now }
+    ensures fills { FillsBy state.old state.new table.old table.new (take result piece.now) (take result (marked piece.now more raw)) }
+    ensures all { (result ≡ length piece.now) ⊎ (table.new.end ≡ capacity table.new) ⊎ (is_paste state.new ≢ is_paste state.old) }
+    ensures few { table.new.end ≤ table.old.end + result }
+    ensures some { table.old.end < capacity table.old → 0 < length piece.now → 0 < result }
 {
     let mut steps: Steps<L> = Steps::new(blank);
     if !state.is_paste() {
-        return feed_sequences(state, piece, more, raw, entries, fill, &mut steps);
+        return feed_sequences(state, piece, more, raw, table, &mut steps);
     }
-    let Fill { end, number } = fill;
-    if end == entries.len() {
-        return (0, fill);
+    if table.is_full() {
+        return 0;
     }
     let (taken, over) = feed_paste(state, piece, &mut steps);
-    if !over {
-        return (taken, fill);
+    if over {
+        table.push(paste_end());
     }
-    entries[end] = E::of(paste_end(), number);
-    let fill = Fill {
-        end: end + 1,
-        number: number.saturating_add(1),
-    };
-    (taken, fill)
+    taken
 }

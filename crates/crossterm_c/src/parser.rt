@@ -1,6 +1,5 @@
 //! The parser's calls.
-ghost use Rattle.std.specs.Prelude.{◌≡◌, ◌≢◌, ◌⊎◌, ◌↔◌, ◌≤◌, ◌<◌, List, length, take, get_or, IsTrue, []};
-ghost use Rattle.crossterm_parse.specs.Bytes.{IsLetter};
+ghost use Rattle.std.specs.Prelude.{◌≡◌, ◌≢◌, ◌⊎◌, ◌↔◌, ◌≤◌, ◌<◌, List, length, take, IsTrue, []};
 ghost use Rattle.crossterm_parse.specs.States.{StateRepresents, is_paste};
 ghost use Rattle.crossterm_parse.specs.Marked.{bytes_of, marked};
 ghost use Rattle.crossterm_parse.specs.declared.marked.Marked.{Marked};
@@ -9,21 +8,14 @@ ghost use Rattle.crossterm_c.specs.State.{state_at};
 ghost use Rattle.crossterm_c.specs.Text.{Writes};
 
 use crate::event::{GelvanhEvent, of_key};
-use crate::feed::{Fill, feed};
+use crate::feed::{feed, is_lone_letter};
 use crate::state::{GelvanhState, flatten, state_of};
+use crate::table::Table;
 use crate::text::write_text;
 use crossterm_parse::meaning::ascii_key;
 use crossterm_parse::state::State;
 use std::marker::Brand;
 use std::sync::ledger::Blank;
-
-/// Whether a letter comes alone, and no sequence is open: it is a key by itself.
-#[inline(always)]
-fn is_lone_letter(state: &GelvanhState, piece: &[u8]) -> bool
-    ensures { IsTrue result → (state_at state.now ≡ State.Ground) × (length piece.now ≡ 1) × IsLetter (get_or piece.now 0 0) }
-{
-    state.kind == 0 && (piece.len() == 1 && matches!(piece[0], 32..=126))
-}
 
 /// Takes bytes of a terminal, and returns how many. `count` is how many events they gave, which are in front of `events`.
 ///
@@ -58,18 +50,24 @@ pub extern "C" fn gelvanh_feed(
         return 1;
     }
     let mut open = state_of(state);
-    let none = Fill { end: 0, number: 0 };
-    let (taken, fill) = feed::<GelvanhEvent, Brand>(
-        &mut open,
-        piece,
-        more,
-        raw,
+    let mut table = Table {
+        is_held: false,
         events,
-        none,
-        Blank::new(1),
-    );
+        held: &mut [],
+        end: 0,
+        number: 0,
+    };
+    let taken = feed::<Brand>(&mut open, piece, more, raw, &mut table, Blank::new(1));
+    let Table {
+        is_held: _,
+        events,
+        held: _,
+        end,
+        number: _,
+    } = table;
+    let _ = &*events;
     *state = flatten(&open);
-    *count = fill.end;
+    *count = end;
     taken
 }
 

@@ -1,5 +1,5 @@
 -- A table that is filled with events.
-use Rattle.std.specs.Prelude.{◌≡◌, ◌≤◌, ◌+◌, ℕ, List, [], ◌∷◌, ◌++◌, length, map, take}
+use Rattle.std.specs.Prelude.{◌≡◌, ◌≤◌, ◌+◌, ℕ, true, false, if◌then◌else◌, List, [], ◌∷◌, ◌++◌, length, map, take}
 use Rattle.std.proofs.Common.{refl, ap, sym, ◌∙◌, arith, append_assoc}
 use Rattle.std.proofs.lemmas.List.{append-nil, length-append, map-append}
 use Rattle.crossterm_parse.specs.Meaning.{seen_meaning}
@@ -11,57 +11,76 @@ use Rattle.crossterm_c.specs.Event.{event_at}
 use Rattle.crossterm_c.specs.Feeding.{Feeds}
 use Rattle.crossterm_c.specs.Held.{number_after, numbered}
 use Rattle.crossterm_c.specs.declared.event.GelvanhEvent.{GelvanhEvent}
+use Rattle.crossterm_c.specs.declared.held.GelvanhHeld.{GelvanhHeld}
+use Rattle.crossterm_c.specs.declared.table.Table.{Table}
 
--- Behind the first m entries of a table these events were put, numbered from a on: there are n entries then, and b is the next number.
-pub record PutsEvents {E : Type 0} (made : GelvanhEvent → ℕ → E) (old : List E) (m a : ℕ) (given : List GelvanhEvent) (new : List E) (n b : ℕ) : Type 0 where
-  pub room : length new ≡ length old
-  pub within : m ≤ length old → n ≤ length new
-  pub entries : take n new ≡ take m old ++ numbered made a given
-  pub count : n ≡ m + length given
-  pub number : b ≡ number_after a given
+-- How many places a table has.
+abbrev pub capacity : Table → ℕ
+capacity t = if t.is_held then length t.held.now else length t.events.now
+
+-- Behind the places of a table that are filled these events were put, with their numbers if they are held.
+pub record PutsEvents (old : Table) (given : List GelvanhEvent) (new : Table) : Type 0 where
+  pub same : (new.events.ghost_name ≡ old.events.ghost_name) × (new.held.ghost_name ≡ old.held.ghost_name) × (new.is_held ≡ old.is_held)
+  pub places : capacity new ≡ capacity old
+  pub within : old.end ≤ capacity old → new.end ≤ capacity new
+  pub count : new.end ≡ old.end + length given
+  pub events : old.is_held ≡ false → take new.end new.events.now ≡ take old.end old.events.now ++ given
+  pub held : old.is_held ≡ true → take new.end new.held.now ≡ take old.end old.held.now ++ numbered old.number given
+  pub number : old.is_held ≡ true → new.number ≡ number_after old.number given
 
 -- The events that were put there have these meanings.
-pub record Filled {E : Type 0} (made : GelvanhEvent → ℕ → E) (old : List E) (m a : ℕ) (meanings : List Meaning) (new : List E) (n b : ℕ) : Type 0 where
+pub record Filled (old : Table) (meanings : List Meaning) (new : Table) : Type 0 where
   pub given : List GelvanhEvent
   pub means : (kept : List ℕ) → map (event_at kept) given ≡ map seen_meaning meanings
-  pub puts : PutsEvents made old m a given new n b
+  pub puts : PutsEvents old given new
 
 -- The events that were put there are those of these bytes.
-pub record FillsBy {E : Type 0} (made : GelvanhEvent → ℕ → E) (before after : State) (old : List E) (m a : ℕ) (new : List E) (n b : ℕ) (bytes : List ℕ) (taken : List Marked) : Type 0 where
+pub record FillsBy (before after : State) (old new : Table) (bytes : List ℕ) (taken : List Marked) : Type 0 where
   pub given : List GelvanhEvent
   pub feeds : Feeds before after given bytes taken
-  pub puts : PutsEvents made old m a given new n b
+  pub puts : PutsEvents old given new
 
-number_after_append : (a : ℕ) (xs ys : List GelvanhEvent) → number_after a (xs ++ ys) ≡ number_after (number_after a xs) ys
-number_after_append a [] ys = refl
-number_after_append a (x ∷ xs) ys = number_after_append (next_number a) xs ys
+number_after_append : (n : ℕ) (xs ys : List GelvanhEvent) → number_after n (xs ++ ys) ≡ number_after (number_after n xs) ys
+number_after_append n [] ys = refl
+number_after_append n (x ∷ xs) ys = number_after_append (next_number n) xs ys
 
-module _ {E : Type 0} (made : GelvanhEvent → ℕ → E) where
-  pub numbered_append : (a : ℕ) (xs ys : List GelvanhEvent) → numbered made a (xs ++ ys) ≡ numbered made a xs ++ numbered made (number_after a xs) ys
-  numbered_append a [] ys = refl
-  numbered_append a (x ∷ xs) ys = ap (λ (es : List E). made x a ∷ es) (numbered_append (next_number a) xs ys)
+numbered_append : (n : ℕ) (xs ys : List GelvanhEvent) → numbered n (xs ++ ys) ≡ numbered n xs ++ numbered (number_after n xs) ys
+numbered_append n [] ys = refl
+numbered_append n (x ∷ xs) ys = ap (λ (hs : List GelvanhHeld). record { event = x; arrival = n } ∷ hs) (numbered_append (next_number n) xs ys)
 
-  pub puts_none : (entries : List E) (m a : ℕ) → PutsEvents made entries m a [] entries m a
-  puts_none entries m a = record { room = refl; within = λ l. l; entries = sym (append-nil (take m entries)); count = omega arith; number = refl }
+pub puts_none : (t : Table) → PutsEvents t [] t
+puts_none t = record {
+  same = (refl, refl, refl);
+  places = refl;
+  within = λ l. l;
+  count = omega arith;
+  events = λ _. sym (append-nil (take t.end t.events.now));
+  held = λ _. sym (append-nil (take t.end t.held.now));
+  number = λ _. refl;
+}
 
-  pub puts_on : (old mid new : List E) (m k n a c b : ℕ) (xs ys : List GelvanhEvent) → PutsEvents made old m a xs mid k c → PutsEvents made mid k c ys new n b → PutsEvents made old m a (xs ++ ys) new n b
-  puts_on old mid new m k n a c b xs ys first more = record {
-    room = more.room ∙ first.room;
-    within = λ l. more.within (first.within l);
-    entries = more.entries ∙ ap (λ (es : List E). es ++ numbered made c ys) first.entries ∙ append_assoc (take m old) (numbered made a xs) (numbered made c ys)
-        ∙ ap (λ (es : List E). take m old ++ es) (ap (λ (i : ℕ). numbered made a xs ++ numbered made i ys) first.number ∙ sym (numbered_append a xs ys));
-    count = omega (arith, first.count, more.count, length-append xs ys);
-    number = more.number ∙ ap (λ (i : ℕ). number_after i ys) first.number ∙ sym (number_after_append a xs ys);
-  }
+pub puts_on : (s t u : Table) (xs ys : List GelvanhEvent) → PutsEvents s xs t → PutsEvents t ys u → PutsEvents s (xs ++ ys) u
+puts_on s t u xs ys first more = record {
+  same = (more.same.0 ∙ first.same.0, more.same.1 ∙ first.same.1, more.same.2 ∙ first.same.2);
+  places = more.places ∙ first.places;
+  within = λ l. more.within (first.within l);
+  count = omega (arith, first.count, more.count, length-append xs ys);
+  events = λ bare. more.events (first.same.2 ∙ bare) ∙ ap (λ (es : List GelvanhEvent). es ++ ys) (first.events bare) ∙ append_assoc (take s.end s.events.now) xs ys;
+  held = λ is.
+      let front = take s.end s.held.now in
+      more.held (first.same.2 ∙ is) ∙ ap (λ (hs : List GelvanhHeld). hs ++ numbered t.number ys) (first.held is) ∙ append_assoc front (numbered s.number xs) (numbered t.number ys)
+      ∙ ap (λ (n : ℕ). front ++ (numbered s.number xs ++ numbered n ys)) (first.number is) ∙ ap (λ (hs : List GelvanhHeld). front ++ hs) (sym (numbered_append s.number xs ys));
+  number = λ is. more.number (first.same.2 ∙ is) ∙ ap (λ (n : ℕ). number_after n ys) (first.number is) ∙ sym (number_after_append s.number xs ys);
+}
 
-  pub filled_none : (entries : List E) (m a : ℕ) → Filled made entries m a [] entries m a
-  filled_none entries m a = record { given = []; means = λ kept. refl; puts = puts_none entries m a }
+pub filled_none : (t : Table) → Filled t [] t
+filled_none t = record { given = []; means = λ kept. refl; puts = puts_none t }
 
-  pub filled_on : (old mid new : List E) (m k n a c b : ℕ) (xs ys : List Meaning) → Filled made old m a xs mid k c → Filled made mid k c ys new n b → Filled made old m a (xs ++ ys) new n b
-  filled_on old mid new m k n a c b xs ys first more = record {
-    given = first.given ++ more.given;
-    means = λ kept.
-        map-append (event_at kept) first.given more.given ∙ ap (λ es. es ++ map (event_at kept) more.given) (first.means kept) ∙ ap (λ es. map seen_meaning xs ++ es) (more.means kept)
-        ∙ sym (map-append seen_meaning xs ys);
-    puts = puts_on old mid new m k n a c b first.given more.given first.puts more.puts;
-  }
+pub filled_on : (s t u : Table) (xs ys : List Meaning) → Filled s xs t → Filled t ys u → Filled s (xs ++ ys) u
+filled_on s t u xs ys first more = record {
+  given = first.given ++ more.given;
+  means = λ kept.
+      map-append (event_at kept) first.given more.given ∙ ap (λ es. es ++ map (event_at kept) more.given) (first.means kept) ∙ ap (λ es. map seen_meaning xs ++ es) (more.means kept)
+      ∙ sym (map-append seen_meaning xs ys);
+  puts = puts_on s t u first.given more.given first.puts more.puts;
+}

@@ -1,20 +1,23 @@
-use Rattle.std.proofs.Common.{rules, List, ◌∙◌, subst, sym, take}
+use Rattle.std.proofs.Common.{rules, List, ◌∙◌, refl, subst, sym, take}
 use Rattle.crossterm_parse.specs.Marked.{marked}
 use Rattle.crossterm_parse.specs.declared.state.State.{State}
 use Rattle.crossterm_c.specs.Feeding.{Feeds}
 use Rattle.crossterm_c.specs.State.{state_at}
 use Rattle.crossterm_c.specs.declared.event.GelvanhEvent.{GelvanhEvent}
-use Rattle.crossterm_c.proofs.FeedingLaws.{feeds_letter, first_set, numbered_same, some_events}
+use Rattle.crossterm_c.proofs.FeedingLaws.{feeds_letter, first_set, some_events}
 use Rattle.crossterm_c.proofs.parser.gelvanh_feed.Goals as goal
 
 pub returns-clause-feeds : goal.returns-clause-feeds
 returns-clause-feeds c =
     let fills = c.feed-taken.ensures.fills in
-    let bytes = take c.feed-taken.result.0 c.args.piece.now in
-    let taken = take c.feed-taken.result.0 (marked c.args.piece.now c.args.more c.args.raw) in
-    subst (λ (given : List GelvanhEvent). Feeds (state_at c.args.state.now) (state_at c.flatten.result) given bytes taken) (sym (fills.puts.entries ∙ numbered_same 0 fills.given))
-    (subst (λ (new : State). Feeds (state_at c.args.state.now) new fills.given bytes taken) (sym c.flatten.ensures)
-    (subst (λ (old : State). Feeds old c.feed-taken.new.state fills.given bytes taken) c.state_of-open.ensures fills.feeds))
+    let old = state_at c.args.state.now in
+    let end = c.feed-taken.new.table.end in
+    let bytes = take c.feed-taken.result c.args.piece.now in
+    let taken = take c.feed-taken.result (marked c.args.piece.now c.args.more c.args.raw) in
+    subst (λ (es : List GelvanhEvent). Feeds old (state_at c.flatten.result) (take end es) bytes taken) (search rules)
+    (subst (λ (given : List GelvanhEvent). Feeds old (state_at c.flatten.result) given bytes taken) (sym (fills.puts.events refl))
+    (subst (λ (new : State). Feeds old new fills.given bytes taken) (sym c.flatten.ensures)
+    (subst (λ (was : State). Feeds was c.feed-taken.new.state fills.given bytes taken) c.state_of-open.ensures fills.feeds)))
 
 pub returns-then-is_lone_letter-clause-feeds : goal.returns-then-is_lone_letter-clause-feeds
 returns-then-is_lone_letter-clause-feeds c =
