@@ -180,7 +180,7 @@ impl HeldEvents {
     /// ```
     #[inline]
     pub fn take_some(&mut self, classes: Classes, taken: &mut [raw::Held]) -> usize {
-        if !self.may_hold(classes) {
+        if self.reader.held == 0 || !self.may_hold(classes) {
             return 0;
         }
         let count = raw::take_some(&mut self.reader, &mut self.table, classes.bits(), taken);

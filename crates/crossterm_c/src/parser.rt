@@ -84,7 +84,7 @@ pub extern "C" fn gelvanh_is_undecided(state: &GelvanhState) -> bool
 pub extern "C" fn gelvanh_is_pasting(state: &GelvanhState) -> bool
     ensures { result ≡ is_paste (state_at state.now) }
 {
-    state_of(state).is_paste()
+    state.kind == 10
 }
 
 /// Writes the text of a paste's bytes, with U+FFFD for each maximal part that isn't UTF-8, as far as the next character has room.
