@@ -58,6 +58,55 @@ static void hold_and_take(void) {
     free(table);
 }
 
+static void same_held(const struct gelvanh_reader *reader, const struct gelvanh_held *table, const struct gelvanh_reader *other,
+                      const struct gelvanh_held *others) {
+    if (reader->held != other->held || reader->arrivals != other->arrivals)
+        fail("how many are held");
+    if (reader->held && memcmp(table + reader->first, others + other->first, reader->held * sizeof *table))
+        fail("what is held");
+}
+
+/* A reader whose events come and go by gelvanh_feed_held and gelvanh_take_some, beside one of the single calls. */
+static void many_and_single(void) {
+    size_t room = draw(9), count, n;
+    struct gelvanh_held *table = room ? malloc(room * sizeof *table) : NULL, *others = room ? malloc(room * sizeof *others) : NULL;
+    struct gelvanh_held some[5], taken;
+    struct gelvanh_event events[9];
+    struct gelvanh_state state, other_state;
+    struct gelvanh_reader reader = {0, 0, draw(2) ? 0 : UINT64_MAX - 2}, other = reader;
+    memset(&state, 0, sizeof state);
+    memset(&other_state, 0, sizeof other_state);
+    for (int i = 0; i < 16; i++) {
+        if (draw(2)) {
+            size_t length = draw(2) ? draw(2) : draw(24);
+            bool more = draw(2), raw = draw(2);
+            uint8_t *piece = length ? malloc(length) : NULL;
+            fill(piece, length, draw(4) == 0);
+            size_t fed = gelvanh_feed_held(&state, piece, length, more, raw, &reader, table, room, &count);
+            if (fed != gelvanh_feed(&other_state, piece, length, more, raw, events, room - other.held, &n) || count != n)
+                fail("how much gelvanh_feed_held takes");
+            for (size_t at = 0; at < n; at++)
+                gelvanh_hold(&other, others, room, &events[at]);
+            if (gelvanh_is_undecided(&state) != gelvanh_is_undecided(&other_state) || gelvanh_is_pasting(&state) != gelvanh_is_pasting(&other_state))
+                fail("the state of gelvanh_feed_held");
+            free(piece);
+        } else {
+            uint32_t classes = draw(2) ? 1 : draw(16);
+            size_t most = draw(5);
+            memset(some, 0xEE, sizeof some);
+            count = gelvanh_take_some(&reader, table, room, classes, some, most);
+            for (n = 0; n < most && gelvanh_take(&other, others, room, classes, &taken); n++)
+                if (n < count && memcmp(&some[n], &taken, sizeof taken))
+                    fail("what gelvanh_take_some takes");
+            if (count != n || ((uint8_t *)(some + count))[0] != 0xEE)
+                fail("how many gelvanh_take_some takes");
+        }
+        same_held(&reader, table, &other, others);
+    }
+    free(others);
+    free(table);
+}
+
 static void one(bool wild) {
     struct gelvanh_state *state = calloc(1, sizeof *state);
     if (wild)
@@ -98,6 +147,7 @@ static void one(bool wild) {
     gelvanh_set_title(piece, length, slice, out, &needed);
     gelvanh_print(piece, length, slice, out, &needed);
     hold_and_take();
+    many_and_single();
     free(slice);
     free(events);
     free(piece);

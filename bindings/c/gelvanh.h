@@ -9,10 +9,10 @@
  *
  * Before 1.0.0 the second number changes wherever a program has to be compiled again: a struct, a number or a call is another. From 1.0.0
  * on the first does. Otherwise numbers for new kinds, keys and commands may follow the last: a program passes over those it doesn't know. */
-#define GELVANH_VERSION "0.3.1"
+#define GELVANH_VERSION "0.4.0"
 #define GELVANH_VERSION_MAJOR 0
-#define GELVANH_VERSION_MINOR 3
-#define GELVANH_VERSION_PATCH 1
+#define GELVANH_VERSION_MINOR 4
+#define GELVANH_VERSION_PATCH 0
 #define GELVANH_VERSION_NUMBER ((GELVANH_VERSION_MAJOR * 256 + GELVANH_VERSION_MINOR) * 256 + GELVANH_VERSION_PATCH)
 
 #include <stddef.h>
@@ -146,6 +146,19 @@ gelvanh_bool gelvanh_holds(const struct gelvanh_reader *reader, const struct gel
 /* Takes the first held event of one of some classes, and returns whether there was one: else nothing has changed. The others stay, in their
  * order. */
 gelvanh_bool gelvanh_take(struct gelvanh_reader *reader, struct gelvanh_held *table, size_t room, uint32_t classes, struct gelvanh_held *taken);
+
+/* Takes bytes of a terminal as gelvanh_feed does, and holds their events as gelvanh_hold does, each with its number. It returns how many bytes it
+ * took. `count` is how many events it held, which are the last held ones.
+ *
+ * It stops when all are taken, when the table of `room` places is full, and after the byte with which a paste opens or is over; then the
+ * others are handed in again. The caller keeps the bytes of a paste as for gelvanh_feed: its event has the number `arrivals` before the call. */
+size_t gelvanh_feed_held(struct gelvanh_state *state, const uint8_t *piece, size_t length, gelvanh_bool more, gelvanh_bool raw,
+                         struct gelvanh_reader *reader, struct gelvanh_held *table, size_t room, size_t *count);
+
+/* Takes the first held events of some classes, in their order, as far as there is room for `most` in `taken`, and returns how many: so many calls
+ * of gelvanh_take would take the same. The others stay, in their order, and what is behind the events in `taken` stays as it was. */
+size_t gelvanh_take_some(struct gelvanh_reader *reader, struct gelvanh_held *table, size_t room, uint32_t classes,
+                         struct gelvanh_held *taken, size_t most);
 
 /* A colour: 0 none, 1 the terminal's own, 2 to 17 by name, 18 by its parts, 19 by its place in the palette, which is r. */
 struct gelvanh_color {

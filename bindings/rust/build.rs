@@ -1,4 +1,4 @@
-//! Links the proved archive, `libcrossterm_c.a`: that in the folder that `GELVANH_LIB` names, else that for the target's processor, of this crate's
+//! Links the proved archive, `libgelvanh.a`: that in the folder that `GELVANH_LIB` names, else that for the target's processor, of this crate's
 //! `lib` in a release, or of `bindings/prebuilt` in the sources.
 use std::env;
 use std::path::{Path, PathBuf};
@@ -22,7 +22,7 @@ fn processors() -> Vec<String> {
 }
 
 fn has_archive(folder: &Path) -> bool {
-    folder.join("libcrossterm_c.a").exists()
+    folder.join("libgelvanh.a").exists()
 }
 
 /// The folder of the archive, or that in which it is missing.
@@ -40,11 +40,11 @@ fn folder() -> PathBuf {
 fn main() {
     let folder = folder();
     println!("cargo:rerun-if-env-changed=GELVANH_LIB");
-    println!("cargo:rerun-if-changed={}/libcrossterm_c.a", folder.display());
+    println!("cargo:rerun-if-changed={}/libgelvanh.a", folder.display());
     if !has_archive(&folder) {
         let folder = folder.display();
-        println!("cargo:warning={folder} has no libcrossterm_c.a, so nothing can be linked: bindings/release makes it, and GELVANH_LIB names another folder");
+        println!("cargo:warning={folder} has no libgelvanh.a, so nothing can be linked: bindings/release makes it, and GELVANH_LIB names another folder");
     }
     println!("cargo:rustc-link-search=native={}", folder.display());
-    println!("cargo:rustc-link-lib=static=crossterm_c");
+    println!("cargo:rustc-link-lib=static=gelvanh");
 }

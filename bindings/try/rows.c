@@ -167,6 +167,31 @@ static void held(void) {
     CHECK(!gelvanh_holds(&wild, table, 4, 15) && gelvanh_hold(&wild, table, 4, &resize) && wild.held == 1 && wild.arrivals + 1 == 0);
 }
 
+/* Many events in one call: as far as there is room, up to the ends of a paste, and those of some classes. */
+static void many(void) {
+    struct gelvanh_state state;
+    struct gelvanh_reader reader, before;
+    struct gelvanh_held table[4], taken[3];
+    size_t count;
+    memset(&state, 0, sizeof state);
+    memset(&reader, 0, sizeof reader);
+    CHECK(gelvanh_feed_held(&state, bytes("a\033[2;3Rb"), 8, 0, 1, &reader, table, 4, &count) == 8 && count == 3 && reader.held == 3);
+    CHECK(gelvanh_feed_held(&state, bytes("cd"), 2, 0, 1, &reader, table, 4, &count) == 1 && count == 1 && reader.arrivals == 4);
+    CHECK(gelvanh_feed_held(&state, bytes("d"), 1, 0, 1, &reader, table, 4, &count) == 0 && count == 0);
+    CHECK(gelvanh_take_some(&reader, table, 4, GELVANH_EVENTS, taken, 2) == 2 && reader.held == 2);
+    CHECK(is_key(&taken[0].event, GELVANH_CHAR, 'a', 0) && taken[0].arrival == 0);
+    CHECK(is_key(&taken[1].event, GELVANH_CHAR, 'b', 0) && taken[1].arrival == 2);
+    CHECK(gelvanh_feed_held(&state, bytes("d\033[200~"), 7, 1, 1, &reader, table, 4, &count) == 7 && count == 1);
+    CHECK(gelvanh_feed_held(&state, bytes("x\033[201~y"), 8, 0, 1, &reader, table, 4, &count) == 7 && count == 1 && reader.arrivals == 6);
+    /* The table is full: no byte of a paste is taken that would end it. */
+    CHECK(reader.held == 4 && gelvanh_take_some(&reader, table, 4, GELVANH_FLAGS_REPLIES, taken, 3) == 0);
+    CHECK(gelvanh_take_some(&reader, table, 4, 15, taken, 3) == 3 && taken[0].event.kind == GELVANH_CURSOR && taken[0].arrival == 1);
+    CHECK(is_key(&taken[1].event, GELVANH_CHAR, 'c', 0) && is_key(&taken[2].event, GELVANH_CHAR, 'd', 0));
+    CHECK(gelvanh_take_some(&reader, table, 4, GELVANH_EVENTS, taken, 3) == 1 && taken[0].event.kind == GELVANH_PASTE && taken[0].arrival == 5);
+    before = reader;
+    CHECK(gelvanh_take_some(&reader, table, 4, 15, taken, 3) == 0 && !memcmp(&reader, &before, sizeof before));
+}
+
 int main(void) {
     CHECK(gelvanh_version() == GELVANH_VERSION_NUMBER);
     full_table();
@@ -176,5 +201,6 @@ int main(void) {
     commands();
     texts();
     held();
+    many();
     return failed;
 }

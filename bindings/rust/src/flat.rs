@@ -4,7 +4,7 @@ use crate::raw;
 
 #[cfg(feature = "std")]
 pub use crate::parser::FlatEvents;
-pub use crate::raw::{paste_text, Event};
+pub use crate::raw::{paste_text, Event, Held, Reader};
 
 /// A parser whose events are numbers: the archive's state alone, with no memory. The bytes of a paste are the caller's to keep.
 #[derive(Clone, Copy, Default)]
@@ -18,6 +18,13 @@ impl FlatParser {
     #[inline]
     pub fn feed(&mut self, piece: &[u8], more: bool, raw: bool, events: &mut [raw::Event]) -> (usize, usize) {
         raw::feed(&mut self.state, piece, more, raw, events)
+    }
+
+    /// Takes bytes, and holds their events in a table behind those that are held there. It returns how many bytes it took, and how many
+    /// events it held. It stops if the table is full, and after the byte with which a paste opens or is over.
+    #[inline]
+    pub fn feed_held(&mut self, piece: &[u8], more: bool, raw: bool, reader: &mut Reader, table: &mut [Held]) -> (usize, usize) {
+        raw::feed_held(&mut self.state, piece, more, raw, reader, table)
     }
 
     /// Whether a paste is open: then all bytes that are taken are of it.

@@ -60,6 +60,8 @@ pub struct HeldEvents {
     table: Vec<raw::Held>,
     /// The texts of the pastes among them, each with its event's number.
     texts: Vec<(u64, String)>,
+    /// Whether a reply may be held. If none is, no table is searched for one.
+    may_hold_replies: bool,
 }
 
 impl Default for HeldEvents {
@@ -71,7 +73,18 @@ impl Default for HeldEvents {
 impl HeldEvents {
     /// None, and no table yet.
     pub const fn new() -> HeldEvents {
-        HeldEvents { reader: raw::Reader { first: 0, held: 0, arrivals: 0 }, table: Vec::new(), texts: Vec::new() }
+        HeldEvents { reader: raw::Reader { first: 0, held: 0, arrivals: 0 }, table: Vec::new(), texts: Vec::new(), may_hold_replies: false }
+    }
+
+    /// Makes room for so many more events, or for some of them at least.
+    #[inline]
+    fn reserve(&mut self, more: usize) {
+        let behind = self.table.len() - self.reader.first - self.reader.held;
+        // If the end is reached, the archive moves the events to the front: that pays if half of the table is free there.
+        if behind < more && self.reader.first < self.table.len() / 2 + 1 {
+            let more = more.max(self.table.len()).max(16);
+            self.table.resize(self.table.len() + more, raw::Held::NONE);
+        }
     }
 
     /// Holds an event behind the others. The text is that of a paste; other events have none.
@@ -79,12 +92,8 @@ impl HeldEvents {
         if event.is_paste() {
             self.texts.push((self.reader.arrivals, text));
         }
-        let behind = self.table.len() - self.reader.first - self.reader.held;
-        // If the end is reached, the archive moves the events to the front: that pays if half of the table is free there.
-        if behind == 0 && self.reader.first < self.table.len() / 2 + 1 {
-            let more = self.table.len().max(16);
-            self.table.resize(self.table.len() + more, raw::Held::default());
-        }
+        self.may_hold_replies |= !Classes::EVENTS.has(event.class());
+        self.reserve(1);
         let is_held = raw::hold(&mut self.reader, &mut self.table, &event);
         debug_assert!(is_held, "the table has room");
     }
@@ -99,19 +108,42 @@ impl HeldEvents {
     /// assert!(held.holds(Classes::EVENTS) && !held.holds(Classes::CURSOR));
     /// ```
     pub fn feed(&mut self, parser: &mut Parser, piece: &[u8], more: bool, raw: bool, classes: Classes) {
-        let mut told = parser.flat(piece, more, raw);
-        while let Some(event) = told.next() {
-            if classes.has(event.class()) {
-                let text = if event.is_paste() { told.paste_text().unwrap_or_default() } else { String::new() };
-                self.hold(event, text);
+        let mut rest = piece;
+        while !rest.is_empty() {
+            self.reserve(rest.len());
+            let number = self.reader.arrivals;
+            let (taken, count, text) = parser.feed_held(rest, more, raw, &mut self.reader, &mut self.table);
+            if let Some(text) = text.filter(|_| classes.has(Classes::EVENTS)) {
+                self.texts.push((number, text));
             }
+            self.drop_others(count, classes);
+            rest = &rest[taken..];
         }
+    }
+
+    /// Drops those of the last events that aren't of these classes.
+    fn drop_others(&mut self, count: usize, classes: Classes) {
+        self.may_hold_replies |= !Classes::EVENTS.has(classes);
+        let others = Classes::ALL.bits() & !classes.bits();
+        let start = self.reader.first + self.reader.held - count;
+        let mut last = raw::Reader { first: start, held: count, arrivals: 0 };
+        if others == 0 || !raw::holds(&last, &self.table, others) {
+            return;
+        }
+        while raw::take(&mut last, &mut self.table, others).is_some() {}
+        self.table.copy_within(last.first..last.first + last.held, start);
+        self.reader.held -= count - last.held;
     }
 
     /// Whether an event of these classes is held.
     #[inline]
     pub fn holds(&self, classes: Classes) -> bool {
-        raw::holds(&self.reader, &self.table, classes.bits())
+        self.may_hold(classes) && raw::holds(&self.reader, &self.table, classes.bits())
+    }
+
+    #[inline]
+    fn may_hold(&self, classes: Classes) -> bool {
+        self.may_hold_replies || classes.has(Classes::EVENTS)
     }
 
     /// Takes the first event of these classes. The others stay, in their order.
@@ -127,11 +159,44 @@ impl HeldEvents {
     /// The same, as numbers.
     #[inline]
     pub fn take_flat(&mut self, classes: Classes) -> Option<Taken> {
-        let raw::Held { event, arrival } = raw::take(&mut self.reader, &mut self.table, classes.bits())?;
-        if event.is_paste() {
-            return Some(Taken::Paste(self.text_of(arrival).unwrap_or_default()));
+        let mut taken = [raw::Held::NONE];
+        let count = self.take_some(classes, &mut taken);
+        (count > 0).then(|| self.with_text(taken[0]))
+    }
+
+    /// Takes the first events of these classes, in their order, as far as there is room, and returns how many. `with_text` gives a paste
+    /// among them its text.
+    ///
+    /// ```
+    /// use gelvanh::flat::Held;
+    /// use gelvanh::{Classes, HeldEvents, Parser};
+    ///
+    /// let (mut parser, mut held) = (Parser::default(), HeldEvents::default());
+    /// held.feed(&mut parser, b"ab\x1b[3;4Rcd", false, true, Classes::ALL);
+    /// let mut taken = [Held::NONE; 3];
+    /// assert_eq!(held.take_some(Classes::EVENTS, &mut taken), 3);
+    /// assert_eq!(taken.map(|it| it.event.value), [97, 98, 99]);
+    /// assert_eq!(held.take_some(Classes::EVENTS, &mut taken), 1);
+    /// ```
+    #[inline]
+    pub fn take_some(&mut self, classes: Classes, taken: &mut [raw::Held]) -> usize {
+        if self.reader.held == 0 || !self.may_hold(classes) {
+            return 0;
         }
-        Some(Taken::Numbers(event))
+        let count = raw::take_some(&mut self.reader, &mut self.table, classes.bits(), taken);
+        if count < taken.len() && classes.has(Classes::CURSOR | Classes::FLAGS | Classes::ATTRIBUTES) {
+            self.may_hold_replies = false;
+        }
+        count
+    }
+
+    /// An event that `take_some` took, with the text of a paste.
+    #[inline]
+    pub fn with_text(&mut self, held: raw::Held) -> Taken {
+        if held.event.is_paste() {
+            return Taken::Paste(self.text_of(held.arrival).unwrap_or_default());
+        }
+        Taken::Numbers(held.event)
     }
 
     #[cold]

@@ -60,6 +60,32 @@ impl Parser {
         Events(self.flat(piece, more, raw))
     }
 
+    /// Takes bytes in front, as far as one call of the archive does, and holds their events in a table. It returns how many bytes it took,
+    /// how many events it held, and the text of the paste if the event is one's.
+    pub(crate) fn feed_held(
+        &mut self,
+        piece: &[u8],
+        more: bool,
+        raw: bool,
+        reader: &mut raw::Reader,
+        table: &mut [raw::Held],
+    ) -> (usize, usize, Option<String>) {
+        let pasting = self.flat.is_pasting();
+        let (taken, count) = self.flat.feed_held(piece, more, raw, reader, table);
+        self.keep(&piece[..taken], pasting);
+        (taken, count, (pasting && count > 0).then(|| self.paste_text()))
+    }
+
+    /// Keeps bytes that were taken, if they are a paste's.
+    #[inline]
+    fn keep(&mut self, taken: &[u8], pasting: bool) {
+        if pasting {
+            self.kept.extend_from_slice(taken);
+        } else if self.flat.is_pasting() {
+            self.kept.clear();
+        }
+    }
+
     /// Whether bytes were taken that are no whole sequence yet.
     pub fn is_undecided(&self) -> bool {
         self.flat.is_undecided()
@@ -104,11 +130,7 @@ impl FlatEvents<'_> {
         let pasting = parser.flat.is_pasting();
         let (taken, count) = parser.flat.feed(self.piece, self.more, self.raw, &mut parser.events);
         let (front, rest) = self.piece.split_at(taken);
-        if pasting {
-            parser.kept.extend_from_slice(front);
-        } else if parser.flat.is_pasting() {
-            parser.kept.clear();
-        }
+        parser.keep(front, pasting);
         self.piece = rest;
         self.next = 0;
         self.count = count;

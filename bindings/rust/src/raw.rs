@@ -49,12 +49,21 @@ pub struct Held {
     pub arrival: u64,
 }
 
+impl Held {
+    /// An entry of a table without an event.
+    pub const NONE: Held =
+        Held { event: Event { kind: 0, code: 0, value: 0, column: 0, row: 0, modifiers: 0, press: 0, state: 0, flags: 0 }, arrival: 0 };
+}
+
 /// Which places of a table hold events.
 #[repr(C)]
 #[derive(Clone, Copy, Default, Debug, PartialEq, Eq)]
 pub struct Reader {
+    /// The place of the first held event.
     pub first: usize,
+    /// How many are held.
     pub held: usize,
+    /// The number of the next event.
     pub arrivals: u64,
 }
 
@@ -108,6 +117,18 @@ extern "C" {
     fn gelvanh_hold(reader: *mut Reader, table: *mut Held, room: usize, event: *const Event) -> bool;
     fn gelvanh_holds(reader: *const Reader, table: *const Held, room: usize, classes: u32) -> bool;
     fn gelvanh_take(reader: *mut Reader, table: *mut Held, room: usize, classes: u32, taken: *mut Held) -> bool;
+    fn gelvanh_feed_held(
+        state: *mut State,
+        piece: *const u8,
+        length: usize,
+        more: bool,
+        raw: bool,
+        reader: *mut Reader,
+        table: *mut Held,
+        room: usize,
+        count: *mut usize,
+    ) -> usize;
+    fn gelvanh_take_some(reader: *mut Reader, table: *mut Held, room: usize, classes: u32, taken: *mut Held, most: usize) -> usize;
     fn gelvanh_command(command: *const Command, colors: bool, slice: *mut u8, room: usize, length: *mut usize) -> u32;
     fn gelvanh_print(text: *const u8, length: usize, slice: *mut u8, room: usize, written: *mut usize) -> u32;
     fn gelvanh_set_title(title: *const u8, length: usize, slice: *mut u8, room: usize, written: *mut usize) -> u32;
@@ -179,6 +200,21 @@ pub fn take(reader: &mut Reader, table: &mut [Held], classes: u32) -> Option<Hel
     let mut taken = Held::default();
     let is_taken = unsafe { gelvanh_take(reader, table.as_mut_ptr(), table.len(), classes, &mut taken) };
     is_taken.then_some(taken)
+}
+
+/// Takes bytes and holds their events, and returns how many bytes it took, and how many events it held.
+#[inline]
+pub fn feed_held(state: &mut State, piece: &[u8], more: bool, raw: bool, reader: &mut Reader, table: &mut [Held]) -> (usize, usize) {
+    let mut count = 0;
+    let (bytes, places) = (piece.as_ptr(), table.as_mut_ptr());
+    let taken = unsafe { gelvanh_feed_held(state, bytes, piece.len(), more, raw, reader, places, table.len(), &mut count) };
+    (taken, count)
+}
+
+/// Takes the first held events of some classes, as far as there is room, and returns how many.
+#[inline]
+pub fn take_some(reader: &mut Reader, table: &mut [Held], classes: u32, taken: &mut [Held]) -> usize {
+    unsafe { gelvanh_take_some(reader, table.as_mut_ptr(), table.len(), classes, taken.as_mut_ptr(), taken.len()) }
 }
 
 /// What came of a command, and its length.

@@ -1,11 +1,13 @@
 -- What a call takes.
 use Rattle.std.proofs.lemmas.Bool.Decides.{nat_tests}
-use Rattle.std.proofs.Common.{◌≡◌, ◌==◌, ◌<◌, ◌+◌, get_or, arith, slice_set, map, ℕ, Bool, true, false, if◌then◌else◌, List, [], ◌∷◌, ◌++◌, take, length, ◌-◌, refl, ap, sym, ◌∙◌, subst}
+use Rattle.std.proofs.Common.{◌≡◌, ◌==◌, ◌<◌, ◌+◌, not, get_or, arith, slice_set, map, ℕ, Bool, true, false, if◌then◌else◌, List, [], ◌∷◌, ◌++◌, take, length, ◌-◌, refl, ap, sym, ◌∙◌, subst}
 use Rattle.std.proofs.lemmas.List.{append-nil, map-append, take_more}
 use Rattle.crossterm_types.specs.Seen.{Seen}
 use Rattle.crossterm_types.specs.Seen as seen
 use Rattle.crossterm_types.specs.declared.event.key.KeyEvent.{KeyEvent}
+use Rattle.crossterm_parse.specs.Bytes.{IsLetter}
 use Rattle.crossterm_parse.specs.States.{is_paste}
+use Rattle.crossterm_parse.specs.Marked.{marked}
 use Rattle.crossterm_parse.specs.Putting.{bare}
 use Rattle.crossterm_parse.specs.declared.marked.Marked.{Marked}
 use Rattle.crossterm_parse.specs.Meaning.{pasted, seen_meaning, typed}
@@ -13,9 +15,14 @@ use Rattle.crossterm_parse.specs.declared.meaning.Meaning.{Meaning}
 use Rattle.crossterm_parse.specs.declared.meaning.Meaning.TheVariants as meaning
 use Rattle.crossterm_parse.specs.View.{AdvancesOver}
 use Rattle.crossterm_parse.specs.declared.state.State.{State}
+use Rattle.crossterm_parse.specs.declared.state.State.TheVariants.{Ground}
+use Rattle.crossterm_parse.proofs.RunLaws.{advance_still}
+use Rattle.crossterm_parse.proofs.TakingLaws.{all_letters}
+use Rattle.crossterm_parse.proofs.ViewLaws.{advance_byte}
 use Rattle.crossterm_c.specs.Event.{event_at}
 use Rattle.crossterm_c.specs.Feeding.{Feeds, Pastes, kept_after, kept_with, view_of}
-use Rattle.crossterm_c.specs.inside.Table.{Filled, filled_on}
+use Rattle.crossterm_c.specs.inside.Table.{Filled, PutsEvents, filled_on}
+use Rattle.crossterm_c.specs.declared.table.Table.{Table}
 use Rattle.crossterm_c.specs.declared.event.GelvanhEvent.{GelvanhEvent}
 
 no_text : (t : Bool) (text : List ℕ) → t ≡ false → [] ≡ (if t then text else [])
@@ -28,15 +35,16 @@ none_kept false true kept bytes h = refl
 none_kept false false kept bytes h = refl
 
 -- what was taken outside of a paste
-pub feeds_filled : (old new : State) (events after : List GelvanhEvent) (n : ℕ) (bytes : List ℕ) (taken : List Marked) (ms : List Meaning) → is_paste old ≡ false
-    → Filled events 0 ms after n → ((waiting : List Seen) → AdvancesOver (bare old waiting) (bare new (waiting ++ map seen_meaning ms)) taken) → Feeds old new (take n after) bytes taken
-feeds_filled old new events after n bytes taken ms outside filled over kept waiting before represents undecided =
+pub feeds_given : (old new : State) (given : List GelvanhEvent) (bytes : List ℕ) (taken : List Marked) (ms : List Meaning) → is_paste old ≡ false
+    → ((kept : List ℕ) → map (event_at kept) given ≡ map seen_meaning ms) → ((waiting : List Seen) → AdvancesOver (bare old waiting) (bare new (waiting ++ map seen_meaning ms)) taken)
+    → Feeds old new given bytes taken
+feeds_given old new given bytes taken ms outside means over kept waiting before represents undecided =
     let a = over waiting before (represents.0, no_text (is_paste old) _ outside) undecided in
     record {
       parts = a.parts;
       rest = a.rest;
       division = a.division;
-      given = ap (λ (events : List Seen). waiting ++ events) (filled.events (kept_with old kept bytes)) ∙ a.given;
+      given = ap (λ (events : List Seen). waiting ++ events) (means (kept_with old kept bytes)) ∙ a.given;
       represents = (a.represents.0, none_kept (is_paste old) (is_paste new) kept bytes outside ∙ a.represents.1);
     }
 
@@ -85,25 +93,35 @@ feeds_closed old new e bytes taken was is means pastes kept waiting =
     (subst (λ (bs : List ℕ). AdvancesOver (view_of old kept waiting) (view_of new bs (waiting ++ pasted (take (length (kept ++ bytes) - 6) (kept ++ bytes)) ∷ [])) taken)
     (after_closed (is_paste new) (kept_with old kept bytes) is) (pastes kept waiting))
 
+-- an event more, by its meaning
+pub filled_one : (old new : Table) (e : GelvanhEvent) (meaning : Meaning) → PutsEvents old (e ∷ []) new → ((kept : List ℕ) → event_at kept e ≡ seen_meaning meaning) → Filled old (meaning ∷ []) new
+filled_one old new e meaning puts is = record { given = e ∷ []; means = λ kept. ap (λ (x : Seen). x ∷ []) (is kept); puts = puts }
+
+-- a key more
+pub one_letter : (s t u : Table) (e : GelvanhEvent) (key : KeyEvent) (letters : List ℕ) (i : ℕ) → i < length letters → Filled s (map typed (take i letters)) t → PutsEvents t (e ∷ []) u
+    → ((kept : List ℕ) → event_at kept e ≡ seen.Key key) → meaning.Key key ≡ typed (get_or letters i 0) → Filled s (map typed (take (i + 1) letters)) u
+one_letter s t u e key letters i l filled puts is means =
+    let byte = get_or letters i 0 in
+    subst (λ (ms : List Meaning). Filled s ms u) (sym (ap (λ (bs : List ℕ). map typed bs) (take_more letters i 0 l) ∙ map-append typed (take i letters) (byte ∷ [])))
+    (filled_on s t u (map typed (take i letters)) (typed byte ∷ []) filled (filled_one t u e (typed byte) puts (λ kept. is kept ∙ ap (λ (x : Meaning). seen_meaning x) means)))
+
+-- a letter that comes alone
+pub feeds_letter : (s : State) (piece : List ℕ) (more raw : Bool) (e : GelvanhEvent) (key : KeyEvent) → s ≡ Ground → length piece ≡ 1 → IsLetter (get_or piece 0 0)
+    → ((kept : List ℕ) → event_at kept e ≡ seen.Key key) → meaning.Key key ≡ typed (get_or piece 0 0) → Feeds s s (e ∷ []) (take 1 piece) (take 1 (marked piece more raw))
+feeds_letter s [] more raw e key ground one letter is means = absurd (omega (arith, one))
+feeds_letter s (b ∷ c ∷ bs) more raw e key ground one letter is means = absurd (omega (arith, one))
+feeds_letter s (b ∷ []) more raw e key ground one letter is means =
+    let m : Marked = record { byte = b; raw = raw; pause = not more } in
+    feeds_given s s (e ∷ []) (b ∷ []) (m ∷ []) (typed b ∷ []) (ap (λ (t : State). is_paste t) ground) (λ kept. ap (λ (x : Seen). x ∷ []) (is kept ∙ ap (λ (x : Meaning). seen_meaning x) means))
+    (λ waiting.
+    let puts = all_letters s (b ∷ []) waiting ground (letter, tt) in
+    let put = puts.1 raw (not more) in
+    advance_still (bare s waiting) puts.0 (bare s (waiting ++ map seen_meaning (typed b ∷ []))) (m ∷ []) puts.2 (advance_byte (bare s waiting) puts.0 m put.0 put.1 put.2))
+
 -- the first event of a table
 pub first_set : (events : List GelvanhEvent) (e : GelvanhEvent) → 0 < length events → e ∷ [] ≡ take 1 (slice_set events 0 e)
 first_set [] e some = absurd (omega (arith, some))
 first_set (x ∷ events) e some = refl
-
--- a key more
-pub one_letter : (old mid new : List GelvanhEvent) (m k n : ℕ) (e : GelvanhEvent) (key : KeyEvent) (letters : List ℕ) (i : ℕ) → i < length letters
-    → Filled old m (map typed (take i letters)) mid k → k < length mid → n ≡ k + 1 → length new ≡ length mid → take n new ≡ take k mid ++ e ∷ []
-    → ((kept : List ℕ) → event_at kept e ≡ seen.Key key) → meaning.Key key ≡ typed (get_or letters i 0) → Filled old m (map typed (take (i + 1) letters)) new n
-one_letter old mid new m k n e key letters i l filled room on size more is means =
-    let b = get_or letters i 0 in
-    let one : Filled mid k (typed b ∷ []) new n = record {
-      room = size;
-      within = λ _. omega (arith, room, on, size);
-      events = λ kept. ap (λ (es : List GelvanhEvent). map (event_at kept) es) more ∙ map-append (event_at kept) (take k mid) (e ∷ [])
-          ∙ ap (λ (x : Seen). map (event_at kept) (take k mid) ++ x ∷ []) (is kept ∙ ap (λ (x : Meaning). seen_meaning x) means);
-    } in
-    subst (λ (ms : List Meaning). Filled old m ms new n) (sym (ap (λ (bs : List ℕ). map typed bs) (take_more letters i 0 l) ∙ map-append typed (take i letters) (b ∷ [])))
-    (filled_on old mid new m k n (map typed (take i letters)) (typed b ∷ []) filled one)
 
 pub some_events : (events : List GelvanhEvent) → length events == 0 ≡ false → 0 < length events
 some_events events h = grind (arith, nat_tests)

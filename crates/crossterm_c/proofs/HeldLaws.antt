@@ -1,8 +1,8 @@
 -- The held events of a table, as calls leave them.
-use Rattle.std.proofs.Common.{◌≡◌, ℕ, suc, zero, ◌+◌, ◌<◌, ◌≤◌, Bool, true, false, cond, nat_lt, List, [], ◌∷◌, ◌++◌, length, map, take, drop, Some, None, get_or, set, length-append, length-take, append_assoc, add-one, ◌-◌, refl, ap, sym, ◌∙◌, arith}
+use Rattle.std.proofs.Common.{◌≡◌, ℕ, suc, zero, ◌+◌, ◌<◌, ◌≤◌, Bool, true, false, cond, nat_lt, List, [], ◌∷◌, ◌++◌, length, map, take, drop, Some, None, get_or, set, length-append, length-take, append_assoc, add-one, ◌-◌, refl, ap, sym, ◌∙◌, subst, arith}
 use Rattle.std.proofs.lemmas.Bool.{lt-ltb, le-ltb}
 use Rattle.std.proofs.lemmas.List.Sums.{position_or_len_is}
-use Rattle.std.proofs.lemmas.List.{get_or_append_left, drop-drop, drop-set-add, drop-take, length-drop, take_more_set}
+use Rattle.std.proofs.lemmas.List.{get_or_append_left, drop-append-le, drop-drop, drop-set-add, drop-set-lt, drop-take, drop_more, get_or-drop, get_or-take, get_or_default, set-get_or, length-drop, map-append, take_more_set}
 use Rattle.std.proofs.lemmas.List.Edits.{remove-append_left}
 use Rattle.std.proofs.lemmas.List.Quantifiers.{position-Some}
 use Rattle.std.proofs.lemmas.Slice.{between-put_mid}
@@ -12,7 +12,7 @@ use Rattle.crossterm_types.specs.Admitting.{is_of}
 use Rattle.crossterm_types.specs.Seen.{Seen}
 use Rattle.crossterm_read.specs.Answers.{Gave, SourceAnswer}
 use Rattle.crossterm_c.specs.Event.{event_at}
-use Rattle.crossterm_c.specs.Held.{admits, classes_at, held_in, kept_at, store_at}
+use Rattle.crossterm_c.specs.Held.{TakesAsHeld, TakesEach, admits, answers_at, classes_at, held_in, kept_at, number_after, numbered, store_at}
 use Rattle.crossterm_read.specs.Store.{Arrives, EventStore, arrived, next_number, numbered_after}
 use Rattle.crossterm_read.specs.Steps.{TakeReplies, first_admitted}
 use Rattle.crossterm_c.specs.declared.event.GelvanhEvent.{GelvanhEvent}
@@ -67,6 +67,12 @@ module _ {X : Type 0} where
   put_at xs a n x l =
       let left = length-drop a xs in
       ap (take (n + 1)) (drop-set-add a xs n x) ∙ take_more_set (drop a xs) n x (omega (arith, left))
+
+  -- what is behind a place, where more stands behind a front that has it
+  pub behind_part : (xs ys zs : List X) (a n e : ℕ) → a + n ≤ length xs → e ≡ a + n + length zs → take e ys ≡ take (a + n) xs ++ zs → take (e - a) (drop a ys) ≡ take n (drop a xs) ++ zs
+  behind_part xs ys zs a n e l is more =
+      ap (λ (m : ℕ). take m (drop a ys)) (omega (arith, is)) ∙ sym (drop-take a (n + length zs) ys) ∙ ap (λ (m : ℕ). drop a (take m ys)) (omega (arith, is)) ∙ ap (drop a) more
+      ∙ drop-append-le a (take (a + n) xs) zs (omega (arith, l, length-take (a + n) xs)) ∙ ap (λ (front : List X). front ++ zs) (drop-take a n xs)
 
   -- a part by its place and its length
   pub part_is : (xs : List X) (a n : ℕ) → take (a + n - a) (drop a xs) ≡ take n (drop a xs)
@@ -126,3 +132,74 @@ takes_before f zs s t m k x (i, first, this, left) held kept =
 pub all_gave : (f : Seen → Bool) (P : SourceAnswer → Type 0) → ((e : Seen) → f e ≡ false → P (Gave e)) → (events : List Seen) → AllByRecursion (λ e. f e ≡ false) events → AllByRecursion P (map Gave events)
 all_gave f P each [] all = tt
 all_gave f P each (e ∷ events) all = (each e all.0, all_gave f P each events all.1)
+
+-- one more is taken
+pub takes_more : (bits : ℕ) (held : List GelvanhHeld) (taken : List GelvanhHeld) (mid left : List GelvanhHeld) (h : GelvanhHeld) → TakesEach bits held taken mid → TakesAsHeld bits mid h left
+    → TakesEach bits held (taken ++ h ∷ []) left
+takes_more bits held [] mid left h same one = (left, subst (λ (m : List GelvanhHeld). TakesAsHeld bits m h left) same one, refl)
+takes_more bits held (x ∷ taken) mid left h (next, first, more) one = (next, first, takes_more bits next taken mid left h more one)
+
+-- the first one is taken
+pub takes_first : (bits : ℕ) (held : List GelvanhHeld) (h : GelvanhHeld) (left : List GelvanhHeld) → held ≡ h ∷ left → admits bits h ≡ true → TakesAsHeld bits held h left
+takes_first bits held h left is admitted = (
+  zero,
+  ap (position (admits bits)) is ∙ found (admits bits) (h ∷ left) zero h (omega arith) (λ k l. absurd (omega (arith, l))) admitted,
+  ap (λ (hs : List GelvanhHeld). get_or hs zero h) is,
+  sym (ap (λ (hs : List GelvanhHeld). remove hs zero) is),
+)
+
+-- one more of the front is taken
+pub front_taken : (bits : ℕ) (held taken : List GelvanhHeld) (n : ℕ) (x : GelvanhHeld) → n < length held → n < length taken → get_or held n x ≡ x → admits bits x ≡ true
+    → TakesEach bits held (take n taken) (drop n held) → TakesEach bits held (take (n + 1) (set taken n x)) (drop (n + 1) held)
+front_taken bits held taken n x l room is admitted before =
+    subst (λ (ts : List GelvanhHeld). TakesEach bits held ts (drop (n + 1) held)) (sym (take_more_set taken n x room))
+    (takes_more bits held (take n taken) (drop n held) (drop (n + 1) held) x before
+    (takes_first bits (drop n held) x (drop (n + 1) held) (drop_more held n x l ∙ ap (λ (y : GelvanhHeld). y ∷ drop (n + 1) held) is) admitted))
+
+-- what is at a place of a part
+pub member_of : (table : List GelvanhHeld) (first held n : ℕ) → n < held → first + n < length table → get_or (take held (drop first table)) n (get_or table (first + n) no_member) ≡ get_or table (first + n) no_member
+member_of table first held n l within =
+    let x = get_or table (first + n) no_member in
+    get_or-take held (drop first table) n x l ∙ get_or-drop first table n x ∙ get_or_default table (first + n) x no_member within
+
+-- what is put in its own place
+pub put_back : (table : List GelvanhHeld) (n : ℕ) (x : GelvanhHeld) → x ≡ get_or table n no_member → set table n x ≡ table
+put_back table n x same = ap (set table n) same ∙ set-get_or table n no_member
+
+-- what is left of a part behind some of its front
+pub part_left : (table : List GelvanhHeld) (first held n : ℕ) → n ≤ held → drop n (take held (drop first table)) ≡ take (held - n) (drop (first + n) table)
+part_left table first held n l =
+    ap (λ (m : ℕ). drop n (take m (drop first table))) (omega (arith, l)) ∙ drop-take n (held - n) (drop first table) ∙ ap (take (held - n)) (drop-drop n first table)
+
+-- what is behind one more
+pub behind_one : (xs ys : List GelvanhHeld) (n : ℕ) (x : GelvanhHeld) → drop n xs ≡ drop n ys → drop (n + 1) (set xs n x) ≡ drop (n + 1) ys
+behind_one xs ys n x same =
+    drop-set-lt (n + 1) xs n x (omega arith) ∙ ap (λ (m : ℕ). drop m xs) (omega arith) ∙ sym (drop-drop 1 n xs) ∙ ap (drop 1) same ∙ drop-drop 1 n ys
+
+-- how many they are
+pub length_numbered : (n : ℕ) (events : List GelvanhEvent) → length (numbered n events) ≡ length events
+length_numbered n [] = refl
+length_numbered n (e ∷ events) = ap suc (length_numbered (next_number n) events)
+
+module _ (texts : ℕ → List ℕ) where
+  numbered_arrive : (n : ℕ) (events : List GelvanhEvent) → map (kept_at texts) (numbered n events) ≡ arrived n (answers_at texts n events)
+  numbered_arrive n [] = refl
+  numbered_arrive n (e ∷ events) = ap (λ (xs : List (Seen × ℕ)). (event_at (texts n) e, n) ∷ xs) (numbered_arrive (next_number n) events)
+
+  number_is : (n : ℕ) (events : List GelvanhEvent) → number_after n events ≡ numbered_after n (answers_at texts n events)
+  number_is n [] = refl
+  number_is n (e ∷ events) = number_is (next_number n) events
+
+  -- what is fed arrives
+  pub fed_arrive : (before after : GelvanhReader) (table left : List GelvanhHeld) (given : List GelvanhEvent) → held_in after left ≡ held_in before table ++ numbered before.arrivals given
+      → after.arrivals ≡ number_after before.arrivals given → Arrives (store_at texts before table) (answers_at texts before.arrivals given) (store_at texts after left)
+  fed_arrive before after table left given held number = record {
+    held = ap (map (kept_at texts)) held ∙ map-append (kept_at texts) (held_in before table) (numbered before.arrivals given)
+        ∙ ap (λ (xs : List (Seen × ℕ)). map (kept_at texts) (held_in before table) ++ xs) (numbered_arrive before.arrivals given);
+    arrivals = number ∙ number_is before.arrivals given;
+  }
+
+  -- and what is taken as it is held is what a reader takes
+  pub taken_is : (bits : ℕ) (before after : GelvanhReader) (table left : List GelvanhHeld) (h : GelvanhHeld) → TakesAsHeld bits (held_in before table) h (held_in after left)
+      → after.arrivals ≡ before.arrivals → TakeReplies (is_of (classes_at bits)) (store_at texts before table) (store_at texts after left) (Some (kept_at texts h))
+  taken_is bits before after table left h (i, first, this, others) number = takes bits texts before after table left i h first this others number

@@ -1,13 +1,18 @@
 -- Events that a caller's table holds for a reader, and which of them a call asks for.
-use Rattle.std.specs.Prelude.{◌≡◌, ℕ, Bool, not, ◌==◌, if◌then◌else◌, List, [], take, drop, map, Option, Some, None, position, remove, slice_index_or}
+use Rattle.std.specs.Prelude.{◌≡◌, ℕ, Bool, not, ◌==◌, if◌then◌else◌, List, [], ◌∷◌, ◌++◌, length, take, drop, map, Option, Some, None, position, remove, slice_index_or}
 use Rattle.std.specs.Int.RustNames.{bit_and}
 use Rattle.crossterm_types.specs.Admitting.{is_of}
 use Rattle.crossterm_types.specs.Seen.{Seen}
 use Rattle.crossterm_types.specs.declared.event.filter.AnyFilter.{AnyFilter}
 use Rattle.crossterm_types.specs.declared.event.filter.AnyFilter.TheVariants.{Event, Cursor, Flags, Attributes}
 use Rattle.crossterm_types.specs.declared.event.filter.Classes.{Classes}
-use Rattle.crossterm_read.specs.Store.{EventStore}
+use Rattle.crossterm_parse.specs.declared.marked.Marked.{Marked}
+use Rattle.crossterm_parse.specs.declared.state.State.{State}
+use Rattle.crossterm_read.specs.Answers.{Gave, SourceAnswer}
+use Rattle.crossterm_read.specs.Store.{EventStore, next_number}
 use Rattle.crossterm_c.specs.Event.{event_at}
+use Rattle.crossterm_c.specs.Feeding.{Feeds}
+use Rattle.crossterm_c.specs.declared.event.GelvanhEvent.{GelvanhEvent}
 use Rattle.crossterm_c.specs.declared.held.GelvanhHeld.{GelvanhHeld}
 use Rattle.crossterm_c.specs.declared.held.GelvanhReader.{GelvanhReader}
 
@@ -49,3 +54,31 @@ admits bits h = is_of (classes_at bits) (event_at [] h.event)
 abbrev pub TakesAsHeld : ℕ → List GelvanhHeld → GelvanhHeld → List GelvanhHeld → Type 0
 TakesAsHeld bits held taken left =
     (i : ℕ) × (position (admits bits) held ≡ Some i) × (slice_index_or held i taken ≡ taken) × (left ≡ remove held i)
+
+-- Of these held events the first ones of some classes were taken, one after another, as they are, and the others are left.
+abbrev pub TakesEach : ℕ → List GelvanhHeld → List GelvanhHeld → List GelvanhHeld → Type 0
+TakesEach bits held [] left = left ≡ held
+TakesEach bits held (h ∷ taken) left = (mid : List GelvanhHeld) × TakesAsHeld bits held h mid × TakesEach bits mid taken left
+
+-- Events as they are held, with their numbers, from one on.
+abbrev pub numbered : ℕ → List GelvanhEvent → List GelvanhHeld
+numbered n [] = []
+numbered n (e ∷ events) = record { event = e; arrival = n } ∷ numbered (next_number n) events
+
+-- The number of the next event after some more.
+abbrev pub number_after : ℕ → List GelvanhEvent → ℕ
+number_after n [] = n
+number_after n (e ∷ events) = number_after (next_number n) events
+
+-- Bytes were taken, and their events joined the held ones at their end, in order, each with its number. So many they were.
+pub record FeedsHeld (old new : State) (before : GelvanhReader) (table : List GelvanhHeld) (after : GelvanhReader) (left : List GelvanhHeld) (count : ℕ) (bytes : List ℕ) (taken : List Marked) : Type 0 where
+  pub given : List GelvanhEvent
+  pub feeds : Feeds old new given bytes taken
+  pub held : held_in after left ≡ held_in before table ++ numbered before.arrivals given
+  pub arrivals : after.arrivals ≡ number_after before.arrivals given
+  pub size : count ≡ length given
+
+-- The answers of a source that gives these events, from this number on: the bytes of a paste are kept under its number.
+abbrev pub answers_at : (ℕ → List ℕ) → ℕ → List GelvanhEvent → List SourceAnswer
+answers_at texts n [] = []
+answers_at texts n (e ∷ events) = Gave (event_at (texts n) e) ∷ answers_at texts (next_number n) events

@@ -1,5 +1,5 @@
 //! Held events as numbers, in the caller's table.
-ghost use Rattle.std.specs.Prelude.{◌≡◌, ◌==◌, ◌&&◌, ◌+◌, ◌-◌, ◌<◌, ◌≤◌, ℕ, [], ◌∷◌, ◌++◌, length, take, drop, position, remove, slice_index_or};
+ghost use Rattle.std.specs.Prelude.{◌≡◌, ◌⊎◌, ◌==◌, ◌&&◌, ◌+◌, ◌-◌, ◌<◌, ◌≤◌, ℕ, [], ◌∷◌, ◌++◌, length, take, drop, position, remove, slice_index_or};
 ghost use Rattle.crossterm_types.specs.Admitting.{is_of};
 ghost use Rattle.crossterm_c.specs.Event.{event_at, is_bare, no_code, no_flags, no_place, no_press};
 ghost use Rattle.crossterm_c.specs.Held.{admits, classes_at, has_bit, held_in};
@@ -98,7 +98,7 @@ fn class_of(event: &GelvanhEvent) -> u32
 }
 
 /// Whether a held event is of one of some classes.
-fn is_admitted(member: &GelvanhHeld, classes: u32) -> bool
+pub(crate) fn is_admitted(member: &GelvanhHeld, classes: u32) -> bool
     ensures { result ≡ admits classes member.now }
 {
     classes & class_of(&member.event) != 0
@@ -116,15 +116,18 @@ pub(crate) fn first_of(held: &[GelvanhHeld], classes: u32) -> Option<usize>
     None
 }
 
-/// Moves held events to a place with room for one more behind them, and returns the place of the first.
-pub(crate) fn make_room(table: &mut [GelvanhHeld], first: usize, held: usize) -> usize
-    requires within { first + held ≤ length table.old }
-    requires less { held < length table.old }
-    ensures fits { result + held < length table.new }
+/// Moves held events to the front if there isn't room for so many more behind them, and returns the place of the first.
+pub(crate) fn make_room(table: &mut [GelvanhHeld], first: usize, held: usize, more: usize) -> usize
+    requires { first + held ≤ length table.old }
+    ensures within { result + held ≤ length table.new }
+    ensures enough { (result ≡ 0) ⊎ (result + held + more ≤ length table.new) }
     ensures held { take held (drop result table.new) ≡ take held (drop first table.old) }
     ensures room { length table.new ≡ length table.old }
 {
-    if first + held < table.len() {
+    if held == 0 {
+        return 0;
+    }
+    if table.len() - (first + held) >= more {
         return first;
     }
     table.rotate_left(first);

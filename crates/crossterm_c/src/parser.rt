@@ -7,10 +7,12 @@ ghost use Rattle.crossterm_c.specs.Feeding.{Feeds};
 ghost use Rattle.crossterm_c.specs.State.{state_at};
 ghost use Rattle.crossterm_c.specs.Text.{Writes};
 
-use crate::event::GelvanhEvent;
-use crate::feed::feed;
+use crate::event::{GelvanhEvent, of_key};
+use crate::feed::{feed, is_lone_letter};
 use crate::state::{GelvanhState, flatten, state_of};
+use crate::table::Table;
 use crate::text::write_text;
+use crossterm_parse::meaning::ascii_key;
 use crossterm_parse::state::State;
 use std::marker::Brand;
 use std::sync::ledger::Blank;
@@ -42,10 +44,30 @@ pub extern "C" fn gelvanh_feed(
     // With room for an event, some of the bytes are taken.
     ensures some { 0 < length events.old → 0 < length piece.now → 0 < result }
 {
+    if !events.is_empty() && is_lone_letter(state, piece) {
+        events[0] = of_key(ascii_key(piece[0]));
+        *count = 1;
+        return 1;
+    }
     let mut open = state_of(state);
-    let (taken, given) = feed::<Brand>(&mut open, piece, more, raw, events, Blank::new(1));
+    let mut table = Table {
+        is_held: false,
+        events,
+        held: &mut [],
+        end: 0,
+        number: 0,
+    };
+    let taken = feed::<Brand>(&mut open, piece, more, raw, &mut table, Blank::new(1));
+    let Table {
+        is_held: _,
+        events,
+        held: _,
+        end,
+        number: _,
+    } = table;
+    let _ = &*events;
     *state = flatten(&open);
-    *count = given;
+    *count = end;
     taken
 }
 
@@ -62,7 +84,7 @@ pub extern "C" fn gelvanh_is_undecided(state: &GelvanhState) -> bool
 pub extern "C" fn gelvanh_is_pasting(state: &GelvanhState) -> bool
     ensures { result ≡ is_paste (state_at state.now) }
 {
-    state_of(state).is_paste()
+    state.kind == 10
 }
 
 /// Writes the text of a paste's bytes, with U+FFFD for each maximal part that isn't UTF-8, as far as the next character has room.

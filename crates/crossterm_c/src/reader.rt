@@ -33,7 +33,7 @@ pub extern "C" fn gelvanh_hold(
         event: *event,
         arrival: reader.arrivals,
     };
-    let first = make_room(table, first, held);
+    let first = make_room(table, first, held, 1);
     put_behind(table, first, held, member);
     *reader = GelvanhReader {
         first,
@@ -67,6 +67,7 @@ pub extern "C" fn gelvanh_take(
     ensures step { (texts : ℕ → List ℕ) → TakeReplies (is_of (classes_at classes)) (store_at texts reader.old table.old) (store_at texts reader.new table.new) (taken_at texts result taken.new) }
     // It is taken as it was held, whatever its numbers are, and the others stay as they were.
     ensures kept { IsTrue result → TakesAsHeld classes (held_in reader.old table.old) taken.new (held_in reader.new table.new) }
+    ensures arrivals { reader.new.arrivals ≡ reader.old.arrivals }
     ensures none { result ≡ false → (reader.new ≡ reader.old) × (table.new ≡ table.old) × (taken.new ≡ taken.old) }
 {
     let (first, held) = span(reader, table);

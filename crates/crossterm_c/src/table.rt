@@ -1,51 +1,85 @@
-//! The caller's table, which takes the events of sequences.
-ghost use Rattle.std.specs.Prelude.{◌≡◌, ◌+◌, ◌-◌, ◌<◌, ◌++◌, ◌∷◌, [], length, take};
-ghost use Rattle.std.proofs.Common.{refl, ◌∙◌};
-ghost use Rattle.crossterm_c.specs.inside.Table.{Filled, filled_none, filled_on};
+//! A caller's table, which takes the events of sequences: events alone, or held ones with their numbers.
+//!
+//! Both are one type, so that what reads the sequences is compiled once, with all of it in one function.
+ghost use Rattle.std.specs.Prelude.{◌≡◌, ◌-◌, ◌<◌, ◌≤◌, ◌∷◌, [], IsTrue, IsFalse};
+ghost use Rattle.crossterm_c.specs.inside.Table.{Filled, PutsEvents, capacity, filled_none, filled_on};
 
 use crate::event::{GelvanhEvent, of_key, of_meaning};
+use crate::held::GelvanhHeld;
 use crossterm_parse::meaning::{Meaning, ascii_key};
 use crossterm_parse::outlet::Outlet;
 
-/// The table, and how many events of it were given.
+/// A table of events, or of held events; the other slice isn't used.
 #[derive(Drop)]
 pub(crate) struct Table<'a> {
+    /// Whether it is of held events.
+    pub(crate) is_held: bool,
     pub(crate) events: &'a mut [GelvanhEvent],
-    pub(crate) given: usize,
+    pub(crate) held: &'a mut [GelvanhHeld],
+    /// How many of its places are filled.
+    pub(crate) end: usize,
+    /// The number of the next event that is held.
+    pub(crate) number: u64,
 }
 
 impl Table<'_> {
-    /// Puts an event after those that were given.
+    /// How many places it has.
     #[inline(always)]
-    fn push(&mut self, event: GelvanhEvent)
-        requires { self.old.given < length self.old.events.now }
-        ensures same { self.new.events.ghost_name ≡ self.old.events.ghost_name }
-        ensures given { self.new.given ≡ self.old.given + 1 }
-        ensures events { take self.new.given self.new.events.now ≡ take self.old.given self.old.events.now ++ event ∷ [] }
-        ensures room { length self.new.events.now ≡ length self.old.events.now }
+    fn capacity(&self) -> usize
+        ensures { result ≡ capacity self.now }
     {
-        self.events[self.given] = event;
-        self.given += 1;
+        if self.is_held {
+            self.held.len()
+        } else {
+            self.events.len()
+        }
+    }
+
+    /// Whether all its places are filled.
+    #[inline(always)]
+    pub(crate) fn is_full(&self) -> bool
+        ensures yes { IsTrue result → capacity self.now ≤ self.now.end }
+        ensures no { IsFalse result → self.now.end < capacity self.now }
+    {
+        self.end >= self.capacity()
+    }
+
+    /// Puts an event behind the places that are filled.
+    #[inline(always)]
+    pub(crate) fn push(&mut self, event: GelvanhEvent)
+        requires { self.old.end < capacity self.old }
+        ensures { PutsEvents self.old (event ∷ []) self.new }
+    {
+        if self.is_held {
+            self.held[self.end] = GelvanhHeld {
+                event,
+                arrival: self.number,
+            };
+            self.number = self.number.saturating_add(1);
+        } else {
+            self.events[self.end] = event;
+        }
+        self.end += 1;
     }
 }
 
 impl Outlet for Table<'_> {
-    ghost given = { λ s meanings t. (t.events.ghost_name ≡ s.events.ghost_name) × Filled s.events.now s.given meanings t.events.now t.given };
+    ghost given = { Filled };
 
-    ghost room = { λ t. length t.events.now - t.given };
+    ghost room = { λ t. capacity t - t.end };
 
-    ghost given_none = { λ t. (refl, filled_none t.events.now t.given) };
+    ghost given_none = { filled_none };
 
-    ghost given_on = { λ s t u xs ys first more. (more.0 ∙ first.0, filled_on s.events.now t.events.now u.events.now s.given t.given u.given xs ys first.1 more.1) };
+    ghost given_on = { filled_on };
 
     #[inline(always)]
     fn has_room(&mut self) -> bool {
-        self.given < self.events.len()
+        self.end < self.capacity()
     }
 
     #[inline(always)]
     fn room_now(&self) -> usize {
-        self.events.len().saturating_sub(self.given)
+        self.capacity().saturating_sub(self.end)
     }
 
     #[inline(always)]

@@ -4,16 +4,16 @@ ghost use Rattle.std.specs.Prelude.{◌≡◌, ◌+◌, ◌*◌};
 // The numbers of `GELVANH_VERSION` in the header.
 const MAJOR: u32 = 0;
 
-const MINOR: u32 = 3;
+const MINOR: u32 = 4;
 
-const PATCH: u32 = 1;
+const PATCH: u32 = 0;
 
-/// The version of the archive: the three numbers of `GELVANH_VERSION`, in a byte each, the last one lowest. 0.3.1 is 0x000301.
+/// The version of the archive: the three numbers of `GELVANH_VERSION`, in a byte each, the last one lowest. 0.4.0 is 0x000400.
 ///
 /// A program that finds the archive's functions by name compares it with its header's `GELVANH_VERSION_NUMBER`.
 #[unsafe(no_mangle)]
 pub extern "C" fn gelvanh_version() -> u32
-    ensures { result ≡ (0 * 256 + 3) * 256 + 1 }
+    ensures { result ≡ (0 * 256 + 4) * 256 + 0 }
 {
     (MAJOR * 256 + MINOR) * 256 + PATCH
 }

@@ -35,6 +35,7 @@ mod attributes;
 mod commands;
 mod content_style;
 mod count;
+pub mod digits;
 mod fields;
 pub mod laws;
 mod print;

@@ -4,6 +4,7 @@
 //! limit. A thread that came back, with events or without, wakes all others, and one of these takes the source then.
 
 use crate::event::source::{Sink, Source};
+use gelvanh::flat::Held;
 use gelvanh::{Classes, HeldEvents, Taken};
 use std::io;
 use std::mem;
@@ -25,10 +26,18 @@ fn replies() -> Classes {
     Classes::CURSOR | Classes::FLAGS | Classes::ATTRIBUTES
 }
 
+/// So many events are taken at once.
+const MOST: usize = 32;
+
 /// What was read and is still to be given.
 pub struct State {
     /// Events, and while somebody asks replies of the terminal too.
     held: HeldEvents,
+    /// The events that were taken last, which are given before the held ones.
+    front: [Held; MOST],
+    /// Which of these is the next, and how many they are.
+    next: usize,
+    count: usize,
     /// How many calls wait for a reply.
     asking: usize,
     /// How many threads wait to be told of a change.
@@ -36,7 +45,15 @@ pub struct State {
     seat: Seat,
 }
 
-static STATE: Mutex<State> = Mutex::new(State { held: HeldEvents::new(), asking: 0, waiting: 0, seat: Seat::Unopened });
+static STATE: Mutex<State> = Mutex::new(State {
+    held: HeldEvents::new(),
+    front: [Held::NONE; MOST],
+    next: 0,
+    count: 0,
+    asking: 0,
+    waiting: 0,
+    seat: Seat::Unopened,
+});
 static CHANGED: Condvar = Condvar::new();
 
 fn lock() -> MutexGuard<'static, State> {
@@ -44,12 +61,20 @@ fn lock() -> MutexGuard<'static, State> {
 }
 
 impl State {
+    #[inline]
     pub fn has_event(&self) -> bool {
-        self.held.holds(Classes::EVENTS)
+        self.next < self.count || self.held.holds(Classes::EVENTS)
     }
 
+    #[inline]
     pub fn take_event(&mut self) -> Option<Taken> {
-        self.held.take_flat(Classes::EVENTS)
+        if self.next >= self.count {
+            self.next = 0;
+            self.count = self.held.take_some(Classes::EVENTS, &mut self.front);
+        }
+        let event = *self.front[..self.count].get(self.next)?;
+        self.next += 1;
+        Some(self.held.with_text(event))
     }
 
     /// The first reply of some classes.

@@ -99,6 +99,7 @@ impl Colored {
     }
 
     /// Pushes its SGR parameters, or nothing if colours are not written.
+    #[inline(always)]
     pub(crate) fn push_to<const N: usize>(self, text: &mut ArrayString<N>, colors: ColorOutput)
         requires { array_string_len text.old + 16 ≤ N }
         ensures pushed { text.new.bytes ≡ text.old.bytes ++ colored_text colors self }

@@ -4,8 +4,8 @@ ghost use Rattle.arrayvec.specs.ArrayString.{array_string_len};
 ghost use Rattle.crossterm_style.specs.Colors.{color_of, sgr_of, sgr_text};
 
 use crate::Color;
+use crate::digits::push_digits;
 use arrayvec::ArrayString;
-use itoa::Buffer;
 
 /// A colour as SGR has it: the terminal's own, an indexed one, or one by its parts.
 #[derive(Clone, Copy)]
@@ -71,6 +71,7 @@ impl SgrColor {
     }
 
     /// Pushes its SGR parameters, after the number that sets the place it is for; the terminal's own has a number by itself.
+    #[inline(always)]
     pub(crate) fn push_to<const N: usize>(self, text: &mut ArrayString<N>, set: &str, reset: &str)
         requires room { array_string_len text.old + 16 ≤ N }
         requires set { length set.now ≤ 2 }
@@ -78,22 +79,21 @@ impl SgrColor {
         ensures pushed { text.new.bytes ≡ text.old.bytes ++ sgr_text set.now reset.now self }
         ensures short { length (sgr_text set.now reset.now self) ≤ 16 }
     {
-        let mut number = Buffer::new();
         match self {
             SgrColor::Own => text.push_str(reset),
             SgrColor::Indexed(n) => {
                 text.push_str(set);
                 text.push_str(";5;");
-                text.push_str(number.format(n));
+                push_digits(text, n);
             }
             SgrColor::Rgb(r, g, b) => {
                 text.push_str(set);
                 text.push_str(";2;");
-                text.push_str(number.format(r));
+                push_digits(text, r);
                 text.push_str(";");
-                text.push_str(number.format(g));
+                push_digits(text, g);
                 text.push_str(";");
-                text.push_str(number.format(b));
+                push_digits(text, b);
             }
         }
     }

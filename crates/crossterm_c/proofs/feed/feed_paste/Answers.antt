@@ -34,6 +34,7 @@ returns-then-not-put_in_paste g c = record {
       (take (c.loop-place.place + c.skip_text-place.result + 1) (marked c.args.piece.now more raw))) (sym c.end.ensures) over;
   all = inr refl;
   some = λ _. omega arith;
+  ends = λ _. omega arith;
   pasting = ap (λ (s : State). is_paste s) c.end.ensures;
 }
 
