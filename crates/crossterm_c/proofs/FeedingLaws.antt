@@ -16,8 +16,7 @@ use Rattle.crossterm_parse.specs.declared.meaning.Meaning.TheVariants as meaning
 use Rattle.crossterm_parse.specs.View.{AdvancesOver}
 use Rattle.crossterm_parse.specs.declared.state.State.{State}
 use Rattle.crossterm_parse.specs.declared.state.State.TheVariants.{Ground}
-use Rattle.crossterm_parse.proofs.RunLaws.{advance_still}
-use Rattle.crossterm_parse.proofs.TakingLaws.{all_letters}
+use Rattle.crossterm_parse.proofs.RunLaws.{letter_puts}
 use Rattle.crossterm_parse.proofs.ViewLaws.{advance_byte}
 use Rattle.crossterm_c.specs.Event.{event_at}
 use Rattle.crossterm_c.specs.Feeding.{Feeds, Pastes, kept_after, kept_with, view_of}
@@ -114,9 +113,9 @@ feeds_letter s (b ∷ []) more raw e key ground one letter is means =
     let m : Marked = record { byte = b; raw = raw; pause = not more } in
     feeds_given s s (e ∷ []) (b ∷ []) (m ∷ []) (typed b ∷ []) (ap (λ (t : State). is_paste t) ground) (λ kept. ap (λ (x : Seen). x ∷ []) (is kept ∙ ap (λ (x : Meaning). seen_meaning x) means))
     (λ waiting.
-    let puts = all_letters s (b ∷ []) waiting ground (letter, tt) in
-    let put = puts.1 raw (not more) in
-    advance_still (bare s waiting) puts.0 (bare s (waiting ++ map seen_meaning (typed b ∷ []))) (m ∷ []) puts.2 (advance_byte (bare s waiting) puts.0 m put.0 put.1 put.2))
+    let new = bare s (waiting ++ seen_meaning (typed b) ∷ []) in
+    let put = letter_puts (bare s waiting) new b letter ground (ground, refl, refl) raw (not more) in
+    advance_byte (bare s waiting) new m put.0 put.1 put.2)
 
 -- the first event of a table
 pub first_set : (events : List GelvanhEvent) (e : GelvanhEvent) → 0 < length events → e ∷ [] ≡ take 1 (slice_set events 0 e)

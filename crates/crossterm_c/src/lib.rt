@@ -23,7 +23,7 @@
 //! | `State` | 88 | the state of an open sequence as numbers | `gelvanh_is_undecided`, `gelvanh_is_pasting` |
 //! | `Event` | 120 | events as numbers | `gelvanh_feed` |
 //! | `Feeding` | 37 | what a call does that takes bytes | `gelvanh_feed` |
-//! | `Held` | 88 | events that are held, and their classes | `gelvanh_hold`, `gelvanh_holds`, `gelvanh_take`, `gelvanh_feed_held`, `gelvanh_take_some` |
+//! | `Held` | 84 | events that are held, and their classes | `gelvanh_hold`, `gelvanh_holds`, `gelvanh_take`, `gelvanh_feed_held`, `gelvanh_take_some` |
 //! | `Text` | 23 | the text of a paste, piece by piece | `gelvanh_paste_text` |
 //! | `Command` | 213 | commands as numbers, and their texts | `gelvanh_command`, `gelvanh_print` and the like |
 //! | `Outlet` | 9 | a slice that takes what fits | the same |
