@@ -70,7 +70,7 @@ impl<A: Allocator> Model for Editor<A> {
     ghost invariant = { λ e. AreShown (chars (string_bytes e.killed)) };
 }
 
-// An editor with nothing written.
+/// An editor with nothing written.
 fn started<A: Allocator + Clone>(alloc: A, limits: Limits) -> Result<Editor<A>, AllocError>
     ensures { IfOk result (λ editor. editor ≡ fresh limits) }
 {
@@ -111,14 +111,14 @@ impl<A: Allocator> Editor<A> {
         self.limits
     }
 
-    // The bytes that have room in the line.
+    /// The bytes that have room in the line.
     fn room(&self) -> usize
         ensures { result ≡ room_of self.now }
     {
         self.limits.bytes.saturating_sub(self.line.text().len())
     }
 
-    // Whether what an action writes has no room.
+    /// Whether what an action writes has no room.
     fn is_too_long(&self, action: Action) -> bool
         ensures { result ≡ is_too_long (written action self.now) self.now }
     {
@@ -175,7 +175,7 @@ impl<A: Allocator + Clone> Editor<A> {
         }
     }
 
-    // Another line takes the line's place, and the one before can be undone.
+    /// Another line takes the line's place, and the one before can be undone.
     fn change(&mut self, line: Line<A>) -> Result<(), AllocError>
         ensures ok { OnOk result (self.new ≡ changed line self.old) }
         ensures err { OnErr result (self.new ≡ self.old) }
@@ -186,7 +186,7 @@ impl<A: Allocator + Clone> Editor<A> {
         Ok(())
     }
 
-    // The same for a line with a character more, which is undone with those typed just before.
+    /// The same for a line with a character more, which is undone with those typed just before.
     fn change_on(&mut self, line: Line<A>) -> Result<(), AllocError>
         ensures ok { OnOk result (self.new ≡ typed line self.old) }
         ensures err { OnErr result (self.new ≡ self.old) }
@@ -201,7 +201,7 @@ impl<A: Allocator + Clone> Editor<A> {
         Ok(())
     }
 
-    // Types a character.
+    /// Types a character.
     fn type_char(&mut self, c: char) -> Result<(), AllocError>
         ensures ok { OnOk result (self.new ≡ type_char c self.old) }
         ensures err { OnErr result (self.new ≡ self.old) }
@@ -214,7 +214,7 @@ impl<A: Allocator + Clone> Editor<A> {
         self.change_on(line)
     }
 
-    // Brings the cursor to a target.
+    /// Brings the cursor to a target.
     fn go(&mut self, target: Target)
         ensures { self.new ≡ moved (place target self.old.line) self.old }
     {
@@ -222,7 +222,7 @@ impl<A: Allocator + Clone> Editor<A> {
         self.typing = false;
     }
 
-    // Erases what a target reaches.
+    /// Erases what a target reaches.
     fn erase(&mut self, target: Target) -> Result<(), AllocError>
         ensures ok { OnOk result (self.new ≡ erase_cut (cut target self.old.line) target self.old) }
         ensures err { OnErr result (self.new ≡ self.old) }
@@ -234,7 +234,7 @@ impl<A: Allocator + Clone> Editor<A> {
         self.change(line)
     }
 
-    // Erases what a target reaches, and keeps it.
+    /// Erases what a target reaches, and keeps it.
     fn kill(&mut self, target: Target) -> Result<(), AllocError>
         ensures ok { OnOk result (self.new ≡ kill_cut (cut target self.old.line) target self.old) }
         ensures err { OnErr result (self.new ≡ self.old) }
@@ -250,7 +250,7 @@ impl<A: Allocator + Clone> Editor<A> {
         Ok(())
     }
 
-    // Writes the text that was killed last.
+    /// Writes the text that was killed last.
     fn yank(&mut self) -> Result<(), AllocError>
         ensures ok { OnOk result (self.new ≡ write self.old.killed self.old) }
         ensures err { OnErr result (self.new ≡ self.old) }
@@ -262,7 +262,7 @@ impl<A: Allocator + Clone> Editor<A> {
         self.change(line)
     }
 
-    // Transposes two clusters, if there are two.
+    /// Transposes two clusters, if there are two.
     fn transpose(&mut self) -> Result<(), AllocError>
         ensures ok { OnOk result (self.new ≡ transpose_at (meeting self.old.line.before self.old.line.after).before self.old) }
         ensures err { OnErr result (self.new ≡ self.old) }
@@ -274,7 +274,7 @@ impl<A: Allocator + Clone> Editor<A> {
         self.change(line)
     }
 
-    // Brings back the newest line of the past.
+    /// Brings back the newest line of the past.
     fn undo(&mut self) -> Result<(), AllocError>
         ensures ok { OnOk result (self.new ≡ undo_to self.old.past self.old) }
         ensures err { OnErr result (self.new ≡ self.old) }
@@ -287,7 +287,7 @@ impl<A: Allocator + Clone> Editor<A> {
         Ok(())
     }
 
-    // Brings back the line that was undone last.
+    /// Brings back the line that was undone last.
     fn redo(&mut self) -> Result<(), AllocError>
         ensures ok { OnOk result (self.new ≡ redo_to self.old.undone self.old) }
         ensures err { OnErr result (self.new ≡ self.old) }
@@ -300,7 +300,7 @@ impl<A: Allocator + Clone> Editor<A> {
         Ok(())
     }
 
-    // Shows a line of the history, and keeps the line if it isn't one.
+    /// Shows a line of the history, and keeps the line if it isn't one.
     fn leave_for(&mut self, line: Line<A>) -> Result<(), AllocError>
         ensures ok { OnOk result (self.new ≡ left_for line self.old) }
         ensures err { OnErr result (self.new ≡ self.old) }
@@ -314,7 +314,7 @@ impl<A: Allocator + Clone> Editor<A> {
         Ok(())
     }
 
-    // Shows the next older line.
+    /// Shows the next older line.
     fn older(&mut self) -> Result<(), AllocError>
         ensures ok { OnOk result (self.new ≡ older_to (slice_get self.old.history self.old.back) self.old) }
         ensures err { OnErr result (self.new ≡ self.old) }
@@ -333,7 +333,7 @@ impl<A: Allocator + Clone> Editor<A> {
         }
     }
 
-    // The line so far back in the history, or the unfinished one.
+    /// The line so far back in the history, or the unfinished one.
     fn newer_line(&self, back: usize) -> Result<Option<Line<A>>, AllocError>
         ensures { IfOk result (λ line. line ≡ newer_line back self.now) }
     {
@@ -344,7 +344,7 @@ impl<A: Allocator + Clone> Editor<A> {
         self.history.copy_of(back - 1)
     }
 
-    // Shows the next newer line, and at last the unfinished one.
+    /// Shows the next newer line, and at last the unfinished one.
     fn newer(&mut self) -> Result<(), AllocError>
         ensures ok { OnOk result (self.new ≡ newer_from self.old.back self.old) }
         ensures err { OnErr result (self.new ≡ self.old) }
@@ -363,7 +363,7 @@ impl<A: Allocator + Clone> Editor<A> {
         }
     }
 
-    // Shows the next older line that begins with the text before the cursor.
+    /// Shows the next older line that begins with the text before the cursor.
     fn search(&mut self) -> Result<(), AllocError>
         ensures ok { OnOk result (self.new ≡ searched_to (found self.old) self.old) }
         ensures err { OnErr result (self.new ≡ self.old) }
@@ -379,7 +379,7 @@ impl<A: Allocator + Clone> Editor<A> {
         }
     }
 
-    // Does one thing for which there is room.
+    /// Does one thing for which there is room.
     fn perform(&mut self, action: Action) -> Result<(), AllocError>
         ensures ok { OnOk result (self.new ≡ after action self.old) }
         ensures err { OnErr result (self.new ≡ self.old) }
@@ -449,7 +449,7 @@ impl<A: Allocator + Clone> Editor<A> {
         Ok(())
     }
 
-    // Writes a text's characters that come into a line.
+    /// Writes a text's characters that come into a line.
     fn write_shown(&mut self, text: &str) -> Result<(), AllocError>
         ensures ok { OnOk result (self.new ≡ pasted (chars text.now) self.old) }
         ensures err { OnErr result (self.new ≡ self.old) }
@@ -488,7 +488,7 @@ impl<A: Allocator + Clone> Editor<A> {
         }
     }
 
-    // The line becomes the newest of the history, unless it is empty.
+    /// The line becomes the newest of the history, unless it is empty.
     fn remember(&mut self) -> Result<(), AllocError>
         ensures ok { OnOk result (self.new ≡ record self.old { history = remembered self.old.limits self.old.line (text_of self.old.line) self.old.history }) }
         ensures err { OnErr result (self.new ≡ self.old) }
@@ -501,7 +501,7 @@ impl<A: Allocator + Clone> Editor<A> {
         self.history.add(line, self.limits.lines)
     }
 
-    // The line's text. The line is remembered, and let go.
+    /// The line's text. The line is remembered, and let go.
     fn accepted_text(&mut self) -> Result<String<A>, AllocError>
         ensures text { IfOk result (λ text. chars (string_bytes text) ≡ text_of self.old.line) }
         ensures shown { IfOk result (λ text. AreShown (chars (string_bytes text))) }

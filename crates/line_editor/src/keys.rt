@@ -19,7 +19,7 @@ pub enum KeyCommand {
     EraseOrClose,
 }
 
-// What a key asks for without Control and Alt.
+/// What a key asks for without Control and Alt.
 fn plain(code: KeyCode) -> Option<KeyCommand>
     ensures { result ≡ spec.plain code }
 {
@@ -39,7 +39,7 @@ fn plain(code: KeyCode) -> Option<KeyCommand>
     Some(KeyCommand::Act(action))
 }
 
-// What a character asks for with Control.
+/// What a character asks for with Control.
 fn control_char(c: char) -> Option<KeyCommand>
     ensures { result ≡ spec.row_in spec.control_rows c }
 {
@@ -68,7 +68,7 @@ fn control_char(c: char) -> Option<KeyCommand>
     Some(KeyCommand::Act(action))
 }
 
-// What a key asks for with Control.
+/// What a key asks for with Control.
 fn control(code: KeyCode) -> Option<KeyCommand>
     ensures { result ≡ spec.control code }
 {
@@ -80,7 +80,7 @@ fn control(code: KeyCode) -> Option<KeyCommand>
     }
 }
 
-// What a character asks for with Alt.
+/// What a character asks for with Alt.
 fn alt_char(c: char) -> Option<KeyCommand>
     ensures { result ≡ spec.row_in spec.alt_rows c }
 {
@@ -93,7 +93,7 @@ fn alt_char(c: char) -> Option<KeyCommand>
     Some(KeyCommand::Act(action))
 }
 
-// What a key asks for with Alt.
+/// What a key asks for with Alt.
 fn alt(code: KeyCode) -> Option<KeyCommand>
     ensures { result ≡ spec.alt code }
 {
@@ -104,7 +104,7 @@ fn alt(code: KeyCode) -> Option<KeyCommand>
     }
 }
 
-// What a key asks for with Control and Alt.
+/// What a key asks for with Control and Alt.
 fn both(code: KeyCode) -> Option<KeyCommand>
     ensures { result ≡ spec.both code }
 {

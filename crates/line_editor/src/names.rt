@@ -49,7 +49,7 @@ impl fmt::Display for Action {
     }
 }
 
-// The target of a name.
+/// The target of a name.
 fn target_named(name: &str) -> Option<Target>
     ensures { result ≡ value_in spec.target_rows name.now }
 {
@@ -68,7 +68,7 @@ fn target_named(name: &str) -> Option<Target>
     }
 }
 
-// The action of a name without a verb.
+/// The action of a name without a verb.
 fn word_named(name: &str) -> Option<Action>
     ensures { result ≡ value_in spec.action_rows name.now }
 {
@@ -84,7 +84,7 @@ fn word_named(name: &str) -> Option<Action>
     }
 }
 
-// The character of a text that has one.
+/// The character of a text that has one.
 fn one_char(text: &str) -> Option<char>
     ensures { result ≡ spec.one_char (chars text.now) }
 {
@@ -94,7 +94,7 @@ fn one_char(text: &str) -> Option<char>
     }
 }
 
-// The character of a name.
+/// The character of a name.
 fn char_named(name: &str) -> Option<char>
     ensures { result ≡ spec.char_named name.now }
 {
@@ -104,7 +104,7 @@ fn char_named(name: &str) -> Option<char>
     }
 }
 
-// The action of a verb and what follows it.
+/// The action of a verb and what follows it.
 fn verb_named(verb: &str, rest: &str) -> Option<Action>
     ensures { result ≡ spec.verb_named verb.now rest.now }
 {

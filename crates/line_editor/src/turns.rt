@@ -19,7 +19,7 @@ use crossterm_types::event::Event;
 use std::alloc::Allocator;
 
 impl<A: Allocator + Clone> Editor<A> {
-    // Does an action, and the line goes on.
+    /// Does an action, and the line goes on.
     fn act_on(&mut self, action: Action) -> Result<Outcome<A>, EditFault>
         ensures ok { OnOk result (self.new ≡ done (tasks.Acts action) self.old) }
         ensures answer { IfOk result (λ outcome. answer_of outcome ≡ turns.Going) }
@@ -33,7 +33,7 @@ impl<A: Allocator + Clone> Editor<A> {
         }
     }
 
-    // Does what a key asks for.
+    /// Does what a key asks for.
     fn obey(&mut self, command: KeyCommand) -> Result<Outcome<A>, EditFault>
         ensures ok { OnOk result (self.new ≡ done (task_of_command command self.old) self.old) }
         ensures answer { IfOk result (λ outcome. answer_of outcome ≡ answer (task_of_command command self.old) self.old) }
@@ -95,7 +95,7 @@ impl<A: Allocator + Clone> Editor<A> {
         }
     }
 
-    // Takes an event, and adds the line that came out.
+    /// Takes an event, and adds the line that came out.
     fn turn_into<B: Allocator>(
         &mut self,
         event: &Event<B>,
