@@ -10,14 +10,17 @@ import shutil
 import subprocess
 import sys
 import tempfile
+from typing import NamedTuple
 
 import places
 
 OPEN = re.compile(r"^note: (?:\./)?(src/\S+?:\d+):\d+: (it is not proved that .*)")
 IN_PROOF = re.compile(r"^(?:\./)?proofs/(\S+)/(?:Answers|Invariants|Proof)\.antt:\d+:\d+: error: (.*)")
 OF_FUNCTION = re.compile(r"^fn (\S+?): (.*)")
-# What a proof says that only cites a name which isn't there any more, or rests on what was refused.
+# What a proof says that only cites a name which isn't there any more, or rests on what was refused; and a line that goes on so where the names
+# are long.
 SAYS_LITTLE = re.compile(r"that depends on|has no field|is not in scope|has no `|was not admitted")
+GOES_ON = re.compile(r"^  has no ")
 
 
 @functools.lru_cache(maxsize=None)
@@ -71,16 +74,24 @@ def check_only(crate, texts, names, kept=""):
     return check(crate, texts, flags or ["--only", ""], kept)
 
 
+class Fault(NamedTuple):
+    """What the prover finds wrong in a function: an open goal, or an error in its proof."""
+
+    text: str
+    is_goal: bool
+
+
 def faults(answer, crate):
     """Each function's own faults by its name below the crate: its open goals, and errors in its proof that say something of it."""
     found, pending = collections.defaultdict(list), []
-    for line in answer.split("\n"):
+    lines = answer.split("\n")
+    for line, next_line in zip(lines, [*lines[1:], ""]):
         opened, proof, function = OPEN.match(line), IN_PROOF.match(line), OF_FUNCTION.match(line)
         if opened:
-            pending.append(f"{opened[1]}: {opened[2]}")
-        elif proof and not SAYS_LITTLE.search(proof[2]):
+            pending.append(Fault(f"{opened[1]}: {opened[2]}", True))
+        elif proof and not SAYS_LITTLE.search(proof[2]) and not GOES_ON.match(next_line):
             # The folder of a recursive function has a + before its name.
-            found[proof[1].replace("/+", "/").replace("/", "::")].append(proof[2])
+            found[proof[1].replace("/+", "/").replace("/", "::")].append(Fault(proof[2], False))
         elif function:
             # A function's open goals stand right above its line.
             found[function[1].removeprefix(f"{crate}::")] += pending
