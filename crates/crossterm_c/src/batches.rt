@@ -16,11 +16,11 @@ use std::marker::Brand;
 use std::sync::ledger::Blank;
 
 /// Takes bytes of a terminal as `gelvanh_feed` does, and holds their events as `gelvanh_hold` does, each with its number. It returns how many bytes
-/// it took. `count` is how many events it held, which are the last ones of the table.
+/// it took. `count` is how many events it held: the last of those that are held then.
 ///
 /// It stops when all are taken, before the first event for which the table has no room, and after the byte with which a paste opens or is over;
-/// then the others are handed in again. The bytes of a paste are kept by the caller, as for `gelvanh_feed`: its event's number is `arrivals` before the
-/// call that ends it.
+/// then the others are handed in again. The caller keeps the bytes of a paste, as for `gelvanh_feed`. Its event's number is `arrivals` before the call
+/// that ends it.
 #[unsafe(no_mangle)]
 pub extern "C" fn gelvanh_feed_held(
     state: &mut GelvanhState,
