@@ -110,7 +110,7 @@ impl HeldEvents {
     pub fn feed(&mut self, parser: &mut Parser, piece: &[u8], more: bool, raw: bool, classes: Classes) {
         let mut rest = piece;
         while !rest.is_empty() {
-            self.reserve(rest.len());
+            self.reserve(rest.len().min(1024));
             let number = self.reader.arrivals;
             let (taken, count, text) = parser.feed_held(rest, more, raw, &mut self.reader, &mut self.table);
             if let Some(text) = text.filter(|_| classes.has(Classes::EVENTS)) {
