@@ -26,7 +26,7 @@
 //! If a frame broke off within a control sequence, the next one begins with ESC, which ends such a sequence at a terminal. The definitions
 //! speak of whole sequences and don't say so.
 //!
-//! A `Cell` has 20 bytes. A frame compares 16 of them at once, and copies the cells that changed.
+//! A `Cell` has 20 bytes. A frame compares cells by words, and copies those that changed.
 //!
 //! `new` and `resize` take memory. `draw` needs none: it gathers a frame in 4,096 bytes on the stack, and gives them to the writer as they fill.
 //!
