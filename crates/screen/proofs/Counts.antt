@@ -11,7 +11,7 @@ use Rattle.crossterm_style.specs.declared.content_style.ContentStyle.{ContentSty
 use Rattle.crossterm_style.specs.Acts.{Act, style_acts}
 use Rattle.crossterm_style.specs.Acts.Act.{Prints, Colors, Takes}
 use Rattle.crossterm_style.specs.Styles.{no_style, told}
-use Rattle.screen.specs.declared.cells.Cell.{Cell}
+use Rattle.screen.specs.Cells.{Cell}
 use Rattle.screen.specs.declared.settings.Setting.{Setting}
 use Rattle.screen.specs.declared.settings.Setting.TheVariants as setting
 use Rattle.screen.specs.declared.strokes.Stroke.{Stroke}

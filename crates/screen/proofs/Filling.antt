@@ -7,9 +7,8 @@ use Rattle.std.proofs.lemmas.Nat.{mod-mul-add}
 use Rattle.std.proofs.lemmas.List.{length-replicate}
 use Rattle.std.proofs.lemmas.List.FromFn.{get_or-map-range_with_len, length-map-range_with_len}
 use Rattle.crossterm_style.specs.declared.content_style.ContentStyle.{ContentStyle}
-use Rattle.screen.specs.declared.cells.Cell.{Cell}
 use Rattle.screen.specs.Buffers.{fill_cells, pair_cell}
-use Rattle.screen.specs.Cells.{AreLaidOut, ArePaired, IsPrinted, Stands, is_covered, is_wide}
+use Rattle.screen.specs.Cells.{AreLaidOut, ArePaired, Cell, IsPrinted, Stands, is_covered, is_wide}
 use Rattle.screen.specs.Grids.{is_last, takes_two}
 use Rattle.screen.specs.Overwriting.{covered}
 use Rattle.screen.proofs.Fitting.{printed_stands, printed_there, same_laid_out, space_printed}

@@ -4,8 +4,7 @@ use Rattle.std.proofs.lemmas.Bool.Decides.{nat_tests}
 use Rattle.std.proofs.lemmas.List.{get_or-replicate, length-replicate}
 use Rattle.std.proofs.lemmas.List.Elements.{All-replicate}
 use Rattle.unicode_width.specs.Width.{char_width}
-use Rattle.screen.specs.declared.cells.Cell.{Cell}
-use Rattle.screen.specs.Cells.{AreLaidOut, ArePaired, IsPrinted, StayInRows, Stands, blank, is_wide}
+use Rattle.screen.specs.Cells.{AreLaidOut, ArePaired, Cell, IsPrinted, Stands, StayInRows, blank, is_wide}
 use Rattle.screen.specs.Grids.{takes_one}
 use Rattle.screen.proofs.Squares.{space_is_narrow, zero_takes_no_two}
 

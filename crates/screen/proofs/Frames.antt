@@ -5,11 +5,10 @@ use Rattle.crossterm_command.specs.declared.color_output.ColorOutput.TheVariants
 use Rattle.crossterm_command.proofs.Readings.{all_joined}
 use Rattle.crossterm_style.specs.Looks.{plain}
 use Rattle.crossterm_style.specs.Styles.{no_style}
-use Rattle.screen.specs.declared.cells.Cell.{Cell}
 use Rattle.screen.specs.declared.strokes.Stroke.{Stroke}
 use Rattle.screen.specs.declared.strokes.Stroke.TheVariants as stroke
 use Rattle.screen.specs.Buffers.{Picture}
-use Rattle.screen.specs.Cells.{ArePaired, blank, seen}
+use Rattle.screen.specs.Cells.{ArePaired, Cell, blank, seen}
 use Rattle.screen.specs.Drawings.{DifferAt, HasCursor, HasSize, IsFrame, MayShow, cells_before, knows_cells, printed}
 use Rattle.screen.specs.Updates.{IsSparing}
 use Rattle.screen.specs.Screens.{View}

@@ -2,8 +2,7 @@
 use Rattle.std.proofs.Common.{◌≡◌, ℕ, suc, ◌+◌, ◌-◌, ◌<◌, ◌≤◌, Bool, true, false, cond, List, [], ◌∷◌, ◌++◌, refl, sym, ap, ◌∙◌, arith, append-nil, append_assoc, get_or, length, set, take, drop}
 use Rattle.std.proofs.lemmas.List.{drop-drop, drop_more, length-append, length-drop, length-take-le, set_at, take-append-drop, take_at, take_more}
 use Rattle.std.proofs.Math.Seq.{drop-append-add}
-use Rattle.screen.specs.declared.cells.Cell.{Cell}
-use Rattle.screen.specs.Cells.{ArePaired, is_covered, is_wide}
+use Rattle.screen.specs.Cells.{ArePaired, Cell, is_covered, is_wide}
 use Rattle.screen.specs.Overwriting.{begun, emptied, ended, overwritten, without_first, without_second}
 use Rattle.screen.proofs.Squares.{covered_is_narrow, space_is_narrow}
 

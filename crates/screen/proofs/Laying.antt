@@ -3,8 +3,7 @@ use Rattle.std.proofs.Common.{◌≡◌, ℕ, zero, suc, ◌+◌, ◌<◌, ◌�
 use Rattle.std.specs.List.{All}
 use Rattle.std.proofs.lemmas.List.{length-take-le, take-append-drop}
 use Rattle.std.proofs.lemmas.List.Elements.{All-append, All-drop, All-take}
-use Rattle.screen.specs.declared.cells.Cell.{Cell}
-use Rattle.screen.specs.Cells.{AreLaidOut, ArePaired, StayInRows, Stands, is_covered, is_wide}
+use Rattle.screen.specs.Cells.{AreLaidOut, ArePaired, Cell, Stands, StayInRows, is_covered, is_wide}
 use Rattle.screen.specs.Grids.{is_last}
 use Rattle.screen.specs.Overwriting.{begun, emptied, ended, overwritten, without_first, without_second}
 use Rattle.screen.proofs.Fitting.{space_printed}

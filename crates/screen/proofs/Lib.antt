@@ -14,5 +14,6 @@ pub mod Counts
 pub mod Scans
 pub mod Putting
 pub mod Spares
+pub mod Skips
 pub mod Frames
 pub mod Written

@@ -6,11 +6,10 @@ use Rattle.std.proofs.lemmas.List.{at_drop_more, drop_all, drop_more, take_more}
 use Rattle.std.proofs.lemmas.List.Concat.{flat_map-append}
 use Rattle.crossterm_command.proofs.Readings.{all_joined}
 use Rattle.crossterm_style.specs.declared.content_style.ContentStyle.{ContentStyle}
-use Rattle.screen.specs.declared.cells.Cell.{Cell}
 use Rattle.unicode_width.specs.Width.{char_width}
 use Rattle.screen.specs.declared.faults.CellFault.{CellFault}
 use Rattle.screen.specs.declared.faults.CellFault.TheVariants.{NoWidth, Wide}
-use Rattle.screen.specs.Cells.{IsPrinted, fault_of, symbol_fault}
+use Rattle.screen.specs.Cells.{Cell, IsPrinted, fault_of, symbol_fault}
 use Rattle.screen.specs.Grids.{is_width}
 use Rattle.screen.specs.Overwriting.{cells_with, overwritten}
 use Rattle.screen.specs.Texts.{cells_of, columns, fitting, replaced, text_columns, text_fault, within, is_mark, without_marks}

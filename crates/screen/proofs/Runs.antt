@@ -27,12 +27,11 @@ use Rattle.crossterm_style.specs.Styles.{attribute_functions, no_style, told}
 use Rattle.crossterm_style.proofs.ActLooks.{acts_show}
 use Rattle.crossterm_style.proofs.TextLaws.{IsDigit, next_field, one_field}
 use Rattle.crossterm.specs.Sequences.{move_to}
-use Rattle.screen.specs.declared.cells.Cell.{Cell}
 use Rattle.screen.specs.declared.settings.Setting.{Setting}
 use Rattle.screen.specs.declared.settings.Setting.TheVariants as setting
 use Rattle.screen.specs.declared.strokes.Stroke.{Stroke}
 use Rattle.screen.specs.declared.strokes.Stroke.TheVariants as stroke
-use Rattle.screen.specs.Cells.{is_wide, last_of, look}
+use Rattle.screen.specs.Cells.{Cell, is_wide, last_of, look}
 use Rattle.screen.specs.Grids.{Grid, is_last, is_width, move_cursor, number, overwritten, place, place_told, print_at, print_one, print_two, right_of, run, step, takes_one, takes_two}
 use Rattle.screen.specs.Grids.Square.{Whole, First, Second}
 use Rattle.screen.specs.inside.Settings.{Fits, Sets}

@@ -6,12 +6,11 @@ use Rattle.crossterm_command.proofs.Readings.{all_joined}
 use Rattle.crossterm_style.specs.declared.content_style.ContentStyle.{ContentStyle}
 use Rattle.crossterm_style.specs.Looks.{plain}
 use Rattle.crossterm_style.specs.Styles.{no_style}
-use Rattle.screen.specs.declared.cells.Cell.{Cell}
 use Rattle.screen.specs.declared.settings.Setting.{Setting}
 use Rattle.screen.specs.declared.settings.Setting.TheVariants as setting
 use Rattle.screen.specs.declared.strokes.Stroke.{Stroke}
 use Rattle.screen.specs.declared.strokes.Stroke.TheVariants as stroke
-use Rattle.screen.specs.Cells.{ArePaired, IsPrinted, Stands, blank, is_covered, is_wide, last_of, look, seen}
+use Rattle.screen.specs.Cells.{ArePaired, Cell, IsPrinted, Stands, blank, is_covered, is_wide, last_of, look, seen}
 use Rattle.screen.specs.Drawings.{DifferAt, printed}
 use Rattle.screen.specs.Updates.{HasToBePrinted}
 use Rattle.screen.specs.Grids.{Grid, Square, begun, blank_square, is_last, overwritten, right_of, run}

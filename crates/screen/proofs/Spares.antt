@@ -17,12 +17,11 @@ use Rattle.crossterm_style.specs.Styles.{no_style, told}
 use Rattle.crossterm_style.specs.declared.types.color.Color.{Color}
 use Rattle.crossterm_style.specs.declared.types.colored.Colored.{Colored}
 use Rattle.crossterm_style.specs.declared.types.colored.Colored.TheVariants.{ForegroundColor, BackgroundColor, UnderlineColor}
-use Rattle.screen.specs.declared.cells.Cell.{Cell}
 use Rattle.screen.specs.declared.settings.Setting.{Setting}
 use Rattle.screen.specs.declared.settings.Setting.TheVariants as setting
 use Rattle.screen.specs.declared.strokes.Stroke.{Stroke}
 use Rattle.screen.specs.declared.strokes.Stroke.TheVariants as stroke
-use Rattle.screen.specs.Cells.{last_of}
+use Rattle.screen.specs.Cells.{Cell, last_of}
 use Rattle.screen.specs.Grids.{right_of}
 use Rattle.screen.specs.Updates.{ArePrinted, HasSameStyle, HasToBePrinted, IsBeside, IsBetween, IsOneUpdate, IsSparing, Placed, Runs, begin_update, begins_with_style, changes, end_moves, end_styles, how_many, is_move, is_other, is_style, longest_style}
 use Rattle.screen.specs.inside.Scans.{Continues, Spares, Sparing}

@@ -7,8 +7,7 @@ use Rattle.unicode_width.specs.Width.{char_width}
 use Rattle.crossterm_command.specs.declared.color_output.ColorOutput.{ColorOutput}
 use Rattle.crossterm_style.specs.Looks.{Style}
 use Rattle.crossterm_style.specs.Styles.{no_style}
-use Rattle.screen.specs.declared.cells.Cell.{Cell}
-use Rattle.screen.specs.Cells.{ArePaired, blank, is_covered, is_wide, look, seen}
+use Rattle.screen.specs.Cells.{ArePaired, Cell, blank, is_covered, is_wide, look, seen}
 use Rattle.screen.specs.Grids.{Square, begun, ended, overwritten, takes_two, without_first, without_second}
 use Rattle.screen.specs.Grids.Square.{Whole, First, Second}
 use Rattle.screen.specs.inside.Scans.{begins_covered, rest}

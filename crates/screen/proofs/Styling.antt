@@ -6,10 +6,9 @@ use Rattle.std.proofs.Math.Seq.{get_or-append_seam}
 use Rattle.std.proofs.lemmas.Bool.Decides.{nat_tests}
 use Rattle.std.proofs.lemmas.List.{drop_all, drop_more, length-drop, length-take, length-take-le, set_at, take_all, take_more, take-append-drop}
 use Rattle.crossterm_style.specs.declared.content_style.ContentStyle.{ContentStyle}
-use Rattle.screen.specs.declared.cells.Cell.{Cell}
 use Rattle.screen.specs.declared.rects.Rect.{Rect}
 use Rattle.screen.specs.Areas.{begins_in, has, styled, styled_from}
-use Rattle.screen.specs.Cells.{AreLaidOut, ArePaired, Stands, is_covered, is_wide}
+use Rattle.screen.specs.Cells.{AreLaidOut, ArePaired, Cell, Stands, is_covered, is_wide}
 use Rattle.screen.specs.Grids.{is_last}
 use Rattle.screen.proofs.Laying.{StayFrom, all_cons, all_first, all_rest, from_rows, rows_from}
 use Rattle.screen.proofs.Taking.{kept}

@@ -7,8 +7,7 @@ use Rattle.std.proofs.lemmas.List.{take_at}
 use Rattle.std.proofs.Math.Nat.{mul-le-mul_right}
 use Rattle.std.proofs.lemmas.Nat.{mod-mul-add}
 use Rattle.crossterm_style.specs.declared.content_style.ContentStyle.{ContentStyle}
-use Rattle.screen.specs.declared.cells.Cell.{Cell}
-use Rattle.screen.specs.Cells.{AreLaidOut, ArePaired, IsPrinted, Stands}
+use Rattle.screen.specs.Cells.{AreLaidOut, ArePaired, Cell, IsPrinted, Stands}
 use Rattle.screen.specs.Grids.{is_last, takes_two}
 use Rattle.screen.specs.Overwriting.{cells_with, covered, overwritten}
 use Rattle.screen.specs.Texts.{cells_of, columns, text_columns, within}

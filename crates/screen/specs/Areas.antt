@@ -2,11 +2,10 @@
 use Rattle.std.specs.Prelude.{ℕ, Bool, ◌+◌, ◌-◌, ◌/◌, ◌%◌, ◌&&◌, nat_le, nat_lt, List, [], ◌∷◌, if◌then◌else◌, flat_map}
 use Rattle.std.specs.List.{range_with_len}
 use Rattle.crossterm_style.specs.declared.content_style.ContentStyle.{ContentStyle}
-use Rattle.screen.specs.declared.cells.Cell.{Cell}
 use Rattle.screen.specs.declared.rects.Rect.{Rect}
 use Rattle.screen.specs.Borders.{Stamp, across, with_stamps}
 use Rattle.screen.specs.Buffers.{Picture}
-use Rattle.screen.specs.Cells.{is_covered}
+use Rattle.screen.specs.Cells.{Cell, is_covered}
 
 -- whether some columns or rows, given by their first one and their number, have one
 abbrev pub has : ℕ → ℕ → ℕ → Bool

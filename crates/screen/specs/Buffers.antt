@@ -2,10 +2,9 @@
 use Rattle.std.specs.Prelude.{ℕ, Bool, ◌+◌, ◌-◌, ◌*◌, ◌%◌, ◌&&◌, ◌==◌, nat_lt, List, Option, Some, None, if◌then◌else◌, map, replicate}
 use Rattle.std.specs.List.{range_with_len}
 use Rattle.crossterm_style.specs.declared.content_style.ContentStyle.{ContentStyle}
-use Rattle.screen.specs.declared.cells.Cell.{Cell}
 use Rattle.screen.specs.declared.faults.CellFault.{CellFault}
 use Rattle.screen.specs.declared.faults.CellFault.TheVariants.{LastColumn, Outside}
-use Rattle.screen.specs.Cells.{symbol_fault}
+use Rattle.screen.specs.Cells.{Cell, symbol_fault}
 use Rattle.screen.specs.Grids.{takes_two}
 use Rattle.screen.specs.Overwriting.{cells_with, covered, overwritten}
 use Rattle.screen.specs.Texts.{cells_of, within}

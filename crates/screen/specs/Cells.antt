@@ -8,11 +8,15 @@ use Rattle.crossterm_style.specs.declared.content_style.ContentStyle.{ContentSty
 use Rattle.crossterm_style.specs.Acts.{after_acts, style_acts}
 use Rattle.crossterm_style.specs.Looks.{Style, plain}
 use Rattle.crossterm_style.specs.Styles.{no_style}
-use Rattle.screen.specs.declared.cells.Cell.{Cell}
 use Rattle.screen.specs.declared.faults.CellFault.{CellFault}
 use Rattle.screen.specs.declared.faults.CellFault.TheVariants.{Control, NoWidth, Wide}
 use Rattle.screen.specs.Grids.{Square, takes_one, takes_two}
 use Rattle.screen.specs.Grids.Square.{Whole, First, Second}
+
+-- A character in its style.
+pub record Cell : Type 0 where
+  pub symbol : ℕ
+  pub style : ContentStyle
 
 -- a space in the empty style
 abbrev pub blank : Cell

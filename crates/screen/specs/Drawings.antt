@@ -10,11 +10,10 @@ use Rattle.crossterm_command.specs.Writing.{AppendsFront}
 use Rattle.crossterm_command.specs.declared.color_output.ColorOutput.{ColorOutput}
 use Rattle.crossterm_command.specs.declared.color_output.ColorOutput.TheVariants.{Enabled, Disabled}
 use Rattle.crossterm_style.specs.Looks.{plain}
-use Rattle.screen.specs.declared.cells.Cell.{Cell}
 use Rattle.screen.specs.declared.faults.DrawFault.{DrawFault}
 use Rattle.screen.specs.declared.faults.DrawFault.TheVariants.{Size, Cursor, Command}
 use Rattle.screen.specs.Buffers.{Picture}
-use Rattle.screen.specs.Cells.{blank, seen}
+use Rattle.screen.specs.Cells.{Cell, blank, seen}
 use Rattle.screen.specs.Grids.{Grid, run}
 use Rattle.screen.specs.Screens.{Drawn, View}
 use Rattle.screen.specs.Updates.{HasToBePrinted, IsOneUpdate, IsSparing}

@@ -1,8 +1,7 @@
 -- Cells that are overwritten by others. `Grids` says it of what a terminal shows, where it is not known what is left of a half.
 use Rattle.std.specs.Prelude.{ℕ, ◌+◌, List, [], ◌∷◌, ◌++◌, drop, length, take, if◌then◌else◌}
 use Rattle.crossterm_style.specs.declared.content_style.ContentStyle.{ContentStyle}
-use Rattle.screen.specs.declared.cells.Cell.{Cell}
-use Rattle.screen.specs.Cells.{is_covered, is_wide}
+use Rattle.screen.specs.Cells.{Cell, is_covered, is_wide}
 use Rattle.screen.specs.Grids.{takes_two}
 
 -- a space in a cell's own style

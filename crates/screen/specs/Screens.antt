@@ -1,7 +1,7 @@
 -- A screen: its size, and the cells that the terminal shows.
 use Rattle.std.specs.Prelude.{ℕ, List, Option}
 use Rattle.crossterm_command.specs.declared.color_output.ColorOutput.{ColorOutput}
-use Rattle.screen.specs.declared.cells.Cell.{Cell}
+use Rattle.screen.specs.Cells.{Cell}
 
 -- What was drawn: the cells, and whether colours were written.
 pub record Drawn : Type 0 where

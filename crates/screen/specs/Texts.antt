@@ -3,10 +3,9 @@ use Rattle.std.specs.Prelude.{ℕ, ◌+◌, ◌-◌, nat_le, not, Bool, false, L
 use Rattle.std.specs.List.{filter}
 use Rattle.unicode_width.specs.Width.{char_width}
 use Rattle.crossterm_style.specs.declared.content_style.ContentStyle.{ContentStyle}
-use Rattle.screen.specs.declared.cells.Cell.{Cell}
 use Rattle.screen.specs.declared.faults.CellFault.{CellFault}
 use Rattle.screen.specs.declared.faults.CellFault.TheVariants.{Wide}
-use Rattle.screen.specs.Cells.{symbol_fault}
+use Rattle.screen.specs.Cells.{Cell, symbol_fault}
 use Rattle.screen.specs.Grids.{is_width, takes_two}
 use Rattle.screen.specs.Overwriting.{cells_with}
 

@@ -4,3 +4,4 @@ pub mod Settings
 pub mod Strokes
 pub mod Scans
 pub mod Pens
+pub mod Packed

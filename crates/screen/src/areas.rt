@@ -8,6 +8,7 @@ ghost use Rattle.screen.specs.inside.Edges.{IsNarrow};
 use crate::buffers::Buffer;
 use crate::cells::{Cell, is_covered};
 use crate::faults::CellFault;
+use crate::packed::PackedStyle;
 use crate::rects::Rect;
 use crate::texts::replacement_fault;
 use crossterm_style::ContentStyle;
@@ -34,16 +35,13 @@ fn begins_in(area: &Rect, column: usize, row: usize, cell: &Cell) -> bool
 }
 
 /// A cell in another style if its character begins in a rectangle.
-fn styled(area: &Rect, style: &ContentStyle, column: usize, row: usize, cell: &Cell) -> Cell
+fn styled(area: &Rect, style: &PackedStyle, column: usize, row: usize, cell: &Cell) -> Cell
     ensures { result ≡ styled area.now style.now column row cell.now }
 {
     if !begins_in(area, column, row, cell) {
         return *cell;
     }
-    Cell {
-        symbol: cell.symbol,
-        style: *style,
-    }
+    Cell::of(cell.symbol(), *style)
 }
 
 /// The row behind the last one that a rectangle has of so many.
@@ -60,8 +58,9 @@ pub(crate) fn style_cells(cells: &mut [Cell], size: (u16, u16), area: &Rect, sty
     ensures { cells.new ≡ styled_from size.0 area.now style.now 0 cells.old }
 {
     let width = usize::from(size.0);
+    let style = PackedStyle::new(style);
     for at in usize::from(area.y) * width..bottom(area, size.1) * width {
-        cells[at] = styled(area, style, at % width, at / width, &cells[at]);
+        cells[at] = styled(area, &style, at % width, at / width, &cells[at]);
     }
 }
 

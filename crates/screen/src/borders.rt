@@ -93,7 +93,7 @@ impl<A: Allocator> Buffer<A> {
         ensures { self.new ≡ with_symbol self.old column row symbol style.now }
     {
         let style = *style;
-        self.put(column, row, Cell { symbol, style });
+        self.put(column, row, Cell::new(symbol, style));
     }
 
     /// Sets it so many times side by side.

@@ -198,7 +198,7 @@ impl<A: Allocator> Buffer<A> {
         if let Some(fault) = symbol_fault(symbol) {
             return Err(fault);
         }
-        fill_rows(&mut self.cells, self.width, Cell { symbol, style });
+        fill_rows(&mut self.cells, self.width, Cell::new(symbol, style));
         Ok(())
     }
 
@@ -240,7 +240,7 @@ impl<A: Allocator> Buffer<A> {
         if let Some(fault) = column_fault(self.width, column, symbol) {
             return Err(fault);
         }
-        self.put(column, row, Cell { symbol, style });
+        self.put(column, row, Cell::new(symbol, style));
         Ok(())
     }
 

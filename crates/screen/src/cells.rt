@@ -1,38 +1,86 @@
 //! Cells, and whether two are the same.
 ghost use Rattle.std.specs.Prelude.{◌≡◌, ◌↔◌, IsTrue, false};
-ghost use Rattle.crossterm_style.specs.declared.types.color.Color.TheVariants.{Rgb};
 ghost use Rattle.screen.specs.Cells.{IsPrinted, blank, is_covered, is_wide, symbol_fault};
 ghost use Rattle.screen.specs.Grids.{takes_two};
 ghost use Rattle.screen.specs.Texts.{is_mark};
-ghost use Rattle.screen.specs.Updates.{HasToBePrinted};
 ghost use Rattle.std.specs.Prelude.{None};
 
 use crate::faults::CellFault;
-use crossterm_style::{Attributes, Color, ContentStyle};
+use crate::packed::{PackedStyle, is_same_style};
+use crossterm_style::ContentStyle;
+use std::marker::Model;
 use unicode_width::UnicodeWidthChar;
 
-/// A character in its style.
+/// A character in its style, in 20 bytes.
 ///
 /// ```
-/// let cell = Cell { symbol: 'x', style: ContentStyle::new() };
+/// let cell = Cell::new('x', ContentStyle::new());
 /// ```
 #[derive(Clone, Copy, PartialEq, Eq, Debug)]
 pub struct Cell {
-    /// The character.
-    pub symbol: char,
-    /// Its style.
-    pub style: ContentStyle,
+    symbol: char,
+    style: PackedStyle,
+}
+
+impl Model for Cell {
+    ghost use Rattle.screen.specs.Cells.{Cell as CellValue};
+
+    ghost Value = { CellValue };
+
+    ghost view = { λ c. record { symbol = c.symbol; style = c.style } };
+
+    ghost inverse = { λ c. record { symbol = c.symbol; style = c.style } };
 }
 
 impl Cell {
+    /// A character in a style.
+    pub fn new(symbol: char, style: ContentStyle) -> Cell
+        ensures { result ≡ record { symbol = symbol; style = style } }
+    {
+        Cell::of(symbol, PackedStyle::new(&style))
+    }
+
+    /// The same of a packed style.
+    pub(crate) fn of(symbol: char, style: PackedStyle) -> Cell
+        ensures { result ≡ record { symbol = symbol; style = style } }
+    {
+        Cell { symbol, style }
+    }
+
     /// A space in the empty style.
     pub fn blank() -> Cell
         ensures { result ≡ blank }
     {
-        Cell {
-            symbol: ' ',
-            style: ContentStyle::new(),
-        }
+        Cell::new(' ', ContentStyle::new())
+    }
+
+    /// The character.
+    ///
+    /// ```
+    /// let line = buffer.cells().iter().map(|cell| cell.symbol());
+    /// ```
+    pub fn symbol(&self) -> char
+        ensures { result ≡ self.now.symbol }
+    {
+        self.symbol
+    }
+
+    /// Its style.
+    ///
+    /// ```
+    /// let is_bold = Cell::blank().style().attributes.has(Attribute::Bold);
+    /// ```
+    pub fn style(&self) -> ContentStyle
+        ensures { result ≡ self.now.style }
+    {
+        self.style.style()
+    }
+
+    /// Its style, packed.
+    pub(crate) fn packed_style(&self) -> PackedStyle
+        ensures { result ≡ self.now.style }
+    {
+        self.style
     }
 }
 
@@ -75,121 +123,24 @@ pub(crate) fn is_mark(symbol: char) -> bool
     }
 }
 
-/// Whether two colours are the same.
-fn is_same_color(left: Color, right: Color) -> bool
-    ensures { IsTrue result ↔ (left ≡ right) }
-{
-    match left {
-        Color::Reset => matches!(right, Color::Reset),
-        Color::Black => matches!(right, Color::Black),
-        Color::DarkGrey => matches!(right, Color::DarkGrey),
-        Color::Red => matches!(right, Color::Red),
-        Color::DarkRed => matches!(right, Color::DarkRed),
-        Color::Green => matches!(right, Color::Green),
-        Color::DarkGreen => matches!(right, Color::DarkGreen),
-        Color::Yellow => matches!(right, Color::Yellow),
-        Color::DarkYellow => matches!(right, Color::DarkYellow),
-        Color::Blue => matches!(right, Color::Blue),
-        Color::DarkBlue => matches!(right, Color::DarkBlue),
-        Color::Magenta => matches!(right, Color::Magenta),
-        Color::DarkMagenta => matches!(right, Color::DarkMagenta),
-        Color::Cyan => matches!(right, Color::Cyan),
-        Color::DarkCyan => matches!(right, Color::DarkCyan),
-        Color::White => matches!(right, Color::White),
-        Color::Grey => matches!(right, Color::Grey),
-        Color::Rgb { r, g, b } => has_parts((r, g, b), right),
-        Color::AnsiValue(n) => match right {
-            Color::AnsiValue(m) => n == m,
-            _ => false,
-        },
-    }
-}
-
-/// Whether a colour has these parts.
-fn has_parts(parts: (u8, u8, u8), right: Color) -> bool
-    ensures { IsTrue result ↔ (Rgb parts.0 parts.1 parts.2 ≡ right) }
-{
-    match right {
-        Color::Rgb { r, g, b } => {
-            if parts.0 != r {
-                return false;
-            }
-            if parts.1 != g {
-                return false;
-            }
-            parts.2 == b
-        }
-        _ => false,
-    }
-}
-
-/// The same if there may be none.
-pub(crate) fn is_same_choice(left: Option<Color>, right: Option<Color>) -> bool
-    ensures { IsTrue result ↔ (left ≡ right) }
-{
-    match left {
-        None => right.is_none(),
-        Some(left) => match right {
-            None => false,
-            Some(right) => is_same_color(left, right),
-        },
-    }
-}
-
-/// Whether two sets are the same.
-pub(crate) fn is_same_set(left: Attributes, right: Attributes) -> bool
-    ensures { IsTrue result ↔ (left ≡ right) }
-{
-    left == right
-}
-
-/// Whether two styles are the same.
-pub(crate) fn is_same_style(left: ContentStyle, right: ContentStyle) -> bool
-    ensures { IsTrue result ↔ (left ≡ right) }
-{
-    if !is_same_choice(left.foreground_color, right.foreground_color) {
-        return false;
-    }
-    if !is_same_choice(left.background_color, right.background_color) {
-        return false;
-    }
-    if !is_same_choice(left.underline_color, right.underline_color) {
-        return false;
-    }
-    is_same_set(left.attributes, right.attributes)
-}
-
 /// Whether two cells are the same.
 pub(crate) fn is_same(left: &Cell, right: &Cell) -> bool
     ensures { IsTrue result ↔ (left.now ≡ right.now) }
 {
-    if left.symbol != right.symbol {
-        return false;
-    }
-    is_same_style(left.style, right.style)
+    // With `&`, as in `is_same_style`.
+    (left.symbol == right.symbol) & is_same_style(&left.style, &right.style)
 }
 
 /// Whether a cell is the second one of a character that takes two.
 pub(crate) fn is_covered(cell: &Cell) -> bool
     ensures { result ≡ is_covered cell.now }
 {
-    cell.symbol == '\0'
+    cell.symbol() == '\0'
 }
 
 /// Whether a cell is the first one of a character that takes two.
 pub(crate) fn is_wide(cell: &Cell) -> bool
     ensures { result ≡ is_wide cell.now }
 {
-    takes_two(cell.symbol)
-}
-
-/// Whether a character has to be printed at a place where one cell is and another one is to be.
-pub(crate) fn has_to_be_printed(before: &Cell, after: &Cell) -> bool
-    ensures printed { IsTrue result ↔ HasToBePrinted before.now after.now }
-    ensures kept { result ≡ false → is_covered after.now ≡ false → before.now ≡ after.now }
-{
-    if is_covered(after) {
-        return false;
-    }
-    !is_same(before, after)
+    takes_two(cell.symbol())
 }

@@ -26,6 +26,8 @@
 //! If a frame broke off within a control sequence, the next one begins with ESC, which ends such a sequence at a terminal. The definitions
 //! speak of whole sequences and don't say so.
 //!
+//! A `Cell` has 20 bytes. A frame compares cells by words, and copies those that changed.
+//!
 //! `new` and `resize` take memory. `draw` needs none: it gathers a frame in 4,096 bytes on the stack, and gives them to the writer as they fill.
 //!
 //! What is proved, beyond safety:
@@ -37,6 +39,7 @@
 //! | a screen has as much memory after a frame as before; screens and buffers give none back, and a size that they have memory for isn't refused | `Screen::{draw, new, resize}`, `Buffer::{new, resize, fill, set, print, print_replacing, print_without_marks, print_in, border, set_style, fill_area}` |
 //! | a wrong size or place writes nothing and changes nothing; at any other error a beginning of the frame was written and nothing else, and nothing is known of the cells | `Screen::draw` |
 //! | a character that doesn't take one column or two is refused by name, `set` refuses one of two in a row's last column too, and a refusal changes nothing | `Buffer::{fill, set, print, print_replacing, print_without_marks, print_in, border}` |
+//! | a cell has the character and the style that it was made of, each colour and attribute of it | `Cell::{new, symbol, style}` |
 //! | no half of a character of two columns is alone: what loses its other half is a space in the style that it had | `Buffer::{cells, fill, set, print, print_replacing, print_without_marks, print_in, border, set_style, fill_area}` |
 //! | of a text as many characters are printed as have room in the row, and the number of the columns that they took is returned | `Buffer::{print, print_replacing, print_without_marks}` |
 //! | of any text, each character that no cell can hold is replaced by a given one | `Buffer::print_replacing` |
@@ -55,18 +58,18 @@
 //! | Definitions | Lines | Of | Contract |
 //! |---|---|---|---|
 //! | `Grids` | 158 | a terminal as a grid of cells, and what each token does to it | |
-//! | `Cells` | 71 | how a cell looks, which cells are paired, and which characters fit | `Cell::blank`, `Buffer::{cells, fill, set}` |
-//! | `Overwriting` | 43 | the cells that a character takes, and what becomes of the halves beside them | `Buffer::{set, print, print_replacing, print_without_marks}` |
-//! | `Texts` | 54 | the cells of a text's characters, what has room, and what is replaced in it or left out | `Buffer::{print, print_replacing, print_without_marks}` |
-//! | `Buffers` | 81 | the pictures that buffers hold | `Buffer` |
+//! | `Cells` | 75 | what a cell is and how it looks, which cells are paired, and which characters fit | `Cell::{new, blank, symbol, style}`, `Buffer::{cells, fill, set}` |
+//! | `Overwriting` | 42 | the cells that a character takes, and what becomes of the halves beside them | `Buffer::{set, print, print_replacing, print_without_marks}` |
+//! | `Texts` | 53 | the cells of a text's characters, what has room, and what is replaced in it or left out | `Buffer::{print, print_replacing, print_without_marks}` |
+//! | `Buffers` | 80 | the pictures that buffers hold | `Buffer` |
 //! | `Rects` | 38 | a rectangle's columns and rows, what two have in common, what is left without a margin, and two parts | `Rect` |
 //! | `Alignments` | 36 | how many columns of a rectangle a buffer has, and the one that a text begins in | `Buffer::print_in` |
 //! | `Borders` | 66 | the characters of a border, one after another, and when there is none | `Buffer::border` |
-//! | `Areas` | 46 | a style over a rectangle, and a character in all places of one | `Buffer::{set_style, fill_area}` |
+//! | `Areas` | 45 | a style over a rectangle, and a character in all places of one | `Buffer::{set_style, fill_area}` |
 //! | `Scrolls` | 49 | which entries of a list are in sight, and how far it scrolls | `ListState` |
 //! | `Screens` | 17 | a screen, and what it drew last | `Screen` |
-//! | `Updates` | 116 | which characters have to be printed, and how few moves and styles do it | `Screen::draw` |
-//! | `Drawings` | 130 | what a frame does to each grid, how many characters it prints, and what is refused | `Screen::draw`, `From<DrawFault>` of `io::Error` |
+//! | `Updates` | 115 | which characters have to be printed, and how few moves and styles do it | `Screen::draw` |
+//! | `Drawings` | 129 | what a frame does to each grid, how many characters it prints, and what is refused | `Screen::draw`, `From<DrawFault>` of `io::Error` |
 //!
 //! `specs/inside/` says the same of a frame's parts, and no public clause cites it.
 //!
@@ -78,9 +81,11 @@ mod areas;
 mod borders;
 mod buffers;
 mod cells;
+mod differences;
 mod faults;
 mod lists;
 mod overwriting;
+mod packed;
 mod pens;
 mod planning;
 mod rects;

@@ -6,26 +6,20 @@ ghost use Rattle.screen.specs.Overwriting.{begun, cells_with, covered, emptied, 
 ghost use Rattle.screen.specs.Texts.{columns};
 
 use crate::cells::{Cell, is_covered, is_wide};
-use crossterm_style::ContentStyle;
+use crate::packed::PackedStyle;
 
 /// A space in a cell's own style.
 fn emptied(cell: &Cell) -> Cell
     ensures { result ≡ emptied cell.now }
 {
-    Cell {
-        symbol: ' ',
-        style: cell.style,
-    }
+    Cell::of(' ', cell.packed_style())
 }
 
 /// The second cell of a character that takes two.
-fn covered(style: ContentStyle) -> Cell
+fn covered(style: PackedStyle) -> Cell
     ensures { result ≡ covered style }
 {
-    Cell {
-        symbol: '\0',
-        style,
-    }
+    Cell::of('\0', style)
 }
 
 /// Before a place, a character that is to lose its second cell leaves a space in its first one.
@@ -74,7 +68,7 @@ pub(crate) fn overwrite(cells: &mut [Cell], at: usize, cell: Cell)
     begin_at(cells, behind);
     cells[at] = cell;
     if is_wide(&cell) {
-        cells[at + 1] = covered(cell.style);
+        cells[at + 1] = covered(cell.packed_style());
     }
 }
 
@@ -90,7 +84,7 @@ fn pair_cell(width: u16, cell: &Cell, column: usize) -> Cell
     ensures { result ≡ pair_cell width cell.now.symbol cell.now.style column }
 {
     if column % 2 == 1 {
-        covered(cell.style)
+        covered(cell.packed_style())
     } else if column + 1 == width as usize {
         emptied(cell)
     } else {

@@ -11,7 +11,9 @@ ghost use Rattle.screen.specs.inside.Pens.{Puts};
 ghost use Rattle.screen.specs.inside.Scans.{IsWithin, Planned, Visited};
 ghost use Rattle.screen.specs.inside.Strokes.{AreFitting, cell_strokes, cursor_strokes, first_strokes, last_strokes, move_strokes, style_strokes, tokens_of};
 
-use crate::cells::{Cell, has_to_be_printed, is_wide};
+use crate::cells::{Cell, is_covered, is_wide};
+use crate::differences::next_difference;
+use crate::packed::PackedStyle;
 use crate::pens::{Pen, finish, put};
 use crate::settings::{Setting, setting_of};
 use crate::strokes::Stroke;
@@ -63,7 +65,7 @@ fn paint<W: io::Write>(
 {
     put_move(writer, pen, there, place);
     put_style(writer, pen, setting);
-    put(writer, pen, Stroke::Print(cell.symbol));
+    put(writer, pen, Stroke::Print(cell.symbol()));
 }
 
 /// Whether the cursor is known to be at a place.
@@ -110,38 +112,42 @@ fn put_first<W: io::Write>(writer: &mut W, pen: &mut Pen, is_known: bool)
     }
 }
 
-/// Begins a frame, and paints each cell that has to be printed, and no other.
+/// Begins a frame, paints each cell that has to be printed, and no other, and turns the cells before into the ones after.
 fn scan<W: io::Write>(
     writer: &mut W,
     pen: &mut Pen,
     is_known: bool,
     size: (u16, u16),
-    before: &[Cell],
+    before: &mut [Cell],
     after: &[Cell],
 )
-    requires before { IsWithin is_known size.0 size.1 before.now }
+    requires before { IsWithin is_known size.0 size.1 before.old }
     requires length { length after.now ≡ size.0 * size.1 }
     requires fits { All Stands after.now }
-    requires before_paired { ArePaired false before.now }
+    requires before_paired { ArePaired false before.old }
     requires after_paired { ArePaired false after.now }
     requires rows { StayInRows size.0 after.now }
-    ensures { (strokes : List Stroke) × Visited is_known size.0 size.1 before.now after.now strokes × AreFitting strokes
+    ensures strokes { (strokes : List Stroke) × Visited is_known size.0 size.1 before.old after.now strokes × AreFitting strokes
         × Puts strokes (W.contents writer.old) pen.old (W.contents writer.new) pen.new }
+    ensures shown { before.new ≡ after.now }
 {
     let (width, height) = size;
     let mut cursor: Option<usize> = None;
-    let mut style: Option<ContentStyle> = None;
+    let mut style: Option<PackedStyle> = None;
     put_first(writer, pen, is_known);
-    for at in 0..after.len() {
+    let mut at = next_difference(before, after, 0);
+    while at < after.len() {
         let cell = &after[at];
-        if has_to_be_printed(&before[at], cell) {
+        if !is_covered(cell) {
             let place = place_of(at, width, height);
             let there = is_at(cursor, at);
-            let setting = setting_of(style, &cell.style);
+            let setting = setting_of(style, &cell.packed_style());
             paint(writer, pen, there, &setting, place, cell);
             cursor = right_of(last_of(at, cell), width);
-            style = Some(cell.style);
+            style = Some(cell.packed_style());
         }
+        before[at] = *cell;
+        at = next_difference(before, after, at + 1);
     }
 }
 
@@ -173,21 +179,22 @@ pub(crate) fn write_frame<W: io::Write>(
     colors: ColorOutput,
     is_known: bool,
     size: (u16, u16),
-    before: &[Cell],
+    before: &mut [Cell],
     after: &[Cell],
     cursor: Option<(u16, u16)>,
 ) -> Result<(), CommandFault>
-    requires before { IsWithin is_known size.0 size.1 before.now }
+    requires before { IsWithin is_known size.0 size.1 before.old }
     requires length { length after.now ≡ size.0 * size.1 }
     requires fits { All Stands after.now }
-    requires before_paired { ArePaired false before.now }
+    requires before_paired { ArePaired false before.old }
     requires after_paired { ArePaired false after.now }
     requires rows { StayInRows size.0 after.now }
     requires cursor { IfSome cursor (λ place. (place.0 < size.0) × (place.1 < size.1)) }
-    ensures ok { OnOk result ((strokes : List Stroke) × Planned is_known size.0 size.1 before.now after.now cursor strokes × AreFitting strokes
+    ensures ok { OnOk result ((strokes : List Stroke) × Planned is_known size.0 size.1 before.old after.now cursor strokes × AreFitting strokes
         × Appends (W.contents writer.old) (W.contents writer.new) (text_of (tokens_of colors strokes))) }
-    ensures err { OnErr result ((strokes : List Stroke) × Planned is_known size.0 size.1 before.now after.now cursor strokes
+    ensures err { OnErr result ((strokes : List Stroke) × Planned is_known size.0 size.1 before.old after.now cursor strokes
         × AppendsFront (W.contents writer.old) (W.contents writer.new) (text_of (tokens_of colors strokes))) }
+    ensures shown { before.new ≡ after.now }
 {
     let mut pen = Pen::new(colors);
     scan(writer, &mut pen, is_known, size, before, after);

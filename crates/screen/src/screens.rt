@@ -202,9 +202,16 @@ impl<A: Allocator> Screen<A> {
         self.drawn = None;
         let size = (self.width, self.height);
         let after = buffer.cells();
-        match write_frame(writer, colors, is_known, size, &self.shown, after, cursor) {
+        match write_frame(
+            writer,
+            colors,
+            is_known,
+            size,
+            &mut self.shown,
+            after,
+            cursor,
+        ) {
             Ok(()) => {
-                self.shown.copy_from_slice(after);
                 self.drawn = Some(colors);
                 Ok(())
             }

@@ -4,7 +4,7 @@ ghost use Rattle.crossterm_style.specs.Attributes.{has};
 ghost use Rattle.crossterm_style.specs.declared.types.attribute.Attribute.TheVariants.{Reset};
 ghost use Rattle.screen.specs.inside.Settings.{Fits, HasSameRest, Recolors, Sets, SetsFrom, Changes};
 
-use crate::cells::{is_same_choice, is_same_set, is_same_style};
+use crate::packed::{PackedColor, PackedStyle, is_same_color, is_same_set, is_same_style};
 use crossterm_style::laws::style_fits;
 use crossterm_style::{Attribute, Attributes, Color, ContentStyle};
 
@@ -20,32 +20,32 @@ pub(crate) enum Setting {
 }
 
 /// What is written of a colour: nothing if it stays, and the terminal's own colour if none is wanted.
-fn change_of(from: Option<Color>, to: Option<Color>) -> Option<Color>
+fn change_of(from: PackedColor, to: PackedColor) -> Option<Color>
     ensures { Changes from to result }
 {
-    if is_same_choice(from, to) {
+    if is_same_color(from, to) {
         return None;
     }
-    match to {
+    match to.color() {
         None => Some(Color::Reset),
         Some(color) => Some(color),
     }
 }
 
 /// The colours that turn one style into another.
-fn recolored(from: &ContentStyle, to: &ContentStyle) -> ContentStyle
+fn recolored(from: &PackedStyle, to: &PackedStyle) -> ContentStyle
     ensures { Recolors from.now to.now result }
 {
     ContentStyle {
-        foreground_color: change_of(from.foreground_color, to.foreground_color),
-        background_color: change_of(from.background_color, to.background_color),
-        underline_color: change_of(from.underline_color, to.underline_color),
+        foreground_color: change_of(from.foreground, to.foreground),
+        background_color: change_of(from.background, to.background),
+        underline_color: change_of(from.underline, to.underline),
         attributes: Attributes::none(),
     }
 }
 
 /// Whether two styles differ in nothing but colours. `Reset` in a set clears the colours too, so colours alone don't do then.
-fn has_same_rest(from: &ContentStyle, to: &ContentStyle) -> bool
+fn has_same_rest(from: &PackedStyle, to: &PackedStyle) -> bool
     ensures { IsTrue result ↔ HasSameRest from.now to.now }
 {
     if to.attributes.has(Attribute::Reset) {
@@ -55,33 +55,33 @@ fn has_same_rest(from: &ContentStyle, to: &ContentStyle) -> bool
 }
 
 /// Whether a colour goes back to none.
-fn goes_back(from: Option<Color>, to: Option<Color>) -> bool {
-    from.is_some() && to.is_none()
+fn goes_back(from: PackedColor, to: PackedColor) -> bool {
+    from.is_some() && !to.is_some()
 }
 
 /// Whether a colour stays.
-fn stays(from: Option<Color>, to: Option<Color>) -> bool {
-    from.is_some() && is_same_choice(from, to)
+fn stays(from: PackedColor, to: PackedColor) -> bool {
+    from.is_some() && is_same_color(from, to)
 }
 
 /// Whether the colours that differ are shorter to write than a reset and the whole style: no colour goes back to none, or another one stays.
-fn is_shorter(from: &ContentStyle, to: &ContentStyle) -> bool {
-    if stays(from.foreground_color, to.foreground_color)
-        || stays(from.background_color, to.background_color)
-        || stays(from.underline_color, to.underline_color)
+fn is_shorter(from: &PackedStyle, to: &PackedStyle) -> bool {
+    if stays(from.foreground, to.foreground)
+        || stays(from.background, to.background)
+        || stays(from.underline, to.underline)
     {
         return true;
     }
-    !goes_back(from.foreground_color, to.foreground_color)
-        && !goes_back(from.background_color, to.background_color)
-        && !goes_back(from.underline_color, to.underline_color)
+    !goes_back(from.foreground, to.foreground)
+        && !goes_back(from.background, to.background)
+        && !goes_back(from.underline, to.underline)
 }
 
 /// How a style is set after another one.
-fn setting_from(from: &ContentStyle, to: &ContentStyle) -> Setting
+fn setting_from(from: &PackedStyle, to: &PackedStyle) -> Setting
     ensures { SetsFrom from.now to.now result }
 {
-    if is_same_style(*from, *to) {
+    if is_same_style(from, to) {
         return Setting::Kept;
     }
     if has_same_rest(from, to) {
@@ -89,7 +89,7 @@ fn setting_from(from: &ContentStyle, to: &ContentStyle) -> Setting
             return Setting::Colors(recolored(from, to));
         }
     }
-    Setting::Whole(*to)
+    Setting::Whole(to.style())
 }
 
 /// The numbers of its colours are bytes. It does nothing when it runs.
@@ -104,12 +104,12 @@ fn setting_fits(setting: &Setting)
 }
 
 /// How a style is set if that one is known to be set, or none is known.
-pub(crate) fn setting_of(set: Option<ContentStyle>, to: &ContentStyle) -> Setting
+pub(crate) fn setting_of(set: Option<PackedStyle>, to: &PackedStyle) -> Setting
     ensures sets { Sets set to.now result }
     ensures fits { Fits result }
 {
     let setting = match set {
-        None => Setting::Whole(*to),
+        None => Setting::Whole(to.style()),
         Some(from) => setting_from(&from, to),
     };
     setting_fits(&setting);

@@ -9,6 +9,7 @@ ghost use Rattle.screen.specs.inside.Edits.{edit, edited, fault_unless_mark};
 use crate::cells::{Cell, is_mark, symbol_fault, takes_two};
 use crate::faults::CellFault;
 use crate::overwriting::{columns, overwrite};
+use crate::packed::PackedStyle;
 use crossterm_style::ContentStyle;
 
 /// Why cells can't hold a text, if they can't: its first character that they can't hold.
@@ -115,16 +116,14 @@ pub(crate) fn write_text(
     ensures cells { cells.new ≡ overwritten cells.old at (cells_of style.now (within room (edited replacement (chars text.now)))) }
     ensures printed { AllByRecursion IsPrinted (within room (edited replacement (chars text.now))) }
 {
+    let style = PackedStyle::new(style);
     let mut count = 0;
     for symbol in text.chars() {
         let shown = match edit(symbol, replacement) {
             None => continue,
             Some(shown) => shown,
         };
-        let cell = Cell {
-            symbol: shown,
-            style: *style,
-        };
+        let cell = Cell::of(shown, style);
         let taken = columns(&cell);
         if taken > room - count {
             return count;

@@ -3,10 +3,9 @@ use Rattle.std.specs.List.{AllByRecursion}
 use Rattle.std.specs.Prelude.{⊤, ◌≡◌, ◌↔◌, ◌≤◌, ℕ, ◌+◌, ◌*◌, Bool, true, false, List, [], ◌∷◌, ◌++◌, Option, Some, None, drop, length, map, replicate, take, if◌then◌else◌}
 use Rattle.crossterm_command.specs.declared.color_output.ColorOutput.{ColorOutput}
 use Rattle.crossterm_style.specs.declared.content_style.ContentStyle.{ContentStyle}
-use Rattle.screen.specs.declared.cells.Cell.{Cell}
 use Rattle.screen.specs.declared.strokes.Stroke.{Stroke}
 use Rattle.screen.specs.declared.strokes.Stroke.TheVariants.{Begin}
-use Rattle.screen.specs.Cells.{ArePaired, blank, is_covered, look, seen}
+use Rattle.screen.specs.Cells.{ArePaired, Cell, blank, is_covered, look, seen}
 use Rattle.screen.specs.Drawings.{DifferAt, HasSize, Shows, ShowsCells, printed, same_output}
 use Rattle.screen.specs.Grids.{Grid, Square, begun, run}
 use Rattle.screen.specs.Grids.Square.{Second}

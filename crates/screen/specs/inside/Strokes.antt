@@ -12,12 +12,11 @@ use Rattle.crossterm_style.specs.Acts.{style_acts}
 use Rattle.crossterm_style.specs.Styles.{attribute_functions, no_style, told}
 use Rattle.crossterm.specs.Sequences.{clear, move_to}
 use Rattle.crossterm.specs.declared.terminal.ClearType.TheVariants.{All}
-use Rattle.screen.specs.declared.cells.Cell.{Cell}
 use Rattle.screen.specs.declared.settings.Setting.{Setting}
 use Rattle.screen.specs.declared.settings.Setting.TheVariants as setting
 use Rattle.screen.specs.declared.strokes.Stroke.{Stroke}
 use Rattle.screen.specs.declared.strokes.Stroke.TheVariants as stroke
-use Rattle.screen.specs.Cells.{IsPrinted}
+use Rattle.screen.specs.Cells.{Cell, IsPrinted}
 
 -- what sets colours, where they are written
 abbrev pub color_tokens : ColorOutput → ContentStyle → List Token

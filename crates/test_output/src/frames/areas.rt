@@ -72,7 +72,10 @@ fn is_styled(mut buffer: Buffer) -> bool {
     buffer
         .cells()
         .iter()
-        .map(|cell| (cell.symbol, cell.style.attributes.has(Attribute::Reverse)))
+        .map(|cell| (
+            cell.symbol(),
+            cell.style().attributes.has(Attribute::Reverse),
+        ))
         .eq([
             ('a', false),
             ('漢', false),
@@ -98,7 +101,7 @@ fn is_filled(mut buffer: Buffer) -> bool {
         && buffer
             .cells()
             .iter()
-            .map(|cell| cell.symbol)
+            .map(|cell| cell.symbol())
             .eq("a ### ..###.".chars())
 }
 

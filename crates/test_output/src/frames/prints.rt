@@ -82,7 +82,7 @@ fn shows(buffer: &Buffer, wanted: &str) -> bool {
     buffer
         .cells()
         .iter()
-        .map(|cell| cell.symbol)
+        .map(|cell| cell.symbol())
         .eq(wanted.chars())
 }
 

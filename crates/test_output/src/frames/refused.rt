@@ -32,7 +32,7 @@ fn are_refused(mut buffer: Buffer) -> bool {
             return false;
         }
     }
-    let is_filled = buffer.cells().iter().all(|cell| cell.symbol == '~');
+    let is_filled = buffer.cells().iter().all(|cell| cell.symbol() == '~');
     is_filled
         && buffer.set(2, 0, 'x', ContentStyle::new()) == Err(CellFault::Outside)
         && buffer.set(2, 0, '漢', ContentStyle::new()) == Err(CellFault::Outside)

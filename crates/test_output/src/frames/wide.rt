@@ -36,7 +36,7 @@ fn colored(color: Color) -> ContentStyle {
 }
 
 fn letter(cell: &Cell) -> char {
-    match cell.style.foreground_color {
+    match cell.style().foreground_color {
         Some(Color::Red) => 'r',
         Some(Color::Blue) => 'b',
         _ => '.',
@@ -46,7 +46,7 @@ fn letter(cell: &Cell) -> char {
 /// Whether these are a buffer's characters and their colours.
 fn shows(buffer: &Buffer, symbols: &str, letters: &str) -> bool {
     let cells = buffer.cells();
-    cells.iter().map(|cell| cell.symbol).eq(symbols.chars())
+    cells.iter().map(|cell| cell.symbol()).eq(symbols.chars())
         && cells.iter().map(|cell| letter(cell)).eq(letters.chars())
 }
 

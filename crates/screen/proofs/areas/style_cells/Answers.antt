@@ -1,5 +1,5 @@
-use Rattle.std.proofs.Common.{◌≡◌, ◌*◌, ◌<◌, ◌≤◌, nat_le, length, refl, subst, ap, sym, ◌∙◌, arith}
-use Rattle.screen.specs.Areas.{styled_from}
+use Rattle.std.proofs.Common.{◌≡◌, ◌*◌, ◌/◌, ◌%◌, ◌<◌, ◌≤◌, nat_le, get_or, length, refl, subst, ap, sym, ◌∙◌, arith}
+use Rattle.screen.specs.Areas.{styled, styled_from}
 use Rattle.screen.proofs.Styling.{bottom, styled_end, styled_inside, styled_more, styled_start}
 use Rattle.screen.proofs.areas.style_cells.Goals as goal
 
@@ -21,7 +21,7 @@ loop-at-preserved c =
     let whole : length c.args.cells.now ≡ w * h = c.requires ∙ ap (λ n. n * h) (sym c.from-width.ensures) in
     let lt : c.loop-at.at < bottom h c.args.area.now * w = subst (λ n. c.loop-at.at < n * w) c.bottom.ensures c.loop-at-test.true in
     let inside = styled_inside w h c.args.area.now c.args.cells.now c.loop-at.cells c.loop-at.at whole c.loop-at.auto.cells lt in
-    styled_more w c.args.area.now c.args.style.now c.args.cells.now c.loop-at.cells c.loop-at.at _ c.styled.result (omega (arith, inside, c.loop-at.auto.cells)) c.styled.ensures c.loop-at.invariant
+    styled_more w c.args.area.now c.args.style.now c.args.cells.now c.loop-at.cells c.loop-at.at _ c.styled.result (omega (arith, inside, c.loop-at.auto.cells)) (c.styled.ensures ∙ ap (λ s. styled c.args.area.now s (c.loop-at.at % w) (c.loop-at.at / w) (get_or c.loop-at.cells c.loop-at.at c.index-cells-at.result)) c.new-style.ensures) c.loop-at.invariant
 
 pub returns : goal.returns
 returns c =

@@ -16,7 +16,7 @@ returns-then-is_wide c =
     let begins : second ≡ take (at + 2) first ++ begun (drop (at + 2) first) = c.begin_at.ensures ∙ ap (λ n. take (at + n) first ++ begun (drop (at + n) first)) two in
     let room : at + 2 ≤ length cells = omega (arith, c.requires, c.columns.ensures.value, two) in
     two_set cells first second at cell c.covered.result room c.end_before.ensures begins
-    ∙ ap (λ d. ended (take at cells) ++ (cell ∷ d ∷ begun (drop (at + 2) cells))) c.covered.ensures
+    ∙ ap (λ d. ended (take at cells) ++ (cell ∷ d ∷ begun (drop (at + 2) cells))) (c.covered.ensures ∙ ap covered c.packed_style.ensures)
     ∙ sym (ap (λ b. overwritten cells at (cond b (cell ∷ covered cell.style ∷ []) (cell ∷ []))) wide)
 
 pub returns-else-is_wide : goal.returns-else-is_wide

@@ -1,28 +1,42 @@
-use Rattle.std.proofs.Common.{rules, ◌≡◌, ◌++◌, ◌+◌, ◌*◌, ◌<◌, ◌≤◌, ◌^◌, List, length, get_or, arith, true, false, sym, ap, ◌∙◌, subst, Some}
-use Rattle.screen.specs.Cells.{IsPrinted, Stands, is_covered, is_wide, last_of}
+use Rattle.std.proofs.Common.{rules, ◌≡◌, ◌≢◌, ◌++◌, ◌+◌, ◌*◌, ◌<◌, ◌≤◌, ◌^◌, List, None, set, length, get_or, arith, true, false, sym, ap, ◌∙◌, subst, Some}
+use Rattle.std.proofs.lemmas.List.{get_or_default}
+use Rattle.screen.specs.Cells.{IsPrinted, Stands, blank, is_covered, is_wide, last_of}
 use Rattle.screen.specs.Grids.{is_last, right_of}
 use Rattle.screen.specs.Updates.{HasToBePrinted}
 use Rattle.screen.specs.declared.strokes.Stroke.{Stroke}
 use Rattle.screen.specs.inside.Pens.{Puts}
-use Rattle.screen.specs.inside.Scans.{Counts, Reaches, Sparing}
+use Rattle.screen.specs.inside.Settings.{Sets}
 use Rattle.screen.specs.inside.Strokes.{AreFitting, cell_strokes, first_strokes}
 use Rattle.screen.proofs.Putting.{puts_both}
 use Rattle.screen.proofs.Scans.{ends, keeps, keeps_counted, paints, paints_counted, paints_fitting, starts, starts_counted, starts_fitting, stands_printed, within_length}
+use Rattle.screen.proofs.Skips.{AreCopied, AreSame, Stage, copied_all, copied_more, copied_one, copied_same, copied_start, stage_skipped}
 use Rattle.screen.proofs.Spares.{spares_all, spares_kept, spares_painted, spares_start}
-use Rattle.screen.proofs.planning.scan.Goals.{then-has_to_be_printed, else-has_to_be_printed}
+use Rattle.screen.proofs.planning.scan.Goals.{then-not-is_covered, else-not-is_covered}
 use Rattle.screen.proofs.planning.scan.Goals as goal
 
 pub loop-at-init : goal.loop-at-init
 loop-at-init g c =
+    let w = c.args.size.0 in
+    let h = c.args.size.1 in
     let known = c.args.is_known in
     let before = c.args.before.now in
-    let after = c.args.after.now in (
-      first_strokes known,
-      starts known c.args.size.0 c.args.size.1 before after c.requires.before c.requires.before_paired c.requires.after_paired,
-      starts_counted known before after,
+    let after = c.args.after.now in
+    let first = first_strokes known in
+    let next = c.next_difference-at in
+    let same_length : length before ≡ length after = within_length known w h before c.requires.before ∙ sym c.requires.length in
+    let same : AreSame before after 0 next.result = next.ensures.same in
+    let begun : Stage known w h before after first None None 0 = record {
+      reached = starts known w h before after c.requires.before c.requires.before_paired c.requires.after_paired;
+      counted = starts_counted known before after;
+      sparing = spares_start known w before after;
+    } in (
+      first,
+      stage_skipped known w h before after first None None 0 next.result c.requires.before_paired c.requires.after_paired same_length next.ensures.from next.ensures.bound same begun,
       starts_fitting known,
-      spares_start known c.args.size.0 before after,
       c.put_first.ensures,
+      copied_more before after before 0 next.result (copied_start before after same_length) next.ensures.from same,
+      next.ensures.bound,
+      next.ensures.differ,
     )
 
 pub loop-at-preserved : goal.loop-at-preserved
@@ -30,70 +44,89 @@ loop-at-preserved g c =
     let held = g.W.Write.contents in
     let old = held c.args.writer.now in
     let k = c.loop-at.at in
-    let b = c.index-before-at.result in
     let cell = c.index-after-at.result in
     let w = c.args.size.0 in
     let h = c.args.size.1 in
     let known = c.args.is_known in
     let before = c.args.before.now in
     let after = c.args.after.now in
+    let b = get_or before k blank in
     let lb : length before ≡ w * h = within_length known w h before c.requires.before in
+    let same_length : length before ≡ length after = lb ∙ sym c.requires.length in
     let la : k < length after = search rules in
-    let kb : k < length before = omega (arith, la, lb, c.requires.length) in
-    let eb : get_or before k b ≡ b = search rules in
+    let kb : k < length before = omega (arith, la, same_length) in
+    let eb : get_or before k b ≡ b = get_or_default before k b blank kb in
     let ec : get_or after k cell ≡ cell = search rules in
     let wide : w < 2 ^ 32 = omega arith in
     let high : h < 2 ^ 32 = omega arith in
     let pb = c.requires.before_paired in
     let pa = c.requires.after_paired in
-    let inv : (strokes : List Stroke) × Reaches known w h before after k c.loop-at.cursor c.loop-at.style strokes × Counts before after k strokes × AreFitting strokes
-    × Sparing known w before after k c.loop-at.cursor c.loop-at.style strokes × Puts strokes old c.args.pen.now (held c.loop-at.writer) c.loop-at.pen = c.loop-at.invariant in
+    let inv : (strokes : List Stroke) × Stage known w h before after strokes c.loop-at.cursor c.loop-at.style k × AreFitting strokes × Puts strokes old c.args.pen.now (held c.loop-at.writer) c.loop-at.pen
+    × AreCopied before after c.loop-at.before k × (k ≤ length after) × (k < length after → get_or c.loop-at.before k blank ≢ get_or after k blank) = c.loop-at.invariant in
     let strokes = inv.0 in
-    let j = c.if-has_to_be_printed in
-    elim c.if-has_to_be_printed.branch [
-      | then-has_to_be_printed p ↦
+    let stage = inv.1 in
+    let copied = inv.4 in
+    let differ : b ≢ cell = λ e. inv.6 la (copied.rest k (omega arith) ∙ e ∙ sym ec ∙ get_or_default after k cell blank la) in
+    let j = c.if-not-is_covered in
+    let visited : (more : List Stroke) × Stage known w h before after more j.cursor j.style (k + 1) × AreFitting more × Puts more old c.args.pen.now (held j.writer) j.pen =
+    elim c.if-not-is_covered.branch [
+      | then-not-is_covered p ↦
           let place = p.place_of-place.result in
           let there = p.is_at-there.result in
           let how = p.setting_of-setting.result in
-          let differ : HasToBePrinted b cell = search rules in
+          let uncovered : is_covered cell ≡ false = search rules in
+          let prints : HasToBePrinted b cell = (uncovered, differ) in
           let stands : Stands cell = subst Stands ec (c.requires.fits k cell la) in
-          let fits : IsPrinted cell.symbol = stands_printed cell differ.0 stands in
+          let fits : IsPrinted cell.symbol = stands_printed cell uncovered stands in
           let room : is_wide cell ≡ true → is_last w k ≡ false = λ y. c.requires.rows k cell la (ap is_wide ec ∙ y) in
           let more = cell_strokes there how place.0 place.1 cell in
           let next = right_of w (last_of k cell) in
           let cursor : j.cursor ≡ next = ◌∙◌ {b = right_of w p.last_of.result} {c = next} (◌∙◌ {b = p.right_of-cursor.result} {c = right_of w p.last_of.result} p.cursor-is p.right_of-cursor.ensures) (ap (right_of w) p.last_of.ensures.value) in
-          let reached : Reaches known w h before after (k + 1) next (Some cell.style) (strokes ++ more) =
-          paints known k w h before after c.loop-at.cursor c.loop-at.style strokes b cell there how place.1 place.0 kb la lb c.requires.length eb ec p.place_of-place.ensures.row p.place_of-place.ensures.column high wide
-          p.place_of-place.ensures.at p.setting_of-setting.ensures.sets p.setting_of-setting.ensures.fits fits differ.0 room pb pa p.is_at-there.ensures.0 inv.1 in
-          let spared : Sparing known w before after (k + 1) next (Some cell.style) (strokes ++ more) =
-          spares_painted known w before after k c.loop-at.cursor c.loop-at.style strokes b cell there how place.0 place.1 kb la eb ec differ p.is_at-there.ensures p.setting_of-setting.ensures.sets inv.4 in
+          let set_now : j.style ≡ Some cell.style = search rules in
+          let sets = subst (λ s. Sets c.loop-at.style s how) p.packed_style.ensures p.setting_of-setting.ensures.sets in
+          let painted : Stage known w h before after (strokes ++ more) next (Some cell.style) (k + 1) = record {
+            reached = paints known k w h before after c.loop-at.cursor c.loop-at.style strokes b cell there how place.1 place.0 kb la lb c.requires.length eb ec p.place_of-place.ensures.row p.place_of-place.ensures.column high wide
+                p.place_of-place.ensures.at sets p.setting_of-setting.ensures.fits fits uncovered room pb pa p.is_at-there.ensures.0 stage.reached;
+            counted = paints_counted before after k strokes b cell there how place.1 place.0 kb la eb ec prints stage.counted;
+            sparing = spares_painted known w before after k c.loop-at.cursor c.loop-at.style strokes b cell there how place.0 place.1 kb la eb ec prints p.is_at-there.ensures sets stage.sparing;
+          } in
           let put : Puts (strokes ++ more) old c.args.pen.now (held p.paint.new.writer) p.paint.new.pen =
-          puts_both strokes more old (held c.loop-at.writer) (held p.paint.new.writer) c.args.pen.now c.loop-at.pen p.paint.new.pen inv.5 p.paint.ensures in (
+          puts_both strokes more old (held c.loop-at.writer) (held p.paint.new.writer) c.args.pen.now c.loop-at.pen p.paint.new.pen inv.3 p.paint.ensures in (
             strokes ++ more,
-            subst (λ o. Reaches known w h before after (k + 1) o j.style (strokes ++ more)) (sym cursor) (subst (λ o. Reaches known w h before after (k + 1) next o (strokes ++ more)) (sym p.style-is) reached),
-            paints_counted before after k strokes b cell there how place.1 place.0 kb la eb ec differ inv.2,
-            paints_fitting strokes there how place.0 place.1 cell fits inv.3,
-            subst (λ o. Sparing known w before after (k + 1) o j.style (strokes ++ more)) (sym cursor) (subst (λ o. Sparing known w before after (k + 1) next o (strokes ++ more)) (sym p.style-is) spared),
+            subst (λ o. Stage known w h before after (strokes ++ more) o j.style (k + 1)) (sym cursor) (subst (λ o. Stage known w h before after (strokes ++ more) next o (k + 1)) (sym set_now) painted),
+            paints_fitting strokes there how place.0 place.1 cell fits inv.2,
             subst (λ n. Puts (strokes ++ more) old c.args.pen.now (held n) j.pen) (sym p.writer-is) (subst (λ n. Puts (strokes ++ more) old c.args.pen.now (held p.paint.new.writer) n) (sym p.pen-is) put),
           )
-      | else-has_to_be_printed q ↦
-          let none : HasToBePrinted b cell → ⊥ = search rules in
-          let there : is_covered cell ≡ false → b ≡ cell = search rules in
-          let kept : Reaches known w h before after (k + 1) c.loop-at.cursor c.loop-at.style strokes =
-          keeps known k w h before after c.loop-at.cursor c.loop-at.style strokes b cell kb la eb ec there pb pa inv.1 in
-          let spared : Sparing known w before after (k + 1) c.loop-at.cursor c.loop-at.style strokes =
-          spares_kept known w before after k c.loop-at.cursor c.loop-at.style strokes b cell kb la eb ec none inv.4 in (
+      | else-not-is_covered q ↦
+          let covered : is_covered cell ≡ true = search rules in
+          let none : HasToBePrinted b cell → ⊥ = λ p. let no : true ≡ false = sym covered ∙ p.0 in cc in
+          let there : is_covered cell ≡ false → b ≡ cell = λ e. let no : true ≡ false = sym covered ∙ e in cc in
+          let kept : Stage known w h before after strokes c.loop-at.cursor c.loop-at.style (k + 1) = record {
+            reached = keeps known k w h before after c.loop-at.cursor c.loop-at.style strokes b cell kb la eb ec there pb pa stage.reached;
+            counted = keeps_counted before after k strokes b cell kb la eb ec none stage.counted;
+            sparing = spares_kept known w before after k c.loop-at.cursor c.loop-at.style strokes b cell kb la eb ec none stage.sparing;
+          } in (
             strokes,
-            subst (λ o. Reaches known w h before after (k + 1) o j.style strokes) (sym q.cursor-is) (subst (λ o. Reaches known w h before after (k + 1) c.loop-at.cursor o strokes) (sym q.style-is) kept),
-            keeps_counted before after k strokes b cell kb la eb ec none inv.2,
-            inv.3,
-            subst (λ o. Sparing known w before after (k + 1) o j.style strokes) (sym q.cursor-is) (subst (λ o. Sparing known w before after (k + 1) c.loop-at.cursor o strokes) (sym q.style-is) spared),
-            subst (λ n. Puts strokes old c.args.pen.now (held n) j.pen) (sym q.writer-is) (subst (λ n. Puts strokes old c.args.pen.now (held c.loop-at.writer) n) (sym q.pen-is) inv.5),
+            subst (λ o. Stage known w h before after strokes o j.style (k + 1)) (sym q.cursor-is) (subst (λ o. Stage known w h before after strokes c.loop-at.cursor o (k + 1)) (sym q.style-is) kept),
+            inv.2,
+            subst (λ n. Puts strokes old c.args.pen.now (held n) j.pen) (sym q.writer-is) (subst (λ n. Puts strokes old c.args.pen.now (held c.loop-at.writer) n) (sym q.pen-is) inv.3),
           )
-    ]
+    ] in
+    let next = c.next_difference-at-in-loop-at in
+    let shown = set c.loop-at.before k cell in
+    let one : AreCopied before after shown (k + 1) = copied_one before after c.loop-at.before k cell copied la ec in
+    let same : AreSame shown after (k + 1) next.result = next.ensures.same in (
+      visited.0,
+      stage_skipped known w h before after visited.0 j.cursor j.style (k + 1) next.result pb pa same_length next.ensures.from next.ensures.bound (copied_same before after shown (k + 1) next.result one same) visited.1,
+      visited.2,
+      visited.3,
+      copied_more before after shown (k + 1) next.result one next.ensures.from same,
+      next.ensures.bound,
+      next.ensures.differ,
+    )
 
-pub returns : goal.returns
-returns g c =
+pub returns-clause-strokes : goal.returns-clause-strokes
+returns-clause-strokes g c =
     let held = g.W.Write.contents in
     let known = c.args.is_known in
     let w = c.args.size.0 in
@@ -101,10 +134,15 @@ returns g c =
     let k = c.loop-at.at in
     let before = c.args.before.now in
     let after = c.args.after.now in
-    let long : w * h ≤ k = search rules in
     let lb : length before ≡ w * h = within_length known w h before c.requires.before in
     let la : length after ≡ w * h = c.requires.length in
-    let inv : (strokes : List Stroke) × Reaches known w h before after k c.loop-at.cursor c.loop-at.style strokes × Counts before after k strokes × AreFitting strokes
-    × Sparing known w before after k c.loop-at.cursor c.loop-at.style strokes × Puts strokes (held c.args.writer.now) c.args.pen.now (held c.loop-at.writer) c.loop-at.pen = c.loop-at.invariant in
-    let few = spares_all known w k before after c.loop-at.cursor c.loop-at.style inv.0 (omega (arith, lb, long)) (omega (arith, la, long)) inv.4 in
-    (inv.0, ends known k w h before after c.loop-at.cursor c.loop-at.style inv.0 lb la long inv.1 inv.2 few, inv.3, inv.5)
+    let long : w * h ≤ k = omega (arith, la, c.loop-at-test.false) in
+    let inv : (strokes : List Stroke) × Stage known w h before after strokes c.loop-at.cursor c.loop-at.style k × AreFitting strokes × Puts strokes (held c.args.writer.now) c.args.pen.now (held c.loop-at.writer) c.loop-at.pen
+    × AreCopied before after c.loop-at.before k × (k ≤ length after) × (k < length after → get_or c.loop-at.before k blank ≢ get_or after k blank) = c.loop-at.invariant in
+    let few = spares_all known w k before after c.loop-at.cursor c.loop-at.style inv.0 (omega (arith, lb, long)) (omega (arith, la, long)) inv.1.sparing in
+    (inv.0, ends known k w h before after c.loop-at.cursor c.loop-at.style inv.0 lb la long inv.1.reached inv.1.counted few, inv.2, inv.3)
+
+pub returns-clause-shown : goal.returns-clause-shown
+returns-clause-shown g c =
+    let inv = c.loop-at.invariant in
+    copied_all c.args.before.now c.args.after.now c.loop-at.before c.loop-at.at inv.4 (omega (arith, c.loop-at-test.false))

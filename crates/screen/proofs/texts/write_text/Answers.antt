@@ -3,8 +3,8 @@ use Rattle.std.specs.List.{AllByRecursion}
 use Rattle.std.proofs.lemmas.Iterator.{YieldsList-from_chars}
 use Rattle.std.proofs.lemmas.Iterator.Consumers.{YieldsList-turn, YieldsList-end}
 use Rattle.std.proofs.lemmas.List.{length_push}
-use Rattle.screen.specs.Cells.{IsPrinted}
-use Rattle.screen.specs.Overwriting.{overwritten}
+use Rattle.screen.specs.Cells.{Cell, IsPrinted}
+use Rattle.screen.specs.Overwriting.{cells_with, overwritten}
 use Rattle.screen.specs.Texts.{cells_of, columns, text_columns, within}
 use Rattle.screen.specs.inside.Edits.{edit, edited}
 use Rattle.screen.proofs.Prints.{IsWritten, shown_all, shown_front, written_none, written_with, written_without}
@@ -29,11 +29,15 @@ loop-symbol-preserved c =
     let symbol = c.in-Some.symbol in
     let n = length c.loop-symbol.yielded in
     let shown = c.in-Some-edit.shown in
+    let cell : ◌≡◌ {A = Cell} c.of-cell.result (record { symbol = shown; style = c.args.style.now }) =
+    c.of-cell.ensures ∙ ap (λ s. record { symbol = shown; style = s }) c.new-style.ensures in
+    let taken : c.columns-taken.result ≡ columns shown = c.columns-taken.ensures.value ∙ ap (λ d. columns d.symbol) cell in
     let turn = YieldsList-turn (YieldsList-from_chars c.args.text.now c.utf8.text cc) c.loop-symbol.yielded _ c.loop-symbol.yielded_by _ _ symbol c.in-Some.is c.next.ensures.steps in
     let some : edit c.args.replacement symbol ≡ Some shown = sym c.edit.ensures.value ∙ c.in-Some-edit.is in
-    let more : c.loop-symbol.count + c.columns-taken.result ≡ c.loop-symbol.count + columns shown = ap (λ k. c.loop-symbol.count + k) c.columns-taken.ensures.value in
-    let fits : columns shown ≤ c.args.room - c.loop-symbol.count = omega (arith, c.columns-taken.ensures.value, c.if-taken-room.false) in
-    subst (λ l. IsWritten c.args.replacement raw c.args.room c.args.at c.args.style.now c.args.cells.now (length (c.loop-symbol.yielded ++ symbol ∷ [])) (c.loop-symbol.count + c.columns-taken.result) l) (sym c.overwrite.ensures)
+    let more : c.loop-symbol.count + c.columns-taken.result ≡ c.loop-symbol.count + columns shown = ap (λ k. c.loop-symbol.count + k) taken in
+    let fits : columns shown ≤ c.args.room - c.loop-symbol.count = omega (arith, taken, c.if-taken-room.false) in
+    subst (λ l. IsWritten c.args.replacement raw c.args.room c.args.at c.args.style.now c.args.cells.now (length (c.loop-symbol.yielded ++ symbol ∷ [])) (c.loop-symbol.count + c.columns-taken.result) l)
+    (sym (c.overwrite.ensures ∙ ap (λ d. overwritten c.loop-symbol.cells (c.args.at + c.loop-symbol.count) (cells_with d.style d.symbol)) cell))
     (written_with c.args.replacement raw c.args.room c.args.at c.args.style.now c.args.cells.now n _ c.loop-symbol.count _ symbol shown c.loop-symbol.cells turn.0 turn.1 some c.in-Some-edit.ensures.printed
     (length_push c.loop-symbol.yielded symbol) more fits c.requires.room c.loop-symbol.invariant)
 
@@ -43,9 +47,12 @@ returns-then-taken-room c =
     let symbol = c.in-Some.symbol in
     let n = length c.loop-symbol.yielded in
     let shown = c.in-Some-edit.shown in
+    let cell : ◌≡◌ {A = Cell} c.of-cell.result (record { symbol = shown; style = c.args.style.now }) =
+    c.of-cell.ensures ∙ ap (λ s. record { symbol = shown; style = s }) c.new-style.ensures in
+    let taken : c.columns-taken.result ≡ columns shown = c.columns-taken.ensures.value ∙ ap (λ d. columns d.symbol) cell in
     let turn = YieldsList-turn (YieldsList-from_chars c.args.text.now c.utf8.text cc) c.loop-symbol.yielded _ c.loop-symbol.yielded_by _ _ symbol c.in-Some.is c.next.ensures.steps in
     let some : edit c.args.replacement symbol ≡ Some shown = sym c.edit.ensures.value ∙ c.in-Some-edit.is in
-    let full : c.args.room - c.loop-symbol.count < columns shown = omega (arith, c.columns-taken.ensures.value, c.if-taken-room.true) in
+    let full : c.args.room - c.loop-symbol.count < columns shown = omega (arith, taken, c.if-taken-room.true) in
     let all : within c.args.room (edited c.args.replacement raw) ≡ edited c.args.replacement (take n raw) =
     shown_front c.args.replacement raw c.args.room c.args.at c.args.style.now c.args.cells.now n c.loop-symbol.count symbol shown c.loop-symbol.cells turn.0 turn.1 some full c.loop-symbol.invariant in
     record {

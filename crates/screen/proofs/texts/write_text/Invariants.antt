@@ -4,4 +4,4 @@ use Rattle.screen.proofs.Prints.{IsWritten}
 use Rattle.screen.proofs.texts.write_text.Given as goal
 
 abbrev pub invariant-loop-symbol : goal.invariant-loop-symbol
-invariant-loop-symbol l = IsWritten l.replacement (chars l.text) l.room l.at l.style l.fn.cells (length l.yielded) l.count l.cells
+invariant-loop-symbol l = IsWritten l.replacement (chars l.text) l.room l.at l.fn.style l.fn.cells (length l.yielded) l.count l.cells
