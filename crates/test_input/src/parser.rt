@@ -126,28 +126,35 @@ fn is_divided(parser: &mut Parser, bytes: &[Marked], lengths: &[usize]) -> bool 
     agrees
 }
 
+/// Whether the events are those of the parts.
+fn are_of(events: Result<Vec<InternalEvent>, AllocError>, divided: &Divided) -> bool {
+    match events {
+        Ok(events) => events == divided.events,
+        Err(_) => false,
+    }
+}
+
 /// Whether the parser divides the bytes one by one as defined, and gives the events of their parts.
-fn agrees_singly(alloc: Global, bytes: &[Marked], divided: &Divided) -> Result<bool, AllocError> {
+fn agrees_singly(alloc: Global, bytes: &[Marked], divided: &Divided) -> bool {
     let mut parser = Parser::new(alloc);
-    let agrees = is_divided(&mut parser, bytes, &divided.lengths);
-    let events = events_of(alloc, &mut parser)?;
-    Ok(agrees && events == divided.events)
+    is_divided(&mut parser, bytes, &divided.lengths)
+        && are_of(events_of(alloc, &mut parser), divided)
 }
 
 /// Whether the parser divides the bytes of the pieces as defined, and gives the events of their parts for the pieces, for single bytes, and
 /// one by one.
-pub(crate) fn agrees(alloc: Global, pieces: &[Piece<'_>]) -> Result<bool, AllocError> {
-    let bytes = marks_of(alloc, pieces)?;
-    let divided = divide(alloc, &bytes)?;
-    let singly = agrees_singly(alloc, &bytes, &divided)?;
-    let together = at_once(alloc, pieces)?;
-    let each = one_by_one(alloc, pieces)?;
-    Ok(singly && together == divided.events && each == divided.events)
-}
-
-/// The same, and that memory was there.
-fn does_agree(alloc: Global, pieces: &[Piece<'_>]) -> bool {
-    matches!(agrees(alloc, pieces), Ok(true))
+pub(crate) fn agrees(alloc: Global, pieces: &[Piece<'_>]) -> bool {
+    let Ok(bytes) = marks_of(alloc, pieces) else {
+        return false;
+    };
+    match divide(alloc, &bytes) {
+        Ok(divided) => {
+            agrees_singly(alloc, &bytes, &divided)
+                && are_of(at_once(alloc, pieces), &divided)
+                && are_of(one_by_one(alloc, pieces), &divided)
+        }
+        Err(_) => false,
+    }
 }
 
 /// Bytes that come at once with nothing after them, each with a name.
@@ -251,21 +258,21 @@ static CUT: [(&str, &[u8]); 4] = [
 
 /// Whether the bytes are divided as defined, in whichever two pieces they come.
 fn agrees_in_two(alloc: Global, bytes: &[u8]) -> bool {
-    let mut agrees = true;
+    let mut holds = true;
     for place in 0..bytes.len() {
         let pieces: [Piece<'_>; 2] = [(&bytes[..place], Joined), (&bytes[place..], Raw)];
-        agrees = agrees && does_agree(alloc, &pieces);
+        holds = holds && agrees(alloc, &pieces);
     }
-    agrees
+    holds
 }
 
 #[test]
 fn pieces_are_divided_as_defined(rt: HostRuntime) {
     for (name, bytes) in &AT_ONCE {
-        expect!(rt; does_agree(rt.alloc(), &[(*bytes, Paused)]), name);
+        expect!(rt; agrees(rt.alloc(), &[(*bytes, Paused)]), name);
     }
     for (name, pieces) in &IN_PIECES {
-        expect!(rt; does_agree(rt.alloc(), pieces), name);
+        expect!(rt; agrees(rt.alloc(), pieces), name);
     }
     for (name, bytes) in &CUT {
         expect!(rt; agrees_in_two(rt.alloc(), bytes), name);

@@ -16,9 +16,8 @@ use crossterm_types::event::{Event, InternalEvent};
 use std::alloc::{AllocError, Global};
 use std::io;
 use std::marker::Brand;
-use std::string::String;
 use std::sync::ledger::{Blank, Ledger};
-use test_support::expect;
+use test_support::{expect, is_text, text};
 
 fn is_pasted(event: Option<InternalEvent>, want: &str) -> bool {
     match event {
@@ -49,18 +48,12 @@ fn a_paste_is_one_however_it_is_cut(rt: HostRuntime) {
     expect!(rt; holds, "each of 4096 cuttings");
 }
 
-fn piece(alloc: Global, text: &[u8]) -> Result<Act, AllocError> {
-    let mut bytes = Vec::new(alloc);
-    bytes.extend_from_slice(text)?;
-    Ok(Act::Piece { bytes, raw: false })
-}
-
 /// The beginning of a paste, and a million pieces of one letter.
 fn endless_paste(alloc: Global) -> Result<Vec<Act>, AllocError> {
     let mut acts = Vec::new(alloc);
-    acts.push(piece(alloc, b"\x1b[200~")?)?;
+    acts.push(text(alloc, b"\x1b[200~")?)?;
     for _ in 0..1_000_000u32 {
-        acts.push(piece(alloc, b"x")?)?;
+        acts.push(text(alloc, b"x")?)?;
     }
     Ok(acts)
 }
@@ -101,17 +94,17 @@ fn is_pasted_often(event: Option<InternalEvent>, letter: u8, count: usize) -> bo
 const LONG: usize = 1 << 20;
 
 /// Whether so many letters between the two ends of a paste are taken, and are one event.
-fn pastes_long(alloc: Global) -> Result<bool, AllocError> {
-    let bytes = endless(alloc, b"\x1b[200~", (b'x', LONG), b"\x1b[201~")?;
+fn pastes_long(alloc: Global, bytes: &[u8]) -> bool {
     let mut parser: Parser<Global> = Parser::new(alloc);
-    let taken = parser.feed(bytes.as_slice(), false, false);
+    let taken = parser.feed(bytes, false, false);
     let is_one = is_pasted_often(parser.next(), b'x', LONG) && parser.next().is_none();
-    Ok(taken == bytes.len() && is_one)
+    taken == bytes.len() && is_one
 }
 
 #[test]
 fn a_long_paste_ends(rt: HostRuntime) -> Result<(), AllocError> {
-    expect!(rt; pastes_long(rt.alloc())?);
+    let bytes = endless(rt.alloc(), b"\x1b[200~", (b'x', LONG), b"\x1b[201~")?;
+    expect!(rt; pastes_long(rt.alloc(), &bytes));
     Ok(())
 }
 
@@ -208,15 +201,14 @@ fn stops_at_a_paste<L: Ledger>(steps: &mut Steps<L>) -> bool {
 }
 
 /// Whether a text is what was put in, without the five bytes of its end.
-fn keeps<L: Ledger>(alloc: Global, steps: &mut Steps<L>) -> Result<bool, AllocError> {
+fn keeps<L: Ledger>(alloc: Global, steps: &mut Steps<L>) -> bool {
     let mut text: PasteText<Global> = PasteText::new(alloc);
-    let joined = text.extend(b"a\x1b", steps)? == 1;
+    let mut holds = matches!(text.extend(b"a\x1b", steps), Ok(1));
     for byte in b"\x1b[201" {
-        text.push(*byte)?;
+        holds = holds && text.push(*byte).is_ok();
     }
     let seen = text.look(0, steps) == Some(b'a') && text.look(6, steps).is_none();
-    let closed: String = text.close(steps)?;
-    Ok(joined && seen && closed.as_str() == "a")
+    holds && seen && is_text(text.close(steps), "a")
 }
 
 /// Whether a letter is taken if the steps are counted.
@@ -231,9 +223,10 @@ fn counts<L: Ledger>(alloc: Global, blank: Blank) -> bool
     requires parts { (blank.parts ≡ L.parts) × (0 < L.parts) }
 {
     let mut steps: Steps<L> = Steps::new(blank);
-    let kept = matches!(keeps(alloc, &mut steps), Ok(true));
-    let takes = waits_for_room(&mut steps) && stops_at_a_paste(&mut steps);
-    kept && takes && advances(alloc, &mut steps)
+    keeps(alloc, &mut steps)
+        && waits_for_room(&mut steps)
+        && stops_at_a_paste(&mut steps)
+        && advances(alloc, &mut steps)
 }
 
 fn counts_anew(alloc: Global) -> bool {

@@ -195,9 +195,9 @@ fn came(reader: &mut Poor<'_>) -> usize {
 
 /// Whether each event that came before a refusal is held, over a heap of this size, and how many they are.
 fn held_at(alloc: Global, size: usize) -> Result<Option<usize>, AllocError> {
+    let script = script_of(alloc, &LETTERS_AND_REPLIES)?;
     let heap = LocalHeap::new(alloc, size)?;
-    let source = DeviceSource::new(&heap, script_of(alloc, &LETTERS_AND_REPLIES)?);
-    let mut reader = InternalEventReader::new(&heap, source);
+    let mut reader = InternalEventReader::new(&heap, DeviceSource::new(&heap, script));
     let count = came(&mut reader);
     let held = count_of(reader.held());
     Ok((held == count).then_some(count))

@@ -19,11 +19,8 @@ pub fn endless(
     (byte, count): (u8, usize),
     back: &[u8],
 ) -> Result<Vec<u8>, AllocError> {
-    let mut bytes = Vec::new(alloc);
-    bytes.extend_from_slice(front)?;
-    for _ in 0..count {
-        bytes.push(byte)?;
-    }
+    let mut bytes = Vec::from_slice(alloc, front)?;
+    bytes.resize(front.len().saturating_add(count), byte)?;
     bytes.extend_from_slice(back)?;
     Ok(bytes)
 }

@@ -8,7 +8,7 @@ use crossterm_types::event::{Event, InternalEvent, KeyCode};
 use linked_list_allocator::LocalHeap;
 use std::alloc::{AllocError, Allocator, Global};
 use std::io;
-use test_support::expect;
+use test_support::{expect, text};
 
 /// How many pieces of one letter a long script has.
 const ACTS: usize = 5_000;
@@ -30,9 +30,7 @@ fn is_letter<A: Allocator>(event: Option<&InternalEvent<A>>, place: usize) -> bo
 fn long_script(alloc: Global) -> Result<Vec<Act>, AllocError> {
     let mut acts = Vec::new(alloc);
     for place in 0..ACTS {
-        let mut bytes = Vec::new(alloc);
-        bytes.push(letter(place))?;
-        acts.push(Act::Piece { bytes, raw: false })?;
+        acts.push(text(alloc, &[letter(place)])?)?;
     }
     Ok(acts)
 }
@@ -42,10 +40,12 @@ fn long_calls(alloc: Global) -> Result<Vec<Call>, AllocError> {
     let filter = AnyFilter::Event;
     let mut calls = Vec::new(alloc);
     for _ in 0..ACTS {
-        calls.push(Call::Poll { tries: 1, filter })?;
-        calls.push(Call::Read { tries: 0, filter })?;
-        calls.push(Call::Take { filter })?;
-        calls.push(Call::Read { tries: 0, filter })?;
+        calls.extend_from_slice(&[
+            Call::Poll { tries: 1, filter },
+            Call::Read { tries: 0, filter },
+            Call::Take { filter },
+            Call::Read { tries: 0, filter },
+        ])?;
     }
     Ok(calls)
 }

@@ -7,7 +7,7 @@ use crossterm_types::event::filter::EventFilter;
 use crossterm_types::event::{Event, InternalEvent, KeyCode, KeyboardEnhancementFlags};
 use linked_list_allocator::LocalHeap;
 use std::alloc::{AllocError, Allocator, Global};
-use std::io::ErrorKind;
+use std::io::{self, ErrorKind};
 use test_support::expect;
 
 /// How large the heaps are.
@@ -85,10 +85,27 @@ fn number_of<A: Allocator>(event: &InternalEvent<A>) -> u32 {
     }
 }
 
-/// The number of no event and of a fault.
+/// The numbers of no event, of a fault, of memory that was refused, and of the end of input.
 const NONE: u32 = 0x11_0006;
 
 const FAULT: u32 = 0x11_0007;
+
+const REFUSED: u32 = 0x11_0008;
+
+const END: u32 = 0x11_0009;
+
+/// The number of what came of a read.
+fn number_in<A: Allocator>(read: io::Result<Option<InternalEvent<A>>>) -> u32 {
+    match read {
+        Ok(Some(event)) => number_of(&event),
+        Ok(None) => NONE,
+        Err(error) => match error.kind() {
+            ErrorKind::OutOfMemory => REFUSED,
+            ErrorKind::UnexpectedEof => END,
+            _ => FAULT,
+        },
+    }
+}
 
 type Poor<'a> = InternalEventReader<DeviceSource<Script, &'a LocalHeap>, &'a LocalHeap>;
 
@@ -110,12 +127,10 @@ fn read_all<'a>(
     let mut seen = Vec::new(alloc);
     let mut taken = Some(block);
     for _ in 0..CALLS {
-        match reader.read_within(99, &EventFilter) {
-            Ok(Some(event)) => seen.push(number_of(&event))?,
-            Ok(None) => seen.push(NONE)?,
-            Err(error) if error.kind() == ErrorKind::OutOfMemory => taken = None,
-            Err(error) if error.kind() == ErrorKind::UnexpectedEof => break,
-            Err(_) => seen.push(FAULT)?,
+        match number_in(reader.read_within(99, &EventFilter)) {
+            REFUSED => taken = None,
+            END => break,
+            number => seen.push(number)?,
         }
     }
     Ok((seen, taken.is_none()))
@@ -123,10 +138,10 @@ fn read_all<'a>(
 
 /// What a session gives over a heap with so many free bytes, and whether memory was refused.
 fn played(alloc: Global, session: &Session, free: usize) -> Result<(Vec<u32>, bool), AllocError> {
+    let script = script_of(alloc, session)?;
     let heap = LocalHeap::new(alloc, HEAP)?;
     let block = all_but(&heap, free)?;
-    let source = DeviceSource::new(&heap, script_of(alloc, session)?);
-    let mut reader = InternalEventReader::new(&heap, source);
+    let mut reader = InternalEventReader::new(&heap, DeviceSource::new(&heap, script));
     read_all(alloc, &mut reader, block)
 }
 
@@ -185,10 +200,10 @@ fn queried<'a>(reader: &mut Poor<'a>, block: Block<'a>) -> (bool, bool) {
 
 /// Whether it does so over a heap with so many free bytes.
 fn queries(alloc: Global, free: usize) -> Result<(bool, bool), AllocError> {
+    let script = Script::new(acts_of(alloc, &FLAGS)?);
     let heap = LocalHeap::new(alloc, HEAP)?;
     let block = all_but(&heap, free)?;
-    let source = DeviceSource::new(&heap, Script::new(acts_of(alloc, &FLAGS)?));
-    let mut reader = InternalEventReader::new(&heap, source);
+    let mut reader = InternalEventReader::new(&heap, DeviceSource::new(&heap, script));
     Ok(queried(&mut reader, block))
 }
 

@@ -138,44 +138,43 @@ static WOKEN: [Part; 3] = [
     Part::Fault(ErrorKind::Other),
 ];
 
-/// Whether a wake-up ends a poll, and a read goes on after one and answers a fault.
-fn is_woken<R: Wait>(rt: &R, alloc: Global) -> Result<bool, AllocError> {
-    let mut polled = script_of(alloc, &WOKEN)?;
-    let mut read = script_of(alloc, &WOKEN)?;
-    let ends = polls(rt, &mut polled, None, false) && polls(rt, &mut polled, None, true);
-    let goes_on = is_resize(read.read(rt, &EventFilter));
-    let fails =
-        matches!(read.read(rt, &EventFilter), Err(error) if error.kind() == ErrorKind::Other);
-    Ok(ends && goes_on && fails)
+/// Whether a wake-up ends a poll.
+fn is_ended<R: Wait>(rt: &R, reader: &mut Reader<Script>) -> bool {
+    polls(rt, reader, None, false) && polls(rt, reader, None, true)
+}
+
+/// Whether a read goes on after a wake-up and answers a fault.
+fn goes_on<R: Wait>(rt: &R, reader: &mut Reader<Script>) -> bool {
+    is_resize(reader.read(rt, &EventFilter))
+        && matches!(reader.read(rt, &EventFilter), Err(error) if error.kind() == ErrorKind::Other)
 }
 
 #[test]
 fn wake_ups_end_polls_alone(rt: HostRuntime) -> Result<(), AllocError> {
-    expect!(rt; is_woken(&rt, rt.alloc())?);
+    expect!(rt; is_ended(&rt, &mut script_of(rt.alloc(), &WOKEN)?));
+    expect!(rt; goes_on(&rt, &mut script_of(rt.alloc(), &WOKEN)?));
     Ok(())
 }
 
 static LETTER_AND_PLACE: [Part; 1] = [Part::Text(b"a\x1b[20;10R", 1, false)];
 
-/// Whether the letter alone is held.
-fn holds_the_letter(reader: &Reader<Script>) -> bool {
-    count_of(reader.held()) == 1
+/// Whether an answer is this place, or the error that none came.
+fn is_place(answer: io::Result<(u16, u16)>, want: Option<(u16, u16)>) -> bool {
+    match answer {
+        Ok(place) => want == Some(place),
+        Err(error) => want.is_none() && error.kind() == ErrorKind::Other,
+    }
 }
 
-/// Whether the cursor's place is returned within these tries, and the letter stays.
-fn is_placed(alloc: Global, tries: u32, want: Option<(u16, u16)>) -> Result<bool, AllocError> {
-    let mut reader = script_of(alloc, &LETTER_AND_PLACE)?;
-    let place = match reader.position_within(tries) {
-        Ok(place) => Some(place),
-        Err(error) if error.kind() == ErrorKind::Other => None,
-        Err(_) => return Ok(false),
-    };
-    Ok(place == want && holds_the_letter(&reader))
+/// Whether the cursor's place is returned within these tries, and the letter alone is held.
+fn is_placed(reader: &mut Reader<Script>, tries: u32, want: Option<(u16, u16)>) -> bool {
+    is_place(reader.position_within(tries), want) && count_of(reader.held()) == 1
 }
 
 #[test]
 fn places_are_told_within_tries(rt: HostRuntime) -> Result<(), AllocError> {
-    expect!(rt; is_placed(rt.alloc(), 2, Some((9, 19)))?);
-    expect!(rt; is_placed(rt.alloc(), 1, None)?);
+    let (place, alloc) = (Some((9, 19)), rt.alloc());
+    expect!(rt; is_placed(&mut script_of(alloc, &LETTER_AND_PLACE)?, 2, place));
+    expect!(rt; is_placed(&mut script_of(alloc, &LETTER_AND_PLACE)?, 1, None));
     Ok(())
 }

@@ -4,7 +4,7 @@ use crossterm_read::source::{PolledDevice, RawFlag, SocketDevice};
 use mio::net::TcpListener;
 use std::alloc::Global;
 use std::fs::{File, Files};
-use std::io::{self, ErrorKind, PipeReader, PipeWriter};
+use std::io::{self, ErrorKind, PipeReader, PipeWriter, Read};
 use std::net::{Ipv4Addr, Net, SocketAddr, TcpStream};
 use std::os::fd::AsRawFd;
 use std::time::Clock;
@@ -29,11 +29,29 @@ pub fn cooked(alloc: Global) -> io::Result<RawFlag> {
     RawFlag::new(alloc)
 }
 
+/// A device over this input, and over what reports its sizes if there is something.
+pub fn polled<I: Read + AsRawFd + Drop, R: Net>(
+    rt: &R,
+    alloc: Global,
+    input: I,
+    sizes: Option<File>,
+) -> io::Result<PolledDevice<I>> {
+    PolledDevice::new(rt, alloc, input, cooked(alloc)?, sizes)
+}
+
+/// A device over a pipe, and over what reports its sizes if there is something.
+pub fn piped_beside<R: Net + Files>(
+    rt: &R,
+    alloc: Global,
+    sizes: Option<File>,
+) -> io::Result<Piped> {
+    let (near, far) = io::pipe(rt)?;
+    Ok((polled(rt, alloc, near, sizes)?, far))
+}
+
 /// A device over a pipe.
 pub fn piped<R: Net + Files>(rt: &R, alloc: Global) -> io::Result<Piped> {
-    let (near, far) = io::pipe(rt)?;
-    let device = PolledDevice::new(rt, alloc, near, cooked(alloc)?, None)?;
-    Ok((device, far))
+    piped_beside(rt, alloc, None)
 }
 
 /// What this end of a pipe reads, as a file.
@@ -44,10 +62,8 @@ pub fn as_file<R: Files<File = File>>(rt: &R, alloc: Global, end: &PipeReader) -
 
 /// A device over a pipe, whose sizes come by another.
 pub fn sized<R: Net + Files<File = File>>(rt: &R, alloc: Global) -> io::Result<SizedEnds> {
-    let (near, input) = io::pipe(rt)?;
     let (end, sizes) = io::pipe(rt)?;
-    let file = as_file(rt, alloc, &end)?;
-    let device = PolledDevice::new(rt, alloc, near, cooked(alloc)?, Some(file))?;
+    let (device, input) = piped_beside(rt, alloc, Some(as_file(rt, alloc, &end)?))?;
     Ok(SizedEnds {
         device,
         input,
@@ -88,8 +104,7 @@ pub fn connected<R: Net + Clock>(
     let (far, near) = connection(rt)?;
     let near = TcpStream::from(near);
     near.set_nonblocking(false)?;
-    let device = PolledDevice::new(rt, alloc, near, cooked(alloc)?, None)?;
-    Ok((device, far))
+    Ok((polled(rt, alloc, near, None)?, far))
 }
 
 /// A socket's device.

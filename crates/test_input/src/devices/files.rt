@@ -1,13 +1,12 @@
 //! What the system can't watch.
 
 use crate::devices::answers::{NOW, is_woken, sends, tells, waits_out, wakes_by};
-use crate::devices::ends::cooked;
+use crate::devices::ends::{piped_beside, polled};
 use crossterm_read::source::{Device, PolledDevice};
 use std::alloc::Global;
 use std::fs::{File, Files};
 use std::io::{self, Read};
 use std::net::Net;
-use std::time::Clock;
 use test_support::expect;
 
 // A regular file that is there: the test itself.
@@ -29,39 +28,35 @@ fn tells_all<D: Device>(device: &mut D, file: &mut File) -> bool {
     wakes_by(device.waker()) && is_woken(device, None) && tells_on(device, file)
 }
 
-/// Whether a device over a regular file reports its first bytes, as a read of the file returns them, and without waiting.
-fn tells_a_file<R: Net + Files<File = File>>(rt: &R, alloc: Global) -> io::Result<bool> {
-    let mut device = PolledDevice::new(rt, alloc, File::open(rt, REGULAR)?, cooked(alloc)?, None)?;
-    Ok(tells_all(&mut device, &mut File::open(rt, REGULAR)?))
+/// A device over a file.
+fn over<R: Net + Files<File = File>>(
+    rt: &R,
+    alloc: Global,
+    path: &str,
+) -> io::Result<PolledDevice<File>> {
+    polled(rt, alloc, File::open(rt, path)?, None)
 }
 
 /// Whether a device over what is empty reports the end at once, and again.
-fn tells_nothing<R: Net + Files<File = File>>(rt: &R, alloc: Global) -> io::Result<bool> {
-    let file = File::open(rt, "/dev/null")?;
-    let mut device = PolledDevice::new(rt, alloc, file, cooked(alloc)?, None)?;
-    Ok(tells(&mut device, None, b"") && tells(&mut device, None, b""))
+fn tells_nothing<D: Device>(device: &mut D) -> bool {
+    tells(device, None, b"") && tells(device, None, b"")
 }
 
 #[test]
 fn a_file_is_read_at_once(rt: HostRuntime) -> io::Result<()> {
-    expect!(rt; tells_a_file(&rt, rt.alloc())?);
-    expect!(rt; tells_nothing(&rt, rt.alloc())?);
+    // What a read of the file returns is what a device over it reports.
+    let mut file = File::open(&rt, REGULAR)?;
+    expect!(rt; tells_all(&mut over(&rt, rt.alloc(), REGULAR)?, &mut file));
+    expect!(rt; tells_nothing(&mut over(&rt, rt.alloc(), "/dev/null")?));
     Ok(())
-}
-
-/// Whether sizes that end at once end nothing else: bytes come, and limits are waited out.
-fn goes_on_without_sizes<R: Net + Files<File = File> + Clock>(
-    rt: &R,
-    alloc: Global,
-) -> io::Result<bool> {
-    let sizes = File::open(rt, "/dev/null")?;
-    let (near, mut far) = io::pipe(rt)?;
-    let mut device = PolledDevice::new(rt, alloc, near, cooked(alloc)?, Some(sizes))?;
-    Ok(sends(&mut far, b"a") && tells(&mut device, NOW, b"a") && waits_out(rt, &mut device, 30))
 }
 
 #[test]
 fn sizes_may_be_none(rt: HostRuntime) -> io::Result<()> {
-    expect!(rt; goes_on_without_sizes(&rt, rt.alloc())?);
+    // They end at once, and end nothing else: bytes come, and limits are waited out.
+    let sizes = File::open(&rt, "/dev/null")?;
+    let (mut device, mut far) = piped_beside(&rt, rt.alloc(), Some(sizes))?;
+    expect!(rt; sends(&mut far, b"a") && tells(&mut device, NOW, b"a"));
+    expect!(rt; waits_out(&rt, &mut device, 30));
     Ok(())
 }

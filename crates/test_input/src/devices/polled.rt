@@ -7,9 +7,7 @@ use crate::expect_of_each;
 use crossterm_read::source::{Device, DeviceSource, EventSource};
 use crossterm_types::event::KeyCode;
 use std::alloc::Global;
-use std::fs::Files;
 use std::io::{self, Write};
-use std::net::Net;
 use std::time::Clock;
 use test_support::expect;
 
@@ -79,17 +77,17 @@ fn pipes_connections_and_sockets_are_told(rt: HostRuntime) -> io::Result<()> {
 }
 
 /// Whether a sequence that is cut between two answers is one key.
-fn joins_a_sequence<R: Net + Files>(rt: &R, alloc: Global) -> io::Result<bool> {
-    let (device, mut far) = piped(rt, alloc)?;
-    let mut source = DeviceSource::new(alloc, device);
-    far.write_all(b"\x1b[1")?;
-    let none = source.try_read(long())?.is_none() && source.try_read(NOW)?.is_none();
-    far.write_all(b";2A")?;
-    Ok(none && is_key(source.try_read(long())?, KeyCode::Up))
+fn joins_a_sequence<S: EventSource<Global> + Drop, W: Write>(mut source: S, far: &mut W) -> bool {
+    sends(far, b"\x1b[1")
+        && matches!(source.try_read(long()), Ok(None))
+        && matches!(source.try_read(NOW), Ok(None))
+        && sends(far, b";2A")
+        && is_key(source.try_read(long()), KeyCode::Up)
 }
 
 #[test]
 fn a_sequence_may_be_cut(rt: HostRuntime) -> io::Result<()> {
-    expect!(rt; joins_a_sequence(&rt, rt.alloc())?);
+    let (device, mut far) = piped(&rt, rt.alloc())?;
+    expect!(rt; joins_a_sequence(DeviceSource::new(rt.alloc(), device), &mut far));
     Ok(())
 }

@@ -1,6 +1,6 @@
 //! A device over a reader.
 
-use crate::devices::answers::{NOW, fails, is_idle, is_raw, tells, tells_many};
+use crate::devices::answers::{NOW, fails, is_idle, is_raw, tells, tells_many, wakes_by};
 use crate::devices::ends::cooked;
 use crossterm_read::source::{Device, DeviceSource, EventSource, RawFlag, ReadDevice};
 use crossterm_types::event::{Event, InternalEvent, KeyCode};
@@ -9,29 +9,25 @@ use std::io::{self, Cursor, ErrorKind, Read};
 use test_support::expect;
 
 /// Whether a device over a list of bytes reports them, and then the end for good.
-fn tells_a_list(alloc: Global) -> io::Result<bool> {
-    let mut device = ReadDevice::new(&b"abc"[..], cooked(alloc)?);
-    Ok(
-        tells(&mut device, None, b"abc")
-            && tells(&mut device, None, b"")
-            && tells(&mut device, NOW, b""),
-    )
+fn tells_a_list(flag: RawFlag) -> bool {
+    let mut device = ReadDevice::new(&b"abc"[..], flag);
+    tells(&mut device, None, b"abc")
+        && tells(&mut device, None, b"")
+        && tells(&mut device, NOW, b"")
 }
 
 /// Whether a buffer at a time is reported.
-fn tells_by_buffers(alloc: Global) -> io::Result<bool> {
-    let mut device = ReadDevice::new(Cursor::new([7u8; 1025]), cooked(alloc)?);
-    Ok(
-        tells_many(&mut device, None, 7, 1024)
-            && tells_many(&mut device, None, 7, 1)
-            && tells(&mut device, None, b""),
-    )
+fn tells_by_buffers(flag: RawFlag) -> bool {
+    let mut device = ReadDevice::new(Cursor::new([7u8; 1025]), flag);
+    tells_many(&mut device, None, 7, 1024)
+        && tells_many(&mut device, None, 7, 1)
+        && tells(&mut device, None, b"")
 }
 
 #[test]
 fn a_reader_is_told_to_its_end(rt: HostRuntime) -> io::Result<()> {
-    expect!(rt; tells_a_list(rt.alloc())?);
-    expect!(rt; tells_by_buffers(rt.alloc())?);
+    expect!(rt; tells_a_list(cooked(rt.alloc())?));
+    expect!(rt; tells_by_buffers(cooked(rt.alloc())?));
     Ok(())
 }
 
@@ -60,53 +56,49 @@ impl Read for Faulty {
 }
 
 /// Whether an error is a failure if it says more than that nothing came.
-fn tells_faults(alloc: Global) -> io::Result<bool> {
-    let mut device = ReadDevice::new(Faulty { reads: 0 }, cooked(alloc)?);
+fn tells_faults(flag: RawFlag) -> bool {
+    let mut device = ReadDevice::new(Faulty { reads: 0 }, flag);
     let idle = is_idle(&mut device, None) && is_idle(&mut device, None) && device.failures() == 0;
     let fails = fails(&mut device, ErrorKind::Other) && device.failures() == 1;
-    Ok(idle && fails && tells(&mut device, None, b"x") && device.failures() == 1)
+    idle && fails && tells(&mut device, None, b"x") && device.failures() == 1
 }
 
 #[test]
 fn an_error_is_told_and_counted(rt: HostRuntime) -> io::Result<()> {
-    expect!(rt; tells_faults(rt.alloc())?);
+    expect!(rt; tells_faults(cooked(rt.alloc())?));
     Ok(())
 }
 
 /// Whether bytes come in the mode that the flag says then, and whether waking changes anything.
-fn follows_its_flag(alloc: Global) -> io::Result<bool> {
-    let flag = RawFlag::new(alloc)?;
-    let mut device = ReadDevice::new(Cursor::new([7u8; 2500]), flag.share()?);
-    device.waker()?.wake()?;
-    let cooked = !is_raw(&mut device);
+fn follows_its_flag(flag: &RawFlag, shared: RawFlag) -> bool {
+    let mut device = ReadDevice::new(Cursor::new([7u8; 2500]), shared);
+    let cooked = wakes_by(device.waker()) && !is_raw(&mut device);
     flag.set(true);
-    Ok(cooked && is_raw(&mut device))
+    cooked && is_raw(&mut device)
 }
 
 #[test]
 fn bytes_come_in_the_mode_of_the_flag(rt: HostRuntime) -> io::Result<()> {
-    expect!(rt; follows_its_flag(rt.alloc())?);
+    let flag = cooked(rt.alloc())?;
+    expect!(rt; follows_its_flag(&flag, flag.share()?));
     Ok(())
 }
 
-/// Whether the next event is that of a key.
-pub fn is_key(event: Option<InternalEvent>, code: KeyCode) -> bool {
-    matches!(event, Some(InternalEvent::Event(Event::Key(key))) if key.code == code)
+/// Whether what was read is the event of a key.
+pub fn is_key(read: io::Result<Option<InternalEvent>>, code: KeyCode) -> bool {
+    matches!(read, Ok(Some(InternalEvent::Event(Event::Key(key)))) if key.code == code)
 }
 
-/// Whether a source over a device over a reader gives keys.
-fn gives_keys(alloc: Global) -> io::Result<bool> {
-    let device = ReadDevice::new(&b"a\x1b[A"[..], cooked(alloc)?);
-    let mut source = DeviceSource::new(alloc, device);
-    let first = is_key(source.try_read(None)?, KeyCode::Char('a'));
-    let second = is_key(source.try_read(None)?, KeyCode::Up);
-    let ended =
-        matches!(source.try_read(None), Err(error) if error.kind() == ErrorKind::UnexpectedEof);
-    Ok(first && second && ended)
+/// Whether a source over a device over a reader gives keys, and then the end.
+fn gives_keys<S: EventSource<Global> + Drop>(mut source: S) -> bool {
+    is_key(source.try_read(None), KeyCode::Char('a'))
+        && is_key(source.try_read(None), KeyCode::Up)
+        && matches!(source.try_read(None), Err(error) if error.kind() == ErrorKind::UnexpectedEof)
 }
 
 #[test]
 fn a_source_reads_a_reader(rt: HostRuntime) -> io::Result<()> {
-    expect!(rt; gives_keys(rt.alloc())?);
+    let device = ReadDevice::new(&b"a\x1b[A"[..], cooked(rt.alloc())?);
+    expect!(rt; gives_keys(DeviceSource::new(rt.alloc(), device)));
     Ok(())
 }

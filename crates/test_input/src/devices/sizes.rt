@@ -3,12 +3,11 @@
 use crate::devices::answers::{
     NOW, fails, is_idle, is_woken, resizes, sends, tells, waits_out, wakes_by,
 };
-use crate::devices::ends::{SizedEnds, cooked, sized};
-use crossterm_read::source::{Device, PolledDevice};
+use crate::devices::ends::{SizedEnds, piped_beside, polled, sized};
+use crossterm_read::source::Device;
 use std::alloc::Global;
 use std::fs::{File, Files, OpenOptions};
-use std::io::{self, ErrorKind};
-use std::net::Net;
+use std::io::{self, ErrorKind, Write};
 use std::os::fd::AsRawFd;
 use std::time::Clock;
 use test_support::expect;
@@ -102,30 +101,26 @@ fn unreadable<R: Files<File = File>>(rt: &R, alloc: Global) -> io::Result<File> 
 }
 
 /// Whether a failure of sizes is reported once, and the input goes on.
-fn outlives_a_failure<R: Net + Files<File = File> + Clock>(
-    rt: &R,
-    alloc: Global,
-) -> io::Result<bool> {
-    let sizes = unreadable(rt, alloc)?;
-    let (near, mut far) = io::pipe(rt)?;
-    let mut device = PolledDevice::new(rt, alloc, near, cooked(alloc)?, Some(sizes))?;
-    let failed = sends(&mut far, b"ab")
-        && fails(&mut device, ErrorKind::Uncategorized)
-        && device.failures() == 1;
-    Ok(failed && tells(&mut device, None, b"ab") && waits_out(rt, &mut device, 30))
+fn outlives_a_failure<D: Device, W: Write, R: Clock>(rt: &R, device: &mut D, far: &mut W) -> bool {
+    sends(far, b"ab")
+        && fails(device, ErrorKind::Uncategorized)
+        && device.failures() == 1
+        && tells(device, None, b"ab")
+        && waits_out(rt, device, 30)
 }
 
 /// Whether a failure of the input is reported each time.
-fn fails_again<R: Net + Files<File = File>>(rt: &R, alloc: Global) -> io::Result<bool> {
-    let input = unreadable(rt, alloc)?;
-    let mut device = PolledDevice::new(rt, alloc, input, cooked(alloc)?, None)?;
+fn fails_again<D: Device>(device: &mut D) -> bool {
     let kind = ErrorKind::Uncategorized;
-    Ok(fails(&mut device, kind) && fails(&mut device, kind) && device.failures() == 2)
+    fails(device, kind) && fails(device, kind) && device.failures() == 2
 }
 
 #[test]
 fn a_failure_is_told(rt: HostRuntime) -> io::Result<()> {
-    expect!(rt; outlives_a_failure(&rt, rt.alloc())?);
-    expect!(rt; fails_again(&rt, rt.alloc())?);
+    let input = unreadable(&rt, rt.alloc())?;
+    expect!(rt; fails_again(&mut polled(&rt, rt.alloc(), input, None)?));
+    let sizes = unreadable(&rt, rt.alloc())?;
+    let (mut device, mut far) = piped_beside(&rt, rt.alloc(), Some(sizes))?;
+    expect!(rt; outlives_a_failure(&rt, &mut device, &mut far));
     Ok(())
 }
