@@ -11,7 +11,7 @@ use Rattle.crossterm_c.specs.declared.event.GelvanhEvent.{GelvanhEvent}
 
 -- The parser as its caller has it: a state, the bytes of an open paste, which the caller keeps, and the events that were given so far.
 abbrev pub view_of : State → List ℕ → List Seen → ParserView
-view_of state kept waiting = record { waiting = waiting; state = state; text = kept; room = 0 }
+view_of state kept waiting = record { waiting = waiting; state = state; text = kept; typed = 0; room = 0 }
 
 -- The bytes that a caller keeps of a paste, with those that a call took: none where no paste was open before the call.
 abbrev pub kept_with : State → List ℕ → List ℕ → List ℕ

@@ -6,7 +6,7 @@ ghost use Rattle.crossterm_c.specs.inside.Table.{Filled, PutsEvents, capacity, f
 
 use crate::event::{GelvanhEvent, of_key, of_meaning};
 use crate::held::GelvanhHeld;
-use crossterm_parse::meaning::{Meaning, ascii_key};
+use crossterm_parse::meaning::{Meaning, ascii_key, typed_key};
 use crossterm_parse::outlet::Outlet;
 
 /// A table of events, or of held events; the other slice isn't used.
@@ -68,6 +68,8 @@ impl Outlet for Table<'_> {
 
     ghost room = { λ t. capacity t - t.end };
 
+    ghost typed_room = { λ t. capacity t - t.end };
+
     ghost given_none = { filled_none };
 
     ghost given_on = { filled_on };
@@ -85,6 +87,20 @@ impl Outlet for Table<'_> {
     #[inline(always)]
     fn give(&mut self, meaning: Meaning) {
         self.push(of_meaning(meaning));
+    }
+
+    #[inline(always)]
+    fn typed_room_now(&self) -> usize {
+        self.room_now()
+    }
+
+    #[inline(always)]
+    fn give_typed(&mut self, c: char) -> bool {
+        if self.is_full() {
+            return false;
+        }
+        self.push(of_key(typed_key(c)));
+        true
     }
 
     #[inline(always)]

@@ -1,5 +1,6 @@
 -- The first event of a piece.
 use Rattle.std.proofs.Common.{◌≡◌, ◌≢◌, ◌≤◌, ◌<◌, inl, inr, ℕ, ◌+◌, Bool, List, [], ◌∷◌, ◌++◌, length, take, drop, Option, Some, None, IfNone, IfSome, ap, sym, ◌∙◌, arith, refl}
+use Rattle.std.proofs.lemmas.List.{length-drop}
 use Rattle.std.specs.Option.{option_map}
 use Rattle.crossterm_types.specs.Seen.{Seen}
 use Rattle.crossterm_parse.specs.Marked.{marked}
@@ -8,7 +9,7 @@ use Rattle.crossterm_parse.proofs.ViewLaws.{advance_none, some_ends}
 
 -- an event that waits
 pub first_waits : {X : Type 0} (see : X → Seen) (old new : ParserView) (piece : List ℕ) (more raw : Bool) (r : Option X) → old.waiting ≢ [] → IfNone r (old.waiting ≡ []) → IfSome r (λ x. old.waiting ≡ see x ∷ new.waiting)
-    → RepresentsSame old new → capacity new ≡ capacity old → TakesFirst old new piece more raw (option_map see r) 0
+    → RepresentsSame old new → old.room ≤ new.room → TakesFirst old new piece more raw (option_map see r) 0
 first_waits see old new piece more raw None some none first same room = absurd (some none)
 first_waits see old new piece more raw (Some x) some none first same room = record {
   within = omega arith;
@@ -21,7 +22,7 @@ first_waits see old new piece more raw (Some x) some none first same room = reco
   quiet = λ e q. absurd (some e);
   stops = λ e l. elim e [ inl none ↦ absurd (cc) | inr empty ↦ absurd (some empty) ];
   full = λ e l. absurd (cc);
-  room = let count = ap length first in omega (arith, room, count);
+  room = omega (arith, room);
 }
 
 -- one that comes alone, which isn't kept
@@ -45,9 +46,9 @@ first_in_front old piece more raw e n empty whole over = record {
 pub first_kept : {X : Type 0} (see : X → Seen) (old mid new : ParserView) (piece : List ℕ) (more raw : Bool) (n : ℕ) (r : Option X) → old.waiting ≡ [] → n ≤ length piece → AdvancesOver old mid (take n (marked piece more raw))
     → (EndsNoEvent old (marked piece more raw) → n ≡ length piece) → (n < length piece → ¬ EndsNoEvent mid (take 1 (drop n (marked piece more raw))))
     → (n < length piece → OpensNoPaste mid (take 1 (drop n (marked piece more raw))) → mid.room ≡ 0) → old.room ≤ mid.room + n
-    → IfNone r ((mid.waiting ≡ []) × (new.waiting ≡ [])) → IfSome r (λ x. mid.waiting ≡ see x ∷ new.waiting) → RepresentsSame mid new → capacity new ≡ capacity mid
+    → IfNone r ((mid.waiting ≡ []) × (new.waiting ≡ [])) → IfSome r (λ x. mid.waiting ≡ see x ∷ new.waiting) → RepresentsSame mid new → capacity new ≡ capacity mid → mid.room ≤ new.room
     → TakesFirst old new piece more raw (option_map see r) n
-first_kept see old mid new piece more raw n None empty within over quiet stops full room none some same grows = record {
+first_kept see old mid new piece more raw n None empty within over quiet stops full room none some same keeps grows = record {
   within = within;
   mid = mid;
   divided = over;
@@ -57,10 +58,10 @@ first_kept see old mid new piece more raw n None empty within over quiet stops f
   none = λ e. none.1;
   quiet = λ e. quiet;
   stops = λ e. stops;
-  full = λ e l opens. let empty = full l opens in let count = ap length none.0 in let last = ap length none.1 in omega (arith, grows, count, last, empty);
-  room = let count = ap length none.0 in let last = ap length none.1 in omega (arith, room, grows, count, last);
+  full = λ e l opens. omega (arith, keeps, full l opens, ap length none.0, ap length none.1, length-drop mid.typed mid.waiting, length-drop new.typed new.waiting);
+  room = omega (arith, room, grows);
 }
-first_kept see old mid new piece more raw n (Some x) empty within over quiet stops full room none some same grows = record {
+first_kept see old mid new piece more raw n (Some x) empty within over quiet stops full room none some same keeps grows = record {
   within = within;
   mid = mid;
   divided = over;
@@ -71,5 +72,5 @@ first_kept see old mid new piece more raw n (Some x) empty within over quiet sto
   quiet = λ e. quiet;
   stops = λ e. stops;
   full = λ e l. absurd (cc);
-  room = let count = ap length some in omega (arith, room, grows, count);
+  room = omega (arith, room, grows);
 }

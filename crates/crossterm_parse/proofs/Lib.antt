@@ -1,4 +1,5 @@
 pub mod Ascii
+pub mod BlockLaws
 pub mod CuttingLaws
 pub mod DivisionLaws
 pub mod EndLaws
@@ -10,6 +11,7 @@ pub mod MachineLaws
 pub mod NumberLaws
 pub mod PasteLaws
 pub mod PlainLaws
+pub mod QueueLaws
 pub mod RunLaws
 pub mod TakingLaws
 pub mod ViewLaws

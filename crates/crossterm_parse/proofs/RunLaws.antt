@@ -80,7 +80,7 @@ on_after raw old mid new bs i n all more =
     (on_join raw (take i bs) (take n (drop i bs)) old mid new all (subst (λ (cs : List ℕ). PutsOn raw mid new (take n cs)) (take_all (length bs - i) (drop i bs) left) more))
 
 plain_byte : (old : ParserView) (b : ℕ) (raw pause : Bool) → b == 27 ≡ false → old.state ≡ Paste met.Nothing
-    → PutsByte old (record { waiting = old.waiting; state = old.state; text = old.text ++ b ∷ []; room = old.room }) b raw pause
+    → PutsByte old (record { waiting = old.waiting; state = old.state; text = old.text ++ b ∷ []; typed = old.typed; room = old.room }) b raw pause
 plain_byte old b raw pause e is = (
   is ∙ sym (ap (λ (s : State). state_left (state_after s b raw pause)) is ∙ ap (λ (t : Bool). Paste (if t then met.Escape else met.Nothing)) e),
   sym (ap (λ (s : State). text_left (state_after s b raw pause) s old.text b) is),
@@ -92,7 +92,7 @@ pub paste_run : (bs : List ℕ) (old new : ParserView) → AllByRecursion (λ b.
     → new.text ≡ old.text ++ bs → new.waiting ≡ old.waiting → PutsAll old new bs
 paste_run [] old new none is state text waiting = (state, text ∙ append-nil old.text, waiting)
 paste_run (b ∷ bs) old new none is state text waiting =
-    let mid : ParserView = record { waiting = old.waiting; state = old.state; text = old.text ++ b ∷ []; room = old.room } in
+    let mid : ParserView = record { waiting = old.waiting; state = old.state; text = old.text ++ b ∷ []; typed = old.typed; room = old.room } in
     (mid, (λ raw pause. plain_byte old b raw pause none.0 is), paste_run bs mid new none.1 is state (text ∙ sym (append_assoc old.text (b ∷ []) bs)) waiting)
 
 -- where ESC stands at no place below n, none of the first n bytes is one
@@ -157,7 +157,7 @@ opens_more old mid new (x ∷ xs) b all opens outside = (all.0, all.1, all.2, op
 pub opens_puts : (bs : List ℕ) (old new : ParserView) → Opens old.state new.state bs → new.text ≡ old.text → new.waiting ≡ old.waiting → PutsAll old new bs
 opens_puts [] old new opens text waiting = (opens, text, waiting)
 opens_puts (b ∷ bs) old new opens text waiting =
-    let mid : ParserView = record { waiting = old.waiting; state = opens.0; text = old.text; room = old.room } in
+    let mid : ParserView = record { waiting = old.waiting; state = opens.0; text = old.text; typed = old.typed; room = old.room } in
     let puts : (raw pause : Bool) → PutsByte old mid b raw pause = λ raw pause. (
       ap (λ (s : Step). state_left s) (sym (opens.1 raw pause)),
       sym (ap (λ (s : Step). text_left s old.state old.text b) (opens.1 raw pause)
@@ -206,7 +206,7 @@ idle_report p b low high sound same raw pause =
 
 -- ESC and a byte that stands with it
 escape_byte : (old : ParserView) (bs : List ℕ) (raw pause : Bool) → 0 < length bs → (pause ≡ true → length bs ≡ 0) → old.state ≡ Ground
-    → PutsByte old (record { waiting = old.waiting; state = Escape; text = old.text; room = old.room }) 27 raw pause
+    → PutsByte old (record { waiting = old.waiting; state = Escape; text = old.text; typed = old.typed; room = old.room }) 27 raw pause
 escape_byte old bs raw true some last ground = absurd (omega (arith, some, last refl))
 escape_byte old bs raw false some last ground =
     let step : state_after old.state 27 raw false ≡ Open Escape = ap (λ (s : State). state_after s 27 raw false) ground in (
@@ -218,7 +218,7 @@ escape_byte old bs raw false some last ground =
 escape_on : (raw : Bool) (old new : ParserView) (b : ℕ) (bs : List ℕ) → old.state ≡ Ground → Opens Escape new.state (b ∷ bs) → new.text ≡ old.text → new.waiting ≡ old.waiting
     → PutsOn raw old new (27 ∷ b ∷ bs)
 escape_on raw old new b bs ground opens text waiting =
-    let mid : ParserView = record { waiting = old.waiting; state = Escape; text = old.text; room = old.room } in (
+    let mid : ParserView = record { waiting = old.waiting; state = Escape; text = old.text; typed = old.typed; room = old.room } in (
       mid,
       (λ pause last. escape_byte old (b ∷ bs) raw pause (omega arith) last ground),
       all_on raw (b ∷ bs) mid new (opens_puts (b ∷ bs) mid new opens text waiting),
@@ -376,7 +376,7 @@ abbrev begun : Begun → State
 begun t = Utf8 (record { escaped = false; begun = t })
 
 open_byte : (old : ParserView) (state next : State) (b : ℕ) → old.state ≡ state → ((raw pause : Bool) → state_after state b raw pause ≡ Open next) → is_paste next ≡ false
-    → (raw pause : Bool) → PutsByte old (record { waiting = old.waiting; state = next; text = old.text; room = old.room }) b raw pause
+    → (raw pause : Bool) → PutsByte old (record { waiting = old.waiting; state = next; text = old.text; typed = old.typed; room = old.room }) b raw pause
 open_byte old state next b is opens outside raw pause =
     let step : state_after old.state b raw pause ≡ Open next = ap (λ (s : State). state_after s b raw pause) is ∙ opens raw pause in (
       ap (λ (s : Step). state_left s) (sym step),
@@ -418,7 +418,7 @@ further_two a l =
 two_puts : (old new : ParserView) (a b c : ℕ) → 0xC2 ≤ a → a < 0xE0 → second a b ≡ true → Some (code_of_2 a b) ≡ Some c → old.state ≡ Ground → Gives old new (typed c)
     → PutsAll old new (a ∷ b ∷ [])
 two_puts old new a b c low high ok is ground gives =
-    let one : ParserView = record { waiting = old.waiting; state = begun (One a); text = old.text; room = old.room } in
+    let one : ParserView = record { waiting = old.waiting; state = begun (One a); text = old.text; typed = old.typed; room = old.room } in
     let last : (raw pause : Bool) → state_after (begun (One a)) b raw pause ≡ Whole (Some (typed c)) = λ raw pause.
     rw (further_none a high, continuing b (second-continues a b ok)) refl
     ∙ ap (λ (x : Option ℕ). Whole (decoded_character x)) ((two_whole a b (leads a low (omega arith)) ok (grind (arith, nat_tests))).0 ∙ is) in (
@@ -430,8 +430,8 @@ two_puts old new a b c low high ok is ground gives =
 three_puts : (old new : ParserView) (a b d c : ℕ) → 0xE0 ≤ a → a < 0xF0 → second a b ≡ true → continues d ≡ true → Some (code_of_3 a b d) ≡ Some c → old.state ≡ Ground → Gives old new (typed c)
     → PutsAll old new (a ∷ b ∷ d ∷ [])
 three_puts old new a b d c low high ok more is ground gives =
-    let one : ParserView = record { waiting = old.waiting; state = begun (One a); text = old.text; room = old.room } in
-    let two : ParserView = record { waiting = old.waiting; state = begun (Two a b); text = old.text; room = old.room } in
+    let one : ParserView = record { waiting = old.waiting; state = begun (One a); text = old.text; typed = old.typed; room = old.room } in
+    let two : ParserView = record { waiting = old.waiting; state = begun (Two a b); text = old.text; typed = old.typed; room = old.room } in
     let next : (raw pause : Bool) → state_after (begun (One a)) b raw pause ≡ Open (begun (Two a b)) = λ raw pause.
     rw (further_one a low high, continuing b (second-continues a b ok)) refl in
     let last : (raw pause : Bool) → state_after (begun (Two a b)) d raw pause ≡ Whole (Some (typed c)) = λ raw pause.
@@ -449,9 +449,9 @@ three_puts old new a b d c low high ok more is ground gives =
 four_puts : (old new : ParserView) (a b d e c : ℕ) → 0xF0 ≤ a → a ≤ 0xF4 → second a b ≡ true → continues d ≡ true → continues e ≡ true → Some (code_of_4 a b d e) ≡ Some c
     → old.state ≡ Ground → Gives old new (typed c) → PutsAll old new (a ∷ b ∷ d ∷ e ∷ [])
 four_puts old new a b d e c low high ok more most is ground gives =
-    let one : ParserView = record { waiting = old.waiting; state = begun (One a); text = old.text; room = old.room } in
-    let two : ParserView = record { waiting = old.waiting; state = begun (Two a b); text = old.text; room = old.room } in
-    let three : ParserView = record { waiting = old.waiting; state = begun (Three a b d); text = old.text; room = old.room } in
+    let one : ParserView = record { waiting = old.waiting; state = begun (One a); text = old.text; typed = old.typed; room = old.room } in
+    let two : ParserView = record { waiting = old.waiting; state = begun (Two a b); text = old.text; typed = old.typed; room = old.room } in
+    let three : ParserView = record { waiting = old.waiting; state = begun (Three a b d); text = old.text; typed = old.typed; room = old.room } in
     let next : (raw pause : Bool) → state_after (begun (One a)) b raw pause ≡ Open (begun (Two a b)) = λ raw pause.
     rw (further_two a low, continuing b (second-continues a b ok)) refl in
     let longer : (raw pause : Bool) → state_after (begun (Two a b)) d raw pause ≡ Open (begun (Three a b d)) = λ raw pause.

@@ -1,5 +1,5 @@
 -- Bytes that are taken outside of a paste, and what an outlet is given for them.
-use Rattle.std.proofs.Common.{◌≤◌, ◌≡◌, ◌≢◌, ◌==◌, ◌<◌, ℕ, zero, suc, ◌+◌, ◌-◌, arith, Bool, false, not, ◌&&◌, List, [], ◌∷◌, ◌++◌, length, map, take, drop, get_or, refl, ap, sym, ◌∙◌, subst, append_assoc}
+use Rattle.std.proofs.Common.{◌≤◌, ◌≡◌, ◌≢◌, ◌==◌, ◌<◌, ℕ, zero, suc, ◌+◌, ◌-◌, arith, Bool, false, if◌then◌else◌, not, ◌&&◌, List, [], ◌∷◌, ◌++◌, length, map, take, drop, get_or, refl, ap, sym, ◌∙◌, subst, append_assoc}
 use Rattle.std.proofs.Math.Seq.{take-add}
 use Rattle.std.proofs.lemmas.List.{append-nil, get_or-drop, length-drop, map-append, take_all}
 use Rattle.std.proofs.lemmas.Bool.Decides.{nat_tests}
@@ -9,7 +9,7 @@ use Rattle.crossterm_parse.specs.Transitions.{IsCharacterOf, Opens, OpensWith, e
 use Rattle.crossterm_parse.specs.Bytes.{IsLetter}
 use Rattle.crossterm_parse.specs.States.{is_paste}
 use Rattle.crossterm_parse.specs.Putting.{PutsOn, PutsAll, TakesPart, Through, bare}
-use Rattle.crossterm_parse.specs.Marked.{Marked, marked}
+use Rattle.crossterm_parse.specs.Marked.{Marked, bytes_of, marked}
 use Rattle.crossterm_parse.specs.Meaning.{seen_meaning, typed}
 use Rattle.crossterm_parse.specs.View.{AdvancesOver, ParserView}
 use Rattle.crossterm_parse.specs.declared.meaning.Meaning.{Meaning}
@@ -42,6 +42,14 @@ module _ {O : Type 0} (given : O → List Meaning → O → Type 0) where
         subst (λ (xs : List Seen). T (bare s w) (bare u xs)) (more_seen w first.0 more.0)
         (join (bare s w) (bare t mid) (bare u (mid ++ map seen_meaning more.0)) (first.2 w) (more.2 mid)),
   )
+
+-- what is done outside of a paste, whatever else the parser keeps
+pub beside : (old new : ParserView) (given : List Seen) (ms : List Marked) → is_paste old.state ≡ false → new.text ≡ old.text → new.waiting ≡ given
+    → AdvancesOver (bare old.state old.waiting) (bare new.state given) ms → AdvancesOver old new ms
+beside old new given ms outside text waiting over before represents undecided =
+    let none : old.text ≡ [] = represents.1 ∙ ap (λ (t : Bool). if t then drop 6 (bytes_of before) else []) outside in
+    let a = over before (represents.0, sym none ∙ represents.1) undecided in
+    record { parts = a.parts; rest = a.rest; division = a.division; given = waiting ∙ a.given; represents = (a.represents.0, text ∙ none ∙ a.represents.1) }
 
 -- a run over what is left of a piece
 pub through_run : {O : Type 0} (given : O → List Meaning → O → Type 0) (s t u : State) (o p q : O) (piece : List ℕ) (more raw : Bool) (i n : ℕ)

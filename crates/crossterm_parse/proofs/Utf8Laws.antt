@@ -1,16 +1,18 @@
 -- UTF-8, byte by byte.
 use Rattle.std.proofs.Common.{◌≡◌, ◌==◌, ◌≤◌, inl, inr, ℕ, Bool, true, false, cond, ◌&&◌, List, [], ◌∷◌, ◌++◌, refl, ap, sym, ◌∙◌, subst, arith, Some, None, length, length-append, suc, append_assoc}
-use Rattle.std.specs.Prelude.{nat_lt, nat_le, encode_utf8_all}
-use Rattle.std.proofs.lemmas.Bool.{false≢true, cases_Bool, and_parts}
+use Rattle.std.specs.Prelude.{nat_lt, nat_le, encode_utf8_all, slice_index, ◌<◌}
+use Rattle.std.specs.Char.{InScalarRange}
+use Rattle.std.proofs.lemmas.Bool.{false≢true, cases_Bool, cases_eq, and_parts, ltb-true}
 use Rattle.std.proofs.lemmas.Bool.Decides.{nat_tests}
 use Rattle.std.proofs.lemmas.List.{append-nil, take_at, drop_at, drop_all}
 use Rattle.std.proofs.lemmas.Str.{IsUtf8-append, IsUtf8-encode, IsUtf8-drop, IsCharBoundary-from_take, IsUtf8-from_is_utf8, is_utf8-from_IsUtf8}
 use Rattle.std.specs.Str.{IsUtf8, is_utf8}
 use Rattle.std.specs.Char.{encode_utf8}
 use Rattle.std.proofs.Math.Utf8.{scalar, scalars}
-use Rattle.bstr.specs.Utf8.{Decoded, good, decoded, second, continues, code_of_2, code_of_3, code_of_4}
+use Rattle.bstr.specs.Utf8.{Decoded, good, decoded, decoded_by, second, continues, code_of_2, code_of_3, code_of_4}
 use Rattle.bstr.proofs.lemmas.SoundLemmas.{SpellsChar-decoded}
 use Rattle.bstr.proofs.lemmas.EncodeLemmas.{decoded-encode}
+use Rattle.crossterm_parse.specs.Recognizer.{is_continuing}
 use Rattle.crossterm_parse.specs.Tracking.{begun_bytes, IsFront, TracksUtf8}
 use Rattle.crossterm_parse.specs.Transitions.{is_sound, begun_after, utf8_after}
 use Rattle.crossterm_parse.specs.declared.character.Begun.{Begun}
@@ -187,3 +189,57 @@ utf8_is text Broken t = sym (no_utf8 text (λ u. t [] (subst IsUtf8 (sym (append
 
 pub utf8_nil : IsUtf8 []
 utf8_nil = ([], (refl, refl))
+
+-- ---- a character in front
+
+pub continues_of : (b : ℕ) → is_continuing b ≡ true → continues b ≡ true
+continues_of b is = let w = and_parts (nat_le 0x80 b) (nat_le b 0xBF) is in let low = w.0 in let high = w.1 in grind (arith, nat_tests)
+
+-- two bytes are a character, whatever follows
+two_front : (n b c d e : ℕ) → 2 ≤ n → 0xC2 ≤ b → b < 0xE0 → continues c ≡ true → decoded_by n b c d e ≡ good (code_of_2 b c) 2
+two_front n b c d e long low high more =
+    let some : n == 0 ≡ false = grind (arith, nat_tests) in
+    let other : nat_lt b 0x80 ≡ false = grind (arith, nat_tests) in
+    let leads : nat_lt b 0xC2 ≡ false = grind (arith, nat_tests) in
+    let most : nat_lt 0xF4 b ≡ false = grind (arith, nat_tests) in
+    let whole : nat_lt n 2 ≡ false = grind (arith, nat_tests) in
+    let ok : second b c ≡ true = grind (arith, nat_tests) in
+    let two : nat_lt b 0xE0 ≡ true = grind (arith, nat_tests) in
+    rw (some, other, leads, most, whole, ok, two) refl
+
+pub two_in_front : (bs : List ℕ) → 2 ≤ length bs → 0xC2 ≤ slice_index bs 0 → slice_index bs 0 < 0xE0 → continues (slice_index bs 1) ≡ true
+    → decoded bs ≡ good (code_of_2 (slice_index bs 0) (slice_index bs 1)) 2
+two_in_front bs = two_front (length bs) (slice_index bs 0) (slice_index bs 1) (slice_index bs 2) (slice_index bs 3)
+
+-- three bytes are a character, if their number is one that has no fewer, and no surrogate
+second_of : (b c d : ℕ) → 0xE0 ≤ b → b < 0xF0 → 0x80 ≤ c → c < 0xC0 → d < 0xC0 → 0x800 ≤ code_of_3 b c d → InScalarRange (code_of_3 b c d) → second b c ≡ true
+second_of b c d low high from to few wide range = elim (cases_eq b 0xE0) [
+  | inl e ↦ (let narrow : 0x9F < c = omega (arith, e, wide, few) in grind (arith, nat_tests))
+  | inr other ↦ elim (cases_eq b 0xED) [
+    | inl e ↦ (let narrow : c < 0xA0 = elim range [ inl below ↦ omega (arith, e, below) | inr above ↦ absurd (omega (arith, e, above.0, to, few)) ] in grind (arith, nat_tests))
+    | inr plain ↦ grind (arith, nat_tests)
+  ]
+]
+
+three_front : (n b c d e : ℕ) → 3 ≤ n → 0xE0 ≤ b → b < 0xF0 → second b c ≡ true → continues d ≡ true → decoded_by n b c d e ≡ good (code_of_3 b c d) 3
+three_front n b c d e long low high ok more =
+    let some : n == 0 ≡ false = grind (arith, nat_tests) in
+    let other : nat_lt b 0x80 ≡ false = grind (arith, nat_tests) in
+    let leads : nat_lt b 0xC2 ≡ false = grind (arith, nat_tests) in
+    let most : nat_lt 0xF4 b ≡ false = grind (arith, nat_tests) in
+    let second : nat_lt n 2 ≡ false = grind (arith, nat_tests) in
+    let two : nat_lt b 0xE0 ≡ false = grind (arith, nat_tests) in
+    let whole : nat_lt n 3 ≡ false = grind (arith, nat_tests) in
+    let three : nat_lt b 0xF0 ≡ true = grind (arith, nat_tests) in
+    rw (some, other, leads, most, second, ok, two, whole, more, three) refl
+
+pub three_in_front : (bs : List ℕ) → 3 ≤ length bs → 0xE0 ≤ slice_index bs 0 → slice_index bs 0 < 0xF0 → continues (slice_index bs 1) ≡ true → continues (slice_index bs 2) ≡ true
+    → 0x800 ≤ code_of_3 (slice_index bs 0) (slice_index bs 1) (slice_index bs 2) → InScalarRange (code_of_3 (slice_index bs 0) (slice_index bs 1) (slice_index bs 2))
+    → decoded bs ≡ good (code_of_3 (slice_index bs 0) (slice_index bs 1) (slice_index bs 2)) 3
+three_in_front bs long low high follows more wide range =
+    let b = slice_index bs 0 in let c = slice_index bs 1 in let d = slice_index bs 2 in
+    let from : (0x7F < c) × (c < 0xC0) = bounds c follows in
+    let to : (0x7F < d) × (d < 0xC0) = bounds d more in
+    three_front (length bs) b c d (slice_index bs 3) long low high (second_of b c d low high (omega (arith, from.0)) from.1 to.1 wide range) more where
+      bounds : (x : ℕ) → continues x ≡ true → (0x7F < x) × (x < 0xC0)
+      bounds x is = let w = and_parts (nat_lt 0x7F x) (nat_lt x 0xC0) is in (ltb-true 0x7F x w.0, ltb-true x 0xC0 w.1)

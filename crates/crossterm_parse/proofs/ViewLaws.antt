@@ -423,7 +423,7 @@ pub byte_quiet : (old mid : ParserView) (piece : List ℕ) (more raw : Bool) (i 
 byte_quiet old mid piece more raw i b pause l is_byte is_pause before q =
     let ms = marked piece more raw in
     let step = state_after mid.state b raw pause in
-    let new : ParserView = record { waiting = mid.waiting ++ events_left step mid.text; state = state_left step; text = text_left step mid.state mid.text b; room = 0 } in
+    let new : ParserView = record { waiting = mid.waiting ++ events_left step mid.text; state = state_left step; text = text_left step mid.state mid.text b; typed = 0; room = 0 } in
     let next = advance_more old mid new piece more raw i b pause l is_byte is_pause refl refl refl before in
     let at_i = left_of old mid (take i ms) (drop i ms) (subst (EndsNoEvent old) (sym (take-append-drop i ms)) q) before in
     let at_next = left_of old new (take (i + 1) ms) (drop (i + 1) ms) (subst (EndsNoEvent old) (sym (take-append-drop (i + 1) ms)) q) next in (

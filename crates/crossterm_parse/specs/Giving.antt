@@ -1,5 +1,5 @@
 -- The events of a parser, one after another.
-use Rattle.std.specs.Prelude.{◌≡◌, ◌++◌, List, map, Option}
+use Rattle.std.specs.Prelude.{◌≡◌, ◌≤◌, ◌++◌, List, map, Option}
 use Rattle.std.specs.Iterator.{Yields, YieldsFirstBy}
 use Rattle.crossterm_types.specs.Seen.{Seen, seen}
 use Rattle.crossterm_types.specs.declared.event.InternalEvent.{InternalEvent}
@@ -16,6 +16,7 @@ module _ {A : Type 0} where
     pub same : new.parser.ghost_name ≡ old.parser.ghost_name
     pub represents : RepresentsSame old.parser.now new.parser.now
     pub capacity : capacity new.parser.now ≡ capacity old.parser.now
+    pub room : old.parser.now.room ≤ new.parser.now.room
 
   -- The first event that waits was given, where there is one, and nothing else changed.
   abbrev pub GivesFirst : Events A → Option (InternalEvent A) → Events A → Type 0

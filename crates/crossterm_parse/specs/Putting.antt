@@ -38,7 +38,7 @@ Gives old new m = (new.state ≡ Ground) × (new.text ≡ old.text) × (new.wait
 
 -- A parser that has given these events, with no text of a paste.
 abbrev pub bare : State → List Seen → ParserView
-bare state waiting = record { waiting = waiting; state = state; text = []; room = 0 }
+bare state waiting = record { waiting = waiting; state = state; text = []; typed = 0; room = 0 }
 
 -- From one state to another something was done, and what came of it was given to an outlet, whatever came before.
 abbrev pub Through : {O : Type 0} → (O → List Meaning → O → Type 0) → (ParserView → ParserView → Type 0) → State → State → O → O → Type 0

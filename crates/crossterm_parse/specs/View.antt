@@ -9,17 +9,18 @@ use Rattle.crossterm_parse.specs.Marked.{Marked, bytes_of, marked}
 use Rattle.crossterm_parse.specs.Meaning.{meaning_of}
 use Rattle.crossterm_parse.specs.declared.state.State.{State}
 
--- A parser as its callers see it: the events not yet given, the state of the sequence that is open, the text of an open paste, and how many
--- events it takes without memory.
+-- A parser as its callers see it: the events not yet given, the state of the sequence that is open, the text of an open paste, how many of the
+-- events are typed characters in the parser's own table, in front of the others, and how many more events it takes without memory.
 pub record ParserView : Type 0 where
   pub waiting : List Seen
   pub state : State
   pub text : List ℕ
+  pub typed : ℕ
   pub room : ℕ
 
--- How many events it keeps at most without memory: those that wait, and those for which it has room.
+-- For how many events it took memory: those that wait there, and those for which it has room.
 abbrev pub capacity : ParserView → ℕ
-capacity parser = length parser.waiting + parser.room
+capacity parser = length (drop parser.typed parser.waiting) + parser.room
 
 -- The parser represents these bytes, of which none has ended a sequence.
 abbrev pub Represents : ParserView → List Marked → Type 0

@@ -1,11 +1,11 @@
 //! A character in UTF-8 that is open.
 //!
 //! Only crates of this tree use this module, which may change with each version.
-ghost use Rattle.std.specs.Prelude.{◌≡◌, ◌∷◌, [], ◌++◌, false, IsTrue, IsFalse};
+ghost use Rattle.std.specs.Prelude.{◌≡◌, ◌∷◌, [], ◌++◌, false, IfSome, IsTrue, IsFalse};
 ghost use Rattle.bstr.specs.Utf8.{decoded};
 ghost use Rattle.crossterm_parse.specs.Tracking.{begun_bytes};
 ghost use Rattle.crossterm_parse.specs.Recognizer.{is_lead, is_continuing, further_after};
-ghost use Rattle.crossterm_parse.specs.Transitions.{More, character_meaning, grown, over};
+ghost use Rattle.crossterm_parse.specs.Transitions.{IsCharacterOf, More, character_meaning, grown, over};
 
 use crate::meaning::{Meaning, plus_alt, typed_character};
 use bstr::decode_utf8;
@@ -48,6 +48,53 @@ pub fn further_bytes(lead: u8) -> u8
         0..=0xDF => 0,
         0xE0..=0xEF => 1,
         _ => 2,
+    }
+}
+
+/// The character in UTF-8 in front, of two bytes or more, and how many it has.
+#[inline(never)]
+fn any_character_in(bytes: &[u8]) -> Option<(char, usize)>
+    ensures { IfSome result (λ it. IsCharacterOf bytes.now it.0 it.1) }
+{
+    match decode_utf8(bytes) {
+        (Some(c), size) if size > 1 => Some((c, size)),
+        _ => None,
+    }
+}
+
+/// The character in UTF-8 in front, if it has two or three bytes, and a byte or more follows.
+#[inline(always)]
+fn short_character_in(bytes: &[u8]) -> Option<(char, usize)>
+    ensures { IfSome result (λ it. IsCharacterOf bytes.now it.0 it.1) }
+{
+    if bytes.len() < 3 || !is_continuing_byte(bytes[1]) {
+        return None;
+    }
+    let (lead, second) = (bytes[0], u32::from(bytes[1] - 0x80));
+    if lead < 0xE0 {
+        if lead < 0xC2 {
+            return None;
+        }
+        return Some((char::from_u32(u32::from(lead - 0xC0) * 64 + second)?, 2));
+    }
+    if lead >= 0xF0 || !is_continuing_byte(bytes[2]) {
+        return None;
+    }
+    let code = (u32::from(lead - 0xE0) * 64 + second) * 64 + u32::from(bytes[2] - 0x80);
+    if code < 0x800 {
+        return None;
+    }
+    Some((char::from_u32(code)?, 3))
+}
+
+/// The character in UTF-8 in front, of two bytes or more, and how many it has.
+#[inline(always)]
+pub(crate) fn character_in(bytes: &[u8]) -> Option<(char, usize)>
+    ensures { IfSome result (λ it. IsCharacterOf bytes.now it.0 it.1) }
+{
+    match short_character_in(bytes) {
+        Some(found) => Some(found),
+        None => any_character_in(bytes),
     }
 }
 

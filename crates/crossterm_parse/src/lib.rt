@@ -52,8 +52,8 @@
 //! | `Recognizer` | 115 | the grammar as tests | |
 //! | `Tracking` | 82 | what is kept of numbers, fields and UTF-8 while they are read | |
 //! | `States` | 107 | which bytes of an open sequence a state represents | |
-//! | `View` | 120 | a parser as its callers see it, and what it makes of a piece | `Parser::advance`; `laws::{cuttings, two_steps_a_byte, a_step_a_byte}` |
-//! | `Giving` | 27 | its events, one after another | `Parser::{next, events}` |
+//! | `View` | 121 | a parser as its callers see it, and what it makes of a piece | `Parser::advance`; `laws::{cuttings, two_steps_a_byte, a_step_a_byte}` |
+//! | `Giving` | 28 | its events, one after another | `Parser::{next, events}` |
 //! | `Transitions` | 281 | what one more byte does to a state | `state.rt` |
 //! | `Putting` | 76 | what many bytes do, and what comes of them | `State::take` |
 //!
@@ -63,6 +63,7 @@
 //! no file, the prover found it by itself.
 #![tactic(auto)]
 
+mod blocks;
 pub mod character;
 pub mod fields;
 mod functional;

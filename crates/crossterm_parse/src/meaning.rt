@@ -2,6 +2,7 @@
 //!
 //! Only crates of this tree use this module, which may change with each version.
 ghost use Rattle.std.specs.Prelude.{◌≡◌, ◌≢◌, ◌≤◌, ◌<◌, ◌&&◌, nat_le};
+ghost use Rattle.unicode.specs.Binary.{is_uppercase};
 ghost use Rattle.bstr.specs.Utf8.{decoded};
 ghost use Rattle.crossterm_parse.specs.Mouse.{less};
 ghost use Rattle.crossterm_parse.specs.Numbered.{x10_by};
@@ -66,11 +67,32 @@ pub fn pressed_alone(code: KeyCode) -> Meaning
     pressed_key(code, KeyModifiers::NONE)
 }
 
+/// Whether the byte is one of `A` to `Z`.
+fn is_capital(byte: u8) -> bool
+    ensures { result ≡ nat_le 65 byte && nat_le byte 90 }
+{
+    matches!(byte, b'A'..=b'Z')
+}
+
+/// Whether a character is upper case, by Unicode's property `Uppercase`.
+#[inline(always)]
+fn is_upper(c: char) -> bool
+    ensures { result ≡ is_uppercase c }
+{
+    let code = c as u32;
+    if code < 127 {
+        is_capital(code as u8)
+    } else {
+        is_uppercase(c)
+    }
+}
+
 /// The key of a character that was typed: with SHIFT if it is upper case.
+#[inline(always)]
 pub fn typed_key(c: char) -> KeyEvent
     ensures { Meaning.Key result ≡ typed c }
 {
-    let modifiers = if is_uppercase(c) {
+    let modifiers = if is_upper(c) {
         KeyModifiers::SHIFT
     } else {
         KeyModifiers::NONE
@@ -83,13 +105,6 @@ pub fn typed_character(c: char) -> Meaning
     ensures { result ≡ typed c }
 {
     Meaning::Key(typed_key(c))
-}
-
-/// Whether the byte is one of `A` to `Z`.
-fn is_capital(byte: u8) -> bool
-    ensures { result ≡ nat_le 65 byte && nat_le byte 90 }
-{
-    matches!(byte, b'A'..=b'Z')
 }
 
 /// The key of a byte from space to tilde.

@@ -9,6 +9,7 @@ ghost use Rattle.crossterm_parse.specs.declared.paste.Opening.TheVariants as ope
 ghost use Rattle.crossterm_parse.specs.declared.state.State.TheVariants as state;
 ghost use Rattle.crossterm_parse.specs.Numbered.{sgr_by, numbered_by};
 
+use crate::blocks::run_between;
 use crate::fields::Fields;
 use crate::meaning::Meaning;
 use crate::number::Number;
@@ -83,14 +84,15 @@ impl Parameters {
         if !matches!(self.validity, Validity::Sound) {
             return 0;
         }
-        let end = b'0' + self.fields.idle_digits();
-        for (i, byte) in bytes.iter().enumerate() {
-            if *byte < b'0' || *byte >= end {
-                return i;
-            }
-            self.last = *byte;
+        let idle = self.fields.idle_digits();
+        if idle == 0 {
+            return 0;
         }
-        bytes.len()
+        let count = run_between(bytes, b'0', b'0' + (idle - 1));
+        if count > 0 {
+            self.last = bytes[count - 1];
+        }
+        count
     }
 
     /// What is read so far.

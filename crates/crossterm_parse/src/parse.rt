@@ -1,9 +1,10 @@
 //! The parser: bytes are handed in as they come, and events are given as their sequences end.
-ghost use Rattle.std.specs.Prelude.{◌≡◌, ◌≢◌, ◌↔◌, ◌+◌, ◌*◌, ◌≤◌, ◌<◌, [], ◌∷◌, List, length, take, drop, IsTrue, IfNone, IfSome, IfErr, OnOk, OnErr};
+ghost use Rattle.std.specs.Prelude.{◌≡◌, ◌≢◌, ◌↔◌, ◌+◌, ◌*◌, ◌≤◌, ◌<◌, [], ◌∷◌, List, false, length, take, drop, IsTrue, IfNone, IfSome, IfErr, OnOk, OnErr};
 ghost use Rattle.std.specs.IoError.{error_kind};
 ghost use Rattle.std.specs.declared.io.ErrorKind.TheVariants.{OutOfMemory};
 ghost use Rattle.crossterm_types.specs.Seen.{seen};
 ghost use Rattle.crossterm_parse.specs.Putting.{TakesPart};
+ghost use Rattle.crossterm_parse.specs.States.{is_paste};
 ghost use Rattle.crossterm_parse.specs.Marked.{Marked, bytes_of, marked};
 ghost use Rattle.crossterm_parse.specs.View.{ParserView, Represents, RepresentsSame, AdvancesOver, EndsNoEvent, OpensNoPaste, TakesSteps, capacity, paste_length, text_of};
 
@@ -20,6 +21,7 @@ mod events;
 mod first;
 mod pasting;
 mod queue;
+mod typed;
 
 pub use events::Events;
 use queue::Queue;
@@ -27,7 +29,7 @@ use queue::Queue;
 /// Divides the bytes of a terminal into whole sequences, and gives their events.
 ///
 /// The open sequence is a `Copy` state of a fixed size, however long the sequence is. What the parser keeps beside it are the events not yet
-/// given, and the text of an open paste.
+/// given, and the text of an open paste. Typed characters wait in a table of 4 KB within it, and need no memory.
 ///
 /// ```
 /// let mut parser = Parser::new(rt.alloc());
@@ -52,7 +54,7 @@ pub struct Parser<A: Allocator = Global> {
 impl<A: Allocator> Model for Parser<A> {
     ghost Value = { ParserView };
 
-    ghost view = { λ p. record { waiting = p.queue.waiting; state = p.state; text = text_of p.paste; room = p.queue.room } };
+    ghost view = { λ p. record { waiting = p.queue.waiting; state = p.state; text = text_of p.paste; typed = p.queue.typed; room = p.queue.room } };
 }
 
 // How many bytes of a paste's end are kept before its last.
@@ -127,6 +129,28 @@ impl<A: Allocator + Clone> Parser<A> {
         }
     }
 
+    /// Has all places for typed characters if none waits.
+    #[inline(always)]
+    fn rewind(&mut self)
+        ensures { self.new ≡ self.old }
+    {
+        self.queue.rewind();
+    }
+
+    /// Takes bytes outside of a paste as `advance` does, but not beyond a paste's start.
+    fn take_outside<L: Ledger>(
+        &mut self,
+        piece: &[u8],
+        more: bool,
+        raw: bool,
+        steps: &mut Steps<L>,
+    ) -> usize
+        requires { is_paste self.old.state ≡ false }
+        ensures { TakesPart self.old self.new piece.now more raw result steps.old steps.new }
+    {
+        self.state.take(piece, more, raw, &mut self.queue, steps)
+    }
+
     /// Takes bytes as `advance` does, but not beyond a paste's start or end.
     fn take_part<L: Ledger>(
         &mut self,
@@ -140,7 +164,8 @@ impl<A: Allocator + Clone> Parser<A> {
         if self.state.is_paste() {
             return self.take_paste(piece, more, raw, steps);
         }
-        self.state.take(piece, more, raw, &mut self.queue, steps)
+        self.rewind();
+        self.take_outside(piece, more, raw, steps)
     }
 
     /// Takes the bytes of a piece, and returns how many: fewer than the piece has if memory was refused for an event or a paste, or a paste
@@ -202,6 +227,7 @@ impl<A: Allocator + Clone> Parser<A> {
         ensures represents { RepresentsSame self.old self.new }
         // No memory is taken, and no room is lost.
         ensures capacity { capacity self.new ≡ capacity self.old }
+        ensures room { self.old.room ≤ self.new.room }
     {
         self.queue.next()
     }

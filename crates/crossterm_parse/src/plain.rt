@@ -11,10 +11,10 @@ ghost use Rattle.crossterm_parse.specs.Putting.{GivesInFront};
 ghost use Rattle.crossterm_parse.specs.declared.number.Number.TheVariants.{Value};
 ghost use Rattle.crossterm_parse.specs.declared.state.State.TheVariants.{Escape, Csi, Sgr};
 
+use crate::character::character_in;
 use crate::meaning::{Meaning, meaning_after_csi, meaning_after_ss3, typed_key};
 use crate::numbered::{is_final_byte, is_mouse_final};
 use crate::readings::Readings;
-use bstr::decode_utf8;
 
 /// A number in front, and the byte behind it.
 #[derive(Clone, Copy)]
@@ -260,10 +260,10 @@ pub fn meaning_in(bytes: &[u8], raw: bool) -> Option<(Meaning, usize)>
             let meaning = sequence.meaning?;
             Some((meaning, 1 + sequence.count))
         }
-        0xC2..=0xF4 => match decode_utf8(bytes) {
-            (Some(c), size) if size > 1 => Some((Meaning::Key(typed_key(c)), size)),
-            _ => None,
-        },
+        0xC2..=0xF4 => {
+            let (c, size) = character_in(bytes)?;
+            Some((Meaning::Key(typed_key(c)), size))
+        }
         _ => None,
     }
 }

@@ -3,7 +3,7 @@
 //! Only crates of this tree use this module, which may change with each version.
 ghost use Rattle.std.specs.Prelude.{◌≡◌, ◌≢◌, ◌+◌, ◌<◌, ◌≤◌, ◌∷◌, [], Bool, true, false, length, take, IfNone, IfSome, IsTrue, IsFalse};
 ghost use Rattle.std.specs.List.{AllByRecursion};
-ghost use Rattle.crossterm_parse.specs.Transitions.{Reads, IsCharacterOf, Opens, OpensWith, meaning_with, state_after, Open, Whole, Closed};
+ghost use Rattle.crossterm_parse.specs.Transitions.{Reads, Opens, OpensWith, meaning_with, state_after, Open, Whole, Closed};
 ghost use Rattle.crossterm_parse.specs.Bytes.{IsLetter};
 ghost use Rattle.crossterm_parse.specs.States.{is_paste};
 ghost use Rattle.crossterm_parse.specs.Recognizer.{is_final, is_mouse_end};
@@ -11,6 +11,7 @@ ghost use Rattle.crossterm_parse.specs.declared.state.State.TheVariants.{Escape}
 ghost use Rattle.crossterm_parse.specs.declared.paste.Opening.{Opening};
 ghost use Rattle.crossterm_parse.specs.declared.numbered.Parameters.{Parameters};
 
+use crate::blocks::run_between;
 use crate::character::{Begun, Character, is_lead_byte};
 use crate::meaning::{
     Meaning, meaning_after_csi, meaning_after_ss3, meaning_of_byte, meaning_of_flags,
@@ -21,7 +22,6 @@ use crate::number::Number;
 use crate::numbered::{Parameters, is_final_byte, is_mouse_final};
 use crate::paste::{Met, Opening};
 use crate::steps::Steps;
-use bstr::decode_utf8;
 use crossterm_types::event::KeyCode;
 use std::sync::ledger::Ledger;
 
@@ -59,25 +59,13 @@ pub enum State {
 // So many bytes of a sequence are read one by one before digits that change nothing are looked for: most sequences are shorter.
 const FEW: usize = 16;
 
-/// Whether the byte is a letter, a digit, a sign or a blank of ASCII.
-pub(crate) fn is_letter(byte: u8) -> bool
-    ensures { IsTrue result → IsLetter byte }
-{
-    matches!(byte, 32..=126)
-}
-
 /// How many letters are in front.
 #[inline(always)]
 fn letters_in(bytes: &[u8]) -> usize
     ensures within { result ≤ length bytes.now }
     ensures letters { AllByRecursion IsLetter (take result bytes.now) }
 {
-    for (i, byte) in bytes.iter().enumerate() {
-        if !is_letter(*byte) {
-            return i;
-        }
-    }
-    bytes.len()
+    run_between(bytes, b' ', b'~')
 }
 
 /// Reads a byte with which a numbered sequence goes on, and returns whether it does.
@@ -417,25 +405,6 @@ impl State {
         let count = letters_in(bytes);
         steps.count(count as u64);
         count
-    }
-
-    /// Puts the character in UTF-8 in front into the ground state, which it is a sequence of: returns it, and how many bytes it has.
-    ///
-    /// If there is none of two bytes or more, nothing is put.
-    #[inline(always)]
-    fn put_character<L: Ledger>(&self, bytes: &[u8], steps: &mut Steps<L>) -> Option<(char, usize)>
-        requires { self.now ≡ State.Ground }
-        ensures character { IfSome result (λ it. IsCharacterOf bytes.now it.0 it.1) }
-        ensures some { IfSome result (λ it. steps.new ≡ steps.old + it.1) }
-        ensures none { IfNone result (steps.new ≡ steps.old) }
-    {
-        match decode_utf8(bytes) {
-            (Some(c), size) if size > 1 => {
-                steps.count(size as u64);
-                Some((c, size))
-            }
-            _ => None,
-        }
     }
 
     /// Opens a sequence by the two bytes after ESC. Returns how many bytes it has then, three or two, or none if it isn't opened.

@@ -29,7 +29,8 @@ module _ {D : Type 0} (answered : D → List DeviceAnswer → D → Type 0) wher
     w ∷ [],
     h,
     λ before represents undecided.
-        let room : new.room ≡ i.parser.room = let count = ap length wt in let last = ap length ws in omega (arith, r, count, last) in
+        let room : new.room ≡ i.parser.room = let count = ap length wt in let last = ap length ws in
+        omega (arith, r, count, last, length-drop i.parser.typed i.parser.waiting, length-drop new.typed new.waiting) in
         let same : at (record { parser = new; untaken = left; device = d }) before ≡ at i before = λ j. record { waiting = (wt ∙ sym ws) j; untaken = (ut ∙ sym us) j; undecided = before; room = room j } in
         (before, st before represents, undecided, (w ∷ [], [], at (record { parser = new; untaken = left; device = d }) before, refl, other w ws us refl a same, (refl, refl))),
   )

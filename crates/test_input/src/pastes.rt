@@ -120,6 +120,8 @@ impl Outlet for Counter {
 
     ghost room = { λ counter. counter.room };
 
+    ghost typed_room = { λ counter. counter.room };
+
     ghost given_none = { λ _. tt };
 
     ghost given_on = { λ _ _ _ _ _ _ _. tt };
@@ -135,6 +137,19 @@ impl Outlet for Counter {
     fn give(&mut self, _meaning: Meaning) {
         self.room -= 1;
         self.given = self.given.saturating_add(1);
+    }
+
+    fn typed_room_now(&self) -> usize {
+        self.room
+    }
+
+    fn give_typed(&mut self, _c: char) -> bool {
+        if self.room == 0 {
+            return false;
+        }
+        self.room -= 1;
+        self.given = self.given.saturating_add(1);
+        true
     }
 
     fn give_letters(&mut self, letters: &[u8]) {

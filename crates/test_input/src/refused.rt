@@ -35,9 +35,16 @@ fn passes(parser: &mut Poor<'_>, bytes: &[u8]) -> bool {
     takes(parser, bytes, 1_000_004) && !gives(parser) && !parser.is_undecided()
 }
 
-/// Whether memory is refused, so that letters aren't taken and the beginning of a sequence is.
+/// Whether so many of these bytes are taken, and three events are given and no more.
+fn gives_three(parser: &mut Poor<'_>, bytes: &[u8], count: usize) -> bool {
+    let gives_them = takes(parser, bytes, count) && gives(parser) && gives(parser) && gives(parser);
+    gives_them && !gives(parser)
+}
+
+/// Whether memory is refused, so that a key isn't taken, and letters and the beginning of a sequence are.
 fn is_refused(parser: &mut Poor<'_>) -> bool {
-    parser.reserve(1).is_err() && takes(parser, b"abc", 0) && takes(parser, b"\x1b[", 2)
+    let refuses = parser.reserve(1).is_err() && takes(parser, b"\r", 0);
+    refuses && gives_three(parser, b"abc\x1b[", 5)
 }
 
 /// Whether a parser over this heap takes the endless sequence, and nothing that takes memory.
@@ -87,18 +94,12 @@ fn all_blocks(alloc: Global, heap: &LocalHeap) -> Result<Vec<Block<'_>>, AllocEr
     Ok(blocks)
 }
 
-/// Whether three letters are taken and given, and nothing else.
-fn gives_three(parser: &mut Poor<'_>) -> bool {
-    let gives_them = takes(parser, b"abc", 3) && gives(parser) && gives(parser) && gives(parser);
-    gives_them && !gives(parser)
-}
-
 /// Whether the room that a parser reserved stays its own, if all the rest is used up.
 fn keeps_its_room(alloc: Global, heap: &LocalHeap) -> bool {
     let mut parser = Parser::new(heap);
     let reserved = parser.reserve(3).is_ok();
     let blocks = all_blocks(alloc, heap);
-    reserved && blocks.is_ok() && gives_three(&mut parser)
+    reserved && blocks.is_ok() && gives_three(&mut parser, b"\r\t\x7f", 3)
 }
 
 #[test]

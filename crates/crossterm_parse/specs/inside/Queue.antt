@@ -1,15 +1,30 @@
 -- The events that a parser has not yet given.
-use Rattle.std.specs.Prelude.{◌≡◌, ℕ, List, [], ◌++◌, map}
+use Rattle.std.specs.Prelude.{◌≡◌, ◌==◌, ◌&&◌, ◌-◌, not, if◌then◌else◌, ℕ, List, [], ◌++◌, map}
 use Rattle.std.proofs.Common.{ap, sym, ◌∙◌, append_assoc}
 use Rattle.std.proofs.lemmas.List.{append-nil, map-append}
 use Rattle.crossterm_types.specs.Seen.{Seen}
-use Rattle.crossterm_parse.specs.Meaning.{seen_meaning}
+use Rattle.crossterm_parse.specs.Meaning.{seen_meaning, typed}
 use Rattle.crossterm_parse.specs.declared.meaning.Meaning.{Meaning}
 
--- The events in order, and for how many more there is room.
+-- The typed characters in a table, and for how many more it has room.
+pub record TypedView : Type 0 where
+  pub waiting : List ℕ
+  pub room : ℕ
+
+-- The event of a typed character.
+abbrev pub typed_seen : ℕ → Seen
+typed_seen c = seen_meaning (typed c)
+
+-- For how many typed characters there is room: in the table, if it has any and no other event waits, and else as for other events.
+abbrev pub typed_room : ℕ → ℕ → ℕ → ℕ
+typed_room places waiting capacity = if (waiting == 0) && not (places == 0) then places else capacity - waiting
+
+-- The events in order, how many of them are in the table, and for how many more there is room.
 pub record QueueView : Type 0 where
   pub waiting : List Seen
+  pub typed : ℕ
   pub room : ℕ
+  pub typed_room : ℕ
 
 -- These meanings came to the queue, in order.
 abbrev pub Grew : QueueView → List Meaning → QueueView → Type 0

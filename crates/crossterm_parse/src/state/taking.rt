@@ -8,12 +8,27 @@ ghost use Rattle.crossterm_parse.specs.Putting.{PutsAll, PutsByte, PutsOn, Takes
 ghost use Rattle.crossterm_parse.specs.Marked.{marked};
 ghost use Rattle.crossterm_parse.specs.View.{AdvancesOver};
 
-use crate::meaning::{Meaning, byte_key, typed_key};
+use crate::character::character_in;
+use crate::meaning::{Meaning, byte_key};
 use crate::outlet::Outlet;
 use crate::plain::sequence_in;
 use crate::state::State;
 use crate::steps::Steps;
 use std::sync::ledger::Ledger;
+
+/// For how many typed characters an outlet has room, which is made for one at least.
+#[inline(always)]
+fn typed_room<O: Outlet>(outlet: &mut O) -> usize
+    ensures room { result ≤ O.typed_room outlet.new }
+    ensures given { O.given outlet.old [] outlet.new }
+    ensures grows { O.room outlet.old ≤ O.room outlet.new }
+{
+    let room = outlet.typed_room_now();
+    if room > 0 || !outlet.has_room() {
+        return room;
+    }
+    outlet.typed_room_now()
+}
 
 /// Whether there is a pause after the byte at this place of a piece.
 fn pauses(more: bool, place: usize, count: usize) -> bool
@@ -70,10 +85,7 @@ impl State {
         ensures front { TakesFront (O.room outlet.old) (O.room outlet.new) bytes.now result steps.old steps.new }
         ensures puts { Through O.given (λ old new. PutsAll old new (take result bytes.now)) self.now self.now outlet.old outlet.new }
     {
-        if !outlet.has_room() {
-            return 0;
-        }
-        let most = bytes.len().min(outlet.room_now());
+        let most = bytes.len().min(typed_room(outlet));
         let count = self.put_letters(&bytes[..most], steps);
         outlet.give_letters(&bytes[..count]);
         count
@@ -91,13 +103,13 @@ impl State {
         ensures front { TakesFront (O.room outlet.old) (O.room outlet.new) bytes.now result steps.old steps.new }
         ensures puts { Through O.given (λ old new. PutsAll old new (take result bytes.now)) self.now self.now outlet.old outlet.new }
     {
-        if outlet.room_now() == 0 {
-            return 0;
-        }
-        let Some((c, size)) = self.put_character(bytes, steps) else {
+        let Some((c, size)) = character_in(bytes) else {
             return 0;
         };
-        outlet.give(Meaning::Key(typed_key(c)));
+        if !outlet.give_typed(c) {
+            return 0;
+        }
+        steps.count(size as u64);
         size
     }
 
@@ -169,11 +181,10 @@ impl State {
         ensures puts { Through O.given (λ old new. PutsOn raw old new (take result bytes.now)) self.now self.now outlet.old outlet.new }
     {
         match bytes[0] {
+            0x80..=0xFF => self.give_utf8(bytes, outlet, steps),
             27 => self.give_sequence(bytes, raw, outlet, steps),
             32..=126 => self.give_letters(bytes, outlet, steps),
-            0..=127 => self.give_control(bytes, raw, outlet, steps),
-            0xC2..=0xF4 => self.give_utf8(bytes, outlet, steps),
-            _ => 0,
+            _ => self.give_control(bytes, raw, outlet, steps),
         }
     }
 

@@ -20,18 +20,14 @@ returns-in_ok-meaning-in-27 c =
           (sequence_on c.args.raw Ground c.args.bytes.now it w refl c.requires c.in-27.is c.in_ok-sequence-in-27.ensures);
     }
 
-pub returns-in-Some-default : goal.returns-in-Some-default
-returns-in-Some-default c =
-    let is : IsCharacterOf c.args.bytes.now c.in-Some-default.c c.decode.result.1 = record {
-      char = sym c.decode.ensures.char ∙ c.in-Some-default.is-0;
-      sized = sym c.decode.ensures.size;
-      long = omega (arith, c.if-size-gt1.true);
-      within = omega (arith, c.decode.ensures.size, size-within c.args.bytes.now);
-    } in
+pub returns-in_ok-c-in-194-to-244 : goal.returns-in_ok-c-in-194-to-244
+returns-in_ok-c-in-194-to-244 c =
+    let is = c.in_ok-c-in-194-to-244.ensures in
     let key = Key c.typed_key.result in
+    let size = c.in_ok-c-in-194-to-244.size in
     record {
       some = omega (arith, is.long);
       within = is.within;
-      puts = λ w. all_on c.args.raw (take c.decode.result.1 c.args.bytes.now) (bare Ground w) (bare Ground (w ++ seen_meaning key ∷ []))
-          (one_character Ground c.args.bytes.now c.in-Some-default.c c.decode.result.1 key w refl is c.typed_key.ensures);
+      puts = λ w. all_on c.args.raw (take size c.args.bytes.now) (bare Ground w) (bare Ground (w ++ seen_meaning key ∷ []))
+          (one_character Ground c.args.bytes.now c.in_ok-c-in-194-to-244.c size key w refl is c.typed_key.ensures);
     }

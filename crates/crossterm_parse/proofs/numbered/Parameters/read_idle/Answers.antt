@@ -1,31 +1,30 @@
-use Rattle.std.proofs.Common.{◌≡◌, ◌≤◌, ◌<◌, ◌+◌, ◌∙◌, ap, arith, refl, slice_index, subst, sym, take}
-use Rattle.std.proofs.lemmas.List.{take_more}
-use Rattle.crossterm_parse.specs.Transitions.{Opens, fields_after}
-use Rattle.crossterm_parse.specs.declared.fields.Fields.{Fields}
+use Rattle.std.proofs.Common.{rules, arith, sym, subst, take, get_or, ◌≡◌}
+use Rattle.crossterm_parse.specs.Transitions.{Opens}
 use Rattle.crossterm_parse.specs.declared.numbered.Parameters.{Parameters}
 use Rattle.crossterm_parse.specs.declared.paste.Opening.TheVariants as opening
 use Rattle.crossterm_parse.specs.declared.state.State.TheVariants.{Numbered, Sgr}
-use Rattle.crossterm_parse.proofs.RunLaws.{idle_number, idle_report, opens_more}
+use Rattle.crossterm_parse.specs.declared.utf8.Validity.TheVariants.{Sound}
+use Rattle.crossterm_parse.proofs.BlockLaws.{AreIdle, after_some, idle_numbers, idle_reports}
 use Rattle.crossterm_parse.proofs.numbered.Parameters.read_idle.Goals as goal
 
-pub loop-i-preserved : goal.loop-i-preserved
-loop-i-preserved c =
+pub returns-then-count-gt0-clause-numbered : goal.returns-then-count-gt0-clause-numbered
+returns-then-count-gt0-clause-numbered c =
+    let old = c.args.self.now in
     let bytes = c.args.bytes.now in
-    let i = c.loop-i.i in
-    let b = slice_index bytes i in
-    let first = c.args.self.now in
-    let mid = c.loop-i.self in
-    let new : Parameters = record { fields = mid.fields; last = b; validity = mid.validity } in
-    let idle = c.idle_digits-end.ensures in
-    let low : 48 ≤ b = omega (arith, c.if-byte-lt48.false) in
-    let below : b < 48 + c.idle_digits-end.result = omega (arith, c.if-byte-end.false) in
-    let high : b < 58 = omega (arith, below, idle.most) in
-    let same : fields_after mid.fields b ≡ mid.fields = ap (λ (fs : Fields). fields_after fs b) c.loop-i.invariant.fields ∙ idle.idle b low below ∙ sym c.loop-i.invariant.fields in
-    let more = sym (take_more bytes i 0 c.loop-i-test.true) in record {
-      numbered = subst (Opens (Numbered first opening.Not) (Numbered new opening.Not)) more
-          (opens_more (Numbered first opening.Not) (Numbered mid opening.Not) (Numbered new opening.Not) (take i bytes) b c.loop-i.invariant.numbered (idle_number mid b low high c.loop-i.invariant.sound same) refl);
-      report = subst (Opens (Sgr first) (Sgr new)) more
-          (opens_more (Sgr first) (Sgr mid) (Sgr new) (take i bytes) b c.loop-i.invariant.report (idle_report mid b low high c.loop-i.invariant.sound same) refl);
-      fields = c.loop-i.invariant.fields;
-      sound = c.loop-i.invariant.sound;
-    }
+    let run = c.run_between-count in
+    let sound : old.validity ≡ Sound = search rules in
+    let idle : AreIdle old bytes run.result = λ k to. let is = run.ensures.between k (omega arith) to in
+    (is.0, omega (arith, is.1, c.idle_digits-idle.ensures.most, c.if-idle-eq0.false), c.idle_digits-idle.ensures.idle (get_or bytes k 0) is.0 (omega (arith, is.1, c.if-idle-eq0.false))) in
+    subst (λ (p : Parameters). Opens (Numbered old opening.Not) (Numbered p opening.Not) (take run.result bytes)) (after_some old bytes run.result (omega (arith, c.if-count-gt0.true)))
+    (idle_numbers old bytes run.result run.ensures.within sound idle)
+
+pub returns-then-count-gt0-clause-report : goal.returns-then-count-gt0-clause-report
+returns-then-count-gt0-clause-report c =
+    let old = c.args.self.now in
+    let bytes = c.args.bytes.now in
+    let run = c.run_between-count in
+    let sound : old.validity ≡ Sound = search rules in
+    let idle : AreIdle old bytes run.result = λ k to. let is = run.ensures.between k (omega arith) to in
+    (is.0, omega (arith, is.1, c.idle_digits-idle.ensures.most, c.if-idle-eq0.false), c.idle_digits-idle.ensures.idle (get_or bytes k 0) is.0 (omega (arith, is.1, c.if-idle-eq0.false))) in
+    subst (λ (p : Parameters). Opens (Sgr old) (Sgr p) (take run.result bytes)) (after_some old bytes run.result (omega (arith, c.if-count-gt0.true)))
+    (idle_reports old bytes run.result run.ensures.within sound idle)

@@ -12,4 +12,4 @@ returns g c =
     let fed = c.feed-taken.ensures in
     let next = c.next.ensures in
     first_kept seen c.args.self.now c.feed-taken.new.self c.next.new.self c.args.piece.now c.args.more c.args.raw c.feed-taken.result c.next.result c.requires fed.taken fed.divided fed.quiet fed.stops fed.full fed.room
-    next.none next.some next.represents next.capacity
+    next.none next.some next.represents next.capacity next.room

@@ -6,7 +6,7 @@ use Rattle.crossterm_parse.proofs.parse.Parser.take_first.Goals as goal
 pub returns-then-not-is_empty-clause-first : goal.returns-then-not-is_empty-clause-first
 returns-then-not-is_empty-clause-first g c =
     let next = c.next.ensures in
-    first_waits seen c.args.self.now c.next.new.self c.args.piece.now c.args.more c.args.raw c.next.result (search rules) (search rules) next.some next.represents next.capacity
+    first_waits seen c.args.self.now c.next.new.self c.args.piece.now c.args.more c.args.raw c.next.result (search rules) (search rules) next.some next.represents next.room
 
 pub returns-in-Some-clause-first : goal.returns-in-Some-clause-first
 returns-in-Some-clause-first g c =

@@ -11,8 +11,8 @@ returns-in-32-to-126-clause-puts g c =
     through_as g.O.Outlet.given (λ old new. PutsAll old new bytes) (λ old new. PutsOn c.args.raw old new bytes) s s c.args.outlet.now c.give_letters.new.outlet (all_on c.args.raw bytes)
     c.give_letters.ensures.puts
 
-pub returns-in-194-to-244-clause-puts : goal.returns-in-194-to-244-clause-puts
-returns-in-194-to-244-clause-puts g c =
+pub returns-in-128-to-255-clause-puts : goal.returns-in-128-to-255-clause-puts
+returns-in-128-to-255-clause-puts g c =
     let s = c.args.self.now in
     let bytes = take c.give_utf8.result c.args.bytes.now in
     through_as g.O.Outlet.given (λ old new. PutsAll old new bytes) (λ old new. PutsOn c.args.raw old new bytes) s s c.args.outlet.now c.give_utf8.new.outlet (all_on c.args.raw bytes)

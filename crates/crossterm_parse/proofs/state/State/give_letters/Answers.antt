@@ -12,6 +12,6 @@ returns-clause-puts g c =
     let letters = take c.put_letters-count.result bytes in
     let all = subst (AllByRecursion IsLetter) (take_less c.put_letters-count.result c.min-most.result bytes c.put_letters-count.ensures.within) c.put_letters-count.ensures.letters in (
       map typed letters,
-      g.met.O.Outlet.given_on c.args.outlet.now c.has_room.new.self c.give_letters.new.self [] (map typed letters) c.has_room.ensures.given c.give_letters.ensures.given,
+      g.met.O.Outlet.given_on c.args.outlet.now c.typed_room.new.outlet c.give_letters.new.self [] (map typed letters) c.typed_room.ensures.given c.give_letters.ensures.given,
       λ w. all_letters c.args.self.now letters w c.requires all,
     )
