@@ -18,7 +18,7 @@ use Rattle.crossterm_read.specs.declared.read.reader.Once.{Once}
 use Rattle.crossterm_read.specs.declared.read.reader.Once.TheVariants as once
 use Rattle.crossterm_read.specs.declared.read.held.Taken.{Taken}
 use Rattle.crossterm_read.specs.Store.{EventStore, ReaderState, arrived, numbered_after, next_number, Arrives, capacity}
-use Rattle.crossterm_read.specs.Steps.{Patience, Allows, IsSpent, first_admitted, Passes, Asks, Ready, Tried, Broke, PollStep, ReadStep, RefusedOnlyWithoutRoom, TakeReplies}
+use Rattle.crossterm_read.specs.Steps.{Patience, Allows, IsSpent, first_admitted, Passes, Asks, Ready, Tried, Broke, NextStep, PollStep, RefusedOnlyWithoutRoom, TakeReplies}
 use Rattle.crossterm_read.specs.inside.Asking.{Asked, DrawsOne, held_with}
 use Rattle.crossterm_read.specs.inside.Replies.{kept, try_reply}
 use Rattle.crossterm_read.specs.Replies.{poll_reply}
@@ -179,17 +179,17 @@ module _ {S : Type 0} (drawn : S → List SourceAnswer → S → Type 0) (failed
   pub poll_fault : (A : Type 0) (e : Error) → error_kind e ≢ Interrupted → Asked {A = A} drawn failed Stops f patience s t (Err e) → Polls (Err e)
   poll_fault A e h a = (a.0, a.1, (Broke (error_kind e), a.3, a.2, inr (h, refl)), a.4)
 
-  -- a read that gives this
-  abbrev pub Gives : {A : Type 0} → Result (Option (Taken (InternalEvent A))) Error → Type 0
-  Gives r = (zs : List SourceAnswer) × drawn s.source zs t.source × ReadStep patience f zs s.store t.store (try_reply r) × IfErr r (λ e. RefusedOnlyWithoutRoom s.room zs (error_kind e)) × IsSteady failed s.source zs t.source
+  -- a call that gives this
+  abbrev pub Gives : {A : Type 0} → AtWake → Result (Option (Taken (InternalEvent A))) Error → Type 0
+  Gives wake r = (zs : List SourceAnswer) × drawn s.source zs t.source × NextStep wake patience f zs s.store t.store (try_reply r) × IfErr r (λ e. RefusedOnlyWithoutRoom s.room zs (error_kind e)) × IsSteady failed s.source zs t.source
 
-  pub read_held : {A : Type 0} → ((s : S) → drawn s [] s) → (taken : Taken (InternalEvent A)) → TakeReplies f s.store t.store (Some (kept taken)) → t.source ≡ s.source → Gives (Ok (Some taken))
-  read_held law taken h e = ([], subst (λ (y : S). drawn s.source [] y) (sym e) (law s.source), (Ready, s.store, inl (ap is_some h.1, refl), arrives_none s.store, (Some (kept taken), h, refl)), tt, λ none. ap failed e)
+  pub next_held : {A : Type 0} (wake : AtWake) → ((s : S) → drawn s [] s) → (taken : Taken (InternalEvent A)) → TakeReplies f s.store t.store (Some (kept taken)) → t.source ≡ s.source → Gives wake (Ok (Some taken))
+  next_held wake law taken h e = ([], subst (λ (y : S). drawn s.source [] y) (sym e) (law s.source), (Ready, s.store, inl (ap is_some h.1, refl), arrives_none s.store, (Some (kept taken), h, refl)), tt, λ none. ap failed e)
 
-  pub read_asked : {A : Type 0} (r : Result (Option (Taken (InternalEvent A))) Error) → Asked drawn failed GoesOn f patience s t r → Gives r
-  read_asked (Ok (Some taken)) a = (a.0, a.1, (Ready, held_with t.store (kept taken), a.3, a.2, (Some (kept taken), a.6, refl)), tt, a.5)
-  read_asked (Ok None) a = (a.0, a.1, (Tried, t.store, a.3, a.2, (refl, refl)), tt, a.5)
-  read_asked (Err e) a = (a.0, a.1, (Broke (error_kind e), t.store, a.3, a.2, (refl, refl)), a.4, a.5)
+  pub next_asked : {A : Type 0} (wake : AtWake) (r : Result (Option (Taken (InternalEvent A))) Error) → Asked drawn failed wake f patience s t r → Gives wake r
+  next_asked wake (Ok (Some taken)) a = (a.0, a.1, (Ready, held_with t.store (kept taken), a.3, a.2, (Some (kept taken), a.6, refl)), tt, a.5)
+  next_asked wake (Ok None) a = (a.0, a.1, (Tried, t.store, a.3, a.2, (refl, refl)), tt, a.5)
+  next_asked wake (Err e) a = (a.0, a.1, (Broke (error_kind e), t.store, a.3, a.2, (refl, refl)), a.4, a.5)
 
 -- A poll for an event that is held.
 pub poll_held : {S : Type 0} (drawn : S → List SourceAnswer → S → Type 0) → ((s : S) → drawn s [] s) → (failed : S → ℕ) (f : Seen → Bool) (patience : Patience) (s : ReaderState S) → is_some (first_admitted f s.store.held) ≡ true

@@ -10,6 +10,7 @@ pub mod Joining
 pub mod Mapped
 pub mod Moves
 pub mod Newest
+pub mod Next
 pub mod Numbers
 pub mod Querying
 pub mod Reading

@@ -19,7 +19,7 @@ use Rattle.std.specs.declared.io.ErrorKind.{ErrorKind}
 use Rattle.crossterm_read.specs.inside.Slot.{Took, Put, Produces, Learnt, first_of, one_more, taught}
 use Rattle.crossterm_read.proofs.EachOnce.{each_once}
 use Rattle.crossterm_read.proofs.Histories.{runs_room, runs_snoc, not_fewer}
-use Rattle.crossterm_read.proofs.Querying.{fault_of}
+use Rattle.crossterm_read.proofs.Next.{fault_of}
 use Rattle.crossterm_read.proofs.Seating.{off, some_of, calls_by-append, calls_by-mine, are_snoc}
 
 -- What stands there.

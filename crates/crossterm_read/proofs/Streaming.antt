@@ -9,8 +9,7 @@ use Rattle.crossterm_types.specs.declared.event.filter.AnyFilter.TheVariants as 
 use Rattle.crossterm_read.specs.Answers.{SourceAnswer}
 use Rattle.crossterm_read.specs.Entries.{IsPoll, Polls, Tries}
 use Rattle.crossterm_read.specs.History.{Known, Extends}
-use Rattle.crossterm_read.specs.Replies.{Replied, ToPoll, ToTake, ToQuery, Fault, Came, Polled, Faulted, event_seen, poll_reply, replied, shown}
-use Rattle.crossterm_read.specs.inside.Replies.{event_tried}
+use Rattle.crossterm_read.specs.Replies.{Replied, ToPoll, ToTake, ToQuery, Fault, Came, Polled, Faulted, event_seen, event_tried, poll_reply, replied, shown}
 use Rattle.crossterm_read.specs.Streams.{ReadsAtOnce, GivesItem, GivesNothing, PollsOn, OnlyPolls}
 
 -- A reply that shows no event, and no fault, took nothing.

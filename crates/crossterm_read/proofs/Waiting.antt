@@ -1,26 +1,23 @@
 -- Asking within a limit of time.
-use Rattle.std.proofs.Common.{◌≡◌, ◌≤◌, ◌-◌, ℕ, Bool, List, [], ◌∷◌, ◌++◌, Option, None, Some, Ok, Err, refl, sym, ap, subst, inl, inr, ◌∙◌, arith, append-nil, append_assoc}
+use Rattle.std.proofs.Common.{◌≡◌, ◌≤◌, ◌-◌, ℕ, Bool, List, [], ◌∷◌, ◌++◌, Option, None, Some, refl, sym, ap, subst, inl, inr, ◌∙◌, arith, append_assoc}
 use Rattle.std.specs.Duration.{as_nanos}
 use Rattle.std.specs.List.{AllByRecursion}
 use Rattle.std.specs.Option.{option_map}
-use Rattle.std.specs.IoError.{error_kind}
-use Rattle.std.specs.declared.io.Error.{Error}
 use Rattle.std.specs.declared.time.Duration.{Duration}
 use Rattle.crossterm_types.specs.Seen.{Seen}
-use Rattle.crossterm_types.specs.declared.event.InternalEvent.{InternalEvent}
 use Rattle.crossterm_types.specs.Timing.{Reaches, HasElapsed, IsFirst, KeepsFirst, left_over}
 use Rattle.crossterm_types.specs.declared.event.timeout.PollTimeout.{PollTimeout}
-use Rattle.crossterm_read.specs.Answers.{SourceAnswer, IsSteady}
+use Rattle.crossterm_read.specs.Answers.{SourceAnswer}
 use Rattle.crossterm_read.specs.Device.{AsksEach, AsksWith, IsAtOnce}
 use Rattle.crossterm_read.specs.declared.read.reader.AtWake.TheVariants.{GoesOn}
-use Rattle.crossterm_read.specs.Replies.{ToTake, Fault}
-use Rattle.crossterm_read.specs.declared.read.held.Taken.{Taken}
-use Rattle.crossterm_read.specs.Store.{ReaderState}
-use Rattle.crossterm_read.specs.inside.Replies.{kept}
-use Rattle.crossterm_read.specs.Steps.{Within, Asks, Ready, Broke, ReadStep, RefusedOnlyWithoutRoom}
-use Rattle.crossterm_read.specs.inside.Asking.{Asked, AsksInTime, held_with}
+use Rattle.crossterm_read.specs.Replies.{ToTake}
+use Rattle.crossterm_read.specs.Store.{EventStore}
+use Rattle.crossterm_read.specs.Steps.{Within, Asks, End, Ready, Tried, Broke, NextStep, ReadReplies, TakeReplies}
+use Rattle.crossterm_read.specs.inside.Asking.{AsksInTime}
 use Rattle.crossterm_read.specs.Waiting.{AsksLeft, OnlyLastIsAtOnce, WasLeft}
 use Rattle.crossterm_read.proofs.Asking.{asks_more}
+use Rattle.crossterm_read.proofs.Next.{take_not, took_of}
+use Rattle.crossterm_read.proofs.Ready.{ready_there}
 use Rattle.crossterm_types.proofs.Lists.{all_map, all_push}
 
 -- What was left of the limit, and something was.
@@ -37,9 +34,6 @@ last_at_once (l ∷ ls) limit a = (λ more. a.0, last_at_once ls limit a.1)
 none_at_once : (limits : List (Option Duration)) → AllByRecursion (λ l. IsAtOnce l → ⊥) limits → OnlyLastIsAtOnce limits
 none_at_once [] a = tt
 none_at_once (l ∷ ls) a = (λ more. a.0, none_at_once ls a.1)
-
-pub left_none : (timeout : PollTimeout) (last : ℕ) (l : List (Option Duration)) → AsksLeft timeout last l l
-left_none timeout last l = ([], sym (append-nil l), tt, tt)
 
 -- One more is asked, with what is left at a later moment.
 pub limits_more : (timeout : PollTimeout) (a now b : ℕ) (l m k : List (Option Duration)) → a ≤ b → as_nanos timeout.start ≤ now → now ≤ b → AsksEach (WasSomeLeft timeout a) l m → AsksInTime timeout now m k → AsksLeft timeout b l k
@@ -109,18 +103,11 @@ lasts timeout now h z = by_limit timeout.limit h z
 pub first_of : {C : Type 0} (told : C → ℕ) (began : C → ℕ → C → Type 0) (old now new : C) (start : ℕ) → start ≡ told now → told old ≤ told now → told now ≤ told new → began old (told now) now → KeepsFirst began now new → IsFirst told began old new start
 first_of told began old now new start e later more first keeps = subst (IsFirst told began old new) (sym e) (later, more, keeps old (told now) first)
 
-module _ {S : Type 0} (A : Type 0) (drawn : S → List SourceAnswer → S → Type 0) (failed : S → ℕ) (f : Seen → Bool) (limit : Option Duration) (none : limit ≡ None) (past : ℕ) (s t : ReaderState S) where
-  unlimited : Reaches limit past → ⊥
-  unlimited r = absurd (subst (λ (o : Option Duration). Reaches o past) none r)
-
-  -- Without a limit asking doesn't end with nothing.
-  pub waited_some : Asked {A = A} drawn failed GoesOn f (Within limit past) s t (Ok None) → ⊥
-  waited_some a = unlimited a.3.2.passed
-
-  pub waited_read : (taken : Taken (InternalEvent A)) → Asked drawn failed GoesOn f (Within limit past) s t (Ok (Some taken))
-      → (past : ℕ) × (zs : List SourceAnswer) × drawn s.source zs t.source × ReadStep (Within None past) f zs s.store t.store (ToTake (Some (kept taken))) × Unit {0} × IsSteady failed s.source zs t.source
-  waited_read taken a = (past, a.0, a.1, (Ready, held_with t.store (kept taken), subst (λ (o : Option Duration). Asks GoesOn f (Within o past) s.store.held a.0 Ready) none a.3, a.2, (Some (kept taken), a.6, refl)), tt, a.5)
-
-  pub waited_fault : (e : Error) → Asked {A = A} drawn failed GoesOn f (Within limit past) s t (Err e)
-      → (past : ℕ) × (zs : List SourceAnswer) × drawn s.source zs t.source × ReadStep (Within None past) f zs s.store t.store (Fault (error_kind e)) × RefusedOnlyWithoutRoom s.room zs (error_kind e) × IsSteady failed s.source zs t.source
-  waited_fault e a = (past, a.0, a.1, (Broke (error_kind e), t.store, subst (λ (o : Option Duration). Asks GoesOn f (Within o past) s.store.held a.0 (Broke (error_kind e))) none a.3, a.2, (refl, refl)), a.4, a.5)
+-- Without a limit a call that goes on at a wake-up doesn't end with nothing.
+pub never_nothing : (f : Seen → Bool) (limit : Option Duration) → limit ≡ None → (past : ℕ) (zs : List SourceAnswer) (s t : EventStore) → NextStep GoesOn (Within limit past) f zs s t (ToTake None) → ⊥
+never_nothing f limit none past zs s t n = by_end n.0 n.2 n.4
+  where
+    by_end : (end : End) → Asks GoesOn f (Within limit past) s.held zs end → ReadReplies f end n.1 t (ToTake None) → ⊥
+    by_end Ready a r = ready_there GoesOn f (Within limit past) s n.1 zs a n.3 (subst (TakeReplies f n.1 t) (sym (took_of None r.0 r.2)) r.1).0
+    by_end Tried a r = absurd (subst (λ (o : Option Duration). Reaches o past) none a.2.passed)
+    by_end (Broke kind) a r = absurd (take_not None kind r.1)

@@ -1,10 +1,11 @@
 -- Which call of a shared reader an entry of its history is.
-use Rattle.std.specs.Prelude.{◌≡◌, ◌⊎◌, ◌≤◌, ◌-◌, ℕ, Bool, false, List, Option, Some, None, Result, Ok, IsErrAnd}
+use Rattle.std.specs.Prelude.{◌≡◌, ◌⊎◌, ◌≤◌, ◌-◌, ℕ, Bool, false, List, Option, Some, None, Result, Ok, Err, IsErrAnd}
 use Rattle.std.specs.IoError.{error_kind}
 use Rattle.std.specs.declared.io.Error.{Error}
 use Rattle.std.specs.declared.io.ErrorKind.TheVariants.{Other}
 use Rattle.crossterm_flags.specs.declared.enhancement.KeyboardEnhancementFlags.{KeyboardEnhancementFlags}
 use Rattle.crossterm_types.specs.Timing.{Reaches}
+use Rattle.crossterm_types.specs.declared.event.Event.{Event}
 use Rattle.std.specs.declared.io.ErrorKind.{ErrorKind}
 use Rattle.std.specs.declared.time.Duration.{Duration}
 use Rattle.crossterm_types.specs.declared.event.filter.AnyFilter.{AnyFilter}
@@ -13,7 +14,7 @@ use Rattle.crossterm_read.specs.Answers.{SourceAnswer}
 use Rattle.crossterm_read.specs.Calls.{Request, Poll, Read, Position, Keyboard}
 use Rattle.crossterm_read.specs.Device.{AsksAtOnce}
 use Rattle.crossterm_read.specs.History.{Entry, Known, Extends}
-use Rattle.crossterm_read.specs.Replies.{Replied, Fault, Said, Came, keyboard_said, poll_reply, position_said, replied, shown}
+use Rattle.crossterm_read.specs.Replies.{Replied, Fault, ToTake, Said, Came, event_seen, keyboard_said, poll_reply, position_said, replied, shown}
 use Rattle.crossterm_read.specs.Store.{ReaderState}
 use Rattle.crossterm_read.specs.Steps.{Patience, UpTo, Within, RefusedOnlyWithoutRoom}
 use Rattle.crossterm_read.specs.Waiting.{AsksForever, AsksTwice, AsksWithin}
@@ -37,6 +38,10 @@ module _ {S : Type 0} (asked : S → List (Option Duration)) where
   -- A read by this filter, without a limit.
   abbrev pub IsRead : AnyFilter → Replied → ReaderState S → Entry → ReaderState S → Type 0
   IsRead f = IsCall (λ call. (past : ℕ) × (call ≡ Read (Within None past) f)) AsksForever
+
+  -- A read by this filter with a limit of time, from one moment to another.
+  abbrev pub IsReadFor : AnyFilter → Option Duration → ℕ → ℕ → Replied → ReaderState S → Entry → ReaderState S → Type 0
+  IsReadFor f limit start after = IsCall (InTime (λ patience. Read patience f) limit start after) (AsksWithin limit start after)
 
   -- A read by this filter with one try.
   abbrev pub IsTry : AnyFilter → Replied → ReaderState S → Entry → ReaderState S → Type 0
@@ -76,6 +81,12 @@ module _ {S : Type 0} (drawn : S → List SourceAnswer → S → Type 0) (asked 
   abbrev pub Polls : AnyFilter → Option Duration → (ℕ → Type 0) → ℕ → Known S → Known S → Result Bool Error → Type 0
   Polls f limit begins after v w result =
       (start : ℕ) × begins start × (Extends drawn (IsPoll asked f limit start after (replied (poll_reply result))) v w ⊎ ((result ≡ Ok false) × (w ≡ v) × Reaches limit (after - start)))
+
+  -- A read with a limit made by a pass, from the moment at which it began: an event is what such a read took; nothing, or a fault, is what such a poll found.
+  abbrev pub ReadsFor : {A : Type 0} → AnyFilter → Option Duration → (ℕ → Type 0) → ℕ → Known S → Known S → Result (Option (Event A)) Error → Type 0
+  ReadsFor f limit begins after v w (Ok (Some event)) = (start : ℕ) × begins start × (number : ℕ) × Extends drawn (IsReadFor asked f limit start after (ToTake (Some (event_seen event, number)))) v w
+  ReadsFor f limit begins after v w (Ok None) = Polls f limit begins after v w (Ok false)
+  ReadsFor f limit begins after v w (Err e) = Polls f limit begins after v w (Err e)
 
   -- A query for the cursor's place made by a pass, likewise: where the limit passed before the reader was there the answer is `Other`.
   abbrev pub AsksPosition : Duration → (ℕ → Type 0) → ℕ → Known S → Known S → Result (ℕ × ℕ) Error → Type 0

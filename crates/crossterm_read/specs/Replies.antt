@@ -69,3 +69,7 @@ event_seen event = seen (internal.Event event)
 abbrev pub event_said : {A : Type 0} → Result (Event A) Error → Said
 event_said (Ok event) = Came (Some (event_seen event))
 event_said (Err e) = Faulted (error_kind e)
+
+abbrev pub event_tried : {A : Type 0} → Result (Option (Event A)) Error → Said
+event_tried (Ok x) = Came (option_map event_seen x)
+event_tried (Err e) = Faulted (error_kind e)

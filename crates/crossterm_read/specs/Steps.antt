@@ -94,8 +94,13 @@ ReadReplies f (Broke kind) s t r = (t ≡ s) × (r ≡ Fault kind)
 abbrev pub PollStep : Patience → (Seen → Bool) → List SourceAnswer → EventStore → EventStore → Result Bool ErrorKind → Type 0
 PollStep patience f zs s t r = (end : End) × Asks Stops f patience s.held zs end × Arrives s zs t × PollReplies end r
 
+-- A call that takes what comes, and that stops at a wake-up or goes on.
+abbrev pub NextStep : AtWake → Patience → (Seen → Bool) → List SourceAnswer → EventStore → EventStore → Replied → Type 0
+NextStep wake patience f zs s t r = (end : End) × (m : EventStore) × Asks wake f patience s.held zs end × Arrives s zs m × ReadReplies f end m t r
+
+-- A read goes on.
 abbrev pub ReadStep : Patience → (Seen → Bool) → List SourceAnswer → EventStore → EventStore → Replied → Type 0
-ReadStep patience f zs s t r = (end : End) × (m : EventStore) × Asks GoesOn f patience s.held zs end × Arrives s zs m × ReadReplies f end m t r
+ReadStep = NextStep GoesOn
 
 abbrev pub TakeStep : (Seen → Bool) → List SourceAnswer → EventStore → EventStore → Replied → Type 0
 TakeStep f zs s t r = (zs ≡ []) × ReadReplies f Ready s t r

@@ -19,14 +19,14 @@
 //! |---|---|
 //! | a source returns the results of its device's answers in order; it asks the device with its own limit, and its waker is the device's; it reports the length of the open paste | `EventSource::{try_read, waker}`, `DeviceSource::paste_len` |
 //! | each call is one step of the reader's definition; it loses no room, and memory is refused only if no room was left; if an admitted event is held, none is taken | `InternalEventReader::{poll_within, read_within, take, held, position_within, keyboard_within}` |
-//! | if a filter declares its event classes, the first match is the earliest of four queued events at most | `Filter::classes`; `HeldEvents`, `Queues` (private) |
+//! | if a filter declares its event classes, the first match is the earliest of four queued events at most; an event that is held alone is in no queue | `Filter::classes`; `HeldEvents`, `Queues` (private) |
 //! | a poll asks with what is left of its limit, which begins at its first moment, and returns false only at a wake-up or after the limit; a step within a limit is one with some number of tries | `InternalEventReader::{poll, read}`; `laws::counts_tries` |
 //! | no event is lost (the first theorem) | `read::play`, `laws::one_happening` |
 //! | two runs of the same calls over the same answers have one result, if neither was refused memory, and no answer's bytes both end an event and leave a paste open | `read::play`, `laws::one_result` |
 //! | a device over a reader returns the reader's next bytes, in order, and the end only at its end, if the reader says what it contains; it reports no size if nothing reports sizes | `Device::answer` of `ReadDevice`, `PolledDevice`, `SocketDevice` |
 //! | an error of the system is returned and counted once, unless it says that nothing came yet, or no more can be counted | `failures::answer_at` |
-//! | threads share one history (the third theorem), over a script too; a look at the open paste is a poll with no try; the keyboard query waits twice, each time with its own limit; each event was taken once or is held; the events that one filter takes have rising numbers | `EventReader::{new, share, poll, read, poll_by, read_by, position_by, keyboard_by, paste_len, meet, close}`, `laws::histories_are_told` |
-//! | a shared poll that makes no entry returns `Ok(false)` after its limit; every call puts the reader back | the same |
+//! | threads share one history (the third theorem), over a script too; a look at the open paste is a poll with no try; the keyboard query waits twice, each time with its own limit; each event was taken once or is held; the events that one filter takes have rising numbers | `EventReader::{new, share, poll, read, read_for, poll_by, read_by, position_by, keyboard_by, paste_len, meet, close}`, `laws::histories_are_told` |
+//! | a read with a limit is a read that took an event, or a poll that found none; a shared poll that makes no entry returns `Ok(false)` after its limit; every call puts the reader back | the same |
 //! | an item of a stream is the reply of one read with limit zero in that history, or an error, never `Interrupted`; a pending poll has registered its waker; both passes come back | `EventStream::{new, with_worker, poll_event, poll_next, close}`, `StreamWorker::join` |
 //!
 //! What to believe, in the order in which it reads (`specs/`), and where it is proved:
@@ -41,14 +41,14 @@
 //! | `Outcomes` | 120 | what comes of a device's answers, and the events that happen | `laws::one_happening` |
 //! | `Sources` | 116 | what a source answers, turn by turn | `DeviceSource` |
 //! | `Store` | 51 | what a reader holds | `InternalEventReader::{new, held}` |
-//! | `Replies` | 71 | what a call replies | |
-//! | `Steps` | 105 | what a poll, a read and a take do | `InternalEventReader::{poll_within, read_within, take}` |
+//! | `Replies` | 75 | what a call replies | |
+//! | `Steps` | 110 | what a poll, a read and a take do | `InternalEventReader::{poll_within, read_within, take}` |
 //! | `Queries` | 45 | what a query does | `InternalEventReader::{position_within, keyboard_within}` |
 //! | `Waiting` | 35 | with which limits a device is asked | `InternalEventReader::{poll, read}`, `EventReader::keyboard_by` |
 //! | `Calls` | 128 | runs of calls, and the account of all events: the headline | `read::play`, `laws::counts_tries` |
 //! | `OneResult` | 60 | two runs of the same calls over the same answers | `laws::one_result` |
 //! | `History` | 170 | the one legal history of a reader that threads share | `EventReader`, `Pass` |
-//! | `Entries` | 92 | which call an entry of it is | `EventReader::{poll, read, poll_by, read_by, position_by, keyboard_by, paste_len}` |
+//! | `Entries` | 103 | which call an entry of it is | `EventReader::{poll, read, read_for, poll_by, read_by, position_by, keyboard_by, paste_len}` |
 //! | `OverScripts` | 26 | what a history over a script comes to | `laws::{scripts_are_told, histories_are_told}` |
 //! | `Seats` | 19 | what a clause says of a pass | `EventReader::{new, share, meet, close}` |
 //! | `Shared` | 15 | what it says of a share | `EventReader::{new, share}` |

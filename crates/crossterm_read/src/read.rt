@@ -2,6 +2,7 @@
 
 mod call;
 mod held;
+mod patience;
 mod queries;
 mod reader;
 mod shared;

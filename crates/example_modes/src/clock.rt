@@ -82,8 +82,7 @@ fn count_each<R: Wait + time::Clock>(
         if board.count(rt).is_over {
             break;
         }
-        if events.poll(rt, Duration::from_secs(1), &mut clock)? {
-            let event = events.read(rt)?;
+        if let Some(event) = events.read_within(rt, Duration::from_secs(1), &mut clock)? {
             board.add(rt);
             if is_quit(&event) {
                 break;

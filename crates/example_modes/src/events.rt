@@ -38,12 +38,12 @@ fn show(rt: &impl Wait, tty: &mut Tty<'_>, event: &Event) -> io::Result<bool> {
 
 /// Shows what comes within a second, and returns whether it was the last event.
 fn turn(rt: &impl Wait, tty: &mut Tty<'_>) -> io::Result<bool> {
-    let is_over = if tty.poll(rt, Duration::from_secs(1))? {
-        let event = tty.read(rt)?;
-        show(rt, tty, &event)?
-    } else {
-        tty.out.write_all(b".\r\n")?;
-        false
+    let is_over = match tty.read_within(rt, Duration::from_secs(1))? {
+        Some(event) => show(rt, tty, &event)?,
+        None => {
+            tty.out.write_all(b".\r\n")?;
+            false
+        }
     };
     tty.out.flush()?;
     Ok(is_over)

@@ -126,11 +126,9 @@ fn turn(
     watch: &Watch,
     view: &mut View,
 ) -> io::Result<bool> {
-    let is_over = if tty.poll(rt, Duration::from_secs(1))? {
-        let event = tty.read(rt)?;
-        show(tty, view, &event)?
-    } else {
-        false
+    let is_over = match tty.read_within(rt, Duration::from_secs(1))? {
+        Some(event) => show(tty, view, &event)?,
+        None => false,
     };
     report(tty, watch, view)?;
     tty.out.flush()?;

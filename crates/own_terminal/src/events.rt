@@ -5,7 +5,7 @@ ghost use Rattle.std.specs.IoError.{error_kind};
 ghost use Rattle.std.specs.declared.io.ErrorKind.TheVariants.{OutOfMemory};
 ghost use Rattle.crossterm_types.specs.declared.event.filter.AnyFilter.TheVariants as filters;
 ghost use Rattle.crossterm_types.specs.Timing.{IsFirst, KeepsFirst};
-ghost use Rattle.crossterm_read.specs.Entries.{Polls, Reads};
+ghost use Rattle.crossterm_read.specs.Entries.{Polls, Reads, ReadsFor};
 ghost use Rattle.crossterm_read.specs.Replies.{event_said};
 ghost use Rattle.crossterm_read.specs.Seats.{knows};
 ghost use Rattle.crossterm_read.specs.Shared.{IsPassOf, IsShareOf};
@@ -50,6 +50,33 @@ impl<S: EventSource<Global>> Events<S> {
         ensures reader { self.new.reader ≡ self.old.reader }
     {
         self.reader.read(rt, &mut self.pass)
+    }
+
+    /// The next event, or `None` if none comes within this limit, by this clock. `None` too if another thread reads until then, or at a
+    /// wake-up.
+    ///
+    /// # Errors
+    ///
+    /// Those of `read`.
+    ///
+    /// ```
+    /// let mut clock = SystemClock::new(rt);
+    /// if let Some(event) = events.read_within(rt, Duration::from_millis(100), &mut clock)? {
+    ///     println!(rt; "{event:?}")?;
+    /// }
+    /// ```
+    pub fn read_within<C: Clock, R: Wait>(
+        &mut self,
+        rt: &R,
+        limit: Duration,
+        clock: &mut C,
+    ) -> io::Result<Option<Event>>
+        ensures call { ReadsFor S.drawn S.asked filters.Event (Some limit) (IsFirst C.told C.began clock.old clock.new) (C.told clock.new) (knows self.old.pass) (knows self.new.pass) result }
+        ensures later { C.told clock.old ≤ C.told clock.new }
+        ensures first { KeepsFirst C.began clock.old clock.new }
+        ensures reader { self.new.reader ≡ self.old.reader }
+    {
+        self.reader.read_for(rt, &mut self.pass, limit, clock)
     }
 
     /// Whether an event comes within this limit, by this clock. If no other thread takes it, the next `read` returns it at once.

@@ -29,8 +29,8 @@
 //! | Proved | By the contract of |
 //! |---|---|
 //! | a feature that is turned on writes exactly its text, and is listed, also if the writer fails; one that is turned off is the last of its kind, and stays listed if the writer fails; leaving empties the list, and if it succeeds it wrote what turns each off, the last one first, and set the mode from before; at an error each end was written whole, in part or not at all, and the device did what its clause says | `Session::{turn_on, turn_off, leave, enable_raw_mode, disable_raw_mode}` |
-//! | events are read by the calls of the only pass of a new reader; polls, queries and sizes are those of the libraries, and leave the list of features alone | `Session::{over, over_source, read, poll, position, supports_keyboard_enhancement, size}` |
-//! | further shares of a session's events are as many as were asked for, of the session's reader, and each read or poll is the next call of its own pass in the one history; a stream reads by such a pass too | `Session::{over_shared, over_streaming}`, `start_shared`, `start_streaming`, `Events::{read, poll}` |
+//! | events are read by the calls of the only pass of a new reader; polls, queries and sizes are those of the libraries, and leave the list of features alone | `Session::{over, over_source, read, read_within, poll, position, supports_keyboard_enhancement, size}` |
+//! | further shares of a session's events are as many as were asked for, of the session's reader, and each read or poll is the next call of its own pass in the one history; a stream reads by such a pass too | `Session::{over_shared, over_streaming}`, `start_shared`, `start_streaming`, `Events::{read, read_within, poll}` |
 //!
 //! What to believe, in the order in which it reads (`specs/`), and where it is proved:
 //!

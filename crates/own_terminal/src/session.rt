@@ -8,7 +8,7 @@ ghost use Rattle.std.specs.declared.io.Error.{Error};
 ghost use Rattle.std.specs.declared.io.ErrorKind.TheVariants.{OutOfMemory};
 ghost use Rattle.crossterm_types.specs.declared.event.filter.AnyFilter.TheVariants as filters;
 ghost use Rattle.crossterm_types.specs.Timing.{IsFirst, KeepsFirst};
-ghost use Rattle.crossterm_read.specs.Entries.{AsksKeyboard, AsksPosition, Polls, Reads};
+ghost use Rattle.crossterm_read.specs.Entries.{AsksKeyboard, AsksPosition, Polls, Reads, ReadsFor};
 ghost use Rattle.crossterm_read.specs.History.{Known};
 ghost use Rattle.crossterm_read.specs.Replies.{event_said};
 ghost use Rattle.crossterm_read.specs.Seats.{knows};
@@ -283,6 +283,29 @@ impl<S: EventSource<Global>, D: ModeDevice, W: Write + Drop, C: Clock + Drop> Se
         ensures others { (self.new.out ≡ self.old.out) × (self.new.term ≡ self.old.term) × (self.new.features ≡ self.old.features) }
     {
         self.reader.read(rt, &mut self.pass)
+    }
+
+    /// The next event, or `None` if none comes within this limit, or if the session is woken.
+    ///
+    /// # Errors
+    ///
+    /// Those of `read`.
+    ///
+    /// ```
+    /// match tty.read_within(rt, Duration::from_millis(100))? {
+    ///     Some(Event::Key(key)) => press(key)?,
+    ///     Some(_) => {}
+    ///     None => tty.out.write_all(b".")?,
+    /// }
+    /// ```
+    pub fn read_within<R: Wait>(&mut self, rt: &R, limit: Duration) -> io::Result<Option<Event>>
+        ensures call { ReadsFor S.drawn S.asked filters.Event (Some limit) (IsFirst C.told C.began self.old.clock self.new.clock) (C.told self.new.clock) (knows self.old.pass) (knows self.new.pass) result }
+        ensures later { C.told self.old.clock ≤ C.told self.new.clock }
+        ensures first { KeepsFirst C.began self.old.clock self.new.clock }
+        ensures others { (self.new.out ≡ self.old.out) × (self.new.term ≡ self.old.term) × (self.new.features ≡ self.old.features) }
+    {
+        self.reader
+            .read_for(rt, &mut self.pass, limit, &mut self.clock)
     }
 
     /// Whether an event comes within this limit. The next `read` returns it at once.

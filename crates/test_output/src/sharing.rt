@@ -12,7 +12,7 @@ use std::random::RandomSource;
 use std::sync::Wait;
 use std::sync::atomic::AtomicU32;
 use std::thread::{self, Threads};
-use std::time;
+use std::time::{self, Duration};
 use test_support::{Still, expect, letter_in, letter_of, text};
 
 /// What is read: each letter once.
@@ -44,19 +44,29 @@ fn with_letter(seen: u32, letter: char) -> u32 {
 fn read_by_session<R: Wait>(rt: &R, session: &mut Shared<'_>) -> u32 {
     let mut seen = 0;
     for _ in rt.forever() {
-        match letter_in(session.read(rt)) {
-            Some(letter) => seen = with_letter(seen, letter),
-            None => break,
+        match session.read_within(rt, Duration::from_secs(1)) {
+            Ok(Some(event)) => seen = with_letter(seen, letter_of(&event)),
+            Ok(None) => {}
+            Err(_) => break,
         }
     }
     seen
+}
+
+/// The next event of a share: one that comes at once, or else what it waits for.
+fn next_of<R: Wait>(rt: &R, events: &mut Events<Source>) -> io::Result<Event> {
+    match events.read_within(rt, Duration::ZERO, &mut Still) {
+        Ok(Some(event)) => Ok(event),
+        Ok(None) => events.read(rt),
+        Err(error) => Err(error),
+    }
 }
 
 /// What another thread reads to the end of input.
 fn read_by_share<R: Wait>(rt: &R, events: &mut Events<Source>) -> u32 {
     let mut seen = 0;
     for _ in rt.forever() {
-        match letter_in(events.read(rt)) {
+        match letter_in(next_of(rt, events)) {
             Some(letter) => seen = with_letter(seen, letter),
             None => break,
         }

@@ -1,14 +1,21 @@
 -- What private calls reply.
-use Rattle.std.specs.Prelude.{ℕ, Option, Some, None, Result, Ok, Err}
+use Rattle.std.specs.Prelude.{ℕ, false, List, Option, Some, None, Result, Ok, Err}
 use Rattle.std.specs.Option.{option_map}
 use Rattle.std.specs.IoError.{error_kind}
 use Rattle.std.specs.declared.io.Error.{Error}
 use Rattle.crossterm_flags.specs.declared.enhancement.KeyboardEnhancementFlags.{KeyboardEnhancementFlags}
 use Rattle.crossterm_types.specs.Seen.{Seen, seen}
-use Rattle.crossterm_types.specs.declared.event.Event.{Event}
 use Rattle.crossterm_types.specs.declared.event.InternalEvent.{InternalEvent}
 use Rattle.crossterm_read.specs.declared.read.held.Taken.{Taken}
-use Rattle.crossterm_read.specs.Replies.{Replied, ToTake, Fault, Said, Came, Faulted, flags_seen, event_seen}
+use Rattle.std.specs.declared.time.Duration.{Duration}
+use Rattle.crossterm_types.specs.declared.event.filter.AnyFilter.{AnyFilter}
+use Rattle.crossterm_read.specs.Calls.{Request, Poll, Read}
+use Rattle.crossterm_read.specs.Entries.{InTime, IsCall}
+use Rattle.crossterm_read.specs.History.{Entry}
+use Rattle.crossterm_read.specs.Replies.{Replied, ToPoll, ToTake, Fault, Said, Came, Faulted, flags_seen}
+use Rattle.crossterm_read.specs.Steps.{Patience}
+use Rattle.crossterm_read.specs.Store.{ReaderState}
+use Rattle.crossterm_read.specs.Waiting.{AsksWithin}
 
 -- What was taken, as a clause sees it.
 abbrev pub kept : {A : Type 0} → Taken (InternalEvent A) → Seen × ℕ
@@ -21,10 +28,6 @@ try_reply (Err e) = Fault (error_kind e)
 abbrev pub read_reply : {A : Type 0} → Result (Taken (InternalEvent A)) Error → Replied
 read_reply (Ok x) = ToTake (Some (kept x))
 read_reply (Err e) = Fault (error_kind e)
-
-abbrev pub event_tried : {A : Type 0} → Result (Option (Event A)) Error → Said
-event_tried (Ok x) = Came (option_map event_seen x)
-event_tried (Err e) = Faulted (error_kind e)
 
 -- The number of what was taken last, after a call that gives one where it takes.
 abbrev pub last_said : {E : Type 0} → Option ℕ → Result (Taken E) Error → Option ℕ
@@ -40,3 +43,20 @@ last_tried n (Err e) = n
 abbrev pub flags_said : Result (Taken (Option KeyboardEnhancementFlags)) Error → Said
 flags_said (Ok taken) = Came (Some (flags_seen taken.event))
 flags_said (Err e) = Faulted (error_kind e)
+
+module _ {A : Type 0} where
+  -- What a read within a limit is to the history: a read that took an event, or a poll that found none.
+  abbrev pub request_within : Patience → AnyFilter → Result (Option (Taken (InternalEvent A))) Error → Request
+  request_within patience f (Ok (Some taken)) = Read patience f
+  request_within patience f (Ok None) = Poll patience f
+  request_within patience f (Err e) = Poll patience f
+
+  -- Its reply.
+  abbrev pub reply_within : Result (Option (Taken (InternalEvent A))) Error → Replied
+  reply_within (Ok (Some taken)) = ToTake (Some (kept taken))
+  reply_within (Ok None) = ToPoll false
+  reply_within (Err e) = Fault (error_kind e)
+
+  -- Such an entry, from one moment to another.
+  abbrev pub IsReadOrPoll : {S : Type 0} → (S → List (Option Duration)) → AnyFilter → Option Duration → ℕ → ℕ → Result (Option (Taken (InternalEvent A))) Error → ReaderState S → Entry → ReaderState S → Type 0
+  IsReadOrPoll asked f limit start after r = IsCall asked (InTime (λ patience. request_within patience f r) limit start after) (AsksWithin limit start after) (reply_within r)

@@ -1,19 +1,19 @@
-//! The events that a reader holds, in queues by kind.
-ghost use Rattle.std.specs.Prelude.{◌≡◌, ◌+◌, ◌-◌, ◌<◌, ◌≤◌, IfOk, IfErr, List, [], ◌∷◌, length, map, is_some, IsTrue};
+//! The events that a reader holds: one that is ready, or all in queues by kind.
+ghost use Rattle.std.specs.Prelude.{◌≡◌, ◌+◌, ◌-◌, ◌<◌, ◌≤◌, IfOk, IfErr, List, [], None, length, map, is_some};
 ghost use Rattle.std.specs.Iterator.{YieldsFirstBy, item_count};
 ghost use Rattle.std.specs.Option.{option_map};
 ghost use Rattle.crossterm_types.specs.Seen.{Seen, seen};
 ghost use Rattle.crossterm_read.specs.inside.Asking.{held_with};
-ghost use Rattle.crossterm_read.specs.inside.Queues.{AreJoined, AreKept, behind, joined, member_kept, queues_of};
+ghost use Rattle.crossterm_read.specs.inside.Ready.{IsAlone, held_by, one_of, seen_by};
 ghost use Rattle.crossterm_read.specs.inside.Replies.{kept};
 ghost use Rattle.crossterm_read.specs.Store.{Holding, next_number};
 ghost use Rattle.crossterm_read.specs.Steps.{TakeReplies, first_admitted};
 
 mod kind;
+mod queued;
 mod queues;
 
-use self::kind::Places;
-use self::queues::{ALL, Member, Queues};
+use self::queued::{Queued, QueuedEvents};
 use crossterm_types::event::InternalEvent;
 use crossterm_types::event::filter::Filter;
 use std::alloc::{AllocError, Allocator, Global};
@@ -22,16 +22,14 @@ use std::marker::Model;
 /// The events that a reader holds, in the order of their arrival.
 #[derive(Drop)]
 pub struct Held<'a, A: Allocator = Global> {
-    queues: &'a Option<Queues<A>>,
-    at: Places,
+    ready: Option<&'a InternalEvent<A>>,
+    queued: Queued<'a, A>,
 }
 
 impl<'a, A: Allocator> Model for Held<'a, A> {
     ghost Value = { List Seen };
 
-    ghost view = { λ h. map (λ m. seen m.event) (joined (behind (queues_of h.queues.now) h.at)) };
-
-    ghost invariant = { λ h. AreJoined (behind (queues_of h.queues.now) h.at) };
+    ghost view = { λ h. seen_by h.ready h.queued };
 }
 
 impl<'a, A: Allocator> Iterator for Held<'a, A> {
@@ -42,13 +40,9 @@ impl<'a, A: Allocator> Iterator for Held<'a, A> {
     ghost remaining = { item_count (λ rest. rest) };
 
     fn next(&mut self) -> Option<&'a InternalEvent<A>> {
-        match self.queues {
-            Some(queues) => {
-                let front = queues.earliest(ALL, self.at)?;
-                self.at = self.at.after(front.kind);
-                Some(&front.member.event)
-            }
-            None => None,
+        match self.ready.take() {
+            Some(event) => Some(event),
+            None => self.queued.next(),
         }
     }
 }
@@ -60,25 +54,40 @@ pub(crate) struct Taken<E> {
     pub(crate) number: u64,
 }
 
-// The held events, each with its arrival number, in queues by kind, and the arrival number of the next one.
+// The held events, each with its arrival number, and the number of the next one.
 #[derive(Drop)]
 pub(crate) struct HeldEvents<A: Allocator> {
-    alloc: A,
-    // They are made with the first room.
-    queues: Option<Queues<A>>,
-    // How many are held, and how many find room in each queue.
+    // One event is held here while no other is, so that a poll and a read of it take no queue. Its room in the queues stays free.
+    ready: Option<Taken<InternalEvent<A>>>,
+    queued: QueuedEvents<A>,
+    // How many are held.
     len: usize,
-    limit: usize,
-    next_order: u64,
-    arrivals: u64,
 }
 
 impl<A: Allocator> Model for HeldEvents<A> {
     ghost Value = { Holding };
 
-    ghost view = { λ h. record { store = record { held = map member_kept (joined (queues_of h.queues)); arrivals = h.arrivals }; room = h.limit - h.len } };
+    ghost view = { λ h. record { store = record { held = held_by h.ready h.queued.store.held; arrivals = h.queued.store.arrivals }; room = h.queued.room - one_of h.ready } };
 
-    ghost invariant = { λ h. AreKept h.queues h.len h.limit h.next_order };
+    ghost invariant = { λ h. IsAlone h.ready h.queued × (h.len ≡ length (held_by h.ready h.queued.store.held)) };
+}
+
+// An event that is ready goes into its queue.
+#[inline(never)]
+fn queue_ready<A: Allocator>(
+    ready: &mut Option<Taken<InternalEvent<A>>>,
+    queued: &mut QueuedEvents<A>,
+)
+    requires { IsAlone ready.old queued.old }
+    ensures ready { ready.new ≡ None }
+    ensures held { queued.new.store.held ≡ held_by ready.old queued.old.store.held }
+    ensures arrivals { queued.new.store.arrivals ≡ queued.old.store.arrivals }
+    ensures room { queued.new.room ≡ queued.old.room - one_of ready.old }
+{
+    match ready.take() {
+        Some(taken) => queued.push_reserved(taken),
+        None => {}
+    }
 }
 
 impl<A: Allocator + Clone> HeldEvents<A> {
@@ -90,33 +99,22 @@ impl<A: Allocator + Clone> HeldEvents<A> {
         ensures ok { IfOk result (λ _. 0 < self.new.room) }
         ensures err { IfErr result (λ _. (self.new ≡ self.old) × (self.old.room ≡ 0)) }
     {
-        if self.len < self.limit {
+        if self.queued.has_room_beyond(self.len) {
             return Ok(());
         }
-        self.grow()
+        self.make_room()
     }
 
-    // Makes more room.
+    // The same, without a faster way if there is room.
     #[inline(never)]
-    fn grow(&mut self) -> Result<(), AllocError>
-        requires { self.old.room ≡ 0 }
+    fn make_room(&mut self) -> Result<(), AllocError>
         ensures store { self.new.store ≡ self.old.store }
+        ensures room { self.old.room ≤ self.new.room }
         ensures ok { IfOk result (λ _. 0 < self.new.room) }
-        ensures err { IfErr result (λ _. self.new ≡ self.old) }
+        ensures err { IfErr result (λ _. (self.new ≡ self.old) × (self.old.room ≡ 0)) }
     {
-        let more = self.len.saturating_mul(2).max(3);
-        match &mut self.queues {
-            Some(queues) => match queues.reserve_beyond(more) {
-                Ok(limit) => self.limit = limit,
-                Err(error) => return Err(error),
-            },
-            None => {
-                let mut queues = Queues::new(&self.alloc)?;
-                self.limit = queues.reserve_beyond(more)?;
-                self.queues = Some(queues);
-            }
-        }
-        Ok(())
+        queue_ready(&mut self.ready, &mut self.queued);
+        self.queued.reserve()
     }
 }
 
@@ -126,12 +124,9 @@ impl<A: Allocator> HeldEvents<A> {
         ensures { result ≡ record { store = record { held = []; arrivals = 0 }; room = 0 } }
     {
         HeldEvents {
-            alloc,
-            queues: None,
+            ready: None,
+            queued: QueuedEvents::new(alloc),
             len: 0,
-            limit: 0,
-            next_order: 0,
-            arrivals: 0,
         }
     }
 
@@ -141,26 +136,14 @@ impl<A: Allocator> HeldEvents<A> {
         ensures store { self.new.store ≡ held_with self.old.store (kept taken) }
         ensures room { self.new.room + 1 ≡ self.old.room }
     {
-        match &mut self.queues {
-            Some(queues) => {
-                let order = queues.order_from(self.next_order);
-                queues.push_reserved(Member {
-                    event: taken.event,
-                    arrival: taken.number,
-                    order,
-                });
-                self.next_order = order + 1;
-                self.len += 1;
-            }
-            None => unreachable!(),
+        if self.len == 0 {
+            self.ready = Some(taken);
+            self.len = 1;
+            return;
         }
-    }
-
-    // Whether none is held.
-    fn is_empty(&self) -> bool
-        ensures { IsTrue result → self.now.store.held ≡ [] }
-    {
-        self.len == 0
+        queue_ready(&mut self.ready, &mut self.queued);
+        self.queued.push_reserved(taken);
+        self.len = self.queued.len();
     }
 
     // The number of the next event.
@@ -170,21 +153,19 @@ impl<A: Allocator> HeldEvents<A> {
         ensures arrivals { self.new.store.arrivals ≡ next_number self.old.store.arrivals }
         ensures room { self.new.room ≡ self.old.room }
     {
-        let number = self.arrivals;
-        self.arrivals = number.saturating_add(1);
-        number
+        self.queued.next_number()
     }
 
     // Whether an event is held that is admitted.
     pub(crate) fn holds<F: Filter>(&self, filter: &F) -> bool
         ensures { result ≡ is_some (first_admitted (F.admits filter.now) self.now.store.held) }
     {
-        if self.is_empty() {
+        if self.len == 0 {
             return false;
         }
-        match &self.queues {
-            Some(queues) => queues.place(filter).is_some(),
-            None => false,
+        match &self.ready {
+            Some(taken) => filter.eval(&taken.event),
+            None => self.queued.holds(filter),
         }
     }
 
@@ -194,30 +175,31 @@ impl<A: Allocator> HeldEvents<A> {
         ensures step { TakeReplies (F.admits filter.now) self.old.store self.new.store (option_map kept result) }
         ensures room { length self.new.store.held + self.new.room ≡ length self.old.store.held + self.old.room }
     {
-        if self.is_empty() {
+        if self.len == 0 {
             return None;
         }
-        self.take_any(filter)
+        self.take_held(filter)
     }
 
     // The same, without a faster way if none is held.
     #[inline(never)]
-    fn take_any<F: Filter>(&mut self, filter: &F) -> Option<Taken<InternalEvent<A>>>
+    fn take_held<F: Filter>(&mut self, filter: &F) -> Option<Taken<InternalEvent<A>>>
         ensures step { TakeReplies (F.admits filter.now) self.old.store self.new.store (option_map kept result) }
         ensures room { length self.new.store.held + self.new.room ≡ length self.old.store.held + self.old.room }
     {
-        match &mut self.queues {
-            Some(queues) => match queues.take(filter) {
-                Some(member) => {
-                    self.len -= 1;
-                    Some(Taken {
-                        event: member.event,
-                        number: member.arrival,
-                    })
+        match &self.ready {
+            Some(taken) => {
+                if filter.eval(&taken.event) {
+                    self.len = 0;
+                    return self.ready.take();
                 }
-                None => None,
-            },
-            None => None,
+                None
+            }
+            None => {
+                let taken = self.queued.take(filter);
+                self.len = self.queued.len();
+                taken
+            }
         }
     }
 
@@ -225,16 +207,20 @@ impl<A: Allocator> HeldEvents<A> {
     pub(crate) fn arrivals(&self) -> u64
         ensures { result ≡ self.now.store.arrivals }
     {
-        self.arrivals
+        self.queued.arrivals()
     }
 
     // The events, in the order of their arrival.
     pub(crate) fn iter(&self) -> Held<'_, A>
         ensures { result ≡ map (λ h. h.0) self.now.store.held }
     {
+        let ready = match &self.ready {
+            Some(taken) => Some(&taken.event),
+            None => None,
+        };
         Held {
-            queues: &self.queues,
-            at: Places::FRONTS,
+            ready,
+            queued: self.queued.iter(),
         }
     }
 }

@@ -1,30 +1,32 @@
 //! Queries: a reply is waited for, and taken.
-ghost use Rattle.std.specs.Prelude.{◌≡◌, ◌≢◌, ◌⊎◌, ◌≤◌, ◌<◌, ◌-◌, true, IfOk, IfErr, ℕ, List, Option, Some, None, Ok, Err};
+ghost use Rattle.std.specs.Prelude.{◌≡◌, ◌⊎◌, ◌≤◌, ◌<◌, ◌-◌, false, true, IfOk, IfErr, ℕ, List, Option, Some, None};
 ghost use Rattle.std.specs.Duration.{as_nanos};
 ghost use Rattle.std.specs.IoError.{error_kind};
 ghost use Rattle.std.specs.declared.io.ErrorKind.TheVariants.{Other};
 ghost use Rattle.std.specs.Option.{option_map};
-ghost use Rattle.crossterm_types.specs.Admitting.{is_attributes, is_cursor_position, is_flags_reply};
+ghost use Rattle.crossterm_types.specs.Admitting.{is_cursor_position, is_flags_reply};
 ghost use Rattle.crossterm_types.specs.Seen.{CursorPosition, Seen, seen};
 ghost use Rattle.crossterm_types.specs.Timing.{KeepsFirst};
 ghost use Rattle.crossterm_read.specs.Answers.{SourceAnswer, IsOwn};
 ghost use Rattle.crossterm_read.specs.Device.{AsksAtOnce};
 ghost use Rattle.crossterm_read.specs.History.{last_of};
-ghost use Rattle.crossterm_read.specs.Queries.{KeyboardStep, LeftReplies, QueryReplies, QueryStep};
-ghost use Rattle.crossterm_read.specs.Replies.{Replied, ToQuery, flags_seen, keyboard_said, poll_reply, position_said, shown};
+ghost use Rattle.crossterm_read.specs.Queries.{AfterReply, KeyboardStep, QueryStep};
+ghost use Rattle.crossterm_read.specs.Replies.{Replied, ToQuery, flags_seen, keyboard_said, position_said, shown};
 ghost use Rattle.crossterm_read.specs.inside.Replies.{flags_said, kept, last_said, read_reply};
 ghost use Rattle.crossterm_read.specs.Store.{capacity};
-ghost use Rattle.crossterm_read.specs.Steps.{UpTo, Within, RefusedOnlyWithoutRoom, first_admitted};
+ghost use Rattle.crossterm_read.specs.Steps.{UpTo, Within, RefusedOnlyWithoutRoom};
 ghost use Rattle.crossterm_read.specs.Waiting.{AsksLeft, AsksWithin};
 ghost use Rattle.std.specs.declared.time.Duration.{Duration};
 
 use crate::read::InternalEventReader;
 use crate::read::held::Taken;
+use crate::read::patience::{InTime, Patience, Tries};
+use crate::read::reader::{AtWake, is_woken};
 use crate::source::EventSource;
 use crossterm_types::event::filter::{
     CursorPositionFilter, Filter, KeyboardEnhancementFlagsFilter, PrimaryDeviceAttributesFilter,
 };
-use crossterm_types::event::timeout::{Clock, PollTimeout};
+use crossterm_types::event::timeout::{Clock, PollTimeout, Still};
 use crossterm_types::event::{InternalEvent, KeyboardEnhancementFlags};
 use std::alloc::Allocator;
 use std::io;
@@ -65,72 +67,35 @@ fn number_of<A: Allocator>(taken: &Option<Taken<InternalEvent<A>>>, before: u64)
 }
 
 impl<S: EventSource<A>, A: Allocator + Clone> InternalEventReader<S, A> {
-    // Takes the reply that was polled for.
-    fn reply_taken<F: Filter>(
+    // Takes the first reply that the filter admits, while patience lasts.
+    pub(crate) fn query_while<F: Filter, P: Patience, C: Clock>(
         &mut self,
-        ready: io::Result<bool>,
-        filter: &F,
-    ) -> io::Result<Taken<InternalEvent<A>>>
-        requires { poll_reply ready ≡ Ok true → first_admitted (F.admits filter.now) self.old.store.held ≢ None }
-        ensures delivers { QueryReplies (F.admits filter.now) (poll_reply ready) self.old.store self.new.store (read_reply result) }
-        ensures room { capacity self.new ≡ capacity self.old }
-        ensures source { self.new.source ≡ self.old.source }
-        ensures admitted { IfOk result (λ x. F.admits filter.now (seen x.event) ≡ true) }
-        ensures fault { IfErr result (λ e. (error_kind e ≡ Other) ⊎ (poll_reply ready ≡ Err (error_kind e))) }
-    {
-        match ready {
-            Ok(ready) => {
-                if ready {
-                    match self.take_numbered(filter) {
-                        Some(taken) => return Ok(taken),
-                        None => unreachable!(),
-                    }
-                }
-                Err(io::Error::from(io::ErrorKind::Other))
-            }
-            Err(error) => Err(error),
-        }
-    }
-
-    // Polls for a reply, and takes it.
-    fn query_within<F: Filter>(
-        &mut self,
-        tries: u32,
-        filter: &F,
-    ) -> io::Result<Taken<InternalEvent<A>>>
-        ensures step { (zs : List SourceAnswer) × S.drawn self.old.source zs self.new.source
-            × QueryStep (F.admits filter.now) (UpTo tries) zs self.old.store self.new.store (read_reply result)
-            × IfErr result (λ e. RefusedOnlyWithoutRoom self.old.room zs (error_kind e)) }
-        ensures at_once { AsksAtOnce (S.asked self.old.source) (S.asked self.new.source) }
-        ensures room { capacity self.old ≤ capacity self.new }
-        ensures rise { S.failed self.old.source ≤ S.failed self.new.source }
-        ensures admitted { IfOk result (λ x. F.admits filter.now (seen x.event) ≡ true) }
-        ensures err { IfErr result (λ e. (error_kind e ≡ Other) ⊎ IsOwn (error_kind e) ⊎ (S.failed self.old.source < S.failed self.new.source)) }
-    {
-        let ready = self.poll_within(tries, filter);
-        self.reply_taken(ready, filter)
-    }
-
-    // Polls for a reply within what is left of the limit, and takes it.
-    pub(crate) fn query_until<F: Filter, C: Clock, R: Wait>(
-        &mut self,
-        rt: &R,
-        timeout: PollTimeout,
+        patience: &P,
         clock: &mut C,
         filter: &F,
     ) -> io::Result<Taken<InternalEvent<A>>>
-        requires { as_nanos timeout.start ≤ C.told clock.old }
+        requires { P.begins patience.now (C.told clock.old) }
         ensures step { (zs : List SourceAnswer) × S.drawn self.old.source zs self.new.source
-            × QueryStep (F.admits filter.now) (Within timeout.limit (C.told clock.new - as_nanos timeout.start)) zs self.old.store self.new.store (read_reply result)
+            × QueryStep (F.admits filter.now) (P.lasted patience.now (C.told clock.new)) zs self.old.store self.new.store (read_reply result)
             × IfErr result (λ e. RefusedOnlyWithoutRoom self.old.room zs (error_kind e)) }
-        ensures limits { AsksLeft timeout (C.told clock.new) (S.asked self.old.source) (S.asked self.new.source) }
+        ensures admitted { IfOk result (λ x. F.admits filter.now (seen x.event) ≡ true) }
+        ensures limits { P.limits patience.now (C.told clock.new) (S.asked self.old.source) (S.asked self.new.source) }
         ensures later { C.told clock.old ≤ C.told clock.new }
         ensures first { KeepsFirst C.began clock.old clock.new }
         ensures room { capacity self.old ≤ capacity self.new }
-        ensures admitted { IfOk result (λ x. F.admits filter.now (seen x.event) ≡ true) }
+        ensures rise { S.failed self.old.source ≤ S.failed self.new.source }
+        ensures err { IfErr result (λ e. (error_kind e ≡ Other) ⊎ IsOwn (error_kind e) ⊎ (S.failed self.old.source < S.failed self.new.source)) }
     {
-        let ready = self.poll_until(rt, timeout, clock, filter);
-        self.reply_taken(ready, filter)
+        match self.next(patience, clock, AtWake::Stops, filter) {
+            Ok(Some(taken)) => Ok(taken),
+            Ok(None) => Err(io::Error::from(io::ErrorKind::Other)),
+            Err(error) => {
+                if is_woken(&error) {
+                    return Err(io::Error::from(io::ErrorKind::Other));
+                }
+                Err(error)
+            }
+        }
     }
 
     /// Takes the first reply that reports the cursor's place, after so many questions to the source at most: its column and row.
@@ -151,26 +116,29 @@ impl<S: EventSource<A>, A: Allocator + Clone> InternalEventReader<S, A> {
         ensures rise { S.failed self.old.source ≤ S.failed self.new.source }
         ensures err { IfErr result (λ e. (error_kind e ≡ Other) ⊎ IsOwn (error_kind e) ⊎ (S.failed self.old.source < S.failed self.new.source)) }
     {
-        match self.query_within(tries, &CursorPositionFilter) {
+        match self.query_while(&Tries { most: tries }, &mut Still, &CursorPositionFilter) {
             Ok(taken) => Ok(place(&taken.event)),
             Err(error) => Err(error),
         }
     }
 
-    // Takes the attributes that came after the flags.
-    fn left_taken(&mut self, ready: io::Result<bool>) -> Option<Taken<InternalEvent<A>>>
-        requires { poll_reply ready ≡ Ok true → first_admitted is_attributes self.old.store.held ≢ None }
-        ensures delivers { (x : Seen × ℕ) → LeftReplies (poll_reply ready) x self.old.store self.new.store (ToQuery x (option_map kept result)) }
-        ensures room { capacity self.new ≡ capacity self.old }
-        ensures source { self.new.source ≡ self.old.source }
+    // Takes the attributes that come after these flags, if they come while patience lasts.
+    fn attributes_after<P: Patience, C: Clock>(
+        &mut self,
+        patience: &P,
+        clock: &mut C,
+    ) -> Option<Taken<InternalEvent<A>>>
+        requires { P.begins patience.now (C.told clock.old) }
+        ensures step { (flags : Seen × ℕ) → (zs : List SourceAnswer) × S.drawn self.old.source zs self.new.source
+            × AfterReply (P.lasted patience.now (C.told clock.new)) zs false flags self.old.store self.new.store (ToQuery flags (option_map kept result)) }
+        ensures limits { P.limits patience.now (C.told clock.new) (S.asked self.old.source) (S.asked self.new.source) }
+        ensures later { C.told clock.old ≤ C.told clock.new }
+        ensures first { KeepsFirst C.began clock.old clock.new }
+        ensures room { capacity self.old ≤ capacity self.new }
+        ensures rise { S.failed self.old.source ≤ S.failed self.new.source }
     {
-        match ready {
-            Ok(ready) => {
-                if ready {
-                    return self.take_numbered(&PrimaryDeviceAttributesFilter);
-                }
-                None
-            }
+        match self.query_while(patience, clock, &PrimaryDeviceAttributesFilter) {
+            Ok(taken) => Some(taken),
             Err(_) => None,
         }
     }
@@ -194,11 +162,11 @@ impl<S: EventSource<A>, A: Allocator + Clone> InternalEventReader<S, A> {
         ensures rise { S.failed self.old.source ≤ S.failed self.new.source }
         ensures err { IfErr result (λ e. (error_kind e ≡ Other) ⊎ IsOwn (error_kind e) ⊎ (S.failed self.old.source < S.failed self.new.source)) }
     {
-        match self.query_within(tries, &KeyboardEnhancementFlagsFilter) {
+        let tries = Tries { most: tries };
+        match self.query_while(&tries, &mut Still, &KeyboardEnhancementFlagsFilter) {
             Ok(taken) => match flags_of(&taken.event) {
                 Some(flags) => {
-                    let ready = self.poll_within(tries, &PrimaryDeviceAttributesFilter);
-                    let _left = self.left_taken(ready);
+                    let _ = self.attributes_after(&tries, &mut Still);
                     Ok(Some(flags))
                 }
                 None => Ok(None),
@@ -227,11 +195,15 @@ impl<S: EventSource<A>, A: Allocator + Clone> InternalEventReader<S, A> {
         ensures first { KeepsFirst C.began clock.old clock.new }
         ensures room { capacity self.old ≤ capacity self.new }
     {
-        match self.query_until(rt, timeout, clock, &KeyboardEnhancementFlagsFilter) {
+        match self.query_while(
+            &InTime { rt, timeout },
+            clock,
+            &KeyboardEnhancementFlagsFilter,
+        ) {
             Ok(taken) => match flags_of(&taken.event) {
                 Some(flags) => {
-                    let ready = self.poll(rt, Some(again), clock, &PrimaryDeviceAttributesFilter);
-                    let left = self.left_taken(ready);
+                    let timeout = PollTimeout::new(Some(again), clock.now());
+                    let left = self.attributes_after(&InTime { rt, timeout }, clock);
                     let number = number_of(&left, taken.number);
                     Ok(Taken {
                         event: Some(flags),

@@ -6,19 +6,22 @@ ghost use Rattle.std.specs.Option.{option_map};
 ghost use Rattle.std.specs.declared.io.ErrorKind.TheVariants.{Interrupted, OutOfMemory};
 ghost use Rattle.crossterm_read.specs.declared.read.reader.AtWake.TheVariants.{GoesOn};
 ghost use Rattle.crossterm_types.specs.Seen.{Seen, seen};
+ghost use Rattle.crossterm_types.specs.Timing.{KeepsFirst};
 ghost use Rattle.crossterm_read.specs.Answers.{SourceAnswer, IsOwn, IsSteady};
 ghost use Rattle.crossterm_read.specs.Device.{AsksWith, AsksAtOnce};
 ghost use Rattle.crossterm_read.specs.inside.Numbers.{IsOrderly};
 ghost use Rattle.crossterm_read.specs.Replies.{Replied, poll_reply, shown, try_said};
 ghost use Rattle.crossterm_read.specs.inside.Replies.{kept, try_reply};
 ghost use Rattle.crossterm_read.specs.Store.{ReaderState, capacity};
-ghost use Rattle.crossterm_read.specs.Steps.{UpTo, PollStep, ReadStep, RefusedOnlyWithoutRoom, TakeReplies, first_admitted};
-ghost use Rattle.crossterm_read.specs.inside.Asking.{Asked, BreaksWhere, DrawsOne, HasPlace, IsRefused, held_with};
+ghost use Rattle.crossterm_read.specs.Steps.{UpTo, NextStep, PollStep, ReadStep, RefusedOnlyWithoutRoom, TakeReplies, first_admitted};
+ghost use Rattle.crossterm_read.specs.inside.Asking.{BreaksWhere, DrawsOne, HasPlace, IsRefused, held_with};
 
 use crate::read::held::{Held, HeldEvents, Taken};
+use crate::read::patience::{Patience, Tries};
 use crate::source::{EventSource, Waker};
 use crossterm_types::event::InternalEvent;
 use crossterm_types::event::filter::Filter;
+use crossterm_types::event::timeout::{Clock, Still};
 use std::alloc::{Allocator, Global};
 use std::io;
 use std::marker::Model;
@@ -220,32 +223,73 @@ impl<S: EventSource<A>, A: Allocator + Clone> InternalEventReader<S, A> {
         }
     }
 
-    // Asks the source until it gives an admitted event, while none is held.
+    // Takes the first event that the filter admits: one that is held, or what comes while patience lasts. It has its number.
     #[inline(always)]
-    fn ask<F: Filter>(
+    pub(crate) fn next<F: Filter, P: Patience, C: Clock>(
         &mut self,
-        tries: u32,
-        filter: &F,
+        patience: &P,
+        clock: &mut C,
         at_wake: AtWake,
+        filter: &F,
     ) -> io::Result<Option<Taken<InternalEvent<A>>>>
-        requires { first_admitted (F.admits filter.now) self.old.store.held ≡ None }
-        ensures asked { Asked S.drawn S.failed at_wake (F.admits filter.now) (UpTo tries) self.old self.new result }
-        ensures at_once { AsksAtOnce (S.asked self.old.source) (S.asked self.new.source) }
+        requires { P.begins patience.now (C.told clock.old) }
+        ensures step { (zs : List SourceAnswer) × S.drawn self.old.source zs self.new.source
+            × NextStep at_wake (P.lasted patience.now (C.told clock.new)) (F.admits filter.now) zs self.old.store self.new.store (try_reply result)
+            × IfErr result (λ e. RefusedOnlyWithoutRoom self.old.room zs (error_kind e))
+            × IsSteady S.failed self.old.source zs self.new.source }
+        ensures held { is_some (first_admitted (F.admits filter.now) self.old.store.held) ≡ true → (capacity self.new ≡ capacity self.old) × (self.new.source ≡ self.old.source) }
+        ensures admitted { IfOk result (λ taken. IfSome taken (λ x. F.admits filter.now (seen x.event) ≡ true)) }
+        ensures limits { P.limits patience.now (C.told clock.new) (S.asked self.old.source) (S.asked self.new.source) }
+        ensures later { C.told clock.old ≤ C.told clock.new }
+        ensures first { KeepsFirst C.began clock.old clock.new }
         ensures room { capacity self.old ≤ capacity self.new }
-        ensures place { IfOk result (λ given. IfSome given (HasPlace self.new)) }
         ensures rise { S.failed self.old.source ≤ S.failed self.new.source }
         ensures err { IfErr result (λ e. IsOwn (error_kind e) ⊎ (S.failed self.old.source < S.failed self.new.source)) }
         ensures awake { at_wake ≡ GoesOn → IfErr result (λ e. error_kind e ≢ Interrupted) }
     {
-        for _i in 0..tries {
-            match self.draw(filter, at_wake, Some(Duration::ZERO)) {
-                Once::Refused => return Err(io::Error::from(io::ErrorKind::OutOfMemory)),
-                Once::Broke(error) => return Err(error),
-                Once::Came(taken) => return Ok(Some(taken)),
-                Once::Nothing => {}
+        if let Some(taken) = self.take_numbered(filter) {
+            return Ok(Some(taken));
+        }
+        patience.ask(self, clock, at_wake, filter)
+    }
+
+    // Whether an event is held that the filter admits, while patience lasts.
+    pub(crate) fn poll_while<F: Filter, P: Patience, C: Clock>(
+        &mut self,
+        patience: &P,
+        clock: &mut C,
+        filter: &F,
+    ) -> io::Result<bool>
+        requires { P.begins patience.now (C.told clock.old) }
+        ensures step { (zs : List SourceAnswer) × S.drawn self.old.source zs self.new.source
+            × PollStep (P.lasted patience.now (C.told clock.new)) (F.admits filter.now) zs self.old.store self.new.store (poll_reply result)
+            × IfErr result (λ e. RefusedOnlyWithoutRoom self.old.room zs (error_kind e)) }
+        ensures held { is_some (first_admitted (F.admits filter.now) self.old.store.held) ≡ true → self.new ≡ self.old }
+        ensures limits { P.limits patience.now (C.told clock.new) (S.asked self.old.source) (S.asked self.new.source) }
+        ensures later { C.told clock.old ≤ C.told clock.new }
+        ensures first { KeepsFirst C.began clock.old clock.new }
+        ensures room { capacity self.old ≤ capacity self.new }
+        ensures rise { S.failed self.old.source ≤ S.failed self.new.source }
+        ensures steady { IfOk result (λ ready. IsTrue ready → S.failed self.new.source ≡ S.failed self.old.source) }
+        ensures err { IfErr result (λ e. IsOwn (error_kind e) ⊎ (S.failed self.old.source < S.failed self.new.source)) }
+        ensures awake { IfErr result (λ e. error_kind e ≢ Interrupted) }
+    {
+        if self.holds(filter) {
+            return Ok(true);
+        }
+        match patience.ask(self, clock, AtWake::Stops, filter) {
+            Ok(Some(taken)) => {
+                self.hold(taken);
+                Ok(true)
+            }
+            Ok(None) => Ok(false),
+            Err(error) => {
+                if is_woken(&error) {
+                    return Ok(false);
+                }
+                Err(error)
             }
         }
-        Ok(None)
     }
 
     /// Whether an event is held that the filter admits, after so many questions to the source at most.
@@ -274,22 +318,7 @@ impl<S: EventSource<A>, A: Allocator + Clone> InternalEventReader<S, A> {
         // A wake-up is no error.
         ensures awake { IfErr result (λ e. error_kind e ≢ Interrupted) }
     {
-        if self.holds(filter) {
-            return Ok(true);
-        }
-        match self.ask(tries, filter, AtWake::Stops) {
-            Ok(Some(taken)) => {
-                self.hold(taken);
-                Ok(true)
-            }
-            Ok(None) => Ok(false),
-            Err(error) => {
-                if is_woken(&error) {
-                    return Ok(false);
-                }
-                Err(error)
-            }
-        }
+        self.poll_while(&Tries { most: tries }, &mut Still, filter)
     }
 
     /// Takes the first event that the filter admits, after so many questions to the source at most, or `None` after the last.
@@ -320,34 +349,9 @@ impl<S: EventSource<A>, A: Allocator + Clone> InternalEventReader<S, A> {
         // A wake-up is no error.
         ensures awake { IfErr result (λ e. error_kind e ≢ Interrupted) }
     {
-        match self.read_within_numbered(tries, filter) {
+        match self.next(&Tries { most: tries }, &mut Still, AtWake::GoesOn, filter) {
             Ok(taken) => Ok(unnumbered(taken)),
             Err(error) => Err(error),
         }
-    }
-
-    // Takes the first event that the filter admits, with its number.
-    #[inline(always)]
-    pub(crate) fn read_within_numbered<F: Filter>(
-        &mut self,
-        tries: u32,
-        filter: &F,
-    ) -> io::Result<Option<Taken<InternalEvent<A>>>>
-        ensures step { (zs : List SourceAnswer) × S.drawn self.old.source zs self.new.source
-            × ReadStep (UpTo tries) (F.admits filter.now) zs self.old.store self.new.store (try_reply result)
-            × IfErr result (λ e. RefusedOnlyWithoutRoom self.old.room zs (error_kind e))
-            × IsSteady S.failed self.old.source zs self.new.source }
-        ensures held { is_some (first_admitted (F.admits filter.now) self.old.store.held) ≡ true → (capacity self.new ≡ capacity self.old) × (self.new.source ≡ self.old.source) }
-        ensures at_once { AsksAtOnce (S.asked self.old.source) (S.asked self.new.source) }
-        ensures admitted { IfOk result (λ taken. IfSome taken (λ x. F.admits filter.now (seen x.event) ≡ true)) }
-        ensures room { capacity self.old ≤ capacity self.new }
-        ensures rise { S.failed self.old.source ≤ S.failed self.new.source }
-        ensures err { IfErr result (λ e. IsOwn (error_kind e) ⊎ (S.failed self.old.source < S.failed self.new.source)) }
-        ensures awake { IfErr result (λ e. error_kind e ≢ Interrupted) }
-    {
-        if let Some(taken) = self.take_numbered(filter) {
-            return Ok(Some(taken));
-        }
-        self.ask(tries, filter, AtWake::GoesOn)
     }
 }

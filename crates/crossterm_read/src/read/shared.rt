@@ -11,6 +11,7 @@ mod room;
 mod rule;
 mod trying;
 mod view;
+mod within;
 
 pub use pass::Pass;
 pub use reader::EventReader;

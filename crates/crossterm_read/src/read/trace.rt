@@ -85,7 +85,10 @@ pub fn play<A: Allocator + Clone>(
     let mut replies = Vec::new(alloc.clone()?);
     for call in calls {
         let reply = reader.call(*call);
-        replies.push(reply)?;
+        match replies.push(reply) {
+            Ok(()) => {}
+            Err(error) => return Err(io::Error::from(error)),
+        }
     }
     let held = take_all(alloc, &mut reader)?;
     Ok(Trace { replies, held })

@@ -1,25 +1,25 @@
 //! Polls with a limit of time, and reads without one.
 ghost use Rattle.std.specs.Prelude.{◌≡◌, ◌≢◌, ◌⊎◌, ◌-◌, ◌≤◌, ◌<◌, IfOk, IfErr, IfSome, IsTrue, ℕ, List, None, is_some, true};
-ghost use Rattle.std.specs.Duration.{as_nanos};
 ghost use Rattle.std.specs.IoError.{error_kind};
 ghost use Rattle.std.specs.declared.io.ErrorKind.TheVariants.{Interrupted};
+ghost use Rattle.crossterm_types.specs.Admitting.{admitted};
 ghost use Rattle.crossterm_types.specs.Seen.{seen};
 ghost use Rattle.crossterm_types.specs.Timing.{IsFirst, KeepsFirst};
 ghost use Rattle.crossterm_read.specs.Answers.{SourceAnswer, IsOwn, IsSteady};
+ghost use Rattle.crossterm_read.specs.Calls.{Step};
 ghost use Rattle.crossterm_read.specs.Replies.{Replied, poll_reply, read_said, shown};
-ghost use Rattle.crossterm_read.specs.inside.Replies.{read_reply};
+ghost use Rattle.crossterm_read.specs.inside.Replies.{read_reply, reply_within, request_within};
 ghost use Rattle.crossterm_read.specs.Store.{capacity};
 ghost use Rattle.crossterm_read.specs.Steps.{Within, PollStep, ReadStep, RefusedOnlyWithoutRoom, first_admitted};
-ghost use Rattle.crossterm_read.specs.inside.Asking.{BreaksWhere, DrawsOne, HasPlace, IsRefused, Asked, AsksInTime};
-ghost use Rattle.crossterm_read.specs.declared.read.reader.AtWake.TheVariants.{GoesOn};
-ghost use Rattle.crossterm_read.specs.Waiting.{AsksForever, AsksLeft, AsksWithin};
+ghost use Rattle.crossterm_read.specs.Waiting.{AsksForever, AsksWithin};
 
 use crate::read::InternalEventReader;
 use crate::read::held::Taken;
-use crate::read::reader::{AtWake, Once, is_woken};
+use crate::read::patience::{InTime, Patience};
+use crate::read::reader::{AtWake, is_woken};
 use crate::source::EventSource;
 use crossterm_types::event::InternalEvent;
-use crossterm_types::event::filter::Filter;
+use crossterm_types::event::filter::{AnyFilter, Filter};
 use crossterm_types::event::timeout::{Clock, PollTimeout, Still};
 use std::alloc::Allocator;
 use std::io;
@@ -27,64 +27,6 @@ use std::sync::Wait;
 use std::time::Duration;
 
 impl<S: EventSource<A>, A: Allocator + Clone> InternalEventReader<S, A> {
-    // Asks the source once, with what is left of the limit now.
-    #[inline(always)]
-    fn draw_in_time<F: Filter, C: Clock>(
-        &mut self,
-        timeout: &PollTimeout,
-        clock: &mut C,
-        filter: &F,
-        at_wake: AtWake,
-    ) -> Once<A>
-        ensures later { C.told clock.old ≤ C.told clock.new }
-        ensures first { KeepsFirst C.began clock.old clock.new }
-        ensures asked { AsksInTime timeout.now (C.told clock.new) (S.asked self.old.source) (S.asked self.new.source) }
-        ensures one { DrawsOne S.drawn S.failed at_wake (F.admits filter.now) self.old self.new result }
-        ensures room { capacity self.old ≤ capacity self.new }
-        ensures full { IsRefused result → self.old.room ≡ 0 }
-        ensures rise { S.failed self.old.source ≤ S.failed self.new.source }
-        ensures err { BreaksWhere result (λ kind. IsOwn kind ⊎ (S.failed self.old.source < S.failed self.new.source)) }
-    {
-        let left = timeout.leftover(clock.now());
-        self.draw(filter, at_wake, left)
-    }
-
-    // Asks the source until it gives an admitted event, while none is held, or the limit has passed.
-    #[inline(always)]
-    fn ask_in_time<F: Filter, C: Clock, R: Wait>(
-        &mut self,
-        rt: &R,
-        timeout: PollTimeout,
-        clock: &mut C,
-        filter: &F,
-        at_wake: AtWake,
-    ) -> io::Result<Option<Taken<InternalEvent<A>>>>
-        requires time { as_nanos timeout.start ≤ C.told clock.old }
-        requires none { first_admitted (F.admits filter.now) self.old.store.held ≡ None }
-        ensures later { C.told clock.old ≤ C.told clock.new }
-        ensures first { KeepsFirst C.began clock.old clock.new }
-        ensures asked { Asked S.drawn S.failed at_wake (F.admits filter.now) (Within timeout.limit (C.told clock.new - as_nanos timeout.start)) self.old self.new result }
-        ensures limits { AsksLeft timeout (C.told clock.new) (S.asked self.old.source) (S.asked self.new.source) }
-        ensures room { capacity self.old ≤ capacity self.new }
-        ensures place { IfOk result (λ given. IfSome given (HasPlace self.new)) }
-        ensures rise { S.failed self.old.source ≤ S.failed self.new.source }
-        ensures err { IfErr result (λ e. IsOwn (error_kind e) ⊎ (S.failed self.old.source < S.failed self.new.source)) }
-        ensures awake { at_wake ≡ GoesOn → IfErr result (λ e. error_kind e ≢ Interrupted) }
-    {
-        for _ in rt.forever() {
-            match self.draw_in_time(&timeout, clock, filter, at_wake) {
-                Once::Refused => return Err(io::Error::from(io::ErrorKind::OutOfMemory)),
-                Once::Broke(error) => return Err(error),
-                Once::Came(taken) => return Ok(Some(taken)),
-                Once::Nothing => {}
-            }
-            if timeout.elapsed(clock.now()) {
-                return Ok(None);
-            }
-        }
-        unreachable!()
-    }
-
     /// Whether an event is held that the filter admits, within the limit.
     ///
     /// If one is held already, it returns true at once. Else it asks the source, each time with what is left of the limit, until that has
@@ -129,47 +71,7 @@ impl<S: EventSource<A>, A: Allocator + Clone> InternalEventReader<S, A> {
         ensures awake { IfErr result (λ e. error_kind e ≢ Interrupted) }
     {
         let timeout = PollTimeout::new(limit, clock.now());
-        self.poll_until(rt, timeout, clock, filter)
-    }
-
-    // Whether an event is held that the filter admits, within what is left of the limit.
-    pub(crate) fn poll_until<F: Filter, C: Clock, R: Wait>(
-        &mut self,
-        rt: &R,
-        timeout: PollTimeout,
-        clock: &mut C,
-        filter: &F,
-    ) -> io::Result<bool>
-        requires { as_nanos timeout.start ≤ C.told clock.old }
-        ensures step { (zs : List SourceAnswer) × S.drawn self.old.source zs self.new.source
-            × PollStep (Within timeout.limit (C.told clock.new - as_nanos timeout.start)) (F.admits filter.now) zs self.old.store self.new.store (poll_reply result)
-            × IfErr result (λ e. RefusedOnlyWithoutRoom self.old.room zs (error_kind e)) }
-        ensures held { is_some (first_admitted (F.admits filter.now) self.old.store.held) ≡ true → self.new ≡ self.old }
-        ensures limits { AsksLeft timeout (C.told clock.new) (S.asked self.old.source) (S.asked self.new.source) }
-        ensures later { C.told clock.old ≤ C.told clock.new }
-        ensures first { KeepsFirst C.began clock.old clock.new }
-        ensures room { capacity self.old ≤ capacity self.new }
-        ensures rise { S.failed self.old.source ≤ S.failed self.new.source }
-        ensures steady { IfOk result (λ ready. IsTrue ready → S.failed self.new.source ≡ S.failed self.old.source) }
-        ensures err { IfErr result (λ e. IsOwn (error_kind e) ⊎ (S.failed self.old.source < S.failed self.new.source)) }
-        ensures awake { IfErr result (λ e. error_kind e ≢ Interrupted) }
-    {
-        if self.holds(filter) {
-            return Ok(true);
-        }
-        match self.ask_in_time(rt, timeout, clock, filter, AtWake::Stops) {
-            Ok(Some(taken)) => {
-                self.hold(taken);
-                Ok(true)
-            }
-            Ok(None) => Ok(false),
-            Err(error) => {
-                if is_woken(&error) {
-                    return Ok(false);
-                }
-                Err(error)
-            }
-        }
+        self.poll_while(&InTime { rt, timeout }, clock, filter)
     }
 
     /// Takes the first event that the filter admits. If none is held, it asks the source until there is one, without a limit.
@@ -202,7 +104,8 @@ impl<S: EventSource<A>, A: Allocator + Clone> InternalEventReader<S, A> {
         }
     }
 
-    // Takes the first event that the filter admits, with its number.
+    // Takes the first event that the filter admits, with its number: what `next` does without a limit, but a result without an option crosses
+    // its call.
     pub(crate) fn read_numbered<F: Filter, R: Wait>(
         &mut self,
         rt: &R,
@@ -224,10 +127,40 @@ impl<S: EventSource<A>, A: Allocator + Clone> InternalEventReader<S, A> {
             return Ok(taken);
         }
         let timeout = PollTimeout::new(None, Duration::ZERO);
-        match self.ask_in_time(rt, timeout, &mut Still, filter, AtWake::GoesOn) {
+        let forever = InTime { rt, timeout };
+        match forever.ask(self, &mut Still, AtWake::GoesOn, filter) {
             Ok(Some(taken)) => Ok(taken),
             Ok(None) => unreachable!(),
             Err(error) => Err(error),
+        }
+    }
+
+    // Takes the first event that the filter admits: one that is held, or what comes while patience lasts. A wake-up ends it with nothing.
+    pub(crate) fn read_while<P: Patience, C: Clock>(
+        &mut self,
+        patience: &P,
+        clock: &mut C,
+        filter: AnyFilter,
+    ) -> io::Result<Option<Taken<InternalEvent<A>>>>
+        requires { P.begins patience.now (C.told clock.old) }
+        ensures step { (zs : List SourceAnswer) × S.drawn self.old.source zs self.new.source
+            × Step (request_within (P.lasted patience.now (C.told clock.new)) filter result) zs self.old.store self.new.store (reply_within result)
+            × IfErr result (λ e. RefusedOnlyWithoutRoom self.old.room zs (error_kind e)) }
+        ensures admitted { IfOk result (λ taken. IfSome taken (λ x. admitted filter (seen x.event) ≡ true)) }
+        ensures limits { P.limits patience.now (C.told clock.new) (S.asked self.old.source) (S.asked self.new.source) }
+        ensures later { C.told clock.old ≤ C.told clock.new }
+        ensures first { KeepsFirst C.began clock.old clock.new }
+        ensures room { capacity self.old ≤ capacity self.new }
+        ensures awake { IfErr result (λ e. error_kind e ≢ Interrupted) }
+    {
+        match self.next(patience, clock, AtWake::Stops, &filter) {
+            Ok(taken) => Ok(taken),
+            Err(error) => {
+                if is_woken(&error) {
+                    return Ok(None);
+                }
+                Err(error)
+            }
         }
     }
 }

@@ -24,6 +24,8 @@ enum Call {
     Poll,
     /// The next letter.
     Read,
+    /// The same, with a limit of 50 ms.
+    Within,
     /// How much of a paste is open.
     Open,
 }
@@ -41,6 +43,8 @@ enum Came {
     Ready(bool),
     /// A letter.
     Letter(char),
+    /// No event in time.
+    Nothing,
     /// A length.
     Length(usize),
     /// Nobody can tell the length.
@@ -82,6 +86,15 @@ fn read(event: io::Result<Event>) -> Came {
     }
 }
 
+/// What a read within a limit comes to.
+fn read_in_time(event: io::Result<Option<Event>>) -> Came {
+    match event {
+        Ok(Some(event)) => Came::Letter(letter_of(&event)),
+        Ok(None) => Came::Nothing,
+        Err(error) => Came::Failed(error.kind()),
+    }
+}
+
 type Source = DeviceSource<Script>;
 
 /// What a call comes to, by this clock.
@@ -97,6 +110,7 @@ fn answer_to<R: Wait, C: Clock>(
         Call::Flags => flagged(seat.shared.keyboard_by(rt, &mut seat.pass, limit, clock)),
         Call::Poll => polled(seat.poll(rt, Some(Duration::ZERO), AnyFilter::Event)),
         Call::Read => read(seat.read(rt)),
+        Call::Within => read_in_time(seat.shared.read_for(rt, &mut seat.pass, limit, clock)),
         Call::Open => match seat.shared.paste_len(rt, &mut seat.pass) {
             Some(length) => Came::Length(length),
             None => Came::NoLength,
@@ -145,7 +159,7 @@ const REPLIES: Given = Text(b"\x1b[20;10R\x1b[?1u\x1b[?62c");
 const OTHER: Came = Came::Failed(ErrorKind::Other);
 
 /// By a clock that never moves, so that no limit passes.
-static ROWS: [Row; 8] = [
+static ROWS: [Row; 12] = [
     (
         "a place is taken past a held letter, which stays",
         &[Text(b"a\x1b[20;10R")],
@@ -204,6 +218,44 @@ static ROWS: [Row; 8] = [
         ],
     ),
     (
+        "what a poll found is read first, and stays in front of what comes later",
+        &[Text(b"ab\x1b[20;10Rc")],
+        &[
+            (Call::Poll, Came::Ready(true), None),
+            (Call::Place, Came::At(9, 19), Some(2)),
+            (Call::Poll, Came::Ready(true), Some(2)),
+            (Call::Read, Came::Letter('a'), Some(0)),
+            (Call::Read, Came::Letter('b'), Some(1)),
+            (Call::Poll, Came::Ready(true), Some(1)),
+            (Call::Within, Came::Letter('c'), Some(3)),
+        ],
+    ),
+    (
+        "a read within a limit takes what comes",
+        &[Text(b"a"), Text(b"\x1b[20;10Rb")],
+        &[
+            (Call::Within, Came::Letter('a'), Some(0)),
+            (Call::Within, Came::Letter('b'), Some(2)),
+            (Call::Place, Came::At(9, 19), Some(1)),
+        ],
+    ),
+    (
+        "a wake-up ends a read within a limit",
+        &[Woken, Text(b"a")],
+        &[
+            (Call::Within, Came::Nothing, None),
+            (Call::Within, Came::Letter('a'), Some(0)),
+        ],
+    ),
+    (
+        "a fault ends a read within a limit",
+        &[Fault, Text(b"a")],
+        &[
+            (Call::Within, OTHER, None),
+            (Call::Within, Came::Letter('a'), Some(0)),
+        ],
+    ),
+    (
         "an open paste has a length, before a piece comes and after each",
         &[
             Text(b"\x1b[200~"),
@@ -233,11 +285,19 @@ fn calls_come_to_their_answers(rt: HostRuntime) {
 }
 
 /// By a clock that goes on by a millisecond each time that it is looked at.
-static SLOW: [Row; 2] = [
+static SLOW: [Row; 3] = [
     (
         "queries end when the clock has passed their limit",
         &[Idle(400)],
         &[(Call::Place, OTHER, None), (Call::Flags, OTHER, None)],
+    ),
+    (
+        "a read within a limit ends when the clock has passed it",
+        &[Idle(40), Text(b"a")],
+        &[
+            (Call::Within, Came::Nothing, None),
+            (Call::Within, Came::Letter('a'), Some(0)),
+        ],
     ),
     (
         "flags need no attributes, if none follow in time",
@@ -247,7 +307,7 @@ static SLOW: [Row; 2] = [
 ];
 
 #[test]
-fn limits_end_queries(rt: HostRuntime) {
+fn limits_end_calls(rt: HostRuntime) {
     for row in &SLOW {
         expect!(rt; holds(&rt, rt.alloc(), &mut Ticking::new(), row), row.0);
     }

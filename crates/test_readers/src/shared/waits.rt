@@ -135,7 +135,7 @@ fn who_waits_for_the_reader_has_its_turn(rt: HostRuntime) -> io::Result<()> {
     Ok(())
 }
 
-/// What a poll by the system's clock comes to, once the device is asked.
+/// What a poll by the system's clock comes to, once the device is asked, and a read with the same limit after it.
 fn polls_in_time<S: EventSource<Global>, R: Wait + Clock>(
     rt: &R,
     asked: &AtomicBool,
@@ -148,13 +148,18 @@ fn polls_in_time<S: EventSource<Global>, R: Wait + Clock>(
     };
     let mut clock = SystemClock::new(rt);
     match shared.poll(rt, &mut pass, limit, &mut clock) {
-        Ok(true) => "true",
-        Ok(false) => "false",
+        Ok(false) => {}
+        Ok(true) => return "true",
+        Err(_) => return "a fault",
+    }
+    match shared.read_for(rt, &mut pass, limit, &mut clock) {
+        Ok(None) => "nothing",
+        Ok(Some(_)) => "an event",
         Err(_) => "a fault",
     }
 }
 
-/// What a poll of 100 ms comes to while another thread has the reader for three seconds.
+/// What a poll and a read of 100 ms come to while another thread has the reader for three seconds.
 fn times_out<R: Wait + Threads + Sync + Clock>(rt: &R, alloc: Global) -> io::Result<&'static str> {
     let asked = AtomicBool::new(false);
     let sleeper = Sleeper::lasting(rt, &asked, Duration::from_secs(3));
@@ -172,6 +177,6 @@ fn times_out<R: Wait + Threads + Sync + Clock>(rt: &R, alloc: Global) -> io::Res
 
 #[test]
 fn a_limit_passes_while_another_has_the_reader(rt: HostRuntime) -> io::Result<()> {
-    expect!(rt; times_out(&rt, rt.alloc())? == "false");
+    expect!(rt; times_out(&rt, rt.alloc())? == "nothing");
     Ok(())
 }

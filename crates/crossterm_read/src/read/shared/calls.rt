@@ -13,6 +13,7 @@ ghost use Rattle.crossterm_read.specs.Seats.{knows};
 ghost use Rattle.crossterm_read.specs.Shared.{IsPassOf};
 
 use crate::read::held::Taken;
+use crate::read::patience::InTime;
 use crate::read::shared::pass::Pass;
 use crate::read::shared::reader::EventReader;
 use crate::source::EventSource;
@@ -116,7 +117,7 @@ impl<S: EventSource<A>, A: Allocator + Clone> EventReader<S, A> {
         let Some(mut reader) = self.room.take_within(rt, &mut pass.seat, &timeout, clock) else {
             return Ok(false);
         };
-        let result = reader.poll_until(rt, timeout, clock, &filter);
+        let result = reader.poll_while(&InTime { rt, timeout }, clock, &filter);
         self.room.put::<Brand, _, R>(
             rt,
             &mut pass.seat,

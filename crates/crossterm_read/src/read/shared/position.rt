@@ -10,6 +10,7 @@ ghost use Rattle.crossterm_read.specs.Seats.{knows};
 ghost use Rattle.crossterm_read.specs.Shared.{IsPassOf};
 
 use crate::read::held::Taken;
+use crate::read::patience::InTime;
 use crate::read::queries::place;
 use crate::read::shared::calls::last_after;
 use crate::read::shared::pass::Pass;
@@ -63,7 +64,7 @@ impl<S: EventSource<A>, A: Allocator + Clone> EventReader<S, A> {
         let Some(mut reader) = self.room.take_within(rt, &mut pass.seat, &timeout, clock) else {
             return Err(io::Error::from(io::ErrorKind::Other));
         };
-        let taken = reader.query_until(rt, timeout, clock, &CursorPositionFilter);
+        let taken = reader.query_while(&InTime { rt, timeout }, clock, &CursorPositionFilter);
         self.room.put::<Brand, _, R>(rt, &mut pass.seat, reader, &(limit, start, &*clock, &taken));
         pass.last = last_after(pass.last, &taken);
         placed(taken)

@@ -5,18 +5,21 @@ ghost use Rattle.std.specs.declared.io.ErrorKind.TheVariants.{Interrupted};
 ghost use Rattle.crossterm_types.specs.Admitting.{is_event};
 ghost use Rattle.crossterm_types.specs.Seen.{seen};
 ghost use Rattle.crossterm_types.specs.declared.event.filter.AnyFilter.TheVariants as filters;
-ghost use Rattle.crossterm_read.specs.Entries.{Tries};
-ghost use Rattle.crossterm_read.specs.Replies.{shown};
-ghost use Rattle.crossterm_read.specs.inside.Replies.{event_tried, last_tried, try_reply};
+ghost use Rattle.crossterm_read.specs.Entries as entries;
+ghost use Rattle.crossterm_read.specs.Replies.{event_tried, shown};
+ghost use Rattle.crossterm_read.specs.inside.Replies.{last_tried, try_reply};
 ghost use Rattle.crossterm_read.specs.Seats.{knows};
 ghost use Rattle.crossterm_read.specs.Shared.{IsPassOf};
 
 use crate::read::held::Taken;
+use crate::read::patience::Tries;
+use crate::read::reader::AtWake;
 use crate::read::shared::calls::users;
 use crate::read::shared::pass::Pass;
 use crate::read::shared::reader::EventReader;
 use crate::source::EventSource;
 use crossterm_types::event::filter::AnyFilter;
+use crossterm_types::event::timeout::Still;
 use crossterm_types::event::{Event, InternalEvent};
 use std::alloc::Allocator;
 use std::io;
@@ -24,7 +27,10 @@ use std::marker::Brand;
 use std::sync::Wait;
 
 // The number of what was taken last, after one more call.
-fn last_after_try<E>(last: Option<u64>, tried: &io::Result<Option<Taken<E>>>) -> Option<u64>
+pub(crate) fn last_after_try<E>(
+    last: Option<u64>,
+    tried: &io::Result<Option<Taken<E>>>,
+) -> Option<u64>
     ensures { result ≡ last_tried last tried.now }
 {
     match tried {
@@ -34,7 +40,7 @@ fn last_after_try<E>(last: Option<u64>, tried: &io::Result<Option<Taken<E>>>) ->
 }
 
 // The user's event without its number.
-fn users_tried<A: Allocator>(
+pub(crate) fn users_tried<A: Allocator>(
     tried: io::Result<Option<Taken<InternalEvent<A>>>>,
 ) -> io::Result<Option<Event<A>>>
     requires { IfOk tried (λ taken. IfSome taken (λ x. is_event (seen x.event) ≡ true)) }
@@ -59,13 +65,14 @@ impl<S: EventSource<A>, A: Allocator + Clone> EventReader<S, A> {
     ) -> io::Result<Option<Event<A>>>
         requires { IsPassOf self.now pass.old }
         ensures pass { IsPassOf self.now pass.new }
-        ensures call { Tries S.drawn S.asked filters.Event (knows pass.old) (knows pass.new) (event_tried result) }
+        ensures call { entries.Tries S.drawn S.asked filters.Event (knows pass.old) (knows pass.new) (event_tried result) }
         ensures awake { IfErr result (λ e. error_kind e ≢ Interrupted) }
     {
         let Some(mut reader) = self.room.try_take(rt, &mut pass.seat) else {
             return Ok(None);
         };
-        let tried = reader.read_within_numbered(1, &AnyFilter::Event);
+        let once = Tries { most: 1 };
+        let tried = reader.next(&once, &mut Still, AtWake::GoesOn, &AnyFilter::Event);
         self.room
             .put::<Brand, _, R>(rt, &mut pass.seat, reader, &tried);
         pass.last = last_after_try(pass.last, &tried);

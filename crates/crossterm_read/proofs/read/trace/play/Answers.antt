@@ -20,7 +20,7 @@ loop-call-init g c = subst (λ (l : List (Reply g.row.A.Denot)). Played (SourceD
 pub loop-call-preserved : goal.loop-call-preserved
 loop-call-preserved g c =
     let e = c.call-reply.ensures in
-    subst (λ (l : List (Reply g.row.A.Denot)). Played (SourceDrawn ScriptTells) c.new-reader.result (take (c.loop-call.call-index + 1) c.args.calls.now) (map said l) c.call-reply.new.self) (sym c.in_ok-push.ensures.items)
+    subst (λ (l : List (Reply g.row.A.Denot)). Played (SourceDrawn ScriptTells) c.new-reader.result (take (c.loop-call.call-index + 1) c.args.calls.now) (map said l) c.call-reply.new.self) (sym c.in-Ok.ensures.items)
     (played_more (SourceDrawn ScriptTells) (source_on ScriptTells script_on) _ c.loop-call.reader c.call-reply.new.self c.args.calls.now c.loop-call.call-index _ c.loop-call.replies.items c.call-reply.result e.1 e.0 (omega arith) c.loop-call.invariant e.2 e.3 e.4)
 
 pub returns-clause-run : goal.returns-clause-run

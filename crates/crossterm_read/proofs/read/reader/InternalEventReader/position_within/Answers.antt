@@ -1,12 +1,10 @@
 use Rattle.std.proofs.Common.{Some, sym, ap, refl}
 use Rattle.crossterm_types.specs.Seen.{Seen}
-use Rattle.crossterm_types.specs.Admitting.{is_cursor_position}
 use Rattle.crossterm_read.specs.Replies.{Came}
-use Rattle.crossterm_read.proofs.Querying.{query_admitted}
 use Rattle.crossterm_read.proofs.read.reader.InternalEventReader.position_within.Goals as goal
 
 pub place-requires : goal.place-requires
-place-requires g c = let e = c.in-Ok.ensures.step in query_admitted is_cursor_position e.2.1 e.2.0 c.query_within.new.self.store _ e.2.3
+place-requires g c = c.in-Ok.ensures.admitted
 
 pub returns-in-Ok-clause-step : goal.returns-in-Ok-clause-step
 returns-in-Ok-clause-step g c = let e = c.in-Ok.ensures.step in (e.0, _, e.1, e.2, ap (λ (x : Seen). Came (Some x)) (sym c.place.ensures), tt)

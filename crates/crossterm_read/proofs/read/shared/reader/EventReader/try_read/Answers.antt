@@ -12,21 +12,21 @@ try_take-requires-clause-opened g c = some_there _ c.args.pass.now.sits.opened
 
 pub put-requires-clause-produces : goal.put-requires-clause-produces
 put-requires-clause-produces g c =
-    let p = c.read_within_numbered-tried.ensures.step in
-    produces g.S.EventSource.drawn _ _ _ c.deref_mut.result.now c.read_within_numbered-tried.new.self (taken_at g.S.EventSource.drawn _ _ _ _ c.deref_mut.ensures.value c.in-Some.ensures.taken) (Read (UpTo 1) filters.Event) p.0 (try_reply c.read_within_numbered-tried.result)
-    (record { call = refl; reply = refl; limits_so = c.read_within_numbered-tried.ensures.at_once; memory = try_memory c.read_within_numbered-tried.result _ p.3 }) p.1 p.2 c.read_within_numbered-tried.ensures.room
+    let p = c.next-tried.ensures.step in
+    produces g.S.EventSource.drawn _ _ _ c.deref_mut.result.now c.next-tried.new.self (taken_at g.S.EventSource.drawn _ _ _ _ c.deref_mut.ensures.value c.in-Some.ensures.taken) (Read (UpTo 1) filters.Event) p.0 (try_reply c.next-tried.result)
+    (record { call = refl; reply = refl; limits_so = c.next-tried.ensures.limits; memory = try_memory c.next-tried.result _ p.3 }) p.1 p.2 c.next-tried.ensures.room
 
 pub invariant_of-pass-2 : goal.invariant_of-pass-2
 invariant_of-pass-2 g c = record {
   clear = c.put.ensures.seat.2 ∙ c.try_take.ensures.seat.2 ∙ c.args.pass.now.clear;
   sits = sits_put g.S.EventSource.drawn _ _ _ _ (sits_taken g.S.EventSource.drawn _ _ _ c.args.pass.now.sits c.in-Some.ensures.taken) c.put.ensures.put;
-  taken = c.last_after_try-pass.ensures ∙ sym (last_try c.args.pass.now.last c.read_within_numbered-tried.result)
+  taken = c.last_after_try-pass.ensures ∙ sym (last_try c.args.pass.now.last c.next-tried.result)
       ∙ last_after g.S.EventSource.drawn _ _ (view c.args.pass.now.seat) (view c.try_take.new.seat) (view c.put.new.seat) _ _ c.args.pass.now.last c.in-Some.ensures.taken c.put.ensures.put c.put.ensures.put.0.such.reply c.args.pass.now.taken;
 }
 
 pub returns-clause-call : goal.returns-clause-call
 returns-clause-call g c = inl (
-  try_reply c.read_within_numbered-tried.result,
+  try_reply c.next-tried.result,
   c.users_tried.ensures.reply,
-  extends g.S.EventSource.drawn _ (view c.args.pass.now.seat) (view c.try_take.new.seat) (view c.put.new.seat) c.in-Some.reader.value c.read_within_numbered-tried.new.self c.requires.1 c.in-Some.ensures.taken c.put.ensures.put,
+  extends g.S.EventSource.drawn _ (view c.args.pass.now.seat) (view c.try_take.new.seat) (view c.put.new.seat) c.in-Some.reader.value c.next-tried.new.self c.requires.1 c.in-Some.ensures.taken c.put.ensures.put,
 )
