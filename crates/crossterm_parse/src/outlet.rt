@@ -45,7 +45,8 @@ pub trait Outlet {
     /// Gives the key of a typed character, and returns whether there was room. If there was none, nothing is given.
     fn give_typed(&mut self, c: char) -> bool
         ensures yes { IsTrue result → given self.old (typed c ∷ []) self.new × (room self.old ≤ room self.new + 1) }
-        ensures no { IsFalse result → given self.old [] self.new × (room self.old ≤ room self.new) };
+        ensures no { IsFalse result → given self.old [] self.new × (room self.old ≤ room self.new) }
+        ensures full { IsFalse result → typed_room self.old ≡ 0 };
 
     /// Gives the keys of letters, for which there is room.
     fn give_letters(&mut self, letters: &[u8])

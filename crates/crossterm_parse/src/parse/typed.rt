@@ -70,7 +70,7 @@ impl Typed {
     #[inline(always)]
     pub(super) fn push(&mut self, c: char) -> bool
         ensures yes { IsTrue result → self.new.waiting ≡ self.old.waiting ++ c ∷ [] }
-        ensures no { IsFalse result → self.new ≡ self.old }
+        ensures no { IsFalse result → (self.old.room ≡ 0) × (self.new ≡ self.old) }
     {
         if self.end == PLACES {
             return false;
