@@ -4,6 +4,7 @@ use Rattle.std.specs.IoError.{error_kind}
 use Rattle.std.specs.declared.io.Error.{Error}
 use Rattle.std.specs.declared.io.ErrorKind.TheVariants.{Other}
 use Rattle.crossterm_flags.specs.declared.enhancement.KeyboardEnhancementFlags.{KeyboardEnhancementFlags}
+use Rattle.crossterm_types.specs.Seen.{Seen}
 use Rattle.crossterm_types.specs.Timing.{Reaches}
 use Rattle.crossterm_types.specs.declared.event.Event.{Event}
 use Rattle.std.specs.declared.io.ErrorKind.{ErrorKind}
@@ -82,9 +83,13 @@ module _ {S : Type 0} (drawn : S → List SourceAnswer → S → Type 0) (asked 
   Polls f limit begins after v w result =
       (start : ℕ) × begins start × (Extends drawn (IsPoll asked f limit start after (replied (poll_reply result))) v w ⊎ ((result ≡ Ok false) × (w ≡ v) × Reaches limit (after - start)))
 
-  -- A read with a limit made by a pass, from the moment at which it began: an event is what such a read took; nothing, or a fault, is what such a poll found.
+  -- A read with a limit made by a pass, from the moment at which it began, took this event.
+  abbrev pub TakesWithin : AnyFilter → Option Duration → (ℕ → Type 0) → ℕ → Known S → Known S → Seen → Type 0
+  TakesWithin f limit begins after v w event = (start : ℕ) × begins start × (number : ℕ) × Extends drawn (IsReadFor asked f limit start after (ToTake (Some (event, number)))) v w
+
+  -- A read with a limit made by a pass: an event is what such a read took; nothing, or a fault, is what such a poll found.
   abbrev pub ReadsFor : {A : Type 0} → AnyFilter → Option Duration → (ℕ → Type 0) → ℕ → Known S → Known S → Result (Option (Event A)) Error → Type 0
-  ReadsFor f limit begins after v w (Ok (Some event)) = (start : ℕ) × begins start × (number : ℕ) × Extends drawn (IsReadFor asked f limit start after (ToTake (Some (event_seen event, number)))) v w
+  ReadsFor f limit begins after v w (Ok (Some event)) = TakesWithin f limit begins after v w (event_seen event)
   ReadsFor f limit begins after v w (Ok None) = Polls f limit begins after v w (Ok false)
   ReadsFor f limit begins after v w (Err e) = Polls f limit begins after v w (Err e)
 

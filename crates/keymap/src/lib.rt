@@ -21,7 +21,7 @@
 //! | Proved | By the contract of |
 //! |---|---|
 //! | the outcomes of keys are the cut of these keys into the longest bound lists, given exactly as far as no further key can change it, and the rest at a flush; a refusal changes nothing | `Keymap::bind`, `Matcher::{feed, flush, next, step}`, `laws::{runs, turns, given}` |
-//! | a step polls and reads by its pass's next calls in the one legal history; an error leaves the matcher unchanged but for room | `Matcher::step` |
+//! | a step reads within its limit, by its pass's next call in the one legal history; an error leaves the matcher unchanged but for room | `Matcher::step` |
 //! | memory is refused only if there is room for fewer outcomes than may come; how much room is there after each call; taking an outcome takes no memory | `Matcher::{new, passing, feed, flush, next, step}` |
 //! | a text reads as a chord exactly as its definition says; what a chord is spelled as reads as the same chord | `read_chord`, `Display` of `Spelled`; `laws::spelled` |
 //! | as an `io::Error`, refused memory has the kind `OutOfMemory`, and each other fault has `InvalidInput` | `From<KeymapFault>` and `From<ChordFault>` of `io::Error` |

@@ -12,7 +12,6 @@ use crate::room::make_room;
 use crate::taking::{flush, pop, take_event};
 use crossterm_read::read::{EventReader, Pass};
 use crossterm_read::source::EventSource;
-use crossterm_types::event::filter::AnyFilter;
 use crossterm_types::event::timeout::Clock;
 use std::alloc::Allocator;
 use std::io;
@@ -20,16 +19,16 @@ use std::sync::Wait;
 use std::time::Duration;
 
 impl<A: Allocator + Clone> Matcher<A> {
-    /// Returns an outcome that waits. Else it polls the reader with the limit: if an event is there, it reads one. If the limit passes
-    /// before, or a wake-up ends the poll, it flushes. Then it returns the first outcome, or `None`.
+    /// Returns an outcome that waits. Else it reads an event within the limit. If none comes, or a wake-up ends the read, it flushes. Then
+    /// it returns the first outcome, or `None`.
     ///
     /// A key that isn't let go is fed. Any other event flushes, and then becomes an outcome of its own; a matcher made by `passing` passes
-    /// releases and modifier keys on without a flush. The read waits if another pass took the event before. With no limit the poll waits.
+    /// releases and modifier keys on without a flush. It is one call of the reader, `EventReader::read_for`. With no limit it waits.
     ///
     /// # Errors
     ///
-    /// Those of the poll and of the read, after which the matcher has room for what may come, and is else as it was. `OutOfMemory` if there
-    /// was room for fewer than 8 outcomes and memory was refused: then nothing has changed, and nothing was asked.
+    /// Those of that read, after which the matcher has room for what may come, and is else as it was. `OutOfMemory` if there was room for
+    /// fewer than 8 outcomes and memory was refused: then nothing has changed, and nothing was asked.
     ///
     /// ```
     /// let outcome = matcher.step(&rt, &reader, &mut pass, Some(Duration::from_millis(500)), &mut clock)?;
@@ -56,22 +55,19 @@ impl<A: Allocator + Clone> Matcher<A> {
             Ok(()) => {}
             Err(_) => return Err(io::Error::from(io::ErrorKind::OutOfMemory)),
         }
-        match reader.poll_by(rt, pass, limit, clock, AnyFilter::Event) {
-            Ok(true) => match reader.read(rt, pass) {
-                Ok(event) => {
-                    take_event(
-                        &self.keymap,
-                        self.passes,
-                        &mut self.undecided,
-                        &mut self.waiting,
-                        event,
-                    );
-                    let came = pop(&mut self.waiting);
-                    Ok(came)
-                }
-                Err(error) => Err(error),
-            },
-            Ok(false) => {
+        match reader.read_for(rt, pass, limit, clock) {
+            Ok(Some(event)) => {
+                take_event(
+                    &self.keymap,
+                    self.passes,
+                    &mut self.undecided,
+                    &mut self.waiting,
+                    event,
+                );
+                let came = pop(&mut self.waiting);
+                Ok(came)
+            }
+            Ok(None) => {
                 flush(&self.keymap, &mut self.undecided, &mut self.waiting);
                 let left = pop(&mut self.waiting);
                 Ok(left)

@@ -76,7 +76,7 @@ impl<S: EventSource<Global>> Events<S> {
         ensures first { KeepsFirst C.began clock.old clock.new }
         ensures reader { self.new.reader ≡ self.old.reader }
     {
-        self.reader.read_for(rt, &mut self.pass, limit, clock)
+        self.reader.read_for(rt, &mut self.pass, Some(limit), clock)
     }
 
     /// Whether an event comes within this limit, by this clock. If no other thread takes it, the next `read` returns it at once.

@@ -305,7 +305,7 @@ impl<S: EventSource<Global>, D: ModeDevice, W: Write + Drop, C: Clock + Drop> Se
         ensures others { (self.new.out ≡ self.old.out) × (self.new.term ≡ self.old.term) × (self.new.features ≡ self.old.features) }
     {
         self.reader
-            .read_for(rt, &mut self.pass, limit, &mut self.clock)
+            .read_for(rt, &mut self.pass, Some(limit), &mut self.clock)
     }
 
     /// Whether an event comes within this limit. The next `read` returns it at once.

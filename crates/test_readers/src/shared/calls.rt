@@ -110,7 +110,7 @@ fn answer_to<R: Wait, C: Clock>(
         Call::Flags => flagged(seat.shared.keyboard_by(rt, &mut seat.pass, limit, clock)),
         Call::Poll => polled(seat.poll(rt, Some(Duration::ZERO), AnyFilter::Event)),
         Call::Read => read(seat.read(rt)),
-        Call::Within => read_in_time(seat.shared.read_for(rt, &mut seat.pass, limit, clock)),
+        Call::Within => read_in_time(seat.shared.read_for(rt, &mut seat.pass, Some(limit), clock)),
         Call::Open => match seat.shared.paste_len(rt, &mut seat.pass) {
             Some(length) => Came::Length(length),
             None => Came::NoLength,

@@ -152,7 +152,7 @@ fn polls_in_time<S: EventSource<Global>, R: Wait + Clock>(
         Ok(true) => return "true",
         Err(_) => return "a fault",
     }
-    match shared.read_for(rt, &mut pass, limit, &mut clock) {
+    match shared.read_for(rt, &mut pass, Some(limit), &mut clock) {
         Ok(None) => "nothing",
         Ok(Some(_)) => "an event",
         Err(_) => "a fault",

@@ -1,5 +1,5 @@
 //! A read of a shared reader within a limit.
-ghost use Rattle.std.specs.Prelude.{◌≡◌, ◌≢◌, ◌≤◌, IfErr, Some};
+ghost use Rattle.std.specs.Prelude.{◌≡◌, ◌≢◌, ◌≤◌, IfErr};
 ghost use Rattle.std.specs.IoError.{error_kind};
 ghost use Rattle.std.specs.declared.io.ErrorKind.TheVariants.{Interrupted};
 ghost use Rattle.crossterm_types.specs.Timing.{IsFirst, KeepsFirst};
@@ -24,7 +24,7 @@ use std::time::Duration;
 
 impl<S: EventSource<A>, A: Allocator + Clone> EventReader<S, A> {
     /// Takes the first event of the user, if one is held or comes within the limit, which counts from the beginning of the call. It returns
-    /// `None` if none comes in time, or if the reader isn't there in time.
+    /// `None` if none comes in time, or if the reader isn't there in time. Without a limit it waits for an event.
     ///
     /// A wake-up ends it with `None`, as it ends a poll with false. It is one call; a `poll` and a `read` are two, and another thread may take
     /// the event between them.
@@ -35,25 +35,25 @@ impl<S: EventSource<A>, A: Allocator + Clone> EventReader<S, A> {
     ///
     /// ```
     /// let mut clock = SystemClock::new(&rt);
-    /// let event = reader.read_for(&rt, &mut pass, Duration::from_secs(1), &mut clock)?;
+    /// let event = reader.read_for(&rt, &mut pass, Some(Duration::from_secs(1)), &mut clock)?;
     /// ```
     pub fn read_for<C: Clock, R: Wait>(
         &self,
         rt: &R,
         pass: &mut Pass<S, A>,
-        limit: Duration,
+        limit: Option<Duration>,
         clock: &mut C,
     ) -> io::Result<Option<Event<A>>>
         requires { IsPassOf self.now pass.old }
         ensures pass { IsPassOf self.now pass.new }
-        ensures call { ReadsFor S.drawn S.asked filters.Event (Some limit) (IsFirst C.told C.began clock.old clock.new) (C.told clock.new) (knows pass.old) (knows pass.new) result }
+        ensures call { ReadsFor S.drawn S.asked filters.Event limit (IsFirst C.told C.began clock.old clock.new) (C.told clock.new) (knows pass.old) (knows pass.new) result }
         ensures later { C.told clock.old ≤ C.told clock.new }
         ensures first { KeepsFirst C.began clock.old clock.new }
         // A wake-up is no error.
         ensures awake { IfErr result (λ e. error_kind e ≢ Interrupted) }
     {
         let start = clock.now();
-        let timeout = PollTimeout::new(Some(limit), start);
+        let timeout = PollTimeout::new(limit, start);
         let Some(mut reader) = self.room.take_within(rt, &mut pass.seat, &timeout, clock) else {
             return Ok(None);
         };

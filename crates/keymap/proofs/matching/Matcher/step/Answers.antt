@@ -1,13 +1,11 @@
-use Rattle.std.proofs.Common.{◌≡◌, Bool, map, Some, Ok, refl, sym, ap, ◌∙◌, subst}
+use Rattle.std.proofs.Common.{◌≡◌, map, Some, refl, sym, ap, ◌∙◌, subst}
 use Rattle.std.specs.IoError.{error_kind}
 use Rattle.std.specs.Option.{option_map}
 use Rattle.crossterm_types.specs.Seen.{seen_event}
 use Rattle.crossterm_types.specs.Timing.{IsFirst}
-use Rattle.crossterm_types.specs.declared.event.filter.AnyFilter.TheVariants as filters
-use Rattle.crossterm_read.specs.Entries.{Polls}
 use Rattle.crossterm_read.specs.Seats.{knows}
 use Rattle.keymap.specs.Matching.{Matching, MatcherState, IsFlushed}
-use Rattle.keymap.specs.Stepping.{Steps, Gave, Failed, waited, unpolled, idle, unread, came}
+use Rattle.keymap.specs.Stepping.{Steps, Gave, Failed, waited, idle, unread, came}
 use Rattle.keymap.specs.Taking.{TakesEvent}
 use Rattle.keymap.specs.Told.{told}
 use Rattle.keymap.specs.inside.Giving.{state_of}
@@ -24,8 +22,8 @@ returns-in-Some-clause-step g c =
     (takes c.self.inside.keymap c.self.inside.passes c.self.inside.undecided (map told c.self.inside.waiting.items) (map told c.pop.new.waiting.items) (Some (told c.in-Some.outcome)) c.in-Some.ensures.first)
     (kept_is c.self.inside.waiting c.pop.new.waiting c.pop.ensures.capacity) refl refl)
 
-pub returns-in-Err-read-clause-step : goal.returns-in-Err-read-clause-step
-returns-in-Err-read-clause-step g c =
+pub returns-in-Err-read_for-clause-step : goal.returns-in-Err-read_for-clause-step
+returns-in-Err-read_for-clause-step g c =
     let none = c.in-None.ensures.first in
     let roomed : IsRoomy 8 c.self.inside.waiting c.pop.new.waiting c.make_room.new.waiting = record {
       none = none.0;
@@ -35,26 +33,11 @@ returns-in-Err-read-clause-step g c =
       made = c.in-Ok.ensures.made;
     } in
     let new = matcher_of c.self.inside.keymap c.self.inside.passes c.self.inside.undecided c.make_room.new.waiting in
-    let polled = subst (λ (ready : Bool). Polls g.S.EventSource.drawn g.S.EventSource.asked filters.Event c.args.limit (IsFirst g.C.Clock.told g.C.Clock.began c.args.clock.now c.poll_by.new.clock) (g.C.Clock.told c.poll_by.new.clock) (knows c.args.pass.now) (knows c.poll_by.new.pass) (Ok ready)) c.in-Ok-true.field-0-test c.in-Ok-true.ensures.call in
-    subst (λ (m : MatcherState). Steps g.S.EventSource.drawn g.S.EventSource.asked c.args.limit (IsFirst g.C.Clock.told g.C.Clock.began c.args.clock.now c.poll_by.new.clock) (g.C.Clock.told c.poll_by.new.clock) m (knows c.args.pass.now) new (knows c.read.new.pass) (Failed (error_kind c.in-Err-read.error))) c.self.view_is
-    (unread none.0 (roomy_is c.self.inside.keymap c.self.inside.passes c.self.inside.undecided 8 c.self.inside.waiting c.pop.new.waiting c.make_room.new.waiting roomed) (knows c.poll_by.new.pass) polled (error_kind c.in-Err-read.error) c.in-Err-read.ensures.call refl)
+    subst (λ (m : MatcherState). Steps g.S.EventSource.drawn g.S.EventSource.asked c.args.limit (IsFirst g.C.Clock.told g.C.Clock.began c.args.clock.now c.read_for.new.clock) (g.C.Clock.told c.read_for.new.clock) m (knows c.args.pass.now) new (knows c.read_for.new.pass) (Failed (error_kind c.in-Err-read_for.error))) c.self.view_is
+    (unread none.0 (roomy_is c.self.inside.keymap c.self.inside.passes c.self.inside.undecided 8 c.self.inside.waiting c.pop.new.waiting c.make_room.new.waiting roomed) c.in-Err-read_for.error c.in-Err-read_for.ensures.call refl)
 
-pub returns-in-Err-poll_by-clause-step : goal.returns-in-Err-poll_by-clause-step
-returns-in-Err-poll_by-clause-step g c =
-    let none = c.in-None.ensures.first in
-    let roomed : IsRoomy 8 c.self.inside.waiting c.pop.new.waiting c.make_room.new.waiting = record {
-      none = none.0;
-      none_still = none.1;
-      kept = c.pop.ensures.capacity;
-      items = c.make_room.ensures.items;
-      made = c.in-Ok.ensures.made;
-    } in
-    let new = matcher_of c.self.inside.keymap c.self.inside.passes c.self.inside.undecided c.make_room.new.waiting in
-    subst (λ (m : MatcherState). Steps g.S.EventSource.drawn g.S.EventSource.asked c.args.limit (IsFirst g.C.Clock.told g.C.Clock.began c.args.clock.now c.poll_by.new.clock) (g.C.Clock.told c.poll_by.new.clock) m (knows c.args.pass.now) new (knows c.poll_by.new.pass) (Failed (error_kind c.in-Err-poll_by.error))) c.self.view_is
-    (unpolled none.0 (roomy_is c.self.inside.keymap c.self.inside.passes c.self.inside.undecided 8 c.self.inside.waiting c.pop.new.waiting c.make_room.new.waiting roomed) c.in-Err-poll_by.error c.in-Err-poll_by.ensures.call refl)
-
-pub returns-in-Ok-read-clause-step : goal.returns-in-Ok-read-clause-step
-returns-in-Ok-read-clause-step g c =
+pub returns-in-Ok-Some-clause-step : goal.returns-in-Ok-Some-clause-step
+returns-in-Ok-Some-clause-step g c =
     let none = c.in-None.ensures.first in
     let roomed : IsRoomy 8 c.self.inside.waiting c.pop.new.waiting c.make_room.new.waiting = record {
       none = none.0;
@@ -68,14 +51,13 @@ returns-in-Ok-read-clause-step g c =
     let taken = state_of c.self.inside.keymap c.self.inside.passes c.take_event.new.keys c.take_event.new.waiting.items in
     let new = matcher_of c.self.inside.keymap c.self.inside.passes c.take_event.new.keys c.pop-came.new.waiting in
     let same : roomy ≡ old = ap (λ items. record { keymap = c.self.inside.keymap; passes = c.self.inside.passes; undecided = c.self.inside.undecided; waiting = items }) (ap (map told) c.make_room.ensures.items ∙ none.1 ∙ sym none.0) in
-    let polled = subst (λ (ready : Bool). Polls g.S.EventSource.drawn g.S.EventSource.asked filters.Event c.args.limit (IsFirst g.C.Clock.told g.C.Clock.began c.args.clock.now c.poll_by.new.clock) (g.C.Clock.told c.poll_by.new.clock) (knows c.args.pass.now) (knows c.poll_by.new.pass) (Ok ready)) c.in-Ok-true.field-0-test c.in-Ok-true.ensures.call in
-    subst (λ (m : MatcherState). Steps g.S.EventSource.drawn g.S.EventSource.asked c.args.limit (IsFirst g.C.Clock.told g.C.Clock.began c.args.clock.now c.poll_by.new.clock) (g.C.Clock.told c.poll_by.new.clock) m (knows c.args.pass.now) new (knows c.read.new.pass) (Gave (option_map told c.pop-came.result))) c.self.view_is
-    (came none.0 (knows c.poll_by.new.pass) polled (seen_event c.in-Ok-read.event) c.in-Ok-read.ensures.call taken (subst (λ (m : Matching). TakesEvent m (seen_event c.in-Ok-read.event) taken) same c.take_event.ensures.taken)
+    subst (λ (m : MatcherState). Steps g.S.EventSource.drawn g.S.EventSource.asked c.args.limit (IsFirst g.C.Clock.told g.C.Clock.began c.args.clock.now c.read_for.new.clock) (g.C.Clock.told c.read_for.new.clock) m (knows c.args.pass.now) new (knows c.read_for.new.pass) (Gave (option_map told c.pop-came.result))) c.self.view_is
+    (came none.0 (seen_event c.in-Ok-Some.event) (rw c.in-Ok-Some.field-0-is at c.in-Ok-Some.ensures).call taken (subst (λ (m : Matching). TakesEvent m (seen_event c.in-Ok-Some.event) taken) same c.take_event.ensures.taken)
     (option_map told c.pop-came.result) (takes c.self.inside.keymap c.self.inside.passes c.take_event.new.keys (map told c.take_event.new.waiting.items) (map told c.pop-came.new.waiting.items) (option_map told c.pop-came.result) c.pop-came.ensures.first)
     (whole_after 8 c.self.inside.waiting c.pop.new.waiting c.make_room.new.waiting c.pop-came.new.waiting roomed (c.pop-came.ensures.capacity ∙ c.take_event.ensures.capacity)) refl)
 
-pub returns-in-Ok-false-clause-step : goal.returns-in-Ok-false-clause-step
-returns-in-Ok-false-clause-step g c =
+pub returns-in-Ok-None-clause-step : goal.returns-in-Ok-None-clause-step
+returns-in-Ok-None-clause-step g c =
     let none = c.in-None.ensures.first in
     let roomed : IsRoomy 8 c.self.inside.waiting c.pop.new.waiting c.make_room.new.waiting = record {
       none = none.0;
@@ -89,8 +71,7 @@ returns-in-Ok-false-clause-step g c =
     let flushed = state_of c.self.inside.keymap c.self.inside.passes c.flush.new.keys c.flush.new.waiting.items in
     let new = matcher_of c.self.inside.keymap c.self.inside.passes c.flush.new.keys c.pop-left.new.waiting in
     let same : roomy ≡ old = ap (λ items. record { keymap = c.self.inside.keymap; passes = c.self.inside.passes; undecided = c.self.inside.undecided; waiting = items }) (ap (map told) c.make_room.ensures.items ∙ none.1 ∙ sym none.0) in
-    let polled = subst (λ (ready : Bool). Polls g.S.EventSource.drawn g.S.EventSource.asked filters.Event c.args.limit (IsFirst g.C.Clock.told g.C.Clock.began c.args.clock.now c.poll_by.new.clock) (g.C.Clock.told c.poll_by.new.clock) (knows c.args.pass.now) (knows c.poll_by.new.pass) (Ok ready)) c.in-Ok-false.field-0-test c.in-Ok-false.ensures.call in
-    subst (λ (m : MatcherState). Steps g.S.EventSource.drawn g.S.EventSource.asked c.args.limit (IsFirst g.C.Clock.told g.C.Clock.began c.args.clock.now c.poll_by.new.clock) (g.C.Clock.told c.poll_by.new.clock) m (knows c.args.pass.now) new (knows c.poll_by.new.pass) (Gave (option_map told c.pop-left.result))) c.self.view_is
-    (idle none.0 polled flushed (subst (λ (m : Matching). IsFlushed m flushed) same (c.flush.ensures.flushed c.self.inside.passes)) (option_map told c.pop-left.result)
+    subst (λ (m : MatcherState). Steps g.S.EventSource.drawn g.S.EventSource.asked c.args.limit (IsFirst g.C.Clock.told g.C.Clock.began c.args.clock.now c.read_for.new.clock) (g.C.Clock.told c.read_for.new.clock) m (knows c.args.pass.now) new (knows c.read_for.new.pass) (Gave (option_map told c.pop-left.result))) c.self.view_is
+    (idle none.0 (rw c.in-Ok-None.field-0-is at c.in-Ok-None.ensures).call flushed (subst (λ (m : Matching). IsFlushed m flushed) same (c.flush.ensures.flushed c.self.inside.passes)) (option_map told c.pop-left.result)
     (takes c.self.inside.keymap c.self.inside.passes c.flush.new.keys (map told c.flush.new.waiting.items) (map told c.pop-left.new.waiting.items) (option_map told c.pop-left.result) c.pop-left.ensures.first)
     (whole_after 8 c.self.inside.waiting c.pop.new.waiting c.make_room.new.waiting c.pop-left.new.waiting roomed (c.pop-left.ensures.capacity ∙ c.flush.ensures.capacity)) refl)

@@ -25,7 +25,7 @@ put-requires-clause-produces g c =
     let e = c.read_while-tried.ensures.step in
     let tried = c.read_while-tried.result in
     let step = subst (λ (limit : Option Duration). Step (request_within (Within limit past) filters.Event tried) e.0 c.deref_mut.result.now.store c.read_while-tried.new.self.store (reply_within tried)) c.new-timeout.ensures.limit e.2 in
-    produces g.S.EventSource.drawn _ _ _ c.deref_mut.result.now c.read_while-tried.new.self (taken_at g.S.EventSource.drawn _ _ _ _ c.deref_mut.ensures.value c.in-Some.ensures.taken) (request_within (Within (Some c.args.limit) past) filters.Event tried) e.0 (reply_within tried)
+    produces g.S.EventSource.drawn _ _ _ c.deref_mut.result.now c.read_while-tried.new.self (taken_at g.S.EventSource.drawn _ _ _ _ c.deref_mut.ensures.value c.in-Some.ensures.taken) (request_within (Within c.args.limit past) filters.Event tried) e.0 (reply_within tried)
     (record {
       call = (past, omega (arith, start), refl);
       reply = refl;
@@ -46,7 +46,7 @@ returns-clause-call g c =
     let begun = first_of g.C.Clock.told g.C.Clock.began _ _ _ _ c.now-start.ensures.told c.now-start.ensures.later (omega (arith, c.take_within.ensures.later, c.read_while-tried.ensures.later)) c.now-start.ensures.first
     (λ from start b. c.read_while-tried.ensures.first _ _ (c.take_within.ensures.first _ _ b)) in
     let entry = extends g.S.EventSource.drawn _ (view c.args.pass.now.seat) (view c.take_within.new.seat) (view c.put.new.seat) c.in-Some.reader.value c.read_while-tried.new.self c.requires.1 c.in-Some.ensures.taken c.put.ensures.put in
-    reads_for g.S.EventSource.drawn g.S.EventSource.asked filters.Event (Some c.args.limit) (IsFirst g.C.Clock.told g.C.Clock.began c.args.clock.now c.read_while-tried.new.clock) (as_nanos c.now-start.result) (g.C.Clock.told c.read_while-tried.new.clock) _ _ begun
+    reads_for g.S.EventSource.drawn g.S.EventSource.asked filters.Event c.args.limit (IsFirst g.C.Clock.told g.C.Clock.began c.args.clock.now c.read_while-tried.new.clock) (as_nanos c.now-start.result) (g.C.Clock.told c.read_while-tried.new.clock) _ _ begun
     c.read_while-tried.result c.users_tried.result c.users_tried.ensures.reply entry
 
 pub returns-clause-first : goal.returns-clause-first
