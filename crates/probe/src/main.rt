@@ -12,7 +12,8 @@
 //! `letters`, `utf8`, `keys`, `mouse`, `replies`, `paste` or `hostile`. `probe bench held REPLIES` prints the least time in which a key comes and is
 //! taken while so many replies are held. `probe bench recorded` prints the least time of a key with a recorder and without one.
 //! `probe bench keys BINDINGS` prints the least time that a key takes which is fed to a matcher of so many bound lists. `probe bench take WAY
-//! KEYS` takes so many keys that come alone by `read`, by `poll` and a take, by a read of a `shared` reader, or by a `stream`, or that come in a `burst`.
+//! KEYS` takes so many keys that come alone by `read`, by `poll` and a take, by a read of a `shared` reader, by one `within` a limit, or by a
+//! `stream`, or that come in a `burst`.
 //!
 //! Its code is built on `crossterm` and `keymap`, by their public calls.
 #![tactic(auto)]

@@ -11,7 +11,7 @@ pub enum Fault {
     #[error("probe: usage: probe play|say|serve|keys")]
     Usage,
     /// The words after `bench` are none of that mode's.
-    #[error("probe: usage: probe bench [frame] [--time] | probe bench screen all|few|line|one|wide [--time] | probe bench held REPLIES | probe bench recorded | probe bench keys BINDINGS | probe bench take read|burst|poll|shared|stream KEYS | probe bench make letters|utf8|keys|mouse|replies|paste|hostile BYTES")]
+    #[error("probe: usage: probe bench [frame] [--time] | probe bench screen all|few|line|one|wide [--time] | probe bench held REPLIES | probe bench recorded | probe bench keys BINDINGS | probe bench take read|burst|poll|shared|within|stream KEYS | probe bench make letters|utf8|keys|mouse|replies|paste|hostile BYTES")]
     BenchUsage,
     /// A line's first word is none of the mode's.
     #[error("probe: line {0}: unknown word")]

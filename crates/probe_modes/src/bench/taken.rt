@@ -7,14 +7,17 @@ use crate::fault::Fault;
 use crossterm::event::filter::EventFilter;
 use crossterm::event::read::InternalEventReader;
 use crossterm::event::source::DeviceSource;
+use crossterm::event::timeout::SystemClock;
 use crossterm::event::{Event, EventReader, EventStream, InternalEvent, KeyCode, KeyEvent, Pass};
 use futures::task::Poll;
 use futures::test::MockTask;
 use std::alloc::{AllocGlobal, Global};
 use std::io::{self, ErrorKind, Write};
 use std::random::RandomSource;
+use std::rt::Clock;
 use std::sync::Wait;
 use std::thread::Threads;
+use std::time::Duration;
 
 /// A way in which a key is taken.
 #[derive(Clone, Copy)]
@@ -27,6 +30,8 @@ enum Way {
     Poll,
     /// By a read of a shared reader.
     Shared,
+    /// By one within a limit.
+    Within,
     /// By a poll of a stream.
     Stream,
 }
@@ -109,10 +114,41 @@ fn read_by<H: Wait>(
     Ok(taken)
 }
 
+/// The same by reads within a limit.
+fn read_for<H: Wait + Clock>(
+    rt: &H,
+    shared: &EventReader<DeviceSource<Letters>>,
+    pass: Pass<DeviceSource<Letters>>,
+    count: u32,
+) -> io::Result<u32>
+    requires { IsPassOf shared.now pass }
+{
+    let mut pass = pass;
+    let mut clock = SystemClock::new(rt);
+    let limit = Some(Duration::from_secs(1));
+    let mut taken: u32 = 0;
+    for _i in 0..count {
+        if let Some(event) = shared.read_for(rt, &mut pass, limit, &mut clock)? {
+            if is_letter(&event) {
+                taken = taken.saturating_add(1);
+            }
+        }
+    }
+    Ok(taken)
+}
+
 fn shared<H: Wait>(rt: &H, alloc: Global, count: u32) -> io::Result<u32> {
     let (shared, mut passes) = EventReader::new(rt, alloc, reader(alloc, 1), 1)?;
     match passes.pop() {
         Some(pass) => read_by(rt, &shared, pass, count),
+        None => Err(no_pass()),
+    }
+}
+
+fn within<H: Wait + Clock>(rt: &H, alloc: Global, count: u32) -> io::Result<u32> {
+    let (shared, mut passes) = EventReader::new(rt, alloc, reader(alloc, 1), 1)?;
+    match passes.pop() {
+        Some(pass) => read_for(rt, &shared, pass, count),
         None => Err(no_pass()),
     }
 }
@@ -147,6 +183,7 @@ impl Way {
             "burst" => Some(Way::Burst),
             "poll" => Some(Way::Poll),
             "shared" => Some(Way::Shared),
+            "within" => Some(Way::Within),
             "stream" => Some(Way::Stream),
             _ => None,
         }
@@ -174,13 +211,14 @@ impl Taking {
 
     fn take<H>(self, rt: H, alloc: Global) -> io::Result<u32>
     where
-        H: Threads + Wait + RandomSource + AllocGlobal + Copy + Send + Drop + 'static,
+        H: Threads + Wait + Clock + RandomSource + AllocGlobal + Copy + Send + Drop + 'static,
     {
         match self.way {
             Way::Read => read(alloc, 1, self.keys),
             Way::Burst => read(alloc, 1024, self.keys),
             Way::Poll => poll(alloc, self.keys),
             Way::Shared => shared(&rt, alloc, self.keys),
+            Way::Within => within(&rt, alloc, self.keys),
             Way::Stream => streamed(rt, alloc, self.keys),
         }
     }
@@ -188,7 +226,7 @@ impl Taking {
     /// Takes them, and prints how many came.
     pub fn run<H, W: Write>(self, rt: H, writer: &mut W) -> Result<(), Fault>
     where
-        H: Threads + Wait + RandomSource + AllocGlobal + Copy + Send + Drop + 'static,
+        H: Threads + Wait + Clock + RandomSource + AllocGlobal + Copy + Send + Drop + 'static,
     {
         match self.take(rt, rt.alloc()) {
             Ok(taken) => print(writer, format_args!("keys {taken}")),
