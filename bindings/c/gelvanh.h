@@ -9,10 +9,10 @@
  *
  * Before 1.0.0 the second number changes wherever a program has to be compiled again: a struct, a number or a call is another. From 1.0.0
  * on the first does. Otherwise numbers for new kinds, keys and commands may follow the last: a program passes over those it doesn't know. */
-#define GELVANH_VERSION "0.4.0"
+#define GELVANH_VERSION "0.4.1"
 #define GELVANH_VERSION_MAJOR 0
 #define GELVANH_VERSION_MINOR 4
-#define GELVANH_VERSION_PATCH 0
+#define GELVANH_VERSION_PATCH 1
 #define GELVANH_VERSION_NUMBER ((GELVANH_VERSION_MAJOR * 256 + GELVANH_VERSION_MINOR) * 256 + GELVANH_VERSION_PATCH)
 
 #include <stddef.h>
