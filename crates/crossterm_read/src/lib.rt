@@ -48,7 +48,7 @@
 //! | `Calls` | 128 | runs of calls, and the account of all events: the headline | `read::play`, `laws::counts_tries` |
 //! | `OneResult` | 60 | two runs of the same calls over the same answers | `laws::one_result` |
 //! | `History` | 170 | the one legal history of a reader that threads share | `EventReader`, `Pass` |
-//! | `Entries` | 103 | which call an entry of it is | `EventReader::{poll, read, read_for, poll_by, read_by, position_by, keyboard_by, paste_len}` |
+//! | `Entries` | 108 | which call an entry of it is | `EventReader::{poll, read, read_for, poll_by, read_by, position_by, keyboard_by, paste_len}` |
 //! | `OverScripts` | 26 | what a history over a script comes to | `laws::{scripts_are_told, histories_are_told}` |
 //! | `Seats` | 19 | what a clause says of a pass | `EventReader::{new, share, meet, close}` |
 //! | `Shared` | 15 | what it says of a share | `EventReader::{new, share}` |
