@@ -1,0 +1,77 @@
+-- The lines of several calls are those of the events that were taken.
+use Rattle.std.proofs.Common.{◌≡◌, ℕ, Bool, true, false, cond, List, [], ◌∷◌, ◌++◌, Option, refl, sym, ap, subst, ◌∙◌, append_assoc, append-nil}
+use Rattle.std.specs.declared.time.Duration.{Duration}
+use Rattle.crossterm_types.specs.Seen.{Seen}
+use Rattle.crossterm_read.specs.Answers.{SourceAnswer}
+use Rattle.crossterm_read.specs.History.{Known}
+use Rattle.line_editor.specs.Bounds.{is_too_long}
+use Rattle.line_editor.specs.States.{EditorState}
+use Rattle.line_editor.specs.Turns.{Answer, Going, after_events, answer, event_text, lines_in, lines_of_events, task_of, turned}
+use Rattle.prompt.specs.Asking.{Ends, GoesOn, unread, further, answer_to, pressed}
+use Rattle.prompt.specs.Lines.{Calls, uncalled, called, GivesLines, all_of, events_of, taken}
+
+-- Some events, and then others.
+pub after_both : (xs ys : List Seen) (w : EditorState) → after_events (xs ++ ys) w ≡ after_events ys (after_events xs w)
+after_both [] ys w = refl
+after_both (x ∷ xs) ys w = after_both xs ys (turned x w)
+
+pub lines_both : (xs ys : List Seen) (w : EditorState) → lines_of_events (xs ++ ys) w ≡ lines_of_events xs w ++ lines_of_events ys (after_events xs w)
+lines_both [] ys w = refl
+lines_both (x ∷ xs) ys w =
+    let first = lines_in (answer (task_of x w) w) in
+    ap (λ t. first ++ t) (lines_both xs ys (turned x w)) ∙ sym (append_assoc first (lines_of_events xs (turned x w)) (lines_of_events ys (after_events xs (turned x w))))
+
+taken_first : (long : Bool) (x : Seen) (ys : List Seen) (w : EditorState) (both first more after : List Seen)
+    → both ≡ first ++ taken ys (after_events first w) → more ≡ after ++ taken ys (after_events after (turned x w))
+    → cond long both (x ∷ more) ≡ cond long first (x ∷ after) ++ taken ys (after_events (cond long first (x ∷ after)) w)
+taken_first true x ys w both first more after h k = h
+taken_first false x ys w both first more after h k = ap (λ t. x ∷ t) k
+
+pub taken_both : (xs ys : List Seen) (w : EditorState) → taken (xs ++ ys) w ≡ taken xs w ++ taken ys (after_events (taken xs w) w)
+taken_both [] ys w = refl
+taken_both (x ∷ xs) ys w =
+    taken_first (is_too_long (event_text x w) w) x ys w (taken (xs ++ ys) w) (taken xs w) (taken (xs ++ ys) (turned x w)) (taken xs (turned x w))
+    (taken_both xs ys w) (taken_both xs ys (turned x w))
+
+-- What two runs of events give together.
+pub gives_both : (xs ys : List Seen) (w k z : EditorState) (first more : List (List ℕ)) → GivesLines xs w first k → GivesLines ys k more z → GivesLines (xs ++ ys) w (first ++ more) z
+gives_both xs ys w k z first more g h =
+    let both = taken_both xs ys w in
+    let from : EditorState = after_events (taken xs w) w in
+    record {
+      come = ap (λ t. lines_of_events t w) both ∙ lines_both (taken xs w) (taken ys from) w
+          ∙ ap (λ t. t ++ lines_of_events (taken ys from) from) g.come ∙ ap (λ (x : EditorState). first ++ lines_of_events (taken ys x) x) g.left ∙ ap (λ t. first ++ t) h.come;
+      left = ap (λ t. after_events t w) both ∙ after_both (taken xs w) (taken ys from) w ∙ ap (λ (x : EditorState). after_events (taken ys x) x) g.left ∙ h.left;
+    }
+
+one_lines : (long : Bool) (e : Seen) (w : EditorState) → lines_of_events (cond long [] (e ∷ [])) w ≡ lines_in (cond long Going (answer (task_of e w) w))
+one_lines true e w = refl
+one_lines false e w = append-nil (lines_in (answer (task_of e w) w))
+
+one_left : (long : Bool) (e : Seen) (w : EditorState) → after_events (cond long [] (e ∷ [])) w ≡ cond long w (turned e w)
+one_left true e w = refl
+one_left false e w = refl
+
+-- What one event gives.
+pub gives_one : (e : Seen) (w : EditorState) (a : Answer) → answer_to e w ≡ a → GivesLines (e ∷ []) w (lines_in a) (pressed e w)
+gives_one e w a is = record {
+  come = one_lines (is_too_long (event_text e w) w) e w ∙ ap lines_in is;
+  left = one_left (is_too_long (event_text e w) w) e w;
+}
+
+module _ {S : Type 0} {drawn : S → List SourceAnswer → S → Type 0} {asked : S → List (Option Duration)} where
+  -- While a line goes on no line comes out.
+  gives_none : {v : Known S} {w : EditorState} {p : Known S} {k : EditorState} → (goes : GoesOn drawn asked v w p k) → GivesLines (events_of goes) w [] k
+  gives_none unread = record { come = refl; left = refl }
+  gives_none {w = w} (further p q k e goes reads going) = gives_both (events_of goes) (e ∷ []) w k (pressed e k) [] [] (gives_none goes) (gives_one e k Going going)
+
+  -- What a line's events give.
+  gives_end : {v u : Known S} {w z : EditorState} {a : Answer} → (ends : Ends drawn asked v w a u z) → GivesLines (all_of ends) w (lines_in a) z
+  gives_end {w = w} {z = z} {a = a} ends =
+      let P : EditorState → Type 0 = λ x. GivesLines (all_of ends) w (lines_in a) x in
+      subst P (sym ends.left) (gives_both (events_of ends.goes) (ends.event ∷ []) w ends.line (pressed ends.event ends.line) [] (lines_in a) (gives_none ends.goes) (gives_one ends.event ends.line a ends.ends))
+
+  -- What the events of some calls give.
+  pub gives_lines : {v : Known S} {w : EditorState} {u : Known S} {z : EditorState} {events : List Seen} {lines : List (List ℕ)} → Calls drawn asked v w u z events lines → GivesLines events w lines z
+  gives_lines uncalled = record { come = refl; left = refl }
+  gives_lines {w = w} (called p q k l events lines a before ends) = gives_both events (all_of ends) w k l lines (lines_in a) (gives_lines before) (gives_end ends)

@@ -1,0 +1,14 @@
+-- The line goes on.
+use Rattle.std.proofs.Common.{◌≡◌}
+use Rattle.crossterm_read.specs.Seats.{knows}
+use Rattle.prompt.specs.Asking.{GoesOn}
+use Rattle.prompt.proofs.asking.go_on.Given as goal
+
+abbrev pub invariant-loop : goal.invariant-loop
+invariant-loop g l = record {
+  goes : GoesOn g.S.EventSource.drawn g.S.EventSource.asked (knows l.fn.tty.pass) l.fn.editor (knows l.tty.pass) l.editor;
+  features : l.tty.features ≡ l.fn.tty.features;
+  mode : l.tty.term.prior ≡ l.fn.tty.term.prior;
+  can : (goal.iterator-loop g).can_next l.iterator';
+  ends : (goal.iterator-loop g).is_finite l.iterator';
+}

@@ -1,0 +1,57 @@
+-- What comes of asking for a line, event by event.
+use Rattle.std.specs.Prelude.{◌≡◌, false, cond, List, Option, Some, string_bytes}
+use Rattle.std.specs.Str.{chars}
+use Rattle.std.specs.declared.io.ErrorKind.{ErrorKind}
+use Rattle.std.specs.declared.io.ErrorKind.TheVariants.{OutOfMemory}
+use Rattle.std.specs.declared.time.Duration.{Duration}
+use Rattle.crossterm_types.specs.Seen.{Seen}
+use Rattle.crossterm_types.specs.declared.event.filter.AnyFilter.TheVariants as filters
+use Rattle.crossterm_read.specs.Answers.{SourceAnswer}
+use Rattle.crossterm_read.specs.Entries.{Reads}
+use Rattle.crossterm_read.specs.History.{Known}
+use Rattle.crossterm_read.specs.Replies.{Came, Faulted}
+use Rattle.line_editor.specs.Bounds.{is_too_long}
+use Rattle.line_editor.specs.States.{EditorState}
+use Rattle.line_editor.specs.Turns.{Answer, Going, Line, Interrupted, Closed, answer, event_text, task_of, turned}
+use Rattle.prompt.specs.declared.read.Read.{Read}
+use Rattle.prompt.specs.declared.read.Read.TheVariants as read
+
+-- An event makes of an editor what its turn does, and nothing if its text is too long.
+abbrev pub pressed : Seen → EditorState → EditorState
+pressed e w = cond (is_too_long (event_text e w) w) w (turned e w)
+
+-- An event is answered as its turn is. If its text is too long, the line goes on.
+abbrev pub answer_to : Seen → EditorState → Answer
+answer_to e w = cond (is_too_long (event_text e w) w) Going (answer (task_of e w) w)
+
+-- What comes of asking is the answer to the last event: a line is its text.
+abbrev pub answer_told : {A : Type 0} → Read A → Answer
+answer_told (read.Line text) = Line (chars (string_bytes text))
+answer_told read.Interrupted = Interrupted
+answer_told read.Closed = Closed
+
+-- A line goes on, from what a pass knew and an editor: nothing was read, or one more event was, which the editor took.
+pub data GoesOn {S : Type 0} (drawn : S → List SourceAnswer → S → Type 0) (asked : S → List (Option Duration)) (v : Known S) (w : EditorState) : Known S → EditorState → Type 0 where
+  -- Nothing was read.
+  unread : GoesOn drawn asked v w v w
+  -- It went on, one more event was read, and it goes on behind that.
+  further : (p q : Known S) (k : EditorState) (e : Seen) → GoesOn drawn asked v w p k → Reads drawn asked filters.Event p q (Came (Some e)) → answer_to e k ≡ Going → GoesOn drawn asked v w q (pressed e k)
+
+-- A line ends with this answer: it went on, and then one more event was read, which is answered so.
+pub record Ends {S : Type 0} (drawn : S → List SourceAnswer → S → Type 0) (asked : S → List (Option Duration)) (v : Known S) (w : EditorState) (a : Answer) (u : Known S) (z : EditorState) : Type 0 where
+  pub before : Known S
+  pub line : EditorState
+  pub event : Seen
+  pub goes : GoesOn drawn asked v w before line
+  pub reads : Reads drawn asked filters.Event before u (Came (Some event))
+  pub ends : answer_to event line ≡ a
+  pub left : z ≡ pressed event line
+
+-- Asking stops with an error of this kind. The editor took all events that were read, but one for which memory was refused.
+pub data Fails {S : Type 0} (drawn : S → List SourceAnswer → S → Type 0) (asked : S → List (Option Duration)) (v : Known S) (w : EditorState) (kind : ErrorKind) (u : Known S) (z : EditorState) : Type 0 where
+  -- The prompt was refused, or the writer or the device of modes failed: the line goes on up to there.
+  stopped : GoesOn drawn asked v w u z → Fails drawn asked v w kind u z
+  -- The read that came next failed, with this error.
+  broke : (p : Known S) → GoesOn drawn asked v w p z → Reads drawn asked filters.Event p u (Faulted kind) → Fails drawn asked v w kind u z
+  -- Memory was refused for the event that was read next, whose text has room.
+  refused : (p : Known S) (e : Seen) → GoesOn drawn asked v w p z → Reads drawn asked filters.Event p u (Came (Some e)) → is_too_long (event_text e z) z ≡ false → kind ≡ OutOfMemory → Fails drawn asked v w kind u z

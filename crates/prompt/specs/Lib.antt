@@ -1,0 +1,4 @@
+pub mod Prompts
+pub mod Asking
+pub mod Lines
+pub mod inside

@@ -1,0 +1,8 @@
+-- Which prompts are refused.
+use Rattle.std.specs.Prelude.{ℕ, Bool, List}
+use Rattle.std.specs.List.{list_any}
+use Rattle.std.specs.Char.{is_control}
+
+-- A text has a control character if one of its characters is one.
+abbrev pub has_control : List ℕ → Bool
+has_control text = list_any is_control text

@@ -1,0 +1,33 @@
+-- What comes of one event.
+use Rattle.std.specs.Prelude.{◌≡◌, false, List, Option}
+use Rattle.std.specs.IoError.{error_kind}
+use Rattle.std.specs.declared.time.Duration.{Duration}
+use Rattle.crossterm_types.specs.Seen.{Seen}
+use Rattle.crossterm_read.specs.Answers.{SourceAnswer}
+use Rattle.crossterm_read.specs.History.{Known}
+use Rattle.line_editor.specs.Bounds.{is_too_long}
+use Rattle.line_editor.specs.States.{EditorState}
+use Rattle.line_editor.specs.Turns.{Answer, event_text}
+use Rattle.line_editor.specs.Turns as turns
+use Rattle.prompt.specs.declared.asking.Taken.{Taken}
+use Rattle.prompt.specs.declared.asking.Taken.TheVariants as taken
+use Rattle.prompt.specs.declared.asking.Turn.{Turn}
+use Rattle.prompt.specs.declared.asking.Turn.TheVariants as turn
+use Rattle.prompt.specs.Asking.{Ends, Fails, GoesOn, answer_to, answer_told, pressed}
+
+-- An editor took an event, which is answered so.
+abbrev pub TakesAs : Answer → Seen → EditorState → EditorState → Type 0
+TakesAs a e w z = (answer_to e w ≡ a) × (z ≡ pressed e w)
+
+-- What an editor made of an event. If memory was refused, the event's text has room, and nothing has changed.
+abbrev pub IsTaken : {A : Type 0} → Taken A → Seen → EditorState → EditorState → Type 0
+IsTaken taken.Going e w z = TakesAs turns.Going e w z
+IsTaken taken.TooLong e w z = TakesAs turns.Going e w z
+IsTaken (taken.Ended read) e w z = TakesAs (answer_told read) e w z
+IsTaken taken.Refused e w z = (is_too_long (event_text e w) w ≡ false) × (z ≡ w)
+
+-- A turn leads on, to the line's end, or to an error.
+abbrev pub Leads : {S A : Type 0} → (S → List SourceAnswer → S → Type 0) → (S → List (Option Duration)) → Known S → EditorState → Turn A → Known S → EditorState → Type 0
+Leads drawn asked v w turn.Going u z = GoesOn drawn asked v w u z
+Leads drawn asked v w (turn.Ended read) u z = Ends drawn asked v w (answer_told read) u z
+Leads drawn asked v w (turn.Failed error) u z = Fails drawn asked v w (error_kind error) u z

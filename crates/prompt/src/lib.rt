@@ -1,0 +1,59 @@
+//! Asks for a line in a terminal, with a prompt and the keys of GNU readline.
+//!
+//! `read_line` shows a prompt in the cursor's row, and behind it a line that a `line_editor::Editor` edits, until the line is accepted, let go or
+//! closed. It reads the events of an `own_terminal::Session`, and writes to the session's writer. The editor is the caller's: it keeps the history,
+//! the killed text and a line that isn't finished from one call to the next.
+//!
+//! ```
+//! fn ask_all(rt: &impl Wait, tty: &mut Tty<'_>) -> io::Result<()> {
+//!     let mut editor = Editor::new(tty.alloc, Limits::default())?;
+//!     for _ in rt.forever() {
+//!         match read_line(rt, tty, &mut editor, "> ")? {
+//!             Read::Line(text) => write!(tty.out, "{text}\r\n")?,
+//!             Read::Interrupted | Read::Closed => break,
+//!         }
+//!     }
+//!     Ok(())
+//! }
+//! ```
+//!
+//! The line takes one row, and is seen through it as `Line::seen` says. The cursor's place isn't asked for: if a window becomes narrower and wraps
+//! the row anew, what was wrapped stays above.
+//!
+//! It is built on `own_terminal` and `line_editor`, by their public contracts, and on the crate `unicode_width` for the columns of a prompt.
+//!
+//! What is proved, beyond safety:
+//!
+//! | Proved | By the contract of |
+//! |---|---|
+//! | each event that was read is given to the editor, once and in order; the line goes on until one is answered otherwise, and what is returned is the answer to that one | `read_line` |
+//! | a text that is too long changes nothing, and the line goes on | `read_line` |
+//! | an error leaves the editor with all events that were read, but one for which memory was refused, whose text has room; a fault of the read is the one that is returned | `read_line` |
+//! | no error comes once a line has ended, so that no accepted line is lost by one | `read_line` |
+//! | a prompt with a control character is refused, and nothing was done; with one no line is returned | `read_line` |
+//! | raw mode is on after a line, and stays on; the session's features stay as they are | `read_line` |
+//! | the lines of several calls are those of all events that were read for them, but for those whose texts are too long | `laws::gives_lines` |
+//!
+//! What is drawn is only tested, and so is the bell.
+//!
+//! What to believe, in the order in which it reads (`specs/`), and the contracts that it is proved by:
+//!
+//! | Definitions | Of | Contract |
+//! |---|---|---|
+//! | `Prompts` | which prompts are refused | `read_line` |
+//! | `Asking` | what comes of asking for a line, event by event | `read_line` |
+//! | `Lines` | the events and the lines of several calls | `laws::gives_lines` |
+//!
+//! `specs/inside/` says the same of a part, and no public clause cites it.
+//!
+//! A function's proof is in `proofs/` at the function's path; if there is no file, the prover found it by itself.
+#![tactic(auto)]
+
+mod asking;
+mod drawing;
+pub mod laws;
+mod prompts;
+mod read;
+
+pub use asking::read_line;
+pub use read::Read;
