@@ -1,6 +1,6 @@
 """Which wrong bodies a landing tries.
 
-`rt ci` proves every crate as it stands. Whether a wrong body is refused mostly changes with its own text, with the text, the contract or the
+`rt ci` proves every crate as it is. Whether a wrong body is refused mostly changes with its own text, with the text, the contract or the
 proof of the function that it turns, or with a definition that these name. So a landing tries those that this touches since the landing before,
 and of the others a share, another one each time. What else may change an answer, as the contract of a function that is called, or another
 kit, is seen by the shares alone. The file strength/landed names the commit of the landing before: each landing writes it.
@@ -16,7 +16,7 @@ import subprocess
 
 import places
 
-# A definition of a file of specs or proofs: its name stands first in its line.
+# A definition of a file of specs or proofs: its name comes first in its line.
 DEFINED = re.compile(r"^(?:(?:pub|abbrev|unfoldable|opaque|data|record|ghost)\s+)*([^\s:(){},]+)\s*(?:\{[^}]*\}\s*)*:(?=\s)", re.M)
 # An item of a source that isn't a function, by the name of its type or of its value.
 ITEM = re.compile(r"^(?:pub(?:\([^)]*\))? )?(?:unsafe )?(?:struct|enum|trait|type|const|impl(?:<[^{]*?>)?(?: [^{]*? for)?) &?(?:mut )?(\w+)", re.M)
@@ -58,7 +58,7 @@ def share_of(counts, turn):
 
 
 def outside_functions(text):
-    """What of a source stands in no function, by the names of the items."""
+    """What of a source is in no function, by the names of the items."""
     kept, at = "", 0
     for it in places.functions_of(text):
         kept, at = kept + text[at : max(at, it.start)], max(at, it.end)
@@ -98,7 +98,7 @@ def names_one(text, words):
 
 
 class Changes:
-    """What differs between a commit and the files as they stand."""
+    """What differs between a commit and the files as they are."""
 
     def __init__(self, root, commit):
         self.root, self.commit = root, commit
@@ -115,7 +115,7 @@ class Changes:
         return subprocess.run(["git", *words], cwd=self.root, capture_output=True, text=True, errors="replace", check=True).stdout
 
     def now(self, file):
-        """A file as it stands, or nothing."""
+        """A file as it is, or nothing."""
         if not os.path.isfile(f"{self.root}/{file}"):
             return ""
         with open(f"{self.root}/{file}", encoding="utf-8") as it:
@@ -141,7 +141,7 @@ class Changes:
         return self.differing(file, definitions) if is_shared else set()
 
     def crates(self):
-        """The crates with those that each names, lowest first: a name means nothing to crates that don't stand on its own."""
+        """The crates with those that each names, lowest first: a name means nothing to crates that aren't above its own."""
         rows = [line.split("#")[0].partition(":") for line in self.now("crates.txt").split("\n")]
         needs = {head.split()[0]: deps.split() for head, _, deps in rows if head.strip()}
         needs = {crate: [it for it in deps if it in needs] for crate, deps in needs.items()}
@@ -222,7 +222,7 @@ def landing(bodies, functions, reasons, turn, most):
 
 
 def landed(root):
-    """The commit of the landing before, or None where this history lacks it, and how many landings there were."""
+    """The commit of the landing before, or None if this history lacks it, and how many landings there were."""
     with open(f"{root}/{LANDED}", encoding="utf-8") as it:
         commit = it.read().strip()
     how = {"cwd": root, "capture_output": True, "text": True}

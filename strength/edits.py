@@ -1,11 +1,11 @@
-"""Wrong bodies, as files of edits tell them.
+"""Wrong bodies, as files of edits have them.
 
 A file has paragraphs, and each is one wrong body: lines `file: PATH` of the crate, and below it pairs of lines `old: TEXT` and
-`new: TEXT`, where the old text stands once in that file. A line `file:` holds on until the next one. Further lines of a paragraph:
+`new: TEXT`, if the old text is in that file once. A line `file:` holds on until the next one. Further lines of a paragraph:
 
-    at: NAME, NAME      the functions that refuse it, by the ends of their names, where that is another one than it stands in; `*` where
+    at: NAME, NAME      the functions that refuse it, by the ends of their names, if that isn't the one that it is in; `*` where
                         only a check of the whole crate does, as of a law of an `impl`
-    error: TEXT         what the compiler says of it, where it isn't left to the prover
+    error: TEXT         what the compiler says of it, if it isn't left to the prover
     # ..                what it gets wrong, in words
 """
 import dataclasses
@@ -20,7 +20,7 @@ def bytes_of(path):
 
 @dataclasses.dataclass(frozen=True)
 class Pair:
-    """A text of a file of the crate, and what stands in its place."""
+    """A text of a file of the crate, and what comes in its place."""
 
     path: str
     old: str
@@ -102,7 +102,7 @@ def of_crate(root, crate, bodies=""):
 
 
 def applied(pairs, texts):
-    """The texts with these pairs in them, or None where an old text doesn't stand once."""
+    """The texts with these pairs in them, or None if an old text isn't there once."""
     changed = dict(texts)
     for pair in pairs:
         if changed.get(pair.path, "").count(pair.old) != 1:

@@ -1,9 +1,9 @@
-"""How cells look: styles by the names of colours and attributes, as docs/FORMATS.md has it ("How output looks"), and styles as tmux tells them.
+"""How cells look: styles by the names of colours and attributes, as docs/FORMATS.md has it ("How output looks"), and styles as tmux prints them.
 
 A style is a dictionary of what differs from the plain one. What tmux can't show is left out of a comparison by `seen`:
 
 - it has no Fraktur, no frame and no circle, and one kind of blinking;
-- it reads 21 as a double underline, so `NoBold` stands in no list here.
+- it reads 21 as a double underline, so `NoBold` is in no list here.
 """
 import re
 
@@ -105,7 +105,7 @@ def name_of(n):
 
 
 def cells_of(row, style):
-    """The cells of a row, and the style after it: tmux tells what changes alone, from one row to the next too."""
+    """The cells of a row, and the style after it: tmux prints only what changes, from one row to the next too."""
     cells = []
     for sequence, character in re.findall(r"\x1b\[([0-9;:]*)m|([^\x1b])", row):
         if character:

@@ -1,4 +1,4 @@
-"""Where a text stands: its function, and the names by which the prover may tell of that."""
+"""The place of a text: its function, and the names by which the prover may speak of that."""
 import dataclasses
 import re
 
@@ -17,7 +17,7 @@ class Function:
 
 
 def end_of(text, start, indent):
-    """Where the item that begins here ends, by the formatter's layout: at its closing brace, or where it has no body at its semicolon."""
+    """Where the item that begins here ends, by the formatter's layout: at its closing brace, or if it has no body at its semicolon."""
     at, is_open = start, False
     for line in text[start:].split("\n"):
         at += len(line) + 1
@@ -51,7 +51,7 @@ def functions_of(text):
 
 
 def function_at(text, pair):
-    """The function that an old text stands in, or begins above."""
+    """The function that an old text is in, or begins above."""
     at = text.index(pair.old)
     for place in (at, at + len(pair.old) - 1):
         inside = [it for it in functions_of(text) if it.start <= place < it.end]
@@ -61,7 +61,7 @@ def function_at(text, pair):
 
 
 def without_parameters(head):
-    """A head without its bounds and what stands between angle brackets, and the names that it declares in the first ones."""
+    """A head without its bounds and what is between angle brackets, and the names that it declares in the first ones."""
     depth, kept, declared = 0, "", ""
     for at, letter in enumerate(head):
         depth += letter == "<"
@@ -99,7 +99,7 @@ def module_of(path):
 
 
 def names_of(names, path, function):
-    """Those of the prover's names that may be this function's: in its file's module, else (a type may stand elsewhere) anywhere."""
+    """Those of the prover's names that may be this function's: in its file's module, else (a type may be elsewhere) anywhere."""
     module = module_of(path)
     module += "::" if module else ""
     if not function.owner:
@@ -120,7 +120,7 @@ def owner_name(head):
 
 
 def names_in(texts):
-    """The names of the functions of these texts, by the files and owners that they stand in."""
+    """The names of the functions of these texts, by the files and owners that they are in."""
     found = []
     for path, text in texts.items():
         if path.startswith("src/"):

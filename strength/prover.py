@@ -17,7 +17,7 @@ import places
 OPEN = re.compile(r"^note: (?:\./)?(src/\S+?:\d+):\d+: (it is not proved that .*)")
 IN_PROOF = re.compile(r"^(?:\./)?proofs/(\S+)/(?:Answers|Invariants|Proof)\.antt:\d+:\d+: error: (.*)")
 OF_FUNCTION = re.compile(r"^fn (\S+?): (.*)")
-# What a proof says that only cites a name which isn't there any more, or rests on what was refused; and a line that goes on so where the names
+# What a proof says that only cites a name which isn't there any more, or rests on what was refused; and a line that goes on so if the names
 # are long.
 SAYS_LITTLE = re.compile(r"that depends on|has no field|is not in scope|has no `|was not admitted")
 GOES_ON = re.compile(r"^  has no ")
@@ -53,7 +53,7 @@ def texts_of(folder):
 
 def check(crate, texts, flags, kept=""):
     """What a check of a copy of the crate says, with these texts as its files, and the processor seconds that it took. What was read and
-    found before is taken from the folder `kept`, where one is named, and left there."""
+    found before is taken from the folder `kept`, if one is named, and left there."""
     with tempfile.TemporaryDirectory(prefix="strength-") as room, tempfile.TemporaryFile() as said:
         for path, text in texts.items():
             os.makedirs(os.path.dirname(f"{room}/{path}"), exist_ok=True)
@@ -93,7 +93,7 @@ def faults(answer, crate):
             # The folder of a recursive function has a + before its name.
             found[proof[1].replace("/+", "/").replace("/", "::")].append(Fault(proof[2], False))
         elif function:
-            # A function's open goals stand right above its line.
+            # A function's open goals are right above its line.
             found[function[1].removeprefix(f"{crate}::")] += pending
             pending = []
     return found

@@ -172,7 +172,7 @@ def paint_forgets_nobody():
 
 
 def paint_turns_away():
-    """Where the system has no descriptor for one more guest, who comes is turned away at once, and the others go on."""
+    """If the system has no descriptor for one more guest, who comes is turned away at once, and the others go on."""
     for descriptors in (16, 19, 20, 23):
         server, port = start_server(descriptors)
         try:
@@ -298,3 +298,6 @@ def paint_serves():
         equal('status of the server', server.wait(5), -signal.SIGTERM)
     finally:
         server.kill()
+
+
+TRIES = [paint_here, paint_in_small_windows, paint_forgets_nobody, paint_turns_away, paint_lets_silent_guests_go, paint_serves]

@@ -1,4 +1,4 @@
-"""Runs `behave` in terminals of 24 x 80, types, resizes and answers, and compares the lines that it tells.
+"""Runs `behave` in terminals of 24 x 80, types, resizes and answers, and compares the lines that it prints.
 
 behave.py PROGRAM [TEST..]: without a test's name it runs all that are of `behave`; those whose names begin with `example_` are of the examples.
 """
@@ -15,7 +15,7 @@ import time
 
 
 class Terminal:
-    """A program in a terminal of its own. Its standard error, a pipe, tells lines."""
+    """A program in a terminal of its own. Its standard error, a pipe, has lines."""
 
     def __init__(self, program, name, stdin=None, stdout=None, env=None, controlling=True):
         self.master, slave = pty.openpty()
@@ -75,7 +75,7 @@ class Terminal:
         return not termios.tcgetattr(self.slave)[3] & termios.ICANON
 
     def end(self):
-        """The lines told, where the program ended well and left the terminal's mode as it was."""
+        """The lines printed, if the program ended well and left the terminal's mode as it was."""
         self.until(lambda: self.process.poll() is not None, "end")
         for _ in range(5):
             self.pump(0.02)

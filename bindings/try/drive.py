@@ -1,6 +1,6 @@
 """Runs an example under a terminal of 24 x 80 with keys in turn, over crossterm and over the shim, and compares all bytes.
 
-drive.py BUILD NAME KEY..: the key `@resize` is a resize to 20 x 70. An example that doesn't end is killed after 5 s, and told as such.
+drive.py BUILD NAME KEY..: the key `@resize` is a resize to 20 x 70. An example that doesn't end is killed after 5 s, and reported as such.
 """
 import fcntl
 import hashlib

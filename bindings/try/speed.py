@@ -39,7 +39,7 @@ def play(words, kind, blocks):
         if process.wait(60) != 0:
             sys.exit(f"{words} ended with {process.returncode}")
     finally:
-        # crossterm goes on for ever where its terminal is gone.
+        # crossterm goes on for ever if its terminal is gone.
         process.kill()
         os.close(slave)
         os.close(master)

@@ -168,7 +168,7 @@ impl BitOr for Classes {
     }
 }
 
-/// What the mouse did, and where, from 0.
+/// What the mouse did, and at which place, from 0.
 ///
 /// ```
 /// use gelvanh::{Event, InternalEvent, KeyModifiers, MouseButton, MouseEvent, MouseEventKind, Parser};

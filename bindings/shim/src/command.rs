@@ -165,7 +165,7 @@ impl<W: Write + ?Sized> fmt::Write for Run<'_, W> {
     }
 }
 
-/// Writes what waits, as where a command's value isn't there and `?` ends the run.
+/// Writes what waits, as if a command's value isn't there and `?` ends the run.
 impl<W: Write + ?Sized> Drop for Run<'_, W> {
     #[inline]
     fn drop(&mut self) {

@@ -1,4 +1,4 @@
-//! Each public name of crossterm 0.29 for Unix, and each trait of its types: where one lacks this doesn't compile.
+//! Each public name of crossterm 0.29 for Unix, and each trait of its types: if one lacks this doesn't compile.
 #![allow(clippy::type_complexity)]
 
 use crossterm::cursor::{

@@ -39,7 +39,7 @@ pub enum Event {
     Resize(u16, u16),
 }
 
-/// What the mouse did, and where, from 0.
+/// What the mouse did, and at which place, from 0.
 #[derive(Clone, Copy, Debug, PartialEq, Eq, PartialOrd, Hash)]
 #[cfg_attr(feature = "serde", derive(serde::Serialize, serde::Deserialize))]
 pub struct MouseEvent {

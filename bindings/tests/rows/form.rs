@@ -1,4 +1,4 @@
-//! How rows are written: lines `INPUT -> OUTPUT`, of which the head of a file says how many there are, as docs/probe_rows.py reads them.
+//! How rows are written: lines `INPUT -> OUTPUT`, of which the head of a file says how many there are, as tools/probe_rows.py reads them.
 
 use std::fs;
 use std::iter::repeat;

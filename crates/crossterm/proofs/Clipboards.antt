@@ -39,7 +39,7 @@ quiet_in [] e i = ((λ e. omega arith), (λ e. omega arith))
 quiet_in (c ∷ cs) e zero = let (first, rest) = both (is_printable c) (all_printable cs) e in quiet_at c first
 quiet_in (c ∷ cs) e (suc i) = let (first, rest) = both (is_printable c) (all_printable cs) e in quiet_in cs rest i
 
--- all symbols of a message, where each of the table is
+-- all symbols of a message, if each of the table is
 quiet_symbols : (t : List ℕ) → ((i : ℕ) → IsOscText (slice_index t i)) → (content : List ℕ) → AllByRecursion IsOscText (encode_symbols t content)
 unfolding encode_symbols
 quiet_symbols t at [] = tt

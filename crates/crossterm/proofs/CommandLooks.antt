@@ -1,4 +1,4 @@
--- What commands tell shows as they paint.
+-- What commands write shows as they paint.
 use Rattle.std.proofs.Common.{◌≡◌, ℕ, ◌+◌, ◌<◌, ◌==◌, true, false, cond, List, [], ◌∷◌, ◌++◌, refl, subst, sym, ap, ◌∙◌, append-nil, flat_map, get_or, length, map, string_bytes, take}
 use Rattle.std.specs.List.{AllByRecursion}
 use Rattle.std.specs.Str.{chars}
@@ -67,7 +67,7 @@ command_shows colors c h s = (refl, refl)
 
 -- ---- the numbers of colours
 
--- where the command has no colour, or isn't one of those that may have some
+-- if the command has no colour, or isn't one of those that may have some
 pub others_fit : {A : Type 0} (c : AnyCommand A) → ((d : SetForegroundColor) → c ≡ any.SetForegroundColor d → ⊥) → ((d : SetBackgroundColor) → c ≡ any.SetBackgroundColor d → ⊥)
     → ((d : SetUnderlineColor) → c ≡ any.SetUnderlineColor d → ⊥) → ((d : SetColors) → c ≡ any.SetColors d → ⊥) → ((d : SetStyle) → c ≡ any.SetStyle d → ⊥)
     → ((d : _) → c ≡ any.PrintStyledContent d → ⊥) → AllByRecursion FitsAct (acts c)

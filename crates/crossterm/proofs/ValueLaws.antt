@@ -1,4 +1,4 @@
--- What is cleared and is told is read back.
+-- A `ClearType` that is written as JSON is read back.
 use Rattle.std.proofs.Common.{◌≡◌, Some, rules}
 use Rattle.crossterm_flags.proofs.Ranks.{of_each}
 use Rattle.crossterm_flags.specs.Variants.{value_in, variant}

@@ -7,30 +7,34 @@ use Rattle.std.specs.declared.time.Duration.{Duration}
 use Rattle.crossterm_command.specs.Writing.{AppendsFront}
 use Rattle.crossterm.specs.Modes.{ModeCall, Modes, Refuses, SwitchesOff, SwitchesOn}
 
--- The query for the cursor's place (DSR: ECMA-48, 8.3.35).
+-- The query for the cursor's position (DSR: ECMA-48, 8.3.35).
 abbrev pub position_query : List ℕ
 position_query = codes "\u{1b}[6n"
 
--- The queries for the keyboard's flags (kitty keyboard) and, after it, for the terminal's attributes (DA: ECMA-48, 8.3.24).
+-- The query for the keyboard flags (kitty), and behind it that for the terminal's attributes (DA: ECMA-48, 8.3.24).
 abbrev pub keyboard_query : List ℕ
 keyboard_query = codes "\u{1b}[?u\u{1b}[c"
 
--- So it is within two seconds.
+-- It holds for a limit of two seconds.
 abbrev pub InTwoSeconds : (Duration → Type 0) → Type 0
 InTwoSeconds P = (limit : Duration) × (as_nanos limit ≡ 2000000000) × P limit
 
--- A query writes its text and flushes, and then makes its call. Where the writer failed a beginning of the text was written, and no call is made.
+-- A query writes its text, flushes, and makes its call. If the writer fails, a beginning of the text is written and no
+-- call is made.
 abbrev pub Queries : {X : Type 0} → Option (List ℕ) → Option (List ℕ) → List ℕ → Type 0 → (Result X Error → Type 0) → Result X Error → Type 0
 Queries old new text no_call called q = (AppendsFront old new text × no_call × IsErr q) ⊎ (Appends old new text × called q)
 
--- A query is made in raw mode, which is switched on before and off after where it isn't on. Where a switch is refused its error is the answer: before the
--- query nothing else is done, and after it the terminal stays raw.
+-- A query in raw mode, which is switched on before it and off after it, unless it is on already.
 pub data InRawMode {D M X : Type 0} (stands : D → M) (answered : D → ModeCall M → D → Type 0) (failed : D → ℕ) (old new : Modes D M) (nothing : Type 0) (queried : Result X Error → Type 0) (result : Result X Error) : Type 0 where
+  -- Raw mode was on: only the query is made.
   raw_already : IsTrue (is_some old.prior) → new ≡ old → queried result → InRawMode stands answered failed old new nothing queried result
+  -- Raw mode can't be switched on: that is the error, and nothing else is done.
   not_on : (e : Error) → old.prior ≡ None → SwitchesOn answered old (Err e) new → nothing → result ≡ Err e → Refuses (failed old.device) (failed new.device)
       → InRawMode stands answered failed old new nothing queried result
+  -- Raw mode can't be switched off after the query: that is the error, and raw mode stays on.
   not_off : (e : Error) (raw : Modes D M) (q : Result X Error) → old.prior ≡ None → SwitchesOn answered old (Ok tt) raw → queried q
       → SwitchesOff answered raw (Err e) new → new.prior ≡ Some (stands old.device) → result ≡ Err e → Refuses (failed old.device) (failed new.device)
       → InRawMode stands answered failed old new nothing queried result
+  -- Raw mode was switched on, the query made, and the mode is as it was before.
   on_and_off : (raw : Modes D M) → old.prior ≡ None → SwitchesOn answered old (Ok tt) raw → queried result
       → SwitchesOff answered raw (Ok tt) new → stands new.device ≡ stands old.device → InRawMode stands answered failed old new nothing queried result

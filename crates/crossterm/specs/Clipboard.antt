@@ -1,4 +1,4 @@
--- The places that a copy goes to, by their letters, and what a terminal is told by a copy.
+-- The destinations of a copy, by their letters, and what a copy writes.
 use Rattle.std.specs.Prelude.{◌≡◌, ◌≢◌, ℕ, ◌==◌, true, ⊤, List, [], ◌∷◌, ◌++◌, if◌then◌else◌, map, codes, encode_utf8_all}
 use Rattle.std.specs.Str.{all_scalars, chars, IsUtf8}
 use Rattle.std.specs.List.{AllByRecursion}
@@ -10,29 +10,29 @@ use Rattle.crossterm_command.specs.Tokens.Token.{Osc}
 use Rattle.crossterm.specs.declared.clipboard.ClipboardType.{ClipboardType}
 use Rattle.crossterm.specs.declared.clipboard.ClipboardType.TheVariants.{Clipboard, Primary, Other}
 
--- the letter of a place
+-- The letter of a destination.
 abbrev pub char_of : ClipboardType → ℕ
 char_of Clipboard = 0x63
 char_of Primary = 0x70
 char_of (Other c) = c
 
--- the place of a letter
+-- The destination of a letter.
 abbrev pub type_of : ℕ → ClipboardType
 type_of c = if c == 0x63 then Clipboard else if c == 0x70 then Primary else Other c
 
--- the letters of places, in UTF-8
+-- The letters of destinations, in UTF-8.
 abbrev pub selection_text : List ClipboardType → List ℕ
 selection_text types = encode_utf8_all (map char_of types)
 
--- the places of a text's letters
+-- The destinations of a text's letters.
 abbrev pub selection_of : List ℕ → List ClipboardType
 selection_of text = map type_of (chars text)
 
--- a copy of these bytes to these places: one operating system command
+-- A copy of these bytes to these destinations: one operating system command.
 abbrev pub copy_functions : List ℕ → List ClipboardType → List Token
 copy_functions content types = Osc (codes "52;" ++ (selection_text types ++ (codes ";" ++ encode_of standard content))) St ∷ []
 
--- The letters are characters, as every `char` is, and none of them is ESC or bell, which would end the text.
+-- The letters are characters, as every `char` is. None of them is ESC or a bell, which would end the text.
 abbrev pub AreReadable : List ClipboardType → Type 0
 AreReadable types = (all_scalars (map char_of types) ≡ true) × AllByRecursion IsOscText (selection_text types)
 
@@ -42,26 +42,26 @@ CopiesRead = (content : List ℕ) (types : List ClipboardType) → AreReadable t
 
 -- ---- there and back
 
--- a place by its own name: `Other` with the letter of another place is that place
+-- A destination by its own name: `Other` with the letter of another one is that one.
 abbrev pub named : ClipboardType → ClipboardType
 named Clipboard = Clipboard
 named Primary = Primary
 named (Other c) = type_of c
 
--- a place that goes by its own name
+-- A destination that goes by its own name.
 abbrev pub IsNamed : ClipboardType → Type 0
 IsNamed Clipboard = ⊤
 IsNamed Primary = ⊤
 IsNamed (Other c) = (c ≢ 0x63) × (c ≢ 0x70)
 
--- Reading the text of places gives the places by their own names. Their letters are characters, as every `char` is.
+-- Reading the text of destinations gives them by their own names, if their letters are characters.
 abbrev pub ReadsBack : Type 0
 ReadsBack = (types : List ClipboardType) → all_scalars (map char_of types) ≡ true → selection_of (selection_text types) ≡ map named types
 
--- So it gives the very places where each goes by its own name.
+-- Reading the text of destinations gives them back, if each goes by its own name.
 abbrev pub ReadsSame : Type 0
 ReadsSame = (types : List ClipboardType) → all_scalars (map char_of types) ≡ true → AllByRecursion IsNamed types → selection_of (selection_text types) ≡ types
 
--- Writing the places of a text gives the text.
+-- Writing the destinations of a text gives the text.
 abbrev pub WritesBack : Type 0
 WritesBack = (text : List ℕ) → IsUtf8 text → selection_text (selection_of text) ≡ text

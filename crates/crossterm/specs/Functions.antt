@@ -1,4 +1,4 @@
--- What a terminal is told by each command, by the command's fields.
+-- The tokens that each command writes, by its fields.
 use Rattle.std.specs.Prelude.{◌≡◌, ℕ, ◌+◌, ⊤, List, Option, map, codes, string_bytes}
 use Rattle.std.specs.Str.{chars}
 use Rattle.std.specs.List.{AllByRecursion}
@@ -15,7 +15,7 @@ use Rattle.crossterm.specs.declared.command.any.AnyCommand.TheVariants as any
 use Rattle.crossterm.specs.Clipboard.{AreReadable, copy_functions}
 use Rattle.crossterm.specs.Sequences.{by, clear, cursor_style, disable_mouse, enable_mouse, move_to, push_flags, scroll, set_size, set_title}
 
--- what a terminal is told by a command
+-- The tokens that a command writes.
 abbrev pub functions : {A : Type 0} → ColorOutput → AnyCommand A → List Token
 functions colors (any.MoveTo c) = move_to c.0 c.1
 functions colors (any.MoveToColumn c) = by (c.0 + 1) "G"
@@ -64,7 +64,7 @@ functions colors (any.ResetColor c) = reset_functions
 functions colors (any.CopyToClipboard c) = copy_functions c.content.items c.destination.0.items
 functions colors (any.Print c) = map Char (chars (string_bytes c.0))
 
--- A printed text holds no escape; a title and the letters of a clipboard's places hold no escape and no bell.
+-- A printed text has no escape; a title and the letters of a clipboard's destinations have no escape and no bell.
 abbrev pub IsReadable : {A : Type 0} → AnyCommand A → Type 0
 IsReadable (any.SetTitle c) = AllByRecursion IsOscText (string_bytes c.0)
 IsReadable (any.PrintStyledContent c) = AllByRecursion IsPlain (chars (string_bytes c.0.content))
@@ -72,6 +72,6 @@ IsReadable (any.CopyToClipboard c) = AreReadable c.destination.0.items
 IsReadable (any.Print c) = AllByRecursion IsPlain (chars (string_bytes c.0))
 IsReadable c = ⊤
 
--- Known bytes grow by some that read as the tokens, and as no others.
+-- Known bytes grew by some that read as these tokens, and as no others.
 abbrev pub AppendsReading : Option (List ℕ) → Option (List ℕ) → List Token → Type 0
 AppendsReading old new ts = (bytes : List ℕ) × Appends old new bytes × Reads bytes ts × ((us : List Token) → Reads bytes us → us ≡ ts)

@@ -1,4 +1,4 @@
--- What commands do to the look, by their fields.
+-- What commands do to the look of the text, by their fields.
 use Rattle.std.specs.Prelude.{ℕ, List, [], ◌∷◌, Option, string_bytes}
 use Rattle.std.specs.Io.KnownBytes.{Appends}
 use Rattle.std.specs.Str.{chars}
@@ -13,7 +13,7 @@ use Rattle.crossterm_style.specs.Looks.{Style}
 use Rattle.crossterm.specs.declared.command.any.AnyCommand.{AnyCommand}
 use Rattle.crossterm.specs.declared.command.any.AnyCommand.TheVariants as any
 
--- what a command prints and sets; the others do nothing to the look
+-- What a command prints and sets; no other command changes the look.
 abbrev pub acts : {A : Type 0} → AnyCommand A → List Act
 acts (any.SetForegroundColor c) = Colors (ForegroundColor c.0) ∷ []
 acts (any.SetBackgroundColor c) = Colors (BackgroundColor c.0) ∷ []
@@ -27,6 +27,6 @@ acts (any.ResetColor c) = Takes Reset ∷ []
 acts (any.Print c) = Prints (chars (string_bytes c.0)) ∷ []
 acts c = []
 
--- Known bytes grow by some that read as tokens which, from any style, show as the acts paint.
+-- Known bytes grew by some that read as tokens; from any style, these show what the acts paint.
 abbrev pub AppendsShown : Option (List ℕ) → Option (List ℕ) → ColorOutput → List Act → Type 0
 AppendsShown old new colors all = (bytes : List ℕ) × Appends old new bytes × (ts : List Token) × Reads bytes ts × ((s : Style) → ShowsAs colors ts all s)

@@ -1,4 +1,4 @@
--- What is asked of a helper that runs `stty`, and what it answers: lines.
+-- What a helper that runs `stty` is asked, and what it answers: lines of text.
 use Rattle.std.specs.Prelude.{◌≡◌, ◌≢◌, ◌⊎◌, ℕ, List, [], ◌++◌, Option, Some, None, Ok, Err, codes}
 use Rattle.std.specs.Io.KnownBytes.{Appends, Consumes}
 use Rattle.std.specs.List.{AllByRecursion}
@@ -8,27 +8,31 @@ use Rattle.crossterm.specs.Sizes.{both, size_in}
 use Rattle.crossterm.specs.declared.terminal.size.WindowSize.{WindowSize}
 use Rattle.crossterm.specs.declared.terminal.sys.stty.SttyMode.{SttyMode}
 
--- The way to a helper: what it answers and is asked, the mode that it told last, and how often something failed.
+-- The way to a helper.
 pub record Stty (R W : Type 0) : Type 0 where
+  -- The reader of its answers.
   pub answers : R
+  -- The writer of its requests.
   pub requests : W
+  -- The mode that it answered last.
   pub mode : SttyMode
+  -- How often something failed.
   pub failures : ℕ
 
 -- A text, and the end of its line.
 abbrev pub line : List ℕ → List ℕ
 line text = text ++ codes "\n"
 
--- A request was written as a line and these bytes were read for it, as far as reader and writer say what they read and wrote.
+-- A request was written as a line, and these bytes were read for it, if reader and writer say what they read and wrote.
 abbrev pub Asks : {R W : Type 0} → (R → Option (List ℕ)) → (W → Option (List ℕ)) → List ℕ → List ℕ → Stty R W → Stty R W → Type 0
 Asks remaining contents request answer s t =
     Appends (contents s.requests) (contents t.requests) (line request) × Consumes (remaining s.answers) (remaining t.answers) answer
 
--- A mode as a helper tells it: neither nothing, nor the word for a refusal.
+-- A mode in an answer: neither the empty text nor the word for a refusal.
 abbrev pub IsMode : List ℕ → Type 0
 IsMode text = (text ≢ []) × (text ≢ codes "failed")
 
--- A request was written, and a mode was read for it: it's the one that stands.
+-- A request was written, and the mode that was read for it is the present one.
 abbrev pub AsksMode : {R W : Type 0} → (R → Option (List ℕ)) → (W → Option (List ℕ)) → List ℕ → Stty R W → Stty R W → Type 0
 AsksMode remaining contents request s t = Asks remaining contents request (line t.mode.text.bytes) s t × IsMode t.mode.text.bytes
 
@@ -44,33 +48,33 @@ ReadsNoLine old new = (bytes : List ℕ) × Consumes old new bytes × HasNoEnd b
 abbrev pub ReadsNoMode : Option (List ℕ) → Option (List ℕ) → Type 0
 ReadsNoMode old new = ReadsNoLine old new ⊎ ((text : List ℕ) × Consumes old new (line text) × (IsMode text → ⊥))
 
--- No line was read, or the first of two alone, or two that are no size.
+-- No line was read, only the first of two, or two that are no size.
 abbrev pub ReadsNoSize : Option (List ℕ) → Option (List ℕ) → Type 0
 ReadsNoSize old new =
     ReadsNoLine old new ⊎ ((rows : List ℕ) × (bytes : List ℕ) × Consumes old new (line rows ++ bytes) × HasNoEnd bytes)
     ⊎ ((rows : List ℕ) × (columns : List ℕ) × Consumes old new (line rows ++ line columns) × (both (size_in columns) (size_in rows) ≡ None))
 
--- A beginning of a request was written, or all of it, and no mode was read for it: the mode before stands.
+-- The request, or a beginning of it, was written, and no mode was read for it. The mode is as before.
 abbrev pub Unanswered : {R W : Type 0} → (R → Option (List ℕ)) → (W → Option (List ℕ)) → List ℕ → Stty R W → Stty R W → Type 0
 Unanswered remaining contents request s t =
     AppendsFront (contents s.requests) (contents t.requests) (line request) × ReadsNoMode (remaining s.answers) (remaining t.answers) × (t.mode ≡ s.mode)
 
--- The same of a size.
+-- The request for a size, or a beginning of it, was written, and no size was read for it. The mode is as before.
 abbrev pub AsksNoSize : {R W : Type 0} → (R → Option (List ℕ)) → (W → Option (List ℕ)) → Stty R W → Stty R W → Type 0
 AsksNoSize remaining contents s t =
     AppendsFront (contents s.requests) (contents t.requests) (line (codes "size")) × ReadsNoSize (remaining s.answers) (remaining t.answers) × (t.mode ≡ s.mode)
 
--- A size was asked for, and is that of the two lines that answered: rows, and columns. Pixels aren't told.
+-- A size was asked for. It is that of the two lines that answered, rows and columns; pixels are 0.
 abbrev pub AsksSize : {R W : Type 0} → (R → Option (List ℕ)) → (W → Option (List ℕ)) → Stty R W → WindowSize → Stty R W → Type 0
 AsksSize remaining contents s size t = (rows : List ℕ) × (columns : List ℕ) × Asks remaining contents (codes "size") (line rows ++ line columns) s t
     × (both (size_in columns) (size_in rows) ≡ Some (size.columns, size.rows)) × (size.width ≡ 0) × (size.height ≡ 0)
 
--- The request for a mode.
+-- The request to set a mode.
 abbrev pub set_request : SttyMode → List ℕ
 set_request mode = codes "set " ++ mode.text.bytes
 
--- A call, by what is asked of the helper and read from it. The mode that stands isn't asked for. A mode that is to be set and another that is told for it
--- are a refusal, and the other one stands.
+-- A call of the device, by what the helper was asked and what was read from it. The present mode isn't asked for. If
+-- another mode is read than the one to be set, that is an error, and the other one is present.
 abbrev pub stty_answered : {R W : Type 0} → (R → Option (List ℕ)) → (W → Option (List ℕ)) → Stty R W → ModeCall SttyMode → Stty R W → Type 0
 stty_answered remaining contents s (Tells (Ok mode)) t = (mode ≡ s.mode) × (t ≡ s)
 stty_answered remaining contents s (Tells (Err e)) t = ⊥

@@ -21,15 +21,15 @@
 //! | Definitions | Lines | Of | Contract |
 //! |---|---|---|---|
 //! | `Clipboard` | 67 | places of a copy, and what a copy writes | `CopyToClipboard` |
-//! | `Sequences` | 66 | what commands that have fields write | `Command::text` of each |
+//! | `Sequences` | 71 | what commands that have fields write | `Command::text` of each |
 //! | `Functions` | 77 | the same of all commands, by their fields | `write_commands`, `queue_all` |
 //! | `Painted` | 32 | what they do to the look | `write_commands`, `queue_all` (`shown`) |
 //! | `Updates` | 17 | an update that a terminal shows at once | `SynchronizedUpdate::sync_update` |
-//! | `Modes` | 71 | a terminal's modes and its size | `Terminal::{enable_raw_mode, disable_raw_mode, window_size, size}` |
+//! | `Modes` | 78 | a terminal's modes and its size | `Terminal::{enable_raw_mode, disable_raw_mode, window_size, size}` |
 //! | `Sizes` | 31 | sizes as `tput` writes them | `tput_value` |
-//! | `Stty` | 83 | a helper that runs `stty` | `SttyDevice` |
-//! | `Asking` | 36 | queries, and raw mode around them | `cursor::position`, `terminal::query_keyboard_enhancement_flags` |
-//! | `Values` | 14 | what is cleared, as JSON and in its order | `ClearType`; `laws::declared_order` |
+//! | `Stty` | 87 | a helper that runs `stty` | `SttyDevice` |
+//! | `Asking` | 40 | queries, and raw mode around them | `cursor::position`, `terminal::query_keyboard_enhancement_flags` |
+//! | `Values` | 15 | what is cleared, as JSON and in its order | `ClearType`; `laws::declared_order` |
 //!
 //! Crates above cite the lemmas of `Clipboards`, `StyleReadings`.
 //!

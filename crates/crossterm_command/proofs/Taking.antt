@@ -53,7 +53,7 @@ module _ {W N E : Type 0} (name : W → N) (held : W → Option (List ℕ)) (fau
   took_text w None v f is p = tt
   took_text w (Some bs) v f is p = subst (λ g. (name v ≡ name w) × Takes (held w) (fault w) bs (held v) g) is (took_whole w bs v (in_calls Took w bs v p))
 
--- where a fact follows for the text that is there
+-- if a fact follows for the text that is there
 pub if_some_weaken : (o : Option (List ℕ)) (P Q : List ℕ → Type 0) → ((bs : List ℕ) → P bs → Q bs) → IfSome o P → IfSome o Q
 if_some_weaken None P Q k x = tt
 if_some_weaken (Some a) P Q k x = k a x

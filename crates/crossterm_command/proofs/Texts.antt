@@ -34,7 +34,7 @@ module _ {W : Type 0} (took : W → List ℕ → W → Type 0) where
   text_in_calls w None v p = tt
   text_in_calls w (Some bs) v p = in_calls w bs v p
 
-  -- the same where a call was Ok
+  -- the same if a call was Ok
   pub ok_in_calls : (r : Result (Unit {0}) Error) (w : W) (o : Option (List ℕ)) (v : W) → OnOk r (Writes took w o v) → OnOk r (WritesText took w o v)
   ok_in_calls (Ok x) w o v p = text_in_calls w o v p
   ok_in_calls (Err e) w o v p = tt
@@ -56,13 +56,13 @@ module _ {W : Type 0} (took : W → List ℕ → W → Type 0) where
   pub tells_both : (w : W) (ts : List Token) (v : W) (us : List Token) (u : W) → WritesInCalls took w (text_of ts) v → WritesInCalls took v (text_of us) u → WritesInCalls took w (text_of (ts ++ us)) u
   tells_both w ts v us u p q = subst (λ l. WritesInCalls took w l u) (sym (text_joined ts us)) (writes_both w (text_of ts) v (text_of us) u p q)
 
-  -- the same where either may say nothing
+  -- the same if either may say nothing
   pub text_of_both : (w : W) (o : Option (List ℕ)) (v : W) (p : Option (List ℕ)) (u : W) → WritesText took w o v → WritesText took v p u → WritesText took w (option_append o p) u
   text_of_both w None v p u x y = tt
   text_of_both w (Some a) v None u x y = tt
   text_of_both w (Some a) v (Some b) u x y = writes_both w a v b u x y
 
-  -- a text was written, and after it another where a call was Ok
+  -- a text was written, and after it another if a call was Ok
   pub ok_both : (r : Result (Unit {0}) Error) (w : W) (o : Option (List ℕ)) (v : W) (p : Option (List ℕ)) (u : W) → Writes took w o v → OnOk r (Writes took v p u)
       → OnOk r (Writes took w (option_append o p) u)
   ok_both (Ok x) w o v p u first last = text_writes w (option_append o p) u (text_of_both w o v p u (text_in_calls w o v first) (text_in_calls v p u last))

@@ -4,25 +4,27 @@ use Prim.Native.String.{String}
 use Rattle.crossterm_command.specs.Tokens.{Token}
 use Rattle.crossterm_command.specs.Tokens.Token.{Csi, Private}
 
+-- The first code of a text; 0 of an empty one.
 abbrev first_of : List ℕ → ℕ
 first_of [] = 0
 first_of (c ∷ cs) = c
 
--- the code of a letter
+-- The code of a letter.
 abbrev pub letter : String → ℕ
 letter text = first_of (codes text)
 
--- a control sequence without intermediate bytes: its parameters and its final letter
+-- A control sequence of these parameters and this final letter, without intermediate bytes.
 abbrev pub control : List ℕ → String → List Token
 control parameters final = Csi parameters [] (letter final) ∷ []
 
--- sets a private mode of the terminal, and resets it
+-- Sets a private mode of the terminal: `ESC [ ? mode h`.
 abbrev pub set : String → List Token
 set mode = control (codes "?" ++ codes mode) "h"
 
+-- Resets a private mode of the terminal: `ESC [ ? mode l`.
 abbrev pub reset : String → List Token
 reset mode = control (codes "?" ++ codes mode) "l"
 
--- a private function, by its byte
+-- A private function: ESC and this byte.
 abbrev pub private : String → List Token
 private text = Private (letter text) ∷ []

@@ -15,9 +15,9 @@
 //!
 //! | Definitions | Lines | Of | Contract |
 //! |---|---|---|---|
-//! | `Tokens` | 82 | how a terminal reads bytes | `laws::one_reading` |
-//! | `Controls` | 28 | control sequences by parameters and a letter | |
-//! | `Writing` | 37 | what a writer's bytes grow by | `write_text`, `write_command`, `queue`, `execute` and the like |
+//! | `Tokens` | 85 | how a terminal reads bytes | `laws::one_reading` |
+//! | `Controls` | 30 | control sequences by parameters and a letter | |
+//! | `Writing` | 39 | what a writer's bytes grow by | `write_text`, `write_command`, `queue`, `execute` and the like |
 //! | `Faults` | 29 | why a command was stopped, and what was written | `CommandFault`, `send_command` |
 //! | `Environment` | 8 | values of environment variables | `ColorOutput::from_no_color` |
 //!

@@ -9,7 +9,7 @@ use Rattle.bitflags.specs.Sets.{Row}
 use Rattle.bitflags.proofs.Tables.{row-at}
 use Rattle.crossterm_flags.specs.Names.{names_in}
 
--- what stands before the next name
+-- what is before the next name
 abbrev pub separator_after : List (List ℕ) → List ℕ
 separator_after [] = []
 separator_after (name ∷ names) = 43 ∷ []
@@ -45,13 +45,13 @@ module _ {X : Type 0} (view : X → Row) (flags : List X) (table : List Row) (pl
   names-more : (bit_and bits row.1 == row.1) ≡ true → names_in (take (place + 1) table) bits ≡ names_in (take place table) bits ++ row.0 ∷ []
   names-more is = rw is at more
 
-  -- a name whose bit is set: the text grows by it, after what stands before it
+  -- a name whose bit is set: the text grows by it, after what is before it
   pub text-more : (separator : List ℕ) → separator ≡ separator_after (names_in (take place table) bits) → (bit_and bits row.1 == row.1) ≡ true
       → join_with_byte 43 (names_in (take place table) bits) ++ (separator ++ row.0) ≡ join_with_byte 43 (names_in (take (place + 1) table) bits)
   text-more separator before is =
       let names = names_in (take place table) bits in
       ap (λ s. join_with_byte 43 names ++ (s ++ row.0)) before ∙ sym (ap (join_with_byte 43) (names-more is) ∙ join-more names row.0)
 
-  -- and `+` stands before the next
+  -- and `+` is before the next
   pub plus-after : (bit_and bits row.1 == row.1) ≡ true → separator_after (names_in (take (place + 1) table) bits) ≡ 43 ∷ []
   plus-after is = ap separator_after (names-more is) ∙ separator-more (names_in (take place table) bits) row.0

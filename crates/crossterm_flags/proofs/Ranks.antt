@@ -80,7 +80,7 @@ each_choice (Fs ∷ Fss) P all (inr c) = each_choice Fss (λ c. P (inr c)) all.1
 pub of_each : (N : Record) (P : N.D → Type 0) → AtEach N.parts (λ c. P (N.make c)) → (x : N.D) → P x
 of_each N P all x = subst P (N.eta x) (each_choice N.parts (λ c. P (N.make c)) all (N.as_values x))
 
--- Where a type's comparisons agree and one goes by an order, both do.
+-- If a type's comparisons agree and one goes by an order, both do.
 pub compares : {T : Type 0} {order cmp : T → T → Ordering} {partial : T → T → Option Ordering} → Agrees partial cmp → ((a b : T) → cmp a b ≡ order a b)
     → ComparesBy order cmp partial
 compares agrees is = (is, λ a b. agrees a b ∙ ap Some (is a b))

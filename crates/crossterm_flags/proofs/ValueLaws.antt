@@ -1,4 +1,4 @@
--- Values that are told are read back.
+-- Values that are written are read back.
 use Rattle.std.proofs.Common.{◌≡◌, Option, Some, ap, ◌∙◌}
 use Rattle.std.specs.Prelude.{IfOk}
 use Rattle.std.specs.declared.result.Result.{Result}
@@ -9,7 +9,7 @@ use Rattle.serde_json.specs.declared.value.Value.{Value}
 use Rattle.crossterm_flags.specs.Values.{Tells}
 use Rattle.crossterm_flags.specs.declared.value.ValueFault.{ValueFault}
 
--- What is told and reads back comes out as something that reads back.
+-- If a value reads back, so does the result that wrote it.
 pub told_back : {X : Type 0} (reads : Data → Option X) (d : Data) (x : X) (result : Result Value ValueFault) → Tells d result → reads d ≡ Some x → IfOk result (λ v. reads (view v) ≡ Some x)
 told_back reads d x (Ok v) told h = ap reads told ∙ h
 told_back reads d x (Err fault) told h = tt

@@ -1,4 +1,4 @@
--- What the comparisons of a type answer.
+-- What the comparisons of a type return.
 use Rattle.std.specs.Prelude.{◌≡◌, Option}
 use Rattle.std.specs.Cmp.{Agrees}
 use Rattle.std.specs.declared.cmp.Ordering.{Ordering}

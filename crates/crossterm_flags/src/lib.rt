@@ -21,9 +21,9 @@
 //! | `Bits` | 30 | sets of bits as numbers, by a table of named constants | each method of the three types |
 //! | `Tables` | 28 | the constants of each type | the same |
 //! | `Names` | 17 | the text of a key's modifiers | `Display` of `KeyModifiers` |
-//! | `Variants` | 58 | an enum's variants by one table of names | |
+//! | `Variants` | 61 | an enum's variants by one table of names | |
 //! | `Orders` | 8 | what a type's comparisons answer | `laws` of the crates above |
-//! | `Values` | 66 | values as JSON | `to_value` and `from_value` of each |
+//! | `Values` | 70 | values as JSON | `to_value` and `from_value` of each |
 //!
 //! Crates above cite the lemmas of `Ranks`.
 //!

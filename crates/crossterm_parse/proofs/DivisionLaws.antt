@@ -19,7 +19,7 @@ two_fronts {X} (x ∷ p) (y ∷ q) a b e =
       | inr w ↦ inr (w.0, let h : p ≡ q ++ w.0 = w.1 in cc)
     ]
 
--- a whole list that stands at the front of an undecided one can't be
+-- no front of an undecided list is whole
 pub not_front : {X : Type 0} (W : List X → Type 0) (p a rest : List X) → rest ≡ p ++ a → W p → IsUndecided W rest → ⊥
 not_front W p a rest e w h = h (length p) (subst W (sym (ap (take (length p)) e ∙ take-append-le (length p) p a (omega arith) ∙ take_all (length p) p (omega arith))) w)
 

@@ -13,7 +13,7 @@ pub true_nil : (bs : List ℕ) → is_nil bs ≡ true → bs ≡ []
 true_nil [] h = refl
 true_nil (b ∷ bs) h = absurd (false≢true h)
 
--- The test tells which bytes end nothing.
+-- The test is false of exactly the bytes that end nothing.
 pub record Tells (N : ℕ → Type 0) (test : ℕ → Bool) : Type 0 where
   pub fails : (b : ℕ) → N b → test b ≡ false
   pub none : (b : ℕ) → test b ≡ false → N b
@@ -26,7 +26,7 @@ pub not_ended : (N : ℕ → Type 0) (test : ℕ → Bool) → Tells N test → 
 not_ended N test t [] b h l = rw l
 not_ended N test t (c ∷ w) b h l = rw (t.fails c h.0) (not_ended N test t w b h.1 l)
 
--- what stands before the first end, and that end
+-- what is before the first end, and that end
 pub record Ends (N : ℕ → Type 0) (test : ℕ → Bool) (bs : List ℕ) : Type 0 where
   pub before : List ℕ
   pub last : ℕ
@@ -51,7 +51,7 @@ nil_closes [] [] h l = refl
 nil_closes [] (b ∷ x) h l = absurd (false≢true l)
 nil_closes (b ∷ a) x h l = absurd (false≢true h)
 
--- where a test of the first byte chooses how to go on
+-- if a test of the first byte chooses how to go on
 pub choice_closes : (t : Bool) (p q : List ℕ → Bool) → Closes p → Closes q → Closes (λ bs. cond t (p bs) (q bs))
 choice_closes true p q cp cq a x h l = cp a x h l
 choice_closes false p q cp cq a x h l = cq a x h l

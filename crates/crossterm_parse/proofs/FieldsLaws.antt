@@ -151,7 +151,7 @@ in_fields k fields = option_and_then number (nth k fields)
 abbrev pub in_parts : ℕ → ℕ → List (List ℕ) → Option ℕ
 in_parts k j fields = option_and_then (λ field. option_and_then number (nth j (cut (byte ":") field))) (nth k fields)
 
--- what three fields tell is what stands in the text
+-- what three fields read is what is in the text
 pub record Numbers (f : Fields) (fields : List (List ℕ)) : Type 0 where
   pub first : reading (whole_of f.first) ≡ in_fields 0 fields
   pub second : reading (whole_of f.second) ≡ in_fields 1 fields
@@ -173,7 +173,7 @@ of_three f x y z more first second third = record {
   kind = second_part f.second (cut (byte ":") y) second.1;
 }
 
--- What was read of a text is what stands in it.
+-- What was read of a text is what is in it.
 pub numbers_of : (f : Fields) (fields : List (List ℕ)) → ReadsFields f fields → Numbers f fields
 numbers_of f [] r = absurd r
 numbers_of f (x ∷ []) r = record {

@@ -226,7 +226,7 @@ x10_shape [] h = absurd (false≢true h)
 x10_shape (a ∷ []) h = absurd (false≢true h)
 x10_shape (a ∷ b ∷ bs) h = let one = true_one bs h in x10 a b one.0 (ap (λ (ys : List ℕ). 27 ∷ 91 ∷ 77 ∷ a ∷ b ∷ ys) one.1)
 
--- where the first byte is none of those, a digit or another
+-- if the first byte is none of those: a digit or another
 true_other : (b : ℕ) (bs : List ℕ) → b ≢ 91 → b ≢ 77 → b ≢ 60 → b ≢ 63 → cond (is_digit b) (ends_digit (b ∷ bs)) (is_nil bs) ≡ true → Shape (27 ∷ 91 ∷ b ∷ bs)
 true_other b bs n m k l h = elim (chosen (is_digit b) (ends_digit (b ∷ bs)) (is_nil bs) true h) [
   | inl u ↦ digit_shape b bs (true_within b u.0) u.1

@@ -135,7 +135,7 @@ meaning_numbered raw d bs h = let t = digit_apart d h in rw (t.0, t.1, t.2, t.3,
 decided_numbered : (d : ℕ) (bs : List ℕ) (pause : Bool) → IsDigit d → is_decided (27 ∷ 91 ∷ d ∷ bs) pause ≡ ends_digit (d ∷ bs)
 decided_numbered d bs pause h = let t = digit_apart d h in rw (t.0, t.1, t.2, t.3, t.4) refl
 
--- what was read is what stands in the text
+-- what was read is what is in the text
 pub kept_readings : (d : Parameters) (text : List ℕ) → Kept d text → readings_at d ≡ readings_of text
 kept_readings d text k =
     let n = numbers_of d.fields (cut 59 text) k.reads in
@@ -175,7 +175,7 @@ kept_means by d text b k = ap (λ (r : Readings). by b r) (kept_readings d text 
 not_tilde : (b : ℕ) → is_final b ≡ false → (b == 126) ≡ false
 not_tilde b h = grind (arith, nat_tests)
 
--- no paste is opened, where the byte isn't the last one of what opens it
+-- no paste is opened if the byte isn't the last one of what opens it
 opens_none : (o : Opening) (text : List ℕ) (b : ℕ) → IsOpening o text → (o ≡ opening.Zeros → (b == 126) ≡ false) → begins paste_mark (text ++ b ∷ []) ≡ false
 opens_none opening.Two text b e h = rw e
 opens_none opening.Zero text b e h = rw e
@@ -265,7 +265,7 @@ x10_right x10.Empty bytes b raw pause e = rw e (refl, refl)
 x10_right (x10.Code x) bytes b raw pause e = rw e (refl, refl)
 x10_right (x10.Column x y) bytes b raw pause e = rw e (refl, refl, third_apart 77 (x ∷ y ∷ b ∷ []) refl)
 
--- the last byte, and what stands before it
+-- the last byte, and what is before it
 pub last_at : (bytes : List ℕ) → 0 < length bytes → last_of bytes ≡ get_or bytes (length bytes - 1) 0
 last_at [] h = absurd (omega arith)
 last_at (b ∷ []) h = refl

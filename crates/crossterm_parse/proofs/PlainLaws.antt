@@ -64,7 +64,7 @@ last_any : (bs : List ℕ) (l v : ℕ) → number_through Empty bs ≡ Value v �
 last_any [] l v value = cc
 last_any (b ∷ bs) l v value = refl
 
--- ---- where a number stands
+-- ---- the place of a number
 
 -- digits there are read into it
 abbrev pub ReadsDigits : (Number → Fields) → Type 0

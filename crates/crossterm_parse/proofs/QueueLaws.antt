@@ -22,7 +22,7 @@ nothing : (events : List Seen) → length events ≡ 0 → events ≡ []
 nothing [] none = refl
 nothing (e ∷ es) none = absurd (omega (arith, none))
 
--- letters behind typed characters, where no other event waits
+-- letters behind typed characters, if no other event waits
 pub letters_behind : (ts letters : List ℕ) (events : List Seen) → length events ≡ 0
     → map typed_seen (ts ++ letters) ++ events ≡ (map typed_seen ts ++ events) ++ map seen_meaning (map typed letters)
 letters_behind ts letters events none =

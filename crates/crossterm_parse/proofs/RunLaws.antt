@@ -52,7 +52,7 @@ take_join (suc i) n (b ∷ bs) =
     let more : suc (i + n) ≡ suc i + n = omega arith in
     ap (λ (t : List ℕ). b ∷ t) (take_join i n bs) ∙ ap (λ (m : ℕ). take m (b ∷ bs)) more
 
--- bytes after which pauses may stand are bytes after which none need to
+-- if bytes may have pauses behind them, they may have none
 pub all_on : (raw : Bool) (bs : List ℕ) (old new : ParserView) → PutsAll old new bs → PutsOn raw old new bs
 all_on raw [] old new all = all
 all_on raw (b ∷ bs) old new all = (all.0, (λ pause last. all.1 raw pause), all_on raw bs all.0 new all.2)
@@ -95,7 +95,7 @@ paste_run (b ∷ bs) old new none is state text waiting =
     let mid : ParserView = record { waiting = old.waiting; state = old.state; text = old.text ++ b ∷ []; typed = old.typed; room = old.room } in
     (mid, (λ raw pause. plain_byte old b raw pause none.0 is), paste_run bs mid new none.1 is state (text ∙ sym (append_assoc old.text (b ∷ []) bs)) waiting)
 
--- where ESC stands at no place below n, none of the first n bytes is one
+-- if ESC is at no index below n, none of the first n bytes is one
 pub none_is : (bs : List ℕ) (n : ℕ) → Nowhere (Passes (is_byte 27) bs) 0 n → AllByRecursion (λ b. b == 27 ≡ false) (take n bs)
 none_is bs zero f = tt
 none_is [] (suc n) f = tt
@@ -204,7 +204,7 @@ idle_report p b low high sound same raw pause =
     let same = ap (λ (q : Parameters). Open (Sgr q)) (idle_after p b high sound same) in
     rw on same
 
--- ESC and a byte that stands with it
+-- ESC and the byte behind it
 escape_byte : (old : ParserView) (bs : List ℕ) (raw pause : Bool) → 0 < length bs → (pause ≡ true → length bs ≡ 0) → old.state ≡ Ground
     → PutsByte old (record { waiting = old.waiting; state = Escape; text = old.text; typed = old.typed; room = old.room }) 27 raw pause
 escape_byte old bs raw true some last ground = absurd (omega (arith, some, last refl))
@@ -246,7 +246,7 @@ whole_on raw state b (Some m) w whole pause = (
   sym (ap (λ (s : Step). w ++ events_left s []) (whole pause)),
 )
 
--- what is whole in front of a piece, where no sequence is open
+-- what is whole in front of a piece, if no sequence is open
 pub front_on : (old : ParserView) (bs : List ℕ) (m : Meaning) (raw more : Bool) (n : ℕ) → old.state ≡ Ground → n ≤ length bs
     → ((w : List Seen) → PutsOn raw (bare Ground w) (bare Ground (w ++ seen_meaning m ∷ [])) (take n bs))
     → AdvancesOver old (record old { waiting = old.waiting ++ seen_meaning m ∷ [] }) (take n (marked bs more raw))

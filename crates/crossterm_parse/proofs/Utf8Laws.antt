@@ -181,7 +181,7 @@ front_alone (Three a b c) f = (three_alone a b c (leads a (omega (arith, f.0)) f
 no_utf8 : (text : List ℕ) → (IsUtf8 text → ⊥) → is_utf8 text ≡ false
 no_utf8 text n = elim (cases_Bool (is_utf8 text)) [ inl t ↦ absurd (n (IsUtf8-from_is_utf8 text t)) | inr f ↦ f ]
 
--- What the state tells of a text that is over.
+-- What the validity says of a text that is over.
 pub utf8_is : (text : List ℕ) (v : Validity) → TracksUtf8 text v → is_sound v ≡ is_utf8 text
 utf8_is text Sound t = sym (is_utf8-from_IsUtf8 text t)
 utf8_is text (Partial begun) t = let a = front_alone begun t.3 in sym (no_utf8 text (λ u. spoiled t.0 (begun_bytes begun) t.1 a.1 a.0 (subst IsUtf8 t.2 u)))

@@ -414,7 +414,7 @@ not_pasting mid rest more others last s u d none h = elim (cases_Bool (is_paste 
   | inr f ↦ f
 ]
 
--- a byte of a piece that ends no event gives none, and stands in no paste
+-- a byte of a piece that ends no event gives none, and is in no paste
 pub byte_quiet : (old mid : ParserView) (piece : List ℕ) (more raw : Bool) (i b : ℕ) (pause : Bool) → i < length piece
     → b ≡ get_or piece i 0 → pause ≡ not more && (i + 1 == length piece)
     → AdvancesOver old mid (take i (marked piece more raw))
@@ -455,7 +455,7 @@ byte_rests mid piece more raw i b pause l is_byte is_pause q =
     let same : m ∷ [] ≡ marked (b ∷ []) (not pause) raw = ap (λ (p : Bool). at b raw p ∷ []) (twice_not pause ∙ sym (and_true_right (not (not pause)))) in
     byte_quiet mid mid (b ∷ []) (not pause) raw 0 b pause (omega arith) refl (twice_not pause) (advance_none mid) (subst (EndsNoEvent mid) (one ∙ same) q)
 
--- a byte of a piece that opens no paste stands in none
+-- a byte of a piece that opens no paste is in none
 pub byte_free : (old mid : ParserView) (ms : List Marked) (i : ℕ) → AdvancesOver old mid (take i ms) → OpensNoPaste old ms → is_paste mid.state ≡ false
 byte_free old mid ms i first q =
     let taken = take i ms in

@@ -12,16 +12,19 @@ use Rattle.crossterm_types.specs.declared.event.key.ModifierKeyCode.TheVariants 
 use Rattle.crossterm_parse.specs.Bytes.{DEL, ESC}
 use Rattle.crossterm_parse.specs.declared.functional.FunctionalKey.{FunctionalKey}
 
--- A key of the final `u`, alone, with modifiers, on the keypad.
+-- A key without modifiers and without a state.
 abbrev pub plain_key : KeyCode → FunctionalKey
 plain_key code = record { code = code; modifiers = modifiers_of 0; state = record { 0 = 0 } }
 
+-- A key of the keypad, without modifiers.
 abbrev pub keypad_key : KeyCode → FunctionalKey
 keypad_key code = record { code = code; modifiers = modifiers_of 0; state = record { 0 = 1 } }
 
+-- A modifier key, which adds these modifiers.
 abbrev pub modifier_key : ModifierKeyCode → ℕ → FunctionalKey
 modifier_key code bits = record { code = key.Modifier code; modifiers = modifiers_of bits; state = record { 0 = 0 } }
 
+-- The keys of 57358 to 57363: the locks, PrintScreen, Pause and Menu.
 abbrev pub lock_code : ℕ → KeyCode
 lock_code n =
     if n == 57358 then key.CapsLock else
@@ -31,6 +34,7 @@ lock_code n =
     if n == 57362 then key.Pause else
     key.Menu
 
+-- The keys of the keypad: 57399 to 57427.
 abbrev pub keypad_code : ℕ → KeyCode
 keypad_code n =
     if nat_le n 57408 then key.Char (n - 57399 + byte "0") else
@@ -54,6 +58,7 @@ keypad_code n =
     if n == 57426 then key.Delete else
     key.KeypadBegin
 
+-- The media keys: 57428 to 57440.
 abbrev pub media_code : ℕ → MediaKeyCode
 media_code n =
     if n == 57428 then media.Play else
@@ -70,7 +75,7 @@ media_code n =
     if n == 57439 then media.RaiseVolume else
     media.MuteVolume
 
--- The modifier keys add their modifier, but IsoLevel3Shift and IsoLevel5Shift, which are no Shift keys.
+-- The modifier keys, 57441 to 57454. Each adds its modifier, but IsoLevel3Shift and IsoLevel5Shift add none.
 abbrev pub modifier_code : ℕ → FunctionalKey
 modifier_code n =
     if n == 57441 then modifier_key modifier.LeftShift 1 else
@@ -88,11 +93,11 @@ modifier_code n =
     if n == 57453 then modifier_key modifier.IsoLevel3Shift 0 else
     modifier_key modifier.IsoLevel5Shift 0
 
--- A code point that is a character (Unicode scalar value).
+-- A code point if it is a character (a Unicode scalar value), else nothing.
 abbrev pub char_of : ℕ → Option ℕ
 char_of n = if nat_lt n 0xD800 || (nat_le 0xE000 n && nat_le n 0x10FFFF) then Some n else None
 
--- The keys that are sent as their character, and plain characters.
+-- The key of a code point that is no functional key: Esc, Enter, Backspace, Tab, or the character.
 abbrev pub text_code : Bool → Bool → ℕ → Option KeyCode
 text_code raw shift n =
     if n == ESC then Some key.Esc else
@@ -102,7 +107,7 @@ text_code raw shift n =
     if n == byte "\t" then Some (if shift then key.BackTab else key.Tab) else
     option_map key.Char (char_of n)
 
--- The key of a code point: kitty's functional keys in the private use area, else a character.
+-- The key of a code point: a functional key of kitty's in the private use area, or that of a character.
 abbrev pub functional_key : Bool → Bool → ℕ → Option FunctionalKey
 functional_key raw shift n =
     if nat_le 57358 n && nat_le n 57363 then Some (plain_key (lock_code n)) else

@@ -4,7 +4,7 @@ use Rattle.std.specs.Str.{byte}
 use Rattle.crossterm_types.specs.declared.event.key.KeyCode.{KeyCode}
 use Rattle.crossterm_types.specs.declared.event.key.KeyCode.TheVariants.{Left, Right, Up, Down, Home, End, F}
 
--- The key of a final letter, which `ESC O b`, `ESC [ b` and a numbered sequence have in common.
+-- The key of a final letter after `ESC O`, `ESC [` or a number; nothing for other bytes.
 abbrev pub letter_key : ℕ → Option KeyCode
 letter_key b =
     if b == byte "A" then Some Up else

@@ -19,17 +19,18 @@ use Rattle.crossterm_parse.specs.declared.mouse.X10Report.TheVariants as x10
 use Rattle.crossterm_parse.specs.declared.paste.Met.TheVariants as met
 use Rattle.crossterm_parse.specs.declared.paste.Opening.TheVariants as opening
 
--- whether a paste is open
+-- True if a paste is open.
 abbrev pub is_paste : State → Bool
 is_paste (Paste m) = true
 is_paste _ = false
 
+-- The bytes of an open report that came after `ESC [ M`.
 abbrev pub x10_bytes : X10Report → List ℕ
 x10_bytes x10.Empty = []
 x10_bytes (x10.Code a) = a ∷ []
 x10_bytes (x10.Column a b) = a ∷ b ∷ []
 
--- how far the end of a paste is met
+-- The bytes of a paste's end that were met.
 abbrev pub met_bytes : Met → List ℕ
 met_bytes met.Nothing = []
 met_bytes met.Escape = ESC ∷ []
@@ -38,16 +39,17 @@ met_bytes met.Two = ESC ∷ byte "[" ∷ byte "2" ∷ []
 met_bytes met.Zero = ESC ∷ byte "[" ∷ byte "2" ∷ byte "0" ∷ []
 met_bytes met.One = ESC ∷ byte "[" ∷ byte "2" ∷ byte "0" ∷ byte "1" ∷ []
 
+-- The bytes, with an ESC in front if `escaped`.
 abbrev pub prefixed : Bool → List ℕ → List ℕ
 prefixed escaped bytes = if escaped then ESC ∷ bytes else bytes
 
--- they lead a character that isn't over
+-- The bytes begin a character that needs more of them.
 abbrev pub IsBegun : Begun → Type 0
 IsBegun (One a) = IsLead a
 IsBegun (Two a b) = IsLead a × IsContinuing b × (0 < further_after a)
 IsBegun (Three a b c) = IsLead a × IsContinuing b × IsContinuing c × (1 < further_after a)
 
--- A reply that is open: its first byte after `?`, what came after it, and the number that all of these are, or none.
+-- A reply that is open: its bytes after `?`, of which none ends it, and the number that they are so far.
 pub record OpenReply (n : Number) (bytes : List ℕ) : Type 0 where
   pub first : ℕ
   pub more : List ℕ
@@ -55,21 +57,21 @@ pub record OpenReply (n : Number) (bytes : List ℕ) : Type 0 where
   pub no_end : HasNoEnd (first ∷ more)
   pub tracks : Tracks (first ∷ more) n
 
--- A report of the mouse that is open: what came after `ESC [ <`.
+-- A mouse report that is open: its bytes after `ESC [ <`, of which none ends it.
 pub record OpenMouse (d : Parameters) (bytes : List ℕ) : Type 0 where
   pub more : List ℕ
   pub is : bytes ≡ ESC ∷ byte "[" ∷ byte "<" ∷ more
   pub no_end : AllByRecursion EndsNoMouse more
   pub kept : Kept d more
 
--- Whether a text may still be what opens a paste.
+-- How much of `200~` a text is; `Not` says that neither it nor any longer text begins with that.
 abbrev pub IsOpening : Opening → List ℕ → Type 0
 IsOpening opening.Two text = text ≡ byte "2" ∷ []
 IsOpening opening.Zero text = text ≡ byte "2" ∷ byte "0" ∷ []
 IsOpening opening.Zeros text = text ≡ byte "2" ∷ byte "0" ∷ byte "0" ∷ []
 IsOpening opening.Not text = (more : List ℕ) → begins paste_mark (text ++ more) ≡ false
 
--- A paste that is open: its text ends as far as the end is met, and goes on as that alone would.
+-- A paste that is open. Which bytes end it depends only on how much of its end was met.
 pub record OpenPaste (m : Met) (bytes : List ℕ) : Type 0 where
   pub text : List ℕ
   pub is : bytes ≡ paste_start ++ text
@@ -77,7 +79,7 @@ pub record OpenPaste (m : Met) (bytes : List ℕ) : Type 0 where
   pub ends : text ≡ before ++ met_bytes m
   pub alike : (more : List ℕ) → ends_paste (text ++ more) ≡ ends_paste (met_bytes m ++ more)
 
--- A numbered sequence that is open: its first digit, and what came after it.
+-- A numbered sequence that is open: a digit after `ESC [`, and bytes behind it of which none is final.
 pub record OpenNumber (d : Parameters) (o : Opening) (bytes : List ℕ) : Type 0 where
   pub digit : ℕ
   pub more : List ℕ
@@ -87,7 +89,7 @@ pub record OpenNumber (d : Parameters) (o : Opening) (bytes : List ℕ) : Type 0
   pub kept : Kept d (digit ∷ more)
   pub opens : IsOpening o (digit ∷ more)
 
--- The state represents these bytes of an open sequence.
+-- A state represents these bytes of an open sequence; in the ground state there are none.
 abbrev pub StateRepresents : State → List ℕ → Type 0
 StateRepresents Ground bytes = bytes ≡ []
 StateRepresents Escape bytes = bytes ≡ ESC ∷ []
@@ -102,6 +104,6 @@ StateRepresents (Numbered d o) bytes = OpenNumber d o bytes
 StateRepresents (Paste m) bytes = OpenPaste m bytes
 StateRepresents (Utf8 c) bytes = (bytes ≡ prefixed c.escaped (begun_bytes c.begun)) × IsBegun c.begun
 
--- Where a paste is open, its text is what came after its start.
+-- The text of an open paste: what came after its start. It is empty if no paste is open.
 abbrev pub kept_text : State → List ℕ → List ℕ
 kept_text state bytes = if is_paste state then drop 6 bytes else []

@@ -36,26 +36,26 @@
 //!
 //! | Definitions | Lines | Of | Contract |
 //! |---|---|---|---|
-//! | `Marked` | 20 | a byte with its mode, and whether a pause follows it | |
-//! | `Bytes` | 17 | bytes by their names | |
-//! | `Grammar` | 98 | which marked bytes are one whole sequence | `laws::unique_division` (`closed`) |
+//! | `Marked` | 21 | a byte with its mode, and whether a pause follows it | |
+//! | `Bytes` | 19 | bytes by their names | |
+//! | `Grammar` | 118 | which marked bytes are one whole sequence | `laws::unique_division` (`closed`) |
 //! | `Division` | 26 | a list cut into whole parts and a rest | `laws::unique_division` |
-//! | `Number` | 34 | the number of a text | `number.rt` |
-//! | `Fields` | 25 | the fields of a sequence and their parts | `fields.rt` |
-//! | `ModifierField` | 44 | modifiers, locks and kind | `modifier_field.rt` |
+//! | `Number` | 36 | the number of a text | `number.rt` |
+//! | `Fields` | 28 | the fields of a sequence and their parts | `fields.rt` |
+//! | `ModifierField` | 49 | modifiers, locks and kind | `modifier_field.rt` |
 //! | `Letters` | 19 | the keys of final letters | `letters::letter_key` |
-//! | `Functional` | 113 | kitty's functional keys | `functional.rt` |
+//! | `Functional` | 118 | kitty's functional keys | `functional.rt` |
 //! | `Bits` | 7 | bits of a mask | |
-//! | `Mouse` | 65 | what the mouse did | `mouse.rt` |
-//! | `Numbered` | 127 | what a numbered sequence means | `readings.rt` |
-//! | `Meaning` | 149 | what any whole sequence means | `meaning.rt` |
-//! | `Recognizer` | 115 | the grammar as tests | |
-//! | `Tracking` | 82 | what is kept of numbers, fields and UTF-8 while they are read | |
-//! | `States` | 107 | which bytes of an open sequence a state represents | |
-//! | `View` | 121 | a parser as its callers see it, and what it makes of a piece | `Parser::advance`; `laws::{cuttings, two_steps_a_byte, a_step_a_byte}` |
+//! | `Mouse` | 66 | what the mouse did | `mouse.rt` |
+//! | `Numbered` | 135 | what a numbered sequence means | `readings.rt` |
+//! | `Meaning` | 155 | what any whole sequence means | `meaning.rt` |
+//! | `Recognizer` | 132 | the grammar as tests | |
+//! | `Tracking` | 84 | what is kept of numbers, fields and UTF-8 while they are read | |
+//! | `States` | 109 | which bytes of an open sequence a state represents | |
+//! | `View` | 131 | a parser as its callers see it, and what it makes of a piece | `Parser::advance`; `laws::{cuttings, two_steps_a_byte, a_step_a_byte}` |
 //! | `Giving` | 28 | its events, one after another | `Parser::{next, events}` |
-//! | `Transitions` | 281 | what one more byte does to a state | `state.rt` |
-//! | `Putting` | 76 | what many bytes do, and what comes of them | `State::take` |
+//! | `Transitions` | 300 | what one more byte does to a state | `state.rt` |
+//! | `Putting` | 83 | what many bytes do, and what comes of them | `State::take` |
 //!
 //! Crates above cite the lemmas of `DivisionLaws`, `GrammarLaws`, `MachineLaws`, `NumberLaws`, `RunLaws`, `ViewLaws`.
 //!

@@ -1,4 +1,4 @@
-//! The table of upper case letters: Unicode's property `Uppercase`, as `docs/make_uppercase` writes it. A block has 256 code points, of
+//! The table of upper case letters: Unicode's property `Uppercase`, as `tools/make_uppercase` writes it. A block has 256 code points, of
 //! which 32 differ, and a word has 64.
 
 /// The block of each 256 code points.

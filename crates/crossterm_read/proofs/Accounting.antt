@@ -68,7 +68,7 @@ arrives_account all done s m zs a h = record {
 abbrev pub Taken : List (Seen × ℕ) → List (Seen × ℕ) → EventStore → List (Seen × ℕ) → ℕ → Type 0
 Taken all done t more n = Account all (done ++ more) t × (t.arrivals ≡ n)
 
--- Nothing is taken where nothing changes.
+-- Nothing is taken if nothing changes.
 pub none_taken : (all done : List (Seen × ℕ)) (s t : EventStore) → t ≡ s → Account all done s → Taken all done t [] s.arrivals
 none_taken all done s t e a = (subst (λ l. Account all l t) (sym (append-nil done)) (subst (λ (y : EventStore). Account all done y) (sym e) a), ap (λ (y : EventStore). y.arrivals) e)
 
@@ -222,7 +222,7 @@ arrived_gave n (Gave x ∷ zs) = ap (λ l. (x, n) ∷ l) (arrived_gave (next_num
 arrived_gave n (Nothing ∷ zs) = arrived_gave n zs
 arrived_gave n (Failed kind ∷ zs) = arrived_gave n zs
 
--- What is taken and held where these answers came from the beginning on.
+-- What is taken and held if these answers came from the beginning on.
 pub accounted : (device_answers : List DeviceAnswer) (answers : List SourceAnswer) (done : List (Seen × ℕ)) (t : EventStore) → Answered device_answers answers → Account (arrived 0 answers) done t
     → IsAccounted device_answers done t.held
 accounted device_answers answers done t told k =

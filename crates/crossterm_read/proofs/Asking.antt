@@ -66,7 +66,7 @@ length-arrived n (Gave x ∷ zs) = ap (λ (k : ℕ). suc k) (length-arrived (nex
 length-arrived n (Nothing ∷ zs) = length-arrived n zs
 length-arrived n (Failed k ∷ zs) = length-arrived n zs
 
--- Where there is no room left as many events came as there was room for.
+-- If no room is left, as many events came as there was room for.
 came_to_room : {S : Type 0} (s t : ReaderState S) (zs : List SourceAnswer) → Arrives s.store zs t.store → capacity s ≤ capacity t → t.room ≡ 0 → s.room ≤ length (gave zs)
 came_to_room s t zs a h e =
     let held = ap length a.held ∙ length-append s.store.held (arrived s.store.arrivals zs) in
@@ -93,7 +93,7 @@ module _ {S : Type 0} (A : Type 0) (drawn : S → List SourceAnswer → S → Ty
     pub none : first_admitted f s.store.held ≡ None
     pub steady : IsSteady failed s.source answers t.source
 
-  -- One answer more, and where it is no fault nothing has failed.
+  -- One answer more; if it is no error, nothing has failed.
   pub steady_more : (s m t : ReaderState S) (i : ℕ) (z : SourceAnswer) (a : Asking s m i) → (IsNoFault z → failed t.source ≡ failed m.source) → IsSteady failed s.source (a.answers ++ z ∷ []) t.source
   steady_more s m t i z a h all = let each = all_pushed IsNoFault a.answers z all in h each.1 ∙ a.steady each.0
 

@@ -25,7 +25,7 @@ buffers_step (b ∷ bs) h = ap (λ (l : List (List ℕ)). take 1024 (b ∷ bs) �
 pub words_at : {A : Type 0} (acts : List (Act A)) (next answered : ℕ) (a : Act A) → next < length acts → a ≡ get_or acts next a → device_answers_from (drop next acts) answered ≡ device_answers_from (a ∷ drop (next + 1) acts) answered
 words_at {A} acts next answered a h e = ap (λ (l : List (Act A)). device_answers_from l answered) (drop_more acts next a h ∙ ap (λ (y : Act A). y ∷ drop (next + 1) acts) (sym e))
 
--- one buffer of a piece is told
+-- one buffer of a piece is answered
 pub piece_step : (bytes more x : List ℕ) (raw : Bool) (ws left right : List DeviceAnswer) → 0 < length bytes → more ≡ drop 1024 bytes → x ≡ take 1024 bytes
     → piece_answers bytes raw ++ ws ≡ left → piece_answers more raw ++ ws ≡ right → AnswersWith left (Bytes x raw ∷ []) right
 piece_step bytes more x raw ws left right h m e p q =
@@ -66,7 +66,7 @@ pub act_answered : {A : Type 0} (acts : List (Act A)) (next answered : ℕ) (a :
 act_answered acts next answered a w left h e one l =
     subst (λ (ws : List DeviceAnswer). AnswersWith ws (w ∷ []) (device_answers_from (drop (next + 1) acts) 0)) (sym one ∙ sym (words_at acts next answered a h e) ∙ l) (refl, sym (device_answers_start (drop (next + 1) acts)))
 
--- all of a piece was told
+-- all of a piece was answered
 pub piece_over : {A : Type 0} (acts : List (Act A)) (next answered : ℕ) (a : Act A) (bytes : Vec ℕ A) (raw : Bool) (left : List DeviceAnswer) → next < length acts → a ≡ get_or acts next a
     → a ≡ act.Piece bytes raw → length bytes.items ≤ answered → device_answers_from (drop next acts) answered ≡ left → device_answers_from (drop (next + 1) acts) 0 ≡ left
 piece_over {A} acts next answered a bytes raw left h e is over l =
@@ -74,7 +74,7 @@ piece_over {A} acts next answered a bytes raw left h e is over l =
     device_answers_start rest ∙ ap (λ (ks : List ℕ). piece_answers ks raw ++ device_answers rest) (sym (drop_all answered bytes.items over))
     ∙ ap (λ (y : Act A). device_answers_from (y ∷ rest) answered) (sym is) ∙ sym (words_at acts next answered a h e) ∙ l
 
--- past the end the end of input is told
+-- past the end the end of input is answered
 pub end_answered : {A : Type 0} (acts : List (Act A)) (next answered : ℕ) (left : List DeviceAnswer) → length acts ≤ next → device_answers_from (drop next acts) answered ≡ left
     → AnswersWith left (Bytes [] false ∷ []) (device_answers_from (drop next acts) answered)
 end_answered acts next answered left h l =

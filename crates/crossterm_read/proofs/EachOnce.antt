@@ -29,7 +29,7 @@ distinct_front [] ys d = tt
 distinct_front (x ∷ xs) ys d =
     (all_map (λ y. same_number x y ≡ false) (λ y. x.1 ≢ y.1) xs (λ y h. eqb-false x.1 y.1 h) (all_front (λ y. same_number x y ≡ false) xs ys d.0), distinct_front xs ys d.1)
 
--- where all numbers rise, those that were taken differ
+-- if all numbers rise, those that were taken differ
 differ : (all done held : List (Seen × ℕ)) → Rise all → IsPermutation all (done ++ held) → Differ done
 differ all done held r p = distinct_front done held (IsDistinct-IsPermutation same_number (λ x y. grind (arith)) all (done ++ held) p (rise_distinct all r))
 

@@ -127,7 +127,7 @@ extends before (w ∷ ws) (x ∷ xs) left (b ∷ bs) after d h =
     let r = extends h.0 ws xs left bs after d.1 h.2 in
     (b ∷ r.0, r.1, r.2, (h.0, subst (λ (y : DeviceAnswer). Produces before y b h.0) d.0 h.1, r.3), ap (λ (l : List Seen). outcome_events b ++ l) r.4 ∙ sym (append_assoc (outcome_events b) (events_of bs) r.2))
 
--- The events among what was told are a front of what happens.
+-- The events among the answers are a front of what happens.
 pub answered_front : (device_answers : List DeviceAnswer) (list : List SourceAnswer) → Answered device_answers list → (all : List Seen) × (rest : List Seen) × Happened device_answers all × (all ≡ gave list ++ rest)
 answered_front device_answers list t =
     let r = extends [] device_answers t.answered t.left t.outcomes t.undecided t.answering t.happens in (

@@ -16,7 +16,7 @@ never_less n (Nothing ∷ zs) h = never_less n zs h
 never_less n (Failed kind ∷ zs) h = never_less n zs h
 
 module _ {S : Type 0} (drawn : S → List SourceAnswer → S → Type 0) where
-  -- The front of a history is one, and the rest goes on from where it leads.
+  -- The front of a history is one, and the rest goes on from the state that it leads to.
   pub runs_front : (o t : ReaderState S) (xs ys : List Entry) → Runs drawn o (xs ++ ys) t → (m : ReaderState S) × Runs drawn o xs m × Runs drawn m ys t
   runs_front o t [] ys h = (o, refl, h)
   runs_front o t (e ∷ xs) ys h = let k = runs_front h.0 t xs ys h.2 in (k.0, (h.0, h.1, k.1), k.2)

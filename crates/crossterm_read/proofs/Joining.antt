@@ -107,7 +107,7 @@ drop_here : {X : Type 0} (xs ys : List X) → drop (length xs) (xs ++ ys) ≡ ys
 drop_here [] ys = refl
 drop_here (x ∷ xs) ys = drop_here xs ys
 
--- What stands at a place.
+-- What is at a place.
 pub drop_at : {X : Type 0} (xs : List X) (n : ℕ) (x : X) → n < length xs → x ≡ get_or xs n x → drop n xs ≡ x ∷ drop (suc n) xs
 drop_at [] n x h e = absurd (omega arith)
 drop_at (y ∷ ys) zero x h e = ap (λ z. z ∷ ys) (sym e)
@@ -151,7 +151,7 @@ module _ {A : Type 0} where
   all_in_order P [] a = tt
   all_in_order P (x ∷ xs) a = all_put P x (in_order xs) a.0 (all_in_order P xs a.1)
 
-  -- The least member of a list is the first in order, wherever it stands.
+  -- The least member of a list is the first in order, whatever its place.
   start : (m : Member A) (xs : List (Member A)) → AllByRecursion (λ x. m.order < x.order) xs → in_order (m ∷ xs) ≡ m ∷ in_order xs
   start m xs a = put_first m (in_order xs) (all_in_order (λ x. m.order < x.order) xs a)
 
@@ -343,7 +343,7 @@ module _ {A : Type 0} where
   pub reached_start : (q : Kind → List (Member A)) (at : Places) → AreJoined q → ((k : Kind) → place_of at k ≡ 0) → Reached q at [] (joined q)
   reached_start q at j z = record { parts = λ k. sym (j.parts k); places = z; ascends = j.ascends }
 
-  -- Where all kinds are wanted the earliest front is the first of all.
+  -- If all kinds are wanted, the earliest front is the first of all.
   none_before : (wanted : Kind → Bool) → ((k : Kind) → wanted k ≡ true) → (xs : List (Member A)) → AllByRecursion (λ x. wanted (kind_of x.event) ≡ false) xs → xs ≡ []
   none_before wanted every [] a = refl
   none_before wanted every (x ∷ xs) a = let e = sym (every (kind_of x.event)) ∙ a.0 in absurd (cc)
@@ -545,7 +545,7 @@ module _ {A : Type 0} where
           w.count ∙ ap length (sym all),
         )
 
-  -- How many members stand at the places and after them.
+  -- How many members are at the places and after them.
   abbrev pub left : (Kind → List (Member A)) → Places → ℕ
   left q at = (length (q Event) - place_of at Event) + (length (q Cursor) - place_of at Cursor) + (length (q Flags) - place_of at Flags) + (length (q Attributes) - place_of at Attributes)
 

@@ -25,7 +25,7 @@ module _ {S : Type 0} (drawn : S → List SourceAnswer → S → Type 0) where
       (λ (x : (j ≢ by) × (get_elem? views j ≡ some u)). others j u x.0 x.1)
       (at_set views by j w u e)
 
-  -- A rule that stands before the reader is put in.
+  -- The rule before the reader is put in.
   pub begins : Kept drawn [] (newcomer ∷ [])
   begins = inl (refl, refl)
 
@@ -45,7 +45,7 @@ module _ {S : Type 0} (drawn : S → List SourceAnswer → S → Type 0) where
   within : (items : List (ReaderState S)) (views : List (Known S)) (by : ℕ) (v : Known S) → get_elem? views by ≡ some v → (h : Open drawn items views) → length views ≤ h.passes
   within items views by v at h = let first = first_there views by v at in let c = h.count first.0 first.1 in omega arith
 
-  -- The count stays where a pass changes that stands for as many as before.
+  -- The count stays if a pass changes that represents as many as before.
   still_counted : (items : List (ReaderState S)) (views : List (Known S)) (by : ℕ) (v w : Known S) (h : Open drawn items views) → get_elem? views by ≡ some v → w.spare ≡ v.spare
       → (u : Known S) → get_elem? (set views by w) 0 ≡ some u → length (set views by w) + u.spare ≡ h.passes
   still_counted items views by v w h at same u e =
@@ -162,7 +162,7 @@ module _ {S : Type 0} (drawn : S → List SourceAnswer → S → Type 0) where
       cons_not : {A : Type 0} {y : A} {ys : List A} → y ∷ ys ≡ [] → ⊥
       cons_not e = absurd (cc)
 
-  -- Who has the reader puts it back, after one call from where it was taken.
+  -- Who has the reader puts it back, after one call from the state in which it was taken.
   puts_it : (n by : ℕ) (v : Known S) (x : ReaderState S) (made : ReaderState S → Entry → ReaderState S → Type 0) → Produces drawn made v x → Pushes (Kept drawn) n by v x (λ w. Put drawn made v x w)
   puts_it n by v x made b items views room kept at =
       let e : Entry = b.call in
@@ -225,7 +225,7 @@ module _ {S : Type 0} (drawn : S → List SourceAnswer → S → Type 0) where
         (b, refl),
       )
 
-  -- Where a pass has the reader the slot is empty.
+  -- If a pass has the reader, the slot is empty.
   has_room : (by : ℕ) (v : Known S) (o : ReaderState S) → v.opening ≡ Some o → v.has ≡ true → Learns (Kept drawn) by v (λ items. items ≡ [])
   has_room by v o is has items views kept at =
       let h = known items views by v o is kept at in

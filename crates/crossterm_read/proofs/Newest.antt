@@ -21,7 +21,7 @@ use Rattle.crossterm_types.proofs.Lists.{all_append}
 some_not : {n : ℕ} → Some n ≡ None → ⊥
 some_not e = absurd (cc)
 
--- Where the place of the first one is the end, none passes.
+-- If the place of the first one is the end, none passes.
 all_fail : (p : Seen × ℕ → Bool) (xs : List (Seen × ℕ)) → length xs ≤ prefix_len (λ h. not (p h)) xs → AllByRecursion (λ x. p x ≡ false) xs
 all_fail p [] l = tt
 all_fail p (x ∷ xs) l =
@@ -41,7 +41,7 @@ none_passes f held none =
       | inr not_less ↦ let l : length held ≤ at = grind (arith, nat_tests) in all_fail (λ h. f h.0) held l
     ]
 
--- Where it is admitted it is the first.
+-- If it is admitted, it is the first.
 pub newest_first : (f : Seen → Bool) (held : List (Seen × ℕ)) (x : Seen × ℕ) → first_admitted f held ≡ None → f x.0 ≡ true → first_admitted f (held ++ x ∷ []) ≡ Some (length held)
 newest_first f held x none is = position_there (λ h. f h.0) held [] x (none_passes f held none) is
 

@@ -41,7 +41,7 @@ some_not x e = cc
 abbrev broke : ErrorKind → Result Bool ErrorKind
 broke kind = Err kind
 
--- Where a call goes on that stops at a wake-up, one goes on that doesn't.
+-- If a call goes on that stops at a wake-up, one goes on that doesn't.
 goes_on : (f : Seen → Bool) (zs : List SourceAnswer) → AllByRecursion (Passes Stops f) zs → AllByRecursion (Passes GoesOn f) zs
 goes_on f [] h = tt
 goes_on f (Gave x ∷ zs) h = (h.0, goes_on f zs h.1)
@@ -71,7 +71,7 @@ module _ (f : Seen → Bool) (patience : Patience) (zs : List SourceAnswer) (s t
       by_end Tried a r = absurd (some_not x r.1)
       by_end (Broke kind) a r = absurd (take_not (Some x) kind r.1)
 
-  -- Where it gives nothing a poll would have found none.
+  -- If it gives nothing, a poll would have found none.
   pub next_none : NextStep Stops patience f zs s t (ToTake None) → PollStep patience f zs s t (Ok false)
   next_none n = by_end n.0 n.2 n.4
     where

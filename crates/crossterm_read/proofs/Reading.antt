@@ -1,4 +1,4 @@
--- What one read tells.
+-- What one read answers.
 use Rattle.std.proofs.Common.{◌≡◌, ◌≤◌, ◌<◌, ℕ, Bool, Option, None, Some, List, [], ◌∷◌, take, length, refl, sym, ap, subst, ◌∙◌, append-nil}
 use Rattle.std.proofs.lemmas.List.{length-take-le}
 use Rattle.std.specs.Io.KnownBytes.{Consumes, IsAtEnd}
@@ -16,7 +16,7 @@ spent : (before after : Option (List ℕ)) → IsAtEnd after → AreSpent before
 spent None after e = tt
 spent (Some xs) after e = e
 
--- The bytes of a read are told, and the end only where it gave none.
+-- The bytes of a read are answered, and the end only if it gave none.
 pub read_answers : (before after : Option (List ℕ)) (n : ℕ) (buffer : List ℕ) (raw : Bool) → n ≤ length buffer → 0 < length buffer
     → Consumes before after (take n buffer) → (n ≡ 0 → 0 < length buffer → IsAtEnd after) → ReadingAnswers before (Bytes (take n buffer) raw ∷ []) after
 read_answers before after n buffer raw within room consumed ends = (

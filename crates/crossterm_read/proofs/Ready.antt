@@ -1,4 +1,4 @@
--- Where asking ended with an admitted event, one is held.
+-- If asking ended with an admitted event, one is held.
 use Rattle.std.proofs.Common.{◌≡◌, ◌<◌, ℕ, suc, ◌+◌, Bool, true, false, not, cond, nat_lt, List, [], ◌∷◌, ◌++◌, length, None, Some, inl, inr, sym, ap, ◌∙◌, arith, append_assoc, append-nil}
 use mathlib.Core.Bool.{true≢false}
 use Rattle.std.specs.Prelude.{is_some}
@@ -11,7 +11,7 @@ use Rattle.crossterm_read.specs.Store.{EventStore, Arrives, arrived, numbered_af
 use Rattle.crossterm_read.specs.Steps.{Patience, Finds, first_admitted, Asks, Ready}
 use Rattle.crossterm_read.proofs.Asking.{arrived-append}
 
--- Where the last one is admitted there is a first.
+-- If the last one is admitted, there is a first.
 last_below : (p : Seen × ℕ → Bool) (xs : List (Seen × ℕ)) (y : Seen × ℕ) → p y ≡ true → prefix_len (λ h. not (p h)) (xs ++ y ∷ []) < length (xs ++ y ∷ [])
 last_below p [] y e = let z : prefix_len (λ h. not (p h)) (y ∷ []) ≡ 0 = ap (λ (b : Bool). cond (not b) (1 + 0) 0) e in omega arith
 last_below p (x ∷ xs) y e =

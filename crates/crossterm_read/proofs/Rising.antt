@@ -56,7 +56,7 @@ past_takes : (f g : Seen → Bool) (m : ℕ) (s t : EventStore) (x : Seen × ℕ
 past_takes f g m s t x h p =
     subst (λ (y : EventStore). IsPast f m y.held y.arrivals) (sym h.3) (λ low. let q = p low in record { ahead = all_remove (λ k. f k.0 ≡ true → m < k.1) s.held h.0 q.ahead; gone = q.gone })
 
--- before the first that it admits a filter admits none, and what stands after is greater
+-- a filter admits none before the first that it admits, and the numbers after that are greater
 ahead_of_first : (f : Seen → Bool) (held : List (Seen × ℕ)) (i : ℕ) (x : Seen × ℕ) → i < length held → get_or held i x ≡ x → ((k : ℕ) → k < i → f (get_or held k x).0 ≡ false) → Rise held
     → AllByRecursion (λ k. f k.0 ≡ true → x.1 < k.1) (remove held i)
 ahead_of_first f [] i x there at skipped r = absurd (omega arith)

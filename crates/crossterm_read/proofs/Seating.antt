@@ -28,7 +28,7 @@ calls_by-mine by e is = ap (λ b. cond b (e ∷ []) []) (eq-eqb e.by by is)
 pub calls_by-other : (by : ℕ) (e : Entry) → e.by ≢ by → calls_by by (e ∷ []) ≡ []
 calls_by-other by e apart = ap (λ b. cond b (e ∷ []) []) (ne_eqb e.by by apart)
 
--- Where there is such a place it lies in the list.
+-- If there is such a place, it lies in the list.
 pub below : {A : Type 0} (l : List A) (j : ℕ) (a : A) → get_elem? l j ≡ some a → j < length l
 below [] j a e = absurd (some-ne-none a (sym e))
 below (x ∷ xs) zero a e = omega arith

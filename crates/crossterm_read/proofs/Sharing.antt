@@ -22,7 +22,7 @@ use Rattle.crossterm_read.proofs.Histories.{runs_room, runs_snoc, not_fewer}
 use Rattle.crossterm_read.proofs.Next.{fault_of}
 use Rattle.crossterm_read.proofs.Seating.{off, some_of, calls_by-append, calls_by-mine, are_snoc}
 
--- What stands there.
+-- What is there.
 pub some_there : {A : Type 0} (o : Option A) → is_some o ≡ true → (x : A) × (o ≡ Some x)
 some_there (Some x) h = (x, refl)
 some_there None h = absurd (off h)

@@ -44,7 +44,7 @@ record Spelled (P : List SourceAnswer → Type 0) (rest : List Marked) (ws : Lis
   delivers_all : DeliversAll outcomes others
   so : P front
 
--- What is left of it gives these events: some answers where bytes are untaken, and none where nothing waits either.
+-- What is left of it gives these events: some answers if bytes are untaken, and none if nothing waits either.
 record Front (waiting : List Seen) (untaken : List Marked) (pasting : Bool) (es : List Seen) (front : List SourceAnswer) : Type 0 where
   delivers : Delivers pasting es front
   some : untaken ≢ [] → front ≢ []
@@ -69,7 +69,7 @@ bytes_refused pasting [] [] n s = absurd (n refl)
 bytes_refused pasting [] (x ∷ xs) n s = inr (s.0, (refl, s.1))
 bytes_refused pasting (e ∷ es) front n s = (refl, s)
 
--- what is answered for bytes that were left stands behind the events before them
+-- what is answered for bytes that were left comes behind the events before them
 bytes_late : (pasting : Bool) (es : List Seen) (xs : List SourceAnswer) → (es ≡ [] → pasting ≡ true) → DeliversBytes pasting es xs → Delivers pasting es xs
 bytes_late pasting [] xs o (inl none) = subst (Delivers pasting []) (sym none) (o refl, refl)
 bytes_late pasting [] [] o (inr late) = absurd late.1
@@ -378,7 +378,7 @@ answered_of n q device_answers ws left xs t turns =
       delivers = subst (λ (l : List SourceAnswer). DeliversAll s.outcomes l) (sym (s.joined ∙ ap (λ (l : List SourceAnswer). l ++ s.others) (s.so.none refl refl))) s.delivers_all;
     }
 
--- What a source over a script answers from its beginning on is told by the script.
+-- What a source over a script answers from its beginning on follows from the script.
 pub script_answered : (s t : Source ScriptLeft) (xs : List SourceAnswer) → s.parser.waiting ≡ [] → Represents s.parser [] → s.untaken ≡ [] → SourceDrawn ScriptTells s xs t → Answered s.device.left xs
 script_answered s t xs w h u d =
     let r = d.2 [] h nil_undecided in

@@ -127,7 +127,7 @@ module _ {A : Type 0} where
   pub same_length : (xs ys : List (Member A)) → map member_kept xs ≡ map member_kept ys → length xs ≡ length ys
   same_length xs ys e = sym (length-map xs member_kept) ∙ ap length e ∙ length-map ys member_kept
 
-  -- What stands at the fronts is all.
+  -- What is at the fronts is all.
   pub all_at_fronts : (q : Kind → List (Member A)) (held : List (Seen × ℕ)) → held ≡ map member_kept (joined q) → map (λ (m : Member A). seen m.event) (joined (behind q fronts)) ≡ map (λ h. h.0) held
   all_at_fronts q held h =
       ap (λ l. map (λ (m : Member A). seen m.event) l) (joined_same (behind q fronts) q (each_kind (λ k. behind q fronts k ≡ q k) refl refl refl refl)) ∙ sym (map-map (λ h. h.0) member_kept (joined q))

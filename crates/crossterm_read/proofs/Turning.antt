@@ -86,7 +86,7 @@ gives_none w new left x after n h i e = subst
     (λ (l : List Seen). GivesFirst l (record { waiting = l; untaken = left; undecided = after; room = n }) x (record { waiting = new; untaken = left; undecided = after; room = n }))
     (sym h) (e, λ j. record { waiting = i j; untaken = left; undecided = after; room = n })
 
--- nothing is left where as many were taken as there were
+-- nothing is left if as many were taken as there were
 taken_whole : (n : ℕ) (rest : List ℕ) (more raw : Bool) → n ≡ length rest → marked (drop n rest) more raw ≡ []
 taken_whole n rest more raw h = ap (λ (l : List ℕ). marked l more raw) (drop_all n rest (omega arith))
 
@@ -169,7 +169,7 @@ pub without_some : (ms : List Marked) → ms ≢ [] → without_event ms ≡ Fai
 without_some [] h = absurd (h refl)
 without_some (m ∷ ms) h = refl
 
--- a buffer that was just told is told whole
+-- a buffer that was just answered is answered whole
 pub just_answered : (n : ℕ) (buffer : List ℕ) (raw : Bool) → n ≤ length buffer → marked (take (n - 0) buffer) (n == 1024) raw ≡ marked_bytes (take n buffer) raw
 just_answered n buffer raw h =
     let e : n - 0 ≡ n = omega arith in

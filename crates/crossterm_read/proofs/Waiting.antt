@@ -54,7 +54,7 @@ limits_more timeout a now b l m k e f g h i = by_question i.2
       last_at_once h.0 i.0 lasted,
     )
 
--- Something was left at a moment where the limit hasn't passed at a later one.
+-- Something was left at a moment if the limit hasn't passed at a later one.
 some_left : (timeout : PollTimeout) (now later : ℕ) (left : Option Duration) → now ≤ later → (HasElapsed timeout later → ⊥) → option_map as_nanos left ≡ left_over timeout now → IsAtOnce left → ⊥
 some_left timeout now later None g n e z = absurd z
 some_left timeout now later (Some d) g n e z = by_limit timeout.limit n e
@@ -99,7 +99,7 @@ lasts timeout now h z = by_limit timeout.limit h z
     by_limit None h z = absurd z
     by_limit (Some d) h z = h (omega arith)
 
--- What a clock tells first stays the first until the call's end.
+-- What a clock returns first stays the first until the call's end.
 pub first_of : {C : Type 0} (told : C → ℕ) (began : C → ℕ → C → Type 0) (old now new : C) (start : ℕ) → start ≡ told now → told old ≤ told now → told now ≤ told new → began old (told now) now → KeepsFirst began now new → IsFirst told began old new start
 first_of told began old now new start e later more first keeps = subst (IsFirst told began old new) (sym e) (later, more, keeps old (told now) first)
 

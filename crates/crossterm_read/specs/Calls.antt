@@ -19,6 +19,7 @@ use Rattle.crossterm_read.specs.declared.read.call.Call.TheVariants as call
 use Rattle.crossterm_read.specs.declared.read.call.Reply.{Reply}
 use Rattle.crossterm_read.specs.declared.read.call.Reply.TheVariants as reply
 
+-- What a caller sees of a reply that the library returned.
 abbrev pub said : {A : Type 0} → Reply A → Said
 said (reply.Poll ready) = Polled ready
 said (reply.Event event) = Came (option_map seen event)
@@ -26,14 +27,16 @@ said (reply.Position column row) = Came (Some (CursorPosition column row))
 said (reply.Keyboard flags) = Came (Some (flags_seen flags))
 said (reply.Fault kind) = Faulted kind
 
--- What is asked of a reader, and how long. A query for the keyboard's flags says so of its second poll too.
+-- What is asked of a reader, and how long it may ask its source.
 pub data Request : Type 0 where
   Poll : Patience → AnyFilter → Request
   Read : Patience → AnyFilter → Request
   Take : AnyFilter → Request
   Position : Patience → Request
+  -- The second patience is that of the wait for the attributes, after the flags came.
   Keyboard : Patience → Patience → Request
 
+-- The request of a call of `play`.
 abbrev pub request : Call → Request
 request (call.Poll tries f) = Poll (UpTo tries) f
 request (call.Read tries f) = Read (UpTo tries) f
@@ -41,7 +44,7 @@ request (call.Take f) = Take f
 request (call.Position tries) = Position (UpTo tries)
 request (call.Keyboard tries) = Keyboard (UpTo tries) (UpTo tries)
 
--- What is asked draws these answers, and is replied this.
+-- One call: the source gives these answers, the reader goes from one store to another, and this is the reply.
 abbrev pub Step : Request → List SourceAnswer → EventStore → EventStore → Replied → Type 0
 Step (Poll patience f) zs s t r = (p : Result Bool ErrorKind) × PollStep patience (admitted f) zs s t p × (r ≡ replied p)
 Step (Read patience f) zs s t r = ReadStep patience (admitted f) zs s t r
@@ -49,7 +52,7 @@ Step (Take f) zs s t r = TakeStep (admitted f) zs s t r
 Step (Position patience) zs s t r = QueryStep is_cursor_position patience zs s t r
 Step (Keyboard patience again) zs s t r = KeyboardStep patience again zs s t r
 
--- The same is asked, so many times at most in the place of how long.
+-- The same request, with some number of tries in place of how long it may ask.
 abbrev pub SameInTries : Request → Request → Type 0
 SameInTries (Poll patience f) c = (tries : ℕ) × (c ≡ Poll (UpTo tries) f)
 SameInTries (Read patience f) c = (tries : ℕ) × (c ≡ Read (UpTo tries) f)
@@ -57,11 +60,11 @@ SameInTries (Take f) c = c ≡ Take f
 SameInTries (Position patience) c = (tries : ℕ) × (c ≡ Position (UpTo tries))
 SameInTries (Keyboard patience again) c = (tries : ℕ) × (more : ℕ) × (c ≡ Keyboard (UpTo tries) (UpTo more))
 
--- A step within a limit of time is one with some number of tries.
+-- Each step within a limit of time is also a step with some number of tries.
 abbrev pub CountsTries : Type 0
 CountsTries = (c : Request) (zs : List SourceAnswer) (s t : EventStore) (r : Replied) → Step c zs s t r → (d : Request) × SameInTries c d × Step d zs s t r
 
--- A run: calls, what each draws, and what each replies.
+-- Calls one after another, each with the answers of the source in it and its reply.
 abbrev pub Run : EventStore → List Call → List (List SourceAnswer) → List Replied → EventStore → Type 0
 Run s [] [] [] t = t ≡ s
 Run s (c ∷ cs) (zs ∷ zss) (r ∷ rs) t = (m : EventStore) × Step (request c) zs s m r × Run m cs zss rs t
@@ -70,19 +73,24 @@ Run s [] [] (r ∷ rs) t = ⊥
 Run s (c ∷ cs) [] rs t = ⊥
 Run s (c ∷ cs) (zs ∷ zss) [] t = ⊥
 
+-- The answers of all calls, in order.
 abbrev pub joined : List (List SourceAnswer) → List SourceAnswer
 joined zss = flat_map (λ zs. zs) zss
 
+-- No event is held, and none has arrived.
 abbrev pub empty : EventStore
 empty = record { held = []; arrivals = 0 }
 
--- There are lists of a source's answers, one a call, which joined come of the device's, and the calls' run over them gives replies that show these answers, and leaves
--- these events.
+-- The calls were made one after another over these answers of the device. The replies are those returned, and these
+-- events are held at the end.
 pub record Plays (device_answers : List DeviceAnswer) (calls : List Call) (answers : List Said) (held : List Seen) : Type 0 where
+  -- What the source answered in each call.
   pub drawn : List (List SourceAnswer)
   pub replies : List Replied
   pub last : EventStore
+  -- All of it follows from what the device answered.
   pub answered : Answered device_answers (joined drawn)
+  -- Each call is a step of a reader.
   pub run : Run empty calls drawn replies last
   pub shows : answers ≡ map shown replies
   pub left : held ≡ map (λ h. h.0) last.held
@@ -97,7 +105,7 @@ taken (ToQuery x None ∷ rs) = x ∷ taken rs
 taken (ToPoll ready ∷ rs) = taken rs
 taken (Fault kind ∷ rs) = taken rs
 
--- Events with their arrival numbers.
+-- Events with their arrival numbers, from `n` on.
 abbrev pub numbered : ℕ → List Seen → List (Seen × ℕ)
 numbered n [] = []
 numbered n (x ∷ xs) = (x, n) ∷ numbered (next_number n) xs
@@ -108,10 +116,12 @@ IsWithin [] ys = Unit {0}
 IsWithin (x ∷ xs) [] = ⊥
 IsWithin (x ∷ xs) (y ∷ ys) = ((x ≡ y) × IsWithin xs ys) ⊎ IsWithin (x ∷ xs) ys
 
--- The events that were taken and those that are held, each with its arrival number, are together, each once, the first ones of all that happens; those that
--- are held stand in the order of arrival.
+-- Each of the first events that happen was taken or is held, once, with its arrival number. Those that are held are in
+-- order of arrival.
 pub record IsAccounted (device_answers : List DeviceAnswer) (taken_so held : List (Seen × ℕ)) : Type 0 where
+  -- All events that happen by the device's answers.
   pub all : List Seen
+  -- The first of them.
   pub front : List Seen
   pub rest : List Seen
   pub happened : Happened device_answers all
@@ -119,7 +129,7 @@ pub record IsAccounted (device_answers : List DeviceAnswer) (taken_so held : Lis
   pub once : IsPermutation (numbered 0 front) (taken_so ++ held)
   pub in_order : IsWithin held (numbered 0 front)
 
--- There are replies that show these answers, and what they took and what is held is accounted for.
+-- Some replies agree with those returned, and account for what they took and what is held.
 pub record Accounts (device_answers : List DeviceAnswer) (answers : List Said) (held : List Seen) : Type 0 where
   pub replies : List Replied
   pub kept : List (Seen × ℕ)

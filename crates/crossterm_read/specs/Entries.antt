@@ -20,16 +20,17 @@ use Rattle.crossterm_read.specs.Store.{ReaderState}
 use Rattle.crossterm_read.specs.Steps.{Patience, UpTo, Within, RefusedOnlyWithoutRoom}
 use Rattle.crossterm_read.specs.Waiting.{AsksForever, AsksTwice, AsksWithin}
 
--- Such a request within a limit of time, of which no more has passed than between two moments.
+-- The request with a limit of time, of which no more has passed than between two moments.
 abbrev pub InTime : (Patience → Request) → Option Duration → ℕ → ℕ → Request → Type 0
 InTime request limit start after call = (past : ℕ) × (past ≤ after - start) × (call ≡ request (Within limit past))
 
--- The query for the keyboard's flags, with a wait for the reply from one moment to another, and from a third on with as long a wait for the attributes.
+-- The query for the keyboard flags with two waits of one limit, each no longer than between its two moments.
 abbrev pub InTwoWaits : Option Duration → ℕ → ℕ → ℕ → ℕ → Request → Type 0
 InTwoWaits limit start now second after call = (first : ℕ) × (again : ℕ) × (first ≤ now - start) × (again ≤ after - second) × (call ≡ Keyboard (Within limit first) (Within limit again))
 
 module _ {S : Type 0} (asked : S → List (Option Duration)) where
-  -- Such a request was made, with this reply, and the device was asked with such limits. Memory was refused only where there was no room.
+  -- Such a call was made, with this reply and these limits for the device. Memory was refused only if there was no
+  -- room.
   pub record IsCall (such : Request → Type 0) (limits : List (Option Duration) → List (Option Duration) → Type 0) (r : Replied) (found : ReaderState S) (e : Entry) (left : ReaderState S) : Type 0 where
     pub call : such e.call
     pub reply : e.reply ≡ r
@@ -48,7 +49,7 @@ module _ {S : Type 0} (asked : S → List (Option Duration)) where
   abbrev pub IsTry : AnyFilter → Replied → ReaderState S → Entry → ReaderState S → Type 0
   IsTry f = IsCall (λ call. call ≡ Read (UpTo 1) f) AsksAtOnce
 
-  -- A poll with no try. What is looked at is true of the source that it leaves.
+  -- A poll with no try. What was seen is true of the source that it leaves.
   abbrev pub IsLook : (S → Type 0) → ReaderState S → Entry → ReaderState S → Type 0
   IsLook at found e left = ((r : Replied) × IsCall (λ call. call ≡ Poll (UpTo 0) filters.Event) AsksAtOnce r found e left) × at left.source
 
@@ -56,51 +57,55 @@ module _ {S : Type 0} (asked : S → List (Option Duration)) where
   abbrev pub IsPoll : AnyFilter → Option Duration → ℕ → ℕ → Replied → ReaderState S → Entry → ReaderState S → Type 0
   IsPoll f limit start after = IsCall (InTime (λ patience. Poll patience f) limit start after) (AsksWithin limit start after)
 
-  -- Queries, likewise.
+  -- A query for the cursor's position with a limit of time, from one moment to another.
   abbrev pub IsPosition : Option Duration → ℕ → ℕ → Replied → ReaderState S → Entry → ReaderState S → Type 0
   IsPosition limit start after = IsCall (InTime Position limit start after) (AsksWithin limit start after)
 
+  -- A query for the keyboard flags, from one moment to another, with a limit for each of its two waits.
   abbrev pub IsKeyboard : Option Duration → ℕ → ℕ → Replied → ReaderState S → Entry → ReaderState S → Type 0
   IsKeyboard limit start after r found e left =
       (now : ℕ) × (second : ℕ) × (start ≤ now) × (now ≤ second) × (second ≤ after) × IsCall (InTwoWaits limit start now second after) (AsksTwice limit start now second after) r found e left
 
 module _ {S : Type 0} (drawn : S → List SourceAnswer → S → Type 0) (asked : S → List (Option Duration)) where
-  -- A read made by a pass: such a call stands once in the history that the pass has seen, as its last.
+  -- A pass made a read without a limit: it is the last call in the history that the pass has seen.
   abbrev pub Reads : AnyFilter → Known S → Known S → Said → Type 0
   Reads f v w said = (r : Replied) × (said ≡ shown r) × Extends drawn (IsRead asked f r) v w
 
-  -- A read with one try made by a pass, likewise; or another has the reader, nothing is taken, and the pass is as it was.
+  -- A pass made a read with one try, as its last call; or another has the reader, nothing came, and the pass didn't
+  -- change.
   abbrev pub Tries : AnyFilter → Known S → Known S → Said → Type 0
   Tries f v w said = ((r : Replied) × (said ≡ shown r) × Extends drawn (IsTry asked f r) v w) ⊎ ((said ≡ Came None) × (w ≡ v))
 
-  -- A look at the source made by a pass, and what was seen: so stands such a poll; or another has the reader, and the pass is as it was.
+  -- A pass looked at the source, by a poll as its last call; or another has the reader, and the pass is as it was.
   abbrev pub Looks : {X : Type 0} → (X → S → Type 0) → Known S → Known S → Option X → Type 0
   Looks at v w (Some x) = Extends drawn (IsLook asked (at x)) v w
   Looks at v w None = w ≡ v
 
-  -- A poll made by a pass, from the moment at which it began: so stands such a call; or the limit passed before the reader was there, the answer is false, and the pass is as it was.
+  -- A pass made a poll, as its last call. Or the limit passed before it got the reader: the result is false, and the
+  -- pass is as it was.
   abbrev pub Polls : AnyFilter → Option Duration → (ℕ → Type 0) → ℕ → Known S → Known S → Result Bool Error → Type 0
   Polls f limit begins after v w result =
       (start : ℕ) × begins start × (Extends drawn (IsPoll asked f limit start after (replied (poll_reply result))) v w ⊎ ((result ≡ Ok false) × (w ≡ v) × Reaches limit (after - start)))
 
-  -- A read with a limit made by a pass, from the moment at which it began, took this event.
+  -- A pass made a read with a limit, as its last call, and took this event.
   abbrev pub TakesWithin : AnyFilter → Option Duration → (ℕ → Type 0) → ℕ → Known S → Known S → Seen → Type 0
   TakesWithin f limit begins after v w event = (start : ℕ) × begins start × (number : ℕ) × Extends drawn (IsReadFor asked f limit start after (ToTake (Some (event, number)))) v w
 
-  -- A read with a limit made by a pass: an event is what such a read took; nothing, or a fault, is what such a poll found.
+  -- A pass made a read with a limit. If it took no event, it did what a poll does that found none or failed.
   abbrev pub ReadsFor : {A : Type 0} → AnyFilter → Option Duration → (ℕ → Type 0) → ℕ → Known S → Known S → Result (Option (Event A)) Error → Type 0
   ReadsFor f limit begins after v w (Ok (Some event)) = TakesWithin f limit begins after v w (event_seen event)
   ReadsFor f limit begins after v w (Ok None) = Polls f limit begins after v w (Ok false)
   ReadsFor f limit begins after v w (Err e) = Polls f limit begins after v w (Err e)
 
-  -- A query for the cursor's place made by a pass, likewise: where the limit passed before the reader was there the answer is `Other`.
+  -- A pass queried the cursor's position, as its last call. Or the limit passed before it got the reader: that is
+  -- `Other`.
   abbrev pub AsksPosition : Duration → (ℕ → Type 0) → ℕ → Known S → Known S → Result (ℕ × ℕ) Error → Type 0
   AsksPosition limit begins after v w result =
       (start : ℕ) × begins start
       × (((r : Replied) × (position_said result ≡ shown r) × Extends drawn (IsPosition asked (Some limit) start after r) v w)
       ⊎ (IsErrAnd result (λ e. error_kind e ≡ Other) × (w ≡ v) × Reaches (Some limit) (after - start)))
 
-  -- A query for the keyboard's flags made by a pass, likewise.
+  -- A pass queried the keyboard flags, as its last call. Or the limit passed before it got the reader: that is `Other`.
   abbrev pub AsksKeyboard : Duration → (ℕ → Type 0) → ℕ → Known S → Known S → Result (Option KeyboardEnhancementFlags) Error → Type 0
   AsksKeyboard limit begins after v w result =
       (start : ℕ) × begins start

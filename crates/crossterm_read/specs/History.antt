@@ -10,10 +10,13 @@ use Rattle.crossterm_read.specs.Calls.{Request, Read, Take, Position, Keyboard, 
 use Rattle.crossterm_read.specs.Store.{IsLow, ReaderState, arrived, capacity, numbered_after}
 use Rattle.crossterm_read.specs.Replies.{Replied, ToPoll, ToTake, ToQuery, Fault}
 
--- One call: whose it was, what was asked, what the source answered, and the reply.
+-- One call of a pass.
 pub record Entry : Type 0 where
+  -- The number of the pass.
   pub by : ℕ
+  -- What was asked.
   pub call : Request
+  -- What the source answered in it.
   pub answers : List SourceAnswer
   pub reply : Replied
 
@@ -22,7 +25,7 @@ abbrev pub calls_by : ℕ → List Entry → List Entry
 calls_by by [] = []
 calls_by by (e ∷ es) = cond (e.by == by) (e ∷ calls_by by es) (calls_by by es)
 
--- Each of these calls is one of so many passes, which are numbered from 0.
+-- True if each call is one of so many passes, which are numbered from 0.
 abbrev pub are_of : ℕ → List Entry → Bool
 are_of passes log = list_all (λ e. nat_lt e.by passes) log
 
@@ -38,7 +41,7 @@ answers_of log = flat_map (λ e. e.answers) log
 abbrev pub taken_by : List Entry → List (Seen × ℕ)
 taken_by log = taken (map (λ e. e.reply) log)
 
--- By which filter a call took, with the arrival number of what it took.
+-- What one call took: by which filter, and the arrival number of the event.
 abbrev pub took : Request → Replied → List (AnyFilter × ℕ)
 took (Read patience f) (ToTake (Some x)) = (f, x.1) ∷ []
 took (Take f) (ToTake (Some x)) = (f, x.1) ∷ []
@@ -48,56 +51,68 @@ took (Keyboard patience again) (ToQuery x (Some y)) = (filter.Flags, x.1) ∷ (f
 took (Keyboard patience again) (ToQuery x None) = (filter.Flags, x.1) ∷ []
 took c r = []
 
+-- What these calls took, in order: by which filter, and the arrival number of each event.
 abbrev pub takes_of : List Entry → List (AnyFilter × ℕ)
 takes_of log = flat_map (λ e. took e.call e.reply) log
 
--- Of two that were taken by one filter the later one has the greater number.
+-- Of two events taken by one filter, the later one has the greater arrival number.
 abbrev pub RiseByFilter : List (AnyFilter × ℕ) → Type 0
 RiseByFilter [] = Unit {0}
 RiseByFilter (x ∷ xs) = AllByRecursion (λ y. y.0 ≡ x.0 → x.1 < y.1) xs × RiseByFilter xs
 
--- No two have one number.
+-- No two events have the same arrival number.
 abbrev pub Differ : List (Seen × ℕ) → Type 0
 Differ [] = Unit {0}
 Differ (x ∷ xs) = AllByRecursion (λ y. x.1 ≢ y.1) xs × Differ xs
 
--- All events of a history: those that were held when the reader was opened, and those that arrived since, each with its number.
+-- All events of a history: those held when the reader was opened and those that arrived since, each with its arrival
+-- number.
 abbrev pub all_events : {S : Type 0} → ReaderState S → List Entry → List (Seen × ℕ)
 all_events o log = o.store.held ++ arrived o.store.arrivals (answers_of log)
 
--- Of all events of a history each was taken once or is held, and what is held stands in the order of arrival. Until the numbers have come to the greatest
--- u64, so while fewer than 2^64 - 1 events have arrived, no event that was taken has the number of another, and what one filter takes has rising numbers.
+-- Each event of a history was taken once or is held. The numbers that promise an order do so while fewer than 2^64 - 1
+-- events have arrived.
 pub record EachOnce {S : Type 0} (o : ReaderState S) (log : List Entry) (t : ReaderState S) : Type 0 where
+  -- What was taken and what is held are together all events, each once.
   pub once : IsPermutation (all_events o log) (taken_by log ++ t.store.held)
+  -- The held events are in order of arrival.
   pub in_order : IsWithin t.store.held (all_events o log)
   pub arrivals : t.store.arrivals ≡ numbered_after o.store.arrivals (answers_of log)
+  -- No two events that were taken have the same number.
   pub differ : IsLow t.store.arrivals → Differ (taken_by log)
+  -- What one filter takes has rising numbers.
   pub rise : IsLow t.store.arrivals → RiseByFilter (takes_of log)
 
--- What a pass heard when it met another: the number of that one, what that one had seen, and what it had seen itself.
+-- What a pass learnt from another one: its number, the calls that it had seen, and those seen by itself before.
 pub record Meeting : Type 0 where
   pub other : ℕ
   pub theirs : List Entry
   pub ours : List Entry
 
--- What a pass knows: its number, how many passes the reader has, for how many of these it stands besides itself, the reader as it was opened, the history so
--- far, its own calls in that, whether it has the reader, and whom it met last.
+-- What a pass knows of its reader.
 pub record Known (S : Type 0) : Type 0 where
+  -- Its own number.
   pub number : ℕ
+  -- How many passes the reader has.
   pub passes : ℕ
+  -- How many passes it represents besides itself, while the passes are being made.
   pub spare : ℕ
+  -- The reader as it was opened.
   pub opening : Option (ReaderState S)
+  -- The history up to the last call that it has seen.
   pub seen : List Entry
+  -- Its own calls.
   pub mine : List Entry
+  -- Whether it has the reader.
   pub has : Bool
+  -- Which pass it met last.
   pub met : Option Meeting
 
--- A pass with this number, of so many of a reader that stood so when it was opened. It has seen nothing.
+-- A new pass of this number, of a reader with so many passes that was opened in this state. It has seen nothing.
 abbrev pub opened : {S : Type 0} → ReaderState S → ℕ → ℕ → Known S
 opened o passes number = record { number = number; passes = passes; spare = 0; opening = Some o; seen = []; mine = []; has = false; met = None }
 
--- A pass stands for itself alone. Its calls stand in what it has seen, each once and in the order in which it made them, and every call there is one of a
--- pass of the reader.
+-- A pass in use. It represents itself alone, and its calls are those of its number in the history that it has seen.
 pub record Sits {S : Type 0} (v : Known S) : Type 0 where
   pub opened : is_some v.opening ≡ true
   pub number : v.number < v.passes
@@ -105,7 +120,7 @@ pub record Sits {S : Type 0} (v : Known S) : Type 0 where
   pub mine : calls_by v.number v.seen ≡ v.mine
   pub of_passes : are_of v.passes v.seen ≡ true
 
--- The arrival number of the event that was taken last.
+-- The arrival number of the event that was taken last, after one more reply.
 abbrev pub last_of : Option ℕ → Replied → Option ℕ
 last_of n (ToTake (Some x)) = Some x.1
 last_of n (ToTake None) = n
@@ -114,27 +129,31 @@ last_of n (ToQuery x None) = Some x.1
 last_of n (ToPoll ready) = n
 last_of n (Fault kind) = n
 
+-- The arrival number of the event that was taken last, after these calls.
 abbrev pub last_from : Option ℕ → List Entry → Option ℕ
 last_from n [] = n
 last_from n (e ∷ es) = last_from (last_of n e.reply) es
 
 module _ {S : Type 0} (drawn : S → List SourceAnswer → S → Type 0) where
-  -- A call leads from one state of the reader to another, as one of a reader of one thread does. No room is lost.
+  -- A call leads from one state of the reader to another, as with a reader of one thread. No room is lost.
   abbrev pub Makes : Entry → ReaderState S → ReaderState S → Type 0
   Makes e s t = drawn s.source e.answers t.source × Step e.call e.answers s.store t.store e.reply × (capacity s ≤ capacity t)
 
-  -- A legal history: each call follows from the state that the one before left, and the last leaves t.
+  -- A legal history: each call begins in the state that the one before left, and the last one leaves `t`.
   abbrev pub Runs : ReaderState S → List Entry → ReaderState S → Type 0
   Runs s [] t = s ≡ t
   Runs s (e ∷ es) t = (m : ReaderState S) × Makes e s m × Runs m es t
 
-  -- What one call does to what its pass knows. Calls of others may have come between; then comes this one, from the state that these left: no event that the
-  -- pass has seen arrive is missing there, and no room that there was at first. So the pass sees one legal history, which begins with all that it had seen, and in which this call is the last.
+  -- What one call does to what its pass knows. The call is the last of one legal history, which begins with all that
+  -- the pass had seen.
   pub record Extends (made : ReaderState S → Entry → ReaderState S → Type 0) (v w : Known S) : Type 0 where
     pub opening : ReaderState S
+    -- Calls of other passes that came before it.
     pub between : List Entry
     pub call : Entry
+    -- The state in which the call found the reader.
     pub found : ReaderState S
+    -- The state that it left.
     pub left : ReaderState S
     pub such : made found call left
     pub by : call.by ≡ v.number
@@ -143,11 +162,13 @@ module _ {S : Type 0} (drawn : S → List SourceAnswer → S → Type 0) where
     pub makes : Makes call found left
     pub others : calls_by v.number between ≡ []
     pub after : w ≡ record v { seen = (v.seen ++ between) ++ call ∷ []; mine = v.mine ++ call ∷ [] }
+    -- No event that the pass had seen arrive is missing.
     pub fresh : numbered_after opening.store.arrivals (answers_of v.seen) ≤ found.store.arrivals
+    -- No room is lost that there was at first.
     pub room : capacity opening ≤ capacity found
     pub each_once : EachOnce opening w.seen left
 
-  -- Two passes that met: the one sees one legal history that begins with all that it had seen, and with all that the other had seen.
+  -- Two passes met. One of them now sees a legal history that begins with all that both had seen.
   pub record Meets (v other w : Known S) : Type 0 where
     pub opening : ReaderState S
     pub left : ReaderState S
@@ -159,7 +180,7 @@ module _ {S : Type 0} (drawn : S → List SourceAnswer → S → Type 0) where
     pub apart : v.number ≢ other.number
     pub kept : w ≡ record v { seen = w.seen; met = w.met }
 
-  -- A pass by which the reader was taken out for good: it stands as one legal history left it, which begins with all that the pass had seen.
+  -- A pass took the reader out for good, as one legal history left it, which begins with all that the pass had seen.
   pub record Closes (v : Known S) (r : ReaderState S) (w : Known S) : Type 0 where
     pub opening : ReaderState S
     pub between : List Entry

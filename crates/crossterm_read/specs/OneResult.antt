@@ -1,4 +1,4 @@
--- Two runs of the same calls over the same answers have one result, if memory wasn't refused.
+-- Two runs of the same calls over the same answers have one result, if no memory was refused.
 use Rattle.std.specs.Prelude.{◌≡◌, ◌≢◌, false, List, [], ◌∷◌, Some, None}
 use Rattle.std.specs.List.{AllByRecursion}
 use Rattle.std.specs.declared.io.ErrorKind.TheVariants.{OutOfMemory}
@@ -11,7 +11,7 @@ use Rattle.crossterm_read.specs.Replies.{Replied, ToPoll, ToTake, ToQuery, Fault
 use Rattle.crossterm_read.specs.declared.read.call.Call.{Call}
 use Rattle.crossterm_read.specs.declared.read.call.Call.TheVariants as call
 
--- A reply of a call that wasn't refused memory. A query that took the keyboard's flags, and no attributes after them, may have been refused it.
+-- A reply of a call that wasn't refused memory. Flags without attributes may be a refusal, so they don't count.
 abbrev pub IsUnrefused : Replied → Type 0
 IsUnrefused (ToPoll ready) = Unit {0}
 IsUnrefused (ToTake x) = Unit {0}
@@ -19,13 +19,13 @@ IsUnrefused (ToQuery x (Some y)) = Unit {0}
 IsUnrefused (ToQuery x None) = ⊥
 IsUnrefused (Fault kind) = kind ≢ OutOfMemory
 
--- What a caller sees of such a reply, if the call is no query for the keyboard's flags.
+-- What a caller sees of such a reply, if the call is no query for the keyboard flags.
 abbrev pub ShowsUnrefused : Said → Type 0
 ShowsUnrefused (Polled ready) = Unit {0}
 ShowsUnrefused (Came x) = Unit {0}
 ShowsUnrefused (Faulted kind) = kind ≢ OutOfMemory
 
--- A call that is no such query.
+-- A call that is no query for the keyboard flags.
 abbrev pub IsPlain : Call → Type 0
 IsPlain (call.Poll tries f) = Unit {0}
 IsPlain (call.Read tries f) = Unit {0}
@@ -39,19 +39,20 @@ IsApart (Ended [] pasting) = Unit {0}
 IsApart (Ended (e ∷ es) pasting) = pasting ≡ false
 IsApart (Single x) = Unit {0}
 
--- The bytes of none of these answers both end an event and leave a paste open.
+-- None of these answers has bytes that both end an event and leave a paste open.
 abbrev pub PastesApart : List DeviceAnswer → Type 0
 PastesApart device_answers =
     (outcomes : List Outcome) (undecided : List Marked) → Happens [] device_answers outcomes undecided → AllByRecursion IsApart outcomes
 
--- The replies that a run shows, and the events that are held after it, are those of any other run. That holds if no call of either was refused memory.
+-- Two runs of the same calls over the same answers show the same replies and hold the same events, if no call was
+-- refused memory.
 abbrev pub OneResult : Type 0
 OneResult = (device_answers : List DeviceAnswer) (calls : List Call) (answers others : List Said) (held kept : List Seen) → PastesApart device_answers
     → (p : Plays device_answers calls answers held) → AllByRecursion IsUnrefused p.replies
     → (q : Plays device_answers calls others kept) → AllByRecursion IsUnrefused q.replies
     → (answers ≡ others) × (held ≡ kept)
 
--- So it is by what callers see alone, if none of the calls is a query for the keyboard's flags.
+-- The same by what callers see alone, if no call is a query for the keyboard flags.
 abbrev pub OneShown : Type 0
 OneShown = (device_answers : List DeviceAnswer) (calls : List Call) (answers others : List Said) (held kept : List Seen) → PastesApart device_answers
     → AllByRecursion IsPlain calls

@@ -1,4 +1,4 @@
--- What comes of a device's answers, and what a source answers then.
+-- Which events a device's answers make, and what a source answers then.
 use Rattle.std.specs.Prelude.{◌≡◌, ◌⊎◌, Bool, true, List, [], ◌∷◌, ◌++◌}
 use Rattle.std.specs.List.{filter_map, flat_map}
 use Rattle.std.specs.declared.io.ErrorKind.TheVariants.{OutOfMemory, UnexpectedEof, Interrupted}
@@ -12,7 +12,7 @@ use Rattle.crossterm_read.specs.Answers.{SourceAnswer, Gave, Nothing, Failed}
 use Rattle.crossterm_read.specs.Device.{DeviceAnswer, Bytes, Resized, Woken, Idle, Fault, marked_bytes}
 use Rattle.crossterm_read.specs.Scripted.{AnswersWith}
 
--- What a source answers where its device answers without bytes.
+-- What a source answers if its device answers without bytes: the end of input, a size, a wake-up, nothing, or an error.
 abbrev pub IsAnsweredBy : DeviceAnswer → SourceAnswer → Type 0
 IsAnsweredBy (Bytes [] raw) x = x ≡ Failed UnexpectedEof
 IsAnsweredBy (Bytes (b ∷ bs) raw) x = ⊥
@@ -21,17 +21,19 @@ IsAnsweredBy Woken x = x ≡ Failed Interrupted
 IsAnsweredBy Idle x = x ≡ Nothing
 IsAnsweredBy (Fault kind) x = x ≡ Failed kind
 
--- Whether these undecided bytes are those of an open paste.
+-- True if these undecided bytes are those of an open paste.
 abbrev pub is_pasting : List Marked → Bool
 is_pasting undecided = begins paste_start (bytes_of undecided)
 
--- What comes of one answer of a device: the events that end in its bytes, and whether a paste is open after them; or the one answer of the source to
--- another.
+-- What one answer of a device makes.
 pub data Outcome : Type 0 where
+  -- The events that end in its bytes, and whether a paste is open after them.
   Ended : List Seen → Bool → Outcome
+  -- The source's one answer, if it has no bytes.
   Single : SourceAnswer → Outcome
 
--- One answer produces an outcome, from undecided bytes to undecided bytes.
+-- One answer makes this outcome, and leaves these undecided bytes: those of the division, with the bytes that were
+-- undecided before.
 abbrev pub Produces : List Marked → DeviceAnswer → Outcome → List Marked → Type 0
 Produces before (Bytes (b ∷ bs) raw) (Ended es pasting) after =
     (parts : List (List Marked)) × Divides Whole (before ++ marked_bytes (b ∷ bs) raw) parts after × (es ≡ filter_map meaning_of parts) × (pasting ≡ is_pasting after)
@@ -39,32 +41,32 @@ Produces before (Bytes (b ∷ bs) raw) (Single x) after = ⊥
 Produces before w (Ended es pasting) after = ⊥
 Produces before w (Single x) after = IsAnsweredBy w x × (after ≡ before)
 
--- Answers produce outcomes, one each.
+-- Answers make outcomes, one each.
 abbrev pub Happens : List Marked → List DeviceAnswer → List Outcome → List Marked → Type 0
 Happens before [] [] after = after ≡ before
 Happens before [] (b ∷ bs) after = ⊥
 Happens before (w ∷ ws) [] after = ⊥
 Happens before (w ∷ ws) (b ∷ bs) after = (mid : List Marked) × Produces before w b mid × Happens mid ws bs after
 
--- The events of an outcome, and of outcomes, in order.
+-- The events of an outcome, in order.
 abbrev pub outcome_events : Outcome → List Seen
 outcome_events (Ended es pasting) = es
 outcome_events (Single (Gave x)) = x ∷ []
 outcome_events (Single Nothing) = []
 outcome_events (Single (Failed kind)) = []
 
+-- The events of outcomes, in order.
 abbrev pub events_of : List Outcome → List Seen
 events_of bs = flat_map outcome_events bs
 
--- Bytes of a paste were left for want of memory, and were taken at last: that memory was refused, any number of times, and then that nothing came.
+-- Bytes of a paste were left for want of memory and taken later: some refusals of memory, and then that nothing came.
 abbrev pub TakenLate : List SourceAnswer → Type 0
 TakenLate [] = ⊥
 TakenLate (Gave x ∷ xs) = ⊥
 TakenLate (Nothing ∷ xs) = xs ≡ []
 TakenLate (Failed kind ∷ xs) = (kind ≡ OutOfMemory) × TakenLate xs
 
--- What is answered for events that end in some bytes: each once, in order, and before each, any number of times, that memory was refused. Behind the last
--- one nothing is answered, unless a paste is open and its bytes are taken late.
+-- What a source answers for events: each once, in order, and before each any number of refusals of memory.
 abbrev pub Delivers : Bool → List Seen → List SourceAnswer → Type 0
 Delivers pasting [] [] = Unit {0}
 Delivers pasting [] (x ∷ xs) = (pasting ≡ true) × TakenLate (x ∷ xs)
@@ -73,33 +75,37 @@ Delivers pasting (e ∷ es) (Gave x ∷ xs) = (x ≡ e) × Delivers pasting es x
 Delivers pasting (e ∷ es) (Nothing ∷ xs) = ⊥
 Delivers pasting (e ∷ es) (Failed kind ∷ xs) = (kind ≡ OutOfMemory) × Delivers pasting (e ∷ es) xs
 
--- What is answered for bytes. If they end no event that is nothing, once, unless a paste is open and they are taken late.
+-- What a source answers for bytes. If they end no event it is nothing, once, or an open paste's bytes are taken late.
 abbrev pub DeliversBytes : Bool → List Seen → List SourceAnswer → Type 0
 DeliversBytes pasting [] xs = (xs ≡ Nothing ∷ []) ⊎ ((pasting ≡ true) × TakenLate xs)
 DeliversBytes pasting (e ∷ es) xs = Delivers pasting (e ∷ es) xs
 
--- What a source answers for outcomes, whole. No outcome goes without an answer.
+-- What a source answers for outcomes, in order. No outcome is left out.
 abbrev pub DeliversAll : List Outcome → List SourceAnswer → Type 0
 DeliversAll [] xs = xs ≡ []
 DeliversAll (Single x ∷ bs) xs = (rest : List SourceAnswer) × (xs ≡ x ∷ rest) × DeliversAll bs rest
 DeliversAll (Ended es pasting ∷ bs) xs = (front : List SourceAnswer) × (rest : List SourceAnswer) × (xs ≡ front ++ rest) × DeliversBytes pasting es front × DeliversAll bs rest
 
--- Of what a device may answer the first ones were given, and the list is a front of what a source answers for their outcomes.
+-- The device gave the first of these answers. The list is the beginning of what a source answers for their outcomes.
 pub record Answered (device_answers : List DeviceAnswer) (list : List SourceAnswer) : Type 0 where
+  -- The answers that the device gave.
   pub answered : List DeviceAnswer
+  -- The answers that it has left.
   pub left : List DeviceAnswer
   pub outcomes : List Outcome
+  -- The bytes that end no sequence yet.
   pub undecided : List Marked
+  -- What the source still has to answer.
   pub more : List SourceAnswer
   pub answering : AnswersWith device_answers answered left
   pub happens : Happens [] answered outcomes undecided
   pub delivers : DeliversAll outcomes (list ++ more)
 
--- All events that happen by these answers.
+-- All events that these answers make.
 abbrev pub Happened : List DeviceAnswer → List Seen → Type 0
 Happened device_answers es = (outcomes : List Outcome) × (undecided : List Marked) × Happens [] device_answers outcomes undecided × (es ≡ events_of outcomes)
 
--- The marked bytes of the answers.
+-- The marked bytes of one answer.
 abbrev pub answer_bytes : DeviceAnswer → List Marked
 answer_bytes (Bytes bytes raw) = marked_bytes bytes raw
 answer_bytes (Resized columns rows) = []
@@ -107,14 +113,15 @@ answer_bytes Woken = []
 answer_bytes Idle = []
 answer_bytes (Fault kind) = []
 
+-- The marked bytes of all answers.
 abbrev pub all_bytes : List DeviceAnswer → List Marked
 all_bytes ws = flat_map answer_bytes ws
 
--- The events of outcomes that came of bytes: all but those of single answers.
+-- The events of an outcome that come from bytes.
 abbrev pub byte_events : Outcome → List Seen
 byte_events (Ended es pasting) = es
 byte_events (Single x) = []
 
--- The events of bytes are the meanings of the parts of the only division of all bytes.
+-- The events from bytes are the meanings of the parts of the only division of all bytes.
 abbrev pub HappensByDivision : Type 0
 HappensByDivision = (ws : List DeviceAnswer) (bs : List Outcome) (after : List Marked) → Happens [] ws bs after → (parts : List (List Marked)) × Divides Whole (all_bytes ws) parts after × (flat_map byte_events bs ≡ filter_map meaning_of parts)

@@ -1,4 +1,4 @@
--- What a device over a reader tells.
+-- What a device over a reader of bytes answers.
 use Rattle.std.specs.Prelude.{◌≡◌, ◌⊎◌, ◌-◌, ◌^◌, ℕ, Bool, false, Option, None, Some, List, [], ◌∷◌, ◌++◌, refl, ⊤}
 use Rattle.std.specs.Io.KnownBytes.{Consumes, IsAtEnd}
 use Rattle.std.specs.declared.io.ErrorKind.{ErrorKind}
@@ -6,15 +6,15 @@ use Rattle.std.specs.declared.io.ErrorKind.TheVariants.{WouldBlock, Interrupted}
 use Rattle.std.proofs.Common.{subst, sym, ap, inl, inr, ◌∙◌, append_assoc}
 use Rattle.crossterm_read.specs.Device.{Answering, DeviceAnswer, Bytes, Resized, Woken, Idle, Fault}
 
--- The error says that nothing came yet, and no more.
+-- The kind of an error that only says that nothing came yet.
 abbrev pub IsNothingYet : ErrorKind → Type 0
 IsNothingYet kind = (kind ≡ WouldBlock) ⊎ (kind ≡ Interrupted)
 
--- An error that isn't of such a kind is a fault.
+-- The kind of any other error.
 abbrev pub IsFault : ErrorKind → Type 0
 IsFault kind = IsNothingYet kind → ⊥
 
--- The most failures that are counted.
+-- The greatest number of failures that is counted.
 abbrev pub greatest : ℕ
 greatest = 2 ^ 64 - 1
 
@@ -27,7 +27,7 @@ bytes_answered (Woken ∷ ws) = bytes_answered ws
 bytes_answered (Idle ∷ ws) = bytes_answered ws
 bytes_answered (Fault kind ∷ ws) = bytes_answered ws
 
--- Some answer is that of no bytes, the end of input.
+-- One of the answers has no bytes: the end of input.
 abbrev pub AnswersEnd : List DeviceAnswer → Type 0
 AnswersEnd [] = ⊥
 AnswersEnd (Bytes [] raw ∷ ws) = Unit {0}
@@ -37,12 +37,12 @@ AnswersEnd (Woken ∷ ws) = AnswersEnd ws
 AnswersEnd (Idle ∷ ws) = AnswersEnd ws
 AnswersEnd (Fault kind ∷ ws) = AnswersEnd ws
 
--- Where it was known which bytes were left, none is left now.
+-- If it was known which bytes were left, none is left now.
 abbrev pub AreSpent : Option (List ℕ) → Option (List ℕ) → Type 0
 AreSpent None after = ⊤
 AreSpent (Some xs) after = IsAtEnd after
 
--- What was told are the first bytes that the reader had left, and it has the others left. The end is told only where none is.
+-- The bytes of the answers are the first that the reader had left. The end of input is answered only if none is left.
 abbrev pub ReadingAnswers : Option (List ℕ) → List DeviceAnswer → Option (List ℕ) → Type 0
 ReadingAnswers before device_answers after = Consumes before after (bytes_answered device_answers) × (AnswersEnd device_answers → AreSpent before after)
 
@@ -74,7 +74,7 @@ on (Some xs) None c p q d e = absurd d
 on (Some xs) (Some ys) None p q d e = e
 on (Some xs) (Some ys) (Some zs) p q d e = d ∙ (ap (λ l. p ++ l) e ∙ sym (append_assoc p q zs))
 
--- Where nothing was left nothing is left after more was told.
+-- If nothing was left, nothing is left after more answers.
 none_after : (q zs : List ℕ) → [] ≡ q ++ zs → zs ≡ []
 none_after [] zs e = sym e
 none_after (x ∷ q) zs e = absurd (cc)
@@ -100,7 +100,7 @@ reading_on a b c xs ys d e = (
   λ ends. spent_on a b c xs ys d e (end_in_one xs ys ends),
 )
 
--- No resize is among some answers.
+-- None of the answers is a resize.
 abbrev pub NoneResized : List DeviceAnswer → Type 0
 NoneResized [] = Unit {0}
 NoneResized (Bytes bytes raw ∷ ws) = NoneResized ws
@@ -117,7 +117,7 @@ none_resized_on (Woken ∷ xs) ys n m = none_resized_on xs ys n m
 none_resized_on (Idle ∷ xs) ys n m = none_resized_on xs ys n m
 none_resized_on (Fault kind ∷ xs) ys n m = none_resized_on xs ys n m
 
--- Where nothing reports sizes before, no resize is answered, and nothing reports sizes after.
+-- If nothing reports sizes, no resize is answered.
 abbrev pub SizesAnswer : Bool → List DeviceAnswer → Bool → Type 0
 SizesAnswer before device_answers after = before ≡ false → NoneResized device_answers × (after ≡ false)
 
@@ -127,7 +127,7 @@ sizes_on a b c xs ys d e none =
     let last = e first.1 in
     (none_resized_on xs ys first.0 last.0, last.1)
 
--- What a device over a reader tells, by what it is known that the reader has left, and by whether something reports sizes.
+-- How a device over a reader answers, by the bytes that its reader has left, and by whether something reports sizes.
 abbrev pub reading_answering : {D : Type 0} → (D → Option (List ℕ)) → (D → Bool) → Answering D
 reading_answering left sizes = record {
   answered = λ s device_answers t. ReadingAnswers (left s) device_answers (left t) × SizesAnswer (sizes s) device_answers (sizes t);

@@ -1,4 +1,4 @@
--- What a script tells.
+-- What a script answers.
 use Rattle.std.specs.Prelude.{◌≡◌, ℕ, ◌+◌, zero, suc, Bool, true, false, List, [], ◌∷◌, ◌++◌, length, take, drop, map, refl}
 use Rattle.std.specs.List.{count_by}
 use Rattle.std.proofs.Common.{subst, sym, ap, ◌∙◌, add-zero, add_assoc}
@@ -13,14 +13,15 @@ cut_within zero bytes = []
 cut_within (suc n) [] = []
 cut_within (suc n) (b ∷ bs) = take 1024 (b ∷ bs) ∷ cut_within n (drop 1024 (b ∷ bs))
 
+-- Bytes cut into buffers of 1024 and a rest; none for no bytes.
 abbrev pub buffers : List ℕ → List (List ℕ)
 buffers bytes = cut_within (length bytes) bytes
 
--- A piece is told in buffers, and an empty one not at all.
+-- A piece is answered in buffers, and an empty one not at all.
 abbrev pub piece_answers : List ℕ → Bool → List DeviceAnswer
 piece_answers bytes raw = map (λ buffer. Bytes buffer raw) (buffers bytes)
 
--- What a script's acts answer.
+-- The answers of a script's acts.
 abbrev pub device_answers : {A : Type 0} → List (Act A) → List DeviceAnswer
 device_answers [] = []
 device_answers (act.Piece bytes raw ∷ acts) = piece_answers bytes.items raw ++ device_answers acts
@@ -29,7 +30,7 @@ device_answers (act.Woken ∷ acts) = Woken ∷ device_answers acts
 device_answers (act.Idle ∷ acts) = Idle ∷ device_answers acts
 device_answers (act.Fault kind ∷ acts) = Fault kind ∷ device_answers acts
 
--- What the acts that are left answer, where so many bytes of the first one were given.
+-- The answers of the acts that are left, after so many bytes of the first one were given.
 abbrev pub device_answers_from : {A : Type 0} → List (Act A) → ℕ → List DeviceAnswer
 device_answers_from [] answered = []
 device_answers_from (act.Piece bytes raw ∷ acts) answered = piece_answers (drop answered bytes.items) raw ++ device_answers acts
@@ -38,13 +39,13 @@ device_answers_from (act.Woken ∷ acts) answered = Woken ∷ device_answers act
 device_answers_from (act.Idle ∷ acts) answered = Idle ∷ device_answers acts
 device_answers_from (act.Fault kind ∷ acts) answered = Fault kind ∷ device_answers acts
 
--- Of the answers that are left the first ones are given. Past the end each is that of no bytes, the end of input.
+-- The first of the answers that are left are given. Past the end each has no bytes: the end of input.
 abbrev pub AnswersWith : List DeviceAnswer → List DeviceAnswer → List DeviceAnswer → Type 0
 AnswersWith left [] after = left ≡ after
 AnswersWith [] (x ∷ xs) after = (x ≡ Bytes [] false) × AnswersWith [] xs after
 AnswersWith (w ∷ left) (x ∷ xs) after = (x ≡ w) × AnswersWith left xs after
 
--- How many answers are faults.
+-- True of an answer that is an error.
 abbrev pub is_fault : DeviceAnswer → Bool
 is_fault (Bytes bytes raw) = false
 is_fault (Resized columns rows) = false
@@ -52,6 +53,7 @@ is_fault Woken = false
 is_fault Idle = false
 is_fault (Fault kind) = true
 
+-- How many answers are errors.
 abbrev pub faults : List DeviceAnswer → ℕ
 faults ws = count_by is_fault ws
 
@@ -60,7 +62,7 @@ pub record ScriptLeft : Type 0 where
   pub left : List DeviceAnswer
   pub failed : ℕ
 
--- The answers are given, and the faults among them counted.
+-- The first of the answers that were left were given, and the errors among them counted.
 abbrev pub ScriptTells : ScriptLeft → List DeviceAnswer → ScriptLeft → Type 0
 ScriptTells s xs t = AnswersWith s.left xs t.left × (t.failed ≡ s.failed + faults xs)
 
@@ -79,6 +81,6 @@ script_on s t u xs ys d e = (
   e.1 ∙ ap (λ (n : ℕ). n + faults ys) d.1 ∙ add_assoc s.failed (faults xs) (faults ys) ∙ ap (λ (n : ℕ). s.failed + n) (sym (sum_by-append _ xs ys)),
 )
 
--- What a script tells as a device.
+-- How a script answers, as a device.
 abbrev pub script_answering : Answering ScriptLeft
 script_answering = record { answered = ScriptTells; none = script_none; on = script_on }

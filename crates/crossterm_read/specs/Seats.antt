@@ -14,6 +14,6 @@ module _ {S A : Type 0} where
   abbrev pub number : Pass S A → ℕ
   number p = (knows p).number
 
--- The pass is one of those of this slot, and it doesn't have the reader.
+-- The pass belongs to this slot, and it doesn't have the reader.
 abbrev pub IsSeatOf : {S A T V Q : Type 0} → Slotted T V Q A → Pass S A → Type 0
 IsSeatOf slot p = (p.seat.table_id ≡ slot.table.shared.table_id) × ((knows p).has ≡ false)

@@ -6,7 +6,7 @@ use Rattle.crossterm_read.specs.declared.read.shared.pass.Pass.{Pass}
 use Rattle.crossterm_read.specs.declared.read.shared.reader.EventReader.{EventReader}
 
 module _ {S A : Type 0} where
-  -- The pass came from the `new` of this reader, or of the one that it is a share of, and it doesn't have the reader.
+  -- The pass came from the `new` of this reader, or of the one that it shares, and it doesn't have the reader.
   abbrev pub IsPassOf : EventReader S A → Pass S A → Type 0
   IsPassOf r p = IsSeatOf (arc_value r.room).slot p
 

@@ -14,52 +14,61 @@ use Rattle.crossterm_read.specs.Answers.{SourceAnswer, Gave, Nothing, Failed}
 use Rattle.crossterm_read.specs.Device.{DeviceAnswer, Bytes, marked_bytes}
 use Rattle.crossterm_read.specs.Outcomes.{IsAnsweredBy, is_pasting}
 
--- Where a source stands: the events that wait, the bytes that weren't taken yet, those of no whole sequence that were, and for how many more events
--- there is room without memory.
+-- What a source has at hand.
 pub record At : Type 0 where
+  -- The events that wait.
   pub waiting : List Seen
+  -- The bytes that its parser hasn't taken.
   pub untaken : List Marked
+  -- The bytes that it took, and that end no sequence yet.
   pub undecided : List Marked
+  -- For how many more events there is room.
   pub room : ℕ
 
--- After undecided bytes these end no event, and no paste is open after them.
+-- Behind the undecided bytes these end no event, and no paste is open after them.
 abbrev pub EndNoEvent : List Marked → List Marked → Type 0
 EndNoEvent undecided bytes = (parts : List (List Marked)) × (rest : List Marked) × Divides Whole (undecided ++ bytes) parts rest
     × (filter_map meaning_of parts ≡ []) × (is_pasting rest ≡ false)
 
--- After undecided bytes these open no paste, and none was open.
+-- Behind the undecided bytes these open no paste, and none was open.
 abbrev pub OpenNoPaste : List Marked → List Marked → Type 0
 OpenNoPaste undecided bytes = (parts : List (List Marked)) × (rest : List Marked) × Divides Whole (undecided ++ bytes) parts rest
     × AllByRecursion (λ part. is_pasting part ≡ false) parts × (is_pasting rest ≡ false)
 
--- Of some bytes the parser takes a front, where it represented undecided ones. Those that end no event it takes whole, and the first one that
--- is left ends an event, or is of a paste. If it is of none, and no event came, there is no room left.
+-- The parser takes some bytes in front, behind undecided ones.
 pub record Takes (undecided bytes : List Marked) (mid : At) : Type 0 where
   pub taken : List Marked
   pub parts : List (List Marked)
   pub cut : bytes ≡ taken ++ mid.untaken
   pub division : Divides Whole (undecided ++ taken) parts mid.undecided
   pub waiting : mid.waiting ≡ filter_map meaning_of parts
+  -- Bytes that end no event are taken whole.
   pub quiet : EndNoEvent undecided bytes → mid.untaken ≡ []
+  -- The first byte that is left ends an event, or is of a paste.
   pub left : mid.untaken ≢ [] → ¬ EndNoEvent mid.undecided (take 1 mid.untaken)
+  -- If no event came, a byte outside a paste is left only if there is no room.
   pub full : mid.waiting ≡ [] → mid.untaken ≢ [] → OpenNoPaste mid.undecided (take 1 mid.untaken) → mid.room ≡ 0
 
--- What is answered where no event came: nothing where all bytes were taken, and else that memory was refused.
+-- The answer if no event came: nothing if all bytes were taken, else that memory was refused.
 abbrev pub without_event : List Marked → SourceAnswer
 without_event [] = Nothing
 without_event (m ∷ ms) = Failed OutOfMemory
 
--- The first event that waits is given.
+-- The first waiting event is given, if there is one.
 abbrev pub GivesFirst : List Seen → At → SourceAnswer → At → Type 0
 GivesFirst (e ∷ es) mid x q = (x ≡ Gave e) × (q ≡ record mid { waiting = es })
 GivesFirst [] mid x q = (x ≡ without_event mid.untaken) × (q ≡ mid)
 
--- One answer, with those that the device was asked for: an event that waited, else untaken bytes again, else one new answer of the device.
+-- One answer of a source, with what it asked its device for.
 pub data Turn (p : At) (ws : List DeviceAnswer) (x : SourceAnswer) (q : At) : Type 0 where
+  -- An event waited and is given.
   waited : (e : Seen) → p.waiting ≡ e ∷ q.waiting → q.untaken ≡ p.untaken → q.undecided ≡ p.undecided → ws ≡ [] → x ≡ Gave e → Turn p ws x q
+  -- The parser takes bytes that were left.
   again : (mid : At) → p.waiting ≡ [] → p.untaken ≢ [] → ws ≡ [] → Takes p.undecided p.untaken mid → GivesFirst mid.waiting mid x q → Turn p ws x q
+  -- The device answers bytes, and the parser takes them.
   fresh : (bytes : List ℕ) (raw : Bool) (mid : At) → p.waiting ≡ [] → p.untaken ≡ [] → bytes ≢ [] → ws ≡ Bytes bytes raw ∷ []
       → Takes p.undecided (marked_bytes bytes raw) mid → GivesFirst mid.waiting mid x q → Turn p ws x q
+  -- The device answers without bytes.
   other : (w : DeviceAnswer) → p.waiting ≡ [] → p.untaken ≡ [] → ws ≡ w ∷ [] → IsAnsweredBy w x → q ≡ p → Turn p ws x q
 
 -- Answers one after another.
@@ -73,15 +82,16 @@ pub record Source (D : Type 0) : Type 0 where
   pub untaken : List Marked
   pub device : D
 
+-- What a source has at hand behind these undecided bytes.
 abbrev pub at : {D : Type 0} → Source D → List Marked → At
 at s before = record { waiting = s.parser.waiting; untaken = s.untaken; undecided = before; room = s.parser.room }
 
--- For these answers of the device, whatever undecided bytes the parser represented.
+-- The source gave these answers for those of the device, whatever undecided bytes the parser represented.
 abbrev pub DrawnFor : {D : Type 0} → Source D → List DeviceAnswer → List SourceAnswer → Source D → Type 0
 DrawnFor s ws xs t = (before : List Marked) → Represents s.parser before → IsUndecided Whole before
     → (after : List Marked) × Represents t.parser after × IsUndecided Whole after × Turns (at s before) ws xs (at t after)
 
--- The device gave some answers, for which these were given.
+-- The device gave some answers, and the source gave these for them.
 abbrev pub SourceDrawn : {D : Type 0} → (D → List DeviceAnswer → D → Type 0) → Source D → List SourceAnswer → Source D → Type 0
 SourceDrawn answered s xs t = (ws : List DeviceAnswer) × answered s.device ws t.device × DrawnFor s ws xs t
 
@@ -95,7 +105,7 @@ turns_on p q r us vs [] ys d e = subst (λ (ws : List DeviceAnswer). Turns p (ws
 turns_on p q r us vs (x ∷ xs) ys d e =
     (d.0, d.1 ++ vs, d.2, ap (λ (l : List DeviceAnswer). l ++ vs) d.3 ∙ append_assoc d.0 d.1 vs, d.4, turns_on d.2 q r d.1 vs xs ys d.5 e)
 
--- So many bytes of an open paste came after its start.
+-- The text of the open paste has so many bytes.
 abbrev pub HasPaste : {D : Type 0} → ℕ → Source D → Type 0
 HasPaste count s = (before : List Marked) → Represents s.parser before → count ≡ paste_length (bytes_of before)
 

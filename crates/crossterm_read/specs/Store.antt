@@ -3,27 +3,29 @@ use Rattle.std.specs.Prelude.{◌≡◌, ℕ, ◌+◌, ◌-◌, ◌^◌, min, Li
 use Rattle.crossterm_types.specs.Seen.{Seen}
 use Rattle.crossterm_read.specs.Answers.{SourceAnswer, Gave, Nothing, Failed}
 
--- The held events, each with its arrival number, and the number of the next one. An arrival number tells how many events arrived before.
+-- The events that a reader holds. An event's arrival number is how many arrived before it.
 pub record EventStore : Type 0 where
+  -- The held events, each with its arrival number.
   pub held : List (Seen × ℕ)
+  -- The number of the next event.
   pub arrivals : ℕ
 
--- What a reader holds, and for how many more events there is room without memory.
+-- The events that a reader holds, and for how many more there is room.
 pub record Holding : Type 0 where
   pub store : EventStore
   pub room : ℕ
 
--- A reader: what it holds, for how many more events it has room without memory, and its source.
+-- A reader: the events that it holds, for how many more it has room, and its source.
 pub record ReaderState (S : Type 0) : Type 0 where
   pub store : EventStore
   pub room : ℕ
   pub source : S
 
--- How many events it holds at most without memory: those that it holds, and those for which it has room.
+-- How many events it can hold without asking for memory.
 abbrev pub capacity : {S : Type 0} → ReaderState S → ℕ
 capacity s = length s.store.held + s.room
 
--- The number after one. Numbers rise to the greatest u64 and stay there.
+-- The number after `n`. Numbers rise to the greatest u64 and stay there.
 abbrev pub next_number : ℕ → ℕ
 next_number n = min (n + 1) (2 ^ 64 - 1)
 
@@ -41,7 +43,7 @@ numbered_after n (Gave x ∷ zs) = numbered_after (next_number n) zs
 numbered_after n (Nothing ∷ zs) = numbered_after n zs
 numbered_after n (Failed kind ∷ zs) = numbered_after n zs
 
--- Each event that is given joins the held ones at their end.
+-- The events among the answers join the held ones at their end.
 pub record Arrives (s : EventStore) (zs : List SourceAnswer) (t : EventStore) : Type 0 where
   pub held : t.held ≡ s.held ++ arrived s.arrivals zs
   pub arrivals : t.arrivals ≡ numbered_after s.arrivals zs

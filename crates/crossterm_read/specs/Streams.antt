@@ -1,4 +1,4 @@
--- What a stream answers, and what its worker does.
+-- What a stream returns, and what its worker does.
 use Rattle.std.specs.Prelude.{◌≡◌, ◌⊎◌, List, [], ◌∷◌, Option, None, Result, IsErr}
 use Rattle.std.specs.declared.io.Error.{Error}
 use Rattle.std.specs.declared.time.Duration.{Duration}
@@ -14,28 +14,28 @@ use Rattle.crossterm_read.specs.declared.read.shared.reader.EventReader.{EventRe
 use Rattle.crossterm_read.specs.declared.stream.worker.StreamWorker.{StreamWorker}
 
 module _ {S : Type 0} (drawn : S → List SourceAnswer → S → Type 0) (asked : S → List (Option Duration)) where
-  -- One read at once that the stream's pass made: it stands in the one history, as the last call that the pass has seen.
+  -- The stream's pass made one read with one try: it is the last call in the history that the pass has seen.
   abbrev pub ReadsAtOnce : Replied → Known S → Known S → Type 0
   ReadsAtOnce r v w = Extends drawn (IsTry asked filters.Event r) v w
 
-  -- An item is what such a read replied; or it is a fault, and the pass is as it was.
+  -- An item is the reply of such a read; or it is an error, and the pass is as it was.
   abbrev pub GivesItem : {A : Type 0} → Known S → Known S → Result (Event A) Error → Type 0
   GivesItem v w item = ((r : Replied) × (event_said item ≡ shown r) × ReadsAtOnce r v w) ⊎ (IsErr item × (w ≡ v))
 
-  -- Nothing yet: such a read took nothing; or the pass is as it was.
+  -- Nothing yet: such a read took nothing, or the pass is as it was.
   abbrev pub GivesNothing : Known S → Known S → Type 0
   GivesNothing v w = ReadsAtOnce (ToTake None) v w ⊎ (w ≡ v)
 
-  -- The worker's pass made polls without a limit, one after another, with these replies. They all stand in the one history.
+  -- The worker's pass made polls without a limit, one after another, with these replies. All are in the one history.
   abbrev pub PollsOn : Known S → List Replied → Known S → Type 0
   PollsOn v [] w = w ≡ v
   PollsOn v (r ∷ rs) w = (u : Known S) × Extends drawn (IsPoll asked filters.Event None 0 0 r) v u × PollsOn u rs w
 
-  -- It made no other call.
+  -- The worker's pass made no other calls.
   abbrev pub OnlyPolls : Known S → Known S → Type 0
   OnlyPolls v w = (rs : List Replied) × PollsOn v rs w
 
 module _ {S A : Type 0} where
-  -- The worker's pass is of this reader, and was that one when the worker began.
+  -- The worker uses this reader, and its pass is as this one was when the worker began.
   abbrev pub IsWorkerOf : StreamWorker S A → EventReader S A → Pass S A → Type 0
   IsWorkerOf worker r p = (worker.thread.promise.reader.value ≡ r) × (knows worker.thread.promise.pass.value ≡ knows p)

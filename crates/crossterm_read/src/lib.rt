@@ -33,22 +33,22 @@
 //!
 //! | Definitions | Lines | Of | Contract |
 //! |---|---|---|---|
-//! | `Device` | 74 | what a device answers | `Device::answer` |
-//! | `Scripted` | 84 | what the acts of a script answer | `Device::answer` of `Script` |
+//! | `Device` | 80 | what a device answers | `Device::answer` |
+//! | `Scripted` | 86 | what the acts of a script answer | `Device::answer` of `Script` |
 //! | `Reading` | 136 | what a device over a reader answers | `Device::answer` of `ReadDevice`, `PolledDevice`, `SocketDevice` |
-//! | `Waking` | 30 | which wakers are alike | `Waker`, `Device::waker` |
-//! | `Answers` | 41 | what a source answers | `EventSource::try_read` |
-//! | `Outcomes` | 120 | what comes of a device's answers, and the events that happen | `laws::one_happening` |
-//! | `Sources` | 116 | what a source answers, turn by turn | `DeviceSource` |
-//! | `Store` | 51 | what a reader holds | `InternalEventReader::{new, held}` |
-//! | `Replies` | 75 | what a call replies | |
-//! | `Steps` | 110 | what a poll, a read and a take do | `InternalEventReader::{poll_within, read_within, take}` |
+//! | `Waking` | 32 | which wakers are alike | `Waker`, `Device::waker` |
+//! | `Answers` | 46 | what a source answers | `EventSource::try_read` |
+//! | `Outcomes` | 127 | what comes of a device's answers, and the events that happen | `laws::one_happening` |
+//! | `Sources` | 126 | what a source answers, turn by turn | `DeviceSource` |
+//! | `Store` | 53 | what a reader holds | `InternalEventReader::{new, held}` |
+//! | `Replies` | 84 | what a call replies | |
+//! | `Steps` | 117 | what a poll, a read and a take do | `InternalEventReader::{poll_within, read_within, take}` |
 //! | `Queries` | 45 | what a query does | `InternalEventReader::{position_within, keyboard_within}` |
-//! | `Waiting` | 35 | with which limits a device is asked | `InternalEventReader::{poll, read}`, `EventReader::keyboard_by` |
-//! | `Calls` | 128 | runs of calls, and the account of all events: the headline | `read::play`, `laws::counts_tries` |
-//! | `OneResult` | 60 | two runs of the same calls over the same answers | `laws::one_result` |
-//! | `History` | 170 | the one legal history of a reader that threads share | `EventReader`, `Pass` |
-//! | `Entries` | 108 | which call an entry of it is | `EventReader::{poll, read, read_for, poll_by, read_by, position_by, keyboard_by, paste_len}` |
+//! | `Waiting` | 38 | with which limits a device is asked | `InternalEventReader::{poll, read}`, `EventReader::keyboard_by` |
+//! | `Calls` | 138 | runs of calls, and the account of all events: the headline | `read::play`, `laws::counts_tries` |
+//! | `OneResult` | 61 | two runs of the same calls over the same answers | `laws::one_result` |
+//! | `History` | 191 | the one legal history of a reader that threads share | `EventReader`, `Pass` |
+//! | `Entries` | 113 | which call an entry of it is | `EventReader::{poll, read, read_for, poll_by, read_by, position_by, keyboard_by, paste_len}` |
 //! | `OverScripts` | 26 | what a history over a script comes to | `laws::{scripts_are_told, histories_are_told}` |
 //! | `Seats` | 19 | what a clause says of a pass | `EventReader::{new, share, meet, close}` |
 //! | `Shared` | 15 | what it says of a share | `EventReader::{new, share}` |

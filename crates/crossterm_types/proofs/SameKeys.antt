@@ -42,7 +42,7 @@ same_modifier = same_true modifier.the_type tt
 same_kind : (a b : KeyEventKind) → kind.ghosts.eq a b ≡ true → a ≡ b
 same_kind = same_true key_kind.the_type tt
 
--- The fields of a key code's variants from Media on, and from F on; and their tests. 14 variants without fields stand first, and 9 between.
+-- The fields of a key code's variants from Media on, and from F on; and their tests. 14 variants without fields are before them, and 9 between.
 abbrev media_on : List (List Field)
 media_on = (media.the_field ∷ []) ∷ (modifier.the_field ∷ []) ∷ []
 
@@ -79,7 +79,7 @@ same_fields a b h =
 abbrev key_of : NormalKey → KeyEvent
 key_of key = record { code = key.code; modifiers = key.modifiers; kind = key.kind; state = key.state }
 
--- Keys are equal exactly where their normal forms are the same.
+-- Keys are equal if and only if their normal forms are the same.
 pub equal-normal : (a b : KeyEvent) → IsTrue (key_eq a b) ↔ (normal a ≡ normal b)
 equal-normal a b = (
   λ h. ap key_of (same_fields (compared a) (compared b) h),
@@ -90,7 +90,7 @@ equal-normal a b = (
 pub equal-itself : (key : KeyEvent) → IsTrue (key_eq (normal key) key)
 equal-itself key = (equal-normal (normal key) key).1 (normal-normal key)
 
--- Keys are equal exactly where their order says so.
+-- Keys are equal if and only if their order says so.
 pub equal-ordered : (a b : KeyEvent) → IsTrue (key_eq a b) ↔ (key_cmp a b ≡ Equal)
 equal-ordered a b =
     let ties : key_eq a b ≡ is_eq (key_cmp a b) = order_laws.matches_eq-law (compared a) (compared b) in

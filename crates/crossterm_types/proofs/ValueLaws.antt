@@ -1,4 +1,4 @@
--- Values that are told are read back.
+-- Values that are written are read back.
 use mathlib.Core.Bool.{true≢false}
 use Rattle.std.proofs.lemmas.Cmp.{nat_list_eq_equiv}
 use Rattle.std.specs.Cmp.Lexicographic.{same_text}
@@ -83,7 +83,7 @@ by_names false false true d w x y z f g h k = absurd (h refl)
 by_names false false false true w x y z f g h k = absurd (k refl)
 by_names false false false false w x y z f g h k = refl
 
--- Where a text is none of four names, nothing is chosen by them.
+-- If a text is none of four names, nothing is chosen by them.
 pub none_of : {X : Type 0} (text a b c d : List ℕ) (w x y z : Option X) → text ≢ a → text ≢ b → text ≢ c → text ≢ d
     → cond (same text a) w (cond (same text b) x (cond (same text c) y (cond (same text d) z None))) ≡ None
 none_of text a b c d w x y z f g h k =
@@ -92,7 +92,7 @@ none_of text a b c d w x y z f g h k =
 
 -- ---- keys
 
--- A key that holds nothing is told by its variant.
+-- A key without a value is written as its variant.
 pub plain_told : (c : KeyCode) → ((n : ℕ) → c ≡ code.F n → ⊥) → ((n : ℕ) → c ≡ code.Char n → ⊥) → ((k : MediaKeyCode) → c ≡ code.Media k → ⊥) → ((k : ModifierKeyCode) → c ≡ code.Modifier k → ⊥)
     → code_value c ≡ string (variant plain_keys c)
 plain_told (code.F n) f g h k = absurd (f n refl)

@@ -1,4 +1,4 @@
--- Tests of the values of an enum: where each variant's test says that two values are the same, so does the whole test.
+-- Tests of the values of an enum: if each variant's test says that two values are the same, so does the whole test.
 use Rattle.std.proofs.Common.{◌≡◌, ℕ, zero, suc, Bool, true, false, List, [], ◌∷◌, refl, sym, ap}
 use mathlib.Core.Bool.{true≢false}
 use mathlib.Core.Logic.{inl, inr}

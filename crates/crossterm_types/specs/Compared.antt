@@ -19,7 +19,7 @@ use Rattle.crossterm_types.specs.contracts.event.key.KeyEventKindPartialEq.TheIm
 use Rattle.crossterm_types.specs.declared.event.key.KeyEvent.{KeyEvent}
 use Rattle.crossterm_types.specs.declared.event.key.normal_key.NormalKey.{NormalKey}
 
--- Whether two keys have equal fields.
+-- True if two keys have equal fields.
 abbrev pub fields_eq : KeyEvent → KeyEvent → Bool
 fields_eq a b = code.ghosts.eq a.code b.code && (modifiers.ghosts.eq a.modifiers b.modifiers && (kind.ghosts.eq a.kind b.kind && state.ghosts.eq a.state b.state))
 
@@ -27,17 +27,19 @@ fields_eq a b = code.ghosts.eq a.code b.code && (modifiers.ghosts.eq a.modifiers
 abbrev pub fields_cmp : KeyEvent → KeyEvent → Ordering
 fields_cmp a b = ordering_then (code_order.ghosts.cmp a.code b.code) (ordering_then (modifiers_order.ghosts.cmp a.modifiers b.modifiers) (ordering_then (kind_order.ghosts.cmp a.kind b.kind) (state_order.ghosts.cmp a.state b.state)))
 
--- What a key's fields feed a hasher.
+-- The fields of a key, as they are fed to a hasher.
 abbrev pub fields_hash : KeyEvent → HashWrites
 fields_hash key = code_hash.ghosts.hash_input key.code ++ (modifiers_hash.ghosts.hash_input key.modifiers ++ (kind_hash.ghosts.hash_input key.kind ++ state_hash.ghosts.hash_input key.state))
 
--- Whether two keys are equal, their order, and what a key feeds a hasher: those of the normal forms' fields.
+-- True if the normal forms of two keys have equal fields.
 abbrev pub key_eq : KeyEvent → KeyEvent → Bool
 key_eq = on normal fields_eq
 
+-- The order of two keys: that of the fields of their normal forms.
 abbrev pub key_cmp : KeyEvent → KeyEvent → Ordering
 key_cmp = on normal fields_cmp
 
+-- The fields of a key's normal form, as they are fed to a hasher.
 abbrev pub key_hash : KeyEvent → HashWrites
 key_hash key = fields_hash (normal key)
 

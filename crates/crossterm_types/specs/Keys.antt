@@ -9,7 +9,7 @@ use Rattle.crossterm_types.specs.declared.event.key.KeyEventKind.TheVariants.{Pr
 abbrev pub modifiers_of : ℕ → KeyModifiers
 modifiers_of bits = record { 0 = bits }
 
--- A key that is pressed with these modifiers, and nothing else is known of it.
+-- A key that is pressed with these modifiers, with no state.
 abbrev pub pressed : KeyCode → KeyModifiers → KeyEvent
 pressed code modifiers = record { code = code; modifiers = modifiers; kind = Press; state = record { 0 = 0 } }
 

@@ -11,7 +11,7 @@ use Rattle.crossterm_types.specs.declared.event.key.MediaKeyCode.TheVariants as 
 use Rattle.crossterm_types.specs.declared.event.key.ModifierKeyCode.{ModifierKeyCode}
 use Rattle.crossterm_types.specs.declared.event.key.ModifierKeyCode.TheVariants as modifier
 
--- The names of media keys that aren't their variants.
+-- The names of media keys that differ from their variants.
 abbrev media_names : List (List ℕ × MediaKeyCode)
 media_names =
     (codes "Play/Pause", media.PlayPause) ∷ (codes "Fast Forward", media.FastForward) ∷ (codes "Next Track", media.TrackNext) ∷ (codes "Previous Track", media.TrackPrevious) ∷
@@ -28,14 +28,15 @@ modifier_names =
     (codes "Left Meta", modifier.LeftMeta) ∷ (codes "Right Shift", modifier.RightShift) ∷ (codes "Right Ctrl", modifier.RightControl) ∷ (codes "Right Alt", modifier.RightAlt) ∷ (codes "Right Super", modifier.RightSuper) ∷
     (codes "Right Hyper", modifier.RightHyper) ∷ (codes "Right Meta", modifier.RightMeta) ∷ (codes "Iso Level 3 Shift", modifier.IsoLevel3Shift) ∷ (codes "Iso Level 5 Shift", modifier.IsoLevel5Shift) ∷ []
 
+-- The name of a modifier key.
 abbrev pub modifier_name : ModifierKeyCode → List ℕ
 modifier_name = name_in modifier_keys.eq modifier_names
 
--- A character by itself, and a space, which none would see, by its name.
+-- A character itself; a space, which can't be seen, by its name.
 abbrev pub char_name : ℕ → List ℕ
 char_name c = if c == 32 then codes "Space" else encode_utf8 c
 
--- The names of keys that hold nothing where they aren't their variants.
+-- The names of keys without a value that differ from their variants.
 abbrev key_names : List (List ℕ × KeyCode)
 key_names =
     (codes "Page Up", key.PageUp) ∷ (codes "Page Down", key.PageDown) ∷ (codes "Back Tab", key.BackTab) ∷ (codes "Del", key.Delete) ∷ (codes "Caps Lock", key.CapsLock) ∷

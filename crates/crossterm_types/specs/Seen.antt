@@ -1,4 +1,4 @@
--- What a clause sees of an event: a paste is its text, wherever that lies in memory.
+-- Events as contracts see them: a paste is its text, wherever that lies in memory.
 use Rattle.std.specs.Prelude.{ℕ, List, string_bytes}
 use Rattle.crossterm_flags.specs.declared.enhancement.KeyboardEnhancementFlags.{KeyboardEnhancementFlags}
 use Rattle.crossterm_types.specs.declared.event.key.KeyEvent.{KeyEvent}
@@ -8,7 +8,7 @@ use Rattle.crossterm_types.specs.declared.event.Event.TheVariants as event
 use Rattle.crossterm_types.specs.declared.event.InternalEvent.{InternalEvent}
 use Rattle.crossterm_types.specs.declared.event.InternalEvent.TheVariants as internal
 
--- An event as a clause sees it. A paste's text is its bytes in UTF-8.
+-- An event as contracts see it. A paste is the bytes of its text in UTF-8.
 pub data Seen : Type 0 where
   FocusGained : Seen
   FocusLost : Seen
@@ -20,6 +20,7 @@ pub data Seen : Type 0 where
   KeyboardFlags : KeyboardEnhancementFlags → Seen
   PrimaryDeviceAttributes : Seen
 
+-- A user's event, as contracts see it.
 abbrev pub seen_event : {A : Type 0} → Event A → Seen
 seen_event event.FocusGained = FocusGained
 seen_event event.FocusLost = FocusLost
@@ -28,6 +29,7 @@ seen_event (event.Mouse mouse) = Mouse mouse
 seen_event (event.Paste text) = Paste (string_bytes text)
 seen_event (event.Resize columns rows) = Resize columns rows
 
+-- An event or a reply, as contracts see it.
 abbrev pub seen : {A : Type 0} → InternalEvent A → Seen
 seen (internal.Event e) = seen_event e
 seen (internal.CursorPosition column row) = CursorPosition column row

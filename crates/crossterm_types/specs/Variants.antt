@@ -1,4 +1,4 @@
--- The variants of enums and their names, by which JSON values tell them and by which they are ordered: of each enum one table.
+-- The variants of enums by name, one table each: for JSON values, and for the declared order.
 use Rattle.std.specs.Prelude.{ℕ, List, [], ◌∷◌, ◌++◌, codes, map}
 use Rattle.crossterm_flags.specs.Values.{same}
 use Rattle.crossterm_flags.specs.Variants.{Variants, place_in, variant}
@@ -21,9 +21,11 @@ use Rattle.crossterm_types.specs.declared.event.mouse.MouseButton.TheVariants as
 use Rattle.crossterm_types.specs.declared.event.mouse.MouseEventKind.{MouseEventKind}
 use Rattle.crossterm_types.specs.declared.event.mouse.MouseEventKind.TheVariants as mouse
 
+-- The kinds of key events.
 abbrev pub kinds : Variants KeyEventKind
 kinds = record { eq = kind_eq.ghosts.eq; rows = (codes "Press", kind.Press) ∷ (codes "Repeat", kind.Repeat) ∷ (codes "Release", kind.Release) ∷ [] }
 
+-- The media keys.
 abbrev pub media_keys : Variants MediaKeyCode
 media_keys = record {
   eq = media_eq.ghosts.eq;
@@ -34,6 +36,7 @@ media_keys = record {
       (codes "MuteVolume", media.MuteVolume) ∷ [];
 }
 
+-- The modifier keys.
 abbrev pub modifier_keys : Variants ModifierKeyCode
 modifier_keys = record {
   eq = modifier_eq.ghosts.eq;
@@ -44,12 +47,13 @@ modifier_keys = record {
       (codes "IsoLevel3Shift", modifier.IsoLevel3Shift) ∷ (codes "IsoLevel5Shift", modifier.IsoLevel5Shift) ∷ [];
 }
 
+-- The buttons of the mouse.
 abbrev pub buttons : Variants MouseButton
 buttons = record { eq = button_eq.ghosts.eq; rows = (codes "Left", button.Left) ∷ (codes "Right", button.Right) ∷ (codes "Middle", button.Middle) ∷ [] }
 
 -- ---- keys
 
--- Those that hold nothing: before those that hold a number or a character, and after them.
+-- The key codes without a value that are declared before `F` and `Char`.
 abbrev early_keys : List (List ℕ × KeyCode)
 early_keys =
     (codes "Backspace", code.Backspace) ∷ (codes "Enter", code.Enter) ∷ (codes "Left", code.Left) ∷ (codes "Right", code.Right) ∷
@@ -57,16 +61,18 @@ early_keys =
     (codes "PageUp", code.PageUp) ∷ (codes "PageDown", code.PageDown) ∷ (codes "Tab", code.Tab) ∷ (codes "BackTab", code.BackTab) ∷
     (codes "Delete", code.Delete) ∷ (codes "Insert", code.Insert) ∷ []
 
+-- The key codes without a value that are declared after `F` and `Char`.
 abbrev late_keys : List (List ℕ × KeyCode)
 late_keys =
     (codes "Null", code.Null) ∷ (codes "Esc", code.Esc) ∷ (codes "CapsLock", code.CapsLock) ∷ (codes "ScrollLock", code.ScrollLock) ∷
     (codes "NumLock", code.NumLock) ∷ (codes "PrintScreen", code.PrintScreen) ∷ (codes "Pause", code.Pause) ∷ (codes "Menu", code.Menu) ∷
     (codes "KeypadBegin", code.KeypadBegin) ∷ []
 
+-- The key codes without a value.
 abbrev pub plain_keys : Variants KeyCode
 plain_keys = record { eq = code_eq.ghosts.eq; rows = early_keys ++ late_keys }
 
--- The variant of a key.
+-- The name of a key code's variant.
 abbrev pub code_variant : KeyCode → List ℕ
 code_variant (code.F number) = codes "F"
 code_variant (code.Char c) = codes "Char"
@@ -74,7 +80,7 @@ code_variant (code.Media key) = codes "Media"
 code_variant (code.Modifier key) = codes "Modifier"
 code_variant plain = variant plain_keys plain
 
--- Its rank: the place of its variant among all of them.
+-- The rank of a key code: the index of its variant among all.
 abbrev pub code_rank : KeyCode → ℕ
 code_rank key =
     let names = map (λ row. row.0) in
@@ -82,7 +88,7 @@ code_rank key =
 
 -- ---- the mouse
 
--- What it does without a button.
+-- The kinds of mouse events without a button.
 abbrev pub plain_mouse : Variants MouseEventKind
 plain_mouse = record {
   eq = mouse_eq.ghosts.eq;
@@ -90,13 +96,13 @@ plain_mouse = record {
       (codes "Moved", mouse.Moved) ∷ (codes "ScrollDown", mouse.ScrollDown) ∷ (codes "ScrollUp", mouse.ScrollUp) ∷ (codes "ScrollLeft", mouse.ScrollLeft) ∷ (codes "ScrollRight", mouse.ScrollRight) ∷ [];
 }
 
--- The variant of what it does.
+-- The name of the variant of a kind of mouse event.
 abbrev pub mouse_variant : MouseEventKind → List ℕ
 mouse_variant (mouse.Down button) = codes "Down"
 mouse_variant (mouse.Up button) = codes "Up"
 mouse_variant (mouse.Drag button) = codes "Drag"
 mouse_variant plain = variant plain_mouse plain
 
--- Its rank: the place of its variant among all of them.
+-- The rank of a kind of mouse event: the index of its variant among all.
 abbrev pub mouse_rank : MouseEventKind → ℕ
 mouse_rank event = place_in same (codes "Down" ∷ codes "Up" ∷ codes "Drag" ∷ map (λ row. row.0) plain_mouse.rows) (mouse_variant event)

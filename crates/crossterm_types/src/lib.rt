@@ -17,16 +17,16 @@
 //!
 //! | Definitions | Lines | Of | Contract |
 //! |---|---|---|---|
-//! | `Seen` | 35 | events as a clause sees them | |
+//! | `Seen` | 37 | events as a clause sees them | |
 //! | `Keys` | 18 | keys, and modifiers by their bits | `KeyEvent::new` and the like |
 //! | `Normal` | 26 | the normal form of a key | `event::laws::normal_form_laws` |
-//! | `Compared` | 50 | how keys compare and hash | `PartialEq`, `Ord` and `Hash` of `KeyEvent` |
-//! | `Variants` | 102 | the variants of enums by their names | |
-//! | `Ranks` | 97 | the declared orders | `event::laws::{declared_orders, declared_orders_of_events}` |
-//! | `Names` | 50 | the names that keys show as | `Display` of `KeyCode` and its like |
+//! | `Compared` | 52 | how keys compare and hash | `PartialEq`, `Ord` and `Hash` of `KeyEvent` |
+//! | `Variants` | 108 | the variants of enums by their names | |
+//! | `Ranks` | 98 | the declared orders | `event::laws::{declared_orders, declared_orders_of_events}` |
+//! | `Names` | 51 | the names that keys show as | `Display` of `KeyCode` and its like |
 //! | `Admitting` | 51 | which events a filter admits | `Filter::{eval, classes}` |
-//! | `Timing` | 30 | limits of time | `PollTimeout` |
-//! | `Values` | 169 | events as JSON | `to_value` and `from_value` of each |
+//! | `Timing` | 31 | limits of time | `PollTimeout` |
+//! | `Values` | 178 | events as JSON | `to_value` and `from_value` of each |
 //!
 //! Crates above cite the lemmas of `Lists`, `ValueLaws`.
 //!

@@ -40,7 +40,7 @@ pub struct State {
     count: usize,
     /// How many calls wait for a reply.
     asking: usize,
-    /// How many threads wait to be told of a change.
+    /// How many threads wait for a change.
     waiting: usize,
     seat: Seat,
 }
@@ -88,7 +88,7 @@ impl State {
         Sink { held: &mut self.held, classes }
     }
 
-    /// Wakes those that wait to be told.
+    /// Wakes the threads that wait for a change.
     fn tell(&self) {
         if self.waiting > 0 {
             CHANGED.notify_all();

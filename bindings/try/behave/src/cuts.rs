@@ -7,7 +7,7 @@ use crossterm::terminal;
 use std::io;
 use std::time::Duration;
 
-/// Tells the counts of Down, Up, Esc and all others at each `q`, until `Q` comes.
+/// Prints the counts of Down, Up, Esc and all others at each `q`, until `Q` comes.
 fn count(mut next: impl FnMut() -> io::Result<Option<KeyCode>>) -> io::Result<()> {
     terminal::enable_raw_mode()?;
     tell!("ready");

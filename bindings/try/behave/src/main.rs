@@ -130,7 +130,7 @@ fn keyboard() -> io::Result<()> {
     Ok(())
 }
 
-/// What is told where standard input or output is no terminal.
+/// What is printed if standard input or output is no terminal.
 fn filter() -> io::Result<()> {
     tell!("size {:?}", terminal::size()?);
     let window = terminal::window_size()?;
@@ -146,7 +146,7 @@ fn no_terminal() -> io::Result<()> {
     Ok(())
 }
 
-/// Reads at the end of input: each call tells it, and none runs on.
+/// Reads at the end of input: each call reports it, and none runs on.
 fn end() -> io::Result<()> {
     tell!("ready");
     tell!("{:?}", read().map_err(|e| e.kind()));

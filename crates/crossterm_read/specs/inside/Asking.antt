@@ -46,7 +46,7 @@ module _ {A : Type 0} where
   GivesFirst f t (Ok None) = Unit {0}
   GivesFirst f t (Err e) = Unit {0}
 
--- Where asking broke the fault is of such a kind.
+-- If asking ended with an error, its kind meets the condition.
 abbrev pub BrokeWhere : End → (ErrorKind → Type 0) → Type 0
 BrokeWhere Ready P = Unit {0}
 BrokeWhere Tried P = Unit {0}
@@ -61,7 +61,7 @@ abbrev pub Asked : {S A : Type 0} → (S → List SourceAnswer → S → Type 0)
 Asked drawn failed wake f patience s t result = (zs : List SourceAnswer) × drawn s.source zs t.source × Arrives s.store zs (all_of t.store result) × Asks wake f patience s.store.held zs (end_of result)
     × BrokeWhere (end_of result) (RefusedOnlyWithoutRoom s.room zs) × IsSteady failed s.source zs t.source × GivesFirst f t.store result
 
--- What one question came to, where room for one event is made before it. An admitted event isn't held.
+-- What one question of the source led to, after room for one event was made. An admitted event isn't held.
 abbrev pub DrawsOne : {S A : Type 0} → (S → List SourceAnswer → S → Type 0) → (S → ℕ) → AtWake → (Seen → Bool) → ReaderState S → ReaderState S → Once A → Type 0
 DrawsOne drawn failed wake f s t once.Refused = t ≡ s
 DrawsOne drawn failed wake f s t (once.Broke e) = drawn s.source (Failed (error_kind e) ∷ []) t.source × Arrives s.store (Failed (error_kind e) ∷ []) t.store × (wake ≡ GoesOn → error_kind e ≢ Interrupted)
@@ -69,7 +69,7 @@ DrawsOne drawn failed wake f s t (once.Came taken) = drawn s.source (Gave (seen 
     × (failed t.source ≡ failed s.source) × (t.store.held ≡ s.store.held) × HasPlace t taken
 DrawsOne drawn failed wake f s t once.Nothing = (z : SourceAnswer) × drawn s.source (z ∷ []) t.source × Arrives s.store (z ∷ []) t.store × Passes wake f z × (IsNoFault z → failed t.source ≡ failed s.source)
 
--- A fault is of such a kind.
+-- If it is an error, its kind meets the condition.
 abbrev pub BreaksWhere : {A : Type 0} → Once A → (ErrorKind → Type 0) → Type 0
 BreaksWhere (once.Broke e) P = P (error_kind e)
 BreaksWhere once.Refused P = Unit {0}

@@ -4,7 +4,7 @@ use Rattle.std.specs.List.{AllByRecursion}
 use Rattle.crossterm_types.specs.Seen.{Seen}
 use Rattle.crossterm_read.specs.Store.{IsLow}
 
--- Each number is below all that stand after it.
+-- Each number is below all that come after it.
 abbrev pub Rise : List (Seen × ℕ) → Type 0
 Rise [] = Unit {0}
 Rise (h ∷ hs) = AllByRecursion (λ k. h.1 < k.1) hs × Rise hs

@@ -19,7 +19,7 @@ queue_of q Cursor = q.cursors.items
 queue_of q Flags = q.flags.items
 queue_of q Attributes = q.attributes.items
 
--- There are none where no queue was made yet.
+-- The members of each queue; none if the queues aren't made yet.
 abbrev pub queues_of : {A : Type 0} → Option (Queues A) → Kind → List (Member A)
 queues_of None kind = []
 queues_of (Some q) kind = queue_of q kind
@@ -33,7 +33,7 @@ module _ {A : Type 0} where
   abbrev pub of_kind : Kind → List (Member A) → List (Member A)
   of_kind kind ms = filter (λ m. same_kind kind (kind_of m.event)) ms
 
-  -- What stands after these places, and at them.
+  -- What is at these places and behind them.
   abbrev pub behind : (Kind → List (Member A)) → Places → Kind → List (Member A)
   behind q at kind = drop (place_of at kind) (q kind)
 
@@ -61,7 +61,7 @@ module _ {A : Type 0} where
     pub ascends : Ascends list
     pub parts : (kind : Kind) → of_kind kind list ≡ q kind
 
-  -- The members of the queues can be told in one order.
+  -- The members of the queues have one order.
   abbrev pub AreJoined : (Kind → List (Member A)) → Type 0
   AreJoined q = Joins (joined q) q
 
@@ -75,7 +75,7 @@ module _ {A : Type 0} where
   NotBefore n [] = Unit {0}
   NotBefore n (m ∷ ms) = n ≤ m.order
 
-  -- Of these kinds, as far as they are wanted, the member that stands first in its queue and has the least order number.
+  -- Among the wanted kinds, the first member of a queue that has the least order number.
   abbrev pub IsEarliest : (Kind → List (Member A)) → (Kind → Bool) → List Kind → Option (Front A) → Type 0
   IsEarliest q wanted kinds None = AllByRecursion (λ kind. wanted kind ≡ true → q kind ≡ []) kinds
   IsEarliest q wanted kinds (Some f) = (wanted f.kind ≡ true) × ((rest : List (Member A)) × (q f.kind ≡ f.member.now ∷ rest))
@@ -92,11 +92,12 @@ module _ {A : Type 0} where
     pub kind : place.kind ≡ kind_of member.event
     pub at : place.at ≡ length (of_kind place.kind before)
 
+  -- The place of the first member that passes, or nothing if none does.
   abbrev pub Finds : (Member A → Bool) → (Kind → List (Member A)) → Option Place → Type 0
   Finds passes q None = AllByRecursion (λ m. passes m ≡ false) (joined q)
   Finds passes q (Some place) = IsFirstAt passes q place
 
-  -- The first member that passes is taken out, where there is one, and no other.
+  -- The first member that passes is taken out, and no other.
   pub record TakesOne (passes : Member A → Bool) (old new : Kind → List (Member A)) (m : Member A) : Type 0 where
     pub before : List (Member A)
     pub after : List (Member A)
@@ -105,6 +106,7 @@ module _ {A : Type 0} where
     pub admitted : passes m ≡ true
     pub others : Joins (before ++ after) new
 
+  -- The first member that passes is taken out; if none passes, nothing changes.
   abbrev pub Takes : (Member A → Bool) → (Kind → List (Member A)) → (Kind → List (Member A)) → Option (Member A) → Type 0
   Takes passes old new None = AllByRecursion (λ m. passes m ≡ false) (joined old) × ((kind : Kind) → new kind ≡ old kind)
   Takes passes old new (Some m) = TakesOne passes old new m
@@ -117,11 +119,13 @@ all_kinds = Event ∷ Cursor ∷ Flags ∷ Attributes ∷ []
 abbrev pub HaveRoom : {A : Type 0} → Queues A → ℕ → Type 0
 HaveRoom q n = (n ≤ deque_capacity q.events) × (n ≤ deque_capacity q.cursors) × (n ≤ deque_capacity q.flags) × (n ≤ deque_capacity q.attributes)
 
+-- There is room for so many events in each queue, or the queues aren't made yet and it is 0.
 abbrev pub HaveRoomFor : {A : Type 0} → Option (Queues A) → ℕ → Type 0
 HaveRoomFor None n = n ≡ 0
 HaveRoomFor (Some q) n = HaveRoom q n
 
--- What is so of the queues between two calls: they can be joined, below the next order number, and there is room for so many events in each.
+-- What holds of the queues between two calls: one order, below the next order number, and room for so many events in
+-- each.
 pub record AreKept {A : Type 0} (queues : Option (Queues A)) (len limit next : ℕ) : Type 0 where
   pub joins : AreJoined (queues_of queues)
   pub below : AllByRecursion (λ m. m.order < next) (joined (queues_of queues))

@@ -21,6 +21,7 @@ use Rattle.crossterm_read.specs.Waiting.{AsksWithin}
 abbrev pub kept : {A : Type 0} → Taken (InternalEvent A) → Seen × ℕ
 kept taken = (seen taken.event, taken.number)
 
+-- The reply of a read that may take nothing.
 abbrev pub try_reply : {A : Type 0} → Result (Option (Taken (InternalEvent A))) Error → Replied
 try_reply (Ok x) = ToTake (option_map kept x)
 try_reply (Err e) = Fault (error_kind e)
@@ -29,7 +30,7 @@ abbrev pub read_reply : {A : Type 0} → Result (Taken (InternalEvent A)) Error 
 read_reply (Ok x) = ToTake (Some (kept x))
 read_reply (Err e) = Fault (error_kind e)
 
--- The number of what was taken last, after a call that gives one where it takes.
+-- The number of the event taken last, after a call that returns its number if it takes one.
 abbrev pub last_said : {E : Type 0} → Option ℕ → Result (Taken E) Error → Option ℕ
 last_said n (Ok taken) = Some taken.number
 last_said n (Err e) = n

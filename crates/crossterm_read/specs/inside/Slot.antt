@@ -1,4 +1,4 @@
--- The rule of the slot in which a shared reader stands, and what a take and a put tell.
+-- The rule of the slot that a shared reader is kept in, and what a take and a put promise.
 use Rattle.std.specs.Prelude.{◌≡◌, ◌≢◌, ◌⊎◌, ◌<◌, ◌+◌, ◌-◌, ◌^◌, ℕ, suc, pred, true, false, nat_lt, if◌then◌else◌, List, [], ◌∷◌, ◌++◌, length, Some, None}
 use mathlib.Core.Option.{some}
 use lib.ListN.{get_elem?}
@@ -11,14 +11,15 @@ use Rattle.crossterm_read.specs.Store.{ReaderState}
 abbrev pub newcomer : {S : Type 0} → Known S
 newcomer = record { number = 0; passes = 0; spare = 0; opening = None; seen = []; mine = []; has = false; met = None }
 
--- The first pass, which makes so many others. It stands for those that it hasn't made yet.
+-- The first pass, which makes so many others. It represents those that it hasn't made yet.
 abbrev pub first_of : {S : Type 0} → ReaderState S → ℕ → ℕ → Known S
 first_of o others left = record { number = 0; passes = suc others; spare = left; opening = Some o; seen = []; mine = []; has = false; met = None }
 
--- A pass is made of the first: that one stands for one less.
+-- The first pass after one more was made of it.
 abbrev pub one_less : {S : Type 0} → Known S → Known S
 one_less v = record v { spare = pred v.spare }
 
+-- The pass that was made of it.
 abbrev pub one_more : {S : Type 0} → Known S → Known S
 one_more v = record v { number = v.passes - v.spare; spare = 0 }
 
@@ -55,7 +56,7 @@ module _ {S : Type 0} (drawn : S → List SourceAnswer → S → Type 0) where
     pub has : v.has ≡ true
     pub alone : (j : ℕ) (u : Known S) → get_elem? views j ≡ some u → u.has ≡ true → j ≡ by
 
-  -- The reader stands in the slot as the history left it, or one pass has it.
+  -- The reader is in the slot as the history left it, or one pass has it.
   abbrev pub Place : List (ReaderState S) → List (Known S) → ReaderState S → Type 0
   Place items views now = ((items ≡ now ∷ []) × Nobody views) ⊎ ((items ≡ []) × Holder views)
 
@@ -79,7 +80,7 @@ module _ {S : Type 0} (drawn : S → List SourceAnswer → S → Type 0) where
   abbrev pub Kept : List (ReaderState S) → List (Known S) → Type 0
   Kept items views = ((items ≡ []) × (views ≡ newcomer ∷ [])) ⊎ Open items views
 
-  -- What a take tells: the pass has seen the history whole, and has the reader as that left it.
+  -- What a take promises: the pass has seen the whole history, and has the reader as that left it.
   pub record Took (v : Known S) (x : ReaderState S) (w : Known S) : Type 0 where
     pub opening : ReaderState S
     pub between : List Entry
@@ -91,7 +92,8 @@ module _ {S : Type 0} (drawn : S → List SourceAnswer → S → Type 0) where
     pub callers : are_of v.passes (v.seen ++ between) ≡ true
     pub after : w ≡ record v { seen = v.seen ++ between; has = true }
 
-  -- What a put asks: the pass has the reader, and one such call led from the state that the history left to that of the reader.
+  -- What a put requires: the pass has the reader, and one such call led from the state that the history left to the
+  -- reader's.
   pub record Produces (made : ReaderState S → Entry → ReaderState S → Type 0) (v : Known S) (x : ReaderState S) : Type 0 where
     pub opening : ReaderState S
     pub found : ReaderState S
@@ -103,11 +105,11 @@ module _ {S : Type 0} (drawn : S → List SourceAnswer → S → Type 0) where
     pub runs : Runs drawn opening v.seen found
     pub makes : Makes drawn call found x
 
-  -- What a put tells: the call is the last of the history, and of its pass.
+  -- What a put promises: the call is the last one of the history, and of its pass.
   abbrev pub Put : (ReaderState S → Entry → ReaderState S → Type 0) → Known S → ReaderState S → Known S → Type 0
   Put made v x w = (b : Produces made v x) × (w ≡ record v { seen = v.seen ++ b.call ∷ []; mine = v.mine ++ b.call ∷ []; has = false })
 
-  -- What a pass learns that met another.
+  -- What a pass knows after it met another.
   pub record Learnt (v : Known S) : Type 0 where
     pub opening : ReaderState S
     pub left : ReaderState S

@@ -4,7 +4,7 @@ mod predicates;
 
 use crossterm_flags::KeyModifiers;
 
-/// What the mouse did, where, and with which keys held.
+/// What the mouse did, at which place, and with which keys held.
 #[derive(Clone, Copy, Debug, PartialEq, Eq, PartialOrd, Ord, Hash)]
 pub struct MouseEvent {
     /// What happened.

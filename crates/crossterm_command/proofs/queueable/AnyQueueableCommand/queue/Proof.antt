@@ -1,4 +1,4 @@
--- `queue` hands the writer back where its command was written, and else gives it up as it then stands. Assumes `Logic`.
+-- `queue` hands the writer back if its command was written, and else gives it up as it then is. Assumes `Logic`.
 use Rattle.std.proofs.Common.{◌≡◌, ℕ, List, [], ◌∷◌, ◌++◌, refl, sym, ap, ◌∙◌, subst, lit<, MutBor}
 use lib.Dec.{T}
 use mir.Syntax.{Fn, Args, Body, a_type, dcons, dnil, named}

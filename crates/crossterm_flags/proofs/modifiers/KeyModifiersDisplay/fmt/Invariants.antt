@@ -7,7 +7,7 @@ use Rattle.crossterm_flags.proofs.modifiers.KeyModifiersDisplay.fmt.Given as goa
 use denote.Shadow.{shadow}
 use denote.Text.{Utf8}
 
--- the names of the flags so far are written, and `+` stands ready after the first
+-- the names of the flags so far are written, and `+` is ready after the first
 abbrev pub invariant-loop-flag : goal.invariant-loop-flag
 invariant-loop-flag g l =
     shadow (Utf8 l.separator)

@@ -31,7 +31,7 @@ first_taken (k ∷ ks) left n m (Some y) e s h =
 abbrev none_seen : Option Seen
 none_seen = None
 
--- Nothing is taken where nothing is held.
+-- Nothing is taken if nothing is held.
 none_held : (held left : List (Seen × ℕ)) (n m : ℕ) (x : Option (Seen × ℕ)) → TakeReplies (λ _. true) (record { held = held; arrivals = n }) (record { held = left; arrivals = m }) x → none_seen ≡ option_map (λ k. k.0) x → held ≡ []
 none_held [] left n m x s h = refl
 none_held (k ∷ ks) left n m None s h = let e = sym s.0 ∙ first_is k ks in absurd (cc)

@@ -15,7 +15,7 @@ after_front from n end buffer more raw f h t =
     let e : length (take (end - from) (drop from buffer)) ≡ end - from = length-take-le (end - from) (drop from buffer) (omega (arith, length-drop from buffer)) in
     ap (λ (l : List ℕ). marked l more raw) (left_after from n end buffer (omega arith))
 
--- the end is above where the rest begins
+-- the end is above the beginning of the rest
 end_above : (from n end : ℕ) (buffer : List ℕ) → from ≤ end → end ≤ length buffer → n ≤ length (take (end - from) (drop from buffer)) → (from + n ≡ end → ⊥) → from + n < end
 end_above from n end buffer f h t ne =
     let e : length (take (end - from) (drop from buffer)) ≡ end - from = length-take-le (end - from) (drop from buffer) (omega (arith, length-drop from buffer)) in

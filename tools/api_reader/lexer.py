@@ -11,7 +11,7 @@ close     ) ] }
 mark      any other sign; `::`, `->` and `=>` are one token
 comment   // or /* */ which documents nothing
 doc       /// or /** */, on the item below
-inner     //! or /*! */, on the module that it stands in
+inner     //! or /*! */, on the module that it is in
 """
 import bisect
 import re

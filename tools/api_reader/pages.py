@@ -225,7 +225,7 @@ def private_gone(item):
 
 
 def above(target):
-    """The path of what an item or a module stands in."""
+    """The path of what an item or a module is in."""
     return escape(target.full.rpartition("::")[0] or target.full)
 
 

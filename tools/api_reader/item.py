@@ -19,12 +19,12 @@ class Item:
         self.signature, self.clauses, self.children = "", [], []
         # The tokens of its generics; of an impl, those of its trait and of its type; of a use, its paths.
         self.generics, self.trait, self.type, self.paths = [], [], [], []
-        # Of a module whether it stands in a file of its own; and where the text of a body begins and ends that wasn't read.
+        # Of a module whether it is in a file of its own; and where the text of a body begins and ends that wasn't read.
         self.has_file, self.body = False, None
 
     @property
     def is_public(self):
-        """Whether other crates may name it, where they may name what it stands in."""
+        """Whether other crates may name it, if they may name what it is in."""
         return self.visibility == "pub"
 
 

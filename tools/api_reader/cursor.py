@@ -49,7 +49,7 @@ class Cursor:
         return self.tokens[first : self.at]
 
     def angles(self):
-        """Steps over `<` and what is in it, if it stands here; returns the tokens in it."""
+        """Steps over `<` and what is in it, if it is here; returns the tokens in it."""
         first, depth = self.at, 0
         if self.peek() != "<":
             return []

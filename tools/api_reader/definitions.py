@@ -37,7 +37,7 @@ class File:
         self.path = file.removeprefix("crates/").removesuffix(".antt").split("/")
         self.name, self.full = "::".join(self.path[2:]), "::".join(self.path)
         self.page = self.href = ".".join(self.path) + ".html"
-        # The line of each name that it defines, those that are surely meant where they stand in its lines, and what its use lines bring. A
+        # The line of each name that it defines, those that are surely meant if they are in its lines, and what its use lines bring. A
         # small name of a case, as `text`, may also be a variable's.
         self.names, self.own, self.scope = {}, set(), {}
         for at, line in enumerate(self.lines):

@@ -1,4 +1,4 @@
-// The search of the pages that docs/api writes. NAMES comes from names.js: of each item its name, path, kind, first sentence and place.
+// The search of the pages that tools/api writes. NAMES comes from names.js: of each item its name, path, kind, first sentence and place.
 "use strict";
 
 const field = document.getElementById("q");

@@ -2,7 +2,7 @@
 
 They are the lines `INPUT -> OUTPUT` of the files in crates/probe/rows, and the blocks of crates/probe/README.md. The head of a file explains its
 form, and has the number of its rows, so that a lost one is missed. A line that begins with `#` is a comment. With them come random keys, which
-docs/probe_keys.py draws and cuts.
+tools/probe_keys.py draws and cuts.
 """
 import contextlib
 import os
@@ -269,7 +269,7 @@ def served(program, place, piece):
 
 
 def cut(program, drawn):
-    """How a program cuts random keys otherwise than docs/probe_keys.py, or nothing."""
+    """How a program cuts random keys otherwise than tools/probe_keys.py, or nothing."""
     status, out, err = call([*program, "keys"], probe_keys.given_of(drawn))
     wrong = f"status {status}, {err[-300:]!r}" if status or err else probe_keys.fault_in(drawn, out)
     return wrong and f"keys{' that pass releases' * drawn.passes}, bound to {' '.join(drawn.lists)}: {wrong}"

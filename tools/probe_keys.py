@@ -1,7 +1,7 @@
 """Random bindings and letters for `probe keys`, and what comes of them by a slow cutter.
 
 The longest bound list wins, and a key of no list goes through. What some keys leave open, since a longer list begins with them, waits for the
-next key or for the end of the input. `check` plays these sets with the rows of probe, by docs/probe_rows.py.
+next key or for the end of the input. `check` plays these sets with the rows of probe, by tools/probe_rows.py.
 """
 import random
 from typing import NamedTuple

@@ -1,13 +1,13 @@
 """Items of a Rattle source: a small recursive reader over its tokens.
 
-It reads modules, functions, types, traits, impls, constants, macros and `use` lines, with what stands in them, and skips bodies. What it doesn't
+It reads modules, functions, types, traits, impls, constants, macros and `use` lines, with what is in them, and skips bodies. What it doesn't
 know is an error, so that nothing is left out unsaid.
 """
 from .item import Clause, Item, doc_text, note_text
 from .shapes import Shapes
 
 CLAUSES = ("ensures", "requires")
-# Words that may stand before `fn`.
+# Words that may come before `fn`.
 BEFORE_FN = ("final", "const", "unsafe", "extern")
 
 
@@ -15,7 +15,7 @@ class Reader(Shapes):
     """Reads the items of one file."""
 
     def all(self, end, within):
-        """The items up to a closing bracket, or to the file's end. `within` is what they stand in."""
+        """The items up to a closing bracket, or to the file's end. `within` is what they are in."""
         found = []
         while self.at < end:
             first_token = self.tokens[self.at]
@@ -55,7 +55,7 @@ class Reader(Shapes):
         return "call" if self.tokens[self.at].kind == "name" and self.peek(1) == "!" else None
 
     def begun(self, kind, word, first):
-        """An item of a kind whose word and name stand here."""
+        """An item of a kind whose word and name are here."""
         self.expect(word)
         item = Item(kind, self.name(), self.source, self.tokens[first].start)
         item.generics = self.angles()
@@ -150,7 +150,7 @@ class Reader(Shapes):
         return item
 
     def inside(self, within):
-        """The items in the braces that stand here."""
+        """The items in the braces that are here."""
         end = self.source.closers.get(self.at)
         self.expect("{")
         found = self.all(end, within)

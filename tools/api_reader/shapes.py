@@ -44,7 +44,7 @@ class Shapes(Cursor):
             self.at = self.source.closers.get(self.at, self.at) + 1
 
     def members(self, item, read):
-        """Reads what stands in the braces of a struct or an enum, between commas."""
+        """Reads what is in the braces of a struct or an enum, between commas."""
         end = self.source.closers[self.at]
         self.expect("{")
         while True:

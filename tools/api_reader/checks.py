@@ -10,7 +10,7 @@ VISIBLE = ("fn", "struct", "enum", "trait", "mod", "const", "static", "type", "u
 
 
 def counted_tokens(source, bodies):
-    """How often `pub` stands before each kind of item in a source, and `fn` before a name, by its tokens alone; those in bodies don't count."""
+    """How often `pub` is before each kind of item in a source, and `fn` before a name, by its tokens alone; those in bodies don't count."""
     found = dict.fromkeys(VISIBLE, 0)
     tokens = [it for it in source.tokens if it.kind not in ("comment", "doc", "inner")]
     tokens = [it for it in tokens if not any(first <= it.start < last for first, last in bodies)]

@@ -9,6 +9,7 @@ rows PATH HEAD HEAD    the rows `A -> B` of a file of crates/probe/rows, without
 file PATH              a file, as a block of code
 clauses PATH FN NAME.. clauses of a function, as a block of code
 figures PATH           a file whose lines have cells between tabs, as a table
+reading FN FILE..      the command that checks one function, FN as CRATE:PATH, with the lines of these files of definitions, CRATE:NAME each
 """
 import os
 import re
@@ -41,7 +42,7 @@ def crates():
 
 
 def with_below(crate):
-    """A crate and all that it stands on."""
+    """A crate and all those below it."""
     needs, found = crates(), {crate}
     while more := {it for one in found for it in needs[one] if it in needs} - found:
         found |= more
@@ -123,7 +124,7 @@ def file(path):
 
 
 def clauses(path, function, *names):
-    """Clauses of a function, with what stands before the first of them left out."""
+    """Clauses of a function, with what is before the first of them left out."""
     start = re.search(rf"^( *)(?:pub )?fn {function}\b", read(path), re.M)
     if not start:
         raise PageError(f"{path} has no function {function}")
@@ -140,6 +141,13 @@ def clauses(path, function, *names):
 def figures(path):
     heads, *rows = [line.split("\t") for line in read(path).splitlines()]
     return table(heads, rows)
+
+
+def reading(function, *names):
+    crate, _, path = function.partition(":")
+    files = ["crates/{}/specs/{}.antt".format(*name.split(":")) for name in names]
+    lines = sum(len(read(file).splitlines()) for file in files)
+    return f"```sh\ncd crates/{crate} && rt check --only {path}    # to read: {len(files)} files, {lines} lines\n```"
 
 
 def written_form(paragraph, olds, source):
@@ -174,11 +182,11 @@ def lent(crate):
     return re.findall(r"`(\w+)`", line[1]) if line else []
 
 
-MAKERS = {"messages": messages, "proved": proved, "definitions": definitions, "shapes": shapes, "rows": rows, "file": file, "clauses": clauses, "figures": figures}
+MAKERS = {"messages": messages, "proved": proved, "definitions": definitions, "shapes": shapes, "rows": rows, "file": file, "clauses": clauses, "figures": figures, "reading": reading}
 
 
 def made(words):
-    """What stands in a part that is asked for by these words."""
+    """What is in a part that is asked for by these words."""
     kind, *arguments = words.split()
     if kind not in MAKERS:
         raise PageError(f"there is no part '{kind}'; there are {', '.join(MAKERS)}")

@@ -14,14 +14,14 @@ COLOURS = {"text": "s", "comment": "c", "doc": "c", "inner": "c", "number": "n",
 
 
 class Scope:
-    """Where a piece of code stands: its module, the type or trait around it, names that mean no item, and what its contracts import."""
+    """The place of a piece of code: its module, the type or trait around it, names that mean no item, and what its contracts import."""
 
     def __init__(self, module, owner=None, generics=(), ghosts=None, near=()):
         self.module, self.owner, self.generics = module, owner, set(generics)
         self.ghosts, self.near = ghosts or {}, near
 
     def inside(self, item):
-        """The scope of what stands in an item with generics."""
+        """The scope of what is in an item with generics."""
         return Scope(self.module, self.owner, self.generics | generic_names(item.generics), self.ghosts, self.near)
 
 
@@ -95,7 +95,7 @@ class Code:
         """A path, with a link on the longest front of it that is a public item."""
         names = path_of(tokens[at:])
         text = escape("::".join(names))
-        # After `x.` stands a field; after `λ x. ` stands anything.
+        # After `x.` comes a field; after `λ x. ` comes anything.
         is_field = at > 0 and tokens[at - 1].text == "." and tokens[at - 1].end == tokens[at].start
         if kind == "clause" and not is_field and names[0] in scope.ghosts:
             where = scope.ghosts[names[0]]
@@ -133,7 +133,7 @@ class Code:
 
 
 def indented(line):
-    """An attribute that tells how far a line is indented, so that the rest of it is too where it is wrapped."""
+    """An attribute with how far a line is indented, so that the rest of it is too if it is wrapped."""
     count = len(line) - len(line.lstrip(" "))
     return f' style="--in: {count}"' if count else ""
 
