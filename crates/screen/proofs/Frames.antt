@@ -1,4 +1,4 @@
--- The end of a frame, and frames as the screen's clauses tell of them.
+-- The end of a frame, and frames as in the screen's contracts.
 use Rattle.std.proofs.Common.{◌≡◌, ℕ, ◌+◌, ◌*◌, ◌<◌, ◌^◌, List, [], ◌∷◌, ◌++◌, Option, Some, None, IfSome, Bool, true, false, refl, sym, ap, ◌∙◌, subst, arith, if◌then◌else◌, length, map, option_map, replicate}
 use Rattle.crossterm_command.specs.declared.color_output.ColorOutput.{ColorOutput}
 use Rattle.crossterm_command.specs.declared.color_output.ColorOutput.TheVariants.{Enabled, Disabled}

@@ -177,7 +177,7 @@ overwritten_more cells (x ∷ xs) (y ∷ ys) at n size le p =
     ap (λ k. overwritten (overwritten cells at (x ∷ xs)) (at + k) (y ∷ ys)) (sym size)
     ∙ more_by cells xs ys x y at (omega (arith, le, size)) p
 
--- As many cells stand after it.
+-- An overwriting keeps the number of cells.
 pub overwritten_length : (cells others : List Cell) (at : ℕ) → at + length others ≤ length cells → length (overwritten cells at others) ≡ length cells
 overwritten_length cells [] at le = refl
 overwritten_length cells (x ∷ xs) at le =
