@@ -11,7 +11,7 @@ use Rattle.keymap.specs.inside.Places.{Tells, deepest, found_or, number_from, pl
 use Rattle.keymap.specs.declared.inside.Match.{Match}
 use Rattle.keymap.specs.declared.inside.Place.{Place}
 
--- nothing stands at the greatest count
+-- No number is found for the greatest count.
 pub deepest_less : (f : ℕ → Option ℕ) (m : ℕ) → 0 < m → f m ≡ None → deepest f m ≡ deepest f (m - 1)
 deepest_less f zero some none = absurd (omega (arith, some))
 deepest_less f (suc m) some none =
@@ -57,7 +57,7 @@ apart m k l = grind (arith, nat_tests)
 same_number : (m n : ℕ) → nat_eq m n ≡ true → m ≡ n
 same_number m n h = grind (arith, nat_tests)
 
--- where another number stands at the greatest count, or the rest
+-- Another number is found for the greatest count, or none.
 after_put : (i m n : ℕ) (g : Option ℕ) (rest more : Option Match) → m ≤ suc n → nat_eq m (suc n) ≡ false → (g ≡ None → more ≡ longer (Some (record { number = i; count = m })) rest)
     → found_or g (suc n) more ≡ longer (Some (record { number = i; count = m })) (found_or g (suc n) rest)
 after_put i m n None rest more l h on = on refl

@@ -61,7 +61,7 @@ suc_differs n = grind (arith, nat_tests)
 zero_less : (n : ℕ) → true ≡ nat_lt 0 (suc n)
 zero_less n = grind (arith, nat_tests)
 
--- keys are alike where they are the same chords
+-- Keys are alike exactly if they are the same chords.
 pub alike_same : (a b : List KeyEvent) → are_alike a b ≡ are_same a b
 alike_same [] [] = refl
 alike_same [] (k ∷ ks) = ap (λ b. b && true) (zero_differs (length ks))
@@ -69,7 +69,7 @@ alike_same (c ∷ cs) [] = ap (λ b. b && false) (suc_differs (length cs))
 alike_same (c ∷ cs) (k ∷ ks) = ap (λ r. same_chord c k && r) (alike_same cs ks) ∙ swap_and (same_chord c k) (nat_eq (length cs) (length ks)) (is_front cs ks)
     ∙ ap (λ e. e && (same_chord c k && is_front cs ks)) (eq_suc (length cs) (length ks))
 
--- a front of a list is alike to the keys that the list goes beyond, where these are as many
+-- A front of a list is alike to as many keys exactly if the list goes beyond them.
 pub front_alike : (cs ks : List KeyEvent) (i : ℕ) → i < length cs → are_alike (take i cs) ks ≡ (goes_beyond cs ks && nat_eq (length ks) i)
 front_alike [] ks i l = absurd (omega (arith, l))
 front_alike (c ∷ cs) [] zero l = refl
@@ -138,7 +138,7 @@ number_at : (n : ℕ) (here : Bool) (rest : Option ℕ) (any : Bool) → is_some
 number_at n true rest any h = refl
 number_at n false rest any h = h
 
--- a list of just these chords is bound where it has a number
+-- A list of just these chords is bound exactly if it has a number.
 pub has_number : (n : ℕ) (bound : Bound) (keys : List KeyEvent) → is_some (number_from n bound keys) ≡ list_any (λ other. are_same other keys) bound
 has_number n [] keys = refl
 has_number n (chords ∷ bound) keys =
@@ -174,7 +174,7 @@ bound_at bound chords keys true is none =
     sym (number_last 0 bound chords keys (none refl) ∙ ap (λ b. cond b (Some (0 + length bound)) None) (sym (alike_same chords keys) ∙ is) ∙ ap Some zero_more)
 bound_at bound chords keys false is none = sym (number_kept 0 bound chords keys (sym (alike_same chords keys) ∙ is))
 
--- a table tells of one more list
+-- A table with one more list.
 pub tells_more : {S : Type 0} (bound : Bound) (chords : List KeyEvent) (old new : HashMap (List KeyEvent) Place S) → Tells bound old → list_any (λ other. are_same other chords) bound ≡ false
     → BindsAt chords (length bound) old new → Tells (bound ++ chords ∷ []) new
 tells_more bound chords old new tells free binds keys =
@@ -185,7 +185,7 @@ tells_more bound chords old new tells free binds keys =
     ∙ ap (λ b. record { number = number_from 0 (bound ++ chords ∷ []) keys; begun = b })
     (sym (list_any-append (λ other. goes_beyond other keys) bound (chords ∷ []) ∙ begun_more (is_begun bound keys) (goes_beyond chords keys)))
 
--- ---- where there may be no table
+-- ---- without a table
 pub tells_some : {S : Type 0} (bound : Bound) (places : Option (HashMap (List KeyEvent) Place S)) (table : HashMap (List KeyEvent) Place S) → places ≡ Some table → TellsOf bound places → Tells bound table
 tells_some bound places table is tells = subst (TellsOf bound) is tells
 
