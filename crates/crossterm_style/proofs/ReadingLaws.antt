@@ -60,7 +60,7 @@ colored_told fs rest n (ForegroundColor c) first p = place_told 38 39 fs rest n 
 colored_told fs rest n (BackgroundColor c) first p = place_told 48 49 fs rest n c first p
 colored_told fs rest n (UnderlineColor c) first p = place_told 58 59 fs rest n c first p
 
--- ---- what is told, by what stands after the number
+-- ---- SGR parameters, by what follows the number
 
 -- An SGR colour has a field.
 sgr_there : (fs : List (List ℕ)) (sgr : SgrColor) → ReadsInk fs sgr → fs ≡ [] → ⊥

@@ -146,7 +146,7 @@ sgr_puts p Own ps s = own_puts p ps s
 sgr_puts p (Indexed n) ps s = indexed_puts p n ps s
 sgr_puts p (Rgb r g b) ps s = rgb_puts p r g b ps s
 
--- the same where nothing follows
+-- The same if nothing follows.
 sgr_sets : (p : Place) (i : SgrColor) (s : Style) → FitsSgr i → by_parameters (parameters (sgr_text (sets p) (resets p) i)) 0 s ≡ put p (sgr_shade i) s
 sgr_sets p Own s h = ap (λ ps. by_parameters ps 0 s) (sgr_read p Own h) ∙ sgr_puts p Own [] s
 sgr_sets p (Indexed n) s h = ap (λ ps. by_parameters ps 0 s) (sgr_read p (Indexed n) h) ∙ sgr_puts p (Indexed n) [] s
