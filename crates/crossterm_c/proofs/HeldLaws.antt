@@ -21,7 +21,7 @@ use Rattle.crossterm_c.specs.declared.held.GelvanhReader.{GelvanhReader}
 use Rattle.crossterm_c.proofs.ClassLaws.{class_of_numbers}
 use Rattle.crossterm_read.proofs.Mapped.{get_map, map_push, position_map, remove_map}
 
--- a table's element where there is none
+-- An element to read from a table that has none.
 abbrev pub no_member : GelvanhHeld
 no_member = record { event = record { kind = 0; code = 0; value = 0; column = 0; row = 0; modifiers = 0; press = 0; state = 0; flags = 0 }; arrival = 0 }
 
@@ -50,7 +50,7 @@ module _ {X : Type 0} where
   take_again (x ∷ xs) (suc i) =
       ap (λ (n : ℕ). take (suc i) (take n (x ∷ xs))) (add-one (suc i)) ∙ ap (λ (l : List X). x ∷ l) (sym (ap (λ (n : ℕ). take i (take n xs)) (add-one i)) ∙ take_again xs i)
 
-  -- what is left where one of the front was moved to it
+  -- What is left after one was moved to the front.
   pub moved : (xs sub : List X) (i : ℕ) → i < length xs → sub ≡ drop (length (take (i + 1) xs) - 1) (take (i + 1) xs) ++ take (length (take (i + 1) xs) - 1) (take (i + 1) xs)
       → drop 1 (sub ++ drop (i + 1) xs) ≡ remove xs i
   moved xs sub i l e =
@@ -62,13 +62,13 @@ module _ {X : Type 0} where
       ∙ ap (λ (ys : List X). ys ++ drop (i + 1) xs) (take_again xs i)
       ∙ ap (λ (n : ℕ). take i xs ++ drop n xs) (add-one i)
 
-  -- one more stands behind those of a part
+  -- One more is put behind those of a part.
   pub put_at : (xs : List X) (a n : ℕ) (x : X) → a + n < length xs → take (n + 1) (drop a (set xs (a + n) x)) ≡ take n (drop a xs) ++ x ∷ []
   put_at xs a n x l =
       let left = length-drop a xs in
       ap (take (n + 1)) (drop-set-add a xs n x) ∙ take_more_set (drop a xs) n x (omega (arith, left))
 
-  -- what is behind a place, where more stands behind a front that has it
+  -- What is behind a place, if more is put behind a front that has the place.
   pub behind_part : (xs ys zs : List X) (a n e : ℕ) → a + n ≤ length xs → e ≡ a + n + length zs → take e ys ≡ take (a + n) xs ++ zs → take (e - a) (drop a ys) ≡ take n (drop a xs) ++ zs
   behind_part xs ys zs a n e l is more =
       ap (λ (m : ℕ). take m (drop a ys)) (omega (arith, is)) ∙ sym (drop-take a (n + length zs) ys) ∙ ap (λ (m : ℕ). drop a (take m ys)) (omega (arith, is)) ∙ ap (drop a) more
