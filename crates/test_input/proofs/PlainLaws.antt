@@ -123,7 +123,7 @@ digit_next n text i b l is h =
 pub digits_over : (n : Number) (text : List ℕ) (i : ℕ) → length text ≤ i → Tracks (take i text) n → reading n ≡ number text
 digits_over n text i l h = tracks_reading text n (subst (λ (bs : List ℕ). Tracks bs n) (take_all i text l) h)
 
--- what a reply means, by its last byte and what stands before it
+-- The meaning of a reply, by its last byte and what is before it.
 pub reply_at : (bytes : List ℕ) → 1 ≤ length bytes
     → reply_meaning bytes ≡ cond (get_or bytes (length bytes - 1) 0 == 99) (Some PrimaryDeviceAttributes) (flags_reply (number (take (length bytes - 1) bytes)))
 reply_at [] h = absurd (omega arith)
