@@ -89,7 +89,7 @@ ansi_unmarked n h =
 ansi_back : (n : ℕ) → n < 256 → read_color (color_text (color.AnsiValue n)) ≡ Some (color.AnsiValue n)
 ansi_back n h = ap (option_map color.AnsiValue) (ap byte_of (ansi_unmarked n h) ∙ number_back n h)
 
--- three numbers with commas between, and what follows
+-- Three numbers with commas between, and what follows.
 abbrev three : ℕ → ℕ → ℕ → List ℕ → List ℕ
 three r g b rest = decimal r ++ (44 ∷ (decimal g ++ (44 ∷ (decimal b ++ rest))))
 

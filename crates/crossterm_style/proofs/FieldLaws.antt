@@ -51,7 +51,7 @@ no_third fs l k n m first second none r g b p =
 
 -- ---- SGR colours
 
--- what follows the form of an SGR colour, by its number
+-- What follows the form of an SGR colour, by its number.
 abbrev pub SgrAfter : ℕ → List (List ℕ) → SgrColor → Type 0
 SgrAfter form rest Own = ⊥
 SgrAfter form rest (Indexed n) = (form ≡ 5) × BeginsWith rest n []

@@ -136,7 +136,7 @@ place_once set reset n rest c d apart (inl p) (inr q) = absurd (apart (sym q.0 �
 place_once set reset n rest c d apart (inr p) (inl q) = absurd (apart (sym p.0 ∙ q.0))
 place_once set reset n rest c d apart (inr p) (inr q) = one_color rest c d p.1 q.1
 
--- two places have no number in common
+-- Two places have no number in common.
 places_apart : (set other n : ℕ) (rest : List (List ℕ)) (c d : Color) → set + 1 < other → PlaceAfter set (set + 1) n rest c → PlaceAfter other (other + 1) n rest d → ⊥
 places_apart set other n rest c d below (inl p) (inl q) = omega (arith, p.0, q.0)
 places_apart set other n rest c d below (inl p) (inr q) = omega (arith, p.0, q.0)

@@ -18,11 +18,11 @@ use Rattle.crossterm_style.specs.Looks.Underline.{Straight, Double, Curled, Dott
 
 -- What a style command does.
 pub data Act : Type 0 where
-  -- It prints characters.
+  -- Characters are printed.
   Prints : List ℕ → Act
-  -- It sets a colour.
+  -- A colour is set.
   Colors : Colored → Act
-  -- It sets an attribute.
+  -- An attribute is set.
   Takes : Attribute → Act
 
 -- ---- what they do to a style

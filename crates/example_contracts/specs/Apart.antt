@@ -17,10 +17,10 @@ pub record ReadApart {S : Type 0} (drawn : S → List SourceAnswer → S → Typ
   pub runs : Runs drawn opening log left
   -- Each event that arrived was taken once or is held.
   pub each_once : EachOnce opening log left
-  -- It begins with all that the one pass saw, and with all that the other one saw.
+  -- The history begins with all that the one pass saw, and with all that the other one saw.
   pub ours : StartsWith log v.seen
   pub theirs : StartsWith log w.seen
-  -- The two calls are at different places in it.
+  -- The two calls are at different places in the history.
   pub place : ℕ
   pub other_place : ℕ
   pub call : Entry
@@ -28,7 +28,7 @@ pub record ReadApart {S : Type 0} (drawn : S → List SourceAnswer → S → Typ
   pub apart : place ≢ other_place
   pub there : slice_get log place ≡ Some call
   pub other_there : slice_get log other_place ≡ Some other_call
-  -- One returned `a`, and the other one `b`.
+  -- One call returned `a`, and the other one `b`.
   pub said : a ≡ shown call.reply
   pub other_said : b ≡ shown other_call.reply
   -- While fewer than 2^64 - 1 events have arrived, the events that they took have two numbers, so none went to both.

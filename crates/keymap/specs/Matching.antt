@@ -23,9 +23,9 @@ StandsFor m keys = m.undecided ≡ left (bound_of m.keymap) keys
 -- A matcher that had been fed these keys was fed one more.
 pub record GivesOn (m : Matching) (keys : List KeyEvent) (key : KeyEvent) (n : Matching) : Type 0 where
   pub more : List Told
-  -- More outcomes wait, behind those before.
+  -- New outcomes wait, behind those before.
   pub waiting : n.waiting ≡ m.waiting ++ more
-  -- They are what is given of all keys and wasn't given of the former ones.
+  -- The new outcomes are what is given of all keys and wasn't given of the former ones.
   pub told : given (bound_of m.keymap) (keys ++ key ∷ []) ≡ given (bound_of m.keymap) keys ++ more
   -- The matcher keeps the undecided ones of all keys.
   pub stands : StandsFor n (keys ++ key ∷ [])
@@ -40,9 +40,9 @@ pub record IsFed (m : Matching) (key : KeyEvent) (n : Matching) : Type 0 where
 -- A matcher that had been fed these keys was flushed.
 pub record GivesAll (m : Matching) (keys : List KeyEvent) (n : Matching) : Type 0 where
   pub more : List Told
-  -- More outcomes wait, behind those before.
+  -- New outcomes wait, behind those before.
   pub waiting : n.waiting ≡ m.waiting ++ more
-  -- They are what the cut of the keys has and wasn't given before.
+  -- The new outcomes are what the cut of the keys has and wasn't given before.
   pub told : cut (bound_of m.keymap) keys ≡ given (bound_of m.keymap) keys ++ more
   -- The matcher keeps no keys.
   pub stands : StandsFor n []

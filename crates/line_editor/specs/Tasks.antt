@@ -8,19 +8,19 @@ use Rattle.line_editor.specs.States.{EditorState, accepted, after, dropped, past
 
 -- What a call does to an editor.
 pub data Task : Type 0 where
-  -- It does an action.
+  -- An action is done.
   Acts : Action → Task
-  -- It pastes a text.
+  -- A text is pasted.
   Pastes : List ℕ → Task
-  -- It accepts the line.
+  -- The line is accepted.
   Accepts : Task
-  -- It ends the line without accepting it.
+  -- The line ends without being accepted.
   LetsGo : Task
-  -- It loads a history from a text.
+  -- A history is loaded from a text.
   Loads : List ℕ → Task
-  -- It closes the editor, whose line is empty.
+  -- The editor is closed while its line is empty.
   Closes : Task
-  -- It does nothing.
+  -- Nothing is done.
   Nothing : Task
 
 -- The editor after a task. Closing changes nothing.

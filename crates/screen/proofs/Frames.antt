@@ -76,11 +76,11 @@ fitting strokes cursor all = all_joined IsFitting strokes (last_strokes cursor) 
 
 -- ---- a screen's frame
 
--- a screen by its parts
+-- A screen by its parts.
 abbrev pub view_of : ℕ → ℕ → Option ColorOutput → List Cell → ℕ → View
 view_of width height drawn shown room = record { width = width; height = height; drawn = option_map (λ colors. record { colors = colors; cells = shown }) drawn; room = room }
 
--- the cells that a frame begins with
+-- The cells that a frame begins with.
 abbrev Begun : ℕ → ℕ → Option ColorOutput → List Cell → ColorOutput → List Cell → Type 0
 Begun width height drawn shown colors before = before ≡ (if is_known drawn colors then shown else replicate (width * height) blank)
 

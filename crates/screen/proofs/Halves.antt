@@ -102,7 +102,7 @@ begun_at cells at c lt e =
 
 -- ---- a character
 
--- cells with others between
+-- Cells with others between them.
 between : (front xs back : List Cell) (at n : ℕ) → length front ≡ at → length xs ≡ n → take (at + n) (front ++ (xs ++ back)) ≡ front ++ xs
 between front xs back at n long size =
     ap (take (at + n)) (sym (append_assoc front xs back)) ∙ take_at (front ++ xs) back (at + n) (length-append front xs ∙ ap (λ m. m + length xs) long ∙ ap (λ m. at + m) size)

@@ -26,11 +26,11 @@ kept_there (Some from) to (setting.Whole t) s = ((λ k. cc), (λ e. absurd (s.0 
 
 -- ---- colours before attributes
 
--- a style in other colours
+-- A style in other colours.
 abbrev in_colors : Option Color → Option Color → Option Color → Style → Style
 in_colors f b u s = record s { foreground = f; background = b; underline_color = u }
 
--- the look of a colour that was set, or wasn't
+-- The look of a colour that was set, or wasn't.
 abbrev changed : Option Color → Option Color → Option Color
 changed None o = o
 changed (Some c) o = shade c
@@ -89,7 +89,7 @@ no_attributes s = refl
 
 -- ---- looks
 
--- the look of a colour, or of none
+-- The look of a colour, or of none.
 abbrev seen_in : Option Color → Option Color
 seen_in o = changed o None
 

@@ -422,7 +422,7 @@ last_others : (cursor : Option (ℕ × ℕ)) → how_many is_other_stroke (last_
 last_others None = refl
 last_others (Some place) = refl
 
--- the last strokes before the update's end
+-- The last strokes before the update's end.
 abbrev closing : Option (ℕ × ℕ) → List Stroke
 closing cursor = stroke.Style no_style ∷ cursor_strokes cursor
 

@@ -44,7 +44,7 @@ not_second colors c e = kept_start (is_covered c) (is_wide c) c.symbol (look col
 pub seen_covered : (colors : ColorOutput) (c : Cell) → is_covered c ≡ true → seen colors c ≡ Second
 seen_covered colors c e = ap (λ b. cond b Second (cond (is_wide c) (First c.symbol (look colors c.style)) (Whole c.symbol (look colors c.style)))) e
 
--- the cells that a character takes
+-- The cells that a character takes.
 abbrev pub squares : ColorOutput → Cell → List Square
 squares colors c = cond (is_wide c) (First c.symbol (look colors c.style) ∷ Second ∷ []) (Whole c.symbol (look colors c.style) ∷ [])
 

@@ -47,7 +47,7 @@ some_width (suc w) y k lt = omega arith
 above_out : (first count row : ℕ) → row < first → has first count row ≡ false
 above_out first count row lt = grind (arith, nat_tests)
 
--- the row behind the last one that there is of the rectangle
+-- The row behind the last row of the rectangle.
 abbrev pub bottom : ℕ → Rect → ℕ
 bottom height r = cond (nat_lt height (r.y + r.height)) height (r.y + r.height)
 

@@ -94,13 +94,13 @@ cells_before s colors = cells_drawn s s.drawn colors
 
 -- The tokens of one frame of the picture.
 pub record IsFrame (s : View) (colors : ColorOutput) (p : Picture) (cursor : Option (ℕ × ℕ)) (ts : List Token) : Type 0 where
-  -- They lead from each grid that the terminal may show to one that shows the picture.
+  -- The tokens lead from each grid that the terminal may show to one that shows the picture.
   pub turns : Turns s colors p cursor ts
-  -- They print as many characters as there are cells that have to be printed.
+  -- The tokens print as many characters as there are cells that have to be printed.
   pub count : DifferAt (cells_before s colors) p.cells (printed ts)
-  -- They are one synchronized update.
+  -- The tokens are one synchronized update.
   pub update : IsOneUpdate ts
-  -- They have no more moves, styles and other control functions than a frame needs.
+  -- The tokens have no more moves, styles and other control functions than a frame needs.
   pub sparing : IsSparing (knows_cells s.drawn colors) p.width (cells_before s colors) p.cells cursor ts
 
 -- ---- what is refused

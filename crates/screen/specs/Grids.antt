@@ -10,7 +10,7 @@ use Rattle.crossterm_style.specs.Looks.{Style, is_digit, plain, sgr}
 
 -- What a cell of the screen shows.
 pub data Square : Type 0 where
-  -- It isn't known.
+  -- What the cell shows isn't known.
   Unknown : Square
   -- A character that takes one cell, in its style.
   Whole : ℕ → Style → Square
