@@ -12,7 +12,7 @@ use Rattle.recorder.specs.Recording.{Recording, recorded}
 use Rattle.recorder.specs.Replaying.{EndsLast, Replayed}
 
 -- Any other result of these calls over a script with these answers is the same.
--- No call of either may be refused memory, and no answer's bytes may both end an event and leave a paste open.
+-- This holds if no call of either is refused memory, and no answer's bytes both end an event and leave a paste open.
 abbrev pub IsOnly : List DeviceAnswer → List Call → List Said → List Seen → Type 0
 IsOnly device_answers calls replies held = PastesApart device_answers → AllByRecursion ShowsUnrefused replies
     → (others : List Said) (kept : List Seen) → Plays device_answers calls others kept → AllByRecursion ShowsUnrefused others → (replies ≡ others) × (held ≡ kept)

@@ -5,7 +5,7 @@ use Rattle.line_editor.specs.Edits.{IsSettled}
 use Rattle.line_editor.specs.Places.{is_between}
 use Rattle.line_editor.specs.Views.{column, columns, seen}
 
--- What is seen of a line fits into the room.
+-- What is seen of a line fits into a row of `room` columns.
 pub record IsSeen (room : ℕ) (d : Split) : Type 0 where
   -- The cursor is in the row.
   pub cursor : column room d < room
@@ -17,9 +17,9 @@ pub record IsSeen (room : ℕ) (d : Split) : Type 0 where
   pub whole : seen room d ≡ left ++ right
   -- The cursor is behind the left part.
   pub place : columns left ≡ column room d
-  -- The left part is the last of what is before the cursor.
+  -- The left part is the end of what is before the cursor.
   pub before : (hidden : List ℕ) × (reverse d.before ≡ hidden ++ left)
-  -- The right part is the first of what is behind the cursor.
+  -- The right part is the beginning of what is behind the cursor.
   pub after : (hidden : List ℕ) × (d.after ≡ right ++ hidden)
   -- No longer part on either side that begins or ends between clusters has room.
   pub most_before : (front part : List ℕ) → reverse d.before ≡ front ++ part → is_between (reverse front) (part ++ d.after) ≡ true

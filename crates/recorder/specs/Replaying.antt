@@ -78,7 +78,7 @@ abbrev pub RecordsLines : Type 0
 RecordsLines = (ws : List DeviceAnswer) → AllByRecursion IsAnswer ws → AllByRecursion IsLine (recorded ws)
 
 -- Any other run of these calls over the recording has the same result.
--- No call of either may be refused memory, and no answer's bytes may both end an event and leave a paste open.
+-- This holds if no call of either is refused memory, and no answer's bytes both end an event and leave a paste open.
 abbrev pub IsOnlyResult : List DeviceAnswer → List Call → List Replied → List Seen → Type 0
 IsOnlyResult device_answers calls replies held = PastesApart device_answers → AllByRecursion IsUnrefused replies
     → (others : List Said) (kept : List Seen) (other : Plays device_answers calls others kept) → AllByRecursion IsUnrefused other.replies

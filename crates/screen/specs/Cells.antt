@@ -60,7 +60,7 @@ ArePaired first (c ∷ cells) = (is_covered c ≡ first) × ArePaired (is_wide c
 abbrev pub StayInRows : ℕ → List Cell → Type 0
 StayInRows width cells = (k : ℕ) (d : Cell) → k < length cells → is_wide (get_or cells k d) ≡ true → ((k + 1) % width == 0) ≡ false
 
--- Cells in rows of this width: each character has all of its cells, side by side in one row.
+-- Cells in rows of this width. Each character has all of its cells, side by side in one row.
 pub record AreLaidOut (width : ℕ) (cells : List Cell) : Type 0 where
   pub stand : All Stands cells
   pub paired : ArePaired false cells
