@@ -12,8 +12,8 @@
 //!
 //! The promise, for each terminal that does what `specs/Grids.antt` says and has the widths of the crate `unicode_width`: take any grid of
 //! the screen's size that shows the buffer that was drawn last, with any cursor and any style. What `draw` writes leads from it to a grid
-//! that shows the new buffer cell for cell. Its cursor is at the place that was asked for. At the beginning, after `resize`, `forget` and an error
-//! nothing is known of the cells, and the same holds for every grid of the size.
+//! that shows the new buffer cell for cell. Its cursor is at the place that was asked for. At the beginning, after `resize`,
+//! `forget` and an error nothing is known of the cells, and the same holds for every grid of the size.
 //!
 //! A character of a buffer takes one column or two. One of two columns has two cells: its own, and behind it a covered one with the character 0
 //! and the same style. Both are in one row. What is written over one of the two leaves a space in the other, in the style that it had.
