@@ -10,7 +10,7 @@ use Rattle.crossterm_types.specs.declared.event.mouse.MouseEventKind.{MouseEvent
 use Rattle.crossterm_c.specs.Event.{code_at, done_at, event_at, is_bare, key_by, mouse_by, no_code, no_flags, no_place, no_press, only, or_resize, press_at}
 use Rattle.crossterm_c.specs.declared.event.GelvanhEvent.{GelvanhEvent}
 
--- the event of a reply with no number but its own
+-- The event of a reply with no number but its own.
 pub cursor_is : (cs : Classes) (e : GelvanhEvent) → e.kind ≡ 6 → (no_code e && (no_press e && no_flags e)) ≡ true → is_of cs (event_at [] e) ≡ cs.cursor
 cursor_is cs e k s =
     ap (λ (x : GelvanhEvent). is_of cs (event_at [] x)) (λ i. record e { kind = k i })
@@ -27,7 +27,7 @@ attributes_are cs e k s =
     ∙ ap (λ (b : Bool). is_of cs (or_resize (only b (Some seen.PrimaryDeviceAttributes)))) s
 
 module _ (cs : Classes) where
-  -- what a user brought about, or no event
+  -- What a user brought about, or no event.
   abbrev IsUsers : Option Seen → Type 0
   IsUsers told = is_of cs (or_resize told) ≡ cs.event
 
@@ -39,7 +39,7 @@ module _ (cs : Classes) where
   one true x p = p
   one false x p = refl
 
-  -- a reply with other numbers is none
+  -- A reply with other numbers is none.
   none : (b s : Bool) (x : Seen) (y : Option Seen) → (b && s) ≡ false → IsUsers y → IsUsers (if b then only s (Some x) else y)
   none true s x y p q = ap (λ (t : Bool). is_of cs (or_resize (only t (Some x)))) p
   none false s x y p q = q
@@ -55,7 +55,7 @@ module _ (cs : Classes) where
   mouse true e (Some what) = refl
   mouse true e None = refl
 
-  -- all others are what a user brought about
+  -- All other events are what a user brought about.
   pub users_are : (kept : List ℕ) (e : GelvanhEvent) → (e.kind == 6 && (no_code e && (no_press e && no_flags e))) ≡ false → (e.kind == 7 && (no_code e && (no_press e && no_place e))) ≡ false
       → (e.kind == 8 && is_bare e) ≡ false → is_of cs (event_at kept e) ≡ cs.event
   users_are kept e cursor flags attributes =
@@ -69,7 +69,7 @@ module _ (cs : Classes) where
       (none (e.kind == 8) _ _ _ attributes
       (either (e.kind == 9) _ _ (one (no_code e && (no_press e && no_flags e)) _ refl) refl))))))))
 
-  -- a paste is one, whatever its text is
+  -- A paste is what a user brought about, whatever its text is.
   paste : (b s : Bool) (x y : List ℕ) (rest : Option Seen) → is_of cs (or_resize (if b then only s (Some (seen.Paste x)) else rest)) ≡ is_of cs (or_resize (if b then only s (Some (seen.Paste y)) else rest))
   paste true true x y rest = refl
   paste true false x y rest = refl

@@ -33,7 +33,7 @@ none_kept true t kept bytes h = cc
 none_kept false true kept bytes h = refl
 none_kept false false kept bytes h = refl
 
--- what was taken outside of a paste
+-- What was taken outside of a paste.
 pub feeds_given : (old new : State) (given : List GelvanhEvent) (bytes : List ℕ) (taken : List Marked) (ms : List Meaning) → is_paste old ≡ false
     → ((kept : List ℕ) → map (event_at kept) given ≡ map seen_meaning ms) → ((waiting : List Seen) → AdvancesOver (bare old waiting) (bare new (waiting ++ map seen_meaning ms)) taken)
     → Feeds old new given bytes taken
@@ -51,7 +51,7 @@ still_kept : (t : Bool) (kept text : List ℕ) → kept ≡ (if t then text else
 still_kept true kept text e = append-nil kept ∙ e
 still_kept false kept text e = refl
 
--- nothing is taken
+-- Nothing is taken.
 pub feeds_nothing : (old : State) → Feeds old old [] [] []
 feeds_nothing old kept waiting before represents undecided =
     record {
@@ -74,14 +74,14 @@ after_closed : (t : Bool) (kept : List ℕ) → t ≡ false → [] ≡ (if t the
 after_closed true kept h = cc
 after_closed false kept h = refl
 
--- an open paste goes on
+-- An open paste goes on.
 pub feeds_open : (old new : State) (bytes : List ℕ) (taken : List Marked) → is_paste old ≡ true → is_paste new ≡ true → Pastes old new bytes false taken → Feeds old new [] bytes taken
 feeds_open old new bytes taken was is pastes kept waiting =
     subst (λ (events : List Seen). AdvancesOver (view_of old kept waiting) (view_of new (kept_after new (kept_with old kept bytes)) events) taken) (sym (append-nil waiting))
     (subst (λ (bs : List ℕ). AdvancesOver (view_of old kept waiting) (view_of new bs waiting) taken)
     (with_kept (is_paste old) kept bytes was ∙ after_open (is_paste new) (kept_with old kept bytes) is) (pastes kept waiting))
 
--- and is over
+-- An open paste is over.
 pub feeds_closed : (old new : State) (e : GelvanhEvent) (bytes : List ℕ) (taken : List Marked) → is_paste old ≡ true → is_paste new ≡ false
     → ((kept : List ℕ) → event_at kept e ≡ pasted (take (length kept - 6) kept)) → Pastes old new bytes true taken → Feeds old new (e ∷ []) bytes taken
 feeds_closed old new e bytes taken was is means pastes kept waiting =
@@ -92,11 +92,11 @@ feeds_closed old new e bytes taken was is means pastes kept waiting =
     (subst (λ (bs : List ℕ). AdvancesOver (view_of old kept waiting) (view_of new bs (waiting ++ pasted (take (length (kept ++ bytes) - 6) (kept ++ bytes)) ∷ [])) taken)
     (after_closed (is_paste new) (kept_with old kept bytes) is) (pastes kept waiting))
 
--- an event more, by its meaning
+-- An event more, by its meaning.
 pub filled_one : (old new : Table) (e : GelvanhEvent) (meaning : Meaning) → PutsEvents old (e ∷ []) new → ((kept : List ℕ) → event_at kept e ≡ seen_meaning meaning) → Filled old (meaning ∷ []) new
 filled_one old new e meaning puts is = record { given = e ∷ []; means = λ kept. ap (λ (x : Seen). x ∷ []) (is kept); puts = puts }
 
--- a key more
+-- A key more.
 pub one_letter : (s t u : Table) (e : GelvanhEvent) (key : KeyEvent) (letters : List ℕ) (i : ℕ) → i < length letters → Filled s (map typed (take i letters)) t → PutsEvents t (e ∷ []) u
     → ((kept : List ℕ) → event_at kept e ≡ seen.Key key) → meaning.Key key ≡ typed (get_or letters i 0) → Filled s (map typed (take (i + 1) letters)) u
 one_letter s t u e key letters i l filled puts is means =
@@ -104,7 +104,7 @@ one_letter s t u e key letters i l filled puts is means =
     subst (λ (ms : List Meaning). Filled s ms u) (sym (ap (λ (bs : List ℕ). map typed bs) (take_more letters i 0 l) ∙ map-append typed (take i letters) (byte ∷ [])))
     (filled_on s t u (map typed (take i letters)) (typed byte ∷ []) filled (filled_one t u e (typed byte) puts (λ kept. is kept ∙ ap (λ (x : Meaning). seen_meaning x) means)))
 
--- a letter that comes alone
+-- A letter that comes alone.
 pub feeds_letter : (s : State) (piece : List ℕ) (more raw : Bool) (e : GelvanhEvent) (key : KeyEvent) → s ≡ Ground → length piece ≡ 1 → IsLetter (get_or piece 0 0)
     → ((kept : List ℕ) → event_at kept e ≡ seen.Key key) → meaning.Key key ≡ typed (get_or piece 0 0) → Feeds s s (e ∷ []) (take 1 piece) (take 1 (marked piece more raw))
 feeds_letter s [] more raw e key ground one letter is means = absurd (omega (arith, one))
@@ -117,7 +117,7 @@ feeds_letter s (b ∷ []) more raw e key ground one letter is means =
     let put = letter_puts (bare s waiting) new b letter ground (ground, refl, refl) raw (not more) in
     advance_byte (bare s waiting) new m put.0 put.1 put.2)
 
--- the first event of a table
+-- The first event of a table.
 pub first_set : (events : List GelvanhEvent) (e : GelvanhEvent) → 0 < length events → e ∷ [] ≡ take 1 (slice_set events 0 e)
 first_set [] e some = absurd (omega (arith, some))
 first_set (x ∷ events) e some = refl

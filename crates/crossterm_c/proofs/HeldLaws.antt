@@ -21,12 +21,12 @@ use Rattle.crossterm_c.specs.declared.held.GelvanhReader.{GelvanhReader}
 use Rattle.crossterm_c.proofs.ClassLaws.{class_of_numbers}
 use Rattle.crossterm_read.proofs.Mapped.{get_map, map_push, position_map, remove_map}
 
--- a table's element where there is none
+-- An element to read from a table that has none.
 abbrev pub no_member : GelvanhHeld
 no_member = record { event = record { kind = 0; code = 0; value = 0; column = 0; row = 0; modifiers = 0; press = 0; state = 0; flags = 0 }; arrival = 0 }
 
 module _ {X : Type 0} where
-  -- the first that passes
+  -- The first that passes.
   pub found : (p : X → Bool) (xs : List X) (i : ℕ) (d : X) → i < length xs → ((k : ℕ) → k < i → p (get_or xs k d) ≡ false) → p (get_or xs i d) ≡ true → position p xs ≡ Some i
   found p xs i d l before here =
       ap (λ (n : ℕ). cond (nat_lt n (length xs)) (Some n) None) (position_or_len_is p xs i d (omega arith) before (λ _. here))
@@ -37,7 +37,7 @@ module _ {X : Type 0} where
       ap (λ (n : ℕ). cond (nat_lt n (length xs)) (Some n) None) (position_or_len_is p xs i d (omega arith) before (λ h. absurd (omega arith)))
       ∙ ap (λ (b : Bool). cond b (Some i) None) (le-ltb i (length xs) (omega arith))
 
-  -- the front without what was moved to it
+  -- The front without what was moved to it.
   without_first : (xs ys : List X) (i : ℕ) → i < length xs → drop 1 (drop i (take (i + 1) xs) ++ ys) ≡ ys
   without_first [] ys i l = absurd (omega arith)
   without_first (x ∷ xs) ys zero l = refl
@@ -50,7 +50,7 @@ module _ {X : Type 0} where
   take_again (x ∷ xs) (suc i) =
       ap (λ (n : ℕ). take (suc i) (take n (x ∷ xs))) (add-one (suc i)) ∙ ap (λ (l : List X). x ∷ l) (sym (ap (λ (n : ℕ). take i (take n xs)) (add-one i)) ∙ take_again xs i)
 
-  -- what is left where one of the front was moved to it
+  -- What is left after one was moved to the front.
   pub moved : (xs sub : List X) (i : ℕ) → i < length xs → sub ≡ drop (length (take (i + 1) xs) - 1) (take (i + 1) xs) ++ take (length (take (i + 1) xs) - 1) (take (i + 1) xs)
       → drop 1 (sub ++ drop (i + 1) xs) ≡ remove xs i
   moved xs sub i l e =
@@ -62,30 +62,30 @@ module _ {X : Type 0} where
       ∙ ap (λ (ys : List X). ys ++ drop (i + 1) xs) (take_again xs i)
       ∙ ap (λ (n : ℕ). take i xs ++ drop n xs) (add-one i)
 
-  -- one more stands behind those of a part
+  -- One more is put behind those of a part.
   pub put_at : (xs : List X) (a n : ℕ) (x : X) → a + n < length xs → take (n + 1) (drop a (set xs (a + n) x)) ≡ take n (drop a xs) ++ x ∷ []
   put_at xs a n x l =
       let left = length-drop a xs in
       ap (take (n + 1)) (drop-set-add a xs n x) ∙ take_more_set (drop a xs) n x (omega (arith, left))
 
-  -- what is behind a place, where more stands behind a front that has it
+  -- What is behind a place, if more is put behind a front that has the place.
   pub behind_part : (xs ys zs : List X) (a n e : ℕ) → a + n ≤ length xs → e ≡ a + n + length zs → take e ys ≡ take (a + n) xs ++ zs → take (e - a) (drop a ys) ≡ take n (drop a xs) ++ zs
   behind_part xs ys zs a n e l is more =
       ap (λ (m : ℕ). take m (drop a ys)) (omega (arith, is)) ∙ sym (drop-take a (n + length zs) ys) ∙ ap (λ (m : ℕ). drop a (take m ys)) (omega (arith, is)) ∙ ap (drop a) more
       ∙ drop-append-le a (take (a + n) xs) zs (omega (arith, l, length-take (a + n) xs)) ∙ ap (λ (front : List X). front ++ zs) (drop-take a n xs)
 
-  -- a part by its place and its length
+  -- A part by its place and its length.
   pub part_is : (xs : List X) (a n : ℕ) → take (a + n - a) (drop a xs) ≡ take n (drop a xs)
   part_is xs a n = ap (λ (m : ℕ). take m (drop a xs)) (omega arith)
 
-  -- a part without its first, after a write to it
+  -- A part without its first, after a write to it.
   pub rest_of : (xs ys : List X) (a n : ℕ) → a + n ≤ length xs → length ys ≡ n → 0 < n → take (n - 1) (drop (a + 1) (put_mid a (a + n - a) xs ys)) ≡ drop 1 ys
   rest_of xs ys a n l size some =
       let all = put_mid a (a + n - a) xs ys in
       ap (take (n - 1)) (sym (drop-drop 1 a all)) ∙ sym (drop-take 1 (n - 1) (drop a all)) ∙ ap (λ (m : ℕ). drop 1 (take m (drop a all))) (omega arith)
       ∙ ap (drop 1) (sym (part_is all a n) ∙ between-put_mid a (a + n - a) xs ys (a + n) (omega arith) (size ∙ omega arith))
 
--- the event that is put behind them arrives
+-- The event that is put behind them arrives.
 pub arrives : (texts : ℕ → List ℕ) (old new : GelvanhReader) (before after : List GelvanhHeld) (e : GelvanhEvent) → held_in new after ≡ held_in old before ++ record { event = e; arrival = old.arrivals } ∷ []
     → new.arrivals ≡ next_number old.arrivals → Arrives (store_at texts old before) (Gave (event_at (texts old.arrivals) e) ∷ []) (store_at texts new after)
 arrives texts old new before after e h n = record {
@@ -93,13 +93,13 @@ arrives texts old new before after e h n = record {
   arrivals = n;
 }
 
--- the place of the first that is admitted doesn't depend on what is kept
+-- The place of the first that is admitted doesn't depend on what is kept.
 pub place_of_first : (bits : ℕ) (texts : ℕ → List ℕ) (held : List GelvanhHeld) → first_admitted (is_of (classes_at bits)) (map (kept_at texts) held) ≡ position (admits bits) held
 place_of_first bits texts held =
     position_map (kept_at texts) (λ h. is_of (classes_at bits) h.0) held
     ∙ ap (λ (p : GelvanhHeld → Bool). position p held) (λ i h. class_of_numbers (classes_at bits) (texts h.arrival) h.event i)
 
--- what a take leaves
+-- What a take leaves.
 pub takes : (bits : ℕ) (texts : ℕ → List ℕ) (old new : GelvanhReader) (before after : List GelvanhHeld) (i : ℕ) (h : GelvanhHeld) → position (admits bits) (held_in old before) ≡ Some i
     → get_or (held_in old before) i h ≡ h → held_in new after ≡ remove (held_in old before) i → new.arrivals ≡ old.arrivals
     → TakeReplies (is_of (classes_at bits)) (store_at texts old before) (store_at texts new after) (Some (kept_at texts h))
@@ -110,7 +110,7 @@ takes bits texts old new before after i h first this others n = (
   λ j. record { held = (ap (map (kept_at texts)) others ∙ remove_map (kept_at texts) (held_in old before) i) j; arrivals = n j },
 )
 
--- more held events don't change which is the first, nor the others
+-- More held events don't change which is the first, nor the others.
 pub takes_before : (f : Seen → Bool) (zs : List SourceAnswer) (s t m k : EventStore) (x : Seen × ℕ) → TakeReplies f s t (Some x) → Arrives s zs m → Arrives t zs k → TakeReplies f m k (Some x)
 takes_before f zs s t m k x (i, first, this, left) held kept =
     let pick : Seen × ℕ → Bool = λ h. f h.0 in
@@ -128,18 +128,18 @@ takes_before f zs s t m k x (i, first, this, left) held kept =
       λ j. record { held = others j; arrivals = counted j },
     )
 
--- answers that are events, none of them admitted
+-- Answers that are events, none of them admitted.
 pub all_gave : (f : Seen → Bool) (P : SourceAnswer → Type 0) → ((e : Seen) → f e ≡ false → P (Gave e)) → (events : List Seen) → AllByRecursion (λ e. f e ≡ false) events → AllByRecursion P (map Gave events)
 all_gave f P each [] all = tt
 all_gave f P each (e ∷ events) all = (each e all.0, all_gave f P each events all.1)
 
--- one more is taken
+-- One more held event is taken.
 pub takes_more : (bits : ℕ) (held : List GelvanhHeld) (taken : List GelvanhHeld) (mid left : List GelvanhHeld) (h : GelvanhHeld) → TakesEach bits held taken mid → TakesAsHeld bits mid h left
     → TakesEach bits held (taken ++ h ∷ []) left
 takes_more bits held [] mid left h same one = (left, subst (λ (m : List GelvanhHeld). TakesAsHeld bits m h left) same one, refl)
 takes_more bits held (x ∷ taken) mid left h (next, first, more) one = (next, first, takes_more bits next taken mid left h more one)
 
--- the first one is taken
+-- The first one is taken.
 pub takes_first : (bits : ℕ) (held : List GelvanhHeld) (h : GelvanhHeld) (left : List GelvanhHeld) → held ≡ h ∷ left → admits bits h ≡ true → TakesAsHeld bits held h left
 takes_first bits held h left is admitted = (
   zero,
@@ -148,7 +148,7 @@ takes_first bits held h left is admitted = (
   sym (ap (λ (hs : List GelvanhHeld). remove hs zero) is),
 )
 
--- one more of the front is taken
+-- One more of the front is taken.
 pub front_taken : (bits : ℕ) (held taken : List GelvanhHeld) (n : ℕ) (x : GelvanhHeld) → n < length held → n < length taken → get_or held n x ≡ x → admits bits x ≡ true
     → TakesEach bits held (take n taken) (drop n held) → TakesEach bits held (take (n + 1) (set taken n x)) (drop (n + 1) held)
 front_taken bits held taken n x l room is admitted before =
@@ -156,27 +156,27 @@ front_taken bits held taken n x l room is admitted before =
     (takes_more bits held (take n taken) (drop n held) (drop (n + 1) held) x before
     (takes_first bits (drop n held) x (drop (n + 1) held) (drop_more held n x l ∙ ap (λ (y : GelvanhHeld). y ∷ drop (n + 1) held) is) admitted))
 
--- what is at a place of a part
+-- What is at a place of a part.
 pub member_of : (table : List GelvanhHeld) (first held n : ℕ) → n < held → first + n < length table → get_or (take held (drop first table)) n (get_or table (first + n) no_member) ≡ get_or table (first + n) no_member
 member_of table first held n l within =
     let x = get_or table (first + n) no_member in
     get_or-take held (drop first table) n x l ∙ get_or-drop first table n x ∙ get_or_default table (first + n) x no_member within
 
--- what is put in its own place
+-- What is put in its own place.
 pub put_back : (table : List GelvanhHeld) (n : ℕ) (x : GelvanhHeld) → x ≡ get_or table n no_member → set table n x ≡ table
 put_back table n x same = ap (set table n) same ∙ set-get_or table n no_member
 
--- what is left of a part behind some of its front
+-- What is left of a part behind some of its front.
 pub part_left : (table : List GelvanhHeld) (first held n : ℕ) → n ≤ held → drop n (take held (drop first table)) ≡ take (held - n) (drop (first + n) table)
 part_left table first held n l =
     ap (λ (m : ℕ). drop n (take m (drop first table))) (omega (arith, l)) ∙ drop-take n (held - n) (drop first table) ∙ ap (take (held - n)) (drop-drop n first table)
 
--- what is behind one more
+-- What is behind one more.
 pub behind_one : (xs ys : List GelvanhHeld) (n : ℕ) (x : GelvanhHeld) → drop n xs ≡ drop n ys → drop (n + 1) (set xs n x) ≡ drop (n + 1) ys
 behind_one xs ys n x same =
     drop-set-lt (n + 1) xs n x (omega arith) ∙ ap (λ (m : ℕ). drop m xs) (omega arith) ∙ sym (drop-drop 1 n xs) ∙ ap (drop 1) same ∙ drop-drop 1 n ys
 
--- how many they are
+-- As many numbered events as events.
 pub length_numbered : (n : ℕ) (events : List GelvanhEvent) → length (numbered n events) ≡ length events
 length_numbered n [] = refl
 length_numbered n (e ∷ events) = ap suc (length_numbered (next_number n) events)
@@ -190,7 +190,7 @@ module _ (texts : ℕ → List ℕ) where
   number_is n [] = refl
   number_is n (e ∷ events) = number_is (next_number n) events
 
-  -- what is fed arrives
+  -- Events that are fed arrive.
   pub fed_arrive : (before after : GelvanhReader) (table left : List GelvanhHeld) (given : List GelvanhEvent) → held_in after left ≡ held_in before table ++ numbered before.arrivals given
       → after.arrivals ≡ number_after before.arrivals given → Arrives (store_at texts before table) (answers_at texts before.arrivals given) (store_at texts after left)
   fed_arrive before after table left given held number = record {
@@ -199,7 +199,7 @@ module _ (texts : ℕ → List ℕ) where
     arrivals = number ∙ number_is before.arrivals given;
   }
 
-  -- and what is taken as it is held is what a reader takes
+  -- What is taken as it is held is what a reader takes.
   pub taken_is : (bits : ℕ) (before after : GelvanhReader) (table left : List GelvanhHeld) (h : GelvanhHeld) → TakesAsHeld bits (held_in before table) h (held_in after left)
       → after.arrivals ≡ before.arrivals → TakeReplies (is_of (classes_at bits)) (store_at texts before table) (store_at texts after left) (Some (kept_at texts h))
   taken_is bits before after table left h (i, first, this, others) number = takes bits texts before after table left i h first this others number

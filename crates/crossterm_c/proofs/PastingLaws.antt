@@ -15,11 +15,11 @@ use Rattle.crossterm_parse.proofs.ViewLaws.{advance_more}
 use Rattle.crossterm_parse.proofs.RunLaws.{advance_rest, all_on}
 use Rattle.crossterm_c.specs.Feeding.{after_paste, view_of}
 
--- the bytes of a piece up to a place, and more of what is left
+-- The bytes of a piece up to a place, and more of what is left.
 pub taken_on : (piece : List ℕ) (i n : ℕ) → take i piece ++ take n (take (length piece - i) (drop i piece)) ≡ take (i + n) piece
 taken_on piece i n = ap (λ (bs : List ℕ). take i piece ++ take n bs) (take_rest piece i) ∙ sym (take-add i n piece)
 
--- bytes were skipped
+-- Bytes were skipped.
 pub skipped : (old mid : State) (kept : List ℕ) (waiting : List Seen) (piece : List ℕ) (more raw : Bool) (i n : ℕ) → i + n ≤ length piece
     → ((before : List ℕ) → PutsAll (view_of mid before waiting) (view_of mid (before ++ take n (take (length piece - i) (drop i piece))) waiting) (take n (take (length piece - i) (drop i piece))))
     → AdvancesOver (view_of old kept waiting) (view_of mid (kept ++ take i piece) waiting) (take i (marked piece more raw))
@@ -35,7 +35,7 @@ text_goes_on true true text b hs ht = refl
 text_goes_on true false text b hs ht = cc
 text_goes_on false t text b hs ht = cc
 
--- a byte with which a paste goes on
+-- A byte with which a paste goes on.
 byte_goes_on : (old new : State) (text : List ℕ) (waiting : List Seen) (b : ℕ) (raw pause : Bool) → is_paste old ≡ true → is_paste new ≡ true → state_after old b raw pause ≡ Open new
     → PutsByte (view_of old text waiting) (view_of new (text ++ b ∷ []) waiting) b raw pause
 byte_goes_on old new text waiting b raw pause was is opens = (
@@ -44,7 +44,7 @@ byte_goes_on old new text waiting b raw pause was is opens = (
   sym (append-nil waiting) ∙ ap (λ (s : Step). waiting ++ events_left s text) (sym opens),
 )
 
--- the byte with which it is over
+-- The byte with which it is over.
 byte_closes : (old : State) (text : List ℕ) (waiting : List Seen) (b : ℕ) (raw pause : Bool) → state_after old b raw pause ≡ Closed
     → PutsByte (view_of old text waiting) (view_of Ground [] (waiting ++ pasted (take (length text - 5) text) ∷ [])) b raw pause
 byte_closes old text waiting b raw pause closes = (
@@ -53,19 +53,19 @@ byte_closes old text waiting b raw pause closes = (
   ap (λ (s : Step). waiting ++ events_left s text) (sym closes),
 )
 
--- the last byte of the end belongs to what is kept
+-- The last byte of the end belongs to what is kept.
 pub text_of_kept : (text : List ℕ) (b : ℕ) → take (length text - 5) text ≡ take (length (text ++ b ∷ []) - 6) (text ++ b ∷ [])
 text_of_kept text b =
     let longer : length (text ++ b ∷ []) ≡ length text + 1 = length-append text (b ∷ []) in
     let less : length (text ++ b ∷ []) - 6 ≡ length text - 5 = omega (arith, longer) in
     sym (ap (λ (n : ℕ). take n (text ++ b ∷ [])) less ∙ take-append-le (length text - 5) text (b ∷ []) (omega arith))
 
--- one more byte of a piece
+-- One more byte of a piece.
 pub kept_more : (kept piece : List ℕ) (i b : ℕ) → i < length piece → b ≡ get_or piece i 0 → (kept ++ take i piece) ++ b ∷ [] ≡ kept ++ take (i + 1) piece
 kept_more kept piece i b l is = append_assoc kept (take i piece) (b ∷ [])
     ∙ ap (λ (bs : List ℕ). kept ++ bs) (ap (λ (x : ℕ). take i piece ++ x ∷ []) is ∙ sym (take_more piece i 0 l))
 
--- a byte more of an open paste
+-- A byte more of an open paste.
 pub paste_more : (old mid new : State) (kept : List ℕ) (waiting : List Seen) (piece : List ℕ) (more raw : Bool) (i b : ℕ) → i < length piece → b ≡ get_or piece i 0
     → is_paste mid ≡ true → is_paste new ≡ true → ((pause : Bool) → state_after mid b raw pause ≡ Open new)
     → AdvancesOver (view_of old kept waiting) (view_of mid (kept ++ take i piece) waiting) (take i (marked piece more raw))
@@ -77,7 +77,7 @@ paste_more old mid new kept waiting piece more raw i b l at was is opens before 
     subst (λ (bs : List ℕ). AdvancesOver (view_of old kept waiting) (view_of new bs waiting) (take (i + 1) (marked piece more raw))) (kept_more kept piece i b l at)
     (advance_more (view_of old kept waiting) (view_of mid text waiting) (view_of new (text ++ b ∷ []) waiting) piece more raw i b pause l at refl puts.0 puts.1 puts.2 before)
 
--- the last byte of it
+-- The last byte of an open paste.
 pub paste_closes : (old mid : State) (kept : List ℕ) (waiting : List Seen) (piece : List ℕ) (more raw : Bool) (i b : ℕ) → i < length piece → b ≡ get_or piece i 0
     → ((pause : Bool) → state_after mid b raw pause ≡ Closed)
     → AdvancesOver (view_of old kept waiting) (view_of mid (kept ++ take i piece) waiting) (take i (marked piece more raw))

@@ -17,7 +17,7 @@ ascii_more (x ∷ bs) b all is = (all.0, ascii_more bs b all.1 is)
 text_step : (bs : List ℕ) → 0 < length bs → text_of bs ≡ encode_utf8 (or_replacement (decoded bs).char) ++ text_of (drop (decoded bs).size bs)
 text_step bs some = ap encode_utf8_all (lossy_chars-step bs some)
 
--- a character, whose bytes are its own
+-- A character is written as its own bytes.
 pub next_char : (bs : List ℕ) (c : ℕ) → (decoded bs).char ≡ Some c → take (decoded bs).size bs ≡ next_text bs
 next_char bs c is =
     let spelt = SpellsChar-decoded bs c is in
@@ -31,7 +31,7 @@ replaced : encode_utf8 0xFFFD ≡ 239 ∷ 191 ∷ 189 ∷ []
 unfolding encode_utf8
 replaced = refl
 
--- a part that is none
+-- A part that isn't a character.
 pub next_none : (bs : List ℕ) → (decoded bs).char ≡ None → 239 ∷ 191 ∷ 189 ∷ [] ≡ next_text bs
 next_none bs is = sym replaced ∙ ap (λ (o : Option ℕ). encode_utf8 (or_replacement o)) (sym is)
 
@@ -48,7 +48,7 @@ decoded_ascii b bs low =
     let t : nat_lt b 0x80 ≡ true = grind (arith, nat_tests) in
     rw (some, t) refl
 
--- ASCII
+-- The text begins with any ASCII bytes at the front.
 pub begins_ascii : (n : ℕ) (bs : List ℕ) → AllByRecursion (λ b. b < 128) (take n bs) → Begins bs (take n bs) n
 begins_ascii zero bs all = refl
 begins_ascii (suc n) [] all = refl
@@ -58,7 +58,7 @@ begins_ascii (suc n) (b ∷ bs) all =
     ∙ ap (λ (xs : List ℕ). xs ++ text_of bs) (one_byte b all.0) in
     step ∙ ap (λ (xs : List ℕ). b ∷ xs) (begins_ascii n bs all.1)
 
--- one front after another
+-- One front after another.
 pub begins_on : (bs front more : List ℕ) (i n : ℕ) → Begins bs front i → Begins (drop i bs) more n → Begins bs (front ++ more) (i + n)
 begins_on bs front more i n first next =
     first ∙ ap (λ (xs : List ℕ). front ++ xs) (next ∙ ap (λ (xs : List ℕ). more ++ text_of xs) (drop-drop n i bs)) ∙ sym (append_assoc front more (text_of (drop (i + n) bs)))

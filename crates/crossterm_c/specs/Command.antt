@@ -1,5 +1,5 @@
--- Commands as numbers, and their texts. The numbers are those of `bindings/c/gelvanh.h`: a command's kind is its place in the list of all,
--- an enum's variant its place in declared order.
+-- Commands as numbers, and their texts. The numbers are those of `bindings/c/gelvanh.h`. A command's kind is its
+-- place in the list of all commands, and a variant of an enum is its place in declared order.
 use Rattle.std.specs.Prelude.{◌≡◌, ◌<◌, ◌==◌, ℕ, ◌+◌, nat_le, nat_lt, if◌then◌else◌, ⊤, Bool, List, [], ◌∷◌, ◌++◌, length, take, drop, codes, slice_get, Option, Some, None}
 use Rattle.std.specs.Str.{IsUtf8}
 use Rattle.std.specs.Int.RustNames.{bit_and}
@@ -33,17 +33,20 @@ use Rattle.crossterm_c.specs.declared.command.GelvanhCommand.{GelvanhCommand}
 use Rattle.crossterm_c.specs.declared.outlet.Outcome.{Outcome}
 use Rattle.crossterm_c.specs.declared.outlet.Outcome.TheVariants.{Written, TooSmall, NamesNothing, Failed}
 
--- The cursor's shape, what is cleared, and an attribute, by their places in declared order.
+-- The cursor's shape at a place in declared order, or `None` if there is none.
 abbrev pub shape_at : ℕ → Option SetCursorStyle
 shape_at n = slice_get all_shapes n
 
+-- What is cleared, by its place in declared order, or `None` if there is none.
 abbrev pub cleared_at : ℕ → Option ClearType
 cleared_at n = slice_get (all clears) n
 
+-- The attribute at a place in declared order, or `None` if there is none.
 abbrev pub attribute_at : ℕ → Option Attribute
 attribute_at n = slice_get all_attributes n
 
--- A colour by its place, counted from 1, with its parts, or with its place in the palette as the first of them.
+-- The colour of a kind: 1 to 17 by name, 18 by its three parts, 19 by its number in the palette, which is `r`. Other
+-- kinds give `None`.
 abbrev pub color_at : GelvanhColor → Option Color
 color_at c =
     if c.kind == 1 then Some color.Reset else
@@ -67,30 +70,32 @@ color_at c =
     if c.kind == 19 then Some (color.AnsiValue c.r) else
     None
 
--- A colour that may be missing: with 0 it is.
+-- A colour that may be missing: with the kind 0 it is. Unknown kinds give `None`.
 abbrev pub there_at : GelvanhColor → Option (Option Color)
 there_at c = if c.kind == 0 then Some None else option_map Some (color_at c)
 
--- Whether bits have an attribute's, and the bits of all attributes whose bits they have.
+-- Whether bits have the bit of an attribute.
 abbrev pub includes : ℕ → Attribute → Bool
 includes bits a = bit_and bits (bit_of a) == bit_of a
 
+-- The bits of all attributes whose bits are among these.
 unfoldable pub known_of : ℕ → ℕ
 known_of bits = of_list (filter (includes bits) all_attributes)
 
--- The set of some bits, where they are those of attributes and no others.
+-- The set of attributes of some bits, or `None` if other bits are set.
 abbrev pub attributes_at : ℕ → Option AttributeSet
 attributes_at bits = if known_of bits == bits then Some (record { 0 = bits }) else None
 
+-- The style of three colours and a set of attributes, or `None` if one of them isn't valid.
 abbrev styled_by : Option (Option Color) → Option (Option Color) → Option (Option Color) → Option AttributeSet → Option ContentStyle
 styled_by (Some f) (Some b) (Some u) (Some a) = Some (record { foreground_color = f; background_color = b; underline_color = u; attributes = a })
 styled_by _ _ _ _ = None
 
--- The style of a command, where each of its parts is one.
+-- The style of a command, or `None` if a part of it isn't valid.
 abbrev pub style_at : GelvanhCommand → Option ContentStyle
 style_at c = styled_by (there_at c.foreground) (there_at c.background) (there_at c.underline) (attributes_at c.attributes)
 
--- Commands of the cursor.
+-- The text of a command of the cursor, which has a kind from 0 to 15. Other kinds and unknown shapes give `None`.
 abbrev pub cursor_text : GelvanhCommand → Option (List ℕ)
 cursor_text c =
     if c.kind == 0 then Some (text_of (move_to c.first c.second)) else
@@ -111,7 +116,8 @@ cursor_text c =
     if c.kind == 15 then option_map (λ s. text_of (cursor_style s)) (shape_at c.first) else
     None
 
--- Commands of the terminal that have no text of their own.
+-- The text of a command of the terminal, which has a kind from 16 to 26, but for 24. Other kinds, and unknown
+-- clearings, give `None`.
 abbrev pub terminal_text : GelvanhCommand → Option (List ℕ)
 terminal_text c =
     if c.kind == 16 then Some (text_of (reset "7")) else
@@ -126,7 +132,8 @@ terminal_text c =
     if c.kind == 26 then Some (text_of (reset "2026")) else
     None
 
--- Commands that tell a terminal which events to report.
+-- The text of a command that chooses which events a terminal reports, of a kind from 27 to 34. Other kinds, and flags
+-- above 255, give `None`.
 abbrev pub event_text : GelvanhCommand → Option (List ℕ)
 event_text c =
     if c.kind == 27 then Some (text_of enable_mouse) else
@@ -139,15 +146,17 @@ event_text c =
     if c.kind == 34 then Some (text_of (control (codes "<1") "u")) else
     None
 
+-- A foreground and a background, each of which may be missing, or `None` if one isn't valid.
 abbrev colors_by : Option (Option Color) → Option (Option Color) → Option Colors
 colors_by (Some f) (Some b) = Some (record { foreground = f; background = b })
 colors_by _ _ = None
 
--- The two colours of a command, where each is one or is missing.
+-- The foreground and the background of a command, each of which may be missing, or `None` if one isn't valid.
 abbrev pub colors_at : GelvanhCommand → Option Colors
 colors_at c = colors_by (there_at c.foreground) (there_at c.background)
 
--- Commands of colours, of attributes and of whole styles that have no text of their own.
+-- The text of a command of colours, attributes or a style, of a kind from 35 to 43, but for 42. Other kinds and
+-- invalid parts give `None`.
 abbrev pub style_text : ColorOutput → GelvanhCommand → Option (List ℕ)
 style_text colors c =
     if c.kind == 35 then option_map (λ s. text_of (color_functions colors (ForegroundColor s))) (color_at c.foreground) else
@@ -160,7 +169,7 @@ style_text colors c =
     if c.kind == 43 then Some (text_of reset_functions) else
     None
 
--- A command that has no text of its own, by its kind.
+-- The text of a command that needs no text from its caller, or `None` if the numbers name none.
 abbrev pub command_text : ColorOutput → GelvanhCommand → Option (List ℕ)
 command_text colors c =
     if nat_lt c.kind 16 then cursor_text c else
@@ -168,44 +177,48 @@ command_text colors c =
     if nat_lt c.kind 35 then event_text c else
     style_text colors c
 
+-- A text in a style, or `None` if there is no style.
 abbrev printed_by : ColorOutput → Option ContentStyle → List ℕ → Option (List ℕ)
 printed_by colors (Some style) text = styled_text colors style (Some text)
 printed_by colors None text = None
 
--- A text in the style of a command.
+-- A text in the style of a command, or `None` if the style isn't valid.
 abbrev pub printed : ColorOutput → GelvanhCommand → List ℕ → Option (List ℕ)
 printed colors c text = printed_by colors (style_at c) text
 
--- A copy of some bytes to the places of some letters: one operating system command.
+-- The operating system command 52, which copies bytes in base64 to the places of these letters.
 abbrev pub copied : List ℕ → List ℕ → List Token
 copied content places = Osc (codes "52;" ++ (places ++ (codes ";" ++ encode_of standard content))) St ∷ []
 
--- What comes of a text that is to be written into a slice: it stands in front of it, and the rest is as it was; or it doesn't fit, and
--- nothing was written. Its length is told in both. Where a command fails by itself no length is told, and the slice may hold anything.
+-- What a call answers that writes a text into a slice.
+-- `Written`: the text is at the front of the slice, the rest of it is unchanged, and `n` is the text's length.
+-- `TooSmall`: the slice is shorter than the text and unchanged, and `n` is the text's length.
+-- `Failed`: `n` is 0, and the slice may have any bytes. `NamesNothing` isn't answered.
 abbrev pub Answers : List ℕ → List ℕ → List ℕ → ℕ → Outcome → Type 0
 Answers text old new n Written = (n ≡ length text) × (take n new ≡ text) × (drop n new ≡ drop n old)
 Answers text old new n TooSmall = (n ≡ length text) × (length old < n) × (new ≡ old)
 Answers text old new n NamesNothing = ⊥
 Answers text old new n Failed = n ≡ 0
 
--- The same of numbers that may name nothing: exactly then nothing was written, and no length is told.
+-- What a call answers if the numbers may name nothing. Exactly then it answers `NamesNothing`, nothing was written,
+-- and `n` is 0.
 abbrev pub AnswersTo : Option (List ℕ) → List ℕ → List ℕ → ℕ → Outcome → Type 0
 AnswersTo (Some text) old new n outcome = Answers text old new n outcome
 AnswersTo None old new n outcome = (outcome ≡ NamesNothing) × (n ≡ 0) × (new ≡ old)
 
--- The same of a text that has to be UTF-8: where it isn't, it names nothing.
+-- What a call answers if a text has to be UTF-8. A text that isn't UTF-8 names nothing.
 abbrev pub AnswersText : List ℕ → Option (List ℕ) → List ℕ → List ℕ → ℕ → Outcome → Type 0
 AnswersText utf8 text old new n outcome = (IsUtf8 utf8 → AnswersTo text old new n outcome) × (¬ IsUtf8 utf8 → AnswersTo None old new n outcome)
 
--- Whether colours are written.
+-- The choice of colours: `Enabled` if they are written, otherwise `Disabled`.
 abbrev pub output_of : Bool → ColorOutput
 output_of colors = if colors then Enabled else Disabled
 
--- The outcome of a number: its place in declared order.
+-- The outcome at a place in declared order, or `None` if there is none.
 abbrev pub outcome_at : ℕ → Option Outcome
 outcome_at n = slice_get (Written ∷ TooSmall ∷ NamesNothing ∷ Failed ∷ []) n
 
--- It's none that a command failed by itself.
+-- The outcome isn't `Failed`.
 abbrev pub HasNotFailed : Outcome → Type 0
 HasNotFailed Written = ⊤
 HasNotFailed TooSmall = ⊤

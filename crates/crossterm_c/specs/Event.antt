@@ -1,4 +1,5 @@
--- Events as numbers, and what they tell. The numbers are those of `bindings/c/gelvanh.h`: any others are no event.
+-- Events as numbers, and what they mean. The numbers are those of `bindings/c/gelvanh.h`, and any others are no
+-- event.
 use Rattle.std.specs.Prelude.{ℕ, ◌==◌, ◌-◌, ◌&&◌, ◌||◌, nat_lt, if◌then◌else◌, Bool, List, [], ◌∷◌, length, take, slice_get, Option, Some, None}
 use Rattle.std.specs.Option.{option_map}
 use Rattle.crossterm_types.specs.Keys.{modifiers_of}
@@ -19,27 +20,28 @@ use Rattle.crossterm_types.specs.declared.event.mouse.MouseEventKind.TheVariants
 use Rattle.crossterm_parse.specs.Meaning.{pasted}
 use Rattle.crossterm_c.specs.declared.event.GelvanhEvent.{GelvanhEvent}
 
--- A key of a media keyboard, in declared order.
+-- The keys of a media keyboard, in declared order.
 abbrev pub media_keys : List MediaKeyCode
 media_keys =
     media.Play ∷ media.Pause ∷ media.PlayPause ∷ media.Reverse ∷ media.Stop ∷ media.FastForward ∷ media.Rewind ∷
     media.TrackNext ∷ media.TrackPrevious ∷ media.Record ∷ media.LowerVolume ∷ media.RaiseVolume ∷ media.MuteVolume ∷ []
 
--- A modifier key, in declared order.
+-- The modifier keys, in declared order.
 abbrev pub modifier_keys : List ModifierKeyCode
 modifier_keys =
     modifier.LeftShift ∷ modifier.LeftControl ∷ modifier.LeftAlt ∷ modifier.LeftSuper ∷ modifier.LeftHyper ∷ modifier.LeftMeta ∷
     modifier.RightShift ∷ modifier.RightControl ∷ modifier.RightAlt ∷ modifier.RightSuper ∷ modifier.RightHyper ∷ modifier.RightMeta ∷
     modifier.IsoLevel3Shift ∷ modifier.IsoLevel5Shift ∷ []
 
--- A key, in declared order, with its number or its character. After these come the keys of a media keyboard and the modifier keys.
+-- The other keys, in declared order. A function key has the number `value`, and a character key the character
+-- `value`.
 abbrev pub keys_with : ℕ → List KeyCode
 keys_with value =
     code.Backspace ∷ code.Enter ∷ code.Left ∷ code.Right ∷ code.Up ∷ code.Down ∷ code.Home ∷ code.End ∷ code.PageUp ∷ code.PageDown ∷
     code.Tab ∷ code.BackTab ∷ code.Delete ∷ code.Insert ∷ code.F value ∷ code.Char value ∷ code.Null ∷ code.Esc ∷ code.CapsLock ∷
     code.ScrollLock ∷ code.NumLock ∷ code.PrintScreen ∷ code.Pause ∷ code.Menu ∷ code.KeypadBegin ∷ []
 
--- The key of two numbers. The second one is 0 where the key has neither a number, nor a character, nor a place.
+-- The key of two numbers, or `None`. If the key has no number, no character and no place, the second one has to be 0.
 abbrev pub code_at : ℕ → ℕ → Option KeyCode
 code_at n value =
     if n == 25 then option_map code.Media (slice_get media_keys value) else
@@ -47,57 +49,64 @@ code_at n value =
     if value == 0 || (n == 14 || n == 15) then slice_get (keys_with value) n else
     None
 
--- Whether a key was pressed, held or let go.
+-- Whether a key was pressed (0), repeated (1) or released (2). Other numbers give `None`.
 abbrev pub press_at : ℕ → Option KeyEventKind
 press_at n = slice_get (kind.Press ∷ kind.Repeat ∷ kind.Release ∷ []) n
 
--- A button of the mouse, in declared order.
+-- A button of the mouse: left (0), right (1) or middle (2). Other numbers give `None`.
 abbrev pub button_at : ℕ → Option MouseButton
 button_at n = slice_get (button.Left ∷ button.Right ∷ button.Middle ∷ []) n
 
--- What the mouse did with a button, in declared order, and after it what it did without one.
+-- What the mouse did with a button: down (0), up (1) or drag (2). Other numbers, or no button, give `None`.
 abbrev with_button : ℕ → Option MouseButton → Option MouseEventKind
 with_button n (Some which) = slice_get (mouse.Down which ∷ mouse.Up which ∷ mouse.Drag which ∷ []) n
 with_button n None = None
 
+-- What the mouse can do without a button, in declared order.
 abbrev pub without_button : List MouseEventKind
 without_button = mouse.Moved ∷ mouse.ScrollDown ∷ mouse.ScrollUp ∷ mouse.ScrollLeft ∷ mouse.ScrollRight ∷ []
 
--- What the mouse did, of two numbers. The second one is 0 where it was no button.
+-- What the mouse did, by two numbers, or `None`. The second one is its button, or 0 if there is no button.
 abbrev pub done_at : ℕ → ℕ → Option MouseEventKind
 done_at n value = if nat_lt n 3 then with_button n (button_at value) else if value == 0 then slice_get without_button (n - 3) else None
 
--- The key event of the numbers, by its key and by whether that was pressed, held or let go.
+-- The key event of these numbers, or `None` if its key or its kind is missing.
 abbrev pub key_by : GelvanhEvent → Option KeyCode → Option KeyEventKind → Option Seen
 key_by e (Some which) (Some press) = Some (seen.Key (record { code = which; modifiers = modifiers_of e.modifiers; kind = press; state = record { 0 = e.state } }))
 key_by e (Some which) None = None
 key_by e None press = None
 
--- The mouse event of the numbers, by what the mouse did.
+-- The mouse event of these numbers, or `None` if it isn't known what the mouse did.
 abbrev pub mouse_by : GelvanhEvent → Option MouseEventKind → Option Seen
 mouse_by e (Some done) = Some (seen.Mouse (record { kind = done; column = e.column; row = e.row; modifiers = modifiers_of e.modifiers }))
 mouse_by e None = None
 
--- Numbers that are 0 in an event whose kind doesn't name them.
+-- Whether the numbers of a code are 0: the code, its value and the modifiers.
 abbrev pub no_code : GelvanhEvent → Bool
 no_code e = e.code == 0 && (e.value == 0 && e.modifiers == 0)
 
+-- Whether the numbers of a key's press are 0: its kind and its state.
 abbrev pub no_press : GelvanhEvent → Bool
 no_press e = e.press == 0 && e.state == 0
 
+-- Whether the numbers of a place are 0: its column and its row.
 abbrev pub no_place : GelvanhEvent → Bool
 no_place e = e.column == 0 && e.row == 0
 
+-- Whether the flags are 0.
 abbrev pub no_flags : GelvanhEvent → Bool
 no_flags e = e.flags == 0
 
+-- Whether all numbers but the event's kind are 0.
 abbrev pub is_bare : GelvanhEvent → Bool
 is_bare e = no_code e && (no_press e && (no_place e && no_flags e))
 
+-- The event if the condition holds, otherwise `None`.
 abbrev pub only : Bool → Option Seen → Option Seen
 only is told = if is then told else None
 
--- The event that the numbers tell, where they are an event's. A paste has its text with the caller, who kept the bytes of it, six of which are its end.
+-- The event of these numbers, or `None` if they are no event's. Of a paste the caller kept the bytes, and the last
+-- six of them end it.
 abbrev pub told_by : List ℕ → GelvanhEvent → Option Seen
 told_by kept e =
     if e.kind == 1 then only (is_bare e) (Some seen.FocusGained) else
@@ -111,10 +120,11 @@ told_by kept e =
     if e.kind == 9 then only (no_code e && (no_press e && no_flags e)) (Some (seen.Resize e.column e.row)) else
     None
 
--- The same, where numbers that are no event's are taken for a resize to nothing. No bytes mean a resize, so none of these is ever given for bytes.
+-- The event, or a resize to nothing if there is none. No bytes mean a resize, so this is never given for bytes.
 abbrev pub or_resize : Option Seen → Seen
 or_resize (Some told) = told
 or_resize None = seen.Resize 0 0
 
+-- The event of these numbers, or a resize to nothing if they are no event's.
 abbrev pub event_at : List ℕ → GelvanhEvent → Seen
 event_at kept e = or_resize (told_by kept e)

@@ -1,7 +1,8 @@
 -- A slice that takes what fits of a text, and counts all of it.
 use Rattle.std.specs.Prelude.{◌≡◌, ◌≤◌, ◌+◌, ℕ, List, ◌++◌, length, take, drop}
 
--- Where m bytes of a text were counted more come, and n are counted then. As long as all fit they stand in front of the slice, and the rest of it is as it was.
+-- More bytes of a text come, of which `m` were counted before, and `n` are counted then.
+-- As long as all fit, they are at the front of the slice, and the rest of it is unchanged.
 pub record Puts (old : List ℕ) (m : ℕ) (bytes new : List ℕ) (n : ℕ) : Type 0 where
   pub counted : n ≡ m + length bytes
   pub room : length new ≡ length old

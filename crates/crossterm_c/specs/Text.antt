@@ -7,17 +7,18 @@ use Rattle.bstr.specs.Utf8.{decoded, lossy_chars, or_replacement}
 abbrev pub text_of : List ℕ → List ℕ
 text_of bytes = encode_utf8_all (lossy_chars bytes)
 
--- The text of some bytes begins with these ones, and the rest of it is that of the bytes from a place on.
+-- The text of the bytes is `front` and then the text of the bytes from `place` on.
 abbrev pub Begins : List ℕ → List ℕ → ℕ → Type 0
 Begins bytes front place = text_of bytes ≡ front ++ text_of (drop place bytes)
 
--- The character in front of some bytes, as it's written: U+FFFD for a part that isn't UTF-8.
+-- The first character of some bytes, in UTF-8: U+FFFD for a part that isn't UTF-8.
 abbrev pub next_text : List ℕ → List ℕ
 next_text bytes = encode_utf8 (or_replacement (decoded bytes).char)
 
--- So many bytes were read, and so many of their text written into a slice: all, or as far as the next character has room.
+-- `read` bytes were read, and `count` bytes of their text were written into a slice.
 pub record Writes (bytes slice : List ℕ) (count read : ℕ) : Type 0 where
   pub within : read ≤ length bytes
   pub fits : count ≤ length slice
   pub text : Begins bytes (take count slice) read
+  -- All bytes were read, or the next character has no room.
   pub whole : (read ≡ length bytes) ⊎ (length slice < count + length (next_text (drop read bytes)))

@@ -16,17 +16,17 @@
 //! | a paste's text is written until all bytes are read or the next character has no room; a command's text is in the slice, or the slice is unchanged and the length is returned | `gelvanh_paste_text`, `gelvanh_command` and the four calls with a text |
 //! | the version is the header's | `gelvanh_version` |
 //!
-//! What to believe, in the order in which it reads (`specs/`), and where it is proved:
+//! What to believe, in the order in which it reads (`specs/`), and the contracts that it is proved by:
 //!
 //! | Definitions | Lines | Of | Contract |
 //! |---|---|---|---|
-//! | `State` | 88 | the state of an open sequence as numbers | `gelvanh_is_undecided`, `gelvanh_is_pasting` |
-//! | `Event` | 120 | events as numbers | `gelvanh_feed` |
-//! | `Feeding` | 37 | what a call does that takes bytes | `gelvanh_feed` |
-//! | `Held` | 84 | events that are held, and their classes | `gelvanh_hold`, `gelvanh_holds`, `gelvanh_take`, `gelvanh_feed_held`, `gelvanh_take_some` |
-//! | `Text` | 23 | the text of a paste, piece by piece | `gelvanh_paste_text` |
-//! | `Command` | 213 | commands as numbers, and their texts | `gelvanh_command`, `gelvanh_print` and the like |
-//! | `Outlet` | 9 | a slice that takes what fits | the same |
+//! | `State` | 91 | the state of an open sequence as numbers | `gelvanh_is_undecided`, `gelvanh_is_pasting` |
+//! | `Event` | 130 | events as numbers | `gelvanh_feed` |
+//! | `Feeding` | 39 | what a call does that takes bytes | `gelvanh_feed` |
+//! | `Held` | 91 | events that are held, and their classes | `gelvanh_hold`, `gelvanh_holds`, `gelvanh_take`, `gelvanh_feed_held`, `gelvanh_take_some` |
+//! | `Text` | 24 | the text of a paste, piece by piece | `gelvanh_paste_text` |
+//! | `Command` | 226 | commands as numbers, and their texts | `gelvanh_command`, `gelvanh_print` and the like |
+//! | `Outlet` | 10 | a slice that takes what fits | the same |
 //!
 //! A function's proof is in `proofs/` at the function's path; if there is no file, the prover found it by itself.
 #![tactic(auto)]

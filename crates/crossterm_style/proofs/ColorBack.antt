@@ -1,4 +1,4 @@
--- Colours that are told are read back.
+-- Colours that are written are read back.
 use Rattle.std.proofs.Common.{◌≡◌, ◌≢◌, ℕ, ◌==◌, ◌<◌, Bool, true, false, List, [], ◌∷◌, ◌++◌, Option, None, Some, arith, ap, refl, sym, ◌∙◌, codes}
 use Rattle.std.specs.Cmp.Lexicographic.{same_text}
 use Rattle.std.specs.Fmt.{decimal}
@@ -15,7 +15,7 @@ use Rattle.crossterm_style.specs.declared.types.colored.Colored.TheVariants as c
 use Rattle.crossterm_style.proofs.MarkLaws.{byte_back}
 use Rattle.crossterm_style.proofs.TextLaws.{IsDigit, byte_digits, byte_reads}
 
--- A colour that is no number is told by its name.
+-- The text of a colour without numbers is its name.
 pub named_told : (c : Color) → ((n : ℕ) → c ≡ color.AnsiValue n → ⊥) → ((r g b : ℕ) → c ≡ color.Rgb r g b → ⊥) → color_text c ≡ color_name c
 named_told (color.AnsiValue n) f g = absurd (f n refl)
 named_told (color.Rgb r g b) f h = absurd (h r g b refl)
@@ -27,7 +27,7 @@ by_names false true c x y z f g h = absurd (g refl)
 by_names false false true x y z f g h = absurd (h refl)
 by_names false false false x y z f g h = refl
 
--- Where a text is none of three names, nothing is chosen by them.
+-- If a text is none of three names, none is chosen.
 pub none_of : {X : Type 0} (text a b c : List ℕ) (x y z : Option X) → text ≢ a → text ≢ b → text ≢ c
     → (if same text a then x else (if same text b then y else (if same text c then z else None))) ≡ None
 none_of text a b c x y z f g h =
@@ -89,7 +89,7 @@ ansi_unmarked n h =
 ansi_back : (n : ℕ) → n < 256 → read_color (color_text (color.AnsiValue n)) ≡ Some (color.AnsiValue n)
 ansi_back n h = ap (option_map color.AnsiValue) (ap byte_of (ansi_unmarked n h) ∙ number_back n h)
 
--- three numbers with commas between, and what follows
+-- Three numbers with commas between, and what follows.
 abbrev three : ℕ → ℕ → ℕ → List ℕ → List ℕ
 three r g b rest = decimal r ++ (44 ∷ (decimal g ++ (44 ∷ (decimal b ++ rest))))
 

@@ -19,7 +19,7 @@ part_found text part false none = (
       absurd (none (length front) within p.1 (ap (drop (length front)) p.2 ∙ drop-append_seam front (part ++ p.1))),
 )
 
--- The first name that is there tells.
+-- The first name that is there counts.
 pub first_tells : (first second : Option (Bor (List ℕ))) (name : Bor (List ℕ)) (count : ℕ) → option_or first second ≡ Some name → CountsColors name.now count → CountsColorsOf first second count
 first_tells (Some x) second name count e p = let same : name ≡ x = cc in subst (λ y. CountsColors y.now count) same p
 first_tells None (Some x) name count e p = let same : name ≡ x = cc in subst (λ y. CountsColors y.now count) same p

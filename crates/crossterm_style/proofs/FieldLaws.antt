@@ -26,7 +26,7 @@ split_some text front back s =
     let within : position_or_len (λ b. b == 59) text < length text = s.2 in
     slice_split_first (λ b. b == 59) text 0 within ∙ cc
 
--- Where it finds none, the whole text is the one field.
+-- A text without a semicolon is its only field.
 pub split_none : (text : List ℕ) → position_or_len (λ b. b == 59) text ≡ length text → fields text ≡ text ∷ []
 split_none text e = slice_split_none (λ b. b == 59) text (λ k d l. fails_before_first (λ b. b == 59) text k d (omega arith))
 
@@ -51,7 +51,7 @@ no_third fs l k n m first second none r g b p =
 
 -- ---- SGR colours
 
--- what follows the form of an SGR colour, by its number
+-- What follows the form of an SGR colour, by its number.
 abbrev pub SgrAfter : ℕ → List (List ℕ) → SgrColor → Type 0
 SgrAfter form rest Own = ⊥
 SgrAfter form rest (Indexed n) = (form ≡ 5) × BeginsWith rest n []

@@ -65,7 +65,7 @@ somewhere part [] rest i e h = subst (λ t. begins part t ≡ true) (sym (at_end
 somewhere part (x ∷ xs) rest zero e h = either_first (begins part (x ∷ xs)) (holds part xs) (subst (λ t. begins part t ≡ true) (sym e) (begins_so part rest))
 somewhere part (x ∷ xs) rest (suc i) e h = either_second (begins part (x ∷ xs)) (holds part xs) (somewhere part xs rest i e (omega arith))
 
--- `contains` tells whether a text has a part.
+-- `contains` returns whether a text has a part.
 pub part_held : (text part : List ℕ) (found : Bool) → MatchBool found (HasMatch (FindsText part) text) (FindsText part text None) → found ≡ holds part text
 part_held text part true m = sym (somewhere part text (drop m.1 text) m.0 m.2.1.split (omega (arith, m.3, m.4)))
 part_held text part false none = sym (nowhere part text none)
@@ -162,7 +162,7 @@ comma_some text front back s =
     let within : position_or_len (λ b. b == 44) text < length text = s.2 in
     slice_split_first (λ b. b == 44) text 0 within ∙ cc
 
--- Where it finds none, the whole text is the one field.
+-- A text without a comma is its only field.
 pub comma_none : (text : List ℕ) → position_or_len (λ b. b == 44) text ≡ length text → slice_split (λ b. b == 44) text ≡ text ∷ []
 comma_none text e = slice_split_none (λ b. b == 44) text (λ k d l. fails_before_first (λ b. b == 44) text k d (omega arith))
 

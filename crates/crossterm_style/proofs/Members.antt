@@ -25,15 +25,15 @@ module _ {X : Type 0} (text : X → List ℕ) (test : X → Bool) (xs : List X) 
       ∙ ap (flat_map text) (filter-append test (take i xs) (get_or xs i other ∷ []))
       ∙ flat_map-append text (filter test (take i xs)) (filter test (get_or xs i other ∷ []))
 
-  -- one that passes the test
+  -- An element that passes the test.
   pub text_more : test (get_or xs i other) ≡ true → so_far i ++ text (get_or xs i other) ≡ so_far (i + 1)
   text_more is = sym (rw is at more ∙ ap (λ l. so_far i ++ l) (append-nil (text (get_or xs i other))))
 
-  -- one that doesn't
+  -- An element that doesn't pass the test.
   pub text_same : test (get_or xs i other) ≡ false → so_far i ≡ so_far (i + 1)
   text_same is = sym (rw is at more ∙ append-nil (so_far i))
 
--- the text of an attribute
+-- The text of an attribute.
 abbrev pub attribute_text : Attribute → List ℕ
 attribute_text a = text_of (attribute_functions a)
 

@@ -13,7 +13,7 @@ use Rattle.std.proofs.lemmas.List.{get_or-map, length-map}
 use Rattle.crossterm_style.specs.declared.types.color.Color.{Color}
 use Rattle.crossterm_style.specs.ColorNames.{entries, NamesNoneIn}
 
--- Where no entry's name is the text's, the table doesn't have it.
+-- If no entry has the text as its name, the text names none in the table.
 pub named_nowhere : (table : List (Bor (List ℕ) × Color)) (text : List ℕ) (n : ℕ) → length table ≤ n
     → ((k : ℕ) (d : Bor (List ℕ) × Color) → k < n → str_to_ascii_lowercase text ≡ str_to_ascii_lowercase (get_or table k d).0.now → ⊥) → NamesNoneIn (entries table) text
 named_nowhere [] text n all none c p = omega (arith, p.1)
@@ -33,7 +33,7 @@ if_not false x y h = refl
 same_is : (xs ys : List ℕ) → xs ≡ ys → same xs ys ≡ true
 same_is xs ys e = subst (λ l. same xs l ≡ true) e (nat_list_eq_equiv.refl xs)
 
--- The first entry whose name is the text's tells its colour.
+-- The first entry with the text as its name has its colour.
 pub named_here : (table : List (Bor (List ℕ) × Color)) (text : List ℕ) (i : ℕ) (d : Bor (List ℕ) × Color) → i < length table
     → str_to_ascii_lowercase text ≡ str_to_ascii_lowercase (get_or table i d).0.now → color_in (entries (drop i table)) text ≡ Some (get_or table i d).1
 named_here [] text i d h e = absurd (omega arith)
@@ -56,7 +56,7 @@ entry_there (x ∷ xs) (suc i) d e h = entry_there xs i d e (omega arith)
 abbrev names_entry : List (Bor (List ℕ) × Color) → List ℕ → ℕ → Bor (List ℕ) × Color → Type 0
 names_entry table text k d = str_to_ascii_lowercase text ≡ str_to_ascii_lowercase (get_or table k d).0.now
 
--- Where no entry before a place has the text's name and that at the place hasn't, none up to it has.
+-- If neither the entries before a place nor the one there have the text as their name, none up to there has.
 pub none_yet : (table : List (Bor (List ℕ) × Color)) (text : List ℕ) (i : ℕ) (d : Bor (List ℕ) × Color) → i < length table
     → ((k : ℕ) (e : Bor (List ℕ) × Color) → k < i → names_entry table text k e → ⊥) → (names_entry table text i d → ⊥)
     → (k : ℕ) (e : Bor (List ℕ) × Color) → k < i + 1 → names_entry table text k e → ⊥

@@ -60,7 +60,7 @@ colored_told fs rest n (ForegroundColor c) first p = place_told 38 39 fs rest n 
 colored_told fs rest n (BackgroundColor c) first p = place_told 48 49 fs rest n c first p
 colored_told fs rest n (UnderlineColor c) first p = place_told 58 59 fs rest n c first p
 
--- ---- what is told, by what stands after the number
+-- ---- SGR parameters, by what follows the number
 
 -- An SGR colour has a field.
 sgr_there : (fs : List (List ℕ)) (sgr : SgrColor) → ReadsInk fs sgr → fs ≡ [] → ⊥
@@ -136,7 +136,7 @@ place_once set reset n rest c d apart (inl p) (inr q) = absurd (apart (sym q.0 �
 place_once set reset n rest c d apart (inr p) (inl q) = absurd (apart (sym p.0 ∙ q.0))
 place_once set reset n rest c d apart (inr p) (inr q) = one_color rest c d p.1 q.1
 
--- two places have no number in common
+-- Two places have no number in common.
 places_apart : (set other n : ℕ) (rest : List (List ℕ)) (c d : Color) → set + 1 < other → PlaceAfter set (set + 1) n rest c → PlaceAfter other (other + 1) n rest d → ⊥
 places_apart set other n rest c d below (inl p) (inl q) = omega (arith, p.0, q.0)
 places_apart set other n rest c d below (inl p) (inr q) = omega (arith, p.0, q.0)

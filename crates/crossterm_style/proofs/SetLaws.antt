@@ -14,7 +14,7 @@ use Rattle.crossterm_style.specs.Attributes.{Makes, all_attributes, bit_of, diff
 
 -- ---- two bits
 
--- What is done to bits is what is done to truths, where it is at each pair of bits.
+-- An operation on bits is one on truths, if it is at each pair of bits.
 module _ (on_bits : ℕ → ℕ → ℕ) (on_truths : Bool → Bool → Bool)
     (neither : (on_bits 0 0 == 1) ≡ on_truths false false) (second : (on_bits 0 1 == 1) ≡ on_truths false true)
     (first : (on_bits 1 0 == 1) ≡ on_truths true false) (both : (on_bits 1 1 == 1) ≡ on_truths true true) where

@@ -148,7 +148,7 @@ module _ (x y : ℕ) (p : OnlyAttributes x) (q : OnlyAttributes y) (same : (a : 
   pub same_members : x ≡ y
   same_members = same_bits 29 x y p.1 q.1 (λ i. same_bit i (below_or i))
 
--- Such a set is empty exactly where it has no members.
+-- A set of attributes alone is empty exactly if it has no members.
 pub no_members : (x : ℕ) → OnlyAttributes x → (x == 0) ≡ true ↔ ((a : Attribute) → has x a ≡ false)
 no_members x p = (
   λ h a. subst (λ (n : ℕ). has n a ≡ false) (sym (same_number h)) (law.none a),

@@ -105,7 +105,7 @@ parts_first r g b rest hr hg hb =
     ap parameters (append_assoc (decimal r) (59 ∷ (decimal g ++ (59 ∷ decimal b))) tail ∙ ap (λ l. decimal r ++ (59 ∷ l)) (append_assoc (decimal g) (59 ∷ decimal b) tail))
     ∙ next_number r _ hr ∙ ap (λ l. Number r ∷ l) (next_number g _ hg ∙ ap (λ l. Number g ∷ l) (next_number b rest hb))
 
--- a colour before others
+-- A colour before others.
 sgr_first : (p : Place) (i : SgrColor) (rest : List ℕ) → FitsSgr i → parameters (sgr_text (sets p) (resets p) i ++ (59 ∷ rest)) ≡ sgr_parameters p i ++ parameters rest
 sgr_first p Own rest h = own_first p rest
 sgr_first p (Indexed n) rest h =
@@ -118,7 +118,7 @@ sgr_first p (Rgb r g b) rest h =
 
 -- ---- what they do
 
--- the colour that SGR parameters name
+-- The colour that SGR parameters name.
 abbrev pub sgr_shade : SgrColor → Option Color
 sgr_shade Own = None
 sgr_shade (Indexed n) = Some (indexed_color n)
@@ -146,13 +146,13 @@ sgr_puts p Own ps s = own_puts p ps s
 sgr_puts p (Indexed n) ps s = indexed_puts p n ps s
 sgr_puts p (Rgb r g b) ps s = rgb_puts p r g b ps s
 
--- the same where nothing follows
+-- The same if nothing follows.
 sgr_sets : (p : Place) (i : SgrColor) (s : Style) → FitsSgr i → by_parameters (parameters (sgr_text (sets p) (resets p) i)) 0 s ≡ put p (sgr_shade i) s
 sgr_sets p Own s h = ap (λ ps. by_parameters ps 0 s) (sgr_read p Own h) ∙ sgr_puts p Own [] s
 sgr_sets p (Indexed n) s h = ap (λ ps. by_parameters ps 0 s) (sgr_read p (Indexed n) h) ∙ sgr_puts p (Indexed n) [] s
 sgr_sets p (Rgb r g b) s h = ap (λ ps. by_parameters ps 0 s) (sgr_read p (Rgb r g b) h) ∙ sgr_puts p (Rgb r g b) [] s
 
--- SGR's parameters aren't private
+-- SGR's parameters aren't private.
 public_resets : (p : Place) (rest : List ℕ) → are_private (resets p ++ rest) ≡ false
 public_resets Foreground rest = refl
 public_resets p rest = refl
@@ -174,7 +174,7 @@ sgr_looks p i s h =
     let public : are_private text ≡ false = ap are_private (sym (append-nil text)) ∙ public_ink p i [] in
     rw public (sgr_sets p i s h)
 
--- a colour, and after a semicolon another
+-- A colour, and after a semicolon another.
 pub sgrs_look : (p : Place) (i : SgrColor) (q : Place) (j : SgrColor) (s : Style) → FitsSgr i → FitsSgr j
     → sgr (sgr_text (sets p) (resets p) i ++ (codes ";" ++ sgr_text (sets q) (resets q) j)) s ≡ put q (sgr_shade j) (put p (sgr_shade i) s)
 sgrs_look p i q j s h k =

@@ -44,12 +44,12 @@ no_members : (bits : ℕ) → (bits == 0) ≡ true → attribute_acts bits ≡ [
 unfolding members
 no_members bits e = rw (zero_is bits e) refl
 
--- the colour of an underline as it looks
+-- The colour of an underline as it looks.
 abbrev shade_there : Option Color → Option Color
 shade_there None = None
 shade_there (Some c) = shade c
 
--- a style without attributes, and its end
+-- A style without attributes, and its end.
 colors_end : (b f u : Option Color)
     → after_acts Enabled (reset_acts (either_there b None) (either_there f u)) (after_acts Enabled (where_there BackgroundColor b ++ (where_there ForegroundColor f ++ (where_there UnderlineColor u ++ []))) plain)
     ≡ put Underlining (shade_there u) plain

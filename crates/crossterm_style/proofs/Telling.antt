@@ -1,4 +1,4 @@
--- What is told of acts one after another is told of them together.
+-- The tokens of acts one after another are those of all acts together.
 use Rattle.std.proofs.Common.{◌≡◌, ℕ, List, ◌++◌, sym, subst}
 use Rattle.std.proofs.lemmas.List.Concat.{flat_map-append}
 use Rattle.std.specs.Fmt.{WritesInCalls}

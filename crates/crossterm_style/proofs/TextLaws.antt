@@ -64,7 +64,7 @@ parts_fields r g b hr hg hb =
 
 -- ---- SGR colours
 
--- The text of an SGR colour after a place's number, where a semicolon after that ends it as a field.
+-- The text of an SGR colour after a place's number, if a semicolon after that ends it as a field.
 place_reads : (set reset : ℕ) (x y : List ℕ) → ReadsByte x set → ReadsByte y reset → ((rest : List ℕ) → fields (x ++ (59 ∷ rest)) ≡ x ∷ fields rest) → fields y ≡ y ∷ []
     → (sgr : SgrColor) → FitsSgr sgr → ReadsPlace set reset (fields (sgr_text x y sgr)) sgr
 place_reads set reset x y sets resets cut whole Own h = (y, whole, resets)

@@ -1,4 +1,4 @@
--- Attributes that are told are read back.
+-- Attributes that are written are read back.
 use Rattle.std.proofs.Common.{◌≡◌, Some, rules}
 use Rattle.crossterm_flags.proofs.Ranks.{of_each}
 use Rattle.crossterm_flags.specs.Variants.{value_in, variant}

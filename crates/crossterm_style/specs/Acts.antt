@@ -1,4 +1,4 @@
--- What commands do to the look, by names: they print, and set colours and attributes.
+-- What style commands do to the look, by names: they print, and set colours and attributes.
 use Rattle.std.specs.Prelude.{ℕ, ◌==◌, Bool, true, false, List, [], ◌∷◌, ◌++◌, Option, Some, None, map, if◌then◌else◌}
 use Rattle.crossterm_command.specs.declared.color_output.ColorOutput.{ColorOutput}
 use Rattle.crossterm_command.specs.declared.color_output.ColorOutput.TheVariants.{Enabled, Disabled}
@@ -16,17 +16,18 @@ use Rattle.crossterm_style.specs.Looks.Blink.{Slow, Rapid}
 use Rattle.crossterm_style.specs.Looks.Place.{Foreground, Background, Underlining}
 use Rattle.crossterm_style.specs.Looks.Underline.{Straight, Double, Curled, Dotted, Dashed}
 
+-- What a style command does.
 pub data Act : Type 0 where
-  -- prints characters
+  -- Characters are printed.
   Prints : List ℕ → Act
-  -- sets a colour
+  -- A colour is set.
   Colors : Colored → Act
-  -- sets an attribute
+  -- An attribute is set.
   Takes : Attribute → Act
 
 -- ---- what they do to a style
 
--- an attribute does what its name says
+-- The style after an attribute is set, which does what its name says.
 abbrev pub with_attribute : Attribute → Style → Style
 with_attribute attribute.Reset s = plain
 with_attribute attribute.Bold s = record s { bold = true }
@@ -57,75 +58,80 @@ with_attribute attribute.OverLined s = record s { overlined = true }
 with_attribute attribute.NotFramedOrEncircled s = record s { framed = false; encircled = false }
 with_attribute attribute.NotOverLined s = record s { overlined = false }
 
--- a colour as it looks: the terminal's own is none, and the first sixteen of the palette have names
+-- A colour as it looks: the terminal's own is `None`, and the first sixteen of the palette have names.
 abbrev pub shade : Color → Option Color
 shade color.Reset = None
 shade (color.AnsiValue n) = Some (indexed_color n)
 shade c = Some c
 
+-- The style after a colour is set at its place.
 abbrev pub with_color : Colored → Style → Style
 with_color (ForegroundColor c) s = put Foreground (shade c) s
 with_color (BackgroundColor c) s = put Background (shade c) s
 with_color (UnderlineColor c) s = put Underlining (shade c) s
 
--- A colour that is set where colours aren't written makes all plain.
+-- The style after an act. A colour that is set while colours aren't written makes all plain.
 abbrev pub after_act : ColorOutput → Act → Style → Style
 after_act colors (Prints cs) s = s
 after_act Enabled (Colors c) s = with_color c s
 after_act Disabled (Colors c) s = plain
 after_act colors (Takes a) s = with_attribute a s
 
+-- The style after acts, one after another.
 abbrev pub after_acts : ColorOutput → List Act → Style → Style
 after_acts colors [] s = s
 after_acts colors (a ∷ acts) s = after_acts colors acts (after_act colors a s)
 
+-- The characters that an act prints, each in the style.
 abbrev pub painted_by : Act → Style → List (ℕ × Style)
 painted_by (Prints cs) s = map (λ c. (c, s)) cs
 painted_by a s = []
 
--- each printed character, with the style at it
+-- Each character that the acts print, with the style that it is printed in.
 abbrev pub painted : ColorOutput → List Act → Style → List (ℕ × Style)
 painted colors [] s = []
 painted colors (a ∷ acts) s = painted_by a s ++ painted colors acts (after_act colors a s)
 
 -- ---- the acts of a style
 
--- a colour at a place, where it is there
+-- The act that sets a colour at a place, or none if there is no colour.
 abbrev pub where_there : (Color → Colored) → Option Color → List Act
 where_there place None = []
 where_there place (Some c) = Colors (place c) ∷ []
 
--- each member of a set of attributes, in declared order
+-- The acts that set each attribute of a set, in declared order.
 abbrev pub attribute_acts : ℕ → List Act
 attribute_acts bits = map Takes (members bits)
 
--- background, foreground, underline colour, attributes
+-- The acts that set a style: its background, foreground and underline colour, if there are any, and then its
+-- attributes.
 abbrev pub style_acts : ContentStyle → List Act
 style_acts s =
     where_there BackgroundColor s.background_color ++ (where_there ForegroundColor s.foreground_color
     ++ (where_there UnderlineColor s.underline_color ++ attribute_acts s.attributes.0))
 
--- whether one of two colours is there
+-- Whether at least one of two colours is there.
 abbrev pub either_there : Option Color → Option Color → Bool
 either_there None None = false
 either_there None (Some c) = true
 either_there (Some c) d = true
 
--- the terminal's own colour, where one is to be set
+-- The terminal's own colour if one is to be reset, otherwise `None`.
 abbrev pub reset_where : Bool → Option Color
 reset_where there = if there then Some color.Reset else None
 
--- the terminal's own colours, behind the text and of it, where they are to be set
+-- The acts that reset the background and the foreground to the terminal's own colours, as far as asked for.
 abbrev pub reset_acts : Bool → Bool → List Act
 reset_acts background foreground = where_there BackgroundColor (reset_where background) ++ where_there ForegroundColor (reset_where foreground)
 
--- All is reset where there were attributes; else a background, and the foreground where it or the underline had a colour.
+-- The acts after a styled content: a reset of everything if the style has attributes.
+-- Otherwise the background is reset if it had a colour, and the foreground if it or the underline had one.
 abbrev pub end_acts : ContentStyle → List Act
 end_acts s =
     if s.attributes.0 == 0
     then reset_acts (either_there s.background_color None) (either_there s.foreground_color s.underline_color)
     else Takes attribute.Reset ∷ []
 
--- a content between its style and the end of it
+-- The acts of a styled content: its style, the content, and the end of the style.
 abbrev pub styled_acts : ContentStyle → List ℕ → List Act
 styled_acts s content = style_acts s ++ (Prints content ∷ end_acts s)

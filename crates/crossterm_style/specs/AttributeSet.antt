@@ -1,6 +1,6 @@
--- A set of attributes as a clause sees it.
+-- A set of attributes as contracts see it.
 use Rattle.std.specs.Prelude.{ℕ}
 
--- Its bits.
+-- The bits of a set of attributes.
 pub record AttributeSet : Type 0 where
   pub 0 : ℕ

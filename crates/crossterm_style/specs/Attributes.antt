@@ -8,7 +8,7 @@ use Rattle.crossterm_style.specs.contracts.types.attribute.AttributePartialEq.Th
 use Rattle.crossterm_style.specs.declared.types.attribute.Attribute.{Attribute}
 use Rattle.crossterm_style.specs.declared.types.attribute.Attribute.TheVariants as attribute
 
--- the attributes, in declared order: the variant of each, and the parameter that sets it
+-- The attributes in declared order: the variant's name, the SGR parameter that sets it, and the attribute.
 abbrev table : List (List ℕ × List ℕ × Attribute)
 table =
     (codes "Reset", codes "0", attribute.Reset) ∷ (codes "Bold", codes "1", attribute.Bold) ∷ (codes "Dim", codes "2", attribute.Dim) ∷
@@ -22,50 +22,52 @@ table =
     (codes "Encircled", codes "52", attribute.Encircled) ∷ (codes "OverLined", codes "53", attribute.OverLined) ∷ (codes "NotFramedOrEncircled", codes "54", attribute.NotFramedOrEncircled) ∷
     (codes "NotOverLined", codes "55", attribute.NotOverLined) ∷ []
 
+-- The attributes by their names, in declared order, with their equality.
 abbrev pub attributes : Variants Attribute
 attributes = record { eq = attribute_eq.ghosts.eq; rows = map (λ row. (row.0, row.2)) table }
 
+-- All attributes, in declared order.
 abbrev pub all_attributes : List Attribute
 all_attributes = all attributes
 
--- the parameter that sets an attribute
+-- The SGR parameter that sets an attribute.
 abbrev pub code_of : Attribute → List ℕ
 code_of = name_in attributes.eq (map (λ row. (row.1, row.2)) table)
 
--- its place in declared order, from 0
+-- The place of an attribute in declared order, from 0.
 abbrev pub place_of : Attribute → ℕ
 place_of = rank attributes
 
--- its bit in a set: the first has bit 1
+-- The value of an attribute's bit in a set: 2 for the first one, 4 for the second, and so on.
 abbrev pub bit_of : Attribute → ℕ
 bit_of a = 2 ^ (place_of a + 1)
 
--- whether an attribute is in a set
+-- Whether an attribute is in a set.
 abbrev pub has : ℕ → Attribute → Bool
 has bits a = bit_at bits (place_of a + 1) == 1
 
--- the attributes in a set, in declared order
+-- The attributes in a set, in declared order.
 unfoldable pub members : ℕ → List Attribute
 members bits = filter (has bits) all_attributes
 
--- One set has the attributes that two sets make together, by what each has.
+-- The set `z` has exactly those attributes for which `together` of the other two sets is true.
 abbrev pub Makes : (Bool → Bool → Bool) → ℕ → ℕ → ℕ → Type 0
 Makes together x y z = (a : Attribute) → has z a ≡ together (has x a) (has y a)
 
--- a set with the attributes of a list
+-- A set with the attributes of a list added.
 abbrev pub with_all : ℕ → List Attribute → ℕ
 with_all bits [] = bits
 with_all bits (a ∷ all) = with_all (bit_or bits (bit_of a)) all
 
--- the set of the attributes in a list
+-- The set of the attributes in a list.
 abbrev pub of_list : List Attribute → ℕ
 of_list all = with_all 0 all
 
--- one of two truths, and not both
+-- Whether exactly one of two truths holds.
 abbrev pub differ : Bool → Bool → Bool
 differ true q = not q
 differ false q = q
 
--- The bits of a set: of attributes alone, none below the first's and none past the last's.
+-- Only the bits of attributes are set: not bit 0, and none from bit 29 on.
 abbrev pub OnlyAttributes : ℕ → Type 0
 OnlyAttributes bits = (bit_at bits 0 ≡ 0) × (bits < 2 ^ 29)

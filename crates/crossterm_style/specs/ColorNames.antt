@@ -5,6 +5,7 @@ use Rattle.std.specs.Str.{str_to_ascii_lowercase}
 use Rattle.crossterm_style.specs.declared.types.color.Color.{Color}
 use Rattle.crossterm_style.specs.declared.types.color.Color.TheVariants as color
 
+-- The colours by their names, as `dark_red`.
 abbrev pub names : List (List ℕ × Color)
 names =
     (codes "reset", color.Reset) ∷
@@ -26,20 +27,22 @@ names =
     (codes "grey", color.Grey) ∷
     []
 
--- The text, in small ASCII letters, is a name of the colour in a table of them.
+-- The text, in small ASCII letters, is a name of the colour in the table.
 abbrev pub NamesIn : List (List ℕ × Color) → List ℕ → Color → Type 0
 NamesIn table text c = Contains table (str_to_ascii_lowercase text, c)
 
--- The text is no name in the table.
+-- The text, in small ASCII letters, is no name in the table.
 abbrev pub NamesNoneIn : List (List ℕ × Color) → List ℕ → Type 0
 NamesNoneIn table text = (c : Color) → NamesIn table text c → ⊥
 
+-- The text, in small ASCII letters, is the name of the colour.
 abbrev pub Names : List ℕ → Color → Type 0
 Names text c = NamesIn names text c
 
+-- The text, in small ASCII letters, is no colour's name.
 abbrev pub NamesNone : List ℕ → Type 0
 NamesNone text = NamesNoneIn names text
 
--- a program's table of names, in small ASCII letters
+-- A program's table of colours, with their names in small ASCII letters.
 abbrev pub entries : List (Bor (List ℕ) × Color) → List (List ℕ × Color)
 entries table = map (λ entry. (str_to_ascii_lowercase entry.0.now, entry.1)) table

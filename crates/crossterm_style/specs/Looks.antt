@@ -1,5 +1,5 @@
--- How a terminal shows what it is told: each character with the style that stands at it. SGR alone changes the style (ECMA-48, 8.3.117; the kinds
--- of underlines and their colour as kitty and xterm read them).
+-- How a terminal shows what it reads: each character has the style that is set when it is printed. SGR alone changes
+-- the style (ECMA-48, 8.3.117; the kinds of underlines and their colour as kitty and xterm read them).
 use Rattle.std.specs.Prelude.{ℕ, zero, suc, ◌==◌, ◌&&◌, nat_le, nat_lt, Bool, true, false, List, [], ◌∷◌, ◌++◌, Option, Some, None, map, if◌then◌else◌}
 use Rattle.std.specs.List.{list_all, slice_split}
 use Rattle.std.specs.Str.Parse.{digits_value}
@@ -11,6 +11,7 @@ use Rattle.crossterm_style.specs.Colors.{indexed_color}
 
 -- ---- a style
 
+-- The kinds of an underline.
 pub data Underline : Type 0 where
   Straight : Underline
   Double : Underline
@@ -18,11 +19,13 @@ pub data Underline : Type 0 where
   Dotted : Underline
   Dashed : Underline
 
+-- The kinds of blinking.
 pub data Blink : Type 0 where
   Slow : Blink
   Rapid : Blink
 
--- Three colours, where none is the terminal's own; one kind of underline and one of blinking at most; and what else is on.
+-- The style of a character. A colour that is `None` is the terminal's own, and there is one kind of underline and of
+-- blinking at most.
 pub record Style : Type 0 where
   pub foreground : Option Color
   pub background : Option Color
@@ -40,6 +43,7 @@ pub record Style : Type 0 where
   pub encircled : Bool
   pub overlined : Bool
 
+-- The style without any colour or attribute.
 abbrev pub plain : Style
 plain = record {
   foreground = None;
@@ -59,12 +63,13 @@ plain = record {
   overlined = false;
 }
 
--- a place of a colour
+-- What a colour is for.
 pub data Place : Type 0 where
   Foreground : Place
   Background : Place
   Underlining : Place
 
+-- The style with a colour at a place. `None` is the terminal's own colour.
 abbrev pub put : Place → Option Color → Style → Style
 put Foreground o s = record s { foreground = o }
 put Background o s = record s { background = o }
@@ -72,44 +77,50 @@ put Underlining o s = record s { underline_color = o }
 
 -- ---- the parameters of SGR
 
+-- A parameter of SGR.
 pub data Parameter : Type 0 where
-  -- a number below 256 in digits; an empty one is 0
+  -- A number below 256 in digits. An empty one is 0.
   Number : ℕ → Parameter
-  -- 4, and after a colon the kind of an underline
+  -- The number 4, and after a colon the kind of an underline.
   Kind : ℕ → Parameter
-  -- any other
+  -- Any other parameter.
   Other : Parameter
 
+-- Whether a byte is a decimal digit.
 abbrev pub is_digit : ℕ → Bool
 is_digit c = nat_le 48 c && nat_le c 57
 
--- digits, read as a number below 256
+-- The number of digits if it is below 256, 0 if there are none, and `None` otherwise.
 abbrev pub number : List ℕ → Option ℕ
 number digits = if list_all is_digit digits && nat_lt (digits_value 10 digits) 256 then Some (digits_value 10 digits) else None
 
+-- A parameter that is a number, or another one if there is no number.
 abbrev pub number_or_other : Option ℕ → Parameter
 number_or_other (Some n) = Number n
 number_or_other None = Other
 
+-- The kind of an underline if the first number is 4 and the second is there, otherwise another parameter.
 abbrev pub kind_or_other : Option ℕ → Option ℕ → Parameter
 kind_or_other (Some n) (Some k) = if n == 4 then Kind k else Other
 kind_or_other n k = Other
 
--- one parameter, by its parts between colons
+-- A parameter by its parts between colons: a number, the kind of an underline as in `4:3`, or another one.
 abbrev pub parameter_of : List (List ℕ) → Parameter
 parameter_of (n ∷ []) = number_or_other (number n)
 parameter_of (n ∷ kind ∷ []) = kind_or_other (number n) (number kind)
 parameter_of parts = Other
 
+-- The parameter that a text is.
 abbrev pub parameter : List ℕ → Parameter
 parameter text = parameter_of (slice_split (λ b. b == 58) text)
 
--- the parameters between semicolons: one at least
+-- The parameters of a text between semicolons. There is at least one.
 abbrev pub parameters : List ℕ → List Parameter
 parameters text = map parameter (slice_split (λ b. b == 59) text)
 
 -- ---- what they do to a style
 
+-- The style after a parameter that is a number. Unknown numbers change nothing.
 abbrev pub by_number : ℕ → Style → Style
 by_number n s =
     if n == 0 then plain else (
@@ -141,6 +152,7 @@ by_number n s =
     if n == 59 then put Underlining None s else (
     s)))))))))))))))))))))))))))
 
+-- The style after a kind of underline from 2 to 5. Other kinds change nothing.
 abbrev pub by_kind : ℕ → Style → Style
 by_kind k s =
     if k == 2 then record s { underline = Some Double } else (
@@ -149,20 +161,22 @@ by_kind k s =
     if k == 5 then record s { underline = Some Dashed } else (
     s))))
 
--- the place that a number sets to the colour behind it
+-- The place that a number sets to the colour behind it, or `None` for other numbers.
 abbrev pub place_at : ℕ → Option Place
 place_at n = if n == 38 then Some Foreground else (if n == 48 then Some Background else (if n == 58 then Some Underlining else None))
 
+-- The colour of `r` and the next two parameters, and how many parameters it takes. `None` if they aren't numbers.
 abbrev pub rgb_at : ℕ → List Parameter → Option (Color × ℕ)
 rgb_at r (Number g ∷ Number b ∷ rest) = Some (color.Rgb r g b, 4)
 rgb_at r ps = None
 
--- the colour that parameters begin with, and how many it takes: `5;n`, or `2;r;g;b`
+-- The colour that parameters begin with, and how many it takes: `5;n`, or `2;r;g;b`. `None` if there is none.
 abbrev pub color_at : List Parameter → Option (Color × ℕ)
 color_at (Number form ∷ Number n ∷ rest) = if form == 5 then Some (indexed_color n, 2) else (if form == 2 then rgb_at n rest else None)
 color_at ps = None
 
--- The parameters one after another, but for the first ones that a colour took. A place with no colour behind it ends the reading.
+-- The style after parameters, one after another, without the first `taken` ones, which are a colour's.
+-- A place without a colour behind it ends the reading.
 abbrev pub by_parameters : List Parameter → ℕ → Style → Style
 by_parameters [] taken s = s
 by_parameters (p ∷ ps) (suc taken) s = by_parameters ps taken s
@@ -174,30 +188,33 @@ by_parameters (Number n ∷ ps) zero s =
 by_parameters (Kind k ∷ ps) zero s = by_parameters ps zero (by_kind k s)
 by_parameters (Other ∷ ps) zero s = by_parameters ps zero s
 
--- A first byte of 3C to 3F makes parameters private: they are none of SGR's.
+-- Whether parameters are private, and so not SGR's: their first byte is 3C or above.
 abbrev pub are_private : List ℕ → Bool
 are_private [] = false
 are_private (b ∷ bs) = nat_le 0x3C b
 
+-- The style after SGR with these parameters. Private ones change nothing.
 abbrev pub sgr : List ℕ → Style → Style
 sgr text s = if are_private text then s else by_parameters (parameters text) 0 s
 
 -- ---- tokens
 
--- the style after a token
+-- The style after a token. Only SGR changes it.
 abbrev pub after_token : Token → Style → Style
 after_token (Csi text [] final) s = if final == 0x6D then sgr text s else s
 after_token t s = s
 
+-- The character that a token prints, with the style. Other tokens print none.
 abbrev pub shown_by : Token → Style → List (ℕ × Style)
 shown_by (Char c) s = (c, s) ∷ []
 shown_by t s = []
 
--- each character with the style at it
+-- Each character that tokens print, with the style that is set when it is printed.
 abbrev pub shown : List Token → Style → List (ℕ × Style)
 shown [] s = []
 shown (t ∷ ts) s = shown_by t s ++ shown ts (after_token t s)
 
+-- The style after tokens, one after another.
 abbrev pub style_after : List Token → Style → Style
 style_after [] s = s
 style_after (t ∷ ts) s = style_after ts (after_token t s)

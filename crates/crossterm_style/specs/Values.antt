@@ -1,4 +1,4 @@
--- How colours are told as JSON, and what JSON reads as them.
+-- How colours are written as JSON, and which JSON reads as them.
 use Rattle.std.specs.Prelude.{◌≡◌, ℕ, zero, suc, ◌+◌, ◌-◌, ◌*◌, ◌<◌, ◌==◌, ◌&&◌, ◌||◌, ◌⊎◌, ⊤, nat_lt, Bool, true, false, List, [], ◌∷◌, ◌++◌, length, slice_index, Option, Some, None, MatchResult, codes, if◌then◌else◌}
 use Rattle.std.specs.Char.{digit_value}
 use Rattle.std.specs.Fmt.{decimal}
@@ -20,13 +20,13 @@ use Rattle.crossterm_style.specs.declared.types.color.Color.TheVariants as color
 use Rattle.crossterm_style.specs.declared.types.colored.Colored.{Colored}
 use Rattle.crossterm_style.specs.declared.types.colored.Colored.TheVariants as colored
 
--- ---- what is told of a colour
+-- ---- the text of a colour
 
 -- The name of a colour that has one.
 abbrev pub color_name : Color → List ℕ
 color_name = name_in color_eq.ghosts.eq names
 
--- The text of a colour: its place in the palette, its parts, or its name.
+-- The text of a colour: `ansi_(9)` for one of the palette, `rgb_(1,2,3)` for one by its parts, or its name.
 abbrev pub color_text : Color → List ℕ
 color_text (color.AnsiValue n) = codes "ansi_(" ++ (decimal n ++ codes ")")
 color_text (color.Rgb r g b) = codes "rgb_(" ++ (decimal r ++ (codes "," ++ (decimal g ++ (codes "," ++ (decimal b ++ codes ")")))))
@@ -34,7 +34,7 @@ color_text c = color_name c
 
 -- ---- what a text reads as
 
--- The colour of a name in a table, with ASCII letters of either case.
+-- The colour of the first entry whose name is the text in small ASCII letters, or `None`.
 abbrev pub color_in : List (List ℕ × Color) → List ℕ → Option Color
 color_in [] text = None
 color_in (e ∷ es) text = if same (str_to_ascii_lowercase text) e.0 then Some e.1 else color_in es text
@@ -45,85 +45,93 @@ begins [] text = true
 begins (p ∷ ps) [] = false
 begins (p ∷ ps) (x ∷ xs) = p == x && begins ps xs
 
--- Whether a text has a part.
+-- Whether a text contains a part.
 abbrev pub holds : List ℕ → List ℕ → Bool
 holds part [] = begins part []
 holds part (x ∷ xs) = begins part (x ∷ xs) || holds part xs
 
--- A text without a part, wherever it stands, from left to right; some bytes at the beginning are passed over.
+-- A text without a part, wherever it occurs, from left to right. The first `skip` bytes are left out.
 abbrev pub without_after : List ℕ → ℕ → List ℕ → List ℕ
 without_after part skip [] = []
 without_after part (suc skip) (x ∷ xs) = without_after part skip xs
 without_after part zero (x ∷ xs) = if begins part (x ∷ xs) then without_after part (length part - 1) xs else x ∷ without_after part 0 xs
 
+-- A text without a part, wherever it occurs, from left to right.
 abbrev pub without : List ℕ → List ℕ → List ℕ
 without part text = without_after part 0 text
 
--- Whether all are decimal digits.
+-- Whether all characters are decimal digits.
 abbrev pub all_digits : List ℕ → Bool
 all_digits [] = true
 all_digits (d ∷ ds) = nat_lt (digit_value d) 10 && all_digits ds
 
--- A number below 256 in decimal digits, before which a plus may stand.
+-- The number of decimal digits if it is below 256. `None` otherwise, or if there are no digits.
 abbrev pub digits_byte : List ℕ → Option ℕ
 digits_byte ds = if nat_lt 0 (length ds) && (all_digits ds && nat_lt (digits_value 10 ds) 256) then Some (digits_value 10 ds) else None
 
+-- The number below 256 of decimal digits, which may have a plus before them, or `None`.
 abbrev pub byte_of : List ℕ → Option ℕ
 byte_of text = digits_byte (without_leading_plus text)
 
--- A colour of its three parts, where all are there.
+-- The colour of three parts, or `None` if one is missing.
 abbrev pub rgb_of : Option ℕ → Option ℕ → Option ℕ → Option Color
 rgb_of (Some r) (Some g) (Some b) = Some (color.Rgb r g b)
 rgb_of _ _ _ = None
 
--- Three fields.
+-- The only three fields, or `None` if there aren't exactly three.
 abbrev pub three_of : List (List ℕ) → Option (List ℕ × List ℕ × List ℕ)
 three_of (a ∷ b ∷ c ∷ []) = Some (a, b, c)
 three_of _ = None
 
--- A colour of three fields.
+-- The colour of three fields that are numbers of bytes, or `None`.
 abbrev pub fields_rgb : List (List ℕ) → Option Color
 fields_rgb fields = option_and_then (λ parts. rgb_of (byte_of parts.0) (byte_of parts.1) (byte_of parts.2)) (three_of fields)
 
--- A hexadecimal digit.
+-- The value of a hexadecimal digit, or `None` for another character.
 abbrev pub hex_digit : ℕ → Option ℕ
 hex_digit c = if nat_lt (digit_value c) 16 then Some (digit_value c) else None
 
--- Two of them, or a plus and one.
+-- The value of two hexadecimal digits, or of a plus and one digit, or `None`.
 abbrev pub hex_byte : ℕ → ℕ → Option ℕ
 hex_byte a b = if a == 43 then hex_digit b else option_and_then (λ high. option_map (λ low. high * 16 + low) (hex_digit b)) (hex_digit a)
 
--- `#` and six bytes, each two of them a part of the colour.
+-- The colour of `#` and six hexadecimal digits, two for each part, or `None`. A plus may replace the first digit of a
+-- part.
 abbrev pub hex_rgb : List ℕ → Option Color
 hex_rgb text =
     if length text == 7 && (slice_index text 0 == 35)
     then rgb_of (hex_byte (slice_index text 1) (slice_index text 2)) (hex_byte (slice_index text 3) (slice_index text 4)) (hex_byte (slice_index text 5) (slice_index text 6))
     else None
 
--- A text without the marks of a kind of colour: the kind with its parenthesis, and every closing one.
+-- A text without a mark and without closing parentheses, wherever they occur.
 abbrev pub unmarked : List ℕ → List ℕ → List ℕ
 unmarked mark text = without (codes ")") (without mark text)
 
--- A text that is no colour's name.
+-- The colour of a text that is no name: with `ansi` or `rgb` in it by its numbers, otherwise by its hexadecimal
+-- digits. `None` if it has none.
 abbrev pub unnamed : List ℕ → Option Color
 unnamed text =
     if holds (codes "ansi") text then option_map color.AnsiValue (byte_of (unmarked (codes "ansi_(") text)) else (
     if holds (codes "rgb") text then fields_rgb (slice_split (λ b. b == 44) (unmarked (codes "rgb_(") text)) else
     hex_rgb text)
 
+-- The colour that a text reads as: by its name, otherwise by its numbers, or `None`.
 abbrev pub read_color : List ℕ → Option Color
 read_color text = option_or (color_in names text) (unnamed text)
 
+-- The colour that a JSON value reads as, or `None` if it isn't the text of one.
 abbrev pub reads_color : Data → Option Color
 reads_color d = option_and_then read_color (as_str d)
 
 -- ---- a colour at its place
 
+-- A colour at its place as a JSON object: its only member has the place as its name and the colour as its text.
 abbrev pub colored_value : Colored → Data
 colored_value (colored.ForegroundColor c) = one_member (codes "ForegroundColor") (string (color_text c))
 colored_value (colored.BackgroundColor c) = one_member (codes "BackgroundColor") (string (color_text c))
 colored_value (colored.UnderlineColor c) = one_member (codes "UnderlineColor") (string (color_text c))
 
+-- The colour at its place that a member reads as, or `None` if its name or its value is wrong.
 abbrev pub place_of_color : List ℕ × Data → Option Colored
 place_of_color held =
     if same held.0 (codes "ForegroundColor") then option_map colored.ForegroundColor (reads_color held.1) else (
@@ -131,26 +139,30 @@ place_of_color held =
     if same held.0 (codes "UnderlineColor") then option_map colored.UnderlineColor (reads_color held.1) else
     None))
 
+-- The colour at its place that a JSON value reads as, or `None`.
 abbrev pub reads_colored : Data → Option Colored
 reads_colored d = option_and_then place_of_color (reads_member d)
 
--- Whether a text is copied to be read: it's no colour's name, and has `ansi` or `rgb` somewhere.
+-- Whether a text is copied to be read: it is no colour's name, and contains `ansi` or `rgb`.
 abbrev is_copied : Option Color → List ℕ → Bool
 is_copied (Some named) text = false
 is_copied None text = holds (codes "ansi") text || holds (codes "rgb") text
 
+-- Whether a text is copied to be read as a colour.
 abbrev pub copies : List ℕ → Bool
 copies text = is_copied (color_in names text) text
 
+-- Whether there is a text, and it is copied to be read as a colour.
 abbrev pub copies_some : Option (List ℕ) → Bool
 copies_some (Some text) = copies text
 copies_some None = false
 
+-- Whether there is a member, and its text is copied to be read as a colour.
 abbrev pub copies_member : Option (List ℕ × Data) → Bool
 copies_member (Some held) = copies_some (as_str held.1)
 copies_member None = false
 
--- What a reading gives comes out, `Shape` exactly where it gives nothing, or memory was refused for a copy, where one is made.
+-- The result is what was read, `Shape` if nothing was, or `Memory`. Memory can only be refused if a copy is made.
 abbrev pub ReadsOrRefused : {X : Type 0} → Bool → Option X → Result X ValueFault → Type 0
 ReadsOrRefused copied reading result = MatchResult result (λ x. reading ≡ Some x) (λ fault. ((fault ≡ Memory) × (copied ≡ true)) ⊎ ((fault ≡ Shape) × (reading ≡ None)))
 
@@ -160,6 +172,7 @@ FitsColor (color.AnsiValue n) = n < 256
 FitsColor (color.Rgb r g b) = (r < 256) × (g < 256) × (b < 256)
 FitsColor _ = ⊤
 
+-- The numbers of a colour at its place are bytes.
 abbrev pub FitsPlace : Colored → Type 0
 FitsPlace (colored.ForegroundColor c) = FitsColor c
 FitsPlace (colored.BackgroundColor c) = FitsColor c

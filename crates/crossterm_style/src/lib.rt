@@ -8,23 +8,23 @@
 //! | `parse_ansi` returns what its definition reads; with colours on, a colour's own text reads back | `Colored::{parse_ansi, text}`, `laws::colors_read` |
 //! | `Attributes` is a set: two are equal exactly if their members are; JSON values read back | each method; `laws::{sets, sets_are_their_members}`; `to_value`, `from_value` |
 //!
-//! What to believe, in the order in which it reads (`specs/`), and where it is proved:
+//! What to believe, in the order in which it reads (`specs/`), and the contracts that it is proved by:
 //!
 //! | Definitions | Lines | Of | Contract |
 //! |---|---|---|---|
-//! | `Attributes` | 71 | names, parameters and bits of attributes, and sets of them | `Attribute`, `laws::{sets, sets_are_their_members}` |
+//! | `Attributes` | 73 | names, parameters and bits of attributes, and sets of them | `Attribute`, `laws::{sets, sets_are_their_members}` |
 //! | `AttributeSet` | 6 | a set as a clause sees it | `Attributes` |
-//! | `Colors` | 134 | what terminals receive for colours, and how it reads | `Colored`, `Colors`, `laws` |
-//! | `ColorNames` | 45 | the names of colours | `Color::from_str` |
-//! | `Fields` | 73 | the fields of a text | `fields.rt` |
-//! | `Reading` | 36 | how SGR parameters read as colours | `Color::parse_ansi`, `Colored::parse_ansi` |
+//! | `Colors` | 137 | what terminals receive for colours, and how it reads | `Colored`, `Colors`, `laws` |
+//! | `ColorNames` | 48 | the names of colours | `Color::from_str` |
+//! | `Fields` | 75 | the fields of a text | `fields.rt` |
+//! | `Reading` | 37 | how SGR parameters read as colours | `Color::parse_ansi`, `Colored::parse_ansi` |
 //! | `Counts` | 20 | how many colours a terminal has | `available_color_count` |
-//! | `Ranks` | 45 | the declared orders | `laws::declared_orders` |
-//! | `Styles` | 52 | what the commands of style write | `Command::text` of each |
-//! | `Looks` | 203 | how a terminal shows what it receives | `laws::looks` |
-//! | `Acts` | 131 | what commands do to the look | `laws::some_looks` |
-//! | `Appearance` | 76 | what terminals receive shows as commands paint | `laws::{looks, styled_ends_plain}` |
-//! | `Values` | 166 | colours and attributes as JSON | `to_value` and `from_value` of each |
+//! | `Ranks` | 46 | the declared orders | `laws::declared_orders` |
+//! | `Styles` | 54 | what the commands of style write | `Command::text` of each |
+//! | `Looks` | 220 | how a terminal shows what it receives | `laws::looks` |
+//! | `Acts` | 137 | what commands do to the look | `laws::some_looks` |
+//! | `Appearance` | 77 | what terminals receive shows as commands paint | `laws::{looks, styled_ends_plain}` |
+//! | `Values` | 179 | colours and attributes as JSON | `to_value` and `from_value` of each |
 //!
 //! Crates above cite the lemmas of `ActLooks`, `Fitting`, `Parameters`, `Telling`, `TextLaws`.
 //!

@@ -8,11 +8,11 @@
 //! |---|---|
 //! | each of the 63 calls of `Stylize` changes its one field of the style and nothing else | each method |
 //!
-//! What to believe, in the order in which it reads (`specs/`), and where it is proved:
+//! What to believe, in the order in which it reads (`specs/`), and the contracts that it is proved by:
 //!
 //! | Definitions | Lines | Of | Contract |
 //! |---|---|---|---|
-//! | `Styling` | 23 | one field of a style changes | each method of `Stylize` |
+//! | `Styling` | 27 | one field of a style changes | each method of `Stylize` |
 //!
 //! A function's proof is in `proofs/` at the function's path; if there is no file, the prover found it by itself.
 #![tactic(auto)]

@@ -1,4 +1,4 @@
--- Two reads stand at two places, and took two events.
+-- Two reads are at two places, and took two events.
 use Rattle.std.proofs.Common.{◌≡◌, ◌≢◌, ◌⊎◌, ℕ, zero, suc, ◌<◌, ◌≤◌, ◌==◌, ◌&&◌, Bool, true, false, true≢false, cond, nat_lt, eq-eqb, ne_eqb, ltb-true, List, [], ◌∷◌, ◌++◌, length, map, Option, Some, None, refl, sym, ap, ◌∙◌, subst, inl, inr, ⊎_elim, arith, append_assoc}
 use Rattle.std.proofs.lemmas.Bool.{and_parts}
 use Rattle.std.specs.List.{AllByRecursion, slice_get}
@@ -29,7 +29,7 @@ differ_after : (xs ys : List (Seen × ℕ)) → Differ (xs ++ ys) → Differ ys
 differ_after [] ys d = d
 differ_after (x ∷ xs) ys d = differ_after xs ys d.1
 
--- What one reply takes stands in front of what the others take.
+-- What one reply takes comes before what the others take.
 taken_first : (r : Replied) (rs : List Replied) → taken (r ∷ rs) ≡ taken (r ∷ []) ++ taken rs
 taken_first (ToTake (Some x)) rs = refl
 taken_first (ToTake None) rs = refl
@@ -66,7 +66,7 @@ mine_first p e es is = ap (λ b. cond b (e ∷ calls_by p es) (calls_by p es)) (
 others_first : (p : ℕ) (e : Entry) (es : List Entry) → e.by ≢ p → calls_by p (e ∷ es) ≡ calls_by p es
 others_first p e es n = ap (λ b. cond b (e ∷ calls_by p es) (calls_by p es)) (ne_eqb e.by p n)
 
--- What two passes took is together what was taken, where there are no others.
+-- What two passes took is together what was taken, if there are no others.
 by_two : (p q : ℕ) (log : List Entry) → p < 2 → q < 2 → p ≢ q → are_of 2 log ≡ true → IsPermutation (taken_by log) (taken_by (calls_by p log) ++ taken_by (calls_by q log))
 by_two p q [] low_p low_q differ of_two = IsPermutation-refl []
 by_two p q (e ∷ es) low_p low_q differ of_two =

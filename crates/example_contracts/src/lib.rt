@@ -1,6 +1,6 @@
 //! Bodies of one's own over commands and events, with contracts that prove with no proof file. The module `passes` is what a program learns
-//! of two passes of one reader, and `recordings` what it learns of a session that it recorded. `messages` has forms that pass where what one
-//! writes first gives a message; most of them are proved to be safe, and no more.
+//! of two passes of one reader, and `recordings` what it learns of a session that it recorded. `messages` has forms that pass,
+//! for those that one writes first and that give a message; most of them are proved to be safe, and no more.
 //!
 //! What is proved, beyond safety:
 //!

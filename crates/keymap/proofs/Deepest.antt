@@ -11,14 +11,14 @@ use Rattle.keymap.specs.inside.Places.{Tells, deepest, found_or, number_from, pl
 use Rattle.keymap.specs.declared.inside.Match.{Match}
 use Rattle.keymap.specs.declared.inside.Place.{Place}
 
--- nothing stands at the greatest count
+-- No number is found for the greatest count.
 pub deepest_less : (f : ℕ → Option ℕ) (m : ℕ) → 0 < m → f m ≡ None → deepest f m ≡ deepest f (m - 1)
 deepest_less f zero some none = absurd (omega (arith, some))
 deepest_less f (suc m) some none =
     let less : m ≡ suc m - 1 = omega arith in
     ap (λ o. found_or o (suc m) (deepest f m)) none ∙ ap (deepest f) less
 
--- numbers that are the same up to some count
+-- Numbers that are the same up to some count.
 pub deepest_same : (f g : ℕ → Option ℕ) (m : ℕ) → ((n : ℕ) → n ≤ m → f n ≡ g n) → deepest f m ≡ deepest g m
 deepest_same f g zero same = refl
 deepest_same f g (suc m) same =
@@ -28,7 +28,7 @@ none_deepest : (m : ℕ) → deepest (λ n. None) m ≡ None
 none_deepest zero = refl
 none_deepest (suc m) = none_deepest m
 
--- what is found has no greater count
+-- What is found has no greater count.
 count_within : (found : Option ℕ) (m : ℕ) (rest : Option Match) (x : Match) → ((y : Match) → rest ≡ Some y → y.count ≤ m) → found_or found (suc m) rest ≡ Some x → x.count ≤ suc m
 count_within None m rest x within h = let l = within x h in omega (arith, l)
 count_within (Some i) m rest x within h = grind (arith, h)
@@ -47,7 +47,7 @@ first_longer : (a : Match) (o : Option Match) → ((y : Match) → o ≡ Some y 
 first_longer a None within = refl
 first_longer a (Some b) within = ap (λ c. cond c (Some b) (Some a)) (not_less a.count b.count (within b refl))
 
--- one more number, at one count
+-- One more number, at one count.
 abbrev pub put_at : ℕ → ℕ → (ℕ → Option ℕ) → ℕ → Option ℕ
 put_at i m g n = cond (nat_eq m n) (Some i) (g n)
 
@@ -57,7 +57,7 @@ apart m k l = grind (arith, nat_tests)
 same_number : (m n : ℕ) → nat_eq m n ≡ true → m ≡ n
 same_number m n h = grind (arith, nat_tests)
 
--- where another number stands at the greatest count, or the rest
+-- Another number is found for the greatest count, or none.
 after_put : (i m n : ℕ) (g : Option ℕ) (rest more : Option Match) → m ≤ suc n → nat_eq m (suc n) ≡ false → (g ≡ None → more ≡ longer (Some (record { number = i; count = m })) rest)
     → found_or g (suc n) more ≡ longer (Some (record { number = i; count = m })) (found_or g (suc n) rest)
 after_put i m n None rest more l h on = on refl
@@ -102,7 +102,7 @@ one_longer : (i : ℕ) (cs ks : List KeyEvent) (m : ℕ) (g : ℕ → Option ℕ
 one_longer i cs ks m g true is some fits = put_deepest i (length cs) g m some (fits (front_length cs ks is))
 one_longer i cs ks m g false is some fits = refl
 
--- the longest list is the one that is bound to the most of the keys in front, of eight at most
+-- The longest list is the one that is bound to the most of the keys in front, of eight at most.
 pub longest_deepest : (i : ℕ) (bound : Bound) (ks : List KeyEvent) → AreShort bound → longest_from i bound ks ≡ deepest (λ n. number_from i bound (take n ks)) (min (length ks) 8)
 longest_deepest i [] ks short = sym (none_deepest (min (length ks) 8))
 longest_deepest i (cs ∷ bound) ks short =
@@ -113,7 +113,7 @@ longest_deepest i (cs ∷ bound) ks short =
     (λ n l. number_front i cs ks n (g n) (omega (arith, l)))
     ∙ one_longer i cs ks m g (is_front cs ks) refl short.0.0 (λ l. let few = short.0.1 in omega (arith, l, few)))
 
--- what a table finds is the longest list
+-- What a table finds is the longest list.
 pub tells_longest : {S : Type 0} (bound : Bound) (places : HashMap (List KeyEvent) Place S) (ks : List KeyEvent) → AreShort bound → Tells bound places
     → deepest (λ n. (place_at places (take n ks)).number) (min (length ks) 8) ≡ longest bound ks
 tells_longest bound places ks short tells =

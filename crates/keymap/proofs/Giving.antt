@@ -50,7 +50,7 @@ module _ (bound : Bound) where
   after_is [] h = absurd (omega arith)
   after_is (k ∷ ks) h = rw add-one refl
 
-  -- What is told of the first key is told first.
+  -- The outcome of the first key comes first.
   pub told_is : (keys remaining rest : List KeyEvent) (key : KeyEvent) (found : Option Match) (t : Told) → t ≡ told_of key found → found ≡ longest bound remaining → remaining ≡ key ∷ rest → remaining ≡ keys → t ∷ [] ≡ told_first bound keys
   told_is keys remaining rest key found t e f s r =
       ap (λ x. x ∷ []) e ∙ ap (λ g. told_of key g ∷ []) (f ∙ ap (longest bound) s) ∙ ap (told_first bound) (sym s ∙ r)

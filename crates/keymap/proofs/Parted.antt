@@ -28,7 +28,7 @@ unbound_on : (cs : List KeyEvent) (bound : Bound) (keys : List KeyEvent) → is_
 unbound_on cs bound keys f h zero other at = (let same : cs ≡ other = cc in ap (λ l. is_front l keys) (sym same) ∙ f)
 unbound_on cs bound keys f h (suc i) other at = h i other at
 
--- A list before those among which the longest stands, which isn't a front of the keys or is shorter.
+-- A list before those that have the longest one: the keys don't begin with it, or it is shorter.
 abbrev Below : List KeyEvent → List KeyEvent → ℕ → Type 0
 Below cs keys count = is_front cs keys ≡ true → length cs < count
 
@@ -149,7 +149,7 @@ some_chords [] i chords s at = absurd (cc)
 some_chords (cs ∷ bound) zero chords s at = (let same : cs ≡ chords = cc in let e = ap length same in let h = s.0.0 in omega arith)
 some_chords (cs ∷ bound) (suc i) chords s at = some_chords bound i chords s.1 at
 
--- The cut begins with the outcome that stands for a part.
+-- The cut begins with the outcome of a part.
 cut_part : (bound : Bound) → AreShort bound → (outcome : Told) (part rest : List KeyEvent) → IsOutcomeOf bound outcome part rest → cut bound (part ++ rest) ≡ outcome ∷ cut bound rest
 cut_part bound s (Event e) part rest h = absurd h
 cut_part bound s (Action number) [] rest h = absurd (omega (arith, h.counts, some_chords bound number h.chords s h.is_bound))
@@ -166,7 +166,7 @@ cut_parts : (bound : Bound) → AreShort bound → (parts : List Part) → AreRi
 cut_parts bound s [] r = refl
 cut_parts bound s (part ∷ parts) r = ap (λ l. part.outcome ∷ l) (cut_parts bound s parts r.1) ∙ sym (cut_part bound s part.outcome part.keys (joined parts) r.0)
 
--- What stands at a place stands for the keys that belong to it.
+-- The outcome at a place is that of the keys that belong to it.
 stands_there : (bound : Bound) → AreShort bound → (k : KeyEvent) (ks rest : List KeyEvent) (m : Option Match) → Found 0 bound (k ∷ ks) m → more_of m ≤ length ks → take (more_of m) ks ++ rest ≡ ks
     → IsOutcomeOf bound (told_of k m) (k ∷ take (more_of m) ks) rest
 stands_there bound s k ks rest None h w e = (refl, subst (λ (l : List KeyEvent). IsUnbound bound (k ∷ l)) (sym e) h)

@@ -26,7 +26,7 @@ lookup_same p q same (e ∷ es) = ap (λ b. cond b (Some e.1) (lookup p es)) (sa
 keys_equiv : IsEquivalence (pointwise key_eq)
 keys_equiv = lists_equiv laws-law
 
--- a table has the same after keys that are alike
+-- A table has the same after keys that are alike.
 pub place_alike : {S : Type 0} (places : HashMap (List KeyEvent) Place S) (a b : List KeyEvent) → are_alike a b ≡ true → place_at places a ≡ place_at places b
 place_alike places a b same =
     ap (λ o. unwrap_or o nowhere) (lookup_same (pointwise key_eq (map chord a)) (pointwise key_eq (map chord b)) (λ k. keys_equiv.congr (map chord a) (map chord b) k same) places.entries)
@@ -61,7 +61,7 @@ suc_differs n = grind (arith, nat_tests)
 zero_less : (n : ℕ) → true ≡ nat_lt 0 (suc n)
 zero_less n = grind (arith, nat_tests)
 
--- keys are alike where they are the same chords
+-- Keys are alike exactly if they are the same chords.
 pub alike_same : (a b : List KeyEvent) → are_alike a b ≡ are_same a b
 alike_same [] [] = refl
 alike_same [] (k ∷ ks) = ap (λ b. b && true) (zero_differs (length ks))
@@ -69,7 +69,7 @@ alike_same (c ∷ cs) [] = ap (λ b. b && false) (suc_differs (length cs))
 alike_same (c ∷ cs) (k ∷ ks) = ap (λ r. same_chord c k && r) (alike_same cs ks) ∙ swap_and (same_chord c k) (nat_eq (length cs) (length ks)) (is_front cs ks)
     ∙ ap (λ e. e && (same_chord c k && is_front cs ks)) (eq_suc (length cs) (length ks))
 
--- a front of a list is alike to the keys that the list goes beyond, where these are as many
+-- A front of a list is alike to as many keys exactly if the list goes beyond them.
 pub front_alike : (cs ks : List KeyEvent) (i : ℕ) → i < length cs → are_alike (take i cs) ks ≡ (goes_beyond cs ks && nat_eq (length ks) i)
 front_alike [] ks i l = absurd (omega (arith, l))
 front_alike (c ∷ cs) [] zero l = refl
@@ -78,7 +78,7 @@ front_alike (c ∷ cs) [] (suc i) l = zero_differs i
 front_alike (c ∷ cs) (k ∷ ks) (suc i) l = ap (λ r. same_chord c k && r) (front_alike cs ks i (omega (arith, l))) ∙ and_assoc (same_chord c k) (goes_beyond cs ks) (nat_eq (length ks) i)
     ∙ ap (λ b. (same_chord c k && goes_beyond cs ks) && b) (eq_suc (length ks) i)
 
--- a list goes beyond fewer keys than it has
+-- A list goes beyond fewer keys than it has.
 pub beyond_fewer : (cs ks : List KeyEvent) → goes_beyond cs ks ≡ (goes_beyond cs ks && nat_lt (length ks) (length cs))
 beyond_fewer [] ks = refl
 beyond_fewer (c ∷ cs) [] = zero_less (length cs)
@@ -95,7 +95,7 @@ or_none true q n = refl
 or_none false true n = grind (arith, nat_tests)
 or_none false false n = refl
 
--- no front is marked
+-- No front is marked.
 pub none_marked : (chords : List KeyEvent) (place : Place) (keys : List KeyEvent) → place ≡ marked_to chords 0 place keys
 none_marked chords place keys = ap (λ b. record { number = place.number; begun = b }) (or_none place.begun (goes_beyond chords keys) (length keys))
 
@@ -111,7 +111,7 @@ neither_here : (i : ℕ) (b : Bool) (n : ℕ) → (b && nat_eq n i) ≡ false �
 neither_here i true n h = grind (arith, nat_tests)
 neither_here i false n h = refl
 
--- one more front is marked
+-- One more front is marked.
 pub one_marked : (chords keys : List KeyEvent) (i : ℕ) (here : Bool) (first old : Place) → i < length chords → are_alike (take i chords) keys ≡ here
     → (here ≡ true → first.number ≡ old.number)
     → cond here (record { number = first.number; begun = true }) (marked_to chords i old keys) ≡ marked_to chords (i + 1) old keys
@@ -122,7 +122,7 @@ one_marked chords keys i false first old l is number =
     let at = neither_here i (goes_beyond chords keys) (length keys) (sym (front_alike chords keys i l) ∙ is) in
     ap (λ b. record { number = old.number; begun = old.begun || b }) at
 
--- all fronts are marked, and the list has its number
+-- All fronts are marked, and the list has its number.
 pub all_marked : (chords keys : List KeyEvent) (number : ℕ) (here : Bool) (whole old : Place) → are_alike chords keys ≡ here
     → (here ≡ true → whole.begun ≡ (marked_to chords (length chords) old keys).begun)
     → cond here (record { number = Some number; begun = whole.begun }) (marked_to chords (length chords) old keys) ≡ with_list chords number old keys
@@ -138,7 +138,7 @@ number_at : (n : ℕ) (here : Bool) (rest : Option ℕ) (any : Bool) → is_some
 number_at n true rest any h = refl
 number_at n false rest any h = h
 
--- a list of just these chords is bound where it has a number
+-- A list of just these chords is bound exactly if it has a number.
 pub has_number : (n : ℕ) (bound : Bound) (keys : List KeyEvent) → is_some (number_from n bound keys) ≡ list_any (λ other. are_same other keys) bound
 has_number n [] keys = refl
 has_number n (chords ∷ bound) keys =
@@ -148,7 +148,7 @@ last_at : (n : ℕ) (here : Bool) (rest : Option ℕ) → is_some (cond here (So
 last_at n true rest none more last h = grind (arith, none)
 last_at n false rest none more last h = h none
 
--- the number of a list that is bound after all others
+-- The number of a list that is bound after all others.
 pub number_last : (n : ℕ) (bound : Bound) (chords keys : List KeyEvent) → is_some (number_from n bound keys) ≡ false
     → number_from n (bound ++ chords ∷ []) keys ≡ cond (are_same chords keys) (Some (n + length bound)) None
 number_last n [] chords keys none = ap (λ m. cond (are_same chords keys) (Some m) None) (omega arith)
@@ -157,7 +157,7 @@ number_last n (first ∷ bound) chords keys none =
     last_at n (are_same first keys) (number_from (suc n) bound keys) none (number_from (suc n) (bound ++ chords ∷ []) keys) (cond (are_same chords keys) (Some (suc n + length bound)) None)
     (λ h. number_last (suc n) bound chords keys h) ∙ ap (λ m. cond (are_same chords keys) (Some m) None) on
 
--- the number of another list stays
+-- The number of another list stays.
 pub number_kept : (n : ℕ) (bound : Bound) (chords keys : List KeyEvent) → are_same chords keys ≡ false → number_from n (bound ++ chords ∷ []) keys ≡ number_from n bound keys
 number_kept n [] chords keys other = ap (λ b. cond b (Some n) None) other
 number_kept n (first ∷ bound) chords keys other = ap (cond (are_same first keys) (Some n)) (number_kept (suc n) bound chords keys other)
@@ -174,7 +174,7 @@ bound_at bound chords keys true is none =
     sym (number_last 0 bound chords keys (none refl) ∙ ap (λ b. cond b (Some (0 + length bound)) None) (sym (alike_same chords keys) ∙ is) ∙ ap Some zero_more)
 bound_at bound chords keys false is none = sym (number_kept 0 bound chords keys (sym (alike_same chords keys) ∙ is))
 
--- a table tells of one more list
+-- A table with one more list.
 pub tells_more : {S : Type 0} (bound : Bound) (chords : List KeyEvent) (old new : HashMap (List KeyEvent) Place S) → Tells bound old → list_any (λ other. are_same other chords) bound ≡ false
     → BindsAt chords (length bound) old new → Tells (bound ++ chords ∷ []) new
 tells_more bound chords old new tells free binds keys =
@@ -185,14 +185,14 @@ tells_more bound chords old new tells free binds keys =
     ∙ ap (λ b. record { number = number_from 0 (bound ++ chords ∷ []) keys; begun = b })
     (sym (list_any-append (λ other. goes_beyond other keys) bound (chords ∷ []) ∙ begun_more (is_begun bound keys) (goes_beyond chords keys)))
 
--- ---- where there may be no table
+-- ---- without a table
 pub tells_some : {S : Type 0} (bound : Bound) (places : Option (HashMap (List KeyEvent) Place S)) (table : HashMap (List KeyEvent) Place S) → places ≡ Some table → TellsOf bound places → Tells bound table
 tells_some bound places table is tells = subst (TellsOf bound) is tells
 
 pub tells_none : {S : Type 0} (bound : Bound) (places : Option (HashMap (List KeyEvent) Place S)) → places ≡ None → TellsOf bound places → bound ≡ []
 tells_none bound places is tells = subst (TellsOf bound) is tells
 
--- the lists of one more binding
+-- The lists of one more binding.
 pub bound_more : {A : Type 0} (bs : List (BoundList A)) (b : BoundList A) → bound_of (map binding bs) ++ b.chords.items ∷ [] ≡ bound_of (map binding (bs ++ b ∷ []))
 bound_more [] b = refl
 bound_more (first ∷ bs) b = ap (λ rest. first.chords.items ∷ rest) (bound_more bs b)

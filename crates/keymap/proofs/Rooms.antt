@@ -29,7 +29,7 @@ module _ {A B : Type 0} where
   whole_is n q r s same made kept =
       kept_is r s kept ∙ ap (λ items. length (map told items) + room_in r) same ∙ ap (λ room. length (map told q.items) + room) (made ∙ ap (room_made n (room_in q)) (count_is q))
 
-  -- Where none waited, and room was made after that was seen.
+  -- No outcome waited, and then room was made.
   pub record IsRoomy (n : ℕ) (q p r : VecDeque (Outcome A) B) : Type 0 where
     pub none : map told q.items ≡ []
     pub none_still : map told p.items ≡ []

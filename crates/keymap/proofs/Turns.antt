@@ -28,7 +28,7 @@ events_join (Action number ∷ a) b = events_join a b
 events_join (Key key ∷ a) b = events_join a b
 events_join (Event x ∷ a) b = ap (λ l. x ∷ l) (events_join a b)
 
--- What stands at places is of keys.
+-- The outcomes at places are of keys.
 told_key : (k : KeyEvent) (m : Option Match) (l : List Told) → of_keys (told_of k m ∷ l) ≡ told_of k m ∷ of_keys l
 told_key k None l = refl
 told_key k (Some m) l = refl
@@ -45,7 +45,7 @@ at_events : (bound : Bound) (ps : List Place) → events (map (told_at bound) ps
 at_events bound [] = refl
 at_events bound (p ∷ ps) = told_event p.key (longest bound (remaining p)) (map (told_at bound) ps) ∙ at_events bound ps
 
--- What joins the given of keys is of keys, where both together stand at places.
+-- What joins the given of keys is of keys, if both together are the outcomes at places.
 more_keys : (bound : Bound) (ps qs : List Place) (more : List Told) → map (told_at bound) qs ≡ map (told_at bound) ps ++ more
     → map (told_at bound) ps ++ of_keys more ≡ map (told_at bound) qs
 more_keys bound ps qs more e =
@@ -73,8 +73,8 @@ event_keys past old x = ap of_keys (sym (append_assoc past old (Event x ∷ []))
 event_events : (past old : List Told) (x : Seen) → events (past ++ (old ++ Event x ∷ [])) ≡ events (past ++ old) ++ x ∷ []
 event_events past old x = ap events (sym (append_assoc past old (Event x ∷ []))) ∙ events_join (past ++ old) (Event x ∷ [])
 
--- Where a matcher stands after some turns: for these keys since the last flush, with these outcomes given, of which those of keys before that
--- flush are done, and these other events told.
+-- The state of a matcher after some turns: it was fed these keys since the last flush, and these outcomes were given.
+-- Those of keys before that flush are `done`, and the other events are `told`.
 record Stood (m : Matching) (bindings : List Binding) (passes : Bool) (keys : List KeyEvent) (past done : List Told) (told : List Seen) : Type 0 where
   keymap : m.keymap ≡ bindings
   same : m.passes ≡ passes
@@ -147,7 +147,7 @@ taken m u x b p keys past done told s t =
       others = ap events joined ∙ s.others;
     }
 
--- What is told after further turns.
+-- What is given after further turns.
 abbrev Ends : Matching → List Told → List Act → List Seen → List Binding → List KeyEvent → List Told → List Seen → Type 0
 Ends n all acts others b keys done told =
     (of_keys (all ++ n.waiting) ≡ done ++ outcomes (bound_of b) keys acts) × (events (all ++ n.waiting) ≡ told ++ others)

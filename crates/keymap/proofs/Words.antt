@@ -27,7 +27,7 @@ parts_more text front back s =
     let within : position_or_len (λ b. b == 45) text < length text = s.2 in
     slice_split_first (λ b. b == 45) text 0 within ∙ cc
 
--- Where it finds none, the whole text is the one part.
+-- A text without a hyphen is its only part.
 pub parts_one : (text : List ℕ) → position_or_len (λ b. b == 45) text ≡ length text → parts text ≡ text ∷ []
 parts_one text e = slice_split_none (λ b. b == 45) text (λ k d l. fails_before_first (λ b. b == 45) text k d (omega arith))
 

@@ -5,45 +5,55 @@ use Rattle.keymap.specs.Bindings.{Binding, bound_of}
 use Rattle.keymap.specs.Cut.{cut, given, left}
 use Rattle.keymap.specs.Told.{Told}
 
--- What a matcher matches: the bindings, whether it passes releases and modifier keys on, the keys that are undecided, and the outcomes that wait.
+-- What a matcher matches with, and what it has read.
 pub record Matching : Type 0 where
+  -- The bindings.
   pub keymap : List Binding
+  -- Whether it passes releases and modifier keys on.
   pub passes : Bool
+  -- The keys that are undecided.
   pub undecided : List KeyEvent
+  -- The outcomes that wait to be taken.
   pub waiting : List Told
 
--- The matcher stands for these keys, which it was fed since it was made or flushed: it keeps those from the first undecided place on.
+-- The matcher keeps exactly those of the keys that are left from the first undecided place on.
 abbrev pub StandsFor : Matching → List KeyEvent → Type 0
 StandsFor m keys = m.undecided ≡ left (bound_of m.keymap) keys
 
--- The outcomes that wait grew by what is given of the keys with one more and wasn't given of them before, and the matcher stands for all of them.
+-- A matcher that had been fed these keys was fed one more.
 pub record GivesOn (m : Matching) (keys : List KeyEvent) (key : KeyEvent) (n : Matching) : Type 0 where
   pub more : List Told
+  -- New outcomes wait, behind those before.
   pub waiting : n.waiting ≡ m.waiting ++ more
+  -- The new outcomes are what is given of all keys and wasn't given of the former ones.
   pub told : given (bound_of m.keymap) (keys ++ key ∷ []) ≡ given (bound_of m.keymap) keys ++ more
+  -- The matcher keeps the undecided ones of all keys.
   pub stands : StandsFor n (keys ++ key ∷ [])
 
--- The matcher is fed one more key, whatever keys it stands for. Fewer than eight keys are undecided then.
+-- The matcher was fed one more key, whatever keys it had been fed. Fewer than eight keys are undecided then.
 pub record IsFed (m : Matching) (key : KeyEvent) (n : Matching) : Type 0 where
   pub keymap : n.keymap ≡ m.keymap
   pub passes : n.passes ≡ m.passes
   pub gives : (keys : List KeyEvent) → StandsFor m keys → GivesOn m keys key n
   pub few : length n.undecided < 8
 
--- The outcomes that wait grew by what the cut of the keys has and wasn't given before, and the matcher stands for no keys.
+-- A matcher that had been fed these keys was flushed.
 pub record GivesAll (m : Matching) (keys : List KeyEvent) (n : Matching) : Type 0 where
   pub more : List Told
+  -- New outcomes wait, behind those before.
   pub waiting : n.waiting ≡ m.waiting ++ more
+  -- The new outcomes are what the cut of the keys has and wasn't given before.
   pub told : cut (bound_of m.keymap) keys ≡ given (bound_of m.keymap) keys ++ more
+  -- The matcher keeps no keys.
   pub stands : StandsFor n []
 
--- The matcher is flushed, whatever keys it stands for.
+-- The matcher was flushed, whatever keys it had been fed.
 pub record IsFlushed (m n : Matching) : Type 0 where
   pub keymap : n.keymap ≡ m.keymap
   pub passes : n.passes ≡ m.passes
   pub gives : (keys : List KeyEvent) → StandsFor m keys → GivesAll m keys n
 
--- The first outcome that waits is taken, where there is one, and nothing else changes.
+-- The first outcome that waits is taken, or none if none waits, and nothing else changes.
 abbrev pub TakesFirst : Matching → Option Told → Matching → Type 0
 TakesFirst m None n = (m.waiting ≡ []) × (n ≡ m)
 TakesFirst m (Some x) n = (m.waiting ≡ x ∷ n.waiting) × (n ≡ record m { waiting = n.waiting })
@@ -53,15 +63,15 @@ pub record MatcherState : Type 0 where
   pub matching : Matching
   pub room : ℕ
 
--- How many outcomes it holds at most without memory: those that wait, and those for which it has room.
+-- How many outcomes a matcher holds at most without memory: those that wait, and those for which it has room.
 abbrev pub capacity : MatcherState → ℕ
 capacity m = length m.matching.waiting + m.room
 
--- Room for so many more outcomes, where so much is there and so many wait. It stays as it is where it is enough. Else it is made for 16, or for
--- as many as wait where these are more.
+-- The room after room for `count` more outcomes is asked for: unchanged if it is enough, otherwise 16 or `waiting`,
+-- whichever is more.
 abbrev pub room_made : ℕ → ℕ → ℕ → ℕ
 room_made count room waiting = if nat_le count room then room else max 16 waiting
 
--- The matcher with room for so many more outcomes.
+-- The matcher after room for `count` more outcomes was asked for.
 abbrev pub with_room : ℕ → MatcherState → MatcherState
 with_room count m = record m { room = room_made count m.room (length m.matching.waiting) }

@@ -22,13 +22,13 @@ use Rattle.keymap.specs.declared.spelling.ChordFault.TheVariants.{Empty, Unknown
 
 -- ---- the words
 
--- Modifiers by their words, each with its bit. No terminal tells the last two.
+-- Modifiers by their words, each with its bit. No terminal reports the last two.
 abbrev pub modifier_words : List (List ℕ × ℕ)
 modifier_words =
     (codes "shift", 1) ∷ (codes "ctrl", 2) ∷ (codes "alt", 4) ∷ (codes "super", 8) ∷ (codes "hyper", 16) ∷ (codes "meta", 32) ∷
     (codes "mod64", 64) ∷ (codes "mod128", 128) ∷ []
 
--- Keys by their words: the names of their variants in small letters.
+-- Keys by their words: the names of their variants in small letters, and `space`.
 abbrev pub key_words : List (List ℕ × KeyCode)
 key_words =
     (codes "backspace", key.Backspace) ∷ (codes "enter", key.Enter) ∷ (codes "left", key.Left) ∷ (codes "right", key.Right) ∷
@@ -54,81 +54,83 @@ key_words =
 
 -- ---- how a chord is spelled
 
--- A function key is `f` and its number, a character but a blank is itself, and any other key is its word.
+-- The text of a key: `f5` for F(5), `space` for a blank, any other character itself, and any other key its word.
 abbrev pub spelled_code : KeyCode → List ℕ
 spelled_code (key.F n) = codes "f" ++ decimal n
 spelled_code (key.Char c) = if c == 32 then codes "space" else encode_utf8 c
 spelled_code named = name_in code_eq.ghosts.eq key_words named
 
--- The bits that are spelled: a large ASCII letter says SHIFT by itself.
+-- The modifier bits that are spelled: all, but for a large ASCII letter all except SHIFT.
 abbrev pub spelled_bits : KeyCode → ℕ → ℕ
 spelled_bits (key.Char c) bits = if is_ascii_uppercase c then bit_and bits 254 else bits
 spelled_bits _ bits = bits
 
--- The words of the modifiers that are set, each before a hyphen, and a text after them.
+-- The words of the modifiers that are set, each with a hyphen behind it, and then a text.
 abbrev pub spelled_after : List (List ℕ × ℕ) → ℕ → List ℕ → List ℕ
 spelled_after [] bits text = text
 spelled_after (row ∷ rows) bits text = (if bit_and bits row.1 == 0 then [] else row.0 ++ 45 ∷ []) ++ spelled_after rows bits text
 
+-- The text of a chord: its modifiers and its key, as `ctrl-c`.
 abbrev pub spelled : KeyEvent → List ℕ
 spelled k = spelled_after modifier_words (spelled_bits k.code k.modifiers.0) (spelled_code k.code)
 
 -- ---- what a text reads as
 
--- A number below 256, where so much was read before.
+-- The number of digits behind those of `n`, or `None` if a byte isn't a digit or the number is above 255.
 abbrev pub number_after : ℕ → List ℕ → Option ℕ
 number_after n [] = Some n
 number_after n (d ∷ ds) = if nat_lt 47 d && (nat_lt d 58 && nat_lt (n * 10 + (d - 48)) 256) then number_after (n * 10 + (d - 48)) ds else None
 
--- The number of a function key, after `f`.
+-- The number of a function key, as 5 of `f5`, or `None` if the text isn't one.
 abbrev pub function_number : List ℕ → Option ℕ
 function_number [] = None
 function_number (first ∷ digits) = if (first == 102) && nat_lt 0 (length digits) then number_after 0 digits else None
 
--- A key: a character, a function key, or a word.
+-- The key of a text: a single character, a function key, or a word. `None` if it is none of them.
 abbrev pub read_code : List ℕ → Option KeyCode
 read_code text = option_or (option_map key.Char (only_char text)) (option_or (option_map key.F (function_number text)) (value_in key_words text))
 
--- A key with these modifiers.
+-- The key with these modifiers, or `UnknownKey` if there is no key.
 abbrev pub with_bits : ℕ → Option KeyCode → Result KeyEvent ChordFault
 with_bits bits (Some code) = Ok (pressed code (modifiers_of bits))
 with_bits bits None = Err UnknownKey
 
--- The last part of a chord is its key.
+-- The last part of a chord, which is its key. If it is empty, the result is the fault `Empty`.
 abbrev pub read_key : ℕ → List ℕ → Result KeyEvent ChordFault
 read_key bits [] = Err Empty
 read_key bits (b ∷ bs) = with_bits bits (read_code (b ∷ bs))
 
--- A part before another is a modifier.
+-- What the rest of a chord reads as after this modifier, or `UnknownModifier` if there is none.
 abbrev pub read_modifier : Option ℕ → (ℕ → Result KeyEvent ChordFault) → Result KeyEvent ChordFault
 read_modifier (Some bit) rest = rest bit
 read_modifier None rest = Err UnknownModifier
 
--- Two empty parts at the end are the key `-`.
+-- The key `-`, if two empty parts end the chord. Otherwise an empty part is the fault `UnknownModifier`.
 abbrev pub read_hyphen : ℕ → List ℕ → List (List ℕ) → Result KeyEvent ChordFault
 read_hyphen bits [] [] = Ok (pressed (key.Char 45) (modifiers_of bits))
 read_hyphen bits _ _ = Err UnknownModifier
 
--- The parts of a chord, after modifiers of these bits.
+-- The parts of a chord after modifiers of these bits: each part is a modifier, but the last one is the key.
 abbrev pub read_parts : ℕ → List (List ℕ) → Result KeyEvent ChordFault
 read_parts bits [] = Err Empty
 read_parts bits (text ∷ []) = read_key bits text
 read_parts bits ([] ∷ part ∷ parts) = read_hyphen bits part parts
 read_parts bits ((b ∷ bs) ∷ part ∷ parts) = read_modifier (value_in modifier_words (b ∷ bs)) (λ bit. read_parts (bit_or bits bit) (part ∷ parts))
 
--- The parts of a text, between hyphens.
+-- The parts of a text between its hyphens.
 abbrev pub parts : List ℕ → List (List ℕ)
 parts text = slice_split (λ b. b == 45) text
 
--- What a text reads as.
+-- The chord that a text reads as, or its fault.
 abbrev pub read : List ℕ → Result KeyEvent ChordFault
 read text = read_parts 0 (parts text)
 
 -- ---- reading back
 
--- What is spelled reads as the same chord: as a key whose normal form is the chord's.
+-- The text of a chord reads as a key with the same normal form.
 abbrev pub ReadsBack : KeyEvent → Type 0
 ReadsBack k = (found : KeyEvent) × (read (spelled k) ≡ Ok found) × (normal found ≡ normal (chord k))
 
+-- The text of each chord with a valid key reads as the same chord.
 abbrev pub AllReadBack : Type 0
 AllReadBack = (k : KeyEvent) → FitsKey k → ReadsBack k

@@ -17,27 +17,28 @@ use Rattle.keymap.specs.Told.{Told}
 use Rattle.keymap.specs.declared.outcome.Outcome.{Outcome}
 use Rattle.keymap.specs.Told.{told}
 
--- What a step answers: an outcome or none, or a fault.
+-- What a step returns: an outcome or none, or the kind of an error.
 pub data StepAnswer : Type 0 where
   Gave : Option Told → StepAnswer
   Failed : ErrorKind → StepAnswer
 
+-- What a contract says of a step's result: its outcome, or its error's kind.
 abbrev pub step_answer : {A : Type 0} → Result (Option (Outcome A)) Error → StepAnswer
 step_answer (Ok outcome) = Gave (option_map told outcome)
 step_answer (Err e) = Failed (error_kind e)
 
--- A step from one matcher and what its pass knows to others, from its first moment to another. It reads within its limit, by the pass's next call in the one history.
--- Where no outcome waits room is made for what may come of an event: for 7 undecided keys and the event. Once it is made it stays.
+-- A step changes a matcher from `m` to `n` and what its pass knows from `v` to `w`, with the answer `a`.
+-- It reads within its limit. If no outcome waits, there has to be room for the 8 outcomes that an event may lead to.
 pub data Steps {S : Type 0} (drawn : S → List SourceAnswer → S → Type 0) (asked : S → List (Option Duration)) (limit : Option Duration) (begins : ℕ → Type 0) (after : ℕ) (m : MatcherState) (v : Known S) (n : MatcherState) (w : Known S) (a : StepAnswer) : Type 0 where
-  -- An outcome waited: it is given, and the reader isn't asked.
+  -- An outcome waited: it is returned, and nothing is read.
   waited : (x : Told) → TakesFirst m.matching (Some x) n.matching → capacity n ≡ capacity m → w ≡ v → a ≡ Gave (Some x) → Steps drawn asked limit begins after m v n w a
-  -- There was no room for what may come, and none was made: nothing is asked.
+  -- There was no room for what may come, and none was made: nothing is read.
   refused : m.matching.waiting ≡ [] → m.room < 8 → n ≡ m → w ≡ v → a ≡ Failed OutOfMemory → Steps drawn asked limit begins after m v n w a
-  -- The read failed: its fault is answered.
+  -- The read failed: its error is returned.
   unread : m.matching.waiting ≡ [] → n ≡ with_room 8 m → (e : Error) → Polls drawn asked filters.Event limit begins after v w (Err e) → a ≡ Failed (error_kind e) → Steps drawn asked limit begins after m v n w a
-  -- No event came within the limit: the matcher is flushed, and gives the first outcome.
+  -- No event came within the limit: the matcher is flushed, and its first outcome, if any, is returned.
   idle : m.matching.waiting ≡ [] → Polls drawn asked filters.Event limit begins after v w (Ok false) → (u : Matching) → IsFlushed m.matching u → (x : Option Told) → TakesFirst u x n.matching
       → capacity n ≡ capacity (with_room 8 m) → a ≡ Gave x → Steps drawn asked limit begins after m v n w a
-  -- An event was read: it is taken, and the first outcome is given.
+  -- An event was read: the matcher takes it, and its first outcome, if any, is returned.
   came : m.matching.waiting ≡ [] → (e : Seen) → TakesWithin drawn asked filters.Event limit begins after v w e → (u : Matching) → TakesEvent m.matching e u
       → (x : Option Told) → TakesFirst u x n.matching → capacity n ≡ capacity (with_room 8 m) → a ≡ Gave x → Steps drawn asked limit begins after m v n w a

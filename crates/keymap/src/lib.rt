@@ -26,11 +26,11 @@
 //! | a text reads as a chord exactly as its definition says; what a chord is spelled as reads as the same chord | `read_chord`, `Display` of `Spelled`; `laws::spelled` |
 //! | as an `io::Error`, refused memory has the kind `OutOfMemory`, and each other fault has `InvalidInput` | `From<KeymapFault>` and `From<ChordFault>` of `io::Error` |
 //!
-//! What to believe, in the order in which it reads (`specs/`), and where it is proved:
+//! What to believe, in the order in which it reads (`specs/`), and the contracts that it is proved by:
 //!
 //! | Definitions | Of | Contract |
 //! |---|---|---|
-//! | `Told` | outcomes as a clause sees them | |
+//! | `Told` | outcomes as contracts see them | |
 //! | `Chords` | chords, and which bound lists some keys begin with | |
 //! | `Cut` | the cut of keys by bound lists, and what of it is given | |
 //! | `Parts` | what makes a cut the only one | `laws::unique_cut` |

@@ -35,7 +35,7 @@ module _ (target : Target) (w : EditorState) (d : Split) (text : List ℕ) (same
         ∙ ap (λ t. record (changed (erased target w.line) w) { killed = t }) (k ∙ some)
         ∙ sym (ap (λ t. kill_cut t target w) (sym is_cut ∙ some))
 
--- a text that is to be written, as it is at hand
+-- A text that is to be written, as it is at hand.
 module _ (w : EditorState) (d : Split) (text wanted : List ℕ) (same : w.line ≡ d) (e : text ≡ wanted) where
   pub write_none : text ≡ [] → w ≡ write wanted w
   write_none none = sym (ap (λ t. write t w) (sym e ∙ none))

@@ -51,7 +51,7 @@ fresh-bounded limits = record {
   steps = omega arith;
 }
 
--- how far back in the history an editor is has no bound
+-- How far back in the history an editor is has no bound.
 bounded-back : (w : EditorState) (back : ℕ) → IsBounded w → IsBounded (record w { back = back })
 bounded-back w back h = record {
   line = h.line;
@@ -172,7 +172,7 @@ module _ (w : EditorState) (h : IsBounded w) where
   held-unfinished zero = h.line
   held-unfinished (suc back) = h.unfinished
 
-  -- a line of the history, so far back
+  -- A line of the history, so far back.
   bounded-left : (d : Split) (back : ℕ) → IsHeld w.limits d → IsBounded (record (left_for d w) { back = back })
   bounded-left d back k =
       let b = bounded-changed d k in
@@ -237,7 +237,7 @@ module _ (w : EditorState) (h : IsBounded w) where
     steps = omega arith;
   }
 
-  -- a line that isn't empty is kept with its cursor at its end
+  -- A line that isn't empty is kept with its cursor at its end.
   kept-end : (c : ℕ) (text : List ℕ) → text_of w.line ≡ c ∷ text → IsKept w.limits (place (Forward Edge) w.line)
   kept-end c text e =
       let same : text_of (place (Forward Edge) w.line) ≡ c ∷ text = keeps_text (Forward Edge) w.line ∙ e in
@@ -254,7 +254,7 @@ module _ (w : EditorState) (h : IsBounded w) where
 
 -- ---- a history that is loaded
 
--- a line that is loaded has the text
+-- A line that is loaded has the text.
 text_of-ended : (text : List ℕ) → text_of (ended text) ≡ text
 text_of-ended text = append-nil (reverse (reverse text)) ∙ reverse-reverse text
 

@@ -11,7 +11,7 @@ some_at [] at lt = absurd (omega (arith, lt))
 some_at (d ∷ lines) zero lt = (d, refl)
 some_at (d ∷ lines) (suc at) lt = some_at lines at (omega (arith, lt))
 
--- an editor so far back in a history, of which this line was left
+-- An editor so far back in a history, of which this line was left.
 record Browses (line : Split) (history : List Split) (back : ℕ) (v : EditorState) : Type 0 where
   lines : v.history ≡ history
   place : v.back ≡ back

@@ -35,7 +35,7 @@ module _ (target : Target) (text inside : List ℕ) (from to at : ℕ) (d : Spli
       ∙ ap (λ (p : Split). from_to p (split_at text to)) (start ∙ ap (start_of target) same)
       ∙ ap (λ (q : Split). from_to (start_of target d) q) (end ∙ ap (end_of target) same)
 
--- two clusters meet at the cursor if something is behind it
+-- Two clusters meet at the cursor if something is behind it.
 pub meeting_here : (before after : List ℕ) → (after ≡ [] → ⊥) → meeting before after ≡ record { before = before; after = after }
 meeting_here before [] some = absurd (some refl)
 meeting_here before (c ∷ after) some = refl
@@ -46,7 +46,7 @@ meeting_end text at m h e =
     let none = chars_from-end text at h in
     e ∙ ap (λ t. back_from is_between (chars_before text at) t) none ∙ ap (λ t. meeting (chars_before text at) t) (sym none)
 
--- two clusters in each other's place
+-- Two clusters in each other's place.
 pub transposed_as : (text inside with : List ℕ) (from middle to at : ℕ) (d : Split) → text ≡ inside → split_at inside at ≡ d
     → IsUtf8 text → IsCharBoundary text from → IsCharBoundary text middle → IsCharBoundary text to → from ≤ middle → middle ≤ to
     → with ≡ slice_range text middle to ++ slice_range text from middle
@@ -65,13 +65,13 @@ transposed_as text inside with from middle to at d e v u a b z le more f m p q =
     ∙ ap (λ (x : Split). joined (place (Back Cluster) (split_at text middle)) (from_to (split_at text middle) x ++ from_to (place (Back Cluster) (split_at text middle)) (split_at text middle)) x) q
     ∙ ap (λ (x : Split). joined (place (Back Cluster) x) (from_to x (place (Forward Cluster) x) ++ from_to (place (Back Cluster) x) x) (place (Forward Cluster) x)) meets
 
--- something is behind a place before the end
+-- Something is behind a place before the end.
 pub some_after : (text : List ℕ) (at : ℕ) → IsUtf8 text → IsCharBoundary text at → at < length text → chars_from text at ≡ [] → ⊥
 some_after text at u b lt none =
     let back : drop at text ≡ [] = sym (encodes-chars (drop at text) (IsUtf8-drop text at u b)) ∙ ap encodes none in
     omega (arith, ap length back, length-drop at text, lt)
 
--- what is before the place at which clusters meet
+-- What is before the place at which clusters meet.
 pub before_meeting : (text inside part : List ℕ) (middle at : ℕ) (d : Split) (c : ℕ) (before : List ℕ) → text ≡ inside → split_at inside at ≡ d
     → split_at text middle ≡ meeting (chars_before text at) (chars_from text at) → part ≡ take middle text → reverse (chars part) ≡ c ∷ before
     → (meeting d.before d.after).before ≡ c ∷ before

@@ -26,7 +26,7 @@ or-from s best n a b = elim (cases_Bool (is_between s.place.before s.place.after
 or-here : (s best : Start) → IsSettled s.place → (start_or s best).place ≡ s.place
 or-here s best h = rw h refl
 
--- a start is never nearer than the one that was there
+-- A start is never nearer than the one that was there.
 furthest-back : (room used : ℕ) (before after : List ℕ) (best : Start) (n : ℕ) → length before ≤ n → length best.place.before ≤ n
     → length (furthest room used before after best).place.before ≤ n
 furthest-back room used [] after best n a b = b
@@ -38,7 +38,7 @@ furthest-back room used (c ∷ before) after best n a b =
       | inr not_here ↦ rw not_here b
     ]
 
--- it is as far back as any place between clusters from which there is room
+-- The furthest start is as far back as any place between clusters from which there is room.
 furthest-far : (room used : ℕ) (between before after : List ℕ) (best : Start)
     → (IsSettled (record { before = between ++ before; after = after }) → best.place ≡ record { before = between ++ before; after = after })
     → IsSettled (record { before = before; after = reverse between ++ after }) → used + columns between ≤ room
@@ -86,7 +86,7 @@ last_seen-on room used before (c ∷ after) best n a b =
       | inr not_here ↦ rw not_here b
     ]
 
--- it is as far on as any place between clusters up to which there is room
+-- The last place seen is as far on as any place between clusters up to which there is room.
 pub last_seen-far : (room used : ℕ) (before part after : List ℕ) (best : Split)
     → (IsSettled (record { before = before; after = part ++ after }) → best ≡ record { before = before; after = part ++ after })
     → IsSettled (record { before = reverse part ++ before; after = after }) → used + columns part ≤ room

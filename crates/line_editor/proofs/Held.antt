@@ -21,7 +21,7 @@ use Rattle.line_editor.proofs.Showing.{shown-append, shown-back, shown-front}
 pub size-append : (a b : List ℕ) → size (a ++ b) ≡ size a + size b
 size-append a b = ap length (encodes-append a b) ∙ length-append (encode_utf8_all a) (encode_utf8_all b)
 
--- a text that is held
+-- A text that is held.
 abbrev pub Holds : Limits → List ℕ → Type 0
 Holds limits text = AreShown text × (size text ≤ limits.bytes)
 
@@ -132,7 +132,7 @@ module _ (limits : Limits) where
         | inr not_here ↦ rw not_here tt
       ]
 
-  -- a front and what was found behind it
+  -- A front and what was found behind it.
   abbrev pub Found : List ℕ → ℕ × List ℕ → Type 0
   Found front found = Holds limits (front ++ found.1)
 
@@ -155,7 +155,7 @@ module _ (limits : Limits) where
       let q : Split = record { before = []; after = after } in
       held-same (text_of (settled (record { before = before; after = after }))) (reverse before ++ after) (text_of-joined p [] q) h
 
--- the end of a line has nothing behind it
+-- The end of a line has nothing behind it.
 pub edge-end : (before after : List ℕ) → (ahead (stops Edge) before after).after ≡ []
 edge-end before [] = refl
 edge-end before (c ∷ after) = edge-end (c ∷ before) after

@@ -11,7 +11,7 @@ use Rattle.line_editor.specs.Laws.{CutsOut, KeepsText, WritesAt, YanksBack}
 use Rattle.line_editor.specs.Places.{back_from, is_between, forward_from, stops}
 use Rattle.line_editor.proofs.Stepping.{ahead_here}
 
--- one text, with the cursor at two places: this part is from the first to the second
+-- One text, with the cursor at two places: this part is from the first to the second.
 pub record IsFrom (p q : Split) (part : List ℕ) : Type 0 where
   pub before : q.before ≡ reverse part ++ p.before
   pub after : p.after ≡ part ++ q.after
@@ -19,7 +19,7 @@ pub record IsFrom (p q : Split) (part : List ℕ) : Type 0 where
 pub IsFrom-none : (d : Split) → IsFrom d d []
 IsFrom-none d = record { before = refl; after = refl }
 
--- one character more, at the front of the part
+-- One character more, at the front of the part.
 pub IsFrom-one : (p q : Split) (c : ℕ) (part before : List ℕ) → IsFrom (record { before = c ∷ before; after = p.after }) q part
     → IsFrom (record { before = before; after = c ∷ p.after }) q (c ∷ part)
 IsFrom-one p q c part before h = record {
@@ -37,7 +37,7 @@ ahead-IsFrom r before (c ∷ after) =
           (c ∷ rest.0, IsFrom-one (record { before = before; after = after }) _ c rest.0 before rest.1))
     ]
 
--- one character more, at the end of the part
+-- One character more, at the end of the part.
 pub IsFrom-last : (p : Split) (c : ℕ) (part before after : List ℕ) → IsFrom p (record { before = before; after = c ∷ after }) part
     → IsFrom p (record { before = c ∷ before; after = after }) (part ++ c ∷ [])
 IsFrom-last p c part before after h = record {
@@ -67,12 +67,12 @@ forward_from-IsFrom r before (c ∷ after) =
     let rest = ahead-IsFrom r (c ∷ before) after in
     (c ∷ rest.0, IsFrom-one (record { before = before; after = after }) _ c rest.0 before rest.1)
 
--- from the earlier to the later of the cursor and a target
+-- From the earlier to the later of the cursor and a target.
 pub ends-IsFrom : (target : Target) (d : Split) → (part : List ℕ) × IsFrom (start_of target d) (end_of target d) part
 ends-IsFrom (Back stop) d = back_from-IsFrom (stops stop) d.before d.after
 ends-IsFrom (Forward stop) d = forward_from-IsFrom (stops stop) d.before d.after
 
--- both have one text
+-- Both places have one text.
 pub text_of-IsFrom : (p q : Split) (part : List ℕ) → IsFrom p q part → text_of q ≡ text_of p
 text_of-IsFrom p q part h =
     ap (λ t. reverse t ++ q.after) h.before
@@ -84,14 +84,14 @@ pub keeps_text : (target : Target) (d : Split) → KeepsText target d
 keeps_text (Back stop) d = let rest = back_from-IsFrom (stops stop) d.before d.after in sym (text_of-IsFrom _ _ rest.0 rest.1)
 keeps_text (Forward stop) d = let rest = forward_from-IsFrom (stops stop) d.before d.after in text_of-IsFrom _ _ rest.0 rest.1
 
--- what is between them is that part
+-- The text between both places is that part.
 pub from_to-IsFrom : (p q : Split) (part : List ℕ) → IsFrom p q part → from_to p q ≡ part
 from_to-IsFrom p q part h =
     let count : length part ≡ length q.before - length p.before =
     omega (arith, ap length h.before, length-append (reverse part) p.before, length-reverse part) in
     ap (take (length q.before - length p.before)) h.after ∙ take_at part q.after _ count
 
--- the cursor's way on to the end of its cluster keeps the text
+-- The cursor's way on to the end of its cluster keeps the text.
 pub text_of-joined : (p : Split) (text : List ℕ) (q : Split) → text_of (joined p text q) ≡ reverse p.before ++ (text ++ q.after)
 text_of-joined p text q =
     let rest = ahead-IsFrom is_between (reverse text ++ p.before) q.after in

@@ -24,7 +24,7 @@ use Rattle.line_editor.proofs.Stepping.{chars_from-end}
 
 -- ---- the first line
 
--- a character is within a line if it is no line feed
+-- A character is within a line if it is no line feed.
 abbrev pub is_within : ℕ → Bool
 is_within c = not (c == 10)
 
@@ -84,15 +84,15 @@ line_loaded limits text all line history e f room =
 
 -- ---- the lines of a text
 
--- what lines come to, the newest first
+-- What lines come to, the newest first.
 abbrev pub kept : Limits → List (List ℕ) → List Split
 kept limits lines = reverse (map ended (filter (has_room limits) (map shown lines)))
 
--- what the lines of a text come to in front of a history
+-- What the lines of a text come to in front of a history.
 abbrev pub loads : Limits → List Split → List ℕ → List Split
 loads limits history text = take limits.lines (kept limits (lines_of text) ++ history)
 
--- of lines behind others no more have to be kept than are looked at
+-- Of lines behind others no more have to be kept than are looked at.
 take_within : (n m : ℕ) (xs ys : List Split) → n ≤ m → take n (xs ++ take m ys) ≡ take n (xs ++ ys)
 take_within zero m xs ys le = refl
 take_within (suc n) m [] ys le = take-take (suc n) m ys le
@@ -126,7 +126,7 @@ with_line-short limits text history short =
 
 -- ---- the text of a history
 
--- one line more is behind the older ones
+-- One line more is behind the older ones.
 pub saved_cons : (d : Split) (history : List Split) → saved (d ∷ history) ≡ saved history ++ (text_of d ++ 10 ∷ [])
 saved_cons d history =
     let line : Split → List ℕ = λ x. text_of x ++ 10 ∷ [] in

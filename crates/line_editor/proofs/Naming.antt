@@ -32,7 +32,7 @@ target_back (Forward WordEnd) = refl
 target_back (Forward Blank) = refl
 target_back (Forward Edge) = refl
 
--- a name whose first hyphen is at this place is read by its verb
+-- A name whose first hyphen is at this place is read by its verb.
 abbrev read_at : Bool → List ℕ → List ℕ → List ℕ → Option Action
 read_at found verb rest name = if found then verb_named verb rest else value_in action_rows name
 

@@ -7,10 +7,10 @@ use Rattle.line_editor.specs.Splits.{split_at}
 use Rattle.line_editor.specs.Places.{place}
 use Rattle.line_editor.proofs.Stepping.{chars_before-start, chars_from-end}
 
--- back from the start is the start
+-- Back from the start is the start.
 pub place-start : (target : Target) (stop : Stop) (text : List ℕ) (at : ℕ) → target ≡ Back stop → at ≡ 0 → split_at text 0 ≡ place target (split_at text at)
 place-start target stop text at back zero = rw (back, zero, chars_before-start text) refl
 
--- on from the end is the end
+-- On from the end is the end.
 pub place-end : (target : Target) (stop : Stop) (text : List ℕ) (at : ℕ) → target ≡ Forward stop → length text ≤ at → split_at text at ≡ place target (split_at text at)
 place-end target stop text at on end = rw (on, chars_from-end text at end) refl

@@ -13,7 +13,7 @@ use Rattle.line_editor.specs.States.{EditorState}
 use Rattle.line_editor.proofs.Bounding.{all-reverse}
 use Rattle.line_editor.proofs.Loading.{is_within, line_before, room_for}
 
--- no line feed is shown
+-- No line feed is shown.
 feed-hidden : is_shown 10 ≡ false
 unfolding char_width
 feed-hidden = refl
@@ -35,7 +35,7 @@ shown-all (c ∷ text) h =
     let here : is_shown c ≡ true = parts.0 in
     rw here (ap (λ t. c ∷ t) (shown-all text parts.1))
 
--- the lines of a text that was saved, the oldest first
+-- The lines of a text that was saved, the oldest first.
 abbrev line : Split → List ℕ
 line d = text_of d ++ 10 ∷ []
 

@@ -6,7 +6,7 @@ use Rattle.line_editor.specs.declared.actions.Action.{Action}
 use Rattle.line_editor.specs.Bounds.{AreAllowed, is_too_long, written}
 use Rattle.line_editor.specs.States.{EditorState, after, run}
 
--- one action more
+-- One action more.
 pub run_end : (actions : List Action) (a : Action) (w : EditorState) → run (actions ++ a ∷ []) w ≡ after a (run actions w)
 run_end [] a w = refl
 run_end (b ∷ actions) a w = run_end actions a (after b w)
@@ -16,7 +16,7 @@ pub allowed_end : (actions : List Action) (a : Action) (w : EditorState) → Are
 allowed_end [] a w all last = (last, tt)
 allowed_end (b ∷ actions) a w all last = (all.0, allowed_end actions a (after b w) all.1 last)
 
--- a fact of an error holds of the result that has it
+-- A fact of an error holds of the result that has it.
 pub err_as : {T E : Type 0} (r : Result T E) (P : E → Type 0) (x : E) → IsErrAnd r (λ y. y ≡ x) → P x → IfErr r P
 err_as (Ok a) P x h p = absurd h
 err_as (Err e) P x h p = subst P (sym h) p

@@ -8,7 +8,7 @@ use Rattle.line_editor.specs.Edits.{joined, settled}
 use Rattle.line_editor.specs.States.{behind_front, first_with, or_else}
 use Rattle.line_editor.proofs.Stepping.{chars_before-start}
 
--- the lines from one on: its own text, and the lines behind it
+-- The lines from one on: its own text, and the lines behind it.
 pub from_line : (xs : List Split) (at : ℕ) (t : List ℕ) → Some t ≡ option_map text_of (slice_get xs at)
     → (d : Split) × (drop at xs ≡ d ∷ drop (suc at) xs) × (text_of d ≡ t)
 from_line [] at t e = cc
@@ -40,7 +40,7 @@ search_past front xs at e =
     let next : suc at ≡ at + 1 = sym (add-one at) in
     ap (first_with front at) none.0 ∙ ap (first_with front (at + 1)) (sym none.1 ∙ ap (λ n. drop n xs) next)
 
--- a line of two texts
+-- A line of two texts.
 pub parts_as : (before after : List ℕ) → joined (split_at after 0) (chars before) (split_at after 0) ≡ settled (record { before = reverse (chars before); after = chars after })
 parts_as before after =
     ap (λ t. settled (record { before = reverse (chars before) ++ t; after = chars after })) (chars_before-start after)

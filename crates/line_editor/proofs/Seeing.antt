@@ -14,7 +14,7 @@ use Rattle.line_editor.proofs.Keeping.{IsFrom, IsFrom-last, IsFrom-none, IsFrom-
 use Rattle.line_editor.proofs.Settling.{chars-slice_range}
 use Rattle.line_editor.proofs.Stepping.{chars_before-start, chars_from-end}
 
--- nothing is before the start, nor behind the end
+-- Nothing is before the start, nor behind the end.
 pub furthest-start : (room used at : ℕ) (text : List ℕ) (best : Start) → at ≤ 0
     → furthest room used (chars_before text at) (chars_from text at) best ≡ best
 furthest-start room used at text best h =
@@ -26,7 +26,7 @@ pub last_seen-end : (room used at : ℕ) (text : List ℕ) (best : Split) → le
     → last_seen room used (chars_before text at) (chars_from text at) best ≡ best
 last_seen-end room used at text best h = ap (λ t. last_seen room used (chars_before text at) t best) (chars_from-end text at h)
 
--- a start from which so many columns are before the cursor, for which there is room
+-- A start from which so many columns are before the cursor, for which there is room.
 abbrev pub Holds : ℕ → Split → Start → Type 0
 Holds room d s = (part : List ℕ) × IsFrom s.place d part × (columns part ≡ s.column) × (s.column ≤ room)
 
@@ -48,7 +48,7 @@ furthest-Holds room d (c ∷ before) after part used best h e k =
       | inr not_here ↦ rw not_here k
     ]
 
--- a place up to which there are so many columns, for which there is room
+-- A place up to which there are so many columns, for which there is room.
 abbrev pub Ends : ℕ → ℕ → Split → Split → Type 0
 Ends room column d q = (part : List ℕ) × IsFrom d q part × (column + columns part ≤ room)
 
@@ -70,7 +70,7 @@ last_seen-Ends room column d before (c ∷ after) part used best h e k =
       | inr not_here ↦ rw not_here k
     ]
 
--- two parts side by side
+-- Two parts side by side.
 IsFrom-join : (p d q : Split) (a b : List ℕ) → IsFrom p d a → IsFrom d q b → IsFrom p q (a ++ b)
 IsFrom-join p d q a b h k = record {
   before = k.before ∙ ap (λ t. reverse b ++ t) h.before ∙ sym (append_assoc (reverse b) (reverse a) p.before)
@@ -165,7 +165,7 @@ keeps_clusters room d stands =
       ends = subst R ahead stops;
     }
 
--- the text between both places is what is seen
+-- The text between both places is what is seen.
 pub seen_as : (text inside part : List ℕ) (room at to : ℕ) (s : ℕ × ℕ) (d : Split) → text ≡ inside → split_at inside at ≡ d
     → IsUtf8 text → IsCharBoundary text s.0 → IsCharBoundary text to → s.0 ≤ to → part ≡ slice_range text s.0 to
     → start_at text s ≡ start room (split_at text at) → split_at text to ≡ end_seen room s.1 (split_at text at)

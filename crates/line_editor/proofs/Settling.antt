@@ -25,7 +25,7 @@ unfolding is_grapheme_break
 between-end [] = refl
 between-end (c ∷ before) = refl
 
--- a rule holds between clusters alone
+-- A rule holds between clusters alone.
 abbrev pub Keeps : Rule → Type 0
 Keeps r = (before after : List ℕ) → r before after ≡ true → is_between before after ≡ true
 
@@ -64,14 +64,14 @@ pub place-IsSettled : (target : Target) (d : Split) → IsSettled (place target 
 place-IsSettled (Back stop) d = back_from-IsSettled (stops stop) (stops-Keeps stop) d.before d.after
 place-IsSettled (Forward stop) d = forward_from-IsSettled (stops stop) (stops-Keeps stop) d.before d.after
 
--- a text, wherever its cursor is
+-- A text, wherever its cursor is.
 pub text_of-split_at : (text : List ℕ) (at : ℕ) → IsUtf8 text → IsCharBoundary text at → text_of (split_at text at) ≡ chars text
 text_of-split_at text at u b =
     ap (λ t. t ++ chars (drop at text)) (reverse-reverse (chars (take at text)))
     ∙ sym (chars-append (take at text) (drop at text) (IsUtf8-take text at u b))
     ∙ ap chars (take-append-drop at text)
 
--- a text with another one in the place of what is between two places: the cursor behind that
+-- A text with another one in the place of what is between two places: the cursor behind that.
 module _ (text with new : List ℕ) (from to at : ℕ)
     (u : IsUtf8 text) (v : IsUtf8 with) (a : IsCharBoundary text from) (b : IsCharBoundary text to)
     (e : new ≡ (take from text ++ with) ++ drop to text) (f : at ≡ length new - (length text - to)) where
@@ -94,7 +94,7 @@ module _ (text with new : List ℕ) (from to at : ℕ)
       ap chars (ap (drop at) e ∙ drop_at (take from text ++ with) (drop to text) at spliced-at) in
       rw (front, back) refl
 
--- a place in a text that a line's cursor may have
+-- A place in a text that a line's cursor may have.
 abbrev pub Placed : List ℕ → ℕ → Type 0
 Placed text at = IsCharBoundary text at × IsSettled (split_at text at)
 
@@ -119,7 +119,7 @@ empty-Placed text e =
 pub split_at-empty : (text : List ℕ) → text ≡ [] → split_at text 0 ≡ empty
 split_at-empty text e = rw e (rw chars-nil refl)
 
--- a line whose text was edited
+-- A line whose text was edited.
 pub split_at-joined : (text with new inside : List ℕ) (from to at place : ℕ) → new ≡ inside
     → IsUtf8 text → IsUtf8 with → IsCharBoundary text from → IsCharBoundary text to
     → inside ≡ (take from text ++ with) ++ drop to text → at ≡ length inside - (length text - to)
@@ -134,7 +134,7 @@ pub text_at : (text inside : List ℕ) (at : ℕ) (d : Split) → text ≡ insid
 text_at text inside at d e u b f =
     ap chars e ∙ sym (text_of-split_at inside at (subst IsUtf8 e u) b) ∙ ap text_of f
 
--- the text between two places
+-- The text between two places.
 pub chars-slice_range : (text : List ℕ) (from to : ℕ) → IsUtf8 text → IsCharBoundary text from → IsCharBoundary text to → from ≤ to
     → chars (slice_range text from to) ≡ from_to (split_at text from) (split_at text to)
 chars-slice_range text from to u a b le =

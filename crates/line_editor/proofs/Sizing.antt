@@ -7,14 +7,14 @@ use Rattle.std.specs.Str.{chars, IsUtf8}
 use Rattle.line_editor.specs.Bounds.{size}
 use Rattle.line_editor.specs.Shown.{is_shown, shown}
 
--- a text has as many bytes as its characters take
+-- A text has as many bytes as its characters take.
 pub length-size : (text all : List ℕ) → IsUtf8 text → chars text ≡ all → length text ≡ size all
 length-size text all u e = ap length (sym (encodes-chars text u)) ∙ ap size e
 
 pub size-cons : (c : ℕ) (text : List ℕ) → size (c ∷ text) ≡ length (encode_utf8 c) + size text
 size-cons c text = length-append (encode_utf8 c) (encode_utf8_all text)
 
--- what is shown of a text is no longer
+-- What is shown of a text is no longer.
 pub size-shown : (text : List ℕ) → size (shown text) ≤ size text
 size-shown [] = omega arith
 size-shown (c ∷ text) =
@@ -23,7 +23,7 @@ size-shown (c ∷ text) =
       | inr not_here ↦ rw not_here (omega (arith, size-shown text, size-cons c text))
     ]
 
--- a shown character at the front of a text counts
+-- A shown character at the front of a text counts.
 pub size-first : (c : ℕ) (text back : List ℕ) → text ≡ c ∷ back → is_shown c ≡ true → length (encode_utf8 c) ≤ size (shown text)
 size-first c text back e h =
     let P : List ℕ → Type 0 = λ t. length (encode_utf8 c) ≤ size (shown t) in

@@ -9,7 +9,7 @@ use Rattle.unicode_segmentation.proofs.TextLemmas.{IsCharAt-last}
 use Rattle.unicode_segmentation.specs.Segments.{Rule, chars_before, chars_from}
 use Rattle.line_editor.specs.Splits.{ahead, behind, split_at}
 
--- a search that begins at a stop ends there
+-- A search that begins at a stop ends there.
 pub ahead_here : (stops : Rule) (before after : List ℕ) → stops before after ≡ true → ahead stops before after ≡ record { before = before; after = after }
 ahead_here stops before [] h = refl
 ahead_here stops before (c ∷ after) h = rw h refl
@@ -18,14 +18,14 @@ pub behind_here : (stops : Rule) (before after : List ℕ) → stops before afte
 behind_here stops [] after h = refl
 behind_here stops (c ∷ before) after h = rw h refl
 
--- nothing is before the start of a text, and nothing behind its end
+-- Nothing is before the start of a text, and nothing behind its end.
 pub chars_before-start : (text : List ℕ) → chars_before text 0 ≡ []
 chars_before-start text = ap reverse chars-nil
 
 pub chars_from-end : (text : List ℕ) (at : ℕ) → length text ≤ at → chars_from text at ≡ []
 chars_from-end text at h = ap chars (drop_all at text h) ∙ chars-nil
 
--- a search from the end ends there, and one back from the start there
+-- A search from the end ends there, and one back from the start there.
 pub ahead_end : (stops : Rule) (text : List ℕ) (at : ℕ) → length text ≤ at
     → ahead stops (chars_before text at) (chars_from text at) ≡ split_at text at
 ahead_end stops text at h =
@@ -38,7 +38,7 @@ behind_start stops text at h =
     let zero : at ≡ 0 = omega arith in
     rw zero (rw (chars_before-start text) refl)
 
--- the last character of a text's front
+-- The last character of a text's front.
 pub IsCharAt-before : (s : List ℕ) (j c : ℕ) (front : List ℕ) → IsUtf8 s → IsCharBoundary s j → IsUtf8 front
     → slice_range s 0 j ≡ front ++ encode_utf8 c → IsCharAt s (length front) c j
 IsCharAt-before s j c front u end v e =

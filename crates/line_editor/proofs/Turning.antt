@@ -6,7 +6,7 @@ use Rattle.line_editor.specs.Bounds.{is_too_long}
 use Rattle.line_editor.specs.States.{EditorState}
 use Rattle.line_editor.specs.Turns.{AreTaken, after_events, answer, event_text, lines_in, lines_of_events, task_of, turned}
 
--- of a list that is looked at item by item: one item more, and what is left
+-- Of a list that is looked at item by item: one item more, and what is left.
 module _ {X Y : Type 0} (f : X → Y) (xs : List X) (i : ℕ) (x : X) (l : i < length xs) (is : x ≡ get_or xs i x) where
   pub seen_more : map f (take (i + 1) xs) ≡ map f (take i xs) ++ f x ∷ []
   seen_more =
@@ -17,7 +17,7 @@ module _ {X Y : Type 0} (f : X → Y) (xs : List X) (i : ℕ) (x : X) (l : i < l
       ap (map f) (sym (take-append-drop (i + 1) xs)) ∙ map-append f (take (i + 1) xs) (drop (i + 1) xs)
       ∙ ap (λ t. t ++ map f (drop (i + 1) xs)) seen_more ∙ append_assoc (map f (take i xs)) (f x ∷ []) (map f (drop (i + 1) xs))
 
--- one event more
+-- One event more.
 pub made_end : (events : List Seen) (e : Seen) (w : EditorState) → after_events (events ++ e ∷ []) w ≡ turned e (after_events events w)
 made_end [] e w = refl
 made_end (x ∷ events) e w = made_end events e (turned x w)

@@ -74,20 +74,20 @@ keeps_history Search w = search_history (found w) w
 
 -- ---- undo
 
--- the text is one that was there, or the last of some lines that can be had again has it
+-- The text is one that was there, or the last of some lines that can be had again has it.
 abbrev pub EndsIn : List ℕ → List Split → EditorState → Type 0
 EndsIn text [] w = (text_of w.line ≡ text) × (w.typing ≡ false)
 EndsIn text (d ∷ []) w = text_of d ≡ text
 EndsIn text (d ∷ e ∷ extra) w = EndsIn text (e ∷ extra) w
 
--- the text is there again after so many undos, and what could be undone before; so many actions more have steps
+-- The text is there again after so many undos, and what could be undone before; so many actions more have steps.
 pub record Leads (text : List ℕ) (past : List Split) (n : ℕ) (w : EditorState) : Type 0 where
   pub extra : List Split
   pub lines : w.past ≡ extra ++ past
   pub ends : EndsIn text extra w
   pub room : length w.past + n ≤ w.limits.steps
 
--- if there are any lines, they alone matter
+-- If there are any lines, they alone matter.
 ends-lines : (text : List ℕ) (x : Split) (extra : List Split) (v w : EditorState) → EndsIn text (x ∷ extra) v → EndsIn text (x ∷ extra) w
 ends-lines text x [] v w h = h
 ends-lines text x (y ∷ extra) v w h = ends-lines text y extra v w h
@@ -96,20 +96,20 @@ ends-cons : (text : List ℕ) (d : Split) (extra : List Split) (v w : EditorStat
 ends-cons text d [] v w e h = ap text_of e ∙ h.0
 ends-cons text d (x ∷ extra) v w e h = ends-lines text x extra v w h
 
--- the same lines, in another state with the same text
+-- The same lines, in another state with the same text.
 ends-same : (text : List ℕ) (extra : List Split) (v w : EditorState) → text_of w.line ≡ text_of v.line → w.typing ≡ false → EndsIn text extra v → EndsIn text extra w
 ends-same text [] v w e f h = (e ∙ h.0, f)
 ends-same text (d ∷ []) v w e f h = h
 ends-same text (d ∷ x ∷ extra) v w e f h = ends-same text (x ∷ extra) v w e f h
 
--- the same lines, if there are any
+-- The same lines, if there are any.
 ends-typed : (text : List ℕ) (extra : List Split) (v w : EditorState) → v.typing ≡ true → EndsIn text extra v → EndsIn text extra w
 ends-typed text [] v w t h = absurd (false≢true (sym h.1 ∙ t))
 ends-typed text (d ∷ []) v w t h = h
 ends-typed text (d ∷ x ∷ extra) v w t h = ends-typed text (x ∷ extra) v w t h
 
 module _ (text : List ℕ) (past : List Split) (n : ℕ) (w : EditorState) (h : Leads text past (suc n) w) where
-  -- a change
+  -- A change.
   leads-changed : (v : EditorState) → v.past ≡ pushed w → v.limits ≡ w.limits → Leads text past n v
   leads-changed v e l =
       let whole : pushed w ≡ w.line ∷ w.past = take_all w.limits.steps (w.line ∷ w.past) (omega (arith, h.room)) in
@@ -120,7 +120,7 @@ module _ (text : List ℕ) (past : List Split) (n : ℕ) (w : EditorState) (h : 
         room = omega (arith, h.room, ap length (e ∙ whole), ap (λ (x : Limits). x.steps) l);
       }
 
-  -- no change of the text
+  -- No change of the text.
   leads-same : (v : EditorState) → v.past ≡ w.past → v.limits ≡ w.limits → text_of v.line ≡ text_of w.line → v.typing ≡ false → Leads text past n v
   leads-same v e l f t = record {
     extra = h.extra;
@@ -129,11 +129,11 @@ module _ (text : List ℕ) (past : List Split) (n : ℕ) (w : EditorState) (h : 
     room = omega (arith, h.room, ap length e, ap (λ (x : Limits). x.steps) l);
   }
 
-  -- no change at all
+  -- No change at all.
   leads-none : Leads text past n w
   leads-none = record { extra = h.extra; lines = h.lines; ends = h.ends; room = omega (arith, h.room) }
 
-  -- what is typed
+  -- What is typed.
   leads-typed : (d : Split) → Leads text past n (typed d w)
   leads-typed d =
       elim (cases_Bool w.typing) [
@@ -203,7 +203,7 @@ pub leads-run : (text : List ℕ) (past : List Split) (actions : List Action) (w
 leads-run text past [] w f h = h
 leads-run text past (a ∷ actions) w f h = leads-run text past actions (after a w) f.1 (leads-after text past (length actions) w h a f.0)
 
--- so many undos as there are lines
+-- As many undos as there are lines.
 undone : (text : List ℕ) (past extra : List Split) (w : EditorState) → w.past ≡ extra ++ past → EndsIn text extra w
     → (n : ℕ) × (text_of (undo_times n w).line ≡ text) × ((undo_times n w).past ≡ past)
 undone text past [] w e h = (zero, h.0, e)

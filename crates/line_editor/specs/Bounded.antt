@@ -28,20 +28,20 @@ pub record IsBounded (w : EditorState) : Type 0 where
   pub lines : length w.history ≤ w.limits.lines
   pub steps : length w.past + length w.undone ≤ w.limits.steps
 
--- Tasks are done one after another.
+-- The editor after tasks, one after another.
 abbrev pub all_done : List Task → EditorState → EditorState
 all_done [] w = w
 all_done (task ∷ tasks) w = all_done tasks (done task w)
 
--- What each of some tasks writes has room.
+-- Each task in turn writes a text that has room in the line.
 abbrev pub AreRoomy : List Task → EditorState → Type 0
 AreRoomy [] w = ⊤
 AreRoomy (task ∷ tasks) w = (is_too_long (task_text task w) w ≡ false) × AreRoomy tasks (done task w)
 
--- From its beginning on, an editor stays within its limits, whatever is done to it that isn't refused as too long.
+-- A fresh editor stays within its limits after any tasks that write no text that is too long.
 abbrev pub StaysBounded : Limits → List Task → Type 0
 StaysBounded limits tasks = AreRoomy tasks (fresh limits) → IsBounded (all_done tasks (fresh limits))
 
--- The history that is loaded from the text of a bounded editor's history is this history.
+-- The history of a bounded editor, saved as a text and loaded again, is the same history.
 abbrev pub LoadsSaved : EditorState → Type 0
 LoadsSaved w = IsBounded w → history_of w.limits (saved w.history) ≡ w.history

@@ -10,39 +10,39 @@ use Rattle.line_editor.specs.Shown.{shown}
 use Rattle.line_editor.specs.Splits.{text_of}
 use Rattle.line_editor.specs.States.{EditorState, after, run}
 
--- The size of a text is the number of its bytes in UTF-8.
+-- The number of bytes that a text has in UTF-8.
 abbrev pub size : List ℕ → ℕ
 size text = length (encode_utf8_all text)
 
--- A line has room for as many bytes as its own text leaves of the limit.
+-- How many more bytes have room in the line: what its own text leaves of the limit.
 abbrev pub room_of : EditorState → ℕ
 room_of w = w.limits.bytes - size (text_of w.line)
 
--- A text is too long if its bytes have no room in the line.
+-- Whether a text has more bytes than there is room for in the line.
 abbrev pub is_too_long : List ℕ → EditorState → Bool
 is_too_long text w = nat_lt (room_of w) (size text)
 
--- An action writes a typed character that is shown, the text that was killed last, or nothing.
+-- What an action writes: a typed character if it is shown, the text that was killed last for a yank, or nothing.
 abbrev pub written : Action → EditorState → List ℕ
 written (Insert c) w = shown (c ∷ [])
 written Yank w = w.killed
 written action w = []
 
--- A text is refused as too long if it has no room, and otherwise for want of memory alone.
+-- The fault with which a text is refused: `TooLong` if it has no room, otherwise `Memory`.
 abbrev pub fault_of : List ℕ → EditorState → EditFault
 fault_of text w = cond (is_too_long text w) TooLong Memory
 
--- As an error of the system, refused memory and a text that is too long have a kind each.
+-- The kind of the error that a fault becomes.
 abbrev pub kind_of : EditFault → ErrorKind
 kind_of Memory = OutOfMemory
 kind_of TooLong = InvalidInput
 
--- What each of some actions writes has room.
+-- Each action in turn writes a text that has room in the line.
 abbrev pub AreAllowed : List Action → EditorState → Type 0
 AreAllowed [] w = ⊤
 AreAllowed (a ∷ actions) w = (is_too_long (written a w) w ≡ false) × AreAllowed actions (after a w)
 
--- A run that stops has done the actions before one that was refused, and nothing else.
+-- A run stopped at an action that was refused: the actions before it were done, and nothing else.
 pub record StopsAt (fault : EditFault) (actions : List Action) (w v : EditorState) : Type 0 where
   pub front : List Action
   pub action : Action

@@ -1,4 +1,4 @@
--- What a key asks of an editor: the Emacs bindings of GNU readline.
+-- What a key event asks of an editor: the Emacs bindings of GNU readline.
 use Rattle.std.specs.Prelude.{ℕ, ◌==◌, if◌then◌else◌, bit_and, List, [], ◌∷◌, Option, Some, None}
 use Rattle.std.specs.Char.{to_ascii_lowercase}
 use Rattle.crossterm_types.specs.declared.event.key.KeyCode.{KeyCode}
@@ -12,7 +12,8 @@ use Rattle.line_editor.specs.declared.keys.KeyCommand.TheVariants.{Act, Accept, 
 use Rattle.line_editor.specs.declared.places.Stop.TheVariants.{Cluster, WordStart, WordEnd, Blank, Edge}
 use Rattle.line_editor.specs.declared.places.Target.TheVariants.{Back, Forward}
 
--- Without Control and Alt a character is typed, and the keys of the cursor and of erasing have their names' meaning.
+-- What a key without Control and Alt asks for, or `None`. A character is typed, and Up and Down go through the
+-- history.
 abbrev pub plain : KeyCode → Option KeyCommand
 plain (key.Char c) = Some (Act (Insert c))
 plain key.Enter = Some Accept
@@ -26,12 +27,12 @@ plain key.Up = Some (Act Older)
 plain key.Down = Some (Act Newer)
 plain code = None
 
--- A letter, or a sign, asks for what its row says.
+-- What the row of a character asks for, or `None` if it has no row.
 abbrev pub row_in : List (ℕ × KeyCommand) → ℕ → Option KeyCommand
 row_in [] c = None
 row_in (row ∷ rows) c = if c == row.0 then Some row.1 else row_in rows c
 
--- With Control: a, b, c, d, e, f, h, j, k, m, n, p, r, t, u, w, y, the underscore, and 7, which terminals report for it.
+-- What letters with Control ask for. The underscore means undo, and so does 7, which terminals report for it.
 abbrev pub control_rows : List (ℕ × KeyCommand)
 control_rows =
     (97, Act (Go (Back Edge))) ∷ (98, Act (Go (Back Cluster))) ∷ (99, Interrupt) ∷ (100, EraseOrClose) ∷ (101, Act (Go (Forward Edge))) ∷
@@ -39,43 +40,45 @@ control_rows =
     (110, Act Newer) ∷ (112, Act Older) ∷ (114, Act Search) ∷ (116, Act Transpose) ∷ (117, Act (Kill (Back Edge))) ∷
     (119, Act (Kill (Back Blank))) ∷ (121, Act Yank) ∷ (95, Act Undo) ∷ (55, Act Undo) ∷ []
 
--- With Alt: b, d and f.
+-- What `b`, `d` and `f` with Alt ask for: to go back a word, to kill one, and to go forward by one.
 abbrev pub alt_rows : List (ℕ × KeyCommand)
 alt_rows = (98, Act (Go (Back WordStart))) ∷ (100, Act (Kill (Forward WordEnd))) ∷ (102, Act (Go (Forward WordEnd))) ∷ []
 
--- With both: the underscore, and 7.
+-- What the underscore with Control and Alt asks for, and 7, which terminals report for it: redo.
 abbrev pub both_rows : List (ℕ × KeyCommand)
 both_rows = (95, Act Redo) ∷ (55, Act Redo) ∷ []
 
--- With Control the arrows go by words.
+-- What a key with Control asks for, or `None`. A character has its row, in small letters, and Left and Right go by
+-- words.
 abbrev pub control : KeyCode → Option KeyCommand
 control (key.Char c) = row_in control_rows (to_ascii_lowercase c)
 control key.Left = Some (Act (Go (Back WordStart)))
 control key.Right = Some (Act (Go (Forward WordEnd)))
 control code = None
 
--- With Alt a word is killed by Backspace.
+-- What a key with Alt asks for, or `None`. A character has its row, in small letters, and Backspace kills a word.
 abbrev pub alt : KeyCode → Option KeyCommand
 alt (key.Char c) = row_in alt_rows (to_ascii_lowercase c)
 alt key.Backspace = Some (Act (Kill (Back WordStart)))
 alt code = None
 
--- With both, characters alone have a meaning.
+-- What a key with Control and Alt asks for, or `None`. Only characters have a row.
 abbrev pub both : KeyCode → Option KeyCommand
 both (key.Char c) = row_in both_rows c
 both code = None
 
--- The modifiers but Shift, which is in the character, say which table is meant: 0, Control 2, Alt 4.
+-- What a key asks for with no modifiers (0), Control (2), Alt (4) or both (6). With any others it asks for nothing.
 abbrev pub by_modifiers : ℕ → KeyCode → Option KeyCommand
 by_modifiers bits code =
     if bits == 0 then plain code else (if bits == 2 then control code else (if bits == 4 then alt code else (if bits == 6 then both code else None)))
 
--- A key that is let go asks for nothing.
+-- What a key asks for with its modifiers but Shift, which is in its character. A key that is released asks for
+-- nothing.
 abbrev pub by_kind : KeyEventKind → KeyEvent → Option KeyCommand
 by_kind Press k = by_modifiers (bit_and k.modifiers.0 254) k.code
 by_kind Repeat k = by_modifiers (bit_and k.modifiers.0 254) k.code
 by_kind Release k = None
 
--- A key asks by its kind, its modifiers and its code.
+-- What a key event asks for, or `None`.
 abbrev pub command_of : KeyEvent → Option KeyCommand
 command_of k = by_kind k.kind k

@@ -1,4 +1,4 @@
--- What edits keep.
+-- Laws: what edits keep.
 use Rattle.std.specs.Prelude.{◌≡◌, ◌≤◌, ◌+◌, ℕ, zero, suc, ⊤, true, false, List, [], ◌∷◌, ◌++◌, length, reverse}
 use Rattle.line_editor.specs.declared.actions.Action.{Action}
 use Rattle.line_editor.specs.declared.actions.Action.TheVariants.{Newer, Older, Redo, Undo}
@@ -12,16 +12,16 @@ use Rattle.line_editor.specs.States.{EditorState, after, run}
 abbrev pub KeepsText : Target → Split → Type 0
 KeepsText target d = text_of (place target d) ≡ text_of d
 
--- What is erased was one piece of the text, and the rest of the text stays.
+-- An erasure takes one piece out of the text, and the rest of the text stays.
 pub record CutsOut (target : Target) (d : Split) : Type 0 where
   pub was : text_of d ≡ reverse (start_of target d).before ++ (cut target d ++ (end_of target d).after)
   pub stays : text_of (erased target d) ≡ reverse (start_of target d).before ++ (end_of target d).after
 
--- What is inserted is at the cursor, and the rest of the text stays.
+-- An inserted text is at the cursor, and the rest of the text stays.
 abbrev pub WritesAt : List ℕ → Split → Type 0
 WritesAt text d = text_of (inserted text d) ≡ reverse d.before ++ (text ++ d.after)
 
--- A kill and a yank give the text back, if what was before and what was behind don't become one cluster in between.
+-- A kill and then a yank give the text back, if the characters around the cut don't become one cluster in between.
 abbrev pub YanksBack : Target → Split → Type 0
 YanksBack target d =
     is_between (start_of target d).before (end_of target d).after ≡ true → text_of (inserted (cut target d) (erased target d)) ≡ text_of d
@@ -32,17 +32,17 @@ KeepsHistory action w = (after action w).history ≡ w.history
 
 -- ---- history
 
--- The line goes back in the history so many times.
+-- The editor after going back in the history `n` times.
 abbrev pub older_times : ℕ → EditorState → EditorState
 older_times zero w = w
 older_times (suc n) w = older_times n (after Older w)
 
--- The line comes forth in the history so many times.
+-- The editor after going forth in the history `n` times.
 abbrev pub newer_times : ℕ → EditorState → EditorState
 newer_times zero w = w
 newer_times (suc n) w = newer_times n (after Newer w)
 
--- Back in the history and forth again as often, the line is the one that was left.
+-- Going back in the history and forth again as often gives the line that was left, if there are so many lines.
 abbrev pub ComesBack : ℕ → EditorState → Type 0
 ComesBack n w = w.back ≡ 0 → n ≤ length w.history → (newer_times n (older_times n w)).line ≡ w.line
 
@@ -54,23 +54,24 @@ IsPlain Undo = ⊥
 IsPlain Redo = ⊥
 IsPlain action = ⊤
 
--- Each of some actions is plain.
+-- Each action is plain.
 abbrev pub ArePlain : List Action → Type 0
 ArePlain [] = ⊤
 ArePlain (a ∷ actions) = IsPlain a × ArePlain actions
 
--- Undo is done so many times.
+-- The editor after `n` undos.
 abbrev pub undo_times : ℕ → EditorState → EditorState
 undo_times zero w = w
 undo_times (suc n) w = undo_times n (after Undo w)
 
--- After plain actions for which there are steps enough, some number of undos gives back the text and all that could be undone before.
--- No character was typed just before them.
+-- After plain actions, for which there are steps enough, some number of undos gives back the text and all that could
+-- be undone before.
+-- No character may have been typed just before these actions.
 abbrev pub CanBeUndone : List Action → EditorState → Type 0
 CanBeUndone actions w =
     ArePlain actions → w.typing ≡ false → length w.past + length actions ≤ w.limits.steps
     → (n : ℕ) × (text_of (undo_times n (run actions w)).line ≡ text_of w.line) × ((undo_times n (run actions w)).past ≡ w.past)
 
--- A redo gives back what an undo took.
+-- A redo gives back what an undo took. No character counts as just typed then.
 abbrev pub RedoesUndone : EditorState → Type 0
 RedoesUndone w = (d : Split) (past : List Split) → w.past ≡ d ∷ past → after Redo (after Undo w) ≡ record w { typing = false }

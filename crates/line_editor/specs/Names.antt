@@ -1,4 +1,4 @@
--- The names of targets and actions, and what reads as one.
+-- The names of targets and actions, and which texts read as one.
 use Rattle.std.specs.Prelude.{◌≡◌, ⊤, ℕ, Bool, ◌==◌, ◌++◌, if◌then◌else◌, nat_lt, codes, List, [], ◌∷◌, length, Option, Some, None}
 use Rattle.std.specs.Char.{IsScalar, encode_utf8}
 use Rattle.std.specs.List.{after_first, before_first, position_or_len}
@@ -14,7 +14,7 @@ use Rattle.line_editor.specs.declared.places.Target.TheVariants.{Back, Forward}
 
 -- ---- how a name is spelled
 
--- Each target has a name.
+-- The name of a target, as `word-back`.
 abbrev pub target_name : Target → List ℕ
 target_name (Back Cluster) = codes "char-back"
 target_name (Forward Cluster) = codes "char-forward"
@@ -27,11 +27,11 @@ target_name (Forward Blank) = codes "blank-forward"
 target_name (Back Edge) = codes "line-start"
 target_name (Forward Edge) = codes "line-end"
 
--- A character's name is itself, and that of a blank is a word.
+-- The name of a character: `space` for a blank, otherwise the character itself.
 abbrev pub char_name : ℕ → List ℕ
 char_name c = if c == 32 then codes "space" else encode_utf8 c
 
--- An action's name is a verb, and what it is done to.
+-- The name of an action: a verb, and its target or character, as `kill-line-end`.
 abbrev pub action_name : Action → List ℕ
 action_name (Insert c) = codes "insert-" ++ char_name c
 action_name (Go target) = codes "go-" ++ target_name target
@@ -47,7 +47,7 @@ action_name Search = codes "search"
 
 -- ---- what reads as a name
 
--- Targets by their names.
+-- The targets by their names.
 abbrev pub target_rows : List (List ℕ × Target)
 target_rows =
     (codes "char-back", Back Cluster) ∷ (codes "char-forward", Forward Cluster) ∷ (codes "word-back", Back WordStart) ∷
@@ -55,22 +55,22 @@ target_rows =
     (codes "blank-back", Back Blank) ∷ (codes "blank-forward", Forward Blank) ∷ (codes "line-start", Back Edge) ∷
     (codes "line-end", Forward Edge) ∷ []
 
--- Actions that are done to nothing else, by their names.
+-- The actions without a target or a character, by their names.
 abbrev pub action_rows : List (List ℕ × Action)
 action_rows =
     (codes "yank", Yank) ∷ (codes "transpose", Transpose) ∷ (codes "undo", Undo) ∷ (codes "redo", Redo) ∷ (codes "older", Older) ∷
     (codes "newer", Newer) ∷ (codes "search", Search) ∷ []
 
--- A text of one character is this character.
+-- The character of a text that has exactly one, otherwise `None`.
 abbrev pub one_char : List ℕ → Option ℕ
 one_char (c ∷ []) = Some c
 one_char text = None
 
--- A text reads as a character if it is one, or as a blank if it is the word for it.
+-- The character that a text names: its only one, or a blank for `space`. Otherwise `None`.
 abbrev pub char_named : List ℕ → Option ℕ
 char_named text = option_or (one_char (chars text)) (if same (codes "space") text then Some 32 else None)
 
--- A verb and what follows it read as an action.
+-- The action that a verb and what follows it name, or `None`.
 abbrev pub verb_named : List ℕ → List ℕ → Option Action
 verb_named verb rest =
     if same (codes "go") verb then option_map Go (value_in target_rows rest)
@@ -78,11 +78,11 @@ verb_named verb rest =
     else (if same (codes "kill") verb then option_map Kill (value_in target_rows rest)
     else (if same (codes "insert") verb then option_map Insert (char_named rest) else None)))
 
--- The hyphen that ends a verb is the first one of a text.
+-- Whether a byte is a hyphen.
 abbrev pub is_hyphen : ℕ → Bool
 is_hyphen b = b == 45
 
--- A text with a hyphen reads as a verb and the rest, and one without is looked up.
+-- The action that a text names, or `None`: by its verb before the first hyphen, or as a whole if it has no hyphen.
 abbrev pub action_named : List ℕ → Option Action
 action_named name =
     if nat_lt (position_or_len is_hyphen name) (length name) then verb_named (before_first is_hyphen name) (after_first is_hyphen name)
@@ -90,11 +90,11 @@ action_named name =
 
 -- ---- reading back
 
--- An action's character is one that Rust has.
+-- The character that an action inserts, if any, is a Unicode scalar value.
 abbrev pub HasScalar : Action → Type 0
 HasScalar (Insert c) = IsScalar c
 HasScalar action = ⊤
 
--- An action's name reads as this action.
+-- The name of an action reads as this action.
 abbrev pub ReadsBack : Action → Type 0
 ReadsBack action = HasScalar action → action_named (action_name action) ≡ Some action

@@ -9,11 +9,13 @@ use Rattle.line_editor.specs.declared.places.Target.TheVariants.{Back, Forward}
 use Rattle.line_editor.specs.Splits.{Split, ahead, behind}
 use Rattle.line_editor.specs.Words.{begins_unblank, begins_with_word, ends_in_word}
 
--- A place is between clusters if Unicode's rules for extended grapheme clusters (UAX 29) have a boundary there.
+-- Whether a place is between clusters: Unicode's rules for extended grapheme clusters (UAX 29) have a boundary there.
 abbrev pub is_between : Rule
 is_between = is_grapheme_break true
 
--- Each stop but the edge is a place between clusters, with more to be said of the characters beside it.
+-- Whether a place is a stop. An edge has no stops, and any other stop is between clusters.
+-- A word's start has a word behind it and none before it, and a word's end the reverse.
+-- A stop of a blank has a character behind it that isn't white space, and none before it.
 abbrev pub stops : Stop → Rule
 stops Cluster before after = is_between before after
 stops WordStart before after = is_between before after && (begins_with_word after && not (ends_in_word before))
@@ -21,27 +23,27 @@ stops WordEnd before after = is_between before after && (ends_in_word before && 
 stops Blank before after = is_between before after && (begins_unblank after && not (begins_unblank before))
 stops Edge before after = false
 
--- The place back from a cursor is the last stop before it, or else the start.
+-- The last stop before the cursor, or the start of the line if there is none.
 abbrev pub back_from : Rule → List ℕ → List ℕ → Split
 back_from stops [] after = record { before = []; after = after }
 back_from stops (c ∷ before) after = behind stops before (c ∷ after)
 
--- The place forward from a cursor is the first stop behind it, or else the end.
+-- The first stop behind the cursor, or the end of the line if there is none.
 abbrev pub forward_from : Rule → List ℕ → List ℕ → Split
 forward_from stops before [] = record { before = before; after = [] }
 forward_from stops before (c ∷ after) = ahead stops (c ∷ before) after
 
--- A target says in which direction the cursor goes, and to which stop.
+-- The place to which a target brings the cursor, back or forward to a stop.
 abbrev pub place : Target → Split → Split
 place (Back stop) d = back_from (stops stop) d.before d.after
 place (Forward stop) d = forward_from (stops stop) d.before d.after
 
--- A target is back if it is before the cursor.
+-- The target is before the cursor.
 abbrev pub IsBack : Target → Type 0
 IsBack (Back stop) = ⊤
 IsBack (Forward stop) = ⊥
 
--- A target is forward if it is behind the cursor.
+-- The target is behind the cursor.
 abbrev pub IsForward : Target → Type 0
 IsForward (Back stop) = ⊥
 IsForward (Forward stop) = ⊤

@@ -2,7 +2,7 @@
 use Rattle.std.specs.Prelude.{List, [], ◌∷◌}
 use Rattle.line_editor.specs.Splits.{Split}
 
--- The newest of some lines, or another line if there is none.
+-- The newest of the lines, or another line if there is none.
 abbrev pub first_or : Split → List Split → Split
 first_or d [] = d
 first_or d (e ∷ lines) = e
@@ -12,7 +12,7 @@ abbrev pub rest_of : List Split → List Split
 rest_of [] = []
 rest_of (e ∷ lines) = lines
 
--- A line becomes the newest of a list if another list has one.
+-- The lines with one more as the newest, if the other list isn't empty.
 abbrev pub pushed_if : List Split → Split → List Split → List Split
 pushed_if [] d lines = lines
 pushed_if (e ∷ taken) d lines = d ∷ lines

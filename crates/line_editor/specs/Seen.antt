@@ -1,28 +1,33 @@
--- What is true of what is seen of a line.
+-- What holds for the part of a line that is seen in a row.
 use Rattle.std.specs.Prelude.{◌≡◌, ℕ, ◌+◌, ◌<◌, ◌≤◌, true, List, ◌++◌, length, reverse}
 use Rattle.line_editor.specs.Splits.{Split, text_of}
 use Rattle.line_editor.specs.Edits.{IsSettled}
 use Rattle.line_editor.specs.Places.{is_between}
 use Rattle.line_editor.specs.Views.{column, columns, seen}
 
--- What is seen has room, and its cursor is in the row, at its place in the line.
+-- What is seen of a line fits into a row of `room` columns.
 pub record IsSeen (room : ℕ) (d : Split) : Type 0 where
+  -- The cursor is in the row.
   pub cursor : column room d < room
+  -- The text that is seen fits into the row.
   pub text : columns (seen room d) ≤ room
-  -- the parts of the text before the cursor and behind it that are seen
+  -- The parts of the text before the cursor and behind it that are seen.
   pub left : List ℕ
   pub right : List ℕ
   pub whole : seen room d ≡ left ++ right
+  -- The cursor is behind the left part.
   pub place : columns left ≡ column room d
+  -- The left part is the end of what is before the cursor.
   pub before : (hidden : List ℕ) × (reverse d.before ≡ hidden ++ left)
+  -- The right part is the beginning of what is behind the cursor.
   pub after : (hidden : List ℕ) × (d.after ≡ right ++ hidden)
-  -- no longer part on either side that begins or ends between clusters has room
+  -- No longer part on either side that begins or ends between clusters has room.
   pub most_before : (front part : List ℕ) → reverse d.before ≡ front ++ part → is_between (reverse front) (part ++ d.after) ≡ true
       → columns part < room → length part ≤ length left
   pub most_after : (part back : List ℕ) → d.after ≡ part ++ back → is_between (reverse part ++ d.before) back ≡ true
       → column room d + columns part ≤ room → length part ≤ length right
 
--- In a row of one column or more a line is seen so.
+-- In a row of one column or more, what is seen of a line fits (`IsSeen`).
 abbrev pub Fits : ℕ → Split → Type 0
 Fits room d = 0 < room → IsSeen room d
 
@@ -34,6 +39,6 @@ pub record IsInClusters (room : ℕ) (d : Split) : Type 0 where
   pub begins : is_between (reverse front) (seen room d ++ back) ≡ true
   pub ends : is_between (reverse (front ++ seen room d)) back ≡ true
 
--- If the cursor is between clusters, what is seen begins and ends so.
+-- If the cursor is between clusters, what is seen begins and ends between clusters.
 abbrev pub KeepsClusters : ℕ → Split → Type 0
 KeepsClusters room d = IsSettled d → IsInClusters room d

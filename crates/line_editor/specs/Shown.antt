@@ -1,18 +1,18 @@
--- The characters that a line has.
+-- The characters that a line can have.
 use Rattle.std.specs.Prelude.{◌≡◌, ℕ, nat_le, Bool, true, false, List, Option, Some, None}
 use Rattle.std.specs.List.{filter, list_all}
 use Rattle.unicode_width.specs.Width.{char_width}
 
--- A width is one that a line has if it is two columns at most.
+-- Whether there is a width, and it is two columns at most.
 abbrev pub is_width_shown : Option ℕ → Bool
 is_width_shown None = false
 is_width_shown (Some width) = nat_le width 2
 
--- A character is shown if it isn't a control character and takes two columns at most.
+-- Whether a character is shown: it isn't a control character, and takes two columns at most.
 abbrev pub is_shown : ℕ → Bool
 is_shown c = is_width_shown (char_width false c)
 
--- Of a text its shown characters come into a line.
+-- The characters of a text that are shown, which are those that come into a line.
 abbrev pub shown : List ℕ → List ℕ
 shown text = filter is_shown text
 

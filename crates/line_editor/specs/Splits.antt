@@ -2,26 +2,26 @@
 use Rattle.std.specs.Prelude.{ℕ, List, [], ◌∷◌, ◌++◌, reverse, if◌then◌else◌}
 use Rattle.unicode_segmentation.specs.Segments.{Rule, chars_before, chars_from}
 
--- A line is split at its cursor into the characters before it, nearest first, and those from it on.
+-- A line, split at its cursor into the characters before it, nearest first, and those from it on.
 pub record Split : Type 0 where
   pub before : List ℕ
   pub after : List ℕ
 
--- The text of a line is both parts in reading order.
+-- The text of a line: both parts in reading order.
 abbrev pub text_of : Split → List ℕ
 text_of d = reverse d.before ++ d.after
 
--- A text in UTF-8 is split at a byte offset.
+-- A text in UTF-8, split at a byte offset.
 abbrev pub split_at : List ℕ → ℕ → Split
 split_at text at = record { before = chars_before text at; after = chars_from text at }
 
--- The first place from one on is the nearest at which a rule holds, or else the end.
+-- The first place from this one on at which a rule holds, or the end of the line if there is none.
 abbrev pub ahead : Rule → List ℕ → List ℕ → Split
 ahead stops before [] = record { before = before; after = [] }
 ahead stops before (c ∷ after) =
     if stops before (c ∷ after) then record { before = before; after = c ∷ after } else ahead stops (c ∷ before) after
 
--- The last place back from one is the nearest at which a rule holds, or else the start.
+-- The last place up to this one at which a rule holds, or the start of the line if there is none.
 abbrev pub behind : Rule → List ℕ → List ℕ → Split
 behind stops [] after = record { before = []; after = after }
 behind stops (c ∷ before) after =

@@ -1,4 +1,4 @@
--- What is done to an editor by its calls.
+-- What the calls of an editor do to it.
 use Rattle.std.specs.Prelude.{ℕ, List, []}
 use Rattle.line_editor.specs.declared.actions.Action.{Action}
 use Rattle.line_editor.specs.Bounds.{written}
@@ -6,17 +6,24 @@ use Rattle.line_editor.specs.History.{loaded}
 use Rattle.line_editor.specs.Shown.{shown}
 use Rattle.line_editor.specs.States.{EditorState, accepted, after, dropped, pasted}
 
--- A task is an action, a paste, the line's acceptance, its end without that, a history that is loaded, or nothing.
+-- What a call does to an editor.
 pub data Task : Type 0 where
+  -- An action is done.
   Acts : Action → Task
+  -- A text is pasted.
   Pastes : List ℕ → Task
+  -- The line is accepted.
   Accepts : Task
+  -- The line ends without being accepted.
   LetsGo : Task
+  -- A history is loaded from a text.
   Loads : List ℕ → Task
+  -- The editor is closed while its line is empty.
   Closes : Task
+  -- Nothing is done.
   Nothing : Task
 
--- A task makes one state of another. Closing an empty line changes nothing.
+-- The editor after a task. Closing changes nothing.
 abbrev pub done : Task → EditorState → EditorState
 done (Acts action) w = after action w
 done (Pastes text) w = pasted text w
@@ -26,7 +33,7 @@ done (Loads text) w = loaded text w
 done Closes w = w
 done Nothing w = w
 
--- A task writes what its action writes, or what is shown of a paste.
+-- What a task writes: the text of its action, or the shown characters of a paste.
 abbrev pub task_text : Task → EditorState → List ℕ
 task_text (Acts action) w = written action w
 task_text (Pastes text) w = shown text

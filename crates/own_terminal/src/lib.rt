@@ -32,7 +32,7 @@
 //! | events are read by the calls of the only pass of a new reader; polls, queries and sizes are those of the libraries, and leave the list of features alone | `Session::{over, over_source, read, read_within, poll, position, supports_keyboard_enhancement, size}` |
 //! | further shares of a session's events are as many as were asked for, of the session's reader, and each read or poll is the next call of its own pass in the one history; a stream reads by such a pass too | `Session::{over_shared, over_streaming}`, `start_shared`, `start_streaming`, `Events::{read, read_within, poll}` |
 //!
-//! What to believe, in the order in which it reads (`specs/`), and where it is proved:
+//! What to believe, in the order in which it reads (`specs/`), and the contracts that it is proved by:
 //!
 //! | Definitions | Of | Contract |
 //! |---|---|---|

@@ -1,4 +1,4 @@
--- What comes of asking for a line, event by event.
+-- What happens as a line is asked for, event by event.
 use Rattle.std.specs.Prelude.{◌≡◌, false, cond, List, Option, Some, string_bytes}
 use Rattle.std.specs.Str.{chars}
 use Rattle.std.specs.declared.io.ErrorKind.{ErrorKind}
@@ -16,28 +16,28 @@ use Rattle.line_editor.specs.Turns.{Answer, Going, Line, Interrupted, Closed, an
 use Rattle.prompt.specs.declared.read.Read.{Read}
 use Rattle.prompt.specs.declared.read.Read.TheVariants as read
 
--- An event makes of an editor what its turn does, and nothing if its text is too long.
+-- The editor after an event. If the event's text is too long, nothing changes.
 abbrev pub pressed : Seen → EditorState → EditorState
 pressed e w = cond (is_too_long (event_text e w) w) w (turned e w)
 
--- An event is answered as its turn is. If its text is too long, the line goes on.
+-- The outcome of an event: that of its turn, or the line goes on if its text is too long.
 abbrev pub answer_to : Seen → EditorState → Answer
 answer_to e w = cond (is_too_long (event_text e w) w) Going (answer (task_of e w) w)
 
--- What comes of asking is the answer to the last event: a line is its text.
+-- What contracts see of what was asked for: a line is its text.
 abbrev pub answer_told : {A : Type 0} → Read A → Answer
 answer_told (read.Line text) = Line (chars (string_bytes text))
 answer_told read.Interrupted = Interrupted
 answer_told read.Closed = Closed
 
--- A line goes on, from what a pass knew and an editor: nothing was read, or one more event was, which the editor took.
+-- A line goes on: a pass read events from `v` on, which the editor took from `w` on, and none of them ended the line.
 pub data GoesOn {S : Type 0} (drawn : S → List SourceAnswer → S → Type 0) (asked : S → List (Option Duration)) (v : Known S) (w : EditorState) : Known S → EditorState → Type 0 where
   -- Nothing was read.
   unread : GoesOn drawn asked v w v w
-  -- It went on, one more event was read, and it goes on behind that.
+  -- The line went on, one more event was read, and it goes on after it.
   further : (p q : Known S) (k : EditorState) (e : Seen) → GoesOn drawn asked v w p k → Reads drawn asked filters.Event p q (Came (Some e)) → answer_to e k ≡ Going → GoesOn drawn asked v w q (pressed e k)
 
--- A line ends with this answer: it went on, and then one more event was read, which is answered so.
+-- A line ends with this outcome: it went on, and then one more event was read, which has this outcome.
 pub record Ends {S : Type 0} (drawn : S → List SourceAnswer → S → Type 0) (asked : S → List (Option Duration)) (v : Known S) (w : EditorState) (a : Answer) (u : Known S) (z : EditorState) : Type 0 where
   pub before : Known S
   pub line : EditorState
@@ -47,11 +47,12 @@ pub record Ends {S : Type 0} (drawn : S → List SourceAnswer → S → Type 0) 
   pub ends : answer_to event line ≡ a
   pub left : z ≡ pressed event line
 
--- Asking stops with an error of this kind. The editor took all events that were read, but one for which memory was refused.
+-- Asking stops with an error of this kind. The editor took all events that were read, but not one for which memory
+-- was refused.
 pub data Fails {S : Type 0} (drawn : S → List SourceAnswer → S → Type 0) (asked : S → List (Option Duration)) (v : Known S) (w : EditorState) (kind : ErrorKind) (u : Known S) (z : EditorState) : Type 0 where
-  -- The prompt was refused, or the writer or the device of modes failed: the line goes on up to there.
+  -- The prompt was refused, or the writer or the device of modes failed: the line went on up to there.
   stopped : GoesOn drawn asked v w u z → Fails drawn asked v w kind u z
-  -- The read that came next failed, with this error.
+  -- The next read failed with this error.
   broke : (p : Known S) → GoesOn drawn asked v w p z → Reads drawn asked filters.Event p u (Faulted kind) → Fails drawn asked v w kind u z
   -- Memory was refused for the event that was read next, whose text has room.
   refused : (p : Known S) (e : Seen) → GoesOn drawn asked v w p z → Reads drawn asked filters.Event p u (Came (Some e)) → is_too_long (event_text e z) z ≡ false → kind ≡ OutOfMemory → Fails drawn asked v w kind u z

@@ -18,19 +18,19 @@ events_of (further p q k e goes reads going) = events_of goes ++ e ∷ []
 abbrev pub all_of : {S : Type 0} {drawn : S → List SourceAnswer → S → Type 0} {asked : S → List (Option Duration)} {v u : Known S} {w z : EditorState} {a : Answer} → Ends drawn asked v w a u z → List Seen
 all_of ends = events_of ends.goes ++ ends.event ∷ []
 
--- Of some events an editor takes those whose texts have room.
+-- The events that an editor takes, which are those whose texts have room.
 abbrev pub taken : List Seen → EditorState → List Seen
 taken [] w = []
 taken (e ∷ events) w = cond (is_too_long (event_text e w) w) (taken events w) (e ∷ taken events (turned e w))
 
--- Calls for lines were made one after another, from what a pass knew and an editor: these events were read, and these lines returned.
+-- Calls for lines were made one after another: these events were read, and these lines returned.
 pub data Calls {S : Type 0} (drawn : S → List SourceAnswer → S → Type 0) (asked : S → List (Option Duration)) (v : Known S) (w : EditorState) : Known S → EditorState → List Seen → List (List ℕ) → Type 0 where
   -- No call was made.
   uncalled : Calls drawn asked v w v w [] []
   -- One more call was made.
   called : (p q : Known S) (k l : EditorState) (events : List Seen) (lines : List (List ℕ)) (a : Answer) → Calls drawn asked v w p k events lines → (ends : Ends drawn asked p k a q l) → Calls drawn asked v w q l (events ++ all_of ends) (lines ++ lines_in a)
 
--- Some lines are those that come out of the events that an editor takes, and these make another state of it.
+-- These lines come out of the events that an editor takes, which lead to this state of it.
 pub record GivesLines (events : List Seen) (w : EditorState) (lines : List (List ℕ)) (z : EditorState) : Type 0 where
   pub come : lines_of_events (taken events w) w ≡ lines
   pub left : after_events (taken events w) w ≡ z

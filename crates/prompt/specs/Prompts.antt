@@ -3,6 +3,6 @@ use Rattle.std.specs.Prelude.{ℕ, Bool, List}
 use Rattle.std.specs.List.{list_any}
 use Rattle.std.specs.Char.{is_control}
 
--- A text has a control character if one of its characters is one.
+-- Whether a text has a control character.
 abbrev pub has_control : List ℕ → Bool
 has_control text = list_any is_control text

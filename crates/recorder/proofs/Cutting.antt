@@ -1,4 +1,4 @@
--- The first part of a text, and what stands behind it.
+-- The first part of a text, and what is behind it.
 use Rattle.std.proofs.Common.{◌≡◌, ℕ, ◌==◌, ◌<◌, ◌+◌, List, [], ◌∷◌, length, take, drop, Some, None, arith, ap, ◌∙◌}
 use Rattle.std.specs.List.{position_or_len}
 use Rattle.std.proofs.lemmas.List.Sums.{fails_before_first, position_or_len_is}

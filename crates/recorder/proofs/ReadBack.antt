@@ -28,7 +28,7 @@ use Rattle.crossterm_types.proofs.Lists.{all_append}
 abbrev pub Without : ℕ → List ℕ → Type 0
 Without c xs = AllByRecursion (λ b. (b == c) ≡ false) xs
 
--- A list without the byte is one part, and ends at the byte where one follows.
+-- A list without the byte is one part, and ends at the byte if one follows.
 pub one_part : (c : ℕ) (xs : List ℕ) → Without c xs → parts c xs ≡ xs ∷ []
 one_part c [] a = refl
 one_part c (x ∷ xs) a = slice_split-cons_no (λ b. b == c) x xs a.0 ∙ ap (onto_first x) (one_part c xs a.1)

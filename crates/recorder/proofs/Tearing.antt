@@ -15,7 +15,7 @@ use Rattle.recorder.proofs.ReadBack.{Without, after_line, all_read_back, at, ent
 use Rattle.recorder.proofs.Replayings.{are_entries}
 use Rattle.crossterm_types.proofs.Lists.{all_front}
 
--- ---- where a text is cut
+-- ---- texts that are cut
 
 -- Within its first line, or behind that line's end.
 abbrev Cut : List ℕ → List ℕ → List ℕ → List ℕ → Type 0

@@ -1,4 +1,4 @@
--- What stands in a line.
+-- The words of a line.
 use Rattle.std.proofs.Common.{◌≡◌, ℕ, ◌==◌, ◌+◌, true, false, List, [], ◌∷◌, ◌++◌, length, map, None, arith, ap, refl, sym, ◌∙◌}
 use mathlib.Core.Bool.{true≢false}
 use Rattle.std.specs.Cmp.{unsigned_Decides}

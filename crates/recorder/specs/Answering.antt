@@ -1,4 +1,4 @@
--- How a recorder answers, by how its device does, with the two laws of it.
+-- How a recorder answers, given how its device answers, with the two laws that this needs.
 use Rattle.std.specs.Prelude.{◌≡◌, ◌≤◌, ◌+◌, ℕ, List, [], ◌∷◌, ◌++◌, length, Option, Some, None, refl}
 use Rattle.std.specs.Io.KnownBytes.{Appends}
 use Rattle.std.proofs.Common.{ap, arith, sym, subst, ◌∙◌, append_assoc}
@@ -136,6 +136,7 @@ pub writes_none : {W : Type 0} (contents : W → Option (List ℕ)) (f : Option 
 writes_none contents None r s = (Appends-nil (contents s), uses_none r)
 writes_none contents (Some k) r s = (refl, refl)
 
+-- How a recorder answers (`Records`), with two laws: no answers change nothing, and answers after others join them.
 abbrev pub recorder_answering : {D W : Type 0} → (W → Option (List ℕ)) → Answering D → Answering (Recording D W)
 recorder_answering contents answering = record {
   answered = Records contents answering.answered;

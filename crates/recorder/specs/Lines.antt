@@ -1,4 +1,4 @@
--- How what a device answers is written, an answer on a line, each after a line with its time.
+-- How the answers of a device are written: each is a line, after a line with its time.
 use Rattle.std.specs.Prelude.{ℕ, Bool, codes, List, [], ◌∷◌, ◌++◌, map, if◌then◌else◌}
 use Rattle.std.specs.Fmt.{decimal}
 use Rattle.std.specs.declared.io.ErrorKind.{ErrorKind}
@@ -8,7 +8,7 @@ use Rattle.crossterm_read.specs.Device.{DeviceAnswer, Bytes, Resized, Woken, Idl
 use Rattle.crossterm_read.specs.declared.source.script.Act.{Act}
 use Rattle.crossterm_read.specs.declared.source.script.Act.TheVariants as act
 
--- The name of a kind of errors.
+-- The name of an error kind, as `NotFound`.
 abbrev pub kind_name : ErrorKind → List ℕ
 kind_name kind.NotFound = codes "NotFound"
 kind_name kind.PermissionDenied = codes "PermissionDenied"
@@ -53,7 +53,7 @@ kind_name kind.InProgress = codes "InProgress"
 kind_name kind.Other = codes "Other"
 kind_name kind.Uncategorized = codes "Uncategorized"
 
--- All kinds.
+-- All error kinds.
 abbrev pub kinds : List ErrorKind
 kinds =
     kind.NotFound ∷ kind.PermissionDenied ∷ kind.ConnectionRefused ∷ kind.ConnectionReset ∷ kind.HostUnreachable ∷ kind.NetworkUnreachable ∷
@@ -64,15 +64,15 @@ kinds =
     kind.Deadlock ∷ kind.CrossesDevices ∷ kind.TooManyLinks ∷ kind.InvalidFilename ∷ kind.ArgumentListTooLong ∷ kind.Interrupted ∷
     kind.Unsupported ∷ kind.UnexpectedEof ∷ kind.OutOfMemory ∷ kind.InProgress ∷ kind.Other ∷ kind.Uncategorized ∷ []
 
--- Kinds with their names.
+-- Error kinds with their names.
 abbrev pub named : List ErrorKind → List (List ℕ × ErrorKind)
 named ks = map (λ k. (kind_name k, k)) ks
 
--- The word before bytes.
+-- The word before bytes: `raw` in raw mode, otherwise `piece`.
 abbrev pub bytes_word : Bool → List ℕ
 bytes_word raw = if raw then codes "raw" else codes "piece"
 
--- An answer as a line, without its end. Bytes are written in hexadecimal digits.
+-- An answer as a line without its end. Bytes are in hexadecimal digits, as `piece 1b5b41`.
 abbrev pub line : DeviceAnswer → List ℕ
 line (Bytes bytes raw) = bytes_word raw ++ 32 ∷ encode_lower bytes
 line (Resized columns rows) = codes "resize" ++ 32 ∷ (decimal columns ++ 32 ∷ decimal rows)
@@ -80,31 +80,33 @@ line Woken = codes "wake"
 line Idle = codes "idle"
 line (Fault kind) = codes "fault" ++ 32 ∷ kind_name kind
 
--- A time as a line, without its end: a comment.
+-- A time as a line without its end, which is a comment, as `# 1500`.
 abbrev pub stamp : ℕ → List ℕ
 stamp time = codes "#" ++ 32 ∷ decimal time
 
--- What came, and when, as two lines with their ends.
+-- A time and an answer as two lines with their ends.
 abbrev pub entry : ℕ × DeviceAnswer → List ℕ
 entry e = stamp e.0 ++ 10 ∷ (line e.1 ++ 10 ∷ [])
 
--- All that came, in order.
+-- The text of a recording: its entries, in order.
 abbrev pub text : List (ℕ × DeviceAnswer) → List ℕ
 text [] = []
 text (e ∷ es) = entry e ++ text es
 
--- The lines of answers alone, without their times.
+-- The lines of answers with their ends, without times.
 abbrev pub lines : List DeviceAnswer → List ℕ
 lines [] = []
 lines (w ∷ ws) = line w ++ 10 ∷ lines ws
 
+-- The times of entries.
 abbrev pub times_of : List (ℕ × DeviceAnswer) → List ℕ
 times_of es = map (λ e. e.0) es
 
+-- The answers of entries.
 abbrev pub answers_of : List (ℕ × DeviceAnswer) → List DeviceAnswer
 answers_of es = map (λ e. e.1) es
 
--- What an act says in one line, however long its piece is.
+-- The answer that an act describes, however long its bytes are.
 abbrev pub told : {A : Type 0} → Act A → DeviceAnswer
 told (act.Piece bytes raw) = Bytes bytes.items raw
 told (act.Resize columns rows) = Resized columns rows

@@ -1,4 +1,4 @@
--- What a recorder writes of its device's answers.
+-- What a recorder writes of the answers of its device.
 use Rattle.std.specs.Prelude.{◌≡◌, ◌≤◌, ◌<◌, ◌+◌, ◌/◌, ℕ, List, [], ◌∷◌, ◌++◌, length, min, Option, Some, None}
 use Rattle.std.specs.List.{AllByRecursion}
 use Rattle.std.specs.Io.KnownBytes.{Appends}
@@ -9,7 +9,7 @@ use Rattle.recorder.specs.Lines.{answers_of, text, times_of}
 use Rattle.recorder.specs.declared.recorder.Stop.{Stop}
 use Rattle.recorder.specs.declared.recorder.Stop.TheVariants as stop
 
--- The end of input has no line: a script's last act is followed by it.
+-- The answers that are recorded: all but the ends of input, which are bytes of which there are none.
 abbrev pub recorded : List DeviceAnswer → List DeviceAnswer
 recorded [] = []
 recorded (Bytes [] raw ∷ ws) = recorded ws
@@ -29,44 +29,47 @@ IsAnswer (Fault kind) = Unit {0}
 
 -- ---- times
 
--- The milliseconds of a moment in nanoseconds, as far as 32 bits go.
+-- The whole milliseconds of a time in nanoseconds, at most 4294967295.
 abbrev pub millis : ℕ → ℕ
 millis nanos = min 4294967295 (nanos / 1000000)
 
--- Times between two of them, none before an earlier one.
+-- The times are between `low` and `high`, and none is before an earlier one.
 abbrev pub Rises : ℕ → List ℕ → ℕ → Type 0
 Rises low [] high = low ≤ high
 Rises low (time ∷ times) high = (low ≤ time) × Rises time times high
 
 -- ---- room
 
--- So many bytes fit, if there is a bound.
+-- `n` bytes fit into the room. Without a bound, any number fits.
 abbrev pub Fits : Option ℕ → ℕ → Type 0
 Fits None n = Unit {0}
 Fits (Some room) n = n ≤ room
 
--- So many bytes of the room are used.
+-- `n` bytes of the room are used, and `after` is what is left. Without a bound, nothing changes.
 abbrev pub Uses : Option ℕ → ℕ → Option ℕ → Type 0
 Uses None n after = after ≡ None
 Uses (Some room) n after = (left : ℕ) × (after ≡ Some left) × (left + n ≡ room)
 
 -- ---- writing
 
--- The next entry didn't fit: those before it were written whole, and nothing of it.
+-- The next entry didn't fit into the room.
 pub record Cuts (old new : Option (List ℕ)) (room : Option ℕ) (es : List (ℕ × DeviceAnswer)) : Type 0 where
   pub kept : List (ℕ × DeviceAnswer)
   pub next : ℕ × DeviceAnswer
   pub rest : List (ℕ × DeviceAnswer)
   pub split : es ≡ kept ++ next ∷ rest
+  -- The entries before it were written whole, and nothing of it.
   pub written : Appends old new (text kept)
+  -- With the next one, they wouldn't fit into the room.
   pub full : Fits room (length (text (kept ++ next ∷ []))) → ⊥
 
--- A beginning was written, and no more than there is room for.
+-- A prefix of the bytes was written, and no more than there is room for.
 pub record Fails (old new : Option (List ℕ)) (room : Option ℕ) (bytes : List ℕ) : Type 0 where
   pub written : AppendsFront old new bytes
   pub fits : Fits room (length written.front)
 
--- Entries go to a writer, by whether it had stopped before and after: all of them, a part, or none.
+-- Entries go to a writer: all of them, those that fit, or a prefix of their text before a failure. Nothing is written
+-- after a stop.
 abbrev pub Writes : {W : Type 0} → (W → Option (List ℕ)) → Option Stop → Option ℕ → W → List (ℕ × DeviceAnswer) → Option Stop → Option ℕ → W → Type 0
 Writes contents None room s es None left t = Appends (contents s) (contents t) (text es) × Uses room (length (text es)) left
 Writes contents None room s es (Some stop.Cut) left t = Cuts (contents s) (contents t) room es
@@ -74,12 +77,15 @@ Writes contents None room s es (Some (stop.Failed kind)) left t = Fails (content
 Writes contents (Some why) room s es None left t = ⊥
 Writes contents (Some why) room s es (Some same) left t = (same ≡ why) × (t ≡ s)
 
--- A recorder as its callers see it. `clock` is what its clock told last, in nanoseconds.
+-- A recorder as its callers see it.
 pub record Recording (D W : Type 0) : Type 0 where
   pub device : D
   pub writer : W
+  -- What its clock returned last, in nanoseconds.
   pub clock : ℕ
+  -- How many more bytes it may write, if that is bounded.
   pub room : Option ℕ
+  -- Why it no longer writes, if it stopped.
   pub stop : Option Stop
 
 -- A recorder answers what its device answers, and writes these answers with rising times.

@@ -21,7 +21,7 @@ use Rattle.recorder.specs.Lines.{answers_of, text, told}
 use Rattle.recorder.specs.Reads.{read_text, session}
 use Rattle.recorder.specs.Recording.{IsAnswer, Recording, Records, recorded}
 
--- The end of input.
+-- The answer is the end of input: bytes of which there are none.
 abbrev pub IsEnd : DeviceAnswer → Type 0
 IsEnd (Bytes [] raw) = Unit {0}
 IsEnd (Bytes (b ∷ bs) raw) = ⊥
@@ -30,7 +30,7 @@ IsEnd Woken = ⊥
 IsEnd Idle = ⊥
 IsEnd (Fault kind) = ⊥
 
--- After the end of input nothing comes but that end again.
+-- After an end of input nothing comes but that end again.
 abbrev pub EndsLast : List DeviceAnswer → Type 0
 EndsLast [] = Unit {0}
 EndsLast (Bytes [] raw ∷ ws) = AllByRecursion IsEnd ws
@@ -40,24 +40,28 @@ EndsLast (Woken ∷ ws) = EndsLast ws
 EndsLast (Idle ∷ ws) = EndsLast ws
 EndsLast (Fault kind ∷ ws) = EndsLast ws
 
--- A device gave some answers, the writer grew by them with their times, that text reads as what was recorded of them, and what the source answered
--- comes of a script of it.
+-- A recorder over a device was read, and its recording replays what was read.
 pub record Replayed {D W : Type 0} (contents : W → Option (List ℕ)) (answered : D → List DeviceAnswer → D → Type 0)
     (s : Recording D W) (xs : List SourceAnswer) (t : Recording D W) : Type 0 where
   pub given : List DeviceAnswer
   pub entries : List (ℕ × DeviceAnswer)
+  -- The device gave these answers.
   pub by_device : answered s.device given t.device
+  -- The entries have what is recorded of them.
   pub says : answers_of entries ≡ recorded given
+  -- The writer grew by the text of the entries.
   pub written : Appends (contents s.writer) (contents t.writer) (text entries)
+  -- That text reads as the entries.
   pub reads : read_text (text entries) ≡ Ok (session entries)
+  -- The source answered what a script of the recording allows, if nothing followed the end of input.
   pub replays : EndsLast given → Answered (recorded given) xs
 
--- So it is for a new source over a recorder, as long as the recording goes on.
+-- Whatever a new source over a recorder answers is replayed, as long as the recording goes on.
 abbrev pub Replays : {D W : Type 0} → (W → Option (List ℕ)) → (D → List DeviceAnswer → D → Type 0) → Type 0
 Replays {D} {W} contents answered = (s t : Source (Recording D W)) (xs : List SourceAnswer) → IsNew s → s.device.stop ≡ None → t.device.stop ≡ None
     → SourceDrawn (Records contents answered) s xs t → Replayed contents answered s.device xs t.device
 
--- What is in a recording: an answer with at least one byte and at most 1024, or without bytes.
+-- An answer that a recording can have: not the end of input, and at most 1024 bytes.
 abbrev pub IsLine : DeviceAnswer → Type 0
 IsLine (Bytes bytes raw) = (bytes ≢ []) × (length bytes ≤ 1024)
 IsLine (Resized columns rows) = Unit {0}
@@ -65,29 +69,33 @@ IsLine Woken = Unit {0}
 IsLine Idle = Unit {0}
 IsLine (Fault kind) = Unit {0}
 
--- The acts of such lines answer what they say, one answer an act.
+-- A script of acts that a recording can have answers exactly what they describe, one answer for each act.
 abbrev pub AnswersAsTold : (A : Type 0) → Type 0
 AnswersAsTold A = (acts : List (Act A)) → AllByRecursion IsLine (map told acts) → device_answers acts ≡ map told acts
 
--- All that is recorded of a device's answers is of this kind.
+-- What is recorded of a device's answers is always such an answer (`IsLine`).
 abbrev pub RecordsLines : Type 0
 RecordsLines = (ws : List DeviceAnswer) → AllByRecursion IsAnswer ws → AllByRecursion IsLine (recorded ws)
 
--- Any other run of these calls over a script of the recording has this result, if no call of either was refused memory.
+-- Any other run of these calls over the recording has the same result.
+-- This holds if no call of either is refused memory, and no answer's bytes both end an event and leave a paste open.
 abbrev pub IsOnlyResult : List DeviceAnswer → List Call → List Replied → List Seen → Type 0
 IsOnlyResult device_answers calls replies held = PastesApart device_answers → AllByRecursion IsUnrefused replies
     → (others : List Said) (kept : List Seen) (other : Plays device_answers calls others kept) → AllByRecursion IsUnrefused other.replies
     → (map shown replies ≡ others) × (held ≡ kept)
 
--- The calls of a reader over such a source play over the recording: they have one run, which `read::play` has over a script of it. Its result is the only one.
+-- What a reader's calls over a recorder draw is replayed, as long as the recording goes on.
+-- If nothing follows the end of input, the same calls over the recording have the same result, which is the only one.
 abbrev pub PlaysAlike : {D W : Type 0} → (W → Option (List ℕ)) → (D → List DeviceAnswer → D → Type 0) → Type 0
 PlaysAlike {D} {W} contents answered = (s t : Source (Recording D W)) (calls : List Call) (drawn : List (List SourceAnswer)) (replies : List Replied) (last : EventStore)
     → IsNew s → s.device.stop ≡ None → t.device.stop ≡ None → SourceDrawn (Records contents answered) s (joined drawn) t → Run empty calls drawn replies last
     → (r : Replayed contents answered s.device (joined drawn) t.device) × (EndsLast r.given →
     Plays (recorded r.given) calls (map shown replies) (map (λ h. h.0) last.held) × IsOnlyResult (recorded r.given) calls replies (map (λ h. h.0) last.held))
 
--- So does a shared reader that held nothing at first, whichever threads made its calls: what it took, and what it holds, are each once the first ones of
--- all that happens by a script of the recording.
+-- What a shared reader over a recorder draws is replayed, as long as the recording goes on. The reader is new and
+-- holds nothing at first.
+-- If nothing follows the end of input, the events taken and those held are together, each once, the first events of
+-- the recording.
 abbrev pub HistoriesReplay : {D W : Type 0} → (W → Option (List ℕ)) → (D → List DeviceAnswer → D → Type 0) → Type 0
 HistoriesReplay {D} {W} contents answered = (o t : ReaderState (Source (Recording D W))) (log : List Entry)
     → IsNew o.source → o.store ≡ empty → o.source.device.stop ≡ None → t.source.device.stop ≡ None → Runs (SourceDrawn (Records contents answered)) o log t

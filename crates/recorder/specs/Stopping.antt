@@ -1,4 +1,4 @@
--- What a recording says that ended before its session.
+-- What is known of a recording that ended before its session.
 use Rattle.std.specs.Prelude.{◌≡◌, ◌⊎◌, ℕ, List, ◌++◌, Option, Some, None, Ok, Err}
 use Rattle.std.specs.List.{AllByRecursion}
 use Rattle.std.specs.Io.KnownBytes.{Appends}
@@ -17,17 +17,17 @@ use Rattle.recorder.specs.declared.recorder.Stop.TheVariants as stop
 
 -- ---- events
 
--- What was recorded has one list of events.
+-- The same answers have one list of events.
 abbrev pub OneList : Type 0
 OneList = (ws : List DeviceAnswer) (es fs : List Seen) → Happened ws es → Happened ws fs → es ≡ fs
 
--- The events of the first answers are the first events.
+-- If more answers follow, the events of the first ones come first among all events.
 abbrev pub FrontsHappen : Type 0
 FrontsHappen = (ws more : List DeviceAnswer) (all : List Seen) → Happened (ws ++ more) all → (es : List Seen) × (rest : List Seen) × Happened ws es × (all ≡ es ++ rest)
 
 -- ---- texts
 
--- Some acts were read, and they are the first ones, each with its time.
+-- The acts of a session and their times are those of the first entries.
 pub record ReadsFirst (es : List (ℕ × DeviceAnswer)) (s : Session) : Type 0 where
   pub kept : List (ℕ × DeviceAnswer)
   pub rest : List (ℕ × DeviceAnswer)
@@ -35,39 +35,50 @@ pub record ReadsFirst (es : List (ℕ × DeviceAnswer)) (s : Session) : Type 0 w
   pub acts : s.acts ≡ answers_of kept
   pub times : s.times ≡ times_of kept
 
--- A text reads as the first ones of these entries, or not at all, since its last line has no end.
+-- A text reads as the first of these entries, or it is refused because its last line has no end.
 abbrev pub FirstOrUnended : List (ℕ × DeviceAnswer) → List ℕ → Type 0
 FirstOrUnended es bytes = ((s : Session) × (read_text bytes ≡ Ok s) × ReadsFirst es s) ⊎ ((n : ℕ) × (read_text bytes ≡ Err (record { number = n; reason = Unended })))
 
--- So does a recording wherever it ends.
+-- Each prefix of a recording reads as its first entries, or is refused because its last line has no end.
 abbrev pub FrontsRead : Type 0
 FrontsRead = (es : List (ℕ × DeviceAnswer)) (front rest : List ℕ) → AllByRecursion IsEntry es → text es ≡ front ++ rest → FirstOrUnended es front
 
 -- ---- recorders that stopped
 
--- The room was used up: what was written reads as the first ones of what was recorded.
+-- The room was used up, and what was written reads as the first entries.
 pub record Kept {D W : Type 0} (contents : W → Option (List ℕ)) (answered : D → List DeviceAnswer → D → Type 0) (s t : Recording D W) : Type 0 where
   pub given : List DeviceAnswer
   pub kept : List (ℕ × DeviceAnswer)
   pub rest : List DeviceAnswer
+  -- The device gave these answers.
   pub by_device : answered s.device given t.device
+  -- The kept entries have the first of those that are recorded.
   pub says : recorded given ≡ answers_of kept ++ rest
+  -- The writer grew by the text of the kept entries.
   pub written : Appends (contents s.writer) (contents t.writer) (text kept)
+  -- That text reads as the kept entries.
   pub reads : read_text (text kept) ≡ Ok (session kept)
 
+-- If a recorder stops because its room is used up, what it wrote reads as the first entries.
 abbrev pub CutsKeep : {D W : Type 0} → (W → Option (List ℕ)) → (D → List DeviceAnswer → D → Type 0) → Type 0
 CutsKeep {D} {W} contents answered = (s t : Source (Recording D W)) (xs : List SourceAnswer) → s.device.stop ≡ None → t.device.stop ≡ Some stop.Cut
     → SourceDrawn (Records contents answered) s xs t → Kept contents answered s.device t.device
 
--- The writer failed, or memory for a line was refused: what was written reads as the first ones, or has a last line without an end.
+-- The recorder failed to write, and what was written reads as the first entries or has a last line without an end.
 pub record Torn {D W : Type 0} (contents : W → Option (List ℕ)) (answered : D → List DeviceAnswer → D → Type 0) (s t : Recording D W) : Type 0 where
   pub given : List DeviceAnswer
   pub entries : List (ℕ × DeviceAnswer)
+  -- The device gave these answers.
   pub by_device : answered s.device given t.device
+  -- The entries have what is recorded of them.
   pub says : answers_of entries ≡ recorded given
+  -- The writer grew by a prefix of the entries' text.
   pub written : AppendsFront (contents s.writer) (contents t.writer) (text entries)
+  -- That prefix reads as the first entries, or its last line has no end.
   pub reads : FirstOrUnended entries written.front
 
+-- If a recorder stops because of an error, what it wrote reads as the first entries or has a last line without an
+-- end.
 abbrev pub FailuresTear : {D W : Type 0} → (W → Option (List ℕ)) → (D → List DeviceAnswer → D → Type 0) → Type 0
 FailuresTear {D} {W} contents answered = (s t : Source (Recording D W)) (xs : List SourceAnswer) (kind : ErrorKind) → s.device.stop ≡ None → t.device.stop ≡ Some (stop.Failed kind)
     → SourceDrawn (Records contents answered) s xs t → Torn contents answered s.device t.device

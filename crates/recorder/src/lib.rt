@@ -31,7 +31,7 @@
 //! | a recording has one list of events, and a front of it has a front of them | `laws::one_list` |
 //! | a recording that ended early, wherever that was, reads as a front of what came, or its last line has no end and it doesn't read | `laws::stops` |
 //!
-//! What to believe, in the order in which it reads (`specs/`), and where it is proved:
+//! What to believe, in the order in which it reads (`specs/`), and the contracts that it is proved by:
 //!
 //! | Definitions | Of | Contract |
 //! |---|---|---|

@@ -59,7 +59,7 @@ less_by false room less c text e le few rest =
     let full : room < columns c = grind (arith, nat_tests) in
     no_room_by (nat_le (columns c) less) less c text refl (omega (arith, full, le))
 
--- What is shown in so many columns is shown in fewer, where these are enough for it.
+-- What is shown in some columns is shown in fewer, if these are enough for it.
 pub within_less : (text : List ℕ) (room less : ℕ) → less ≤ room → text_columns (within room text) ≤ less → within less text ≡ within room text
 within_less [] room less le few = refl
 within_less (c ∷ text) room less le few =

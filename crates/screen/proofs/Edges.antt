@@ -53,7 +53,7 @@ nothing : (f : ℕ → List Stamp) (xs : List ℕ) → ((k : ℕ) → f k ≡ []
 nothing f [] none = refl
 nothing f (x ∷ xs) none = ap (λ l. l ++ flat_map f xs) (none x) ∙ nothing f xs none
 
--- Where there is no column nothing is set.
+-- Without a column nothing is set.
 pub covered_none : (p : Picture) (s : ContentStyle) (r : Rect) (symbol n : ℕ) → r.width ≡ 0 → p ≡ with_stamps p s (covering r symbol n)
 covered_none p s r symbol n none =
     ap (with_stamps p s) (sym (nothing (λ k. across r.x (r.y + k) r.width symbol) (range_with_len 0 n) (λ k. ap (λ w. across r.x (r.y + k) w symbol) none)))

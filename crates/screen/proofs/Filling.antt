@@ -58,7 +58,7 @@ pair_inner true last c s two e = zero_takes_no_two
 pair_inner false true c s two e = cc
 pair_inner false false c s two e = two
 
--- whether the next cell is covered
+-- Whether the next cell is covered.
 wide_by : (last : Bool) (a w c : ℕ) (s : ContentStyle) → 0 < w → takes_two c ≡ true → (a % w + 1 == w) ≡ last → is_wide (pair_by (is_odd (a % w)) last c s) ≡ is_odd ((a + 1) % w)
 wide_by true a w c s some two e =
     let end : a % w + 1 ≡ w = grind (arith, nat_tests) in

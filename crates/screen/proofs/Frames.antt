@@ -1,4 +1,4 @@
--- The end of a frame, and frames as the screen's clauses tell of them.
+-- The end of a frame, and frames as in the screen's contracts.
 use Rattle.std.proofs.Common.{◌≡◌, ℕ, ◌+◌, ◌*◌, ◌<◌, ◌^◌, List, [], ◌∷◌, ◌++◌, Option, Some, None, IfSome, Bool, true, false, refl, sym, ap, ◌∙◌, subst, arith, if◌then◌else◌, length, map, option_map, replicate}
 use Rattle.crossterm_command.specs.declared.color_output.ColorOutput.{ColorOutput}
 use Rattle.crossterm_command.specs.declared.color_output.ColorOutput.TheVariants.{Enabled, Disabled}
@@ -76,11 +76,11 @@ fitting strokes cursor all = all_joined IsFitting strokes (last_strokes cursor) 
 
 -- ---- a screen's frame
 
--- a screen by its parts
+-- A screen by its parts.
 abbrev pub view_of : ℕ → ℕ → Option ColorOutput → List Cell → ℕ → View
 view_of width height drawn shown room = record { width = width; height = height; drawn = option_map (λ colors. record { colors = colors; cells = shown }) drawn; room = room }
 
--- the cells that a frame begins with
+-- The cells that a frame begins with.
 abbrev Begun : ℕ → ℕ → Option ColorOutput → List Cell → ColorOutput → List Cell → Type 0
 Begun width height drawn shown colors before = before ≡ (if is_known drawn colors then shown else replicate (width * height) blank)
 

@@ -102,7 +102,7 @@ begun_at cells at c lt e =
 
 -- ---- a character
 
--- cells with others between
+-- Cells with others between them.
 between : (front xs back : List Cell) (at n : ℕ) → length front ≡ at → length xs ≡ n → take (at + n) (front ++ (xs ++ back)) ≡ front ++ xs
 between front xs back at n long size =
     ap (take (at + n)) (sym (append_assoc front xs back)) ∙ take_at (front ++ xs) back (at + n) (length-append front xs ∙ ap (λ m. m + length xs) long ∙ ap (λ m. at + m) size)
@@ -177,7 +177,7 @@ overwritten_more cells (x ∷ xs) (y ∷ ys) at n size le p =
     ap (λ k. overwritten (overwritten cells at (x ∷ xs)) (at + k) (y ∷ ys)) (sym size)
     ∙ more_by cells xs ys x y at (omega (arith, le, size)) p
 
--- As many cells stand after it.
+-- An overwriting keeps the number of cells.
 pub overwritten_length : (cells others : List Cell) (at : ℕ) → at + length others ≤ length cells → length (overwritten cells at others) ≡ length cells
 overwritten_length cells [] at le = refl
 overwritten_length cells (x ∷ xs) at le =

@@ -93,7 +93,7 @@ columns_joined (x ∷ xs) ys = ap (λ n. columns x + n) (columns_joined xs ys) �
 
 -- ---- a text on its way into cells
 
--- So many characters were read and so many columns taken, and what was written of them stands in the cells.
+-- After `n` characters were read and `count` columns taken, the cells have what was written of them.
 pub record IsWritten (r : Option ℕ) (raw : List ℕ) (room at : ℕ) (s : ContentStyle) (old : List Cell) (n count : ℕ) (cells : List Cell) : Type 0 where
   pub fits : count ≤ room
   pub taken : count ≡ text_columns (edited r (take n raw))

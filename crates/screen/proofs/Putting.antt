@@ -81,7 +81,7 @@ puts_whole colors strokes a b c p q e n o s t =
     subst (λ k. Appends a c (text_of (tokens_of k strokes))) e
     (passes_whole p.waiting.bytes q.waiting.bytes p.fault q.fault (text_of (tokens_of p.colors strokes)) a b c n o s.1 t)
 
--- Strokes that a new pen put, where there was a fault.
+-- Strokes that a new pen put before a fault.
 pub puts_front : (colors : ColorOutput) (strokes : List Stroke) (a b c : Known) (p q : Pen) → p.colors ≡ colors → p.waiting.bytes ≡ [] → p.fault ≡ None → Puts strokes a p b q
     → Breaks q.waiting.bytes q.fault b c → AppendsFront a c (text_of (tokens_of colors strokes))
 puts_front colors strokes a b c p q e n o s t =

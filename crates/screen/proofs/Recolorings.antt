@@ -17,7 +17,7 @@ use Rattle.screen.specs.declared.settings.Setting.{Setting}
 use Rattle.screen.specs.declared.settings.Setting.TheVariants as setting
 use Rattle.screen.specs.inside.Settings.{Changes, HasSameRest, Recolors, Sets, is_kept, written}
 
--- Nothing is written exactly where the style is set.
+-- Nothing is written exactly if the style is already set.
 pub kept_there : (set : Option ContentStyle) (to : ContentStyle) (how : Setting) → Sets set to how → (is_kept how ≡ true) ↔ (set ≡ Some to)
 kept_there None to how s = ((λ k. let no : false ≡ true = sym (ap is_kept s) ∙ k in cc), (λ e. cc))
 kept_there (Some from) to setting.Kept s = ((λ k. ap Some s), (λ e. refl))
@@ -26,11 +26,11 @@ kept_there (Some from) to (setting.Whole t) s = ((λ k. cc), (λ e. absurd (s.0 
 
 -- ---- colours before attributes
 
--- a style in other colours
+-- A style in other colours.
 abbrev in_colors : Option Color → Option Color → Option Color → Style → Style
 in_colors f b u s = record s { foreground = f; background = b; underline_color = u }
 
--- the look of a colour that was set, or wasn't
+-- The look of a colour that was set, or wasn't.
 abbrev changed : Option Color → Option Color → Option Color
 changed None o = o
 changed (Some c) o = shade c
@@ -49,7 +49,7 @@ colors_set (Some f) None (Some u) acts s = refl
 colors_set (Some f) (Some b) None acts s = refl
 colors_set (Some f) (Some b) (Some u) acts s = refl
 
--- Where colours aren't written, they leave the plain style plain.
+-- Colours that aren't written leave the plain style plain.
 colors_unset : (f b u : Option Color) (acts : List Act) → after_acts Disabled (colors_then f b u acts) plain ≡ after_acts Disabled acts plain
 colors_unset None None None acts = refl
 colors_unset None None (Some u) acts = refl
@@ -89,7 +89,7 @@ no_attributes s = refl
 
 -- ---- looks
 
--- the look of a colour, or of none
+-- The look of a colour, or of none.
 abbrev seen_in : Option Color → Option Color
 seen_in o = changed o None
 
@@ -129,7 +129,7 @@ recolored_enabled from to change rest h =
 looks_disabled : (s : ContentStyle) → look Disabled s ≡ after_acts Disabled (attribute_acts s.attributes.0) plain
 looks_disabled s = colors_unset s.foreground_color s.background_color s.underline_color (attribute_acts s.attributes.0)
 
--- what colours make of a look: nothing, where they aren't written
+-- The look that a change of colours gives. It is unchanged if colours aren't written.
 abbrev pub recolored_by : ColorOutput → ContentStyle → Style → Style
 recolored_by Enabled change s = after_acts Enabled (style_acts change) s
 recolored_by Disabled change s = s

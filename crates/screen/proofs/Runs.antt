@@ -188,7 +188,7 @@ moved_if : (colors : ColorOutput) (there : Bool) (row column : ℕ) (g : Grid) �
 moved_if colors true row column g r k rs ks h = ap (λ o. Some (record g { cursor = o })) (h refl)
 moved_if colors false row column g r k rs ks h = moved row column g r k rs ks
 
--- A style that is set where another one is set.
+-- A style that is set after another one.
 styled_from : (colors : ColorOutput) (set : Option ContentStyle) (to : ContentStyle) (how : Setting) (g : Grid) → Sets set to how → Fits how → ((s : ContentStyle) → set ≡ Some s → g.style ≡ look colors s)
     → run (tokens_of colors (style_strokes how)) g ≡ Some (record g { style = look colors to })
 styled_from colors None to setting.Kept g is fits h = cc

@@ -56,11 +56,11 @@ starts_fitting false = (tt, (tt, (tt, tt)))
 
 -- ---- a cell
 
--- what stands in the grid before a place is visited
+-- The grid's cells before the place `k` is visited.
 abbrev stage : ColorOutput → List Cell → List Cell → ℕ → List Square
 stage colors before after k = take k (map (seen colors) after) ++ rest (drop k after) (map (seen colors) (drop k before))
 
--- What stands where a cell isn't written.
+-- The cells of the next stage, if the cell isn't written.
 stage_kept : (colors : ColorOutput) (before after : List Cell) (k : ℕ) (b c : Cell) → k < length before → k < length after → get_or before k b ≡ b → get_or after k c ≡ c
     → (covered : Bool) → is_covered c ≡ covered → (covered ≡ false → b ≡ c) → At colors before k → At colors after k → stage colors before after k ≡ stage colors before after (k + 1)
 stage_kept colors before after k b c lb la eb ec covered cv same ab aa =
@@ -96,7 +96,7 @@ keeps known k width height before after cursor style strokes b c lb la eb ec e p
       },
     )
 
--- What stands where a cell is painted.
+-- The cells of the next stage, after the cell is painted.
 stage_painted : (colors : ColorOutput) (before after : List Cell) (cells : List Square) (k : ℕ) (b c : Cell) → k < length before → k < length after → get_or before k b ≡ b → get_or after k c ≡ c
     → is_covered c ≡ false → At colors after k → cells ≡ stage colors before after k → overwritten cells k (squares colors c) ≡ stage colors before after (k + 1)
 stage_painted colors before after cells k b c lb la eb ec cv aa is =
@@ -112,7 +112,7 @@ stage_painted colors before after cells k b c lb la eb ec cv aa is =
     ∙ sym (append_assoc front (seen colors c ∷ []) (rest (drop (k + 1) after) later))
     ∙ ap (λ l. l ++ rest (drop (k + 1) after) later) (sym (grown colors after k c la ec))
 
--- As many cells stand in each stage.
+-- Each stage has the same number of cells.
 stage_length : (colors : ColorOutput) (before after : List Cell) (k : ℕ) → length before ≡ length after → k ≤ length after → length (stage colors before after k) ≡ length after
 stage_length colors before after k same le =
     let old = map (seen colors) (drop k before) in

@@ -41,7 +41,7 @@ how_many_joined kind (x ∷ xs) ys =
       | false ↦ more
     ]
 
--- Where none is of the kind.
+-- If none is of the kind, the count is 0.
 none_of : {X : Type 0} (kind : X → Bool) (xs : List X) → AllByRecursion (λ x. kind x ≡ false) xs → how_many kind xs ≡ 0
 none_of kind [] a = refl
 none_of kind (x ∷ xs) a = ap (λ b. cond b (how_many kind xs + 1) (how_many kind xs)) a.0 ∙ none_of kind xs a.1
@@ -138,7 +138,7 @@ changes_of colors (s ∷ strokes) =
 
 -- ---- how long a style is
 
--- Where all are of the kind.
+-- No more are of a kind than there are elements.
 all_of : {X : Type 0} (kind : X → Bool) (xs : List X) → how_many kind xs ≤ length xs
 all_of kind [] = omega arith
 all_of kind (x ∷ xs) =
@@ -266,7 +266,8 @@ continues_from R [] x y c = c
 continues_from R (a ∷ []) x y c = c
 continues_from R (a ∷ b ∷ xs) x y c = continues_from R (b ∷ xs) x y c
 
--- One more, by whether the last one stands in the relation to it, and a count that is one more only where it doesn't.
+-- One more element: whether the last one is related to it decides if there is one more run, and the count grows only
+-- then.
 runs_push : {X : Type 0} (R : X → X → Type 0) (xs : List X) (y : X) (n m e : ℕ) (there : Bool) → (there ≡ true → Continues R xs y) → (Continues R xs y → there ≡ true) → Runs R xs n → m ≤ n + e
     → (k : ℕ) × Runs R (xs ++ y ∷ []) k × (m + cond there 0 1 ≤ k + e)
 runs_push R xs y n m e true goes back r le = (n, runs_more R xs y n (goes refl) r, omega (arith, le))
@@ -369,7 +370,7 @@ cell_inner false setting.Kept column row c = (tt, (tt, tt))
 cell_inner false (setting.Colors change) column row c = (tt, (tt, (tt, tt)))
 cell_inner false (setting.Whole s) column row c = (tt, (tt, (tt, tt)))
 
--- A place for which a character is printed: it is moved to and its style is set only where that has to be.
+-- A place for which a character is printed: the cursor moves and the style is set only if that is necessary.
 pub spares_painted : (known : Bool) (width : ℕ) (before after : List Cell) (k : ℕ) (cursor : Option ℕ) (style : Option ContentStyle) (strokes : List Stroke) (b c : Cell) (there : Bool) (how : Setting) (column row : ℕ)
     → k < length before → k < length after → get_or before k b ≡ b → get_or after k c ≡ c → HasToBePrinted b c → (there ≡ true) ↔ (cursor ≡ Some k) → Sets style c.style how
     → Sparing known width before after k cursor style strokes
@@ -421,7 +422,7 @@ last_others : (cursor : Option (ℕ × ℕ)) → how_many is_other_stroke (last_
 last_others None = refl
 last_others (Some place) = refl
 
--- the last strokes before the update's end
+-- The last strokes before the update's end.
 abbrev closing : Option (ℕ × ℕ) → List Stroke
 closing cursor = stroke.Style no_style ∷ cursor_strokes cursor
 

@@ -44,7 +44,7 @@ not_second colors c e = kept_start (is_covered c) (is_wide c) c.symbol (look col
 pub seen_covered : (colors : ColorOutput) (c : Cell) → is_covered c ≡ true → seen colors c ≡ Second
 seen_covered colors c e = ap (λ b. cond b Second (cond (is_wide c) (First c.symbol (look colors c.style)) (Whole c.symbol (look colors c.style)))) e
 
--- the cells that a character takes
+-- The cells that a character takes.
 abbrev pub squares : ColorOutput → Cell → List Square
 squares colors c = cond (is_wide c) (First c.symbol (look colors c.style) ∷ Second ∷ []) (Whole c.symbol (look colors c.style) ∷ [])
 
@@ -82,7 +82,7 @@ begun_drop_two : (xs : List Square) → drop 2 (begun xs) ≡ drop 1 (drop 1 xs)
 begun_drop_two [] = refl
 begun_drop_two (x ∷ xs) = refl
 
--- ---- what stands from a place on
+-- ---- the cells from a place on
 
 abbrev behind : Bool → List Square → List Square
 behind first old = cond first (Second ∷ begun (drop 1 old)) (begun old)
@@ -90,7 +90,7 @@ behind first old = cond first (Second ∷ begun (drop 1 old)) (begun old)
 rest_by : (first : Bool) (after : List Cell) (old : List Square) → ArePaired first after → rest after old ≡ behind first old
 rest_by first after old p = ap (λ b. behind b old) (begins first after p)
 
--- Where nothing changes all stands as it was.
+-- If nothing changes, all cells stay as they were.
 pub rest_same : (colors : ColorOutput) (first : Bool) (after before : List Cell) → ArePaired first after → ArePaired first before → rest after (map (seen colors) before) ≡ map (seen colors) before
 rest_same colors false after before a b = rest_by false after (map (seen colors) before) a ∙ begun_same colors before b
 rest_same colors true after before a b = rest_by true after (map (seen colors) before) a ∙ sym (second_there colors before b)
@@ -121,7 +121,7 @@ overwritten_behind cells front back others k e long whole =
     ∙ ap (λ n. front ++ (others ++ begun (drop (n + length others) (front ++ back)))) (sym long)
     ∙ ap (λ l. front ++ (others ++ begun l)) (drop-append-add front back (length others))
 
--- A cell that is painted, with what stands behind it.
+-- A cell that is painted, with the cells behind it.
 painted_by : (colors : ColorOutput) (first : Bool) (c : Cell) (front old : List Square) → is_covered c ≡ false → is_wide c ≡ first
     → front ++ (squares colors c ++ begun (drop (length (squares colors c)) (begun old))) ≡ front ++ (seen colors c ∷ behind first (drop 1 old))
 painted_by colors false c front old e w =
@@ -150,7 +150,8 @@ ended_push [] x = refl
 ended_push (a ∷ []) x = refl
 ended_push (a ∷ b ∷ xs) x = ap (λ l. a ∷ l) (ended_push (b ∷ xs) x)
 
--- Whether the cell before a place is the first one of a character, what stands from the place on, and that the cells before it end with it.
+-- The cells from the place `k` on are paired, and `first` is whether the cell before them is wide. If it isn't, the
+-- cells before end with a whole character.
 pub record At (colors : ColorOutput) (cells : List Cell) (k : ℕ) : Type 0 where
   pub first : Bool
   pub paired : ArePaired first (drop k cells)

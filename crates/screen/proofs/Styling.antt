@@ -19,7 +19,7 @@ out_by : (rows columns : Bool) (s : ContentStyle) (c : Cell) → rows ≡ false 
 out_by true columns s c e = cc
 out_by false columns s c e = refl
 
--- Cells that stand in no row of the rectangle stay.
+-- Cells in no row of the rectangle stay.
 styled_out : (w : ℕ) (r : Rect) (s : ContentStyle) (at : ℕ) (cells : List Cell) → ((k : ℕ) → at ≤ k → k < at + length cells → has r.y r.height (k / w) ≡ false)
     → styled_from w r s at cells ≡ cells
 styled_out w r s at [] out = refl
@@ -47,7 +47,7 @@ some_width (suc w) y k lt = omega arith
 above_out : (first count row : ℕ) → row < first → has first count row ≡ false
 above_out first count row lt = grind (arith, nat_tests)
 
--- the row behind the last one that there is of the rectangle
+-- The row behind the last row of the rectangle.
 abbrev pub bottom : ℕ → Rect → ℕ
 bottom height r = cond (nat_lt height (r.y + r.height)) height (r.y + r.height)
 

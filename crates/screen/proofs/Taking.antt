@@ -116,7 +116,7 @@ room_in row h w column n r le =
     let turned : h * w ≡ w * h = grind arith in
     omega (arith, more, split, turned, le)
 
--- Cells that stand in the place of as many stay laid out.
+-- Cells that replace as many others stay laid out.
 pub kept : (w h n : ℕ) (items new : List Cell) → length items ≡ n → length items ≡ w * h → length new ≡ length items → AreLaidOut w new
     → (length (take n (new ++ drop (length new) items)) ≡ w * h) × AreLaidOut w (take n (new ++ drop (length new) items))
 kept w h n items new count whole same laid =

@@ -32,7 +32,7 @@ printed_plain : (c : ℕ) → (takes_one c ≡ true) ⊎ (takes_two c ≡ true) 
 printed_plain c (inl f) e = let no : true ≡ false = sym f ∙ ap takes_one e ∙ escape_takes_no_cell in cc
 printed_plain c (inr f) e = let no : true ≡ false = sym f ∙ ap takes_two e ∙ escape_takes_no_two in cc
 
--- two numbers with a semicolon between
+-- Two numbers with a semicolon between them.
 two_formed : (m n : ℕ) → AllByRecursion IsParameter (decimal m ++ (codes ";" ++ decimal n))
 two_formed m n =
     all_joined IsParameter (decimal m) (codes ";" ++ decimal n) (decimal_is_parameters m)

@@ -1,4 +1,4 @@
--- Cells: a character in its style.
+-- Cells of a buffer: a character in its style.
 use Rattle.std.specs.Prelude.{◌≡◌, ◌⊎◌, ℕ, ◌+◌, ◌<◌, ◌%◌, ◌==◌, Bool, List, [], ◌∷◌, Option, Some, None, true, false, if◌then◌else◌, get_or, length, nat_le}
 use Rattle.std.specs.Char.{IsScalar}
 use Rattle.std.specs.List.{All}
@@ -13,36 +13,36 @@ use Rattle.screen.specs.declared.faults.CellFault.TheVariants.{Control, NoWidth,
 use Rattle.screen.specs.Grids.{Square, takes_one, takes_two}
 use Rattle.screen.specs.Grids.Square.{Whole, First, Second}
 
--- A character in its style.
+-- A cell of a buffer: a character and its style.
 pub record Cell : Type 0 where
   pub symbol : ℕ
   pub style : ContentStyle
 
--- a space in the empty style
+-- A space in the empty style.
 abbrev pub blank : Cell
 blank = record { symbol = 32; style = no_style }
 
--- how a style looks
+-- The look that a style gives: what its colours and attributes make of the plain look.
 abbrev pub look : ColorOutput → ContentStyle → Style
 look colors s = after_acts colors (style_acts s) plain
 
--- whether a cell is the second one of a character that takes two: such a cell has the character 0
+-- Whether a cell is the second one of a wide character. Such a cell has the character 0.
 abbrev pub is_covered : Cell → Bool
 is_covered c = c.symbol == 0
 
--- whether a cell is the first one of a character that takes two
+-- Whether a cell's character takes two cells, so that it is the first of them.
 abbrev pub is_wide : Cell → Bool
 is_wide c = takes_two c.symbol
 
--- the last place that the character at a place takes
+-- The last place that the character of the cell at a place takes.
 abbrev pub last_of : ℕ → Cell → ℕ
 last_of at c = if is_wide c then at + 1 else at
 
--- how a cell looks
+-- How a cell looks on a terminal: as a second cell, a first cell, or the whole of a character.
 abbrev pub seen : ColorOutput → Cell → Square
 seen colors c = if is_covered c then Second else (if is_wide c then First c.symbol (look colors c.style) else Whole c.symbol (look colors c.style))
 
--- A character that takes one cell or two.
+-- A Unicode scalar value that takes one cell or two.
 abbrev pub IsPrinted : ℕ → Type 0
 IsPrinted c = IsScalar c × ((takes_one c ≡ true) ⊎ (takes_two c ≡ true))
 
@@ -50,26 +50,28 @@ IsPrinted c = IsScalar c × ((takes_one c ≡ true) ⊎ (takes_two c ≡ true))
 abbrev pub Stands : Cell → Type 0
 Stands c = (is_covered c ≡ true) ⊎ ((is_covered c ≡ false) × IsPrinted c.symbol)
 
--- Each first cell of a character has the second one behind it, and no other cell is covered. Whether the cell before is such a first one is told.
+-- Each wide cell is followed by a covered one, and no other cell is covered. `first` says if the cell before these is
+-- wide.
 abbrev pub ArePaired : Bool → List Cell → Type 0
 ArePaired first [] = first ≡ false
 ArePaired first (c ∷ cells) = (is_covered c ≡ first) × ArePaired (is_wide c) cells
 
--- In no row a character begins in the last cell and goes on in the next row.
+-- No wide character begins in the last cell of a row.
 abbrev pub StayInRows : ℕ → List Cell → Type 0
 StayInRows width cells = (k : ℕ) (d : Cell) → k < length cells → is_wide (get_or cells k d) ≡ true → ((k + 1) % width == 0) ≡ false
 
--- Cells of rows of a width: each character has all of its cells, side by side in one row.
+-- Cells in rows of this width. Each character has all of its cells, side by side in one row.
 pub record AreLaidOut (width : ℕ) (cells : List Cell) : Type 0 where
   pub stand : All Stands cells
   pub paired : ArePaired false cells
   pub rows : StayInRows width cells
 
--- why a character can't stand in cells, by its width
+-- The fault of a character of this width: `Control` without a width, `NoWidth` if it is 0, `Wide` above 2, otherwise
+-- `None`.
 abbrev pub fault_of : Option ℕ → Option CellFault
 fault_of None = Some Control
 fault_of (Some width) = if width == 0 then Some NoWidth else (if nat_le width 2 then None else Some Wide)
 
--- why a character can't stand in cells, where it can't
+-- Why cells can't hold a character, or `None` if it takes one cell or two.
 abbrev pub symbol_fault : ℕ → Option CellFault
 symbol_fault c = fault_of (char_width false c)

@@ -20,15 +20,15 @@ use Rattle.screen.specs.Updates.{HasToBePrinted, IsOneUpdate, IsSparing}
 
 -- ---- what is shown
 
--- The grid has the size.
+-- The grid has this width and height, and a cell for each place.
 abbrev pub HasSize : ℕ → ℕ → Grid → Type 0
 HasSize width height g = (g.width ≡ width) × (g.height ≡ height) × (length g.cells ≡ width * height)
 
--- Each cell of the grid is the picture's, in looks.
+-- The grid shows exactly these cells, each with its character and its look.
 abbrev pub ShowsCells : ColorOutput → List Cell → Grid → Type 0
 ShowsCells colors cells g = g.cells ≡ map (seen colors) cells
 
--- what was drawn is shown; where nothing is known, any cells are
+-- The grid shows the cells that were drawn. If none were drawn, it may show any.
 abbrev pub ShowsDrawn : Option Drawn → Grid → Type 0
 ShowsDrawn None g = ⊤
 ShowsDrawn (Some drawn) g = ShowsCells drawn.colors drawn.cells g
@@ -37,84 +37,92 @@ ShowsDrawn (Some drawn) g = ShowsCells drawn.colors drawn.cells g
 abbrev pub MayShow : View → Grid → Type 0
 MayShow s g = HasSize s.width s.height g × ShowsDrawn s.drawn g
 
--- The cursor is shown at a column and a row, or hidden.
+-- The cursor is visible at this column and row, or hidden if none are given.
 abbrev pub HasCursor : Option (ℕ × ℕ) → Grid → Type 0
 HasCursor None g = g.visible ≡ false
 HasCursor (Some place) g = (g.cursor ≡ Some (place.1 * g.width + place.0)) × (g.visible ≡ true)
 
--- The grid shows the picture with the cursor where it was asked to be, and the style that is set is plain.
+-- The grid shows the picture with the cursor as asked for, and the style that is set is plain.
 abbrev pub Shows : ColorOutput → Picture → Option (ℕ × ℕ) → Grid → Type 0
 Shows colors p cursor g = HasSize p.width p.height g × ShowsCells colors p.cells g × HasCursor cursor g × (g.style ≡ plain)
 
--- From each grid that the screen may stand for, the tokens lead to one that shows the picture.
+-- From each grid that the terminal may show, the tokens lead to one that shows the picture.
 abbrev pub Turns : View → ColorOutput → Picture → Option (ℕ × ℕ) → List Token → Type 0
 Turns s colors p cursor ts = (g : Grid) → MayShow s g → (h : Grid) × (run ts g ≡ Some h) × Shows colors p cursor h
 
 -- ---- how much is printed
 
--- how many characters are printed
+-- How many of the tokens are characters.
 abbrev pub printed : List Token → ℕ
 printed [] = 0
 printed (Char c ∷ ts) = printed ts + 1
 printed (t ∷ ts) = printed ts
 
--- In two lists of cells so many have to be printed.
+-- The lists have the same length, and a character has to be printed for exactly `n` of the cells.
 abbrev pub DifferAt : List Cell → List Cell → ℕ → Type 0
 DifferAt [] [] n = n ≡ 0
 DifferAt (a ∷ before) (b ∷ after) n =
     ((HasToBePrinted a b → ⊥) × DifferAt before after n) ⊎ (HasToBePrinted a b × (m : ℕ) × (n ≡ m + 1) × DifferAt before after m)
 DifferAt before after n = ⊥
 
--- Both write colours, or neither does.
+-- Whether both write colours, or neither does.
 abbrev pub same_output : ColorOutput → ColorOutput → Bool
 same_output Enabled Enabled = true
 same_output Disabled Disabled = true
 same_output a b = false
 
+-- A blank cell for each place of the screen.
 abbrev blanks : View → List Cell
 blanks s = replicate (s.width * s.height) blank
 
+-- The cells that were drawn with the same choice of colours as now, or blank ones if there are none.
 abbrev pub cells_drawn : View → Option Drawn → ColorOutput → List Cell
 cells_drawn s None colors = blanks s
 cells_drawn s (Some drawn) colors = if same_output drawn.colors colors then drawn.cells else blanks s
 
--- whether a frame begins with cells that are known
+-- Whether cells were drawn with the same choice of colours as now.
 abbrev pub knows_cells : Option Drawn → ColorOutput → Bool
 knows_cells None colors = false
 knows_cells (Some drawn) colors = same_output drawn.colors colors
 
--- The cells that a frame begins with: those drawn last with the same choice of colours. Otherwise all is erased, and they are blank.
+-- The cells that a frame begins with: those drawn last with the same choice of colours. Otherwise all is erased, and
+-- they are blank.
 abbrev pub cells_before : View → ColorOutput → List Cell
 cells_before s colors = cells_drawn s s.drawn colors
 
 -- ---- a frame
 
--- The tokens of a frame: they show the picture, and print a character for each place where the cells differ, and no other. They are one
--- synchronized update, and sparing.
+-- The tokens of one frame of the picture.
 pub record IsFrame (s : View) (colors : ColorOutput) (p : Picture) (cursor : Option (ℕ × ℕ)) (ts : List Token) : Type 0 where
+  -- The tokens lead from each grid that the terminal may show to one that shows the picture.
   pub turns : Turns s colors p cursor ts
+  -- The tokens print as many characters as there are cells that have to be printed.
   pub count : DifferAt (cells_before s colors) p.cells (printed ts)
+  -- The tokens are one synchronized update.
   pub update : IsOneUpdate ts
+  -- The tokens have no more moves, styles and other control functions than a frame needs.
   pub sparing : IsSparing (knows_cells s.drawn colors) p.width (cells_before s colors) p.cells cursor ts
 
 -- ---- what is refused
 
--- The screen has the picture's size.
+-- The picture has the screen's width and height.
 abbrev pub IsSameSize : View → Picture → Type 0
 IsSameSize s p = (p.width ≡ s.width) × (p.height ≡ s.height)
 
--- The cursor's place is within the screen, or it is to be hidden.
+-- The cursor's place is inside the screen, or there is none.
 abbrev pub CursorFits : View → Option (ℕ × ℕ) → Type 0
 CursorFits s cursor = IfSome cursor (λ place. (place.0 < s.width) × (place.1 < s.height))
 
--- The screen after a frame, and after an error.
+-- The screen after these cells were drawn.
 abbrev pub with_drawn : View → ColorOutput → List Cell → View
 with_drawn s colors cells = record s { drawn = Some (record { colors = colors; cells = cells }) }
 
+-- The screen if it isn't known what the terminal shows.
 abbrev pub forgotten : View → View
 forgotten s = record s { drawn = None }
 
--- Why a frame wasn't drawn, what the screen is then, and what was written: nothing, or a beginning of a frame and nothing else.
+-- Why a frame wasn't drawn. At a wrong size or cursor, nothing is written and the screen is unchanged.
+-- After a fault of a command, the screen is forgotten, and a prefix of the frame's text was written.
 abbrev pub NotDrawn : DrawFault → View → View → ColorOutput → Picture → Option (ℕ × ℕ) → Option (List ℕ) → Option (List ℕ) → Type 0
 NotDrawn Size s t colors p cursor old new = (IsSameSize s p → ⊥) × (t ≡ s) × (new ≡ old)
 NotDrawn Cursor s t colors p cursor old new = IsSameSize s p × (CursorFits s cursor → ⊥) × (t ≡ s) × (new ≡ old)
@@ -122,7 +130,7 @@ NotDrawn (Command fault) s t colors p cursor old new =
     IsSameSize s p × CursorFits s cursor × (t ≡ forgotten s)
     × (ts : List Token) × IsFrame s colors p cursor ts × AppendsFront old new (text_of ts)
 
--- The error that stands for it: what a command's fault becomes, else one of the kind `InvalidInput`.
+-- The error that a fault becomes: the one of the command's fault, otherwise one of the kind `InvalidInput`.
 abbrev pub Answers : DrawFault → Error → Type 0
 Answers Size answer = error_kind answer ≡ InvalidInput
 Answers Cursor answer = error_kind answer ≡ InvalidInput

@@ -1,4 +1,4 @@
--- A screen: its size, and the cells that the terminal shows.
+-- A screen: its size, and what is known of the cells that the terminal shows.
 use Rattle.std.specs.Prelude.{ℕ, List, Option}
 use Rattle.crossterm_command.specs.declared.color_output.ColorOutput.{ColorOutput}
 use Rattle.screen.specs.Cells.{Cell}
@@ -12,6 +12,7 @@ pub record Drawn : Type 0 where
 pub record View : Type 0 where
   pub width : ℕ
   pub height : ℕ
+  -- What was drawn last, or `None` if nothing is known of the terminal's cells.
   pub drawn : Option Drawn
-  -- how many cells there is memory for
+  -- How many cells there is memory for.
   pub room : ℕ

@@ -1,4 +1,4 @@
-//! Where cells differ.
+//! The next place at which cells differ.
 ghost use Rattle.std.specs.Prelude.{◌≡◌, ◌≢◌, ◌<◌, ◌≤◌, ℕ, get_or, length};
 ghost use Rattle.screen.specs.Cells.{blank};
 

@@ -12,8 +12,8 @@
 //!
 //! The promise, for each terminal that does what `specs/Grids.antt` says and has the widths of the crate `unicode_width`: take any grid of
 //! the screen's size that shows the buffer that was drawn last, with any cursor and any style. What `draw` writes leads from it to a grid
-//! that shows the new buffer cell for cell. Its cursor is where it was asked to be. At the beginning, after `resize`, `forget` and an error
-//! nothing is known of the cells, and the same holds for every grid of the size.
+//! that shows the new buffer cell for cell. Its cursor is at the place that was asked for. At the beginning, after `resize`,
+//! `forget` and an error nothing is known of the cells, and the same holds for every grid of the size.
 //!
 //! A character of a buffer takes one column or two. One of two columns has two cells: its own, and behind it a covered one with the character 0
 //! and the same style. Both are in one row. What is written over one of the two leaves a space in the other, in the style that it had.
@@ -34,7 +34,7 @@
 //!
 //! | Proved | By the contract of |
 //! |---|---|
-//! | a frame shows the buffer (the fourth theorem): it leads from each grid that shows the last one to a grid that shows this one, with the cursor where it was asked to be, and prints one character for each cell that differs and no other | `Screen::draw` |
+//! | a frame shows the buffer (the fourth theorem): it leads from each grid that shows the last one to a grid that shows this one, with the cursor at the place that was asked for, and prints one character for each cell that differs and no other | `Screen::draw` |
 //! | a frame is one synchronized update; it has at most one move for each run of characters side by side, one setting of the style for each run of characters in one style, and a handful at its ends | `Screen::draw` |
 //! | a screen has as much memory after a frame as before; screens and buffers give none back, and a size that they have memory for isn't refused | `Screen::{draw, new, resize}`, `Buffer::{new, resize, fill, set, print, print_replacing, print_without_marks, print_in, border, set_style, fill_area}` |
 //! | a wrong size or place writes nothing and changes nothing; at any other error a beginning of the frame was written and nothing else, and nothing is known of the cells | `Screen::draw` |
@@ -53,23 +53,23 @@
 //! | the chosen entry of a list is in sight, no row is empty as long as an entry above is out of sight, and the list scrolls no further than it must | `ListState::{choose, up, down, page_up, page_down, first, last, resize}` |
 //! | as an `io::Error`, a fault has the kind `InvalidInput`; the fault of a command is the error that it becomes by itself | `From<CellFault>` and `From<DrawFault>` of `io::Error` |
 //!
-//! What to believe, in the order in which it reads (`specs/`), and where it is proved:
+//! What to believe, in the order in which it reads (`specs/`), and the contracts that it is proved by:
 //!
 //! | Definitions | Lines | Of | Contract |
 //! |---|---|---|---|
-//! | `Grids` | 158 | a terminal as a grid of cells, and what each token does to it | |
-//! | `Cells` | 75 | what a cell is and how it looks, which cells are paired, and which characters fit | `Cell::{new, blank, symbol, style}`, `Buffer::{cells, fill, set}` |
-//! | `Overwriting` | 42 | the cells that a character takes, and what becomes of the halves beside them | `Buffer::{set, print, print_replacing, print_without_marks}` |
+//! | `Grids` | 169 | a terminal as a grid of cells, and what each token does to it | |
+//! | `Cells` | 77 | what a cell is and how it looks, which cells are paired, and which characters fit | `Cell::{new, blank, symbol, style}`, `Buffer::{cells, fill, set}` |
+//! | `Overwriting` | 44 | the cells that a character takes, and what becomes of the halves beside them | `Buffer::{set, print, print_replacing, print_without_marks}` |
 //! | `Texts` | 53 | the cells of a text's characters, what has room, and what is replaced in it or left out | `Buffer::{print, print_replacing, print_without_marks}` |
-//! | `Buffers` | 80 | the pictures that buffers hold | `Buffer` |
-//! | `Rects` | 38 | a rectangle's columns and rows, what two have in common, what is left without a margin, and two parts | `Rect` |
-//! | `Alignments` | 36 | how many columns of a rectangle a buffer has, and the one that a text begins in | `Buffer::print_in` |
-//! | `Borders` | 66 | the characters of a border, one after another, and when there is none | `Buffer::border` |
-//! | `Areas` | 45 | a style over a rectangle, and a character in all places of one | `Buffer::{set_style, fill_area}` |
-//! | `Scrolls` | 49 | which entries of a list are in sight, and how far it scrolls | `ListState` |
-//! | `Screens` | 17 | a screen, and what it drew last | `Screen` |
-//! | `Updates` | 115 | which characters have to be printed, and how few moves and styles do it | `Screen::draw` |
-//! | `Drawings` | 129 | what a frame does to each grid, how many characters it prints, and what is refused | `Screen::draw`, `From<DrawFault>` of `io::Error` |
+//! | `Buffers` | 81 | the pictures that buffers hold | `Buffer` |
+//! | `Rects` | 41 | a rectangle's columns and rows, what two have in common, what is left without a margin, and two parts | `Rect` |
+//! | `Alignments` | 39 | how many columns of a rectangle a buffer has, and the one that a text begins in | `Buffer::print_in` |
+//! | `Borders` | 70 | the characters of a border, one after another, and when there is none | `Buffer::border` |
+//! | `Areas` | 46 | a style over a rectangle, and a character in all places of one | `Buffer::{set_style, fill_area}` |
+//! | `Scrolls` | 54 | which entries of a list are in sight, and how far it scrolls | `ListState` |
+//! | `Screens` | 18 | a screen, and what it drew last | `Screen` |
+//! | `Updates` | 125 | which characters have to be printed, and how few moves and styles do it | `Screen::draw` |
+//! | `Drawings` | 137 | what a frame does to each grid, how many characters it prints, and what is refused | `Screen::draw`, `From<DrawFault>` of `io::Error` |
 //!
 //! `specs/inside/` says the same of a frame's parts, and no public clause cites it.
 //!

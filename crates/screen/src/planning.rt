@@ -151,7 +151,7 @@ fn scan<W: io::Write>(
     }
 }
 
-/// Puts the cursor where it is asked to be.
+/// Puts the cursor at the place that was asked for.
 fn put_cursor<W: io::Write>(writer: &mut W, pen: &mut Pen, cursor: Option<(u16, u16)>)
     ensures { Puts (cursor_strokes cursor) (W.contents writer.old) pen.old (W.contents writer.new) pen.new }
 {

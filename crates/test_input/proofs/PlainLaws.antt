@@ -30,7 +30,7 @@ use Rattle.crossterm_parse.proofs.DivisionLaws.{divide_whole, divide_open, nil_u
 use Rattle.crossterm_parse.proofs.GrammarLaws.{digit_apart, bytes_of-append, true_whole, whole_true, nil_not_whole}
 use Rattle.crossterm_parse.proofs.ViewLaws.{decided_is, meant}
 
--- what was found of the first bytes
+-- What was found of the first bytes.
 pub record Found (bytes : List Marked) (part lengths : List ℕ) (events : List Seen) : Type 0 where
   pub parts : List (List Marked)
   pub rest : List Marked
@@ -52,7 +52,7 @@ part_length (m ∷ ms) = ap suc (part_length ms)
 part_whole : (rest : List Marked) (part : List ℕ) (m : Marked) → IsUndecided Whole rest → part ≡ bytes_of rest → is_decided (part ++ m.byte ∷ []) m.pause ≡ is_whole (rest ++ m ∷ [])
 part_whole rest part m h e = rw e (decided_is rest m h)
 
--- one more byte that completes nothing
+-- One more byte that completes nothing.
 found_open : (bytes : List Marked) (part lengths : List ℕ) (events : List Seen) (m : Marked) → Found bytes part lengths events
     → is_decided (part ++ m.byte ∷ []) m.pause ≡ false → Found (bytes ++ m ∷ []) (part ++ m.byte ∷ []) lengths events
 found_open bytes part lengths events m f more = record {
@@ -65,7 +65,7 @@ found_open bytes part lengths events m f more = record {
   given = f.given;
 }
 
--- one more byte that completes a part
+-- One more byte that completes a part.
 found_whole : (bytes : List Marked) (part lengths : List ℕ) (events : List Seen) (m : Marked) → Found bytes part lengths events
     → is_decided (part ++ m.byte ∷ []) m.pause ≡ true
     → Found (bytes ++ m ∷ []) [] (lengths ++ length (part ++ m.byte ∷ []) ∷ []) (events ++ option_to_list (meaning_seen m.raw (part ++ m.byte ∷ [])))
@@ -81,7 +81,7 @@ found_whole bytes part lengths events m f closed =
       given = rw f.given (ap (λ (es : List Seen). filter_map meaning_of f.parts ++ es) (meant _ f.rest m more) ∙ sym (filter_map-append meaning_of f.parts ((f.rest ++ m ∷ []) ∷ [])));
     }
 
--- the next byte, after which the open bytes are `new`
+-- The next byte, after which the open bytes are `new`.
 pub next_open : (bytes : List Marked) (i : ℕ) (d : Marked) (part new lengths : List ℕ) (events : List Seen) → i < length bytes
     → Found (take i bytes) part lengths events → new ≡ part ++ (get_or bytes i d).byte ∷ [] → is_decided new (get_or bytes i d).pause ≡ false
     → Found (take (i + 1) bytes) new lengths events
@@ -94,7 +94,7 @@ pub next_whole : (bytes : List Marked) (i : ℕ) (d : Marked) (part new lengths 
 next_whole bytes i d part new lengths events l f more closed =
     rw (take_more bytes i d l, more) (found_whole (take i bytes) part lengths events (get_or bytes i d) f (rw (sym more) closed))
 
--- a character that goes on
+-- A character that goes on.
 pub ends_further : (n b : ℕ) (bs : List ℕ) → 0 < n → ends_character n (b ∷ bs) ≡ cond (is_continuing b) (ends_character (n - 1) bs) (is_nil bs)
 ends_further zero b bs l = absurd (omega arith)
 ends_further (suc n) b bs l = let e : suc n - 1 ≡ n = omega arith in rw e refl
@@ -105,7 +105,7 @@ ends_on n [] l m h = absurd (omega arith)
 ends_on n (b ∷ bs) l m h =
     ap (λ (xs : List ℕ). ends_character (n - 1) xs) (take_all (length (b ∷ bs) - 1) bs (omega arith)) ∙ sym (ends_further n b bs m ∙ rw h refl)
 
--- one more byte of a numbered sequence
+-- One more byte of a numbered sequence.
 pub number_next : (d new : Parameters) (text : List ℕ) (i b : ℕ) → i < length text → b ≡ get_or text i 0 → new ≡ parameters_after d b → Kept d (take i text) → Kept new (take (i + 1) text)
 number_next d new text i b l is e k =
     let longer : take (i + 1) text ≡ take i text ++ b ∷ [] = take_more text i 0 l ∙ ap (λ (c : ℕ). take i text ++ c ∷ []) (sym is) in
@@ -114,7 +114,7 @@ number_next d new text i b l is e k =
 pub number_over : (d : Parameters) (text : List ℕ) (i : ℕ) → length text ≤ i → Kept d (take i text) → readings_at d ≡ readings_of text
 number_over d text i l k = kept_readings d text (subst (Kept d) (take_all i text l) k)
 
--- one more byte of a number
+-- One more byte of a number.
 pub digit_next : (n : Number) (text : List ℕ) (i b : ℕ) → i < length text → b ≡ get_or text i 0 → Tracks (take i text) n → Tracks (take (i + 1) text) (number_after n b)
 digit_next n text i b l is h =
     let longer : take (i + 1) text ≡ take i text ++ b ∷ [] = take_more text i 0 l ∙ ap (λ (c : ℕ). take i text ++ c ∷ []) (sym is) in
@@ -123,7 +123,7 @@ digit_next n text i b l is h =
 pub digits_over : (n : Number) (text : List ℕ) (i : ℕ) → length text ≤ i → Tracks (take i text) n → reading n ≡ number text
 digits_over n text i l h = tracks_reading text n (subst (λ (bs : List ℕ). Tracks bs n) (take_all i text l) h)
 
--- what a reply means, by its last byte and what stands before it
+-- The meaning of a reply, by its last byte and what is before it.
 pub reply_at : (bytes : List ℕ) → 1 ≤ length bytes
     → reply_meaning bytes ≡ cond (get_or bytes (length bytes - 1) 0 == 99) (Some PrimaryDeviceAttributes) (flags_reply (number (take (length bytes - 1) bytes)))
 reply_at [] h = absurd (omega arith)
@@ -131,12 +131,12 @@ reply_at (b ∷ bs) h =
     ap (λ (l : ℕ). cond (l == 99) (Some PrimaryDeviceAttributes) (flags_reply (number (front_of (b ∷ bs))))) (last_at (b ∷ bs) h)
     ∙ ap (λ (text : List ℕ). cond (get_or (b ∷ bs) (length (b ∷ bs) - 1) 0 == 99) (Some PrimaryDeviceAttributes) (flags_reply (number text))) (front_at (b ∷ bs))
 
--- what is read before the last byte, and that byte
+-- What is read before the last byte, and that byte.
 pub read_at : (means : ℕ → Readings → Option Meaning) (bytes : List ℕ) (r : Readings) → 1 ≤ length bytes → r ≡ readings_of (take (length bytes - 1) bytes)
     → means (get_or bytes (length bytes - 1) 0) r ≡ means (last_of bytes) (readings_of (front_of bytes))
 read_at means bytes r l e = rw (last_at bytes l, front_at bytes, e) refl
 
--- what is meant by bytes that begin with a digit, and with `<`
+-- What is meant by bytes that begin with a digit, and with `<`.
 pub number_at : (raw : Bool) (bytes : List ℕ) → 1 ≤ length bytes → 48 ≤ get_or bytes 0 0 → get_or bytes 0 0 ≤ 57 → numbered raw bytes ≡ csi_meaning raw bytes
 number_at raw [] l m n = absurd (omega arith)
 number_at raw (b ∷ bs) l m n = let t = digit_apart b (m, n) in rw (t.0, t.1, t.2, t.3, t.4) refl
@@ -145,24 +145,24 @@ pub report_at : (raw : Bool) (bytes : List ℕ) → 1 ≤ length bytes → get_o
 report_at raw [] l h = absurd (omega arith)
 report_at raw (b ∷ bs) l h = ap sgr (take_all (length (b ∷ bs) - 1) bs (omega arith)) ∙ rw h refl
 
--- what a front that is taken away says
+-- What a front that is taken away says.
 pub stripped : (front bytes : List ℕ) → pointwise eqb (take (length front) bytes) front ≡ begins front bytes
 stripped [] bytes = refl
 stripped (p ∷ ps) [] = refl
 stripped (p ∷ ps) (b ∷ bs) = ap (λ (t : Bool). (b == p) && t) (stripped ps bs) ∙ and_comm (b == p) (begins ps bs)
 
--- what doesn't begin with the end of a paste ends as its rest does
+-- What doesn't begin with the end of a paste ends as its rest does.
 pub paste_on : (bytes : List ℕ) → 1 ≤ length bytes → pointwise eqb (take 6 bytes) paste_end ≡ false → ends_paste (take (length bytes - 1) (drop 1 bytes)) ≡ ends_paste bytes
 paste_on [] l h = absurd (omega arith)
 paste_on (b ∷ bs) l h = ap ends_paste (take_all (length (b ∷ bs) - 1) bs (omega arith)) ∙ sym (rw (sym (stripped paste_end (b ∷ bs)) ∙ h) refl)
 
--- a numbered sequence or a paste, by whether the bytes open one
+-- A numbered sequence or a paste, by whether the bytes open one.
 pub digit_at : (bytes : List ℕ) (t : Bool) → 1 ≤ length bytes → pointwise eqb (take 4 bytes) paste_mark ≡ t
     → cond t (ends_paste (drop 4 bytes)) (ends_numbered (take (length bytes - 1) (drop 1 bytes))) ≡ ends_digit bytes
 digit_at [] t l h = absurd (omega arith)
 digit_at (b ∷ bs) t l h = rw (sym (stripped paste_mark (b ∷ bs)) ∙ h, take_all (length (b ∷ bs) - 1) bs (omega arith)) refl
 
--- what is meant by bytes that open a paste, and by others
+-- What is meant by bytes that open a paste, and by others.
 pub paste_seen : (raw : Bool) (bytes rest text : List ℕ) (n : ℕ) → pointwise eqb (take 6 bytes) paste_start ≡ true → rest ≡ drop 6 bytes → n ≡ length rest - 6
     → text ≡ encode_utf8_all (lossy_chars (take n rest)) → Some (Paste text) ≡ meaning_seen raw bytes
 paste_seen raw bytes rest text n h r e t = rw (sym (stripped paste_start bytes) ∙ h, t, e, r) refl
@@ -170,7 +170,7 @@ paste_seen raw bytes rest text n h r e t = rw (sym (stripped paste_start bytes) 
 pub other_seen : (raw : Bool) (bytes : List ℕ) → pointwise eqb (take 6 bytes) paste_start ≡ false → option_map seen_meaning (meaning raw bytes) ≡ meaning_seen raw bytes
 other_seen raw bytes h = rw (sym (stripped paste_start bytes) ∙ h) refl
 
--- the events with one more, or with none
+-- The events with one more, or with none.
 pub given_some : {X : Type 0} (see : X → Seen) (old new : List X) (x : X) (o : Option X) (means : Option Seen) → o ≡ Some x → new ≡ old ++ x ∷ []
     → option_map see o ≡ means → map see new ≡ map see old ++ option_to_list means
 given_some see old new x o means s n e = rw (sym e, s, n) (map-append see old (x ∷ []))

@@ -7,7 +7,7 @@ use Rattle.crossterm_parse.specs.Grammar.{Whole}
 use Rattle.crossterm_parse.specs.declared.marked.Marked.{Marked}
 use Rattle.crossterm_parse.specs.Meaning.{meaning_of}
 
--- The bytes are divided into parts of these lengths and a rest, and these are the events that the parts mean.
+-- The bytes are divided into parts of these lengths and a rest, and the parts mean these events.
 abbrev pub IsDivided : List Marked → List ℕ → List Seen → Type 0
 IsDivided bytes lengths events = (parts : List (List Marked)) × (rest : List Marked)
     × Divides Whole bytes parts rest × (lengths ≡ map length parts) × (events ≡ filter_map meaning_of parts)

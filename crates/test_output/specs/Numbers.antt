@@ -1,8 +1,9 @@
--- What a device of modes answers whose modes are numbers.
+-- How a device of modes answers if its modes are numbers.
 use Rattle.std.specs.Prelude.{◌≡◌, ℕ, ◌+◌, min, Ok, Err}
 use Rattle.crossterm.specs.Modes.{ModeCall, Tells, SetsRaw, Sets, Sizes}
 
--- The mode that stands is told, and set. The raw mode of one is 100 more, at most 255. What is refused changes nothing, and so does a size.
+-- The device's mode is returned, or a new one is set. A call that is refused, or asks for the size, changes nothing.
+-- The raw mode of a number is 100 more, at most 255.
 abbrev pub numbers_answered : {D : Type 0} → (D → ℕ) → D → ModeCall ℕ → D → Type 0
 numbers_answered mode s (Tells (Ok told)) t = (told ≡ mode s) × (mode t ≡ mode s)
 numbers_answered mode s (Tells (Err e)) t = mode t ≡ mode s

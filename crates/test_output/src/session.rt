@@ -1,4 +1,4 @@
-//! A session with a terminal: what its end turns off, also where its writer fails.
+//! A session with a terminal: what its end turns off, also if its writer fails.
 
 use crate::noted::{Call, Noted, note_digit, terminal_by};
 use crate::queueing::kind;

@@ -18,7 +18,7 @@ use Rattle.crossterm_c.specs.declared.table.Table.{Table}
 abbrev pub capacity : Table → ℕ
 capacity t = if t.is_held then length t.held.now else length t.events.now
 
--- Behind the places of a table that are filled these events were put, with their numbers if they are held.
+-- These events were put behind the filled places of a table, with their numbers if they are held.
 pub record PutsEvents (old : Table) (given : List GelvanhEvent) (new : Table) : Type 0 where
   pub same : (new.events.ghost_name ≡ old.events.ghost_name) × (new.held.ghost_name ≡ old.held.ghost_name) × (new.is_held ≡ old.is_held)
   pub places : capacity new ≡ capacity old
@@ -28,13 +28,13 @@ pub record PutsEvents (old : Table) (given : List GelvanhEvent) (new : Table) : 
   pub held : old.is_held ≡ true → take new.end new.held.now ≡ take old.end old.held.now ++ numbered old.number given
   pub number : old.is_held ≡ true → new.number ≡ number_after old.number given
 
--- The events that were put there have these meanings.
+-- The events that were put into the table have these meanings.
 pub record Filled (old : Table) (meanings : List Meaning) (new : Table) : Type 0 where
   pub given : List GelvanhEvent
   pub means : (kept : List ℕ) → map (event_at kept) given ≡ map seen_meaning meanings
   pub puts : PutsEvents old given new
 
--- The events that were put there are those of these bytes.
+-- The events that were put into the table are those of these bytes.
 pub record FillsBy (before after : State) (old new : Table) (bytes : List ℕ) (taken : List Marked) : Type 0 where
   pub given : List GelvanhEvent
   pub feeds : Feeds before after given bytes taken

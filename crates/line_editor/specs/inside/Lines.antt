@@ -2,6 +2,6 @@
 use Rattle.std.specs.Prelude.{◌≡◌, ◌⊎◌, ℕ, List, [], ◌∷◌}
 use Rattle.line_editor.specs.History.{lines_of}
 
--- A text begins with its first line, and behind the line feed are its other lines, if there is one.
+-- A text is its first line and, behind a line feed, its other lines, if there is a line feed.
 abbrev pub IsFirstLine : List ℕ → List ℕ → List ℕ → Type 0
 IsFirstLine text line back = (lines_of text ≡ line ∷ lines_of back) ⊎ ((lines_of text ≡ line ∷ []) × (back ≡ []))

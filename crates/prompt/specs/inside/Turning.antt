@@ -1,4 +1,4 @@
--- What comes of one event.
+-- What happens at one event.
 use Rattle.std.specs.Prelude.{◌≡◌, false, List, Option}
 use Rattle.std.specs.IoError.{error_kind}
 use Rattle.std.specs.declared.time.Duration.{Duration}
@@ -15,11 +15,11 @@ use Rattle.prompt.specs.declared.asking.Turn.{Turn}
 use Rattle.prompt.specs.declared.asking.Turn.TheVariants as turn
 use Rattle.prompt.specs.Asking.{Ends, Fails, GoesOn, answer_to, answer_told, pressed}
 
--- An editor took an event, which is answered so.
+-- An editor took an event, which has this outcome.
 abbrev pub TakesAs : Answer → Seen → EditorState → EditorState → Type 0
 TakesAs a e w z = (answer_to e w ≡ a) × (z ≡ pressed e w)
 
--- What an editor made of an event. If memory was refused, the event's text has room, and nothing has changed.
+-- An editor took an event, or memory was refused for it. Then its text has room, and nothing has changed.
 abbrev pub IsTaken : {A : Type 0} → Taken A → Seen → EditorState → EditorState → Type 0
 IsTaken taken.Going e w z = TakesAs turns.Going e w z
 IsTaken taken.TooLong e w z = TakesAs turns.Going e w z

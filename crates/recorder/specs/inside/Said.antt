@@ -15,12 +15,13 @@ told_answer told.Woken = Woken
 told_answer told.Idle = Idle
 told_answer (told.Fault kind) = Fault kind
 
--- The answers that the line says, if there is one.
+-- The answer that the line says, or none if there is no line.
 abbrev pub said_by : Option Told → List DeviceAnswer
 said_by None = []
 said_by (Some t) = told_answer t ∷ []
 
--- Answers were written with their times, as far as the recording goes on: by what the clock told, why it stopped, the room, and the writer.
+-- Answers were written with rising times. The clock, the stop, the room and the writer changed as the recording went
+-- on.
 pub record Notes {W : Type 0} (contents : W → Option (List ℕ)) (clock : ℕ) (stop : Option Stop) (room : Option ℕ) (writer : W) (ws : List DeviceAnswer)
     (later : ℕ) (stopped : Option Stop) (left : Option ℕ) (after : W) : Type 0 where
   pub entries : List (ℕ × DeviceAnswer)

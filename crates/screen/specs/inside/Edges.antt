@@ -8,6 +8,7 @@ use Rattle.screen.specs.Texts.{columns}
 abbrev pub IsNarrow : ℕ → Type 0
 IsNarrow c = IsPrinted c × (columns c ≡ 1)
 
+-- Each of a border's six characters takes one column.
 pub record AreNarrow (b : Border) : Type 0 where
   pub top_left : IsNarrow b.top_left
   pub top_right : IsNarrow b.top_right

@@ -4,7 +4,7 @@ use Rattle.crossterm_style.specs.declared.types.color.Color.{Color}
 use Rattle.crossterm_style.specs.declared.types.color.Color.TheVariants as color
 use Rattle.screen.specs.declared.packed.PackedColor.TheInside.{Inside}
 
--- the colour of four numbers: of the kind that the first one is, with the others
+-- The colour that four numbers encode: the first one is its kind, and the others are its parameters.
 abbrev pub unpacked : Inside → Option Color
 unpacked a =
     if a.0 == 0 then None else (
@@ -28,7 +28,7 @@ unpacked a =
     if a.0 == 18 then Some (color.AnsiValue a.1) else (
     Some (color.Rgb a.1 a.2 a.3))))))))))))))))))))
 
--- four numbers of a colour, or of none: numbers that its kind doesn't have are 0
+-- The four numbers of a colour, or of none. Numbers that its kind doesn't use are 0.
 abbrev pub packed : Option Color → Inside
 packed None = record { 0 = 0; 1 = 0; 2 = 0; 3 = 0 }
 packed (Some color.Reset) = record { 0 = 1; 1 = 0; 2 = 0; 3 = 0 }

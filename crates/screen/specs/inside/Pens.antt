@@ -1,4 +1,4 @@
--- A pen: what waits in it to be written.
+-- A pen: the bytes that wait in it to be written.
 use Rattle.std.specs.Prelude.{◌≡◌, ℕ, List, ◌++◌, Option, Some, None}
 use Rattle.std.specs.Io.KnownBytes.{Appends}
 use Rattle.crossterm_command.specs.Tokens.{text_of}
@@ -8,24 +8,25 @@ use Rattle.screen.specs.declared.pens.Pen.{Pen}
 use Rattle.screen.specs.declared.strokes.Stroke.{Stroke}
 use Rattle.screen.specs.inside.Strokes.{tokens_of}
 
--- A text is put behind bytes that wait, of which some may be written now. Nothing is written after the first fault; until then a beginning was.
+-- A text is appended to bytes that wait, some of which may be written now. Nothing is written after the first fault,
+-- and at it a prefix.
 abbrev pub Passes : List ℕ → Option CommandFault → List ℕ → Option (List ℕ) → Option (List ℕ) → List ℕ → Option CommandFault → Type 0
 Passes waiting None text old new later None = (sent : List ℕ) × (waiting ++ text ≡ sent ++ later) × Appends old new sent
 Passes waiting None text old new later (Some e) = AppendsFront old new (waiting ++ text)
 Passes waiting (Some e) text old new later None = ⊥
 Passes waiting (Some e) text old new later (Some f) = new ≡ old
 
--- Strokes are put so, by their text.
+-- The strokes' text is appended to the pen's waiting bytes, some of which may be written now, and its colours stay.
 abbrev pub Puts : List Stroke → Option (List ℕ) → Pen → Option (List ℕ) → Pen → Type 0
 Puts strokes old pen new next =
     (next.colors ≡ pen.colors) × Passes pen.waiting.bytes pen.fault (text_of (tokens_of pen.colors strokes)) old new next.waiting.bytes next.fault
 
--- The last bytes were written, where all went well before.
+-- The last bytes were written, and there was no fault before.
 abbrev pub Ends : List ℕ → Option CommandFault → Option (List ℕ) → Option (List ℕ) → Type 0
 Ends waiting None old new = Appends old new waiting
 Ends waiting (Some e) old new = ⊥
 
--- They weren't, where there was no fault before.
+-- A prefix of the last bytes was written, or nothing if there was a fault before.
 abbrev pub Breaks : List ℕ → Option CommandFault → Option (List ℕ) → Option (List ℕ) → Type 0
 Breaks waiting None old new = AppendsFront old new waiting
 Breaks waiting (Some e) old new = new ≡ old

@@ -1,4 +1,4 @@
--- A frame's way over the cells.
+-- The way of a frame over the cells.
 use Rattle.std.specs.List.{AllByRecursion}
 use Rattle.std.specs.Prelude.{⊤, ◌≡◌, ◌↔◌, ◌≤◌, ℕ, ◌+◌, ◌*◌, Bool, true, false, List, [], ◌∷◌, ◌++◌, Option, Some, None, drop, length, map, replicate, take, if◌then◌else◌}
 use Rattle.crossterm_command.specs.declared.color_output.ColorOutput.{ColorOutput}
@@ -12,57 +12,60 @@ use Rattle.screen.specs.Grids.Square.{Second}
 use Rattle.screen.specs.Updates.{ArePrinted, HasSameStyle, IsBeside, IsOneUpdate, IsSparing, Placed, Runs, end_others, end_styles, how_many}
 use Rattle.screen.specs.inside.Strokes.{IsInner, is_move_stroke, is_other_stroke, is_style_stroke, tokens_of}
 
--- Whether colours are written as they were.
+-- Whether cells were drawn, and colours are written as they were.
 abbrev pub is_known : Option ColorOutput → ColorOutput → Bool
 is_known None colors = false
 is_known (Some drawn) colors = same_output drawn colors
 
--- Cells that were drawn are paired.
+-- If cells were drawn, they are paired.
 abbrev pub IsPairedIf : Option ColorOutput → List Cell → Type 0
 IsPairedIf None cells = ⊤
 IsPairedIf (Some colors) cells = ArePaired false cells
 
--- A grid of the size, which shows the cells where they are known.
+-- The grid has the size, and shows the cells if they are known.
 abbrev pub StartsWith : Bool → ColorOutput → ℕ → ℕ → List Cell → Grid → Type 0
 StartsWith true colors width height cells g = HasSize width height g × ShowsCells colors cells g
 StartsWith false colors width height cells g = HasSize width height g
 
--- The old cells have the size, and are blank where they aren't known.
+-- The old cells have the size, and are blank if they aren't known.
 abbrev pub IsWithin : Bool → ℕ → ℕ → List Cell → Type 0
 IsWithin true width height cells = length cells ≡ width * height
 IsWithin false width height cells = cells ≡ replicate (width * height) blank
 
--- Whether the first of some cells is covered.
+-- Whether the first of the cells is covered.
 abbrev pub begins_covered : List Cell → Bool
 begins_covered [] = false
 begins_covered (c ∷ cells) = is_covered c
 
--- What stands from a place on, by the new cells and the old ones from there: the old ones, where the first isn't known if it is a second one. But
--- where the new cell is covered the character before it stands in it already.
+-- The grid's cells from a place on, before the place is visited: the old ones. An old second cell at their beginning
+-- is unknown.
+-- If the new cell is covered, the character before it has already put its second cell there.
 abbrev pub rest : List Cell → List Square → List Square
 rest after old = if begins_covered after then Second ∷ begun (drop 1 old) else begun old
 
--- Before a place the cells are the new ones. What is known of the cursor and of the style holds.
+-- The cells before the place `k` are the new ones, and what is known of the cursor and of the style is true.
 pub record Scanned (colors : ColorOutput) (width height : ℕ) (before after : List Cell) (k : ℕ) (cursor : Option ℕ) (style : Option ContentStyle) (h : Grid) : Type 0 where
   pub size : HasSize width height h
   pub cells : h.cells ≡ take k (map (seen colors) after) ++ rest (drop k after) (map (seen colors) (drop k before))
   pub place : (n : ℕ) → cursor ≡ Some n → h.cursor ≡ Some n
   pub set : (s : ContentStyle) → style ≡ Some s → h.style ≡ look colors s
 
--- From each grid that a frame may begin with, strokes lead there.
+-- From each grid that a frame may begin with, the strokes lead to one with the property `End`.
 abbrev pub LeadsTo : Bool → ℕ → ℕ → List Cell → List Stroke → (ColorOutput → Grid → Type 0) → Type 0
 LeadsTo known width height before strokes End =
     (colors : ColorOutput) (g : Grid) → StartsWith known colors width height before g → (h : Grid) × (run (tokens_of colors strokes) g ≡ Some h) × End colors h
 
+-- From each grid that a frame may begin with, the strokes lead to one whose cells before the place `k` are new.
 abbrev pub Reaches : Bool → ℕ → ℕ → List Cell → List Cell → ℕ → Option ℕ → Option ContentStyle → List Stroke → Type 0
 Reaches known width height before after k cursor style strokes =
     LeadsTo known width height before strokes (λ colors. Scanned colors width height before after k cursor style)
 
--- Before a place a character is printed where the cells differ.
+-- As many characters are printed as differ before the place `k`.
 abbrev pub Counts : List Cell → List Cell → ℕ → List Stroke → Type 0
 Counts before after k strokes = (colors : ColorOutput) → DifferAt (take k before) (take k after) (printed (tokens_of colors strokes))
 
--- The beginning of a frame, with as few strokes as its characters need; one style and two other strokes are left for its end.
+-- The beginning of a frame, with as few strokes as its characters need. One style and two other strokes are left for
+-- its end.
 pub record Spares (known : Bool) (width : ℕ) (before after : List Cell) (strokes : List Stroke) : Type 0 where
   pub all : List Placed
   pub printed : ArePrinted 0 before after all
@@ -71,25 +74,26 @@ pub record Spares (known : Bool) (width : ℕ) (before after : List Cell) (strok
   pub others : how_many is_other_stroke strokes + 2 ≤ end_others known
   pub begun : (within : List Stroke) × (strokes ≡ Begin ∷ within) × AllByRecursion IsInner within
 
--- The last element stands in the relation to another one.
+-- The last element of the list is related to another one.
 abbrev pub Continues : {X : Type 0} → (X → X → Type 0) → List X → X → Type 0
 Continues R [] y = ⊥
 Continues R (x ∷ []) y = R x y
 Continues R (x ∷ z ∷ xs) y = Continues R (z ∷ xs) y
 
--- Before a place the strokes are as few. The cursor and the style are known by the last character.
+-- The strokes for the cells before the place `k` are as few as needed. The cursor and the style are known by the last
+-- character.
 pub record Sparing (known : Bool) (width : ℕ) (before after : List Cell) (k : ℕ) (cursor : Option ℕ) (style : Option ContentStyle) (strokes : List Stroke) : Type 0 where
   pub spares : Spares known width (take k before) (take k after) strokes
   pub beside : (x : Placed) → Continues (IsBeside width) spares.all x ↔ (cursor ≡ Some x.at)
   pub same : (x : Placed) → Continues HasSameStyle spares.all x ↔ (style ≡ Some x.cell.style)
 
--- All cells were visited.
+-- The strokes of a frame after all cells were visited.
 pub record Visited (known : Bool) (width height : ℕ) (before after : List Cell) (strokes : List Stroke) : Type 0 where
   pub leads : LeadsTo known width height before strokes (λ colors h. HasSize width height h × ShowsCells colors after h)
   pub count : (colors : ColorOutput) → DifferAt before after (printed (tokens_of colors strokes))
   pub spares : Spares known width before after strokes
 
--- A frame is planned: its strokes show the new cells with the cursor where it was asked to be.
+-- The strokes of a whole frame: they show the new cells with the cursor at the place that was asked for.
 pub record Planned (known : Bool) (width height : ℕ) (before after : List Cell) (cursor : Option (ℕ × ℕ)) (strokes : List Stroke) : Type 0 where
   pub leads : LeadsTo known width height before strokes (λ colors. Shows colors (record { width = width; height = height; cells = after; room = 0 }) cursor)
   pub count : (colors : ColorOutput) → DifferAt before after (printed (tokens_of colors strokes))

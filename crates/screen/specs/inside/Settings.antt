@@ -1,4 +1,4 @@
--- How a style is set where another one is set.
+-- How a style is set after another one.
 use Rattle.std.specs.Prelude.{◌≡◌, ◌≢◌, ⊤, Bool, true, false, Option, Some, None}
 use Rattle.std.specs.List.{AllByRecursion}
 use Rattle.crossterm_style.specs.declared.content_style.ContentStyle.{ContentStyle}
@@ -11,17 +11,17 @@ use Rattle.crossterm_style.specs.Attributes.{has}
 use Rattle.screen.specs.declared.settings.Setting.{Setting}
 use Rattle.screen.specs.declared.settings.Setting.TheVariants as setting
 
--- the colour that is written where one is wanted, or none: the terminal's own
+-- The colour that is written for a wanted one, or the terminal's own if none is wanted.
 abbrev pub written : Option Color → Color
 written None = color.Reset
 written (Some c) = c
 
--- What is written turns one colour into another: nothing where they are the same, and else the other one.
+-- What is written turns one colour into another: nothing if they are the same, otherwise the other one.
 abbrev pub Changes : Option Color → Option Color → Option Color → Type 0
 Changes from to None = from ≡ to
 Changes from to (Some c) = (from ≢ to) × (c ≡ written to)
 
--- Colours turn one style into another.
+-- A change of colours alone turns the colours of one style into those of another.
 pub record Recolors (from to change : ContentStyle) : Type 0 where
   pub foreground : Changes from.foreground_color to.foreground_color change.foreground_color
   pub background : Changes from.background_color to.background_color change.background_color
@@ -32,24 +32,25 @@ pub record Recolors (from to change : ContentStyle) : Type 0 where
 abbrev pub HasSameRest : ContentStyle → ContentStyle → Type 0
 HasSameRest from to = (has to.attributes.0 Reset ≡ false) × (from.attributes ≡ to.attributes)
 
--- So a style is set where one is set.
+-- The setting turns one style into another: nothing if they are the same, only colours if the attributes are the
+-- same, or all.
 abbrev pub SetsFrom : ContentStyle → ContentStyle → Setting → Type 0
 SetsFrom from to setting.Kept = from ≡ to
 SetsFrom from to (setting.Colors change) = (from ≢ to) × HasSameRest from to × Recolors from to change
 SetsFrom from to (setting.Whole s) = (from ≢ to) × (s ≡ to)
 
--- The same where it may not be known which one is set: then all of the style is set.
+-- The setting leads to this style. If it isn't known which one is set, all of it is written.
 abbrev pub Sets : Option ContentStyle → ContentStyle → Setting → Type 0
 Sets None to how = how ≡ setting.Whole to
 Sets (Some from) to how = SetsFrom from to how
 
--- The numbers of its colours are bytes.
+-- The numbers of the setting's colours are bytes.
 abbrev pub Fits : Setting → Type 0
 Fits setting.Kept = ⊤
 Fits (setting.Colors change) = AllByRecursion FitsAct (style_acts change)
 Fits (setting.Whole s) = AllByRecursion FitsAct (style_acts s)
 
--- whether nothing is written
+-- Whether nothing is written.
 abbrev pub is_kept : Setting → Bool
 is_kept setting.Kept = true
 is_kept how = false

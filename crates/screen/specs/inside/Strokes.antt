@@ -1,4 +1,4 @@
--- What a terminal is told by strokes.
+-- The tokens that strokes are written as.
 use Rattle.std.specs.Prelude.{⊤, ℕ, Bool, true, false, List, [], ◌∷◌, ◌++◌, Option, Some, None, if◌then◌else◌, flat_map}
 use Rattle.std.specs.List.{AllByRecursion}
 use Rattle.crossterm_command.specs.Controls.{reset, set}
@@ -18,12 +18,12 @@ use Rattle.screen.specs.declared.strokes.Stroke.{Stroke}
 use Rattle.screen.specs.declared.strokes.Stroke.TheVariants as stroke
 use Rattle.screen.specs.Cells.{Cell, IsPrinted}
 
--- what sets colours, where they are written
+-- The tokens that set colours, or none if colours aren't written.
 abbrev pub color_tokens : ColorOutput → ContentStyle → List Token
 color_tokens Enabled change = told Enabled (style_acts change)
 color_tokens Disabled change = []
 
--- what a terminal is told by a stroke
+-- The tokens of a stroke.
 abbrev pub tokens : ColorOutput → Stroke → List Token
 tokens colors stroke.Begin = set "2026"
 tokens colors stroke.End = reset "2026"
@@ -35,7 +35,7 @@ tokens colors (stroke.Print c) = Char c ∷ []
 tokens colors stroke.Show = set "25"
 tokens colors stroke.Hide = reset "25"
 
--- what a terminal is told by strokes
+-- The tokens of strokes, one after another.
 abbrev pub tokens_of : ColorOutput → List Stroke → List Token
 tokens_of colors strokes = flat_map (tokens colors) strokes
 
@@ -44,21 +44,24 @@ abbrev pub IsFitting : Stroke → Type 0
 IsFitting (stroke.Print c) = IsPrinted c
 IsFitting s = ⊤
 
+-- Each printed character takes one cell or two.
 abbrev pub AreFitting : List Stroke → Type 0
 AreFitting strokes = AllByRecursion IsFitting strokes
 
 -- ---- kinds of strokes
 
+-- Whether a stroke moves the cursor.
 abbrev pub is_move_stroke : Stroke → Bool
 is_move_stroke (stroke.Move column row) = true
 is_move_stroke s = false
 
+-- Whether a stroke sets a style or colours.
 abbrev pub is_style_stroke : Stroke → Bool
 is_style_stroke (stroke.Style s) = true
 is_style_stroke (stroke.Colors change) = true
 is_style_stroke s = false
 
--- neither of these, and no character
+-- Whether a stroke neither moves the cursor nor sets a style or colours nor prints a character.
 abbrev pub is_other_stroke : Stroke → Bool
 is_other_stroke (stroke.Move column row) = false
 is_other_stroke (stroke.Style s) = false
@@ -66,7 +69,7 @@ is_other_stroke (stroke.Colors change) = false
 is_other_stroke (stroke.Print c) = false
 is_other_stroke s = true
 
--- It neither begins an update nor ends one.
+-- The stroke neither begins an update nor ends one.
 abbrev pub IsInner : Stroke → Type 0
 IsInner stroke.Begin = ⊥
 IsInner stroke.End = ⊥
@@ -74,31 +77,31 @@ IsInner s = ⊤
 
 -- ---- the strokes of a cell
 
--- what moves the cursor, unless it is there
+-- The stroke that moves the cursor, or none if it is there.
 abbrev pub move_strokes : Bool → ℕ → ℕ → List Stroke
 move_strokes there column row = if there then [] else stroke.Move column row ∷ []
 
--- what sets a style, unless it is set
+-- The stroke that sets a style or colours, or none if the style is kept.
 abbrev pub style_strokes : Setting → List Stroke
 style_strokes setting.Kept = []
 style_strokes (setting.Colors change) = stroke.Colors change ∷ []
 style_strokes (setting.Whole s) = stroke.Style s ∷ []
 
--- what paints a cell, by whether the cursor is there and how the style is set
+-- The strokes that paint a cell: a move unless the cursor is there, the style, and the character.
 abbrev pub cell_strokes : Bool → Setting → ℕ → ℕ → Cell → List Stroke
 cell_strokes there how column row c = move_strokes there column row ++ (style_strokes how ++ (stroke.Print c.symbol ∷ []))
 
 -- ---- the beginning and the end of a frame
 
--- what begins a frame: where nothing is known of the cells, all are erased
+-- The strokes that begin a frame. If the cells aren't known, they are erased in the empty style.
 abbrev pub first_strokes : Bool → List Stroke
 first_strokes known = stroke.Begin ∷ (if known then [] else (stroke.Style no_style ∷ stroke.Erase ∷ []))
 
--- what puts the cursor where it is asked to be
+-- The strokes that hide the cursor, or move it to a place and show it.
 abbrev pub cursor_strokes : Option (ℕ × ℕ) → List Stroke
 cursor_strokes None = stroke.Hide ∷ []
 cursor_strokes (Some place) = stroke.Move place.0 place.1 ∷ stroke.Show ∷ []
 
--- what ends a frame
+-- The strokes that end a frame: the empty style, the cursor, and the end of the update.
 abbrev pub last_strokes : Option (ℕ × ℕ) → List Stroke
 last_strokes cursor = stroke.Style no_style ∷ (cursor_strokes cursor ++ (stroke.End ∷ []))

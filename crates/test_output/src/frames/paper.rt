@@ -27,7 +27,7 @@ pub struct Mark {
     pub look: Look,
 }
 
-/// Where the bytes are.
+/// What the bytes so far are within.
 #[derive(Clone, Copy, PartialEq, Eq)]
 enum At {
     Ground,

@@ -75,7 +75,7 @@ fn palette(number: u8) -> Option<Color> {
     Some(Color::AnsiValue(number))
 }
 
-/// Sets characters side by side, each in a foreground and a background of the palette, where 0 is none, and bold or not.
+/// Sets characters side by side, each in a foreground and a background of the palette (0 is none), and bold or not.
 fn paint(buffer: &mut Buffer, cells: &[(char, u8, u8, bool)]) -> bool {
     let mut column = 0u16;
     for (symbol, front, back, is_bold) in cells {
@@ -93,7 +93,7 @@ fn paint(buffer: &mut Buffer, cells: &[(char, u8, u8, bool)]) -> bool {
     true
 }
 
-/// Whether of styles that differ in colours alone the colours are written, and a reset where that is shorter.
+/// Whether only the colours are written if styles differ in colours alone, or a reset if that is shorter.
 fn are_recolored(alloc: Global, mut screen: Screen, mut buffer: Buffer) -> bool {
     let blank = writes(&mut screen, alloc, &buffer, "\x1b[0m\x1b[2J");
     let colors = [

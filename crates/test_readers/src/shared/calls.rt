@@ -47,7 +47,7 @@ enum Came {
     Nothing,
     /// A length.
     Length(usize),
-    /// Nobody can tell the length.
+    /// Nobody knows the length.
     NoLength,
     /// A fault.
     Failed(ErrorKind),

@@ -31,7 +31,7 @@ fn reads<R: Wait>(rt: &R, reader: &mut Reader<Script>, want: char) -> bool {
     matches!(reader.read(rt, &EventFilter), Ok(event) if own_letter(&event) == want)
 }
 
-/// Whether the reader holds two letters, and goes on where the last call ended.
+/// Whether the reader holds two letters, and goes on from the end of the last call.
 fn goes_on<R: Wait>(rt: &R, closed: Option<Reader<Script>>) -> bool {
     match closed {
         Some(mut reader) => {

@@ -24,7 +24,7 @@ fn is_woken<R: Wait>(rt: &R, mut seat: Seat<Source<'_, R>>) -> bool {
     matches!(seat.poll(rt, None, AnyFilter::Event), Ok(false))
 }
 
-/// Whether a look waits for nobody, and tells nothing then.
+/// Whether a look waits for nobody, and returns nothing then.
 fn waits_for_nobody<R: Wait + Threads + Sync>(rt: &R, alloc: Global) -> io::Result<bool> {
     let asked = AtomicBool::new(false);
     let (one, other) = two(rt, alloc, reader_of(alloc, Sleeper::new(rt, &asked)))?;

@@ -2,7 +2,7 @@ use Rattle.std.proofs.Common.{◌≡◌, ◌≤◌, ◌-◌, drop, length, take}
 use Rattle.crossterm_c.specs.Held.{TakesEach, held_in}
 use Rattle.crossterm_c.proofs.batches.gelvanh_take_some.Given as goal
 
--- so many were taken
+-- The events so far were taken.
 abbrev pub invariant-loop-count : goal.invariant-loop-count
 invariant-loop-count l = record {
   within : l.count ≤ length l.taken;

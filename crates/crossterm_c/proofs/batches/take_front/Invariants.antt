@@ -2,7 +2,7 @@ use Rattle.std.proofs.Common.{◌≡◌, ◌≤◌, ◌-◌, drop, length, take}
 use Rattle.crossterm_c.specs.Held.{TakesEach}
 use Rattle.crossterm_c.proofs.batches.take_front.Given as goal
 
--- the events before this one were taken
+-- The events before this one were taken.
 abbrev pub invariant-loop-count : goal.invariant-loop-count
 invariant-loop-count l = record {
   within : l.count ≤ l.most;

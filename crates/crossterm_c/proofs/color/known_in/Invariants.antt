@@ -4,7 +4,7 @@ use Rattle.crossterm_style.specs.Attributes.{all_attributes, of_list}
 use Rattle.crossterm_c.specs.Command.{includes}
 use Rattle.crossterm_c.proofs.color.known_in.Given as goal
 
--- the attributes before this one were gathered
+-- The attributes before this one were gathered.
 abbrev pub invariant-loop-attribute : goal.invariant-loop-attribute
 invariant-loop-attribute l = record {
   set : l.set.0 ≡ l.known;

@@ -6,7 +6,7 @@ use Rattle.crossterm_parse.specs.View.{AdvancesOver}
 use Rattle.crossterm_c.specs.Feeding.{view_of}
 use Rattle.crossterm_c.proofs.feed.feed_paste.Given as goal
 
--- the bytes before this one were taken, and the paste is open still
+-- The bytes before this one were taken, and the paste is open still.
 abbrev pub invariant-loop-place : goal.invariant-loop-place
 invariant-loop-place g l = record {
   within : l.place ≤ length l.piece;

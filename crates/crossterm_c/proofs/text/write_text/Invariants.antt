@@ -2,7 +2,7 @@ use Rattle.std.proofs.Common.{◌≤◌, ◌-◌, take, length}
 use Rattle.crossterm_c.specs.Text.{Begins}
 use Rattle.crossterm_c.proofs.text.write_text.Given as goal
 
--- the text of the bytes before this place was written
+-- The text of the bytes before this place was written.
 abbrev pub invariant-loop-place : goal.invariant-loop-place
 invariant-loop-place l = record {
   within : l.place ≤ length l.bytes;

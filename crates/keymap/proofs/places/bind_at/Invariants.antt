@@ -5,7 +5,7 @@ use Rattle.keymap.specs.inside.Places.{place_at}
 use Rattle.keymap.proofs.Placing.{marked_to}
 use Rattle.keymap.proofs.places.bind_at.Given as goal
 
--- the fronts so far are marked, and there is room for those that are left
+-- The fronts so far are marked, and there is room for those that are left.
 abbrev pub invariant-loop-count : goal.invariant-loop-count
 invariant-loop-count g l = record {
   marked : (keys : List KeyEvent) → place_at l.places keys ≡ marked_to l.chords l.count (place_at l.fn.places keys) keys;

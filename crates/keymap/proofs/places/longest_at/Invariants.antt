@@ -2,7 +2,7 @@ use Rattle.std.proofs.Common.{◌≡◌, ◌≤◌, length, take, min}
 use Rattle.keymap.specs.inside.Places.{deepest, place_at}
 use Rattle.keymap.proofs.places.longest_at.Given as goal
 
--- nothing was found at a greater count
+-- Nothing was found at a greater count.
 abbrev pub invariant-loop-count : goal.invariant-loop-count
 invariant-loop-count g l = record {
   found : deepest (λ n. (place_at l.places (take n l.keys)).number) (min (length l.keys) 8) ≡ deepest (λ n. (place_at l.places (take n l.keys)).number) l.count;

@@ -1,4 +1,4 @@
--- The characters so far that take a column or more can stand in cells.
+-- Cells can hold the characters so far that take a column or more.
 use Rattle.std.proofs.Common.{◌≡◌, chars, drop, length}
 use Rattle.screen.specs.Texts.{text_fault, without_marks}
 use Rattle.screen.proofs.texts.fault_without_marks.Given as goal

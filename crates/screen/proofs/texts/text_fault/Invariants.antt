@@ -1,4 +1,4 @@
--- The characters so far can stand in cells.
+-- Cells can hold the characters so far.
 use Rattle.std.proofs.Common.{◌≡◌, chars, drop, length}
 use Rattle.screen.specs.Texts.{text_fault}
 use Rattle.screen.proofs.texts.text_fault.Given as goal

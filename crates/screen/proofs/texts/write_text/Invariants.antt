@@ -1,4 +1,4 @@
--- What was written of the characters so far stands in the cells.
+-- The cells have what was written of the characters so far.
 use Rattle.std.proofs.Common.{chars, length}
 use Rattle.screen.proofs.Prints.{IsWritten}
 use Rattle.screen.proofs.texts.write_text.Given as goal

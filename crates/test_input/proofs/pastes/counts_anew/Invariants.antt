@@ -1,5 +1,5 @@
 use Rattle.test_input.proofs.pastes.counts_anew.Given as goal
 
--- the ledger is the new one
+-- The ledger is the new one.
 abbrev pub ghosts-counts : goal.ghosts-counts
 ghosts-counts a = record { name = a.blank.name; parts = a.blank.parts }

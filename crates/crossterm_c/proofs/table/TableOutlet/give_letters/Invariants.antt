@@ -3,7 +3,7 @@ use Rattle.crossterm_parse.specs.Meaning.{typed}
 use Rattle.crossterm_c.specs.inside.Table.{Filled}
 use Rattle.crossterm_c.proofs.table.TableOutlet.give_letters.Given as goal
 
--- the letters before this one were given
+-- The letters before this one were given.
 abbrev pub invariant-loop-letter : goal.invariant-loop-letter
 invariant-loop-letter l = record {
   filled : Filled l.initial.self (map typed (take l.letter-index l.letters)) l.self;
