@@ -15,7 +15,7 @@ use Rattle.crossterm_command.specs.Tokens.{IsOscText, IsWellFormed}
 use Rattle.crossterm_command.proofs.Readings.{all_joined, both}
 use Rattle.crossterm.specs.declared.clipboard.ClipboardType.{ClipboardType}
 use Rattle.crossterm.specs.declared.clipboard.ClipboardType.TheVariants.{Clipboard, Primary, Other}
-use Rattle.crossterm.specs.Clipboard.{AreReadable, CopiesRead, IsNamed, ReadsBack, ReadsSame, WritesBack, char_of, copy_functions, named, selection_text, type_of}
+use Rattle.crossterm.specs.Clipboard.{AreReadable, CopiesRead, IsNamed, TypesReadBack, ReadsSame, WritesBack, letter_of, copy_functions, by_own_name, selection_text, type_of}
 
 -- ---- Base64
 
@@ -71,7 +71,7 @@ pub copy_formed : (content : List ℕ) (types : List ClipboardType) → AreReada
 copy_formed content types readable =
     let letters = selection_text types in
     let base64 = encode_of standard content in
-    let places : IsUtf8 letters = (map char_of types, (readable.0, refl)) in
+    let places : IsUtf8 letters = (map letter_of types, (readable.0, refl)) in
     let utf8 : IsUtf8 (codes "52;" ++ (letters ++ (codes ";" ++ base64))) =
     IsUtf8-append (codes "52;") (letters ++ (codes ";" ++ base64)) front_utf8
     (IsUtf8-append letters (codes ";" ++ base64) places
@@ -86,37 +86,37 @@ copy_reads content types readable = (copy_formed content types readable, refl)
 
 -- ---- there and back
 
-named_as : (place : ClipboardType) → type_of (char_of place) ≡ named place
+named_as : (place : ClipboardType) → type_of (letter_of place) ≡ by_own_name place
 named_as Clipboard = refl
 named_as Primary = refl
 named_as (Other c) = refl
 
-all_named_as : (types : List ClipboardType) → map type_of (map char_of types) ≡ map named types
+all_named_as : (types : List ClipboardType) → map type_of (map letter_of types) ≡ map by_own_name types
 all_named_as [] = refl
 all_named_as (t ∷ ts) = let first = named_as t in let rest = all_named_as ts in cc
 
-pub reads_back : ReadsBack
-reads_back types scalars = ap (map type_of) (chars-encodes (map char_of types) scalars) ∙ all_named_as types
+pub reads_back : TypesReadBack
+reads_back types scalars = ap (map type_of) (chars-encodes (map letter_of types) scalars) ∙ all_named_as types
 
 test_fails : (c d : ℕ) → c ≢ d → (c == d) ≡ false
 test_fails c d n = grind (arith, nat_tests)
 
-same_name : (place : ClipboardType) → IsNamed place → named place ≡ place
+same_name : (place : ClipboardType) → IsNamed place → by_own_name place ≡ place
 same_name Clipboard n = refl
 same_name Primary n = refl
 same_name (Other c) n = rw (test_fails c 0x63 n.0, test_fails c 0x70 n.1) refl
 
-same_names : (types : List ClipboardType) → AllByRecursion IsNamed types → map named types ≡ types
+same_names : (types : List ClipboardType) → AllByRecursion IsNamed types → map by_own_name types ≡ types
 same_names [] a = refl
 same_names (t ∷ ts) a = let first = same_name t a.0 in let rest = same_names ts a.1 in cc
 
 pub reads_same : ReadsSame
 reads_same types scalars a = reads_back types scalars ∙ same_names types a
 
-letter_back : (c : ℕ) → char_of (type_of c) ≡ c
+letter_back : (c : ℕ) → letter_of (type_of c) ≡ c
 letter_back c = grind (arith, nat_tests)
 
-letters_back : (cs : List ℕ) → map char_of (map type_of cs) ≡ cs
+letters_back : (cs : List ℕ) → map letter_of (map type_of cs) ≡ cs
 letters_back [] = refl
 letters_back (c ∷ cs) = let first = letter_back c in let rest = letters_back cs in cc
 

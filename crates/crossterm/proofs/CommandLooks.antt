@@ -13,7 +13,7 @@ use Rattle.crossterm_style.specs.declared.commands.colors.SetForegroundColor.{Se
 use Rattle.crossterm_style.specs.declared.commands.colors.SetUnderlineColor.{SetUnderlineColor}
 use Rattle.crossterm_style.specs.declared.commands.styles.SetStyle.{SetStyle}
 use Rattle.crossterm_style.specs.Attributes.{members}
-use Rattle.crossterm_style.specs.Acts.{Act}
+use Rattle.crossterm_style.specs.Acts.{StyleAct}
 use Rattle.crossterm_style.specs.Appearance.{FitsAct, ShowsAs}
 use Rattle.crossterm_style.specs.Looks.{Style}
 use Rattle.crossterm_style.proofs.Fitting.{takes_fit}
@@ -61,7 +61,7 @@ command_shows {A = A} colors (any.SetStyle c) h s = acts_show colors (acts {A = 
 command_shows {A = A} colors (any.PrintStyledContent c) h s = acts_show colors (acts {A = A} (any.PrintStyledContent c)) s h
 command_shows {A = A} colors (any.ResetColor c) h s = acts_show colors (acts {A = A} (any.ResetColor c)) s h
 command_shows {A = A} colors (any.Print c) h s =
-    let a : List Act = acts {A = A} (any.Print c) in
+    let a : List StyleAct = acts {A = A} (any.Print c) in
     subst (λ ts. ShowsAs colors ts a s) (append-nil (map Char (chars (string_bytes c.0)))) (acts_show colors a s h)
 command_shows colors c h s = (refl, refl)
 

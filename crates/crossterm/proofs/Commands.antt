@@ -7,7 +7,7 @@ use Rattle.std.specs.Str.{IsUtf8}
 use Rattle.std.specs.List.{AllByRecursion}
 use Rattle.std.proofs.lemmas.Str.{IsUtf8-append, IsUtf8-string_bytes}
 use Rattle.crossterm_command.specs.Controls.{letter}
-use Rattle.crossterm_command.specs.Tokens.{IsOscText, IsParameter, IsWellFormed, Reads, text_of}
+use Rattle.crossterm_command.specs.Tokens.{IsOscText, IsParameter, IsWellFormed, ReadsAs, text_of}
 use Rattle.crossterm_command.proofs.Readings.{all_joined, all_parameters, control_formed, decimal_is_parameters, is_final, known_formed, parameters_at, printed_formed}
 use Rattle.crossterm_command.specs.declared.color_output.ColorOutput.{ColorOutput}
 use Rattle.crossterm_style.specs.declared.types.colored.Colored.TheVariants.{ForegroundColor, BackgroundColor, UnderlineColor}
@@ -97,5 +97,5 @@ commands_formed colors [] a = tt
 commands_formed colors (c ∷ cs) a = all_joined IsWellFormed (functions colors c) (flat_map (functions colors) cs) (command_formed colors c a.0) (commands_formed colors cs a.1)
 
 -- The text of commands reads as their functions.
-pub commands_read : {A : Type 0} (colors : ColorOutput) (cs : List (AnyCommand A)) → AllByRecursion IsReadable cs → Reads (text_of (flat_map (functions colors) cs)) (flat_map (functions colors) cs)
+pub commands_read : {A : Type 0} (colors : ColorOutput) (cs : List (AnyCommand A)) → AllByRecursion IsReadable cs → ReadsAs (text_of (flat_map (functions colors) cs)) (flat_map (functions colors) cs)
 commands_read colors cs a = (commands_formed colors cs a, refl)

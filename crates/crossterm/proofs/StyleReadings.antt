@@ -14,9 +14,9 @@ use Rattle.crossterm_style.specs.declared.types.colored.Colored.TheVariants.{For
 use Rattle.crossterm_style.specs.declared.content_style.ContentStyle.{ContentStyle}
 use Rattle.crossterm_style.specs.Attributes.{code_of, members}
 use Rattle.crossterm_style.specs.Colors.{colored_text}
-use Rattle.crossterm_style.specs.Acts.{Act, either_there, end_acts, reset_where, style_acts, styled_acts, where_there}
-use Rattle.crossterm_style.specs.Acts.Act.{Prints, Colors, Takes}
-use Rattle.crossterm_style.specs.Styles.{act_functions, attribute_functions, color_functions, colors_functions, told}
+use Rattle.crossterm_style.specs.Acts.{StyleAct, either_there, end_acts, reset_where, style_acts, styled_acts, where_there}
+use Rattle.crossterm_style.specs.Acts.StyleAct.{Prints, Colors, Takes}
+use Rattle.crossterm_style.specs.Styles.{act_functions, attribute_functions, color_functions, colors_functions, act_tokens}
 use Rattle.crossterm_style.proofs.Parameters.{code_known, colored_parameters}
 
 abbrev pub Formed : List Token → Type 0
@@ -43,18 +43,18 @@ attribute_formed a = control_formed (code_of a) "m" (parameters_at (code_of a) (
 -- ---- acts
 
 -- What is printed is well formed.
-abbrev pub PrintsPlain : Act → Type 0
+abbrev pub PrintsPlain : StyleAct → Type 0
 PrintsPlain (Prints cs) = Formed (map Char cs)
 PrintsPlain a = ⊤
 
-act_formed : (colors : ColorOutput) (a : Act) → PrintsPlain a → Formed (act_functions colors a)
+act_formed : (colors : ColorOutput) (a : StyleAct) → PrintsPlain a → Formed (act_functions colors a)
 act_formed colors (Prints cs) h = h
 act_formed colors (Colors c) h = color_formed colors c
 act_formed colors (Takes a) h = attribute_formed a
 
-pub told_formed : (colors : ColorOutput) (acts : List Act) → AllByRecursion PrintsPlain acts → Formed (told colors acts)
+pub told_formed : (colors : ColorOutput) (acts : List StyleAct) → AllByRecursion PrintsPlain acts → Formed (act_tokens colors acts)
 told_formed colors [] h = tt
-told_formed colors (a ∷ acts) h = all_joined IsWellFormed (act_functions colors a) (told colors acts) (act_formed colors a h.0) (told_formed colors acts h.1)
+told_formed colors (a ∷ acts) h = all_joined IsWellFormed (act_functions colors a) (act_tokens colors acts) (act_formed colors a h.0) (told_formed colors acts h.1)
 
 there_plain : (place : Color → Colored) (o : Option Color) → AllByRecursion PrintsPlain (where_there place o)
 there_plain place None = tt
@@ -64,7 +64,7 @@ pub attributes_plain : (all : List Attribute) → AllByRecursion PrintsPlain (ma
 attributes_plain [] = tt
 attributes_plain (a ∷ all) = (tt, attributes_plain all)
 
-both_plain : (xs ys : List Act) → AllByRecursion PrintsPlain xs → AllByRecursion PrintsPlain ys → AllByRecursion PrintsPlain (xs ++ ys)
+both_plain : (xs ys : List StyleAct) → AllByRecursion PrintsPlain xs → AllByRecursion PrintsPlain ys → AllByRecursion PrintsPlain (xs ++ ys)
 both_plain = all_joined PrintsPlain
 
 pub style_plain : (s : ContentStyle) → AllByRecursion PrintsPlain (style_acts s)

@@ -4,17 +4,17 @@ use Rattle.std.specs.Str.{all_scalars, chars, IsUtf8}
 use Rattle.std.specs.List.{AllByRecursion}
 use Rattle.base64.specs.GeneralPurpose.{encode_of}
 use Rattle.base64.specs.Engines.{standard}
-use Rattle.crossterm_command.specs.Tokens.{Token, IsOscText, Reads, text_of}
+use Rattle.crossterm_command.specs.Tokens.{Token, IsOscText, ReadsAs, text_of}
 use Rattle.crossterm_command.specs.Tokens.OscEnd.{St}
 use Rattle.crossterm_command.specs.Tokens.Token.{Osc}
 use Rattle.crossterm.specs.declared.clipboard.ClipboardType.{ClipboardType}
 use Rattle.crossterm.specs.declared.clipboard.ClipboardType.TheVariants.{Clipboard, Primary, Other}
 
 -- The letter of a destination.
-abbrev pub char_of : ClipboardType → ℕ
-char_of Clipboard = 0x63
-char_of Primary = 0x70
-char_of (Other c) = c
+abbrev pub letter_of : ClipboardType → ℕ
+letter_of Clipboard = 0x63
+letter_of Primary = 0x70
+letter_of (Other c) = c
 
 -- The destination of a letter.
 abbrev pub type_of : ℕ → ClipboardType
@@ -22,7 +22,7 @@ type_of c = if c == 0x63 then Clipboard else if c == 0x70 then Primary else Othe
 
 -- The letters of destinations, in UTF-8.
 abbrev pub selection_text : List ClipboardType → List ℕ
-selection_text types = encode_utf8_all (map char_of types)
+selection_text types = encode_utf8_all (map letter_of types)
 
 -- The destinations of a text's letters.
 abbrev pub selection_of : List ℕ → List ClipboardType
@@ -34,19 +34,19 @@ copy_functions content types = Osc (codes "52;" ++ (selection_text types ++ (cod
 
 -- The letters are characters, as every `char` is. None of them is ESC or a bell, which would end the text.
 abbrev pub AreReadable : List ClipboardType → Type 0
-AreReadable types = (all_scalars (map char_of types) ≡ true) × AllByRecursion IsOscText (selection_text types)
+AreReadable types = (all_scalars (map letter_of types) ≡ true) × AllByRecursion IsOscText (selection_text types)
 
 -- A terminal reads a copy's text as that command.
 abbrev pub CopiesRead : Type 0
-CopiesRead = (content : List ℕ) (types : List ClipboardType) → AreReadable types → Reads (text_of (copy_functions content types)) (copy_functions content types)
+CopiesRead = (content : List ℕ) (types : List ClipboardType) → AreReadable types → ReadsAs (text_of (copy_functions content types)) (copy_functions content types)
 
 -- ---- there and back
 
 -- A destination by its own name: `Other` with the letter of another one is that one.
-abbrev pub named : ClipboardType → ClipboardType
-named Clipboard = Clipboard
-named Primary = Primary
-named (Other c) = type_of c
+abbrev pub by_own_name : ClipboardType → ClipboardType
+by_own_name Clipboard = Clipboard
+by_own_name Primary = Primary
+by_own_name (Other c) = type_of c
 
 -- A destination that goes by its own name.
 abbrev pub IsNamed : ClipboardType → Type 0
@@ -55,12 +55,12 @@ IsNamed Primary = ⊤
 IsNamed (Other c) = (c ≢ 0x63) × (c ≢ 0x70)
 
 -- Reading the text of destinations gives them by their own names, if their letters are characters.
-abbrev pub ReadsBack : Type 0
-ReadsBack = (types : List ClipboardType) → all_scalars (map char_of types) ≡ true → selection_of (selection_text types) ≡ map named types
+abbrev pub TypesReadBack : Type 0
+TypesReadBack = (types : List ClipboardType) → all_scalars (map letter_of types) ≡ true → selection_of (selection_text types) ≡ map by_own_name types
 
 -- Reading the text of destinations gives them back, if each goes by its own name.
 abbrev pub ReadsSame : Type 0
-ReadsSame = (types : List ClipboardType) → all_scalars (map char_of types) ≡ true → AllByRecursion IsNamed types → selection_of (selection_text types) ≡ types
+ReadsSame = (types : List ClipboardType) → all_scalars (map letter_of types) ≡ true → AllByRecursion IsNamed types → selection_of (selection_text types) ≡ types
 
 -- Writing the destinations of a text gives the text.
 abbrev pub WritesBack : Type 0

@@ -4,12 +4,12 @@ use Rattle.std.specs.Str.{chars}
 use Rattle.std.specs.List.{AllByRecursion}
 use Rattle.std.specs.Io.KnownBytes.{Appends}
 use Rattle.crossterm_command.specs.Controls.{control, private, reset, set}
-use Rattle.crossterm_command.specs.Tokens.{Token, IsPlain, IsOscText, Reads}
+use Rattle.crossterm_command.specs.Tokens.{Token, IsPlain, IsOscText, ReadsAs}
 use Rattle.crossterm_command.specs.Tokens.Token.{Char}
 use Rattle.crossterm_command.specs.declared.color_output.ColorOutput.{ColorOutput}
 use Rattle.crossterm_style.specs.declared.types.colored.Colored.TheVariants.{ForegroundColor, BackgroundColor, UnderlineColor}
 use Rattle.crossterm_style.specs.Acts.{attribute_acts, style_acts, styled_acts}
-use Rattle.crossterm_style.specs.Styles.{attribute_functions, color_functions, colors_functions, reset_functions, told}
+use Rattle.crossterm_style.specs.Styles.{attribute_functions, color_functions, colors_functions, reset_functions, act_tokens}
 use Rattle.crossterm.specs.declared.command.any.AnyCommand.{AnyCommand}
 use Rattle.crossterm.specs.declared.command.any.AnyCommand.TheVariants as any
 use Rattle.crossterm.specs.Clipboard.{AreReadable, copy_functions}
@@ -57,9 +57,9 @@ functions colors (any.SetBackgroundColor c) = color_functions colors (Background
 functions colors (any.SetUnderlineColor c) = color_functions colors (UnderlineColor c.0)
 functions colors (any.SetColors c) = colors_functions colors c.0.foreground c.0.background
 functions colors (any.SetAttribute c) = attribute_functions c.0
-functions colors (any.SetAttributes c) = told colors (attribute_acts c.0.0)
-functions colors (any.SetStyle c) = told colors (style_acts c.0)
-functions colors (any.PrintStyledContent c) = told colors (styled_acts c.0.style (chars (string_bytes c.0.content)))
+functions colors (any.SetAttributes c) = act_tokens colors (attribute_acts c.0.0)
+functions colors (any.SetStyle c) = act_tokens colors (style_acts c.0)
+functions colors (any.PrintStyledContent c) = act_tokens colors (styled_acts c.0.style (chars (string_bytes c.0.content)))
 functions colors (any.ResetColor c) = reset_functions
 functions colors (any.CopyToClipboard c) = copy_functions c.content.items c.destination.0.items
 functions colors (any.Print c) = map Char (chars (string_bytes c.0))
@@ -74,4 +74,4 @@ IsReadable c = ⊤
 
 -- Known bytes grew by some that read as these tokens, and as no others.
 abbrev pub AppendsReading : Option (List ℕ) → Option (List ℕ) → List Token → Type 0
-AppendsReading old new ts = (bytes : List ℕ) × Appends old new bytes × Reads bytes ts × ((us : List Token) → Reads bytes us → us ≡ ts)
+AppendsReading old new ts = (bytes : List ℕ) × Appends old new bytes × ReadsAs bytes ts × ((us : List Token) → ReadsAs bytes us → us ≡ ts)

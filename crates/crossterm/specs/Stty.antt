@@ -20,13 +20,13 @@ pub record Stty (R W : Type 0) : Type 0 where
   pub failures : ℕ
 
 -- A text, and the end of its line.
-abbrev pub line : List ℕ → List ℕ
-line text = text ++ codes "\n"
+abbrev pub line_of : List ℕ → List ℕ
+line_of text = text ++ codes "\n"
 
 -- A request was written as a line, and these bytes were read for it, if reader and writer say what they read and wrote.
-abbrev pub Asks : {R W : Type 0} → (R → Option (List ℕ)) → (W → Option (List ℕ)) → List ℕ → List ℕ → Stty R W → Stty R W → Type 0
-Asks remaining contents request answer s t =
-    Appends (contents s.requests) (contents t.requests) (line request) × Consumes (remaining s.answers) (remaining t.answers) answer
+abbrev pub AsksLine : {R W : Type 0} → (R → Option (List ℕ)) → (W → Option (List ℕ)) → List ℕ → List ℕ → Stty R W → Stty R W → Type 0
+AsksLine remaining contents request answer s t =
+    Appends (contents s.requests) (contents t.requests) (line_of request) × Consumes (remaining s.answers) (remaining t.answers) answer
 
 -- A mode in an answer: neither the empty text nor the word for a refusal.
 abbrev pub IsMode : List ℕ → Type 0
@@ -34,39 +34,39 @@ IsMode text = (text ≢ []) × (text ≢ codes "failed")
 
 -- A request was written, and the mode that was read for it is the present one.
 abbrev pub AsksMode : {R W : Type 0} → (R → Option (List ℕ)) → (W → Option (List ℕ)) → List ℕ → Stty R W → Stty R W → Type 0
-AsksMode remaining contents request s t = Asks remaining contents request (line t.mode.text.bytes) s t × IsMode t.mode.text.bytes
+AsksMode remaining contents request s t = AsksLine remaining contents request (line_of t.mode.text.bytes) s t × IsMode t.mode.text.bytes
 
 -- Bytes without a line's end among them.
-abbrev pub HasNoEnd : List ℕ → Type 0
-HasNoEnd bytes = AllByRecursion (λ byte. byte ≢ 10) bytes
+abbrev pub HasNoNewline : List ℕ → Type 0
+HasNoNewline bytes = AllByRecursion (λ byte. byte ≢ 10) bytes
 
 -- What was read has no line's end.
 abbrev pub ReadsNoLine : Option (List ℕ) → Option (List ℕ) → Type 0
-ReadsNoLine old new = (bytes : List ℕ) × Consumes old new bytes × HasNoEnd bytes
+ReadsNoLine old new = (bytes : List ℕ) × Consumes old new bytes × HasNoNewline bytes
 
 -- No line was read, or one that is no mode.
 abbrev pub ReadsNoMode : Option (List ℕ) → Option (List ℕ) → Type 0
-ReadsNoMode old new = ReadsNoLine old new ⊎ ((text : List ℕ) × Consumes old new (line text) × (IsMode text → ⊥))
+ReadsNoMode old new = ReadsNoLine old new ⊎ ((text : List ℕ) × Consumes old new (line_of text) × (IsMode text → ⊥))
 
 -- No line was read, only the first of two, or two that are no size.
 abbrev pub ReadsNoSize : Option (List ℕ) → Option (List ℕ) → Type 0
 ReadsNoSize old new =
-    ReadsNoLine old new ⊎ ((rows : List ℕ) × (bytes : List ℕ) × Consumes old new (line rows ++ bytes) × HasNoEnd bytes)
-    ⊎ ((rows : List ℕ) × (columns : List ℕ) × Consumes old new (line rows ++ line columns) × (both (size_in columns) (size_in rows) ≡ None))
+    ReadsNoLine old new ⊎ ((rows : List ℕ) × (bytes : List ℕ) × Consumes old new (line_of rows ++ bytes) × HasNoNewline bytes)
+    ⊎ ((rows : List ℕ) × (columns : List ℕ) × Consumes old new (line_of rows ++ line_of columns) × (both (size_in columns) (size_in rows) ≡ None))
 
 -- The request, or a beginning of it, was written, and no mode was read for it. The mode is as before.
 abbrev pub Unanswered : {R W : Type 0} → (R → Option (List ℕ)) → (W → Option (List ℕ)) → List ℕ → Stty R W → Stty R W → Type 0
 Unanswered remaining contents request s t =
-    AppendsFront (contents s.requests) (contents t.requests) (line request) × ReadsNoMode (remaining s.answers) (remaining t.answers) × (t.mode ≡ s.mode)
+    AppendsFront (contents s.requests) (contents t.requests) (line_of request) × ReadsNoMode (remaining s.answers) (remaining t.answers) × (t.mode ≡ s.mode)
 
 -- The request for a size, or a beginning of it, was written, and no size was read for it. The mode is as before.
 abbrev pub AsksNoSize : {R W : Type 0} → (R → Option (List ℕ)) → (W → Option (List ℕ)) → Stty R W → Stty R W → Type 0
 AsksNoSize remaining contents s t =
-    AppendsFront (contents s.requests) (contents t.requests) (line (codes "size")) × ReadsNoSize (remaining s.answers) (remaining t.answers) × (t.mode ≡ s.mode)
+    AppendsFront (contents s.requests) (contents t.requests) (line_of (codes "size")) × ReadsNoSize (remaining s.answers) (remaining t.answers) × (t.mode ≡ s.mode)
 
 -- A size was asked for. It is that of the two lines that answered, rows and columns; pixels are 0.
 abbrev pub AsksSize : {R W : Type 0} → (R → Option (List ℕ)) → (W → Option (List ℕ)) → Stty R W → WindowSize → Stty R W → Type 0
-AsksSize remaining contents s size t = (rows : List ℕ) × (columns : List ℕ) × Asks remaining contents (codes "size") (line rows ++ line columns) s t
+AsksSize remaining contents s size t = (rows : List ℕ) × (columns : List ℕ) × AsksLine remaining contents (codes "size") (line_of rows ++ line_of columns) s t
     × (both (size_in columns) (size_in rows) ≡ Some (size.columns, size.rows)) × (size.width ≡ 0) × (size.height ≡ 0)
 
 -- The request to set a mode.

@@ -3,7 +3,7 @@ ghost use Rattle.std.specs.Prelude.{◌≡◌, OnOk, IfOk, IfErr, Some, [], ◌�
 ghost use Rattle.std.specs.Fmt.{WritesInCalls};
 ghost use Rattle.std.specs.IoError.{error_kind};
 ghost use Rattle.crossterm_command.specs.Tokens.{text_of};
-ghost use Rattle.crossterm.specs.Clipboard.{char_of, copy_functions, selection_of, selection_text, type_of};
+ghost use Rattle.crossterm.specs.Clipboard.{letter_of, copy_functions, selection_of, selection_text, type_of};
 
 use crate::command::Command;
 use crate::style::ColorOutput;
@@ -26,7 +26,7 @@ pub enum ClipboardType {
 }
 
 impl From<&ClipboardType> for char {
-    ghost from_gives = { λ x y. y ≡ char_of x.now };
+    ghost from_gives = { λ x y. y ≡ letter_of x.now };
 
     fn from(value: &ClipboardType) -> char {
         match value {

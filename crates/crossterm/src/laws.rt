@@ -1,7 +1,7 @@
 //! What holds of commands, whatever they are made of.
 ghost use Rattle.crossterm_flags.specs.Orders.{ComparesBy};
 ghost use Rattle.crossterm_flags.specs.Variants.{rank_order};
-ghost use Rattle.crossterm.specs.Clipboard.{CopiesRead, ReadsBack, ReadsSame, WritesBack};
+ghost use Rattle.crossterm.specs.Clipboard.{CopiesRead, TypesReadBack, ReadsSame, WritesBack};
 ghost use Rattle.crossterm.specs.Values.{clears};
 
 use crate::terminal::ClearType;
@@ -10,7 +10,7 @@ use std::cmp::{Ord, PartialOrd};
 /// Reading a selection's text returns the selection, with the clipboard and the primary selection for `Other('c')` and `Other('p')`; and
 /// the selection of a text shows as that text.
 pub fn selections_read_back()
-    ensures back { ReadsBack }
+    ensures back { TypesReadBack }
     ensures same { ReadsSame }
     ensures text { WritesBack }
 {}

@@ -7,24 +7,24 @@ use Rattle.crossterm_types.specs.declared.event.filter.Classes.{Classes}
 use Rattle.crossterm_types.specs.declared.event.key.KeyCode.{KeyCode}
 use Rattle.crossterm_types.specs.declared.event.key.KeyEventKind.{KeyEventKind}
 use Rattle.crossterm_types.specs.declared.event.mouse.MouseEventKind.{MouseEventKind}
-use Rattle.crossterm_c.specs.Event.{code_at, done_at, event_at, is_bare, key_by, mouse_by, no_code, no_flags, no_place, no_press, only, or_resize, press_at}
+use Rattle.crossterm_c.specs.Event.{code_at, done_at, event_at, is_bare, key_by, mouse_by, no_code, no_flags, no_place, no_press, only_if, or_resize, press_at}
 use Rattle.crossterm_c.specs.declared.event.GelvanhEvent.{GelvanhEvent}
 
 -- The event of a reply with no number but its own.
 pub cursor_is : (cs : Classes) (e : GelvanhEvent) → e.kind ≡ 6 → (no_code e && (no_press e && no_flags e)) ≡ true → is_of cs (event_at [] e) ≡ cs.cursor
 cursor_is cs e k s =
     ap (λ (x : GelvanhEvent). is_of cs (event_at [] x)) (λ i. record e { kind = k i })
-    ∙ ap (λ (b : Bool). is_of cs (or_resize (only b (Some (seen.CursorPosition e.column e.row))))) s
+    ∙ ap (λ (b : Bool). is_of cs (or_resize (only_if b (Some (seen.CursorPosition e.column e.row))))) s
 
 pub flags_are : (cs : Classes) (e : GelvanhEvent) → e.kind ≡ 7 → (no_code e && (no_press e && no_place e)) ≡ true → is_of cs (event_at [] e) ≡ cs.flags
 flags_are cs e k s =
     ap (λ (x : GelvanhEvent). is_of cs (event_at [] x)) (λ i. record e { kind = k i })
-    ∙ ap (λ (b : Bool). is_of cs (or_resize (only b (Some (seen.KeyboardFlags (record { 0 = e.flags })))))) s
+    ∙ ap (λ (b : Bool). is_of cs (or_resize (only_if b (Some (seen.KeyboardFlags (record { 0 = e.flags })))))) s
 
 pub attributes_are : (cs : Classes) (e : GelvanhEvent) → e.kind ≡ 8 → is_bare e ≡ true → is_of cs (event_at [] e) ≡ cs.attributes
 attributes_are cs e k s =
     ap (λ (x : GelvanhEvent). is_of cs (event_at [] x)) (λ i. record e { kind = k i })
-    ∙ ap (λ (b : Bool). is_of cs (or_resize (only b (Some seen.PrimaryDeviceAttributes)))) s
+    ∙ ap (λ (b : Bool). is_of cs (or_resize (only_if b (Some seen.PrimaryDeviceAttributes)))) s
 
 module _ (cs : Classes) where
   -- What a user brought about, or no event.
@@ -35,22 +35,22 @@ module _ (cs : Classes) where
   either true x y p q = p
   either false x y p q = q
 
-  one : (b : Bool) (x : Seen) → is_of cs x ≡ cs.event → IsUsers (only b (Some x))
+  one : (b : Bool) (x : Seen) → is_of cs x ≡ cs.event → IsUsers (only_if b (Some x))
   one true x p = p
   one false x p = refl
 
   -- A reply with other numbers is none.
-  none : (b s : Bool) (x : Seen) (y : Option Seen) → (b && s) ≡ false → IsUsers y → IsUsers (if b then only s (Some x) else y)
-  none true s x y p q = ap (λ (t : Bool). is_of cs (or_resize (only t (Some x)))) p
+  none : (b s : Bool) (x : Seen) (y : Option Seen) → (b && s) ≡ false → IsUsers y → IsUsers (if b then only_if s (Some x) else y)
+  none true s x y p q = ap (λ (t : Bool). is_of cs (or_resize (only_if t (Some x)))) p
   none false s x y p q = q
 
-  key : (b : Bool) (e : GelvanhEvent) (code : Option KeyCode) (how : Option KeyEventKind) → IsUsers (only b (key_by e code how))
+  key : (b : Bool) (e : GelvanhEvent) (code : Option KeyCode) (how : Option KeyEventKind) → IsUsers (only_if b (key_by e code how))
   key false e code how = refl
   key true e (Some code) (Some how) = refl
   key true e (Some code) None = refl
   key true e None how = refl
 
-  mouse : (b : Bool) (e : GelvanhEvent) (what : Option MouseEventKind) → IsUsers (only b (mouse_by e what))
+  mouse : (b : Bool) (e : GelvanhEvent) (what : Option MouseEventKind) → IsUsers (only_if b (mouse_by e what))
   mouse false e what = refl
   mouse true e (Some what) = refl
   mouse true e None = refl
@@ -70,7 +70,7 @@ module _ (cs : Classes) where
       (either (e.kind == 9) _ _ (one (no_code e && (no_press e && no_flags e)) _ refl) refl))))))))
 
   -- A paste is what a user brought about, whatever its text is.
-  paste : (b s : Bool) (x y : List ℕ) (rest : Option Seen) → is_of cs (or_resize (if b then only s (Some (seen.Paste x)) else rest)) ≡ is_of cs (or_resize (if b then only s (Some (seen.Paste y)) else rest))
+  paste : (b s : Bool) (x y : List ℕ) (rest : Option Seen) → is_of cs (or_resize (if b then only_if s (Some (seen.Paste x)) else rest)) ≡ is_of cs (or_resize (if b then only_if s (Some (seen.Paste y)) else rest))
   paste true true x y rest = refl
   paste true false x y rest = refl
   paste false s x y rest = refl

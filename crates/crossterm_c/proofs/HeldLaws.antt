@@ -12,7 +12,7 @@ use Rattle.crossterm_types.specs.Admitting.{is_of}
 use Rattle.crossterm_types.specs.Seen.{Seen}
 use Rattle.crossterm_read.specs.Answers.{Gave, SourceAnswer}
 use Rattle.crossterm_c.specs.Event.{event_at}
-use Rattle.crossterm_c.specs.Held.{TakesAsHeld, TakesEach, admits, answers_at, classes_at, held_in, kept_at, number_after, numbered, store_at}
+use Rattle.crossterm_c.specs.Held.{TakesAsHeld, TakesEach, admits, answers_at, classes_at, held_in, kept_at, next_arrival, held_from, store_at}
 use Rattle.crossterm_read.specs.Store.{Arrives, EventStore, arrived, next_number, numbered_after}
 use Rattle.crossterm_read.specs.Steps.{TakeReplies, first_admitted}
 use Rattle.crossterm_c.specs.declared.event.GelvanhEvent.{GelvanhEvent}
@@ -177,24 +177,24 @@ behind_one xs ys n x same =
     drop-set-lt (n + 1) xs n x (omega arith) ∙ ap (λ (m : ℕ). drop m xs) (omega arith) ∙ sym (drop-drop 1 n xs) ∙ ap (drop 1) same ∙ drop-drop 1 n ys
 
 -- As many numbered events as events.
-pub length_numbered : (n : ℕ) (events : List GelvanhEvent) → length (numbered n events) ≡ length events
+pub length_numbered : (n : ℕ) (events : List GelvanhEvent) → length (held_from n events) ≡ length events
 length_numbered n [] = refl
 length_numbered n (e ∷ events) = ap suc (length_numbered (next_number n) events)
 
 module _ (texts : ℕ → List ℕ) where
-  numbered_arrive : (n : ℕ) (events : List GelvanhEvent) → map (kept_at texts) (numbered n events) ≡ arrived n (answers_at texts n events)
+  numbered_arrive : (n : ℕ) (events : List GelvanhEvent) → map (kept_at texts) (held_from n events) ≡ arrived n (answers_at texts n events)
   numbered_arrive n [] = refl
   numbered_arrive n (e ∷ events) = ap (λ (xs : List (Seen × ℕ)). (event_at (texts n) e, n) ∷ xs) (numbered_arrive (next_number n) events)
 
-  number_is : (n : ℕ) (events : List GelvanhEvent) → number_after n events ≡ numbered_after n (answers_at texts n events)
+  number_is : (n : ℕ) (events : List GelvanhEvent) → next_arrival n events ≡ numbered_after n (answers_at texts n events)
   number_is n [] = refl
   number_is n (e ∷ events) = number_is (next_number n) events
 
   -- Events that are fed arrive.
-  pub fed_arrive : (before after : GelvanhReader) (table left : List GelvanhHeld) (given : List GelvanhEvent) → held_in after left ≡ held_in before table ++ numbered before.arrivals given
-      → after.arrivals ≡ number_after before.arrivals given → Arrives (store_at texts before table) (answers_at texts before.arrivals given) (store_at texts after left)
+  pub fed_arrive : (before after : GelvanhReader) (table left : List GelvanhHeld) (given : List GelvanhEvent) → held_in after left ≡ held_in before table ++ held_from before.arrivals given
+      → after.arrivals ≡ next_arrival before.arrivals given → Arrives (store_at texts before table) (answers_at texts before.arrivals given) (store_at texts after left)
   fed_arrive before after table left given held number = record {
-    held = ap (map (kept_at texts)) held ∙ map-append (kept_at texts) (held_in before table) (numbered before.arrivals given)
+    held = ap (map (kept_at texts)) held ∙ map-append (kept_at texts) (held_in before table) (held_from before.arrivals given)
         ∙ ap (λ (xs : List (Seen × ℕ)). map (kept_at texts) (held_in before table) ++ xs) (numbered_arrive before.arrivals given);
     arrivals = number ∙ number_is before.arrivals given;
   }

@@ -4,7 +4,7 @@ use Rattle.std.proofs.lemmas.List.{append-nil, length-append, take-append-le, ta
 use Rattle.std.proofs.Math.Seq.{take-add}
 use Rattle.crossterm_types.specs.Seen.{Seen}
 use Rattle.crossterm_parse.specs.States.{is_paste}
-use Rattle.crossterm_parse.specs.Transitions.{state_after, state_left, text_left, events_left, Step, Open, Closed}
+use Rattle.crossterm_parse.specs.Transitions.{state_after, state_left, text_left, events_left, ByteStep, Open, Closed}
 use Rattle.crossterm_parse.specs.Putting.{PutsAll, PutsByte}
 use Rattle.crossterm_parse.specs.Marked.{marked}
 use Rattle.crossterm_parse.specs.Meaning.{pasted}
@@ -39,18 +39,18 @@ text_goes_on false t text b hs ht = cc
 byte_goes_on : (old new : State) (text : List ℕ) (waiting : List Seen) (b : ℕ) (raw pause : Bool) → is_paste old ≡ true → is_paste new ≡ true → state_after old b raw pause ≡ Open new
     → PutsByte (view_of old text waiting) (view_of new (text ++ b ∷ []) waiting) b raw pause
 byte_goes_on old new text waiting b raw pause was is opens = (
-  ap (λ (s : Step). state_left s) (sym opens),
-  text_goes_on (is_paste old) (is_paste new) text b was is ∙ ap (λ (s : Step). text_left s old text b) (sym opens),
-  sym (append-nil waiting) ∙ ap (λ (s : Step). waiting ++ events_left s text) (sym opens),
+  ap (λ (s : ByteStep). state_left s) (sym opens),
+  text_goes_on (is_paste old) (is_paste new) text b was is ∙ ap (λ (s : ByteStep). text_left s old text b) (sym opens),
+  sym (append-nil waiting) ∙ ap (λ (s : ByteStep). waiting ++ events_left s text) (sym opens),
 )
 
 -- The byte with which it is over.
 byte_closes : (old : State) (text : List ℕ) (waiting : List Seen) (b : ℕ) (raw pause : Bool) → state_after old b raw pause ≡ Closed
     → PutsByte (view_of old text waiting) (view_of Ground [] (waiting ++ pasted (take (length text - 5) text) ∷ [])) b raw pause
 byte_closes old text waiting b raw pause closes = (
-  ap (λ (s : Step). state_left s) (sym closes),
-  ap (λ (s : Step). text_left s old text b) (sym closes),
-  ap (λ (s : Step). waiting ++ events_left s text) (sym closes),
+  ap (λ (s : ByteStep). state_left s) (sym closes),
+  ap (λ (s : ByteStep). text_left s old text b) (sym closes),
+  ap (λ (s : ByteStep). waiting ++ events_left s text) (sym closes),
 )
 
 -- The last byte of the end belongs to what is kept.

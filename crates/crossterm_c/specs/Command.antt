@@ -16,7 +16,7 @@ use Rattle.crossterm_command.specs.declared.color_output.ColorOutput.TheVariants
 use Rattle.crossterm_style.specs.AttributeSet.{AttributeSet}
 use Rattle.crossterm_style.specs.Attributes.{all_attributes, bit_of, of_list}
 use Rattle.crossterm_style.specs.Acts.{attribute_acts, style_acts}
-use Rattle.crossterm_style.specs.Styles.{attribute_functions, color_functions, colors_functions, reset_functions, styled_text, told}
+use Rattle.crossterm_style.specs.Styles.{attribute_functions, color_functions, colors_functions, reset_functions, styled_text, act_tokens}
 use Rattle.crossterm_style.specs.declared.content_style.ContentStyle.{ContentStyle}
 use Rattle.crossterm_style.specs.declared.types.attribute.Attribute.{Attribute}
 use Rattle.crossterm_style.specs.declared.types.color.Color.{Color}
@@ -47,8 +47,8 @@ attribute_at n = slice_get all_attributes n
 
 -- The colour of a kind: 1 to 17 by name, 18 by its three parts, 19 by its number in the palette, which is `r`. Other
 -- kinds give `None`.
-abbrev pub color_at : GelvanhColor → Option Color
-color_at c =
+abbrev pub color_of_kind : GelvanhColor → Option Color
+color_of_kind c =
     if c.kind == 1 then Some color.Reset else
     if c.kind == 2 then Some color.Black else
     if c.kind == 3 then Some color.DarkGrey else
@@ -72,7 +72,7 @@ color_at c =
 
 -- A colour that may be missing: with the kind 0 it is. Unknown kinds give `None`.
 abbrev pub there_at : GelvanhColor → Option (Option Color)
-there_at c = if c.kind == 0 then Some None else option_map Some (color_at c)
+there_at c = if c.kind == 0 then Some None else option_map Some (color_of_kind c)
 
 -- Whether bits have the bit of an attribute.
 abbrev pub includes : ℕ → Attribute → Bool
@@ -134,8 +134,8 @@ terminal_text c =
 
 -- The text of a command that chooses which events a terminal reports, of a kind from 27 to 34. Other kinds, and flags
 -- above 255, give `None`.
-abbrev pub event_text : GelvanhCommand → Option (List ℕ)
-event_text c =
+abbrev pub report_text : GelvanhCommand → Option (List ℕ)
+report_text c =
     if c.kind == 27 then Some (text_of enable_mouse) else
     if c.kind == 28 then Some (text_of disable_mouse) else
     if c.kind == 29 then Some (text_of (set "1004")) else
@@ -159,13 +159,13 @@ colors_at c = colors_by (there_at c.foreground) (there_at c.background)
 -- invalid parts give `None`.
 abbrev pub style_text : ColorOutput → GelvanhCommand → Option (List ℕ)
 style_text colors c =
-    if c.kind == 35 then option_map (λ s. text_of (color_functions colors (ForegroundColor s))) (color_at c.foreground) else
-    if c.kind == 36 then option_map (λ s. text_of (color_functions colors (BackgroundColor s))) (color_at c.background) else
-    if c.kind == 37 then option_map (λ s. text_of (color_functions colors (UnderlineColor s))) (color_at c.underline) else
+    if c.kind == 35 then option_map (λ s. text_of (color_functions colors (ForegroundColor s))) (color_of_kind c.foreground) else
+    if c.kind == 36 then option_map (λ s. text_of (color_functions colors (BackgroundColor s))) (color_of_kind c.background) else
+    if c.kind == 37 then option_map (λ s. text_of (color_functions colors (UnderlineColor s))) (color_of_kind c.underline) else
     if c.kind == 38 then option_map (λ s. text_of (colors_functions colors s.foreground s.background)) (colors_at c) else
     if c.kind == 39 then option_map (λ s. text_of (attribute_functions s)) (attribute_at c.first) else
-    if c.kind == 40 then option_map (λ s. text_of (told colors (attribute_acts s.0))) (attributes_at c.attributes) else
-    if c.kind == 41 then option_map (λ s. text_of (told colors (style_acts s))) (style_at c) else
+    if c.kind == 40 then option_map (λ s. text_of (act_tokens colors (attribute_acts s.0))) (attributes_at c.attributes) else
+    if c.kind == 41 then option_map (λ s. text_of (act_tokens colors (style_acts s))) (style_at c) else
     if c.kind == 43 then Some (text_of reset_functions) else
     None
 
@@ -174,7 +174,7 @@ abbrev pub command_text : ColorOutput → GelvanhCommand → Option (List ℕ)
 command_text colors c =
     if nat_lt c.kind 16 then cursor_text c else
     if nat_lt c.kind 27 then terminal_text c else
-    if nat_lt c.kind 35 then event_text c else
+    if nat_lt c.kind 35 then report_text c else
     style_text colors c
 
 -- A text in a style, or `None` if there is no style.
@@ -194,16 +194,16 @@ copied content places = Osc (codes "52;" ++ (places ++ (codes ";" ++ encode_of s
 -- `Written`: the text is at the front of the slice, the rest of it is unchanged, and `n` is the text's length.
 -- `TooSmall`: the slice is shorter than the text and unchanged, and `n` is the text's length.
 -- `Failed`: `n` is 0, and the slice may have any bytes. `NamesNothing` isn't answered.
-abbrev pub Answers : List ℕ → List ℕ → List ℕ → ℕ → Outcome → Type 0
-Answers text old new n Written = (n ≡ length text) × (take n new ≡ text) × (drop n new ≡ drop n old)
-Answers text old new n TooSmall = (n ≡ length text) × (length old < n) × (new ≡ old)
-Answers text old new n NamesNothing = ⊥
-Answers text old new n Failed = n ≡ 0
+abbrev pub AnswersText : List ℕ → List ℕ → List ℕ → ℕ → Outcome → Type 0
+AnswersText text old new n Written = (n ≡ length text) × (take n new ≡ text) × (drop n new ≡ drop n old)
+AnswersText text old new n TooSmall = (n ≡ length text) × (length old < n) × (new ≡ old)
+AnswersText text old new n NamesNothing = ⊥
+AnswersText text old new n Failed = n ≡ 0
 
 -- What a call answers if the numbers may name nothing. Exactly then it answers `NamesNothing`, nothing was written,
 -- and `n` is 0.
 abbrev pub AnswersTo : Option (List ℕ) → List ℕ → List ℕ → ℕ → Outcome → Type 0
-AnswersTo (Some text) old new n outcome = Answers text old new n outcome
+AnswersTo (Some text) old new n outcome = AnswersText text old new n outcome
 AnswersTo None old new n outcome = (outcome ≡ NamesNothing) × (n ≡ 0) × (new ≡ old)
 
 -- What a call answers if a text has to be UTF-8. A text that isn't UTF-8 names nothing.

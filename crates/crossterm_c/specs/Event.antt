@@ -21,14 +21,14 @@ use Rattle.crossterm_parse.specs.Meaning.{pasted}
 use Rattle.crossterm_c.specs.declared.event.GelvanhEvent.{GelvanhEvent}
 
 -- The keys of a media keyboard, in declared order.
-abbrev pub media_keys : List MediaKeyCode
-media_keys =
+abbrev pub media_list : List MediaKeyCode
+media_list =
     media.Play ∷ media.Pause ∷ media.PlayPause ∷ media.Reverse ∷ media.Stop ∷ media.FastForward ∷ media.Rewind ∷
     media.TrackNext ∷ media.TrackPrevious ∷ media.Record ∷ media.LowerVolume ∷ media.RaiseVolume ∷ media.MuteVolume ∷ []
 
 -- The modifier keys, in declared order.
-abbrev pub modifier_keys : List ModifierKeyCode
-modifier_keys =
+abbrev pub modifier_list : List ModifierKeyCode
+modifier_list =
     modifier.LeftShift ∷ modifier.LeftControl ∷ modifier.LeftAlt ∷ modifier.LeftSuper ∷ modifier.LeftHyper ∷ modifier.LeftMeta ∷
     modifier.RightShift ∷ modifier.RightControl ∷ modifier.RightAlt ∷ modifier.RightSuper ∷ modifier.RightHyper ∷ modifier.RightMeta ∷
     modifier.IsoLevel3Shift ∷ modifier.IsoLevel5Shift ∷ []
@@ -44,8 +44,8 @@ keys_with value =
 -- The key of two numbers, or `None`. If the key has no number, no character and no place, the second one has to be 0.
 abbrev pub code_at : ℕ → ℕ → Option KeyCode
 code_at n value =
-    if n == 25 then option_map code.Media (slice_get media_keys value) else
-    if n == 26 then option_map code.Modifier (slice_get modifier_keys value) else
+    if n == 25 then option_map code.Media (slice_get media_list value) else
+    if n == 26 then option_map code.Modifier (slice_get modifier_list value) else
     if value == 0 || (n == 14 || n == 15) then slice_get (keys_with value) n else
     None
 
@@ -102,22 +102,22 @@ abbrev pub is_bare : GelvanhEvent → Bool
 is_bare e = no_code e && (no_press e && (no_place e && no_flags e))
 
 -- The event if the condition holds, otherwise `None`.
-abbrev pub only : Bool → Option Seen → Option Seen
-only is told = if is then told else None
+abbrev pub only_if : Bool → Option Seen → Option Seen
+only_if is told = if is then told else None
 
 -- The event of these numbers, or `None` if they are no event's. Of a paste the caller kept the bytes, and the last
 -- six of them end it.
 abbrev pub told_by : List ℕ → GelvanhEvent → Option Seen
 told_by kept e =
-    if e.kind == 1 then only (is_bare e) (Some seen.FocusGained) else
-    if e.kind == 2 then only (is_bare e) (Some seen.FocusLost) else
-    if e.kind == 3 then only (no_place e && no_flags e) (key_by e (code_at e.code e.value) (press_at e.press)) else
-    if e.kind == 4 then only (no_press e && no_flags e) (mouse_by e (done_at e.code e.value)) else
-    if e.kind == 5 then only (is_bare e) (Some (pasted (take (length kept - 6) kept))) else
-    if e.kind == 6 then only (no_code e && (no_press e && no_flags e)) (Some (seen.CursorPosition e.column e.row)) else
-    if e.kind == 7 then only (no_code e && (no_press e && no_place e)) (Some (seen.KeyboardFlags (record { 0 = e.flags }))) else
-    if e.kind == 8 then only (is_bare e) (Some seen.PrimaryDeviceAttributes) else
-    if e.kind == 9 then only (no_code e && (no_press e && no_flags e)) (Some (seen.Resize e.column e.row)) else
+    if e.kind == 1 then only_if (is_bare e) (Some seen.FocusGained) else
+    if e.kind == 2 then only_if (is_bare e) (Some seen.FocusLost) else
+    if e.kind == 3 then only_if (no_place e && no_flags e) (key_by e (code_at e.code e.value) (press_at e.press)) else
+    if e.kind == 4 then only_if (no_press e && no_flags e) (mouse_by e (done_at e.code e.value)) else
+    if e.kind == 5 then only_if (is_bare e) (Some (pasted (take (length kept - 6) kept))) else
+    if e.kind == 6 then only_if (no_code e && (no_press e && no_flags e)) (Some (seen.CursorPosition e.column e.row)) else
+    if e.kind == 7 then only_if (no_code e && (no_press e && no_place e)) (Some (seen.KeyboardFlags (record { 0 = e.flags }))) else
+    if e.kind == 8 then only_if (is_bare e) (Some seen.PrimaryDeviceAttributes) else
+    if e.kind == 9 then only_if (no_code e && (no_press e && no_flags e)) (Some (seen.Resize e.column e.row)) else
     None
 
 -- The event, or a resize to nothing if there is none. No bytes mean a resize, so this is never given for bytes.

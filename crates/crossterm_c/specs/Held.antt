@@ -42,11 +42,11 @@ classes_at bits = record { event = has_bit bits 1; cursor = has_bit bits 2; flag
 
 -- The bits of what a filter admits. A terminal without the keyboard protocol answers the query for flags with its
 -- attributes alone.
-abbrev pub bits_of : AnyFilter → ℕ
-bits_of Event = 1
-bits_of Cursor = 2
-bits_of Flags = 12
-bits_of Attributes = 8
+abbrev pub class_bits : AnyFilter → ℕ
+class_bits Event = 1
+class_bits Cursor = 2
+class_bits Flags = 12
+class_bits Attributes = 8
 
 -- Whether a held event is of one of these classes. The bytes of a paste don't matter.
 abbrev pub admits : ℕ → GelvanhHeld → Bool
@@ -63,14 +63,14 @@ TakesEach bits held [] left = left ≡ held
 TakesEach bits held (h ∷ taken) left = (mid : List GelvanhHeld) × TakesAsHeld bits held h mid × TakesEach bits mid taken left
 
 -- Events as they are held, numbered from `n` on.
-abbrev pub numbered : ℕ → List GelvanhEvent → List GelvanhHeld
-numbered n [] = []
-numbered n (e ∷ events) = record { event = e; arrival = n } ∷ numbered (next_number n) events
+abbrev pub held_from : ℕ → List GelvanhEvent → List GelvanhHeld
+held_from n [] = []
+held_from n (e ∷ events) = record { event = e; arrival = n } ∷ held_from (next_number n) events
 
 -- The number of the next event after these.
-abbrev pub number_after : ℕ → List GelvanhEvent → ℕ
-number_after n [] = n
-number_after n (e ∷ events) = number_after (next_number n) events
+abbrev pub next_arrival : ℕ → List GelvanhEvent → ℕ
+next_arrival n [] = n
+next_arrival n (e ∷ events) = next_arrival (next_number n) events
 
 -- Bytes were taken, and their events joined the held ones.
 pub record FeedsHeld (old new : State) (before : GelvanhReader) (table : List GelvanhHeld) (after : GelvanhReader) (left : List GelvanhHeld) (count : ℕ) (bytes : List ℕ) (taken : List Marked) : Type 0 where
@@ -78,9 +78,9 @@ pub record FeedsHeld (old new : State) (before : GelvanhReader) (table : List Ge
   -- The bytes were taken, and gave these events.
   pub feeds : Feeds old new given bytes taken
   -- The events are behind those that were held before, in order, each with its number.
-  pub held : held_in after left ≡ held_in before table ++ numbered before.arrivals given
+  pub held : held_in after left ≡ held_in before table ++ held_from before.arrivals given
   -- The next number is that after these events.
-  pub arrivals : after.arrivals ≡ number_after before.arrivals given
+  pub arrivals : after.arrivals ≡ next_arrival before.arrivals given
   -- `count` is how many they are.
   pub size : count ≡ length given
 

@@ -37,8 +37,8 @@ abbrev pub part_at : ℕ → Part
 part_at n = if n == 0 then part.First else if n == 1 then part.Second else part.Later
 
 -- The field that is being read: the first (0), the second (1), the third (2), or otherwise a later one.
-abbrev pub place_at : ℕ → Place
-place_at n = if n == 0 then place.First else if n == 1 then place.Second else if n == 2 then place.Third else place.Later
+abbrev pub field_place : ℕ → Place
+field_place n = if n == 0 then place.First else if n == 1 then place.Second else if n == 2 then place.Third else place.Later
 
 -- The bytes of a character so far: one, two, or for any other count three.
 abbrev pub begun_at : GelvanhBytes → Begun
@@ -68,7 +68,7 @@ parameters_at numbers = record {
     first = record { first = number_at numbers.one; second = number_at numbers.one_more; part = part_at numbers.part_one };
     second = record { first = number_at numbers.two; second = number_at numbers.two_more; part = part_at numbers.part_two };
     third = number_at numbers.three;
-    place = place_at numbers.place;
+    place = field_place numbers.place;
   };
   last = numbers.last;
   validity = validity_by numbers.validity numbers.begun;

@@ -4,21 +4,21 @@ use Rattle.std.specs.Char.{encode_utf8}
 use Rattle.bstr.specs.Utf8.{decoded, lossy_chars, or_replacement}
 
 -- The text of some bytes, with U+FFFD for each maximal part that isn't UTF-8.
-abbrev pub text_of : List ℕ → List ℕ
-text_of bytes = encode_utf8_all (lossy_chars bytes)
+abbrev pub lossy_text : List ℕ → List ℕ
+lossy_text bytes = encode_utf8_all (lossy_chars bytes)
 
 -- The text of the bytes is `front` and then the text of the bytes from `place` on.
-abbrev pub Begins : List ℕ → List ℕ → ℕ → Type 0
-Begins bytes front place = text_of bytes ≡ front ++ text_of (drop place bytes)
+abbrev pub TextBeginsWith : List ℕ → List ℕ → ℕ → Type 0
+TextBeginsWith bytes front place = lossy_text bytes ≡ front ++ lossy_text (drop place bytes)
 
 -- The first character of some bytes, in UTF-8: U+FFFD for a part that isn't UTF-8.
 abbrev pub next_text : List ℕ → List ℕ
 next_text bytes = encode_utf8 (or_replacement (decoded bytes).char)
 
 -- `read` bytes were read, and `count` bytes of their text were written into a slice.
-pub record Writes (bytes slice : List ℕ) (count read : ℕ) : Type 0 where
+pub record WritesLossy (bytes slice : List ℕ) (count read : ℕ) : Type 0 where
   pub within : read ≤ length bytes
   pub fits : count ≤ length slice
-  pub text : Begins bytes (take count slice) read
+  pub text : TextBeginsWith bytes (take count slice) read
   -- All bytes were read, or the next character has no room.
   pub whole : (read ≡ length bytes) ⊎ (length slice < count + length (next_text (drop read bytes)))

@@ -2,7 +2,7 @@
 ghost use Rattle.std.specs.Prelude.{◌≡◌, [], ◌∷◌};
 ghost use Rattle.std.specs.List.{filter};
 ghost use Rattle.crossterm_style.specs.Attributes.{with_all};
-ghost use Rattle.crossterm_c.specs.Command.{attribute_at, attributes_at, color_at, includes, known_of, there_at};
+ghost use Rattle.crossterm_c.specs.Command.{attribute_at, attributes_at, color_of_kind, includes, known_of, there_at};
 
 use crossterm::style::{Attribute, Attributes, Color};
 
@@ -63,7 +63,7 @@ pub(crate) fn attributes_of(bits: u32) -> Option<Attributes>
 
 /// The colour of some numbers.
 pub(crate) fn color_of(color: GelvanhColor) -> Option<Color>
-    ensures { result ≡ color_at color }
+    ensures { result ≡ color_of_kind color }
 {
     match color.kind {
         1 => Some(Color::Reset),

@@ -7,7 +7,7 @@ ghost use Rattle.crossterm_parse.specs.Putting.{PutsAll};
 ghost use Rattle.crossterm_parse.specs.Marked.{marked};
 ghost use Rattle.crossterm_c.specs.Feeding.{Pastes, view_of};
 ghost use Rattle.crossterm_c.specs.State.{state_at};
-ghost use Rattle.crossterm_c.specs.inside.Table.{FillsBy, capacity};
+ghost use Rattle.crossterm_c.specs.inside.Table.{FillsBy, table_capacity};
 
 use crate::event::paste_end;
 use crate::state::GelvanhState;
@@ -36,12 +36,12 @@ fn feed_sequences<L: Ledger>(
     steps: &mut Steps<L>,
 ) -> usize
     requires outside { is_paste state.old ≡ false }
-    requires within { table.old.end ≤ capacity table.old }
+    requires within { table.old.end ≤ table_capacity table.old }
     ensures taken { result ≤ length piece.now }
     ensures fills { (bytes : List ℕ) → FillsBy state.old state.new table.old table.new bytes (take result (marked piece.now more raw)) }
-    ensures all { (result ≡ length piece.now) ⊎ (table.new.end ≡ capacity table.new) ⊎ (is_paste state.new ≡ true) }
+    ensures all { (result ≡ length piece.now) ⊎ (table.new.end ≡ table_capacity table.new) ⊎ (is_paste state.new ≡ true) }
     ensures few { table.new.end ≤ table.old.end + result }
-    ensures some { table.old.end < capacity table.old → 0 < length piece.now → 0 < result }
+    ensures some { table.old.end < table_capacity table.old → 0 < length piece.now → 0 < result }
 {
     state.take(piece, more, raw, table, steps)
 }
@@ -100,12 +100,12 @@ pub(crate) fn feed<L: Ledger>(
 ) -> usize
     requires name { blank.name ≡ L.name }
     requires parts { (blank.parts ≡ L.parts) × (0 < L.parts) }
-    requires within { table.old.end ≤ capacity table.old }
+    requires within { table.old.end ≤ table_capacity table.old }
     ensures taken { result ≤ length piece.now }
     ensures fills { FillsBy state.old state.new table.old table.new (take result piece.now) (take result (marked piece.now more raw)) }
-    ensures all { (result ≡ length piece.now) ⊎ (table.new.end ≡ capacity table.new) ⊎ (is_paste state.new ≢ is_paste state.old) }
+    ensures all { (result ≡ length piece.now) ⊎ (table.new.end ≡ table_capacity table.new) ⊎ (is_paste state.new ≢ is_paste state.old) }
     ensures few { table.new.end ≤ table.old.end + result }
-    ensures some { table.old.end < capacity table.old → 0 < length piece.now → 0 < result }
+    ensures some { table.old.end < table_capacity table.old → 0 < length piece.now → 0 < result }
 {
     let mut steps: Steps<L> = Steps::new(blank);
     if !state.is_paste() {

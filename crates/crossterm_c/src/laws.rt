@@ -15,7 +15,7 @@ ghost use Rattle.crossterm_read.specs.Store.{Arrives, EventStore};
 ghost use Rattle.crossterm_c.specs.Command.{copied};
 ghost use Rattle.crossterm_c.specs.declared.held.GelvanhHeld.{GelvanhHeld};
 ghost use Rattle.crossterm_c.specs.declared.held.GelvanhReader.{GelvanhReader};
-ghost use Rattle.crossterm_c.specs.Held.{FeedsHeld, TakesAsHeld, answers_at, bits_of, classes_at, held_in, kept_at, store_at};
+ghost use Rattle.crossterm_c.specs.Held.{FeedsHeld, TakesAsHeld, answers_at, class_bits, classes_at, held_in, kept_at, store_at};
 
 /// What `gelvanh_copy_to_clipboard` writes is the text of the command `CopyToClipboard` with the places of the letters.
 pub fn a_copy_is_the_command()
@@ -28,7 +28,7 @@ pub fn a_copy_is_the_command()
 /// `InternalEventReader::read_within` of a source that answers with these events. And who holds more events before taking takes the same one,
 /// and holds the same ones then.
 pub fn holding_and_taking_is_reading()
-    ensures filters { (f : AnyFilter) (x : Seen) → is_of (classes_at (bits_of f)) x ≡ admitted f x }
+    ensures filters { (f : AnyFilter) (x : Seen) → is_of (classes_at (class_bits f)) x ≡ admitted f x }
     ensures read { (f : Seen → Bool) (passed : List Seen) (event : Seen) (s m t : EventStore) (x : Seen × ℕ) → first_admitted f s.held ≡ None → AllByRecursion (λ e. f e ≡ false) passed → f event ≡ true → Arrives s (map Gave (passed ++ event ∷ [])) m → TakeReplies f m t (Some x) → ReadStep (UpTo (length passed + 1)) f (map Gave (passed ++ event ∷ [])) s t (ToTake (Some x)) }
     ensures more { (f : Seen → Bool) (zs : List SourceAnswer) (s t m k : EventStore) (x : Seen × ℕ) → TakeReplies f s t (Some x) → Arrives s zs m → Arrives t zs k → TakeReplies f m k (Some x) }
 {}

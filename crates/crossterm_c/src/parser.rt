@@ -5,7 +5,7 @@ ghost use Rattle.crossterm_parse.specs.Marked.{bytes_of, marked};
 ghost use Rattle.crossterm_parse.specs.declared.marked.Marked.{Marked};
 ghost use Rattle.crossterm_c.specs.Feeding.{Feeds};
 ghost use Rattle.crossterm_c.specs.State.{state_at};
-ghost use Rattle.crossterm_c.specs.Text.{Writes};
+ghost use Rattle.crossterm_c.specs.Text.{WritesLossy};
 
 use crate::event::{GelvanhEvent, of_key};
 use crate::feed::{feed, is_lone_letter};
@@ -93,7 +93,7 @@ pub extern "C" fn gelvanh_is_pasting(state: &GelvanhState) -> bool
 /// slice were written. What is behind them is the call's to use.
 #[unsafe(no_mangle)]
 pub extern "C" fn gelvanh_paste_text(bytes: &[u8], text: &mut [u8], written: &mut usize) -> usize
-    ensures { Writes bytes.now text.new written.new result }
+    ensures { WritesLossy bytes.now text.new written.new result }
 {
     write_text(bytes, text, written)
 }

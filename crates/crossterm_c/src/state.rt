@@ -1,6 +1,6 @@
 //! The state of an open sequence as numbers, and back.
 ghost use Rattle.std.specs.Prelude.{◌≡◌};
-ghost use Rattle.crossterm_c.specs.State.{x10_at, number_at, part_at, place_at, begun_at, opening_at, met_at, parameters_at, state_at};
+ghost use Rattle.crossterm_c.specs.State.{x10_at, number_at, part_at, field_place, begun_at, opening_at, met_at, parameters_at, state_at};
 
 use crossterm_parse::character::{Begun, Character};
 use crossterm_parse::fields::{Field, Fields, Part, Place};
@@ -165,7 +165,7 @@ fn part_of(flat: u8) -> Part
 }
 
 fn flat_place(place: Place) -> u8
-    ensures { place_at result ≡ place }
+    ensures { field_place result ≡ place }
 {
     match place {
         Place::First => 0,
@@ -176,7 +176,7 @@ fn flat_place(place: Place) -> u8
 }
 
 fn place_of(flat: u8) -> Place
-    ensures { result ≡ place_at flat }
+    ensures { result ≡ field_place flat }
 {
     match flat {
         0 => Place::First,

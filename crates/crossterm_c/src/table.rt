@@ -2,7 +2,7 @@
 //!
 //! Both are one type, so that what reads the sequences is compiled once, with all of it in one function.
 ghost use Rattle.std.specs.Prelude.{◌≡◌, ◌-◌, ◌<◌, ◌≤◌, ◌∷◌, [], IsTrue, IsFalse};
-ghost use Rattle.crossterm_c.specs.inside.Table.{Filled, PutsEvents, capacity, filled_none, filled_on};
+ghost use Rattle.crossterm_c.specs.inside.Table.{Filled, PutsEvents, table_capacity, filled_none, filled_on};
 
 use crate::event::{GelvanhEvent, of_key, of_meaning};
 use crate::held::GelvanhHeld;
@@ -26,7 +26,7 @@ impl Table<'_> {
     /// How many places it has.
     #[inline(always)]
     fn capacity(&self) -> usize
-        ensures { result ≡ capacity self.now }
+        ensures { result ≡ table_capacity self.now }
     {
         if self.is_held {
             self.held.len()
@@ -38,8 +38,8 @@ impl Table<'_> {
     /// Whether all its places are filled.
     #[inline(always)]
     pub(crate) fn is_full(&self) -> bool
-        ensures yes { IsTrue result → capacity self.now ≤ self.now.end }
-        ensures no { IsFalse result → self.now.end < capacity self.now }
+        ensures yes { IsTrue result → table_capacity self.now ≤ self.now.end }
+        ensures no { IsFalse result → self.now.end < table_capacity self.now }
     {
         self.end >= self.capacity()
     }
@@ -47,7 +47,7 @@ impl Table<'_> {
     /// Puts an event behind the places that are filled.
     #[inline(always)]
     pub(crate) fn push(&mut self, event: GelvanhEvent)
-        requires { self.old.end < capacity self.old }
+        requires { self.old.end < table_capacity self.old }
         ensures { PutsEvents self.old (event ∷ []) self.new }
     {
         if self.is_held {
@@ -66,9 +66,9 @@ impl Table<'_> {
 impl Outlet for Table<'_> {
     ghost given = { Filled };
 
-    ghost room = { λ t. capacity t - t.end };
+    ghost room = { λ t. table_capacity t - t.end };
 
-    ghost typed_room = { λ t. capacity t - t.end };
+    ghost typed_room = { λ t. table_capacity t - t.end };
 
     ghost given_none = { filled_none };
 

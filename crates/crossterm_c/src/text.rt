@@ -2,7 +2,7 @@
 ghost use Rattle.std.specs.Prelude.{◌≡◌, ◌⊎◌, ◌≤◌, ◌<◌, ◌+◌, ◌++◌, length, take, drop};
 ghost use Rattle.std.specs.List.{AllByRecursion};
 ghost use Rattle.bstr.specs.Utf8.{decoded};
-ghost use Rattle.crossterm_c.specs.Text.{Begins, Writes, next_text};
+ghost use Rattle.crossterm_c.specs.Text.{TextBeginsWith, WritesLossy, next_text};
 
 use bstr::decode_utf8;
 
@@ -37,7 +37,7 @@ fn front_of<'a>(bytes: &'a [u8], room: usize) -> (&'a [u8], usize)
     requires { 0 < length bytes.now }
     ensures some { 0 < result.1 }
     ensures within { result.1 ≤ length bytes.now }
-    ensures text { Begins bytes.now result.0.now result.1 }
+    ensures text { TextBeginsWith bytes.now result.0.now result.1 }
     ensures short { (length result.0.now ≤ room) ⊎ (result.0.now ≡ next_text bytes.now) }
 {
     let count = ascii_in(&bytes[..bytes.len().min(room)]);
@@ -53,7 +53,7 @@ fn front_of<'a>(bytes: &'a [u8], room: usize) -> (&'a [u8], usize)
 /// Writes the text of some bytes, as far as the next character has room. It returns how many bytes were read; `written` is how many were
 /// written.
 pub(crate) fn write_text(bytes: &[u8], text: &mut [u8], written: &mut usize) -> usize
-    ensures { Writes bytes.now text.new written.new result }
+    ensures { WritesLossy bytes.now text.new written.new result }
 {
     let mut place = 0;
     *written = 0;

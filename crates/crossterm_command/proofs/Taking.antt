@@ -9,7 +9,7 @@ use Rattle.crossterm_command.specs.declared.fault.CommandFault.TheVariants.{Writ
 use Rattle.std.specs.declared.io.Error.{Error}
 use Rattle.std.specs.IoError.{error_kind}
 use Rattle.crossterm_command.specs.Faults.{Answers, Stopped, Unsent}
-use Rattle.crossterm_command.specs.Writing.{AppendsFront, AppendsFrontOfText, AppendsText, Stops, Takes, Writes}
+use Rattle.crossterm_command.specs.Writing.{AppendsFront, AppendsFrontOfText, AppendsText, Stops, WriterTakes, Writes}
 use Rattle.crossterm_command.proofs.Rows.{front_of_first, front_of_second}
 use Rattle.crossterm_command.proofs.Texts.{in_calls}
 
@@ -19,11 +19,11 @@ appends_keeps (Some x) None c bs p q = absurd p
 appends_keeps (Some x) (Some y) None bs p q = absurd q
 appends_keeps (Some x) (Some y) (Some z) bs p q = q ∙ p
 
-takes_nothing : {E : Type 0} (a : Option (List ℕ)) (f : Option E) → Takes a f [] a f
+takes_nothing : {E : Type 0} (a : Option (List ℕ)) (f : Option E) → WriterTakes a f [] a f
 takes_nothing a None = Appends-nil a
 takes_nothing a (Some e) = Keeps-refl a
 
-takes_both : {E : Type 0} (a b c : Option (List ℕ)) (f g h : Option E) (bs cs : List ℕ) → Takes a f bs b g → Takes b g cs c h → Takes a f (bs ++ cs) c h
+takes_both : {E : Type 0} (a b c : Option (List ℕ)) (f g h : Option E) (bs cs : List ℕ) → WriterTakes a f bs b g → WriterTakes b g cs c h → WriterTakes a f (bs ++ cs) c h
 takes_both a b c None None None bs cs p q = Appends-trans a b c bs cs p q
 takes_both a b c None None (Some e) bs cs p q = front_of_second a b c bs cs p q
 takes_both a b c None (Some d) None bs cs p q = absurd q
@@ -36,7 +36,7 @@ takes_both a b c (Some d) (Some e) (Some f) bs cs p q = Keeps-trans a b c p q
 
 module _ {W N E : Type 0} (name : W → N) (held : W → Option (List ℕ)) (fault : W → Option E) where
   abbrev pub Took : W → List ℕ → W → Type 0
-  Took s bs t = (name t ≡ name s) × Takes (held s) (fault s) bs (held t) (fault t)
+  Took s bs t = (name t ≡ name s) × WriterTakes (held s) (fault s) bs (held t) (fault t)
 
   took_parts : (w : W) (parts : List (List ℕ)) (v : W) → FoldsTo Took w parts v → Took w (concat parts) v
   took_parts w [] v p = subst (Took w []) p (refl, takes_nothing (held w) (fault w))
@@ -49,9 +49,9 @@ module _ {W N E : Type 0} (name : W → N) (held : W → Option (List ℕ)) (fau
 
   -- the same of a command's text, by the fault that there is then
   pub took_text : (w : W) (text : Option (List ℕ)) (v : W) (f : Option E) → fault v ≡ f → Writes Took w text v
-      → IfSome text (λ bs. (name v ≡ name w) × Takes (held w) (fault w) bs (held v) f)
+      → IfSome text (λ bs. (name v ≡ name w) × WriterTakes (held w) (fault w) bs (held v) f)
   took_text w None v f is p = tt
-  took_text w (Some bs) v f is p = subst (λ g. (name v ≡ name w) × Takes (held w) (fault w) bs (held v) g) is (took_whole w bs v (in_calls Took w bs v p))
+  took_text w (Some bs) v f is p = subst (λ g. (name v ≡ name w) × WriterTakes (held w) (fault w) bs (held v) g) is (took_whole w bs v (in_calls Took w bs v p))
 
 -- if a fact follows for the text that is there
 pub if_some_weaken : (o : Option (List ℕ)) (P Q : List ℕ → Type 0) → ((bs : List ℕ) → P bs → Q bs) → IfSome o P → IfSome o Q

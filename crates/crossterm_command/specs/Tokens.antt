@@ -73,8 +73,8 @@ IsWellFormed (Private b) = IsParameter b
 -- ---- how bytes are read
 
 -- The bytes read as these tokens: they are well formed, and the bytes are their text.
-abbrev pub Reads : List ℕ → List Token → Type 0
-Reads bytes ts = AllByRecursion IsWellFormed ts × (text_of ts ≡ bytes)
+abbrev pub ReadsAs : List ℕ → List Token → Type 0
+ReadsAs bytes ts = AllByRecursion IsWellFormed ts × (text_of ts ≡ bytes)
 
 -- If one text begins with two tokens, they are the same and end at the same place.
 abbrev pub TokensArePrefixFree : Type 0
@@ -82,4 +82,4 @@ TokensArePrefixFree = (t u : Token) (rest more : List ℕ) → IsWellFormed t �
 
 -- Bytes read as tokens in one way at most.
 abbrev pub UniqueReading : Type 0
-UniqueReading = (bytes : List ℕ) (ts us : List Token) → Reads bytes ts → Reads bytes us → ts ≡ us
+UniqueReading = (bytes : List ℕ) (ts us : List Token) → ReadsAs bytes ts → ReadsAs bytes us → ts ≡ us

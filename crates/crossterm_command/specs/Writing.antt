@@ -32,8 +32,8 @@ pub record Stops (kind : ErrorKind) (text : Option (List ℕ)) (failed : Type 0)
   pub cause : AppendsFrontOfText old new text ⊎ failed
 
 -- A writer that drops all behind its first error takes a text; the errors before and after say how much of it.
-abbrev pub Takes : {E : Type 0} → Option (List ℕ) → Option E → List ℕ → Option (List ℕ) → Option E → Type 0
-Takes old None text new None = Appends old new text
-Takes old None text new (Some e) = AppendsFront old new text
-Takes old (Some e) text new None = ⊥
-Takes old (Some e) text new (Some f) = Keeps old new
+abbrev pub WriterTakes : {E : Type 0} → Option (List ℕ) → Option E → List ℕ → Option (List ℕ) → Option E → Type 0
+WriterTakes old None text new None = Appends old new text
+WriterTakes old None text new (Some e) = AppendsFront old new text
+WriterTakes old (Some e) text new None = ⊥
+WriterTakes old (Some e) text new (Some f) = Keeps old new

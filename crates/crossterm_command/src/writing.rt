@@ -1,7 +1,7 @@
 //! From a command's text to a writer.
 ghost use Rattle.std.specs.Prelude.{◌≡◌, OnOk, OnErr, IfErr};
 ghost use Rattle.std.specs.Io.KnownBytes.{Appends};
-ghost use Rattle.crossterm_command.specs.Writing.{AppendsFront, AppendsText, Takes};
+ghost use Rattle.crossterm_command.specs.Writing.{AppendsFront, AppendsText, WriterTakes};
 ghost use Rattle.crossterm_command.specs.Faults.{Stopped, Unsent};
 
 use crate::tries::Tries;
@@ -58,7 +58,7 @@ struct Adapter<'a, W> {
 
 impl<W: io::Write> fmt::Write for Adapter<'_, W> {
     ghost write_str_gives = { λ s bs t. (t.inner.ghost_name ≡ s.inner.ghost_name)
-        × Takes (W.contents s.inner.now) s.fault bs (W.contents t.inner.now) t.fault };
+        × WriterTakes (W.contents s.inner.now) s.fault bs (W.contents t.inner.now) t.fault };
 
     fn write_str(&mut self, s: &str) -> fmt::Result {
         if self.fault.is_none() {

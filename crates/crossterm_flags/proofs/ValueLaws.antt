@@ -6,10 +6,10 @@ use Rattle.std.specs.declared.result.Result.TheVariants.{Ok, Err}
 use Rattle.serde_json.specs.Data.{Data}
 use Rattle.serde_json.specs.View.{view}
 use Rattle.serde_json.specs.declared.value.Value.{Value}
-use Rattle.crossterm_flags.specs.Values.{Tells}
+use Rattle.crossterm_flags.specs.Values.{WritesJson}
 use Rattle.crossterm_flags.specs.declared.value.ValueFault.{ValueFault}
 
 -- If a value reads back, so does the result that wrote it.
-pub told_back : {X : Type 0} (reads : Data → Option X) (d : Data) (x : X) (result : Result Value ValueFault) → Tells d result → reads d ≡ Some x → IfOk result (λ v. reads (view v) ≡ Some x)
+pub told_back : {X : Type 0} (reads : Data → Option X) (d : Data) (x : X) (result : Result Value ValueFault) → WritesJson d result → reads d ≡ Some x → IfOk result (λ v. reads (view v) ≡ Some x)
 told_back reads d x (Ok v) told h = ap reads told ∙ h
 told_back reads d x (Err fault) told h = tt

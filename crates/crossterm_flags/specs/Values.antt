@@ -21,8 +21,8 @@ abbrev pub one_member : List ℕ → Data → Data
 one_member name d = object (member name d no_members)
 
 -- The result is this JSON value, or memory for it was refused.
-abbrev pub Tells : Data → Result Value ValueFault → Type 0
-Tells d result = MatchResult result (λ v. view v ≡ d) (λ fault. fault ≡ Memory)
+abbrev pub WritesJson : Data → Result Value ValueFault → Type 0
+WritesJson d result = MatchResult result (λ v. view v ≡ d) (λ fault. fault ≡ Memory)
 
 -- ---- what is read
 
@@ -66,5 +66,5 @@ abbrev pub reads_two : Data → Option (Data × Data)
 reads_two d = option_and_then two (as_array d)
 
 -- The result is what was read; it is `Shape` if and only if nothing was read.
-abbrev pub Reads : {X Y : Type 0} → (X → Y) → Option Y → Result X ValueFault → Type 0
-Reads seen reading result = MatchResult result (λ x. reading ≡ Some (seen x)) (λ fault. (fault ≡ Shape) × (reading ≡ None))
+abbrev pub ReadsJson : {X Y : Type 0} → (X → Y) → Option Y → Result X ValueFault → Type 0
+ReadsJson seen reading result = MatchResult result (λ x. reading ≡ Some (seen x)) (λ fault. (fault ≡ Shape) × (reading ≡ None))

@@ -3,7 +3,7 @@ ghost use Rattle.std.specs.Prelude.{◌≡◌, ⊤, ℕ, List, MatchResult};
 ghost use Rattle.std.specs.Option.{option_map, option_and_then};
 ghost use Rattle.serde_json.specs.Data.{string};
 ghost use Rattle.serde_json.specs.View.{view};
-ghost use Rattle.crossterm_flags.specs.Values.{Reads, Tells, below, number_value, one_member, reads_below, reads_four, reads_member, reads_two};
+ghost use Rattle.crossterm_flags.specs.Values.{ReadsJson, WritesJson, below, number_value, one_member, reads_below, reads_four, reads_member, reads_two};
 ghost use Rattle.crossterm_flags.specs.Variants.{name_in, reads_named, rows_of, value_in};
 ghost use Rattle.crossterm_flags.specs.declared.value.ValueFault.TheVariants.{Memory, Shape};
 
@@ -98,7 +98,7 @@ pub fn read_named<T: Named>(value: &Value) -> Option<T>
 ///
 /// `Memory` if memory for it was refused.
 pub fn tell_named<T: Named>(alloc: Global, value: T) -> Result<Value, ValueFault>
-    ensures { Tells (string (name_in ⟦<T as PartialEq>⟧.eq T.rows value)) result }
+    ensures { WritesJson (string (name_in ⟦<T as PartialEq>⟧.eq T.rows value)) result }
 {
     tell_text(alloc, name_in(T::rows(), value))
 }
@@ -109,7 +109,7 @@ pub fn tell_named<T: Named>(alloc: Global, value: T) -> Result<Value, ValueFault
 ///
 /// `Memory` if memory for it was refused.
 pub fn tell_text(alloc: Global, text: &str) -> Result<Value, ValueFault>
-    ensures { Tells (string text.now) result }
+    ensures { WritesJson (string text.now) result }
 {
     match Value::try_from_str(alloc, text) {
         Ok(value) => Ok(value),
@@ -123,7 +123,7 @@ pub fn tell_text(alloc: Global, text: &str) -> Result<Value, ValueFault>
 ///
 /// `Memory` if memory for it was refused.
 pub fn tell_member(alloc: Global, name: &str, value: Value) -> Result<Value, ValueFault>
-    ensures { Tells (one_member name.now (view value)) result }
+    ensures { WritesJson (one_member name.now (view value)) result }
 {
     match json!(in alloc; {name: value}) {
         Ok(object) => Ok(object),
@@ -137,7 +137,7 @@ pub fn tell_member(alloc: Global, name: &str, value: Value) -> Result<Value, Val
 ///
 /// `Shape` if nothing was read.
 pub fn shaped<T: Drop>(reading: Option<T>) -> Result<T, ValueFault>
-    ensures { Reads (λ x. x) reading result }
+    ensures { ReadsJson (λ x. x) reading result }
 {
     match reading {
         Some(x) => Ok(x),

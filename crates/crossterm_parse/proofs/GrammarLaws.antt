@@ -6,7 +6,7 @@ use Rattle.std.proofs.lemmas.Bool.Decides.{nat_tests, eqb_tells}
 use Rattle.std.specs.List.{AllByRecursion}
 use Rattle.crossterm_parse.specs.Marked.{Marked, bytes_of}
 use Rattle.crossterm_parse.specs.Bytes.{is_digit}
-use Rattle.crossterm_parse.specs.Grammar.{begins, IsDigit, IsFinal, IsAlone, EndsNoMouse, EndsNoReply, HasNoEnd, EndsReply, IsLead, IsContinuing, continuing_after, CharacterShape, single, broken, Shape, text, two_escapes, with_escape, after_ss3, after_csi, linux_key, x10, mouse, reply, numbered, paste, paste_mark, paste_start, paste_end, BeginsPaused, Whole, key, sequence}
+use Rattle.crossterm_parse.specs.Grammar.{begins, IsDigit, EndsNumbered, IsAlone, EndsNoMouse, EndsNoReply, HasNoEnd, EndsReply, IsLead, IsContinuing, continuing_after, CharacterShape, single, broken, Shape, text, two_escapes, with_escape, after_ss3, after_csi, linux_key, x10, mouse, reply, numbered, paste, paste_mark, paste_start, paste_end, BeginsPaused, Whole, key, sequence}
 use Rattle.crossterm_parse.specs.Recognizer.{is_nil, is_one, is_three, is_final, is_reply_end, is_mouse_end, ends_numbered, ends_reply, ends_mouse, ends_private, ends_paste, ends_digit, ends_csi, is_lead, is_continuing, further_after, ends_character, is_character, ends_escape, is_shape, is_whole}
 use Rattle.crossterm_parse.specs.Grammar as grammar
 use Rattle.crossterm_parse.specs.Division.{IsPrefixFree}
@@ -26,7 +26,7 @@ within_false b h = grind (arith, nat_tests)
 pub not_within : {low high : ℕ} (b : ℕ) → (nat_le low b && nat_le b high) ≡ false → ¬ ((low ≤ b) × (b ≤ high))
 not_within b h = grind (arith, nat_tests)
 
-pub final_tells : Tells (λ b. ¬ IsFinal b) is_final
+pub final_tells : Tells (λ b. ¬ EndsNumbered b) is_final
 final_tells = record { fails = λ b. within_false b; none = λ b. not_within b }
 
 one_more : (lead : ℕ) → continuing_after lead ≡ suc (further_after lead)
@@ -145,7 +145,7 @@ shape_true bytes (reply w f none ends e) = rw e (private_true w f none ends)
 shape_true bytes (x10 a b c e) = rw e
 shape_true bytes (mouse w f none ends e) = rw e (ended EndsNoMouse is_mouse_end mouse_tells w f none (is_one_of f 77 109 ends))
 shape_true bytes (numbered d f w is nf l ne e) = rw e (digit_csi d (w ++ f ∷ []) is
-    ∙ rw (not_mark d f w nf (λ (h : d ∷ (w ++ f ∷ []) ≡ paste_mark). ne (e ∙ ap (λ (ys : List ℕ). 27 ∷ 91 ∷ ys) h))) (ended (λ b. ¬ IsFinal b) is_final final_tells w f nf (within_true f l)))
+    ∙ rw (not_mark d f w nf (λ (h : d ∷ (w ++ f ∷ []) ≡ paste_mark). ne (e ∙ ap (λ (ys : List ℕ). 27 ∷ 91 ∷ ys) h))) (ended (λ b. ¬ EndsNumbered b) is_final final_tells w f nf (within_true f l)))
 shape_true bytes (paste within first e) = rw e (paste_true within first)
 
 true_one : (bs : List ℕ) → is_one bs ≡ true → (b : ℕ) × (bs ≡ b ∷ [])
@@ -201,7 +201,7 @@ private_shape (b ∷ bs) h = elim (chosen (b == 99) (is_nil bs) (ends_reply bs) 
       (ap (λ (ys : List ℕ). 27 ∷ 91 ∷ 63 ∷ b ∷ ys) later.is)
 ]
 
-numbered_shape : (b : ℕ) (bs : List ℕ) → IsDigit b → begins paste_mark (b ∷ bs) ≡ false → Ends (λ b. ¬ IsFinal b) is_final bs → Shape (27 ∷ 91 ∷ b ∷ bs)
+numbered_shape : (b : ℕ) (bs : List ℕ) → IsDigit b → begins paste_mark (b ∷ bs) ≡ false → Ends (λ b. ¬ EndsNumbered b) is_final bs → Shape (27 ∷ 91 ∷ b ∷ bs)
 numbered_shape b bs d n later = numbered b later.last later.before d later.none_before (true_within later.last later.closed)
     (λ (e : 27 ∷ 91 ∷ b ∷ bs ≡ paste_start). false≢true (sym n ∙ begins_from paste_mark (b ∷ bs) [] (ap (drop 2) e)))
     (ap (λ (ys : List ℕ). 27 ∷ 91 ∷ b ∷ ys) later.is)
@@ -212,7 +212,7 @@ paste_shape b bs h p = paste p.text p.first (ap (λ (ys : List ℕ). 27 ∷ 91 �
 digit_shape : (b : ℕ) (bs : List ℕ) → IsDigit b → ends_digit (b ∷ bs) ≡ true → Shape (27 ∷ 91 ∷ b ∷ bs)
 digit_shape b bs d h = elim (chosen (begins paste_mark (b ∷ bs)) (ends_paste (drop 3 bs)) (ends_numbered bs) true h) [
   | inl v ↦ paste_shape b bs v.0 (true_paste (drop 3 bs) v.1)
-  | inr v ↦ numbered_shape b bs d v.0 (true_ends (λ b. ¬ IsFinal b) is_final final_tells bs v.1)
+  | inr v ↦ numbered_shape b bs d v.0 (true_ends (λ b. ¬ EndsNumbered b) is_final final_tells bs v.1)
 ]
 
 linux_shape : (b : ℕ) (bs : List ℕ) (c : ℕ) → b ≡ 91 → bs ≡ c ∷ [] → Shape (27 ∷ 91 ∷ b ∷ bs)

@@ -20,16 +20,16 @@ use Rattle.crossterm_parse.specs.declared.paste.Opening.TheVariants as opening
 use Rattle.crossterm_parse.specs.declared.readings.Readings.{Readings}
 use Rattle.crossterm_parse.specs.declared.state.State.{State}
 use Rattle.crossterm_parse.specs.declared.state.State.TheVariants.{Ground, Escape, Ss3, Csi, LinuxKey, X10, Sgr, Private, Reply, Numbered, Paste, Utf8}
-use Rattle.crossterm_parse.specs.Transitions.{Step, Open, Whole, Closed, Grown, grown, step_of, parameters_after, empty_parameters, readings_at, state_after, opens_with, opens_after, number_ends, met_anew, met_after, x10_after, IsRight, reading}
-use Rattle.crossterm_parse.specs.Tracking.{begun_bytes, Kept}
+use Rattle.crossterm_parse.specs.Transitions.{ByteStep, Open, Whole, Closed, Grown, grown, step_of, parameters_after, empty_parameters, readings_at, state_after, opens_with, opens_after, number_ends, met_anew, met_after, x10_after, IsRight, reading}
+use Rattle.crossterm_parse.specs.Tracking.{begun_bytes, KeptAgrees}
 use Rattle.crossterm_parse.specs.Recognizer.{ends_paste, ends_digit, is_final, is_reply_end, is_mouse_end, ends_reply, is_lead, is_continuing, further_after, ends_character, is_decided}
 use Rattle.crossterm_parse.specs.States.{prefixed, IsBegun, OpenReply, OpenMouse, OpenPaste, OpenNumber, IsOpening, met_bytes, x10_bytes, StateRepresents}
 use Rattle.crossterm_parse.specs.Bytes.{is_digit}
-use Rattle.crossterm_parse.specs.Grammar.{begins, paste_mark, paste_start, IsDigit, IsFinal, IsLead, EndsNoMouse, EndsNoReply}
+use Rattle.crossterm_parse.specs.Grammar.{begins, paste_mark, paste_start, IsDigit, EndsNumbered, IsLead, EndsNoMouse, EndsNoReply}
 use Rattle.crossterm_parse.specs.Fields.{cut}
 use Rattle.crossterm_parse.specs.Meaning.{meaning, with_alt, decoded_character, flags_reply}
 use Rattle.crossterm_parse.specs.Number.{number}
-use Rattle.crossterm_parse.specs.Numbered.{readings_of, numbered_by, numbered, sgr_by, front_of, last_of}
+use Rattle.crossterm_parse.specs.Numbered.{readings_of, numbered_by, numbered_meaning, sgr_by, front_of, last_of}
 use Rattle.crossterm_parse.proofs.FieldsLaws.{empty_reads, text_more, numbers_of}
 use Rattle.crossterm_parse.proofs.NumberLaws.{tracks_more, tracks_reading}
 use Rattle.crossterm_parse.proofs.PasteLaws.{and_false, third_apart, begins_start}
@@ -129,14 +129,14 @@ last_of-push : (d : ℕ) (w : List ℕ) (b : ℕ) → last_of (d ∷ (w ++ b ∷
 last_of-push d [] b = refl
 last_of-push d (c ∷ w) b = last_of-push c w b
 
-meaning_numbered : (raw : Bool) (d : ℕ) (bs : List ℕ) → IsDigit d → meaning raw (27 ∷ 91 ∷ d ∷ bs) ≡ numbered raw (d ∷ bs)
+meaning_numbered : (raw : Bool) (d : ℕ) (bs : List ℕ) → IsDigit d → meaning raw (27 ∷ 91 ∷ d ∷ bs) ≡ numbered_meaning raw (d ∷ bs)
 meaning_numbered raw d bs h = let t = digit_apart d h in rw (t.0, t.1, t.2, t.3, t.4) refl
 
 decided_numbered : (d : ℕ) (bs : List ℕ) (pause : Bool) → IsDigit d → is_decided (27 ∷ 91 ∷ d ∷ bs) pause ≡ ends_digit (d ∷ bs)
 decided_numbered d bs pause h = let t = digit_apart d h in rw (t.0, t.1, t.2, t.3, t.4) refl
 
 -- what was read is what is in the text
-pub kept_readings : (d : Parameters) (text : List ℕ) → Kept d text → readings_at d ≡ readings_of text
+pub kept_readings : (d : Parameters) (text : List ℕ) → KeptAgrees d text → readings_at d ≡ readings_of text
 kept_readings d text k =
     let n = numbers_of d.fields (cut 59 text) k.reads in
     let v = utf8_is text d.validity k.utf8 in
@@ -160,14 +160,14 @@ front_push : (text : List ℕ) (b : ℕ) → front_of (text ++ b ∷ []) ≡ tex
 front_push [] b = refl
 front_push (c ∷ cs) b = front_of-push c cs b
 
-pub kept_none : Kept empty_parameters []
+pub kept_none : KeptAgrees empty_parameters []
 kept_none = record { reads = (refl, empty_reads, refl, refl); last = refl; utf8 = utf8_nil }
 
-pub kept_more : (d : Parameters) (text : List ℕ) (b : ℕ) → Kept d text → Kept (parameters_after d b) (text ++ b ∷ [])
+pub kept_more : (d : Parameters) (text : List ℕ) (b : ℕ) → KeptAgrees d text → KeptAgrees (parameters_after d b) (text ++ b ∷ [])
 kept_more d text b k = record { reads = text_more d.fields text b k.reads; last = sym (last_push text b); utf8 = utf8_more text d.validity b k.utf8 }
 
 -- what is meant by a text and a final byte, by what is kept of the text
-kept_means : {A : Type 0} (by : ℕ → Readings → A) (d : Parameters) (text : List ℕ) (b : ℕ) → Kept d text
+kept_means : {A : Type 0} (by : ℕ → Readings → A) (d : Parameters) (text : List ℕ) (b : ℕ) → KeptAgrees d text
     → by b (readings_at d) ≡ by (last_of (text ++ b ∷ [])) (readings_of (front_of (text ++ b ∷ [])))
 kept_means by d text b k = ap (λ (r : Readings). by b r) (kept_readings d text k)
     ∙ sym (ap (λ (bs : List ℕ). by (last_of (text ++ b ∷ [])) (readings_of bs)) (front_push text b) ∙ ap (λ (f : ℕ). by f (readings_of text)) (last_push text b))
@@ -206,7 +206,7 @@ number_whole : (d : Parameters) (p : Opening) (bytes : List ℕ) (b : ℕ) (raw 
 number_whole d p bytes b raw pause o l h =
     let none = opens_none p (o.digit ∷ o.more) b o.opens h in
     rw o.is (
-      decided_numbered o.digit (o.more ++ b ∷ []) pause o.is_digit ∙ rw none (ended (λ c. ¬ IsFinal c) is_final final_tells o.more b o.no_final l),
+      decided_numbered o.digit (o.more ++ b ∷ []) pause o.is_digit ∙ rw none (ended (λ c. ¬ EndsNumbered c) is_final final_tells o.more b o.no_final l),
       kept_means (numbered_by raw) d (o.digit ∷ o.more) b o.kept ∙ sym (meaning_numbered raw o.digit (o.more ++ b ∷ []) o.is_digit),
       begins_start (o.digit ∷ (o.more ++ b ∷ [])) ∙ none,
     )
@@ -216,13 +216,13 @@ number_more : (d : Parameters) (p : Opening) (bytes : List ℕ) (b : ℕ) (raw p
 number_more d p bytes b raw pause o l =
     let none = opens_none p (o.digit ∷ o.more) b o.opens (λ h. not_tilde b l) in
     rw o.is (
-      decided_numbered o.digit (o.more ++ b ∷ []) pause o.is_digit ∙ rw none (not_ended (λ c. ¬ IsFinal c) is_final final_tells o.more b o.no_final l),
+      decided_numbered o.digit (o.more ++ b ∷ []) pause o.is_digit ∙ rw none (not_ended (λ c. ¬ EndsNumbered c) is_final final_tells o.more b o.no_final l),
       record {
         digit = o.digit;
         more = o.more ++ b ∷ [];
         is = refl;
         is_digit = o.is_digit;
-        no_final = all_push (λ c. ¬ IsFinal c) o.more b o.no_final (not_within b l);
+        no_final = all_push (λ c. ¬ EndsNumbered c) o.more b o.no_final (not_within b l);
         kept = kept_more d (o.digit ∷ o.more) b o.kept;
         opens = opens_more p (o.digit ∷ o.more) b o.opens (not_tilde b l);
       },
@@ -241,7 +241,7 @@ number_end d opening.Zeros bytes b raw pause o l = go (b == 126) refl where
   go false t = number_whole d opening.Zeros bytes b raw pause o l (λ h. t)
 
 number_right : (d : Parameters) (p : Opening) (bytes : List ℕ) (b : ℕ) (raw pause : Bool) → OpenNumber d p bytes → IsRight (state_after (Numbered d p) b raw pause) (bytes ++ b ∷ []) raw pause
-number_right d p bytes b raw pause o = cond_both (is_final b) _ _ (λ (s : Step). IsRight s (bytes ++ b ∷ []) raw pause) (number_end d p bytes b raw pause o) (number_more d p bytes b raw pause o)
+number_right d p bytes b raw pause o = cond_both (is_final b) _ _ (λ (s : ByteStep). IsRight s (bytes ++ b ∷ []) raw pause) (number_end d p bytes b raw pause o) (number_more d p bytes b raw pause o)
 
 -- a report of the mouse
 mouse_whole : (d : Parameters) (bytes : List ℕ) (b : ℕ) (raw pause : Bool) → OpenMouse d bytes → is_mouse_end b ≡ true → IsRight (Whole (sgr_by b (readings_at d))) (bytes ++ b ∷ []) raw pause
@@ -258,7 +258,7 @@ mouse_more d bytes b raw pause o l = rw o.is (
 )
 
 mouse_right : (d : Parameters) (bytes : List ℕ) (b : ℕ) (raw pause : Bool) → OpenMouse d bytes → IsRight (state_after (Sgr d) b raw pause) (bytes ++ b ∷ []) raw pause
-mouse_right d bytes b raw pause o = cond_both (is_mouse_end b) _ _ (λ (s : Step). IsRight s (bytes ++ b ∷ []) raw pause) (mouse_whole d bytes b raw pause o) (mouse_more d bytes b raw pause o)
+mouse_right d bytes b raw pause o = cond_both (is_mouse_end b) _ _ (λ (s : ByteStep). IsRight s (bytes ++ b ∷ []) raw pause) (mouse_whole d bytes b raw pause o) (mouse_more d bytes b raw pause o)
 
 x10_right : (c : X10Report) (bytes : List ℕ) (b : ℕ) (raw pause : Bool) → bytes ≡ 27 ∷ 91 ∷ 77 ∷ x10_bytes c → IsRight (x10_after c b) (bytes ++ b ∷ []) raw pause
 x10_right x10.Empty bytes b raw pause e = rw e (refl, refl)
@@ -294,7 +294,7 @@ number_begun b t = record {
 
 csi_right : (bytes : List ℕ) (b : ℕ) (raw pause : Bool) → bytes ≡ 27 ∷ 91 ∷ [] → IsRight (state_after Csi b raw pause) (bytes ++ b ∷ []) raw pause
 csi_right bytes b raw pause e = rw e (
-    let R = λ (s : Step). IsRight s (27 ∷ 91 ∷ b ∷ []) raw pause in
+    let R = λ (s : ByteStep). IsRight s (27 ∷ 91 ∷ b ∷ []) raw pause in
     cond_both (b == 91) _ _ R
     (λ t. (rw t refl, let is : b ≡ 91 = eqb-true b 91 t in rw is refl))
     (λ t. cond_both (b == 77) _ _ R
@@ -309,7 +309,7 @@ csi_right bytes b raw pause e = rw e (
 
 -- a reply
 private_right : (bytes : List ℕ) (b : ℕ) (raw pause : Bool) → bytes ≡ 27 ∷ 91 ∷ 63 ∷ [] → IsRight (state_after Private b raw pause) (bytes ++ b ∷ []) raw pause
-private_right bytes b raw pause e = rw e (cond_both (b == 99) _ _ (λ (s : Step). IsRight s (27 ∷ 91 ∷ 63 ∷ b ∷ []) raw pause)
+private_right bytes b raw pause e = rw e (cond_both (b == 99) _ _ (λ (s : ByteStep). IsRight s (27 ∷ 91 ∷ 63 ∷ b ∷ []) raw pause)
     (λ t. (rw t refl, rw t refl, refl))
     (λ t. (rw t refl, record { first = b; more = []; is = refl; no_end = (let n = t in grind (arith, nat_tests), tt); tracks = tracks_more [] Empty b refl })))
 
@@ -327,9 +327,9 @@ reply_right : (n : Number) (bytes : List ℕ) (b : ℕ) (raw pause : Bool) → O
 reply_right n bytes b raw pause o =
     let apart : (o.first == 99) ≡ false = (let m = o.no_end.0 in grind (arith, nat_tests)) in
     let told : flags_reply (reading n) ≡ flags_reply (number (o.first ∷ o.more)) = ap flags_reply (tracks_reading (o.first ∷ o.more) n o.tracks) in
-    rw o.is (cond_both (b == 99) _ _ (λ (s : Step). IsRight s (27 ∷ 91 ∷ 63 ∷ o.first ∷ (o.more ++ b ∷ [])) raw pause)
+    rw o.is (cond_both (b == 99) _ _ (λ (s : ByteStep). IsRight s (27 ∷ 91 ∷ 63 ∷ o.first ∷ (o.more ++ b ∷ [])) raw pause)
     (λ t. (decided_reply o.first (o.more ++ b ∷ []) pause apart ∙ ended EndsNoReply is_reply_end reply_tells o.more b o.no_end.1 (is_one_of b 99 117 (inl (eqb-true b 99 t))), sym (meaning_reply raw o.first o.more b ∙ rw t refl), third_apart 63 (o.first ∷ (o.more ++ b ∷ [])) refl))
-    (λ t. cond_both (b == 117) _ _ (λ (s : Step). IsRight s (27 ∷ 91 ∷ 63 ∷ o.first ∷ (o.more ++ b ∷ [])) raw pause)
+    (λ t. cond_both (b == 117) _ _ (λ (s : ByteStep). IsRight s (27 ∷ 91 ∷ 63 ∷ o.first ∷ (o.more ++ b ∷ [])) raw pause)
     (λ u. (decided_reply o.first (o.more ++ b ∷ []) pause apart ∙ ended EndsNoReply is_reply_end reply_tells o.more b o.no_end.1 (is_one_of b 99 117 (inr (eqb-true b 117 u))), told ∙ sym (meaning_reply raw o.first o.more b ∙ rw t refl), third_apart 63 (o.first ∷ (o.more ++ b ∷ [])) refl))
     (λ u. (
       decided_reply o.first (o.more ++ b ∷ []) pause apart ∙ not_ended EndsNoReply is_reply_end reply_tells o.more b o.no_end.1 (rw (t, u) refl),
@@ -430,22 +430,22 @@ paste_right met.One bytes b raw pause o = go (b == 126) refl where
   go false t = paste_anew met.One bytes b raw pause o (λ more. from_one b more t)
 
 ground_right : (bytes : List ℕ) (b : ℕ) (raw pause : Bool) → bytes ≡ [] → IsRight (state_after Ground b raw pause) (bytes ++ b ∷ []) raw pause
-ground_right bytes b raw pause e = rw e (cond_both (b == 27) _ _ (λ (s : Step). IsRight s (b ∷ []) raw pause)
-    (λ t. cond_both pause _ _ (λ (s : Step). IsRight s (b ∷ []) raw pause)
+ground_right bytes b raw pause e = rw e (cond_both (b == 27) _ _ (λ (s : ByteStep). IsRight s (b ∷ []) raw pause)
+    (λ t. cond_both pause _ _ (λ (s : ByteStep). IsRight s (b ∷ []) raw pause)
     (λ p. (rw (t, p), rw t, refl))
     (λ p. (rw (t, p), let is : b ≡ 27 = grind (arith, nat_tests) in rw is)))
-    (λ t. cond_both (is_lead b) _ _ (λ (s : Step). IsRight s (b ∷ []) raw pause)
+    (λ t. cond_both (is_lead b) _ _ (λ (s : ByteStep). IsRight s (b ∷ []) raw pause)
     (λ l. (rw (t, l), (refl, true_within b l)))
     (λ l. (rw (t, l), rw t, refl))))
 
 escape_right : (bytes : List ℕ) (b : ℕ) (raw pause : Bool) → bytes ≡ 27 ∷ [] → IsRight (state_after Escape b raw pause) (bytes ++ b ∷ []) raw pause
-escape_right bytes b raw pause e = rw e (cond_both (b == 79) _ _ (λ (s : Step). IsRight s (27 ∷ b ∷ []) raw pause)
+escape_right bytes b raw pause e = rw e (cond_both (b == 79) _ _ (λ (s : ByteStep). IsRight s (27 ∷ b ∷ []) raw pause)
     (λ t. (rw t, let is : b ≡ 79 = grind (arith, nat_tests) in rw is))
-    (λ t. cond_both (b == 91) _ _ (λ (s : Step). IsRight s (27 ∷ b ∷ []) raw pause)
+    (λ t. cond_both (b == 91) _ _ (λ (s : ByteStep). IsRight s (27 ∷ b ∷ []) raw pause)
     (λ u. (rw (t, u), let is : b ≡ 91 = grind (arith, nat_tests) in rw is))
-    (λ u. cond_both (b == 27) _ _ (λ (s : Step). IsRight s (27 ∷ b ∷ []) raw pause)
+    (λ u. cond_both (b == 27) _ _ (λ (s : ByteStep). IsRight s (27 ∷ b ∷ []) raw pause)
     (λ v. (rw (t, u, v), rw (t, u, v), refl))
-    (λ v. cond_both (is_lead b) _ _ (λ (s : Step). IsRight s (27 ∷ b ∷ []) raw pause)
+    (λ v. cond_both (is_lead b) _ _ (λ (s : ByteStep). IsRight s (27 ∷ b ∷ []) raw pause)
     (λ l. (rw (t, u, v, l), (refl, true_within b l)))
     (λ l. (rw (t, u, v, l), rw (t, u, v), refl))))))
 

@@ -4,7 +4,7 @@ use Rattle.std.proofs.lemmas.Bool.{false≢true, cases_Bool, eq-eqb, eqb-true, a
 use Rattle.std.proofs.lemmas.Bool.Decides.{nat_tests}
 use Rattle.std.proofs.lemmas.List.{length-append, nil_from_length}
 use Rattle.std.specs.List.{AllByRecursion}
-use Rattle.crossterm_parse.specs.Grammar.{begins, IsFinal, paste_mark, paste_start, paste_end, EndsFirst}
+use Rattle.crossterm_parse.specs.Grammar.{begins, EndsNumbered, paste_mark, paste_start, paste_end, EndsFirst}
 use Rattle.crossterm_parse.specs.Recognizer.{is_nil, ends_paste}
 use Rattle.crossterm_parse.proofs.EndLaws.{chosen, true_nil}
 
@@ -81,11 +81,11 @@ true_paste (b ∷ bs) h = elim (chosen (begins paste_end (b ∷ bs)) (is_nil (dr
     first = first_later b bs p.text n p.is p.first;
   }
 
-final_apart : (b : ℕ) → ¬ IsFinal b → (b == 126) ≡ false
+final_apart : (b : ℕ) → ¬ EndsNumbered b → (b == 126) ≡ false
 final_apart b h = grind (arith, nat_tests)
 
 -- a numbered sequence that opens no paste
-pub not_mark : (d f : ℕ) (w : List ℕ) → AllByRecursion (λ b. ¬ IsFinal b) w → (d ∷ (w ++ f ∷ []) ≡ paste_mark → ⊥) → begins paste_mark (d ∷ (w ++ f ∷ [])) ≡ false
+pub not_mark : (d f : ℕ) (w : List ℕ) → AllByRecursion (λ b. ¬ EndsNumbered b) w → (d ∷ (w ++ f ∷ []) ≡ paste_mark → ⊥) → begins paste_mark (d ∷ (w ++ f ∷ [])) ≡ false
 not_mark d f [] nf ne = refl
 not_mark d f (c ∷ []) nf ne = refl
 not_mark d f (c ∷ e ∷ []) nf ne = elim (cases_Bool (begins paste_mark (d ∷ c ∷ e ∷ f ∷ []))) [

@@ -11,7 +11,7 @@ use Rattle.crossterm_parse.specs.Numbered.{numbered_by, sgr_by}
 use Rattle.crossterm_parse.specs.Transitions.{Opens, empty_parameters, number_ends, opens_after, opens_with, parameters_after, readings_at, state_after, fields_after, number_after, Open, Whole, utf8_after}
 use Rattle.crossterm_parse.specs.States.{is_paste}
 use Rattle.crossterm_parse.specs.Recognizer.{is_final, is_mouse_end}
-use Rattle.crossterm_parse.specs.inside.Plain.{AreNumbers, EndsFrom, IsNumber, in_first, in_kind, in_second, in_third, last_through, number_through, read}
+use Rattle.crossterm_parse.specs.inside.Plain.{AreNumbers, EndsFrom, IsNumber, in_first, in_kind, in_second, in_third, last_through, number_through, kept_of}
 use Rattle.crossterm_parse.specs.declared.fields.Fields.{Fields}
 use Rattle.crossterm_parse.specs.declared.meaning.Meaning.{Meaning}
 use Rattle.crossterm_parse.specs.declared.number.Number.{Number}
@@ -85,7 +85,7 @@ reads_kind f m n b digit = let a = apart b digit in rw (a.0, a.1) refl
 pub reads_third : (f s : ℕ) → ReadsDigits (in_third f s)
 reads_third f s n b digit = let a = apart b digit in rw a.0 refl
 
-digit_after : (at : Number → Fields) → ReadsDigits at → (n : Number) (l b : ℕ) → is_digit b ≡ true → parameters_after (read (at n) l) b ≡ read (at (number_after n b)) b
+digit_after : (at : Number → Fields) → ReadsDigits at → (n : Number) (l b : ℕ) → is_digit b ≡ true → parameters_after (kept_of (at n) l) b ≡ kept_of (at (number_after n b)) b
 digit_after at reads n l b digit =
     let a = apart b digit in
     let sound : utf8_after Sound b ≡ Sound = rw a.2 refl in
@@ -109,43 +109,43 @@ number_goes_on p b low high = let on : is_final b ≡ false = grind (arith, nat_
 
 -- more digits of a number
 digits_open : (state : Parameters → State) → GoesOn state → (at : Number → Fields) → ReadsDigits at → (bs : List ℕ) (n : Number) (l : ℕ) → Digits bs
-    → Opens (state (read (at n) l)) (state (read (at (number_through n bs)) (last_through l bs))) bs
+    → Opens (state (kept_of (at n) l)) (state (kept_of (at (number_through n bs)) (last_through l bs))) bs
 digits_open state on at reads [] n l all = refl
 digits_open state on at reads (b ∷ bs) n l all =
     let a = apart b all.0 in (
-      state (read (at (number_after n b)) b),
-      (λ raw pause. (on (read (at n) l) b a.3 (omega (arith, a.4))).0 raw pause ∙ ap (λ (p : Parameters). Open (state p)) (digit_after at reads n l b all.0)),
-      (on (read (at (number_after n b)) b) 48 (omega arith) (omega arith)).1,
+      state (kept_of (at (number_after n b)) b),
+      (λ raw pause. (on (kept_of (at n) l) b a.3 (omega (arith, a.4))).0 raw pause ∙ ap (λ (p : Parameters). Open (state p)) (digit_after at reads n l b all.0)),
+      (on (kept_of (at (number_after n b)) b) 48 (omega arith) (omega arith)).1,
       digits_open state on at reads bs (number_after n b) b all.1,
     )
 
 -- a number whole
 number_open : (state : Parameters → State) → GoesOn state → (at : Number → Fields) → ReadsDigits at → (bs : List ℕ) (n : PlainNumber) (l : ℕ) → (i : IsNumber bs n)
-    → Opens (state (read (at Empty) l)) (state (read (at (Value n.value)) n.digit)) i.text
+    → Opens (state (kept_of (at Empty) l)) (state (kept_of (at (Value n.value)) n.digit)) i.text
 number_open state on at reads bs n l i =
     let value = i.value in
     let last : last_through l i.text ≡ n.digit = last_any i.text l n.value i.value ∙ i.last in
-    subst (λ (d : ℕ). Opens (state (read (at Empty) l)) (state (read (at (Value n.value)) d)) i.text) last
-    (subst (λ (m : Number). Opens (state (read (at Empty) l)) (state (read (at m) (last_through l i.text))) i.text) value (digits_open state on at reads i.text Empty l i.digits))
+    subst (λ (d : ℕ). Opens (state (kept_of (at Empty) l)) (state (kept_of (at (Value n.value)) d)) i.text) last
+    (subst (λ (m : Number). Opens (state (kept_of (at Empty) l)) (state (kept_of (at m) (last_through l i.text))) i.text) value (digits_open state on at reads i.text Empty l i.digits))
 
 -- a number, and `;` or `:` behind it
 pub number_opens : (state : Parameters → State) → GoesOn state → (at : Number → Fields) → ReadsDigits at → (bs : List ℕ) (n : PlainNumber) (l e : ℕ) (next : Fields) → IsNumber bs n
-    → n.end ≡ e → 48 ≤ e → e ≤ 59 → parameters_after (read (at (Value n.value)) n.digit) e ≡ read next e
-    → Opens (state (read (at Empty) l)) (state (read next e)) (take n.count bs)
+    → n.end ≡ e → 48 ≤ e → e ≤ 59 → parameters_after (kept_of (at (Value n.value)) n.digit) e ≡ kept_of next e
+    → Opens (state (kept_of (at Empty) l)) (state (kept_of next e)) (take n.count bs)
 number_opens state on at reads bs n l e next i end low high after =
     let is : take n.count bs ≡ i.text ++ e ∷ [] = i.is ∙ ap (λ (b : ℕ). i.text ++ b ∷ []) end in
-    let goes = on (read (at (Value n.value)) n.digit) e low high in
-    subst (Opens (state (read (at Empty) l)) (state (read next e))) (sym is)
-    (opens_more (state (read (at Empty) l)) (state (read (at (Value n.value)) n.digit)) (state (read next e)) i.text e
-    (number_open state on at reads bs n l i) (λ raw pause. goes.0 raw pause ∙ ap (λ (p : Parameters). Open (state p)) after) (on (read next e) 48 (omega arith) (omega arith)).1)
+    let goes = on (kept_of (at (Value n.value)) n.digit) e low high in
+    subst (Opens (state (kept_of (at Empty) l)) (state (kept_of next e))) (sym is)
+    (opens_more (state (kept_of (at Empty) l)) (state (kept_of (at (Value n.value)) n.digit)) (state (kept_of next e)) i.text e
+    (number_open state on at reads bs n l i) (λ raw pause. goes.0 raw pause ∙ ap (λ (p : Parameters). Open (state p)) after) (on (kept_of next e) 48 (omega arith) (omega arith)).1)
 
 -- a number with which the sequence is whole
 pub number_ends_it : (state : Parameters → State) → GoesOn state → (at : Number → Fields) → ReadsDigits at → (bs : List ℕ) (n : PlainNumber) (l : ℕ) (raw : Bool) (m : Option Meaning) → IsNumber bs n
-    → ((pause : Bool) → state_after (state (read (at (Value n.value)) n.digit)) n.end raw pause ≡ Whole m)
-    → EndsFrom (state (read (at Empty) l)) bs raw (record { meaning = m; count = n.count })
+    → ((pause : Bool) → state_after (state (kept_of (at (Value n.value)) n.digit)) n.end raw pause ≡ Whole m)
+    → EndsFrom (state (kept_of (at Empty) l)) bs raw (record { meaning = m; count = n.count })
 number_ends_it state on at reads bs n l raw m i whole = record {
   within = i.within;
-  state = state (read (at (Value n.value)) n.digit);
+  state = state (kept_of (at (Value n.value)) n.digit);
   text = i.text;
   last = n.end;
   is = i.is;
@@ -252,7 +252,7 @@ opens_not opening.Not = refl
 number_on : (p : Parameters) (o : Opening) (b : ℕ) → 48 ≤ b → b ≤ 59 → (raw pause : Bool) → state_after (Numbered p o) b raw pause ≡ Open (Numbered (parameters_after p b) (opens_after o b))
 number_on p o b low high raw pause = let on : is_final b ≡ false = grind (arith, nat_tests) in rw on refl
 
-first_digit : (b : ℕ) → is_digit b ≡ true → (raw pause : Bool) → state_after Csi b raw pause ≡ Open (Numbered (read (in_first (number_after Empty b)) b) (opens_with b))
+first_digit : (b : ℕ) → is_digit b ≡ true → (raw pause : Bool) → state_after Csi b raw pause ≡ Open (Numbered (kept_of (in_first (number_after Empty b)) b) (opens_with b))
 first_digit b digit raw pause = opens ∙ ap (λ (p : Parameters). Open (Numbered p (opens_with b))) (digit_after in_first reads_first Empty 0 b digit) where
   opens : state_after Csi b raw pause ≡ Open (Numbered (parameters_after empty_parameters b) (opens_with b))
   opens =
@@ -263,12 +263,12 @@ first_digit b digit raw pause = opens ∙ ap (λ (p : Parameters). Open (Numbere
       rw (linux, x10, sgr, private, digit) refl
 
 more_digits : (bs : List ℕ) (n : Number) (l : ℕ) (o : Opening) → Digits bs
-    → Opens (Numbered (read (in_first n) l) o) (Numbered (read (in_first (number_through n bs)) (last_through l bs)) (opens_through o bs)) bs
+    → Opens (Numbered (kept_of (in_first n) l) o) (Numbered (kept_of (in_first (number_through n bs)) (last_through l bs)) (opens_through o bs)) bs
 more_digits [] n l o all = refl
 more_digits (b ∷ bs) n l o all =
     let a = apart b all.0 in (
-      Numbered (read (in_first (number_after n b)) b) (opens_after o b),
-      (λ raw pause. number_on (read (in_first n) l) o b a.3 (omega (arith, a.4)) raw pause
+      Numbered (kept_of (in_first (number_after n b)) b) (opens_after o b),
+      (λ raw pause. number_on (kept_of (in_first n) l) o b a.3 (omega (arith, a.4)) raw pause
           ∙ ap (λ (p : Parameters). Open (Numbered p (opens_after o b))) (digit_after in_first reads_first n l b all.0)),
       refl,
       more_digits bs (number_after n b) b (opens_after o b) all.1,
@@ -276,26 +276,26 @@ more_digits (b ∷ bs) n l o all =
 
 -- the first number, which opens a paste if it is 200
 first_opens : (text : List ℕ) (v d : ℕ) → Digits text → number_through Empty text ≡ Value v → last_through 0 text ≡ d
-    → (o : Opening) × Opens Csi (Numbered (read (in_first (Value v)) d) o) text × (o ≡ opening.Zeros → v ≡ 200)
+    → (o : Opening) × Opens Csi (Numbered (kept_of (in_first (Value v)) d) o) text × (o ≡ opening.Zeros → v ≡ 200)
 first_opens [] v d all value last = cc
 first_opens (b ∷ bs) v d all value last = (
   opens_through (opens_with b) bs,
-  subst (λ (m : Number). Opens Csi (Numbered (read (in_first m) d) (opens_through (opens_with b) bs)) (b ∷ bs)) value
-      (subst (λ (l : ℕ). Opens Csi (Numbered (read (in_first (number_through Empty (b ∷ bs))) l) (opens_through (opens_with b) bs)) (b ∷ bs)) last
-      (Numbered (read (in_first (number_after Empty b)) b) (opens_with b), first_digit b all.0, refl, more_digits bs (number_after Empty b) b (opens_with b) all.1)),
+  subst (λ (m : Number). Opens Csi (Numbered (kept_of (in_first m) d) (opens_through (opens_with b) bs)) (b ∷ bs)) value
+      (subst (λ (l : ℕ). Opens Csi (Numbered (kept_of (in_first (number_through Empty (b ∷ bs))) l) (opens_through (opens_with b) bs)) (b ∷ bs)) last
+      (Numbered (kept_of (in_first (number_after Empty b)) b) (opens_with b), first_digit b all.0, refl, more_digits bs (number_after Empty b) b (opens_with b) all.1)),
   λ is. opens_200 b bs v is value,
 )
 
-pub first_field : (bs : List ℕ) (n : PlainNumber) → IsNumber bs n → n.end ≡ 59 → Opens Csi (opened (read (in_second n.value Empty) 59)) (take n.count bs)
+pub first_field : (bs : List ℕ) (n : PlainNumber) → IsNumber bs n → n.end ≡ 59 → Opens Csi (opened (kept_of (in_second n.value Empty) 59)) (take n.count bs)
 first_field bs n i end =
     let first = first_opens i.text n.value n.digit i.digits i.value i.last in
     let is : take n.count bs ≡ i.text ++ 59 ∷ [] = i.is ∙ ap (λ (b : ℕ). i.text ++ b ∷ []) end in
-    subst (Opens Csi (opened (read (in_second n.value Empty) 59))) (sym is)
-    (opens_more Csi (Numbered (read (in_first (Value n.value)) n.digit) first.0) (opened (read (in_second n.value Empty) 59)) i.text 59 first.1
-    (λ raw pause. number_on (read (in_first (Value n.value)) n.digit) first.0 59 (omega arith) (omega arith) raw pause
-    ∙ ap (λ (o : Opening). Open (Numbered (read (in_second n.value Empty) 59) o)) (opens_not first.0)) refl)
+    subst (Opens Csi (opened (kept_of (in_second n.value Empty) 59))) (sym is)
+    (opens_more Csi (Numbered (kept_of (in_first (Value n.value)) n.digit) first.0) (opened (kept_of (in_second n.value Empty) 59)) i.text 59 first.1
+    (λ raw pause. number_on (kept_of (in_first (Value n.value)) n.digit) first.0 59 (omega arith) (omega arith) raw pause
+    ∙ ap (λ (o : Opening). Open (Numbered (kept_of (in_second n.value Empty) 59) o)) (opens_not first.0)) refl)
 
-pub one_number : (bs : List ℕ) (n : PlainNumber) (r : Readings) → IsNumber bs n → n.value ≢ 200 → r ≡ readings_at (read (in_first (Value n.value)) n.digit)
+pub one_number : (bs : List ℕ) (n : PlainNumber) (r : Readings) → IsNumber bs n → n.value ≢ 200 → r ≡ readings_at (kept_of (in_first (Value n.value)) n.digit)
     → AreNumbers bs r n.end n.count
 one_number bs n r i apart reads =
     let first = first_opens i.text n.value n.digit i.digits i.value i.last in
@@ -303,7 +303,7 @@ one_number bs n r i apart reads =
       within = i.within;
       text = i.text;
       is = i.is;
-      parameters = read (in_first (Value n.value)) n.digit;
+      parameters = kept_of (in_first (Value n.value)) n.digit;
       met = first.0;
       opens = first.1;
       apart = λ is. apart (first.2 is);
@@ -311,8 +311,8 @@ one_number bs n r i apart reads =
     }
 
 -- the last one of several
-pub last_number : (at : Number → Fields) → ReadsDigits at → (bs : List ℕ) (i l : ℕ) (n : PlainNumber) (r : Readings) → i ≤ length bs → Opens Csi (opened (read (at Empty) l)) (take i bs)
-    → IsNumber (take (length bs - i) (drop i bs)) n → r ≡ readings_at (read (at (Value n.value)) n.digit) → AreNumbers bs r n.end (i + n.count)
+pub last_number : (at : Number → Fields) → ReadsDigits at → (bs : List ℕ) (i l : ℕ) (n : PlainNumber) (r : Readings) → i ≤ length bs → Opens Csi (opened (kept_of (at Empty) l)) (take i bs)
+    → IsNumber (take (length bs - i) (drop i bs)) n → r ≡ readings_at (kept_of (at (Value n.value)) n.digit) → AreNumbers bs r n.end (i + n.count)
 last_number at reads bs i l n r within opens number are =
     let behind = take (length bs - i) (drop i bs) in
     let front = joined bs i n.count number.text n.end within number.within number.is in
@@ -320,9 +320,9 @@ last_number at reads bs i l n r within opens number are =
       within = front.0;
       text = take i bs ++ number.text;
       is = front.1;
-      parameters = read (at (Value n.value)) n.digit;
+      parameters = kept_of (at (Value n.value)) n.digit;
       met = opening.Not;
-      opens = opens_join (take i bs) number.text Csi (opened (read (at Empty) l)) (opened (read (at (Value n.value)) n.digit)) opens
+      opens = opens_join (take i bs) number.text Csi (opened (kept_of (at Empty) l)) (opened (kept_of (at (Value n.value)) n.digit)) opens
           (number_open opened number_goes_on at reads behind n l number);
       apart = λ is. cc;
       reads = are;

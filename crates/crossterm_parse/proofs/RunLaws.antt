@@ -8,7 +8,7 @@ use Rattle.std.specs.List.{AllByRecursion}
 use Rattle.std.proofs.lemmas.Bool.{false_from_ne_true}
 use Rattle.bstr.specs.Utf8.{Decoded, decoded, second, continues, code_of_2, code_of_3, code_of_4}
 use Rattle.bstr.proofs.lemmas.PieceLemmas.{by-shape}
-use Rattle.crossterm_parse.specs.Transitions.{fields_after, utf8_after, IsCharacterOf, parameters_after, state_after, state_left, text_left, events_left, Opens, OpensWith, Step, Open, Whole}
+use Rattle.crossterm_parse.specs.Transitions.{fields_after, utf8_after, IsCharacterOf, parameters_after, state_after, state_left, text_left, events_left, Opens, OpensWith, ByteStep, Open, Whole}
 use Rattle.crossterm_parse.specs.Recognizer.{is_lead, is_continuing, is_final, is_mouse_end, further_after}
 use Rattle.crossterm_parse.specs.Bytes.{IsLetter}
 use Rattle.crossterm_parse.specs.States.{is_paste, StateRepresents, kept_text}
@@ -159,10 +159,10 @@ opens_puts [] old new opens text waiting = (opens, text, waiting)
 opens_puts (b ∷ bs) old new opens text waiting =
     let mid : ParserView = record { waiting = old.waiting; state = opens.0; text = old.text; typed = old.typed; room = old.room } in
     let puts : (raw pause : Bool) → PutsByte old mid b raw pause = λ raw pause. (
-      ap (λ (s : Step). state_left s) (sym (opens.1 raw pause)),
-      sym (ap (λ (s : Step). text_left s old.state old.text b) (opens.1 raw pause)
+      ap (λ (s : ByteStep). state_left s) (sym (opens.1 raw pause)),
+      sym (ap (λ (s : ByteStep). text_left s old.state old.text b) (opens.1 raw pause)
           ∙ ap (λ (t : Bool). if t then (if is_paste old.state then old.text ++ b ∷ [] else []) else old.text) opens.2),
-      sym (ap (λ (s : Step). old.waiting ++ events_left s old.text) (opens.1 raw pause) ∙ append-nil old.waiting),
+      sym (ap (λ (s : ByteStep). old.waiting ++ events_left s old.text) (opens.1 raw pause) ∙ append-nil old.waiting),
     ) in
     (mid, puts, opens_puts bs mid new opens.3 text waiting)
 
@@ -210,9 +210,9 @@ escape_byte : (old : ParserView) (bs : List ℕ) (raw pause : Bool) → 0 < leng
 escape_byte old bs raw true some last ground = absurd (omega (arith, some, last refl))
 escape_byte old bs raw false some last ground =
     let step : state_after old.state 27 raw false ≡ Open Escape = ap (λ (s : State). state_after s 27 raw false) ground in (
-      ap (λ (s : Step). state_left s) (sym step),
-      sym (ap (λ (s : Step). text_left s old.state old.text 27) step),
-      sym (ap (λ (s : Step). old.waiting ++ events_left s old.text) step ∙ append-nil old.waiting),
+      ap (λ (s : ByteStep). state_left s) (sym step),
+      sym (ap (λ (s : ByteStep). text_left s old.state old.text 27) step),
+      sym (ap (λ (s : ByteStep). old.waiting ++ events_left s old.text) step ∙ append-nil old.waiting),
     )
 
 escape_on : (raw : Bool) (old new : ParserView) (b : ℕ) (bs : List ℕ) → old.state ≡ Ground → Opens Escape new.state (b ∷ bs) → new.text ≡ old.text → new.waiting ≡ old.waiting
@@ -236,14 +236,14 @@ opened_on raw (suc n) old new bs ground none some text waiting =
 whole_on : (raw : Bool) (state : State) (b : ℕ) (m : Option Meaning) (w : List Seen) → ((pause : Bool) → state_after state b raw pause ≡ Whole m) → (pause : Bool)
     → PutsByte (bare state w) (bare Ground (w ++ map seen_meaning (option_to_list m))) b raw pause
 whole_on raw state b None w whole pause = (
-  ap (λ (s : Step). state_left s) (sym (whole pause)),
-  sym (ap (λ (s : Step). text_left s state [] b) (whole pause)),
-  sym (ap (λ (s : Step). w ++ events_left s []) (whole pause)),
+  ap (λ (s : ByteStep). state_left s) (sym (whole pause)),
+  sym (ap (λ (s : ByteStep). text_left s state [] b) (whole pause)),
+  sym (ap (λ (s : ByteStep). w ++ events_left s []) (whole pause)),
 )
 whole_on raw state b (Some m) w whole pause = (
-  ap (λ (s : Step). state_left s) (sym (whole pause)),
-  sym (ap (λ (s : Step). text_left s state [] b) (whole pause)),
-  sym (ap (λ (s : Step). w ++ events_left s []) (whole pause)),
+  ap (λ (s : ByteStep). state_left s) (sym (whole pause)),
+  sym (ap (λ (s : ByteStep). text_left s state [] b) (whole pause)),
+  sym (ap (λ (s : ByteStep). w ++ events_left s []) (whole pause)),
 )
 
 -- what is whole in front of a piece, if no sequence is open
@@ -354,9 +354,9 @@ whole_byte : (old new : ParserView) (state : State) (b : ℕ) (m : Meaning) → 
     → (raw pause : Bool) → PutsByte old new b raw pause
 whole_byte old new state b m is whole gives raw pause =
     let step : state_after old.state b raw pause ≡ Whole (Some m) = ap (λ (s : State). state_after s b raw pause) is ∙ whole raw pause in (
-      gives.0 ∙ sym (ap (λ (s : Step). state_left s) step),
-      gives.1 ∙ sym (ap (λ (s : Step). text_left s old.state old.text b) step),
-      gives.2 ∙ sym (ap (λ (s : Step). old.waiting ++ events_left s old.text) step),
+      gives.0 ∙ sym (ap (λ (s : ByteStep). state_left s) step),
+      gives.1 ∙ sym (ap (λ (s : ByteStep). text_left s old.state old.text b) step),
+      gives.2 ∙ sym (ap (λ (s : ByteStep). old.waiting ++ events_left s old.text) step),
     )
 
 pub letter_puts : (old new : ParserView) (b : ℕ) → IsLetter b → old.state ≡ Ground → Gives old new (typed b) → (raw pause : Bool) → PutsByte old new b raw pause
@@ -379,9 +379,9 @@ open_byte : (old : ParserView) (state next : State) (b : ℕ) → old.state ≡ 
     → (raw pause : Bool) → PutsByte old (record { waiting = old.waiting; state = next; text = old.text; typed = old.typed; room = old.room }) b raw pause
 open_byte old state next b is opens outside raw pause =
     let step : state_after old.state b raw pause ≡ Open next = ap (λ (s : State). state_after s b raw pause) is ∙ opens raw pause in (
-      ap (λ (s : Step). state_left s) (sym step),
-      sym (ap (λ (s : Step). text_left s old.state old.text b) step ∙ ap (λ (t : Bool). if t then (if is_paste old.state then old.text ++ b ∷ [] else []) else old.text) outside),
-      sym (ap (λ (s : Step). old.waiting ++ events_left s old.text) step ∙ append-nil old.waiting),
+      ap (λ (s : ByteStep). state_left s) (sym step),
+      sym (ap (λ (s : ByteStep). text_left s old.state old.text b) step ∙ ap (λ (t : Bool). if t then (if is_paste old.state then old.text ++ b ∷ [] else []) else old.text) outside),
+      sym (ap (λ (s : ByteStep). old.waiting ++ events_left s old.text) step ∙ append-nil old.waiting),
     )
 
 lead_after : (a : ℕ) → 0xC2 ≤ a → a ≤ 0xF4 → (raw pause : Bool) → state_after Ground a raw pause ≡ Open (begun (One a))

@@ -11,7 +11,7 @@ use Rattle.crossterm_types.specs.Seen.{Seen}
 use Rattle.crossterm_parse.specs.Marked.{Marked, bytes_of, last_raw, marked}
 use Rattle.crossterm_parse.specs.Grammar.{begins, paste_mark, paste_start}
 use Rattle.crossterm_parse.specs.Recognizer.{is_character, is_shape, is_whole, is_decided}
-use Rattle.crossterm_parse.specs.Transitions.{state_after, state_left, text_left, events_left, IsRight, Step, Open, Whole, Closed}
+use Rattle.crossterm_parse.specs.Transitions.{state_after, state_left, text_left, events_left, IsRight, ByteStep, Open, Whole, Closed}
 use Rattle.crossterm_parse.specs.States.{x10_bytes, is_paste, IsOpening, StateRepresents, prefixed, kept_text}
 use Rattle.crossterm_parse.specs.Tracking.{begun_bytes}
 use Rattle.crossterm_parse.specs.Division.{Divides, IsUndecided}
@@ -203,7 +203,7 @@ pub advance_byte : (old new : ParserView) (m : Marked)
     → new.waiting ≡ old.waiting ++ events_left (state_after old.state m.byte m.raw m.pause) old.text
     → AdvancesOver old new (m ∷ [])
 advance_byte old new m state text waiting = go (state_after old.state m.byte m.raw m.pause) state text waiting (λ before represents. state_right old.state (bytes_of before) m.byte m.raw m.pause represents.0) where
-  go : (step : Step) → new.state ≡ state_left step → new.text ≡ text_left step old.state old.text m.byte → new.waiting ≡ old.waiting ++ events_left step old.text
+  go : (step : ByteStep) → new.state ≡ state_left step → new.text ≡ text_left step old.state old.text m.byte → new.waiting ≡ old.waiting ++ events_left step old.text
       → ((before : List Marked) → Represents old before → IsRight step (bytes_of before ++ m.byte ∷ []) m.raw m.pause)
       → AdvancesOver old new (m ∷ [])
   go (Open next) s t w right = advance_open old new m next (λ before represents. let r = right before represents in (

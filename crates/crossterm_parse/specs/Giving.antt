@@ -19,10 +19,10 @@ module _ {A : Type 0} where
     pub room : old.parser.now.room ≤ new.parser.now.room
 
   -- The first waiting event was given, if there is one, and nothing else changed.
-  abbrev pub GivesFirst : Events A → Option (InternalEvent A) → Events A → Type 0
-  GivesFirst old event new = YieldsFirstBy seen events_left_in old event new × KeepsParser old new
+  abbrev pub GivesWaiting : Events A → Option (InternalEvent A) → Events A → Type 0
+  GivesWaiting old event new = YieldsFirstBy seen events_left_in old event new × KeepsParser old new
 
   -- Events that are given one after another are the first ones, in order, and nothing else changes.
   abbrev pub GivesInOrder : Events A → Type 0
-  GivesInOrder old = (events : List (InternalEvent A)) (new : Events A) → Yields GivesFirst old events new
+  GivesInOrder old = (events : List (InternalEvent A)) (new : Events A) → Yields GivesWaiting old events new
       → (events_left_in old ≡ map seen events ++ events_left_in new) × KeepsParser old new

@@ -33,8 +33,8 @@ abbrev pub IsDigit : ℕ → Type 0
 IsDigit b = (byte "0" ≤ b) × (b ≤ byte "9")
 
 -- A final byte, which ends a numbered sequence: 40 to 7E (ECMA-48, 5.4).
-abbrev pub IsFinal : ℕ → Type 0
-IsFinal b = (0x40 ≤ b) × (b ≤ 0x7E)
+abbrev pub EndsNumbered : ℕ → Type 0
+EndsNumbered b = (0x40 ≤ b) × (b ≤ 0x7E)
 
 -- A byte that ends `ESC [ b` at once: none of `[`, `M`, `<` and `?`, and no digit.
 abbrev pub IsAlone : ℕ → Type 0
@@ -94,7 +94,7 @@ pub data Shape (bytes : List ℕ) : Type 0 where
   -- `ESC [ ?`, up to the first `c` or `u`, but not a `u` at once: a reply (xterm, kitty).
   reply : (w : List ℕ) (f : ℕ) → HasNoEnd w → EndsReply w f → bytes ≡ ESC ∷ byte "[" ∷ byte "?" ∷ (w ++ f ∷ []) → Shape bytes
   -- `ESC [` and a digit, up to the first final byte, but not what opens a paste: a numbered sequence (xterm, kitty).
-  numbered : (d f : ℕ) (w : List ℕ) → IsDigit d → AllByRecursion (λ b. ¬ IsFinal b) w → IsFinal f → bytes ≢ paste_start
+  numbered : (d f : ℕ) (w : List ℕ) → IsDigit d → AllByRecursion (λ b. ¬ EndsNumbered b) w → EndsNumbered f → bytes ≢ paste_start
       → bytes ≡ ESC ∷ byte "[" ∷ d ∷ (w ++ f ∷ []) → Shape bytes
   -- `ESC [ 200~`, up to the first `ESC [ 201~`: a paste (xterm).
   paste : (text : List ℕ) → EndsFirst text → bytes ≡ paste_start ++ (text ++ paste_end) → Shape bytes

@@ -15,7 +15,7 @@ use Rattle.crossterm_parse.specs.Grammar.{begins, paste_start}
 use Rattle.crossterm_parse.specs.Letters.{letter_key}
 use Rattle.crossterm_parse.specs.Marked.{Marked, bytes_of, last_raw}
 use Rattle.crossterm_parse.specs.Number.{at_most, number}
-use Rattle.crossterm_parse.specs.Numbered.{numbered, sgr, x10_by, front_of, last_of}
+use Rattle.crossterm_parse.specs.Numbered.{numbered_meaning, sgr_meaning, x10_by, front_of, last_of}
 use Rattle.crossterm_parse.specs.declared.meaning.Meaning.{Meaning}
 use Rattle.crossterm_parse.specs.declared.meaning.Meaning.TheVariants.{Key, Mouse, FocusGained, FocusLost, CursorPosition, KeyboardEnhancementFlags, PrimaryDeviceAttributes}
 
@@ -111,9 +111,9 @@ csi_meaning raw [] = None
 csi_meaning raw (b ∷ bs) =
     if b == byte "[" then linux_meaning bs else
     if b == byte "M" then x10_meaning bs else
-    if b == byte "<" then sgr bs else
+    if b == byte "<" then sgr_meaning bs else
     if b == byte "?" then reply_meaning bs else
-    if is_digit b then numbered raw (b ∷ bs) else
+    if is_digit b then numbered_meaning raw (b ∷ bs) else
     after_csi b
 
 -- What the bytes after ESC mean. If there are none it is the Esc key, and so it is with a second ESC.

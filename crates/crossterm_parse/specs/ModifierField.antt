@@ -22,13 +22,13 @@ abbrev pub mask_state : ℕ → ℕ
 mask_state mask = let n = mask - 1 in bit_or (where_bit n 64 2) (where_bit n 128 4)
 
 -- The kind of a key event by its number: 2 is a repeat, 3 a release, and all else a press.
-abbrev pub kind_of : Option ℕ → KeyEventKind
-kind_of None = Press
-kind_of (Some n) = if n == 2 then Repeat else if n == 3 then Release else Press
+abbrev pub press_kind : Option ℕ → KeyEventKind
+press_kind None = Press
+press_kind (Some n) = if n == 2 then Repeat else if n == 3 then Release else Press
 
 -- The modifier field of a mask and a kind; nothing without a mask.
 abbrev pub modifier_field : Option ℕ → Option ℕ → Option ModifierField
-modifier_field mask kind = option_map (λ n. record { modifiers = modifiers_of (mask_modifiers n); kind = kind_of kind; state = record { 0 = mask_state n } }) mask
+modifier_field mask kind = option_map (λ n. record { modifiers = modifiers_of (mask_modifiers n); kind = press_kind kind; state = record { 0 = mask_state n } }) mask
 
 -- No modifier, no lock, and pressed.
 abbrev pub empty_modifier_field : ModifierField

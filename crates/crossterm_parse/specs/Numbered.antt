@@ -89,8 +89,8 @@ abbrev pub numbered_letter : ℕ → Readings → Option Meaning
 numbered_letter f r = option_and_then (λ code. option_map (λ h. key_with code (record h { state = record { 0 = 0 } })) (or_fallback (modifier_field_of r) r.last)) (letter_key f)
 
 -- True if the bits have SHIFT.
-abbrev pub has_shift : ℕ → Bool
-has_shift bits = bit_and bits 1 == 1
+abbrev pub bits_have_shift : ℕ → Bool
+bits_have_shift bits = bit_and bits 1 == 1
 
 -- A key with these modifiers; or its alternate character in its place, without SHIFT.
 abbrev pub shifted : Option ℕ → KeyCode → ℕ → KeyEventKind → ℕ → Meaning
@@ -100,12 +100,12 @@ shifted (Some c) code bits kind state = Key (record { code = key.Char c; modifie
 -- A key with its modifier field. If SHIFT is on, its alternate character comes in its place.
 abbrev pub functional_meaning : ModifierField → Option ℕ → FunctionalKey → Meaning
 functional_meaning h alternate p = let bits = bit_or h.modifiers.0 p.modifiers.0 in
-    shifted (if has_shift bits then option_and_then char_of alternate else None) p.code bits h.kind (bit_or h.state.0 p.state.0)
+    shifted (if bits_have_shift bits then option_and_then char_of alternate else None) p.code bits h.kind (bit_or h.state.0 p.state.0)
 
 -- Final byte `u`: the key of a code point (kitty).
 abbrev pub code_meaning : Bool → Readings → Option Meaning
 code_meaning raw r = let h = or_empty_modifier_field (modifier_field_of r) in
-    option_and_then (λ n. option_map (functional_meaning h r.alternate) (functional_key raw (has_shift h.modifiers.0) n)) r.code
+    option_and_then (λ n. option_map (functional_meaning h r.alternate) (functional_key raw (bits_have_shift h.modifiers.0) n)) r.code
 
 -- What a numbered sequence means, by its final byte.
 abbrev pub final_meaning : Bool → ℕ → Readings → Option Meaning
@@ -127,9 +127,9 @@ front_of (b ∷ []) = []
 front_of (b ∷ c ∷ bs) = b ∷ front_of (c ∷ bs)
 
 -- What a numbered sequence means, from its first digit to its final byte.
-abbrev pub numbered : Bool → List ℕ → Option Meaning
-numbered raw text = numbered_by raw (last_of text) (readings_of (front_of text))
+abbrev pub numbered_meaning : Bool → List ℕ → Option Meaning
+numbered_meaning raw text = numbered_by raw (last_of text) (readings_of (front_of text))
 
 -- What the bytes after `ESC [ <` mean, to the final byte: a mouse report.
-abbrev pub sgr : List ℕ → Option Meaning
-sgr text = sgr_by (last_of text) (readings_of (front_of text))
+abbrev pub sgr_meaning : List ℕ → Option Meaning
+sgr_meaning text = sgr_by (last_of text) (readings_of (front_of text))

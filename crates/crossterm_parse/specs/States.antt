@@ -3,7 +3,7 @@ use Rattle.std.specs.Prelude.{◌≡◌, ℕ, ◌++◌, if◌then◌else◌, Boo
 use Rattle.std.specs.Str.{byte}
 use Rattle.std.specs.List.{AllByRecursion}
 use Rattle.crossterm_parse.specs.Bytes.{ESC}
-use Rattle.crossterm_parse.specs.Grammar.{begins, IsLead, IsContinuing, IsDigit, IsFinal, EndsNoMouse, HasNoEnd, paste_mark, paste_start}
+use Rattle.crossterm_parse.specs.Grammar.{begins, IsLead, IsContinuing, IsDigit, EndsNumbered, EndsNoMouse, HasNoEnd, paste_mark, paste_start}
 use Rattle.crossterm_parse.specs.Recognizer.{ends_paste, further_after}
 use Rattle.crossterm_parse.specs.declared.character.Begun.{Begun}
 use Rattle.crossterm_parse.specs.declared.character.Begun.TheVariants.{One, Two, Three}
@@ -14,7 +14,7 @@ use Rattle.crossterm_parse.specs.declared.paste.Met.{Met}
 use Rattle.crossterm_parse.specs.declared.paste.Opening.{Opening}
 use Rattle.crossterm_parse.specs.declared.state.State.{State}
 use Rattle.crossterm_parse.specs.declared.state.State.TheVariants.{Ground, Escape, Ss3, Csi, LinuxKey, X10, Sgr, Private, Reply, Numbered, Paste, Utf8}
-use Rattle.crossterm_parse.specs.Tracking.{Tracks, begun_bytes, Kept}
+use Rattle.crossterm_parse.specs.Tracking.{Tracks, begun_bytes, KeptAgrees}
 use Rattle.crossterm_parse.specs.declared.mouse.X10Report.TheVariants as x10
 use Rattle.crossterm_parse.specs.declared.paste.Met.TheVariants as met
 use Rattle.crossterm_parse.specs.declared.paste.Opening.TheVariants as opening
@@ -62,7 +62,7 @@ pub record OpenMouse (d : Parameters) (bytes : List ℕ) : Type 0 where
   pub more : List ℕ
   pub is : bytes ≡ ESC ∷ byte "[" ∷ byte "<" ∷ more
   pub no_end : AllByRecursion EndsNoMouse more
-  pub kept : Kept d more
+  pub kept : KeptAgrees d more
 
 -- How much of `200~` a text is; `Not` says that neither it nor any longer text begins with that.
 abbrev pub IsOpening : Opening → List ℕ → Type 0
@@ -85,8 +85,8 @@ pub record OpenNumber (d : Parameters) (o : Opening) (bytes : List ℕ) : Type 0
   pub more : List ℕ
   pub is : bytes ≡ ESC ∷ byte "[" ∷ digit ∷ more
   pub is_digit : IsDigit digit
-  pub no_final : AllByRecursion (λ b. ¬ IsFinal b) more
-  pub kept : Kept d (digit ∷ more)
+  pub no_final : AllByRecursion (λ b. ¬ EndsNumbered b) more
+  pub kept : KeptAgrees d (digit ∷ more)
   pub opens : IsOpening o (digit ∷ more)
 
 -- A state represents these bytes of an open sequence; in the ground state there are none.

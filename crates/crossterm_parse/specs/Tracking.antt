@@ -78,7 +78,7 @@ TracksUtf8 text (Partial begun) = (good : List ℕ) × IsUtf8 good × (text ≡ 
 TracksUtf8 text Broken = (more : List ℕ) → ¬ (IsUtf8 (text ++ more))
 
 -- What is kept of a text agrees with it: its fields, its last byte, and whether it is UTF-8.
-pub record Kept (d : Parameters) (text : List ℕ) : Type 0 where
+pub record KeptAgrees (d : Parameters) (text : List ℕ) : Type 0 where
   pub reads : ReadsFields d.fields (cut (byte ";") text)
   pub last : d.last ≡ last_of text
   pub utf8 : TracksUtf8 text d.validity

@@ -39,13 +39,13 @@ use Rattle.crossterm_parse.specs.declared.fields.Part.TheVariants as part
 use Rattle.crossterm_parse.specs.declared.fields.Place.TheVariants as place
 
 -- What one more byte does to an open sequence.
-pub data Step : Type 0 where
+pub data ByteStep : Type 0 where
   -- It goes on, in this state.
-  Open : State → Step
+  Open : State → ByteStep
   -- It is whole, and means this or nothing.
-  Whole : Option Meaning → Step
+  Whole : Option Meaning → ByteStep
   -- The open paste is over.
-  Closed : Step
+  Closed : ByteStep
 
 -- What one more byte does to an open character.
 pub data Grown : Type 0 where
@@ -126,7 +126,7 @@ grown escaped (Two a b) c = if is_continuing c && nat_lt 1 (further_after a) the
 grown escaped (Three a b c) d = over escaped (decoded (a ∷ b ∷ c ∷ d ∷ [])).char
 
 -- What happens to an open sequence, by what happens to its character.
-abbrev pub step_of : Bool → Grown → Step
+abbrev pub step_of : Bool → Grown → ByteStep
 step_of escaped (More begun) = Open (Utf8 (record { escaped = escaped; begun = begun }))
 step_of escaped (Over meaning) = Whole meaning
 
@@ -159,7 +159,7 @@ readings_at d = record {
 }
 
 -- One more byte after `ESC [ M`: the third one ends the report.
-abbrev pub x10_after : X10Report → ℕ → Step
+abbrev pub x10_after : X10Report → ℕ → ByteStep
 x10_after x10.Empty b = Open (X10 (x10.Code b))
 x10_after (x10.Code a) b = Open (X10 (x10.Column a b))
 x10_after (x10.Column a b) c = Whole (x10_by a b c)
@@ -176,18 +176,18 @@ opens_after opening.Zeros b = opening.Not
 opens_after opening.Not b = opening.Not
 
 -- A final byte ends a numbered sequence; a `~` behind `200` opens a paste.
-abbrev pub number_ends : Opening → Parameters → Bool → ℕ → Step
+abbrev pub number_ends : Opening → Parameters → Bool → ℕ → ByteStep
 number_ends opening.Two d raw b = Whole (numbered_by raw b (readings_at d))
 number_ends opening.Zero d raw b = Whole (numbered_by raw b (readings_at d))
 number_ends opening.Zeros d raw b = if b == byte "~" then Open (Paste met.Nothing) else Whole (numbered_by raw b (readings_at d))
 number_ends opening.Not d raw b = Whole (numbered_by raw b (readings_at d))
 
 -- A byte that isn't the next one of a paste's end: the paste goes on, and an ESC begins its end anew.
-abbrev pub met_anew : ℕ → Step
+abbrev pub met_anew : ℕ → ByteStep
 met_anew b = Open (Paste (if b == ESC then met.Escape else met.Nothing))
 
 -- A byte of an open paste, by how much of its end was met. The last byte of the end closes it.
-abbrev pub met_after : Met → ℕ → Step
+abbrev pub met_after : Met → ℕ → ByteStep
 met_after met.Nothing b = met_anew b
 met_after met.Escape b = if b == byte "[" then Open (Paste met.Bracket) else met_anew b
 met_after met.Bracket b = if b == byte "2" then Open (Paste met.Two) else met_anew b
@@ -196,7 +196,7 @@ met_after met.Zero b = if b == byte "1" then Open (Paste met.One) else met_anew 
 met_after met.One b = if b == byte "~" then Closed else met_anew b
 
 -- What one more byte does to an open sequence, by its state.
-abbrev pub state_after : State → ℕ → Bool → Bool → Step
+abbrev pub state_after : State → ℕ → Bool → Bool → ByteStep
 state_after Ground b raw pause = if b == ESC then (if pause then Whole (Some (pressed_with Esc 0)) else Open Escape) else
     if is_lead b then Open (Utf8 (record { escaped = false; begun = One b })) else Whole (single raw b)
 state_after Escape b raw pause =
@@ -232,8 +232,8 @@ x10_meaning_with (x10.Code a) b = None
 x10_meaning_with (x10.Column a b) c = x10_by a b c
 
 -- What an open character means if it is over with this byte.
-abbrev pub character_meaning : Character → ℕ → Option Meaning
-character_meaning c b = if c.escaped then with_alt (decoded_character (decoded (begun_bytes c.begun ++ b ∷ [])).char) else decoded_character (decoded (begun_bytes c.begun ++ b ∷ [])).char
+abbrev pub open_character_meaning : Character → ℕ → Option Meaning
+open_character_meaning c b = if c.escaped then with_alt (decoded_character (decoded (begun_bytes c.begun ++ b ∷ [])).char) else decoded_character (decoded (begun_bytes c.begun ++ b ∷ [])).char
 
 -- What an open sequence means if it is whole with this byte.
 abbrev pub meaning_with : State → ℕ → Bool → Option Meaning
@@ -248,28 +248,28 @@ meaning_with Private b raw = Some PrimaryDeviceAttributes
 meaning_with (Reply n) b raw = if b == byte "u" then flags_reply (reading n) else Some PrimaryDeviceAttributes
 meaning_with (Numbered d o) b raw = numbered_by raw b (readings_at d)
 meaning_with (Paste m) b raw = None
-meaning_with (Utf8 c) b raw = character_meaning c b
+meaning_with (Utf8 c) b raw = open_character_meaning c b
 
 -- The state after a step: the ground state if the sequence is over.
-abbrev pub state_left : Step → State
+abbrev pub state_left : ByteStep → State
 state_left (Open state) = state
 state_left (Whole event) = Ground
 state_left Closed = Ground
 
 -- The text of an open paste after a step, with what may be the front of its end.
-abbrev pub text_left : Step → State → List ℕ → ℕ → List ℕ
+abbrev pub text_left : ByteStep → State → List ℕ → ℕ → List ℕ
 text_left (Open next) state text b = if is_paste next then (if is_paste state then text ++ b ∷ [] else []) else text
 text_left (Whole event) state text b = text
 text_left Closed state text b = []
 
 -- The events that a step gives: at most one.
-abbrev pub events_left : Step → List ℕ → List Seen
+abbrev pub events_left : ByteStep → List ℕ → List Seen
 events_left (Open state) text = []
 events_left (Whole event) text = option_to_list (option_map seen_meaning event)
 events_left Closed text = pasted (take (length text - 5) text) ∷ []
 
 -- A step agrees with the grammar: it is whole exactly if these bytes are, and means what they mean.
-abbrev pub IsRight : Step → List ℕ → Bool → Bool → Type 0
+abbrev pub IsRight : ByteStep → List ℕ → Bool → Bool → Type 0
 IsRight (Open state) bytes raw pause = (is_decided bytes pause ≡ false) × StateRepresents state bytes
 IsRight (Whole event) bytes raw pause = (is_decided bytes pause ≡ true) × (event ≡ meaning raw bytes) × (begins paste_start bytes ≡ false)
 IsRight Closed bytes raw pause = (is_decided bytes pause ≡ true) × (begins paste_start bytes ≡ true)
@@ -284,7 +284,7 @@ abbrev pub OpensWith : State → List ℕ → Type 0
 OpensWith new bytes = (b : ℕ) × (bs : List ℕ) × (bytes ≡ ESC ∷ b ∷ bs) × Opens Escape new (b ∷ bs)
 
 -- A byte was read, with one result whatever the mode and a pause.
-pub record Reads (old new : State) (byte : ℕ) (goes_on : Bool) : Type 0 where
+pub record ReadsOneByte (old new : State) (byte : ℕ) (goes_on : Bool) : Type 0 where
   -- If it goes on, this is the new state.
   pub yes : goes_on ≡ true → (raw pause : Bool) → state_after old byte raw pause ≡ Open new
   -- If it doesn't go on, it is whole with this byte.

@@ -126,6 +126,6 @@ abbrev pub AStepAByte : Type 0
 AStepAByte = (s t : ℕ) (taken : List ℕ) → CountsThrough s taken t → s + sum taken ≤ t
 
 -- The text that is kept; empty if there is none.
-abbrev pub text_of : Option (List ℕ) → List ℕ
-text_of None = []
-text_of (Some text) = text
+abbrev pub text_or_empty : Option (List ℕ) → List ℕ
+text_or_empty None = []
+text_or_empty (Some text) = text

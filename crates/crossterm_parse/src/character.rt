@@ -5,7 +5,7 @@ ghost use Rattle.std.specs.Prelude.{◌≡◌, ◌∷◌, [], ◌++◌, false, I
 ghost use Rattle.bstr.specs.Utf8.{decoded};
 ghost use Rattle.crossterm_parse.specs.Tracking.{begun_bytes};
 ghost use Rattle.crossterm_parse.specs.Recognizer.{is_lead, is_continuing, further_after};
-ghost use Rattle.crossterm_parse.specs.Transitions.{IsCharacterOf, More, character_meaning, grown, over};
+ghost use Rattle.crossterm_parse.specs.Transitions.{IsCharacterOf, More, open_character_meaning, grown, over};
 
 use crate::meaning::{Meaning, plus_alt, typed_character};
 use bstr::decode_utf8;
@@ -114,7 +114,7 @@ impl Begun {
 impl Character {
     /// What the character means that is over with the byte.
     pub fn meaning(&self, byte: u8) -> Option<Meaning>
-        ensures { result ≡ character_meaning self.now byte }
+        ensures { result ≡ open_character_meaning self.now byte }
     {
         let meaning = match self.begun.character_with(byte) {
             Some(c) => Some(typed_character(c)),

@@ -1,7 +1,7 @@
 //! The modifier field of a numbered sequence: which modifiers and locks were on, and whether the key was pressed, repeated or released.
 ghost use Rattle.std.specs.Prelude.{◌≡◌, Some};
 ghost use Rattle.crossterm_parse.specs.Bits.{where_bit};
-ghost use Rattle.crossterm_parse.specs.ModifierField.{mask_modifiers, mask_state, kind_of, modifier_field, empty_modifier_field, fallback};
+ghost use Rattle.crossterm_parse.specs.ModifierField.{mask_modifiers, mask_state, press_kind, modifier_field, empty_modifier_field, fallback};
 
 use crossterm_types::event::{KeyEventKind, KeyEventState, KeyModifiers};
 
@@ -40,7 +40,7 @@ fn state_in(mask: u8) -> KeyEventState
 }
 
 fn kind_in(kind: Option<u8>) -> KeyEventKind
-    ensures { result ≡ kind_of kind }
+    ensures { result ≡ press_kind kind }
 {
     match kind {
         Some(2) => KeyEventKind::Repeat,

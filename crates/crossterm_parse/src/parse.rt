@@ -6,7 +6,7 @@ ghost use Rattle.crossterm_types.specs.Seen.{seen};
 ghost use Rattle.crossterm_parse.specs.Putting.{TakesPart};
 ghost use Rattle.crossterm_parse.specs.States.{is_paste};
 ghost use Rattle.crossterm_parse.specs.Marked.{Marked, bytes_of, marked};
-ghost use Rattle.crossterm_parse.specs.View.{ParserView, Represents, RepresentsSame, AdvancesOver, EndsNoEvent, OpensNoPaste, TakesSteps, capacity, paste_length, text_of};
+ghost use Rattle.crossterm_parse.specs.View.{ParserView, Represents, RepresentsSame, AdvancesOver, EndsNoEvent, OpensNoPaste, TakesSteps, capacity, paste_length, text_or_empty};
 
 use crate::paste::PasteText;
 use crate::state::State;
@@ -54,7 +54,7 @@ pub struct Parser<A: Allocator = Global> {
 impl<A: Allocator> Model for Parser<A> {
     ghost Value = { ParserView };
 
-    ghost view = { λ p. record { waiting = p.queue.waiting; state = p.state; text = text_of p.paste; typed = p.queue.typed; room = p.queue.room } };
+    ghost view = { λ p. record { waiting = p.queue.waiting; state = p.state; text = text_or_empty p.paste; typed = p.queue.typed; room = p.queue.room } };
 }
 
 // How many bytes of a paste's end are kept before its last.

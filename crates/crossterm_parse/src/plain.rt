@@ -5,7 +5,7 @@
 ghost use Rattle.std.specs.Prelude.{◌≡◌, ◌<◌, ℕ, Bool, List, length, IfSome, IsTrue};
 ghost use Rattle.crossterm_parse.specs.Bytes.{is_digit};
 ghost use Rattle.crossterm_parse.specs.Transitions.{empty_parameters, readings_at, state_after, Whole};
-ghost use Rattle.crossterm_parse.specs.inside.Plain.{AreNumbers, EndsFrom, IsNumber, in_first, in_kind, in_second, in_third, read};
+ghost use Rattle.crossterm_parse.specs.inside.Plain.{AreNumbers, EndsFrom, IsNumber, in_first, in_kind, in_second, in_third, kept_of};
 ghost use Rattle.crossterm_parse.specs.Meaning.{after_csi};
 ghost use Rattle.crossterm_parse.specs.Putting.{GivesInFront};
 ghost use Rattle.crossterm_parse.specs.declared.number.Number.TheVariants.{Value};
@@ -74,7 +74,7 @@ fn number_in(bytes: &[u8]) -> Option<PlainNumber>
 /// What is read of one number.
 #[inline(always)]
 fn one(first: PlainNumber) -> Readings
-    ensures { result ≡ readings_at (read (in_first (Value first.value)) first.digit) }
+    ensures { result ≡ readings_at (kept_of (in_first (Value first.value)) first.digit) }
 {
     Readings {
         first: Some(first.value),
@@ -92,7 +92,7 @@ fn one(first: PlainNumber) -> Readings
 /// What is read of a number, and of a second one behind `;`.
 #[inline(always)]
 fn two(first: PlainNumber, second: PlainNumber) -> Readings
-    ensures { result ≡ readings_at (read (in_second first.value (Value second.value)) second.digit) }
+    ensures { result ≡ readings_at (kept_of (in_second first.value (Value second.value)) second.digit) }
 {
     Readings {
         second: Some(second.value),
@@ -105,7 +105,7 @@ fn two(first: PlainNumber, second: PlainNumber) -> Readings
 /// What is read of a number, of a second one behind `;`, and of its kind behind `:`.
 #[inline(always)]
 fn with_kind(first: PlainNumber, mask: PlainNumber, kind: PlainNumber) -> Readings
-    ensures { result ≡ readings_at (read (in_kind first.value mask.value (Value kind.value)) kind.digit) }
+    ensures { result ≡ readings_at (kept_of (in_kind first.value mask.value (Value kind.value)) kind.digit) }
 {
     Readings {
         mask: Some(mask.value),
@@ -118,7 +118,7 @@ fn with_kind(first: PlainNumber, mask: PlainNumber, kind: PlainNumber) -> Readin
 /// What is read of three numbers with `;` between them.
 #[inline(always)]
 fn three(first: PlainNumber, second: PlainNumber, third: PlainNumber) -> Readings
-    ensures { result ≡ readings_at (read (in_third first.value second.value (Value third.value)) third.digit) }
+    ensures { result ≡ readings_at (kept_of (in_third first.value second.value (Value third.value)) third.digit) }
 {
     Readings {
         third: Some(third.value),

@@ -5,7 +5,7 @@ ghost use Rattle.std.specs.Prelude.{◌≡◌};
 ghost use Rattle.crossterm_parse.specs.Mouse.{less, mouse_report};
 ghost use Rattle.crossterm_parse.specs.Number.{coordinate};
 ghost use Rattle.crossterm_parse.specs.ModifierField.{or_empty_modifier_field};
-ghost use Rattle.crossterm_parse.specs.Numbered.{key_with, modifier_field_of, tilde_code, tilde_meaning, cursor_meaning, numbered_letter, has_shift, functional_meaning, code_meaning, rxvt_meaning, sgr_by, numbered_by};
+ghost use Rattle.crossterm_parse.specs.Numbered.{key_with, modifier_field_of, tilde_code, tilde_meaning, cursor_meaning, numbered_letter, bits_have_shift, functional_meaning, code_meaning, rxvt_meaning, sgr_by, numbered_by};
 
 use crate::functional::{FunctionalKey, character, key_of_point};
 use crate::letters::letter_key;

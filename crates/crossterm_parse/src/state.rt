@@ -3,7 +3,7 @@
 //! Only crates of this tree use this module, which may change with each version.
 ghost use Rattle.std.specs.Prelude.{◌≡◌, ◌≢◌, ◌+◌, ◌<◌, ◌≤◌, ◌∷◌, [], Bool, true, false, length, take, IfNone, IfSome, IsTrue, IsFalse};
 ghost use Rattle.std.specs.List.{AllByRecursion};
-ghost use Rattle.crossterm_parse.specs.Transitions.{Reads, Opens, OpensWith, meaning_with, state_after, Open, Whole, Closed};
+ghost use Rattle.crossterm_parse.specs.Transitions.{ReadsOneByte, Opens, OpensWith, meaning_with, state_after, Open, Whole, Closed};
 ghost use Rattle.crossterm_parse.specs.Bytes.{IsLetter};
 ghost use Rattle.crossterm_parse.specs.States.{is_paste};
 ghost use Rattle.crossterm_parse.specs.Recognizer.{is_final, is_mouse_end};
@@ -102,7 +102,7 @@ fn read_report(parameters: &mut Parameters, byte: u8) -> bool
 /// Reads a byte with which a reply goes on, and returns whether it does.
 #[inline(always)]
 fn read_reply(number: &mut Number, byte: u8) -> bool
-    ensures { Reads (State.Reply number.old) (State.Reply number.new) byte result }
+    ensures { ReadsOneByte (State.Reply number.old) (State.Reply number.new) byte result }
 {
     if matches!(byte, b'c' | b'u') {
         return false;
@@ -297,7 +297,7 @@ impl State {
     /// A byte after ESC: a pause after it changes nothing.
     fn escape(&mut self, byte: u8) -> bool
         requires { self.old ≡ State.Escape }
-        ensures { Reads self.old self.new byte result }
+        ensures { ReadsOneByte self.old self.new byte result }
     {
         if byte == b'O' {
             *self = State::Ss3;
@@ -322,7 +322,7 @@ impl State {
     #[inline(always)]
     fn introduce(&mut self, byte: u8) -> bool
         requires { self.old ≡ State.Csi }
-        ensures reads { Reads self.old self.new byte result }
+        ensures reads { ReadsOneByte self.old self.new byte result }
         ensures outside { is_paste self.new ≡ false }
         ensures same { IsFalse result → self.new ≡ self.old }
     {
@@ -342,7 +342,7 @@ impl State {
     /// A byte after `ESC [ ?`.
     fn reply(&mut self, byte: u8) -> bool
         requires { self.old ≡ State.Private }
-        ensures { Reads self.old self.new byte result }
+        ensures { ReadsOneByte self.old self.new byte result }
     {
         if byte == b'c' {
             return false;
@@ -355,7 +355,7 @@ impl State {
     #[inline(always)]
     fn open_paste(&mut self, byte: u8) -> bool
         requires { (parameters : Parameters) × (opening : Opening) × (self.old ≡ State.Numbered parameters opening) × (is_final byte ≡ true) }
-        ensures { Reads self.old self.new byte result }
+        ensures { ReadsOneByte self.old self.new byte result }
     {
         if byte == b'~' && matches!(self, State::Numbered(_, Opening::Zeros)) {
             *self = State::Paste(Met::Nothing);

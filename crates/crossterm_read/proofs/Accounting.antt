@@ -17,7 +17,7 @@ use Rattle.crossterm_read.specs.Store.{EventStore, arrived, numbered_after, next
 use Rattle.crossterm_read.specs.Steps.{Patience, TakeReplies, ReadReplies, End, Ready, Tried, Broke, TakeStep, PollStep}
 use Rattle.crossterm_read.specs.Queries.{QueryReplies, QueryStep, IsAnswer, AfterReply, LeftReplies, FlagsReplies, KeyboardStep}
 use Rattle.crossterm_read.specs.Replies.{Said, Replied, ToPoll, ToTake, ToQuery, Fault, replied}
-use Rattle.crossterm_read.specs.Calls.{Step, Request, Poll, Read, Take, Position, Keyboard, request, Run, joined, empty, taken, numbered, IsAccounted, IsWithin, Accounts, Plays}
+use Rattle.crossterm_read.specs.Calls.{Step, Request, Poll, Read, Take, Position, Keyboard, request, Run, all_answers, empty, taken, numbered, IsAccounted, IsWithin, Accounts, Plays}
 use Rattle.crossterm_types.specs.Admitting.{admitted, is_cursor_position, is_flags_reply, is_attributes}
 use Rattle.crossterm_read.proofs.Asking.{arrived-append, numbered_after-append}
 
@@ -206,7 +206,7 @@ account_more zs ws r rs all done s m t k n =
     subst (λ l. Account l (done ++ taken (r ∷ rs)) t) e (subst (λ l. Account ((all ++ arrived s.arrivals zs) ++ arrived m.arrivals ws) l t) d n)
 
 run_account : (cs : List Call) (zss : List (List SourceAnswer)) (rs : List Replied) (all done : List (Seen × ℕ)) (s t : EventStore) → Account all done s → Run s cs zss rs t
-    → Account (all ++ arrived s.arrivals (joined zss)) (done ++ taken rs) t
+    → Account (all ++ arrived s.arrivals (all_answers zss)) (done ++ taken rs) t
 run_account [] [] [] all done s t a h = subst (λ (y : EventStore). Account (all ++ []) (done ++ []) y) (sym h) (subst (λ l. Account l (done ++ []) s) (sym (append-nil all)) (subst (λ l. Account all l s) (sym (append-nil done)) a))
 run_account [] [] (r ∷ rs) all done s t a h = absurd h
 run_account [] (zs ∷ zss) rs all done s t a h = absurd h
@@ -214,7 +214,7 @@ run_account (c ∷ cs) [] rs all done s t a h = absurd h
 run_account (c ∷ cs) (zs ∷ zss) [] all done s t a h = absurd h
 run_account (c ∷ cs) (zs ∷ zss) (r ∷ rs) all done s t a h =
     let k = step_account (request c) zs all done s h.0 r a h.1 in
-    account_more zs (joined zss) r rs all done s h.0 t k.1 (run_account cs zss rs (all ++ arrived s.arrivals zs) (done ++ taken (r ∷ [])) h.0 t k.0 h.2)
+    account_more zs (all_answers zss) r rs all done s h.0 t k.1 (run_account cs zss rs (all ++ arrived s.arrivals zs) (done ++ taken (r ∷ [])) h.0 t k.0 h.2)
 
 arrived_gave : (n : ℕ) (zs : List SourceAnswer) → arrived n zs ≡ numbered n (gave zs)
 arrived_gave n [] = refl
@@ -246,5 +246,5 @@ accounts device_answers calls said held p =
       kept = p.last.held;
       shows = p.shows;
       left = p.left;
-      accounted = accounted device_answers (joined p.drawn) (taken p.replies) p.last p.answered (run_account calls p.drawn p.replies [] [] empty p.last start p.run);
+      accounted = accounted device_answers (all_answers p.drawn) (taken p.replies) p.last p.answered (run_account calls p.drawn p.replies [] [] empty p.last start p.run);
     }

@@ -17,7 +17,7 @@ use Rattle.crossterm_read.specs.declared.read.reader.AtWake.TheVariants.{Stops, 
 use Rattle.crossterm_read.specs.declared.read.reader.Once.{Once}
 use Rattle.crossterm_read.specs.declared.read.reader.Once.TheVariants as once
 use Rattle.crossterm_read.specs.declared.read.held.Taken.{Taken}
-use Rattle.crossterm_read.specs.Store.{EventStore, ReaderState, arrived, numbered_after, next_number, Arrives, capacity}
+use Rattle.crossterm_read.specs.Store.{EventStore, ReaderState, arrived, numbered_after, next_number, Arrives, reader_capacity}
 use Rattle.crossterm_read.specs.Steps.{Patience, Allows, IsSpent, first_admitted, Passes, Asks, Ready, Tried, Broke, NextStep, PollStep, RefusedOnlyWithoutRoom, TakeReplies}
 use Rattle.crossterm_read.specs.inside.Asking.{Asked, DrawsOne, held_with}
 use Rattle.crossterm_read.specs.inside.Replies.{kept, try_reply}
@@ -67,7 +67,7 @@ length-arrived n (Nothing ∷ zs) = length-arrived n zs
 length-arrived n (Failed k ∷ zs) = length-arrived n zs
 
 -- If no room is left, as many events came as there was room for.
-came_to_room : {S : Type 0} (s t : ReaderState S) (zs : List SourceAnswer) → Arrives s.store zs t.store → capacity s ≤ capacity t → t.room ≡ 0 → s.room ≤ length (gave zs)
+came_to_room : {S : Type 0} (s t : ReaderState S) (zs : List SourceAnswer) → Arrives s.store zs t.store → reader_capacity s ≤ reader_capacity t → t.room ≡ 0 → s.room ≤ length (gave zs)
 came_to_room s t zs a h e =
     let held = ap length a.held ∙ length-append s.store.held (arrived s.store.arrivals zs) in
     let came = length-arrived s.store.arrivals zs in
@@ -118,7 +118,7 @@ module _ {S : Type 0} (A : Type 0) (drawn : S → List SourceAnswer → S → Ty
   pub asked_tried : (s t : ReaderState S) (i : ℕ) (patience : Patience) → Asking s t i → IsSpent patience i → Asked {A = A} drawn failed wake f patience s t (Ok None)
   asked_tried s t i patience a h = (a.answers, a.drawn_so, a.arrives, (a.none, a.passes, subst (IsSpent patience) (sym a.count) h), tt, a.steady, tt)
 
-  pub asked_refused : (s t : ReaderState S) (i : ℕ) (patience : Patience) (e : Error) → Asking s t i → Allows patience (i + 1) → error_kind e ≡ OutOfMemory → capacity s ≤ capacity t → t.room ≡ 0 → Asked {A = A} drawn failed wake f patience s t (Err e)
+  pub asked_refused : (s t : ReaderState S) (i : ℕ) (patience : Patience) (e : Error) → Asking s t i → Allows patience (i + 1) → error_kind e ≡ OutOfMemory → reader_capacity s ≤ reader_capacity t → t.room ≡ 0 → Asked {A = A} drawn failed wake f patience s t (Err e)
   asked_refused s t i patience e a h k r n = (
     a.answers,
     a.drawn_so,
@@ -197,7 +197,7 @@ pub poll_held : {S : Type 0} (drawn : S → List SourceAnswer → S → Type 0) 
 poll_held drawn law failed f patience s h = ([], law s.source, (Ready, inl (h, refl), arrives_none s.store, refl), tt)
 
 -- A take that gives nothing leaves the reader as it was.
-pub taken_none : {S : Type 0} (f : Seen → Bool) (s t : ReaderState S) → TakeReplies f s.store t.store None → capacity t ≡ capacity s → t.source ≡ s.source → t ≡ s
+pub taken_none : {S : Type 0} (f : Seen → Bool) (s t : ReaderState S) → TakeReplies f s.store t.store None → reader_capacity t ≡ reader_capacity s → t.source ≡ s.source → t ≡ s
 taken_none f s t h r e =
     let held = ap (λ (y : EventStore). length y.held) h.1 in
     let room : t.room ≡ s.room = omega arith in

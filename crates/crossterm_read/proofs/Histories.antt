@@ -4,7 +4,7 @@ use Rattle.std.proofs.lemmas.List.Sorted.{IsPermutation-refl}
 use Rattle.crossterm_types.specs.Seen.{Seen}
 use Rattle.crossterm_read.specs.Answers.{SourceAnswer, Gave, Nothing, Failed}
 use Rattle.crossterm_read.specs.History.{Entry, Makes, Runs, answers_of, taken_by}
-use Rattle.crossterm_read.specs.Store.{ReaderState, arrived, capacity, numbered_after, next_number}
+use Rattle.crossterm_read.specs.Store.{ReaderState, arrived, reader_capacity, numbered_after, next_number}
 use Rattle.crossterm_read.proofs.Accounting.{Account, Taken, within_refl, none_taken, step_account, account_more}
 use Rattle.crossterm_read.proofs.Asking.{numbered_after-append}
 
@@ -27,8 +27,8 @@ module _ {S : Type 0} (drawn : S → List SourceAnswer → S → Type 0) where
   runs_snoc o m t (d ∷ log) e h k = (h.0, h.1, runs_snoc h.0 m t log e h.2 k)
 
   -- No room is lost in a history.
-  pub runs_room : (o t : ReaderState S) (log : List Entry) → Runs drawn o log t → capacity o ≤ capacity t
-  runs_room o t [] h = subst (λ (y : ReaderState S). capacity o ≤ capacity y) h (omega arith)
+  pub runs_room : (o t : ReaderState S) (log : List Entry) → Runs drawn o log t → reader_capacity o ≤ reader_capacity t
+  runs_room o t [] h = subst (λ (y : ReaderState S). reader_capacity o ≤ reader_capacity y) h (omega arith)
   runs_room o t (e ∷ log) h = let first = h.1.2 in let last = runs_room h.0 t log h.2 in omega arith
 
   -- What came before a history and in it is what was taken before it and in it, and what is held.

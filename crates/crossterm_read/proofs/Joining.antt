@@ -11,8 +11,8 @@ use Rattle.crossterm_types.specs.declared.event.Event.TheVariants as event
 use Rattle.crossterm_types.specs.declared.event.InternalEvent.{InternalEvent}
 use Rattle.crossterm_types.specs.declared.event.InternalEvent.TheVariants as internal
 use Rattle.crossterm_types.specs.declared.event.filter.Classes.{Classes}
-use Rattle.crossterm_read.specs.inside.Kinds.{has, kind_of, place_of, same_kind}
-use Rattle.crossterm_read.specs.inside.Queues.{Ascends, AreJoined, IsEarliest, Joins, NotBefore, IsFirstAt, Takes, all_kinds, behind, earlier_of, in_order, joined, member_kept, numbered_anew, of_kind, put_in}
+use Rattle.crossterm_read.specs.inside.Kinds.{has_class, kind_of, queue_place, same_kind}
+use Rattle.crossterm_read.specs.inside.Queues.{Ascends, AreJoined, IsEarliest, Joins, NotBefore, IsFirstAt, TakesMember, all_kinds, behind, earlier_of, in_order, joined, member_kept, numbered_anew, of_kind, put_in}
 use Rattle.crossterm_read.specs.declared.read.held.kind.Kind.{Kind}
 use Rattle.crossterm_read.specs.declared.read.held.kind.Kind.TheVariants.{Event, Cursor, Flags, Attributes}
 use Rattle.crossterm_read.specs.declared.read.held.kind.Place.{Place}
@@ -56,18 +56,18 @@ the_same Attributes Attributes e = refl
 abbrev pub all_classes : Classes
 all_classes = record { event = true; cursor = true; flags = true; attributes = true }
 
-pub every_kind : (kind : Kind) → has all_classes kind ≡ true
-every_kind = each_kind (λ k. has all_classes k ≡ true) refl refl refl refl
+pub every_kind : (kind : Kind) → has_class all_classes kind ≡ true
+every_kind = each_kind (λ k. has_class all_classes k ≡ true) refl refl refl refl
 
 -- The places of the fronts.
 abbrev pub fronts : Places
 fronts = record { event = 0; cursor = 0; flags = 0; attributes = 0 }
 
-pub fronts_are : (kind : Kind) → place_of fronts kind ≡ 0
-fronts_are = each_kind (λ k. place_of fronts k ≡ 0) refl refl refl refl
+pub fronts_are : (kind : Kind) → queue_place fronts kind ≡ 0
+fronts_are = each_kind (λ k. queue_place fronts k ≡ 0) refl refl refl refl
 
 -- The classes of a filter are the kinds of the events that it admits.
-pub classes_say : {A : Type 0} (c : Classes) (e : InternalEvent A) → is_of c (seen e) ≡ has c (kind_of e)
+pub classes_say : {A : Type 0} (c : Classes) (e : InternalEvent A) → is_of c (seen e) ≡ has_class c (kind_of e)
 classes_say c (internal.Event event.FocusGained) = refl
 classes_say c (internal.Event event.FocusLost) = refl
 classes_say c (internal.Event (event.Key key)) = refl
@@ -334,13 +334,13 @@ module _ {A : Type 0} where
   -- A walk through all members: some are done, and these are left.
   pub record Reached (q : Kind → List (Member A)) (at : Places) (done rest : List (Member A)) : Type 0 where
     pub parts : (k : Kind) → q k ≡ of_kind k done ++ of_kind k rest
-    pub places : (k : Kind) → place_of at k ≡ length (of_kind k done)
+    pub places : (k : Kind) → queue_place at k ≡ length (of_kind k done)
     pub ascends : Ascends rest
 
   joins_rest : (q : Kind → List (Member A)) (at : Places) (done rest : List (Member A)) → Reached q at done rest → Joins rest (behind q at)
   joins_rest q at done rest r = record { ascends = r.ascends; parts = λ k. sym ((λ i. drop (r.places k i) (r.parts k i)) ∙ drop_here (of_kind k done) (of_kind k rest)) }
 
-  pub reached_start : (q : Kind → List (Member A)) (at : Places) → AreJoined q → ((k : Kind) → place_of at k ≡ 0) → Reached q at [] (joined q)
+  pub reached_start : (q : Kind → List (Member A)) (at : Places) → AreJoined q → ((k : Kind) → queue_place at k ≡ 0) → Reached q at [] (joined q)
   reached_start q at j z = record { parts = λ k. sym (j.parts k); places = z; ascends = j.ascends }
 
   -- If all kinds are wanted, the earliest front is the first of all.
@@ -348,20 +348,20 @@ module _ {A : Type 0} where
   none_before wanted every [] a = refl
   none_before wanted every (x ∷ xs) a = let e = sym (every (kind_of x.event)) ∙ a.0 in absurd (cc)
 
-  pub first_of : (list : List (Member A)) (q : Kind → List (Member A)) (f : Front A) → Joins list q → IsEarliest q (has all_classes) all_kinds (Some f)
+  pub first_of : (list : List (Member A)) (q : Kind → List (Member A)) (f : Front A) → Joins list q → IsEarliest q (has_class all_classes) all_kinds (Some f)
       → ((after : List (Member A)) × (list ≡ f.member.now ∷ after)) × (f.kind ≡ kind_of f.member.now.event)
   first_of list q f j e =
-      let first = first_found (has all_classes) list q f j e in
-      ((first.after, first.order ∙ ap (λ l. l ++ f.member.now ∷ first.after) (none_before (has all_classes) every_kind first.before first.first)), first.kind_is)
+      let first = first_found (has_class all_classes) list q f j e in
+      ((first.after, first.order ∙ ap (λ l. l ++ f.member.now ∷ first.after) (none_before (has_class all_classes) every_kind first.before first.first)), first.kind_is)
 
-  pub none_left : (list : List (Member A)) (q : Kind → List (Member A)) → Joins list q → IsEarliest q (has all_classes) all_kinds None → list ≡ []
-  none_left list q j e = none_before (has all_classes) every_kind list (none_found (has all_classes) list q j e)
+  pub none_left : (list : List (Member A)) (q : Kind → List (Member A)) → Joins list q → IsEarliest q (has_class all_classes) all_kinds None → list ≡ []
+  none_left list q j e = none_before (has_class all_classes) every_kind list (none_found (has_class all_classes) list q j e)
 
   module _ (q : Kind → List (Member A)) (at : Places) (done rest : List (Member A)) (r : Reached q at done rest) where
-    next_one : (f : Front A) → IsEarliest (behind q at) (has all_classes) all_kinds (Some f) → ((after : List (Member A)) × (rest ≡ f.member.now ∷ after)) × (f.kind ≡ kind_of f.member.now.event)
+    next_one : (f : Front A) → IsEarliest (behind q at) (has_class all_classes) all_kinds (Some f) → ((after : List (Member A)) × (rest ≡ f.member.now ∷ after)) × (f.kind ≡ kind_of f.member.now.event)
     next_one f e = first_of rest (behind q at) f (joins_rest q at done rest r) e
 
-    none_next : IsEarliest (behind q at) (has all_classes) all_kinds None → rest ≡ []
+    none_next : IsEarliest (behind q at) (has_class all_classes) all_kinds None → rest ≡ []
     none_next e = none_left rest (behind q at) (joins_rest q at done rest r) e
 
   -- Behind the first of all.
@@ -372,15 +372,15 @@ module _ {A : Type 0} where
   part_behind k kind n l after m false is s e = sym (ap (λ (b : Bool). cond b (m ∷ of_kind k after) (of_kind k after)) (ap (λ (z : Kind). same_kind k z) (sym is) ∙ s)) ∙ e
 
   pub joins_behind : (q : Kind → List (Member A)) (at to : Places) (after : List (Member A)) (m : Member A) (kind : Kind) → Joins (m ∷ after) (behind q at) → kind ≡ kind_of m.event
-      → ((k : Kind) → place_of to k ≡ cond (same_kind k kind) (place_of at k + 1) (place_of at k)) → Joins after (behind q to)
+      → ((k : Kind) → queue_place to k ≡ cond (same_kind k kind) (queue_place at k + 1) (queue_place at k)) → Joins after (behind q to)
   joins_behind q at to after m kind j is places = record {
     ascends = j.ascends.1;
-    parts = λ k. part_behind k kind (place_of at k) (q k) after m (same_kind k kind) is refl (j.parts k) ∙ ap (λ (n : ℕ). drop n (q k)) (sym (places k));
+    parts = λ k. part_behind k kind (queue_place at k) (q k) after m (same_kind k kind) is refl (j.parts k) ∙ ap (λ (n : ℕ). drop n (q k)) (sym (places k));
   }
 
   -- what is left after the earliest member
-  pub left_of : (q : Kind → List (Member A)) (at to : Places) (f : Front A) → AreJoined (behind q at) → IsEarliest (behind q at) (has all_classes) all_kinds (Some f)
-      → ((k : Kind) → place_of to k ≡ cond (same_kind k f.kind) (place_of at k + 1) (place_of at k))
+  pub left_of : (q : Kind → List (Member A)) (at to : Places) (f : Front A) → AreJoined (behind q at) → IsEarliest (behind q at) (has_class all_classes) all_kinds (Some f)
+      → ((k : Kind) → queue_place to k ≡ cond (same_kind k f.kind) (queue_place at k + 1) (queue_place at k))
       → (after : List (Member A)) × (joined (behind q at) ≡ f.member.now ∷ after) × Joins after (behind q to)
   left_of q at to f j e places =
       let first = first_of (joined (behind q at)) (behind q at) f j e in
@@ -400,11 +400,11 @@ module _ {A : Type 0} where
     place_moved p false e h = h ∙ ap length (sym (append-nil (of_kind k done)) ∙ sym (part_of k done [] n false (same_as false e)))
 
   pub advance : (q p : Kind → List (Member A)) (at to : Places) (done after : List (Member A)) (m n : Member A) (kind : Kind) → Reached q at done (m ∷ after) → kind ≡ kind_of m.event → kind_of n.event ≡ kind_of m.event
-      → ((k : Kind) → p k ≡ of_kind k done ++ cond (same_kind k kind) (n ∷ of_kind k after) (of_kind k after)) → ((k : Kind) → place_of to k ≡ cond (same_kind k kind) (place_of at k + 1) (place_of at k))
+      → ((k : Kind) → p k ≡ of_kind k done ++ cond (same_kind k kind) (n ∷ of_kind k after) (of_kind k after)) → ((k : Kind) → queue_place to k ≡ cond (same_kind k kind) (queue_place at k + 1) (queue_place at k))
       → Reached p to (done ++ n ∷ []) after
   advance q p at to done after m n kind r is same parts places = record {
     parts = λ k. parts k ∙ part_moved k kind done after m n is same (same_kind k kind) refl;
-    places = λ k. places k ∙ place_moved k kind done after m n is same (place_of at k) (same_kind k kind) refl (r.places k);
+    places = λ k. places k ∙ place_moved k kind done after m n is same (queue_place at k) (same_kind k kind) refl (r.places k);
     ascends = r.ascends.1;
   }
 
@@ -416,12 +416,12 @@ module _ {A : Type 0} where
     pub passed : AllByRecursion (λ m. passes m ≡ false) before
     pub reached : Reached q at before after
 
-  pub walked_start : (passes : Member A → Bool) (q : Kind → List (Member A)) (at : Places) → AreJoined q → ((k : Kind) → place_of at k ≡ 0) → Walked passes q at
+  pub walked_start : (passes : Member A → Bool) (q : Kind → List (Member A)) (at : Places) → AreJoined q → ((k : Kind) → queue_place at k ≡ 0) → Walked passes q at
   walked_start passes q at j z = record { before = []; after = joined q; order = refl; passed = tt; reached = reached_start q at j z }
 
   module _ (passes : Member A → Bool) (q : Kind → List (Member A)) (at : Places) (w : Walked passes q at) where
-    pub walked_on : (f : Front A) (to : Places) → IsEarliest (behind q at) (has all_classes) all_kinds (Some f) → passes f.member.now ≡ false
-        → ((k : Kind) → place_of to k ≡ cond (same_kind k f.kind) (place_of at k + 1) (place_of at k)) → Walked passes q to
+    pub walked_on : (f : Front A) (to : Places) → IsEarliest (behind q at) (has_class all_classes) all_kinds (Some f) → passes f.member.now ≡ false
+        → ((k : Kind) → queue_place to k ≡ cond (same_kind k f.kind) (queue_place at k + 1) (queue_place at k)) → Walked passes q to
     walked_on f to e fails places =
         let m = f.member.now in
         let next = next_one q at w.before w.after w.reached f e in
@@ -436,7 +436,7 @@ module _ {A : Type 0} where
               (λ k. r.parts k ∙ ap (λ (z : Kind). of_kind k w.before ++ cond (same_kind k z) (m ∷ of_kind k after) (of_kind k after)) (sym next.1)) places;
         }
 
-    pub walked_found : (f : Front A) (place : Place) → IsEarliest (behind q at) (has all_classes) all_kinds (Some f) → passes f.member.now ≡ true → place.kind ≡ f.kind → place.at ≡ place_of at f.kind → IsFirstAt passes q place
+    pub walked_found : (f : Front A) (place : Place) → IsEarliest (behind q at) (has_class all_classes) all_kinds (Some f) → passes f.member.now ≡ true → place.kind ≡ f.kind → place.at ≡ queue_place at f.kind → IsFirstAt passes q place
     walked_found f place e passed kind at_is =
         let next = next_one q at w.before w.after w.reached f e in
         record {
@@ -450,11 +450,11 @@ module _ {A : Type 0} where
           at = at_is ∙ w.reached.places f.kind ∙ ap (λ (z : Kind). length (of_kind z w.before)) (sym kind);
         }
 
-    pub walked_all : IsEarliest (behind q at) (has all_classes) all_kinds None → AllByRecursion (λ m. passes m ≡ false) (joined q)
+    pub walked_all : IsEarliest (behind q at) (has_class all_classes) all_kinds None → AllByRecursion (λ m. passes m ≡ false) (joined q)
     walked_all e = subst (λ l. AllByRecursion (λ m. passes m ≡ false) l) (sym (w.order ∙ ap (λ l. w.before ++ l) (none_next q at w.before w.after w.reached e) ∙ append-nil w.before)) w.passed
 
   -- The earliest front of the classes of a filter is the first member that it admits.
-  module _ (wanted : Kind → Bool) (passes : Member A → Bool) (delivers : (m : Member A) → passes m ≡ wanted (kind_of m.event)) (q : Kind → List (Member A)) (at : Places) (j : AreJoined q) (z : (k : Kind) → place_of at k ≡ 0) where
+  module _ (wanted : Kind → Bool) (passes : Member A → Bool) (delivers : (m : Member A) → passes m ≡ wanted (kind_of m.event)) (q : Kind → List (Member A)) (at : Places) (j : AreJoined q) (z : (k : Kind) → queue_place at k ≡ 0) where
     at_fronts : Joins (joined q) (behind q at)
     at_fronts = joins_same (joined q) q (behind q at) j (λ k. ap (λ (n : ℕ). drop n (q k)) (z k))
 
@@ -502,7 +502,7 @@ module _ {A : Type 0} where
       kept l true = length-set l at n
       kept l false = refl
 
-  pub renumbered_start : (q : Kind → List (Member A)) (at : Places) → AreJoined q → ((k : Kind) → place_of at k ≡ 0) → Renumbered (joined q) q at 0
+  pub renumbered_start : (q : Kind → List (Member A)) (at : Places) → AreJoined q → ((k : Kind) → queue_place at k ≡ 0) → Renumbered (joined q) q at 0
   renumbered_start q at j z = record { done = []; rest = joined q; order = refl; count = refl; reached = reached_start q at j z }
 
   set_part : (k kind : Kind) (at : ℕ) (q : List (Member A)) (done after : List (Member A)) (m n : Member A) (b : Bool) → kind ≡ kind_of m.event → same_kind k kind ≡ b → at ≡ length (of_kind kind done)
@@ -514,9 +514,9 @@ module _ {A : Type 0} where
   set_part k kind at q done after m n false is s place e = e ∙ ap (λ (b : Bool). of_kind k done ++ cond b (m ∷ of_kind k after) (of_kind k after)) (ap (λ (z : Kind). same_kind k z) (sym is) ∙ s)
 
   module _ (before : List (Member A)) (q : Kind → List (Member A)) (at : Places) (next : ℕ) (w : Renumbered before q at next) where
-    pub renumbered_on : (f : Front A) (p : Kind → List (Member A)) (to : Places) → IsEarliest (behind q at) (has all_classes) all_kinds (Some f)
-        → ((k : Kind) → p k ≡ cond (same_kind k f.kind) (slice_set (q k) (place_of at f.kind) (record f.member.now { order = next })) (q k))
-        → ((k : Kind) → place_of to k ≡ cond (same_kind k f.kind) (place_of at k + 1) (place_of at k)) → Renumbered before p to (next + 1)
+    pub renumbered_on : (f : Front A) (p : Kind → List (Member A)) (to : Places) → IsEarliest (behind q at) (has_class all_classes) all_kinds (Some f)
+        → ((k : Kind) → p k ≡ cond (same_kind k f.kind) (slice_set (q k) (queue_place at f.kind) (record f.member.now { order = next })) (q k))
+        → ((k : Kind) → queue_place to k ≡ cond (same_kind k f.kind) (queue_place at k + 1) (queue_place at k)) → Renumbered before p to (next + 1)
     renumbered_on f p to e parts places =
         let m = f.member.now in
         let n : Member A = record m { order = next } in
@@ -531,10 +531,10 @@ module _ {A : Type 0} where
           count = let l = length-append w.done (m ∷ []) in omega arith;
           reached = subst (λ l. Reached p to l after) (sym (anew_push 0 w.done m next (omega arith)))
               (advance q p at to (numbered_anew 0 w.done) after m n f.kind r one.1 refl
-              (λ k. parts k ∙ set_part k f.kind (place_of at f.kind) (q k) (numbered_anew 0 w.done) after m n (same_kind k f.kind) one.1 refl (r.places f.kind) (r.parts k)) places);
+              (λ k. parts k ∙ set_part k f.kind (queue_place at f.kind) (q k) (numbered_anew 0 w.done) after m n (same_kind k f.kind) one.1 refl (r.places f.kind) (r.parts k)) places);
         }
 
-    pub renumbered_all : IsEarliest (behind q at) (has all_classes) all_kinds None → Joins (numbered_anew 0 before) q × (next ≡ length before)
+    pub renumbered_all : IsEarliest (behind q at) (has_class all_classes) all_kinds None → Joins (numbered_anew 0 before) q × (next ≡ length before)
     renumbered_all e =
         let none = none_next q at (numbered_anew 0 w.done) w.rest w.reached e in
         let all = w.order ∙ ap (λ l. w.done ++ l) none ∙ append-nil w.done in (
@@ -547,16 +547,16 @@ module _ {A : Type 0} where
 
   -- How many members are at the places and after them.
   abbrev pub left : (Kind → List (Member A)) → Places → ℕ
-  left q at = (length (q Event) - place_of at Event) + (length (q Cursor) - place_of at Cursor) + (length (q Flags) - place_of at Flags) + (length (q Attributes) - place_of at Attributes)
+  left q at = (length (q Event) - queue_place at Event) + (length (q Cursor) - queue_place at Cursor) + (length (q Flags) - queue_place at Flags) + (length (q Attributes) - queue_place at Attributes)
 
-  pub fewer_left : (q p : Kind → List (Member A)) (at to : Places) (kind : Kind) → place_of at kind < length (q kind) → ((k : Kind) → length (p k) ≡ length (q k))
-      → ((k : Kind) → place_of to k ≡ cond (same_kind k kind) (place_of at k + 1) (place_of at k)) → left p to < left q at
+  pub fewer_left : (q p : Kind → List (Member A)) (at to : Places) (kind : Kind) → queue_place at kind < length (q kind) → ((k : Kind) → length (p k) ≡ length (q k))
+      → ((k : Kind) → queue_place to k ≡ cond (same_kind k kind) (queue_place at k + 1) (queue_place at k)) → left p to < left q at
   fewer_left q p at to kind low long places =
       let le = long Event in
       let lc = long Cursor in
       let lf = long Flags in
       let la = long Attributes in
-      each_kind (λ kind. place_of at kind < length (q kind) → ((k : Kind) → place_of to k ≡ cond (same_kind k kind) (place_of at k + 1) (place_of at k)) → left p to < left q at)
+      each_kind (λ kind. queue_place at kind < length (q kind) → ((k : Kind) → queue_place to k ≡ cond (same_kind k kind) (queue_place at k + 1) (queue_place at k)) → left p to < left q at)
       (λ low h. let e = h Event in let c = h Cursor in let f = h Flags in let a = h Attributes in omega arith)
       (λ low h. let e = h Event in let c = h Cursor in let f = h Flags in let a = h Attributes in omega arith)
       (λ low h. let e = h Event in let c = h Cursor in let f = h Flags in let a = h Attributes in omega arith)
@@ -586,7 +586,7 @@ module _ {A : Type 0} where
 
   -- The member at a place that was found is taken out.
   pub taken_out : (passes : Member A → Bool) (q p : Kind → List (Member A)) (place : Place) (r : Option (Member A)) → AreJoined q → IsFirstAt passes q place → (IsSome r ↔ (place.at < length (q place.kind)))
-      → IfSome r (λ m. m ≡ get_or (q place.kind) place.at m) → IfSome r (λ _. (k : Kind) → p k ≡ cond (same_kind k place.kind) (remove (q k) place.at) (q k)) → Takes passes q p r
+      → IfSome r (λ m. m ≡ get_or (q place.kind) place.at m) → IfSome r (λ _. (k : Kind) → p k ≡ cond (same_kind k place.kind) (remove (q k) place.at) (q k)) → TakesMember passes q p r
   taken_out passes q p place None j s some value parts =
       let there = is_first_there s.before s.after s.member s.member place.kind place.at q (subst (λ l. Joins l q) s.order j) s.kind s.at in
       let e = some.1 there.1 in

@@ -10,7 +10,7 @@ use Rattle.crossterm_read.specs.Answers.{SourceAnswer}
 use Rattle.crossterm_read.specs.Store.{ReaderState}
 use Rattle.crossterm_read.specs.History.{Entry, Known, Meeting, StartsWith, Runs, are_of, calls_by}
 use Rattle.crossterm_read.specs.inside.Numbers.{IsOrderly}
-use Rattle.crossterm_read.specs.inside.Slot.{newcomer, first_of, one_less, one_more, longer, taught, Fits, Nobody, Holder, Open, Kept, Took, Produces, Put, Learnt}
+use Rattle.crossterm_read.specs.inside.Slot.{newcomer, first_pass, one_less, one_more, longer, taught, Agrees, Nobody, Holder, Open, SlotRule, Took, ProducesCall, Put, Learnt}
 use Rattle.crossterm_read.proofs.Histories.{runs_front, runs_snoc}
 use Rattle.crossterm_read.proofs.Seating.{head_same, tail_same, off, some_of, none_not, calls_by-append, calls_by-mine, calls_by-other, below, at_end, some_at, are_snoc, are_more, are_front, none_past, none_more, same_or_not, starts_on, first_there, longer_starts, longer_ours, longer_theirs, longer_whole, longer_calls}
 
@@ -26,11 +26,11 @@ module _ {S : Type 0} (drawn : S → List SourceAnswer → S → Type 0) where
       (at_set views by j w u e)
 
   -- The rule before the reader is put in.
-  pub begins : Kept drawn [] (newcomer ∷ [])
+  pub begins : SlotRule drawn [] (newcomer ∷ [])
   begins = inl (refl, refl)
 
   -- What a pass that was opened knows, of a rule that is kept.
-  known : (items : List (ReaderState S)) (views : List (Known S)) (by : ℕ) (v : Known S) (o : ReaderState S) → v.opening ≡ Some o → Kept drawn items views → get_elem? views by ≡ some v → Open drawn items views
+  known : (items : List (ReaderState S)) (views : List (Known S)) (by : ℕ) (v : Known S) (o : ReaderState S) → v.opening ≡ Some o → SlotRule drawn items views → get_elem? views by ≡ some v → Open drawn items views
   known items views by v o is (inl h) at = absurd (none_not o (sym (ap (λ (u : Known S). u.opening) (only views by h.1 at)) ∙ is))
     where
       at_one : (j : ℕ) → get_elem? (newcomer ∷ []) j ≡ some v → v ≡ newcomer
@@ -56,7 +56,7 @@ module _ {S : Type 0} (drawn : S → List SourceAnswer → S → Type 0) where
       (at_set views by 0 w u e)
 
   -- The slot of a reader that was opened just now.
-  opens_from : (x : ReaderState S) (others : ℕ) → IsOrderly x.store.held x.store.arrivals → x.store.arrivals < 2 ^ 64 → Open drawn (x ∷ []) (first_of x others others ∷ [])
+  opens_from : (x : ReaderState S) (others : ℕ) → IsOrderly x.store.held x.store.arrivals → x.store.arrivals < 2 ^ 64 → Open drawn (x ∷ []) (first_pass x others others ∷ [])
   opens_from x others orderly fits = record {
     opening = x;
     passes = suc others;
@@ -65,9 +65,9 @@ module _ {S : Type 0} (drawn : S → List SourceAnswer → S → Type 0) where
     orderly = orderly;
     fits = fits;
     runs = refl;
-    whole = (0, first_of x others others, refl, refl);
+    whole = (0, first_pass x others others, refl, refl);
     place = inl (refl, one (λ _ u. u.has ≡ false) refl);
-    each = one (Fits drawn x (suc others) []) record {
+    each = one (Agrees drawn x (suc others) []) record {
       number = refl;
       passes_so = refl;
       spare = λ q. absurd (q refl);
@@ -82,25 +82,25 @@ module _ {S : Type 0} (drawn : S → List SourceAnswer → S → Type 0) where
     callers = refl;
   }
     where
-      one : (F : ℕ → Known S → Type 0) → F 0 (first_of x others others) → All F (first_of x others others ∷ [])
+      one : (F : ℕ → Known S → Type 0) → F 0 (first_pass x others others) → All F (first_pass x others others ∷ [])
       one F here zero v e = subst (F 0) (some_at _ _ e) here
       one F here (suc by) v e = absurd (some-ne-none v (sym e))
 
   -- The reader is put in by the first pass.
-  opens : (n by : ℕ) (v : Known S) (x : ReaderState S) (others : ℕ) → v ≡ newcomer → IsOrderly x.store.held x.store.arrivals → x.store.arrivals < 2 ^ 64 → Pushes (Kept drawn) n by v x (λ w. w ≡ first_of x others others)
+  opens : (n by : ℕ) (v : Known S) (x : ReaderState S) (others : ℕ) → v ≡ newcomer → IsOrderly x.store.held x.store.arrivals → x.store.arrivals < 2 ^ 64 → Pushes (SlotRule drawn) n by v x (λ w. w ≡ first_pass x others others)
   opens n by v x others new orderly fits items views room (inl h) at =
-      (first_of x others others, inr (subst (λ (is : List (ReaderState S)). Open drawn (is ++ x ∷ []) (set views by (first_of x others others))) (sym h.0) (here views by h.1 at)), refl)
+      (first_pass x others others, inr (subst (λ (is : List (ReaderState S)). Open drawn (is ++ x ∷ []) (set views by (first_pass x others others))) (sym h.0) (here views by h.1 at)), refl)
     where
-      at_one : (j : ℕ) → get_elem? (newcomer ∷ []) j ≡ some v → Open drawn (x ∷ []) (set (newcomer ∷ []) j (first_of x others others))
+      at_one : (j : ℕ) → get_elem? (newcomer ∷ []) j ≡ some v → Open drawn (x ∷ []) (set (newcomer ∷ []) j (first_pass x others others))
       at_one zero e = opens_from x others orderly fits
       at_one (suc j) e = absurd (some-ne-none v (sym e))
 
-      here : (l : List (Known S)) (j : ℕ) → l ≡ newcomer ∷ [] → get_elem? l j ≡ some v → Open drawn (x ∷ []) (set l j (first_of x others others))
-      here l j e a = subst (λ (k : List (Known S)). Open drawn (x ∷ []) (set k j (first_of x others others))) (sym e) (at_one j (subst (λ (k : List (Known S)). get_elem? k j ≡ some v) e a))
+      here : (l : List (Known S)) (j : ℕ) → l ≡ newcomer ∷ [] → get_elem? l j ≡ some v → Open drawn (x ∷ []) (set l j (first_pass x others others))
+      here l j e a = subst (λ (k : List (Known S)). Open drawn (x ∷ []) (set k j (first_pass x others others))) (sym e) (at_one j (subst (λ (k : List (Known S)). get_elem? k j ≡ some v) e a))
   opens n by v x others new orderly fits items views room (inr h) at = absurd (none_not h.opening (sym (ap (λ (u : Known S). u.opening) new) ∙ (h.each by v at).opening))
 
   -- The pass takes the reader out.
-  takes_it : (by : ℕ) (v : Known S) (o : ReaderState S) → v.opening ≡ Some o → Pops (Kept drawn) by v (λ x w. Took drawn v x w)
+  takes_it : (by : ℕ) (v : Known S) (o : ReaderState S) → v.opening ≡ Some o → Pops (SlotRule drawn) by v (λ x w. Took drawn v x w)
   takes_it by v o is x items views kept at =
       let h = known (x ∷ items) views by v o is kept at in
       let mine = h.each by v at in
@@ -131,7 +131,7 @@ module _ {S : Type 0} (drawn : S → List SourceAnswer → S → Type 0) where
               alone = all_set (λ j u. u.has ≡ true → j ≡ by) views by w (λ _. refl) (λ j u apart e has. absurd (off (sym (full.1 j u e) ∙ has)));
             },
           );
-          each = all_set (Fits drawn h.opening h.passes h.log) views by w record {
+          each = all_set (Agrees drawn h.opening h.passes h.log) views by w record {
             number = mine.number;
             passes_so = mine.passes_so;
             spare = mine.spare;
@@ -163,7 +163,7 @@ module _ {S : Type 0} (drawn : S → List SourceAnswer → S → Type 0) where
       cons_not e = absurd (cc)
 
   -- Who has the reader puts it back, after one call from the state in which it was taken.
-  puts_it : (n by : ℕ) (v : Known S) (x : ReaderState S) (made : ReaderState S → Entry → ReaderState S → Type 0) → Produces drawn made v x → Pushes (Kept drawn) n by v x (λ w. Put drawn made v x w)
+  puts_it : (n by : ℕ) (v : Known S) (x : ReaderState S) (made : ReaderState S → Entry → ReaderState S → Type 0) → ProducesCall drawn made v x → Pushes (SlotRule drawn) n by v x (λ w. Put drawn made v x w)
   puts_it n by v x made b items views room kept at =
       let e : Entry = b.call in
       let h = known items views by v b.opening b.opened kept at in
@@ -195,7 +195,7 @@ module _ {S : Type 0} (drawn : S → List SourceAnswer → S → Type 0) where
             ap (λ (l : List (ReaderState S)). l ++ x ∷ []) out.0,
             all_set (λ j u. u.has ≡ false) views by w refl (λ j u apart at'. false_from_ne_true u.has (λ q. apart (out.1.alone j u at' q ∙ sym holder))),
           );
-          each = all_set (Fits drawn h.opening h.passes log) views by w
+          each = all_set (Agrees drawn h.opening h.passes log) views by w
               record {
                 number = mine.number;
                 passes_so = mine.passes_so;
@@ -226,16 +226,16 @@ module _ {S : Type 0} (drawn : S → List SourceAnswer → S → Type 0) where
       )
 
   -- If a pass has the reader, the slot is empty.
-  has_room : (by : ℕ) (v : Known S) (o : ReaderState S) → v.opening ≡ Some o → v.has ≡ true → Learns (Kept drawn) by v (λ items. items ≡ [])
+  has_room : (by : ℕ) (v : Known S) (o : ReaderState S) → v.opening ≡ Some o → v.has ≡ true → Learns (SlotRule drawn) by v (λ items. items ≡ [])
   has_room by v o is has items views kept at =
       let h = known items views by v o is kept at in
       ⊎_elim (λ (p : (items ≡ h.now ∷ []) × Nobody drawn views). absurd (off (sym (p.1 by v at) ∙ has))) (λ (p : (items ≡ []) × Holder drawn views). p.0) h.place
 
   -- The first pass makes another.
-  forks_first : (by : ℕ) (o : ReaderState S) (others left : ℕ) → Forks (Kept drawn) by (first_of o others (suc left)) (first_of o others left) (one_more (first_of o others (suc left)))
+  forks_first : (by : ℕ) (o : ReaderState S) (others left : ℕ) → Forks (SlotRule drawn) by (first_pass o others (suc left)) (first_pass o others left) (one_more (first_pass o others (suc left)))
   forks_first by o others left items views kept at =
-      let v : Known S = first_of o others (suc left) in
-      let w : Known S = first_of o others left in
+      let v : Known S = first_pass o others (suc left) in
+      let w : Known S = first_pass o others left in
       let r : Known S = one_more v in
       let h = known items views by v o refl kept at in
       let mine = h.each by v at in
@@ -272,7 +272,7 @@ module _ {S : Type 0} (drawn : S → List SourceAnswer → S → Type 0) where
               },
             ))
             h.place;
-        each = every (Fits drawn h.opening h.passes h.log) w r
+        each = every (Agrees drawn h.opening h.passes h.log) w r
             record {
               number = mine.number;
               passes_so = mine.passes_so;
@@ -310,15 +310,15 @@ module _ {S : Type 0} (drawn : S → List SourceAnswer → S → Type 0) where
           (λ (q : (j ≡ length (set views by w)) × (r ≡ u)). subst (λ (y : ℕ × Known S). F y.0 y.1) (λ i. (sym q.0 i, q.1 i)) last)
           (at_end (set views by w) r u j e)
 
-      spare_left : (u : Known S) → get_elem? (set views 0 (first_of o others left) ++ one_more (first_of o others (suc left)) ∷ []) 0 ≡ some u → 0 < length views → u.spare ≡ left
+      spare_left : (u : Known S) → get_elem? (set views 0 (first_pass o others left) ++ one_more (first_pass o others (suc left)) ∷ []) 0 ≡ some u → 0 < length views → u.spare ≡ left
       spare_left u e some_views = ap (λ (y : Known S). y.spare)
-          (some_at u (first_of o others left) (sym e ∙ at_longer (set views 0 (first_of o others left)) (one_more (first_of o others (suc left)) ∷ []) 0 (first_of o others left) (set_here views 0 (first_of o others left) some_views)))
+          (some_at u (first_pass o others left) (sym e ∙ at_longer (set views 0 (first_pass o others left)) (one_more (first_pass o others (suc left)) ∷ []) 0 (first_pass o others left) (set_here views 0 (first_pass o others left) some_views)))
 
-  pub forks : (by : ℕ) (v : Known S) (o : ReaderState S) (others left : ℕ) → v ≡ first_of o others (suc left) → Forks (Kept drawn) by v (one_less v) (one_more v)
-  forks by v o others left is = subst (λ (y : Known S). Forks (Kept drawn) by y (one_less y) (one_more y)) (sym is) (forks_first by o others left)
+  pub forks : (by : ℕ) (v : Known S) (o : ReaderState S) (others left : ℕ) → v ≡ first_pass o others (suc left) → Forks (SlotRule drawn) by v (one_less v) (one_more v)
+  forks by v o others left is = subst (λ (y : Known S). Forks (SlotRule drawn) by y (one_less y) (one_more y)) (sym is) (forks_first by o others left)
 
   -- A pass takes in what another has seen.
-  pub meets : (by : ℕ) (v : Known S) (k : ℕ) (w : Known S) (o : ReaderState S) → v.opening ≡ Some o → Merges (Kept drawn) by v k w (taught v w) w
+  pub meets : (by : ℕ) (v : Known S) (k : ℕ) (w : Known S) (o : ReaderState S) → v.opening ≡ Some o → Merges (SlotRule drawn) by v k w (taught v w) w
   meets by v k w o is items views kept at two at' =
       let h = known items views by v o is kept at in
       let both : Known S = taught v w in
@@ -349,7 +349,7 @@ module _ {S : Type 0} (drawn : S → List SourceAnswer → S → Type 0) where
             (λ (p : (items ≡ h.now ∷ []) × Nobody drawn views). inl (p.0, all_set (λ j u. u.has ≡ false) views by both (p.1 by v at) (λ j u apart e. p.1 j u e)))
             (λ (p : (items ≡ []) × Holder drawn views). inr (p.0, holds_still p.1))
             h.place;
-        each = all_set (Fits drawn h.opening h.passes h.log) views by both record {
+        each = all_set (Agrees drawn h.opening h.passes h.log) views by both record {
           number = mine.number;
           passes_so = mine.passes_so;
           spare = mine.spare;
@@ -385,7 +385,7 @@ module _ {S : Type 0} (drawn : S → List SourceAnswer → S → Type 0) where
           (same_or_not p.by by)
 
   -- What a pass has seen is a legal history.
-  pub learns : (by : ℕ) (v : Known S) (o : ReaderState S) → v.opening ≡ Some o → Learns (Kept drawn) by v (λ items. Learnt drawn v)
+  pub learns : (by : ℕ) (v : Known S) (o : ReaderState S) → v.opening ≡ Some o → Learns (SlotRule drawn) by v (λ items. Learnt drawn v)
   learns by v o is items views kept at =
       let h = known items views by v o is kept at in
       let mine = h.each by v at in
@@ -403,17 +403,17 @@ module _ {S : Type 0} (drawn : S → List SourceAnswer → S → Type 0) where
       }
 
   -- What a put asks, a take, and the first put: both ways that each may answer.
-  pub puts_as : (n by : ℕ) (v : Known S) (x : ReaderState S) (made : ReaderState S → Entry → ReaderState S → Type 0) → Produces drawn made v x
-      → Pushes (Kept drawn) n by v x (λ w. Put drawn made v x w) × Learns (Kept drawn) by v (λ items. items ≡ [])
+  pub puts_as : (n by : ℕ) (v : Known S) (x : ReaderState S) (made : ReaderState S → Entry → ReaderState S → Type 0) → ProducesCall drawn made v x
+      → Pushes (SlotRule drawn) n by v x (λ w. Put drawn made v x w) × Learns (SlotRule drawn) by v (λ items. items ≡ [])
   puts_as n by v x made b = (puts_it n by v x made b, has_room by v b.opening b.opened b.has)
 
-  pub takes_as : (by : ℕ) (v : Known S) (o : ReaderState S) → v.opening ≡ Some o → Pops (Kept drawn) by v (λ x w. Took drawn v x w) × Learns (Kept drawn) by v (λ items. ⊤)
+  pub takes_as : (by : ℕ) (v : Known S) (o : ReaderState S) → v.opening ≡ Some o → Pops (SlotRule drawn) by v (λ x w. Took drawn v x w) × Learns (SlotRule drawn) by v (λ items. ⊤)
   takes_as by v o is = (takes_it by v o is, λ items views kept at. tt)
 
   pub opens_as : (n by : ℕ) (v : Known S) (x : ReaderState S) (others : ℕ) → v ≡ newcomer → IsOrderly x.store.held x.store.arrivals → x.store.arrivals < 2 ^ 64
-      → Pushes (Kept drawn) n by v x (λ w. w ≡ first_of x others others) × Learns (Kept drawn) by v (λ items. items ≡ [])
+      → Pushes (SlotRule drawn) n by v x (λ w. w ≡ first_pass x others others) × Learns (SlotRule drawn) by v (λ items. items ≡ [])
   opens_as n by v x others new orderly fits = (opens n by v x others new orderly fits, room)
     where
-      room : Learns (Kept drawn) by v (λ items. items ≡ [])
+      room : Learns (SlotRule drawn) by v (λ items. items ≡ [])
       room items views (inl h) at = h.0
       room items views (inr h) at = absurd (none_not h.opening (sym (ap (λ (u : Known S). u.opening) new) ∙ (h.each by v at).opening))

@@ -16,7 +16,7 @@ use Rattle.crossterm_types.specs.declared.event.filter.AnyFilter.{AnyFilter}
 use Rattle.crossterm_read.specs.Answers.{SourceAnswer, Gave, Nothing, Failed}
 use Rattle.crossterm_read.specs.Calls.{Read, Step}
 use Rattle.crossterm_read.specs.Entries.{InTime, IsCall, IsPoll, ReadsFor}
-use Rattle.crossterm_read.specs.History.{Extends, Known, last_of}
+use Rattle.crossterm_read.specs.History.{Extends, Known, last_taken}
 use Rattle.crossterm_read.specs.Replies.{Came, Faulted, Fault, Said, ToPoll, ToTake, event_seen, event_tried, shown}
 use Rattle.crossterm_read.specs.Store.{EventStore, Arrives}
 use Rattle.crossterm_read.specs.Steps.{Patience, Asks, End, Ready, Tried, Broke, NextStep, Passes, PollStep, ReadReplies, ReadStep, TakeReplies}
@@ -104,7 +104,7 @@ pub step_within : {A : Type 0} (f : AnyFilter) (patience : Patience) (zs : List 
 step_within f patience zs s t (Some x) n = next_read (admitted f) patience zs s t (kept x) n
 step_within f patience zs s t None n = (Ok false, next_none (admitted f) patience zs s t n, refl)
 
-pub last_within : {A : Type 0} (n : Option ℕ) (r : Result (Option (Taken (InternalEvent A))) Error) → last_of n (reply_within r) ≡ last_tried n r
+pub last_within : {A : Type 0} (n : Option ℕ) (r : Result (Option (Taken (InternalEvent A))) Error) → last_taken n (reply_within r) ≡ last_tried n r
 last_within n (Ok (Some x)) = refl
 last_within n (Ok None) = refl
 last_within n (Err e) = refl

@@ -9,14 +9,14 @@ use Rattle.crossterm_types.specs.Admitting.{is_attributes}
 use Rattle.crossterm_types.specs.Seen.{Seen, seen}
 use Rattle.crossterm_types.specs.declared.event.InternalEvent.{InternalEvent}
 use Rattle.crossterm_read.specs.Answers.{SourceAnswer}
-use Rattle.crossterm_read.specs.History.{last_of}
+use Rattle.crossterm_read.specs.History.{last_taken}
 use Rattle.crossterm_read.specs.Queries.{AfterReply, LeftReplies, QueryReplies, QueryStep}
 use Rattle.crossterm_read.specs.Replies.{ToTake, ToQuery, Fault}
 use Rattle.crossterm_read.specs.declared.read.held.Taken.{Taken}
 use Rattle.crossterm_read.specs.Store.{EventStore}
 use Rattle.crossterm_read.specs.inside.Replies.{kept}
 use Rattle.crossterm_read.specs.Steps.{Patience, TakeReplies}
-use Rattle.crossterm_read.specs.inside.Asking.{GivesFirst, held_with}
+use Rattle.crossterm_read.specs.inside.Asking.{WouldGiveFirst, held_with}
 use Rattle.crossterm_read.proofs.Next.{take_not}
 
 -- The attributes that a query takes after the flags.
@@ -45,7 +45,7 @@ pub taken_admitted : (f : Seen → Bool) (s t : EventStore) (x : Seen × ℕ) �
 taken_admitted f s t x h = let p = position-Some (λ e. f e.0) s.held h.0 x h.1 in subst (λ (e : Seen × ℕ). f e.0 ≡ true) h.2 p.1
 
 -- What asking gave is admitted.
-pub given_admitted : {A : Type 0} (f : Seen → Bool) (t : EventStore) (r : Result (Option (Taken (InternalEvent A))) Error) → GivesFirst f t r → IfOk r (λ given. IfSome given (λ x. f (seen x.event) ≡ true))
+pub given_admitted : {A : Type 0} (f : Seen → Bool) (t : EventStore) (r : Result (Option (Taken (InternalEvent A))) Error) → WouldGiveFirst f t r → IfOk r (λ given. IfSome given (λ x. f (seen x.event) ≡ true))
 given_admitted f t (Ok (Some x)) h = taken_admitted f (held_with t (kept x)) t (kept x) h
 given_admitted f t (Ok None) h = tt
 given_admitted f t (Err e) h = tt
@@ -57,6 +57,6 @@ other_not P e = absurd (memory e)
     memory e = cc
 
 -- What a query took last, whatever was taken before.
-pub last_query : (n : Option ℕ) (e : Seen) (before : ℕ) (y : Option (Seen × ℕ)) (last : ℕ) → ((x : Seen) → last_of None (ToQuery (x, before) y) ≡ Some last) → last_of n (ToQuery (e, before) y) ≡ Some last
+pub last_query : (n : Option ℕ) (e : Seen) (before : ℕ) (y : Option (Seen × ℕ)) (last : ℕ) → ((x : Seen) → last_taken None (ToQuery (x, before) y) ≡ Some last) → last_taken n (ToQuery (e, before) y) ≡ Some last
 last_query n e before None last h = h e
 last_query n e before (Some y) last h = h e

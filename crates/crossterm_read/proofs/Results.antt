@@ -11,9 +11,9 @@ use Rattle.crossterm_parse.specs.Grammar.{Whole}
 use Rattle.crossterm_parse.proofs.DivisionLaws as laws
 use Rattle.crossterm_parse.proofs.GrammarLaws.{nil_not_whole, whole_closes}
 use Rattle.crossterm_read.specs.Answers.{SourceAnswer}
-use Rattle.crossterm_read.specs.Calls.{Run, Step, empty, joined, request}
+use Rattle.crossterm_read.specs.Calls.{Run, Step, empty, all_answers, request}
 use Rattle.crossterm_read.specs.Device.{DeviceAnswer}
-use Rattle.crossterm_read.specs.OneResult.{IsPlain, IsUnrefused, OneResult, OneShown, PastesApart, ShowsUnrefused}
+use Rattle.crossterm_read.specs.OneResult.{IsNoKeyboardQuery, IsUnrefused, OneResult, OneShown, PastesApart, ShowsUnrefused}
 use Rattle.crossterm_read.specs.Outcomes.{Answered, Outcome}
 use Rattle.crossterm_read.specs.Queries.{QueryReplies}
 use Rattle.crossterm_read.specs.Replies.{Replied, ToTake, Fault, replied, shown}
@@ -54,11 +54,11 @@ joins xs ys a b bs cs (inr w) e h = (
 
 pub one_result : OneResult
 one_result device_answers calls answers others held kept apart p fine q good =
-    let here = outright_of device_answers (joined p.drawn) p.answered apart (run_clean calls p.drawn p.replies empty p.last p.run fine) in
-    let there = outright_of device_answers (joined q.drawn) q.answered apart (run_clean calls q.drawn q.replies empty q.last q.run good) in
+    let here = outright_of device_answers (all_answers p.drawn) p.answered apart (run_clean calls p.drawn p.replies empty p.last p.run fine) in
+    let there = outright_of device_answers (all_answers q.drawn) q.answered apart (run_clean calls q.drawn q.replies empty q.last q.run good) in
     let alike = outcomes_alike one [] device_answers p.answered.answered q.answered.answered p.answered.left q.answered.left p.answered.outcomes q.answered.outcomes p.answered.undecided q.answered.undecided
     p.answered.answering q.answered.answering p.answered.happens q.answered.happens in
-    let lists = joins (joined p.drawn) (joined q.drawn) here.0 there.0 p.answered.outcomes q.answered.outcomes alike here.1 there.1 in
+    let lists = joins (all_answers p.drawn) (all_answers q.drawn) here.0 there.0 p.answered.outcomes q.answered.outcomes alike here.1 there.1 in
     let both = run_settles calls p.drawn q.drawn p.replies q.replies lists.0 lists.1 empty p.last q.last p.run fine q.run good lists.2 in (
       p.shows ∙ ap (map shown) both.0 ∙ sym q.shows,
       p.left ∙ ap (λ (s : EventStore). map (λ h. h.0) s.held) both.1 ∙ sym q.left,
@@ -86,14 +86,14 @@ of_query f (Ok true) s t r a h = of_take (Some a.0) r a.2
 of_query f (Ok false) s t r a h = of_fault Other r a.1 h
 of_query f (Err kind) s t r a h = of_fault kind r a.1 h
 
-of_step : (c : Call) (zs : List SourceAnswer) (s t : EventStore) (r : Replied) → IsPlain c → Step (request c) zs s t r → ShowsUnrefused (shown r) → IsUnrefused r
+of_step : (c : Call) (zs : List SourceAnswer) (s t : EventStore) (r : Replied) → IsNoKeyboardQuery c → Step (request c) zs s t r → ShowsUnrefused (shown r) → IsUnrefused r
 of_step (call.Poll tries f) zs s t r plain a h = of_poll a.0 r a.2 h
 of_step (call.Read tries f) zs s t r plain a h = of_read (admitted f) a.0 a.1 t r a.4 h
 of_step (call.Take f) zs s t r plain a h = of_read (admitted f) Ready s t r a.1 h
 of_step (call.Position tries) zs s t r plain a h = of_query is_cursor_position a.1 a.0 t r a.3 h
 of_step (call.Keyboard tries) zs s t r plain a h = absurd plain
 
-of_run : (calls : List Call) (zss : List (List SourceAnswer)) (rs : List Replied) (s t : EventStore) → AllByRecursion IsPlain calls → Run s calls zss rs t → AllByRecursion ShowsUnrefused (map shown rs)
+of_run : (calls : List Call) (zss : List (List SourceAnswer)) (rs : List Replied) (s t : EventStore) → AllByRecursion IsNoKeyboardQuery calls → Run s calls zss rs t → AllByRecursion ShowsUnrefused (map shown rs)
     → AllByRecursion IsUnrefused rs
 of_run [] [] [] s t plain a h = tt
 of_run [] (zs ∷ zss) rs s t plain a h = absurd a

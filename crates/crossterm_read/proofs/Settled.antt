@@ -10,7 +10,7 @@ use Rattle.crossterm_types.specs.Admitting.{admitted, is_attributes, is_cursor_p
 use Rattle.crossterm_types.specs.Seen.{Seen}
 use Rattle.crossterm_types.proofs.Lists.{all_append}
 use Rattle.crossterm_read.specs.Answers.{SourceAnswer, Gave, Nothing, Failed}
-use Rattle.crossterm_read.specs.Calls.{Run, Step, joined, request}
+use Rattle.crossterm_read.specs.Calls.{Run, Step, all_answers, request}
 use Rattle.crossterm_read.specs.OneResult.{IsUnrefused}
 use Rattle.crossterm_read.specs.Queries.{QueryReplies, QueryStep, AfterReply, LeftReplies, FlagsReplies, KeyboardStep}
 use Rattle.crossterm_read.specs.Replies.{Replied, ToTake, ToQuery, Fault, replied}
@@ -366,18 +366,18 @@ step_settles (call.Take f) zs ys a b s t u r q v fine w good e =
 step_settles (call.Position tries) zs ys a b s t u r q v fine w good e = query_settles tries is_cursor_position zs ys a b s t u r q v fine w good e
 step_settles (call.Keyboard tries) zs ys a b s t u r q v fine w good e = keyboard_settles tries zs ys a b s t u r q v fine w good e
 
-pub run_clean : (calls : List Call) (zss : List (List SourceAnswer)) (rs : List Replied) (s t : EventStore) → Run s calls zss rs t → AllByRecursion IsUnrefused rs → AreClean (joined zss)
+pub run_clean : (calls : List Call) (zss : List (List SourceAnswer)) (rs : List Replied) (s t : EventStore) → Run s calls zss rs t → AllByRecursion IsUnrefused rs → AreClean (all_answers zss)
 run_clean [] [] [] s t h fine = tt
 run_clean [] (zs ∷ zss) rs s t h fine = absurd h
 run_clean [] [] (r ∷ rs) s t h fine = absurd h
 run_clean (c ∷ cs) [] rs s t h fine = absurd h
 run_clean (c ∷ cs) (zs ∷ zss) [] s t h fine = absurd h
 run_clean (c ∷ cs) (zs ∷ zss) (r ∷ rs) s t h fine =
-    all_append IsClean zs (joined zss) (step_clean c zs s h.0 r h.1 fine.0) (run_clean cs zss rs h.0 t h.2 fine.1)
+    all_append IsClean zs (all_answers zss) (step_clean c zs s h.0 r h.1 fine.0) (run_clean cs zss rs h.0 t h.2 fine.1)
 
 -- Two runs over fronts of the same answers have one result.
 pub run_settles : (calls : List Call) (zss yss : List (List SourceAnswer)) (rs qs : List Replied) (a b : List SourceAnswer) (s t u : EventStore) → Run s calls zss rs t → AllByRecursion IsUnrefused rs
-    → Run s calls yss qs u → AllByRecursion IsUnrefused qs → joined zss ++ a ≡ joined yss ++ b → (rs ≡ qs) × (t ≡ u)
+    → Run s calls yss qs u → AllByRecursion IsUnrefused qs → all_answers zss ++ a ≡ all_answers yss ++ b → (rs ≡ qs) × (t ≡ u)
 run_settles [] [] [] [] [] a b s t u h fine k good e = (refl, h ∙ sym k)
 run_settles [] (zs ∷ zss) yss rs qs a b s t u h fine k good e = absurd h
 run_settles [] [] yss (r ∷ rs) qs a b s t u h fine k good e = absurd h
@@ -388,8 +388,8 @@ run_settles (c ∷ cs) (zs ∷ zss) yss [] qs a b s t u h fine k good e = absurd
 run_settles (c ∷ cs) (zs ∷ zss) [] (r ∷ rs) qs a b s t u h fine k good e = absurd k
 run_settles (c ∷ cs) (zs ∷ zss) (ys ∷ yss) (r ∷ rs) [] a b s t u h fine k good e = absurd k
 run_settles (c ∷ cs) (zs ∷ zss) (ys ∷ yss) (r ∷ rs) (q ∷ qs) a b s t u h fine k good e =
-    let whole : zs ++ (joined zss ++ a) ≡ ys ++ (joined yss ++ b) = sym (append_assoc zs (joined zss) a) ∙ e ∙ append_assoc ys (joined yss) b in
-    let first = step_settles c zs ys (joined zss ++ a) (joined yss ++ b) s h.0 k.0 r q h.1 fine.0 k.1 good.0 whole in
-    let rest : joined zss ++ a ≡ joined yss ++ b = append_cancel_left ys (joined zss ++ a) (joined yss ++ b) (ap (λ (l : List SourceAnswer). l ++ (joined zss ++ a)) (sym first.drawn) ∙ whole) in
+    let whole : zs ++ (all_answers zss ++ a) ≡ ys ++ (all_answers yss ++ b) = sym (append_assoc zs (all_answers zss) a) ∙ e ∙ append_assoc ys (all_answers yss) b in
+    let first = step_settles c zs ys (all_answers zss ++ a) (all_answers yss ++ b) s h.0 k.0 r q h.1 fine.0 k.1 good.0 whole in
+    let rest : all_answers zss ++ a ≡ all_answers yss ++ b = append_cancel_left ys (all_answers zss ++ a) (all_answers yss ++ b) (ap (λ (l : List SourceAnswer). l ++ (all_answers zss ++ a)) (sym first.drawn) ∙ whole) in
     let later = run_settles cs zss yss rs qs a b k.0 t u (subst (λ (m : EventStore). Run m cs zss rs t) first.store h.2) fine.1 k.2 good.1 rest in
     (ap (λ (x : Replied). x ∷ rs) first.reply ∙ ap (λ (l : List Replied). q ∷ l) later.0, later.1)

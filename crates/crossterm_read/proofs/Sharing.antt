@@ -5,8 +5,8 @@ use Rattle.std.specs.List.{range_with_len}
 use Rattle.std.specs.declared.io.Error.{Error}
 use Rattle.crossterm_read.specs.Answers.{SourceAnswer}
 use Rattle.crossterm_read.specs.declared.read.held.Taken.{Taken}
-use Rattle.crossterm_read.specs.Store.{ReaderState, capacity}
-use Rattle.crossterm_read.specs.History.{Entry, Known, Sits, Runs, Extends, EachOnce, opened, Meets, Closes, calls_by, last_of, last_from}
+use Rattle.crossterm_read.specs.Store.{ReaderState, reader_capacity}
+use Rattle.crossterm_read.specs.History.{Entry, Known, Sits, Runs, Extends, EachOnce, opened, Meets, Closes, calls_by, last_taken, last_from}
 use Rattle.crossterm_read.specs.inside.Numbers.{IsOrderly}
 use Rattle.crossterm_read.specs.Calls.{Request, Step}
 use Rattle.crossterm_read.specs.Replies.{Replied, Fault, ToPoll, ToTake, Came, Faulted, poll_reply, read_said, replied, shown}
@@ -16,7 +16,7 @@ use Rattle.crossterm_types.specs.Seen.{Seen, seen}
 use Rattle.crossterm_types.specs.declared.event.InternalEvent.{InternalEvent}
 use Rattle.std.specs.IoError.{error_kind}
 use Rattle.std.specs.declared.io.ErrorKind.{ErrorKind}
-use Rattle.crossterm_read.specs.inside.Slot.{Took, Put, Produces, Learnt, first_of, one_more, taught}
+use Rattle.crossterm_read.specs.inside.Slot.{Took, Put, ProducesCall, Learnt, first_pass, one_more, taught}
 use Rattle.crossterm_read.proofs.EachOnce.{each_once}
 use Rattle.crossterm_read.proofs.Histories.{runs_room, runs_snoc, not_fewer}
 use Rattle.crossterm_read.proofs.Next.{fault_of}
@@ -28,18 +28,18 @@ some_there (Some x) h = (x, refl)
 some_there None h = absurd (off h)
 
 -- The first pass and those that it makes know nothing yet.
-pub sits_first : {S : Type 0} (v : Known S) (o : ReaderState S) (others : ℕ) → v ≡ first_of o others 0 → Sits v
+pub sits_first : {S : Type 0} (v : Known S) (o : ReaderState S) (others : ℕ) → v ≡ first_pass o others 0 → Sits v
 sits_first v o others is = subst Sits (sym is) record { opened = refl; number = omega arith; alone = refl; mine = refl; of_passes = refl }
 
-pub sits_more : {S : Type 0} (v w : Known S) (o : ReaderState S) (others left : ℕ) → left < others → v ≡ first_of o others (suc left) → w ≡ one_more v → Sits w
+pub sits_more : {S : Type 0} (v w : Known S) (o : ReaderState S) (others left : ℕ) → left < others → v ≡ first_pass o others (suc left) → w ≡ one_more v → Sits w
 sits_more v w o others left less is made =
     subst Sits (sym (made ∙ ap one_more is)) record { opened = refl; number = omega arith; alone = refl; mine = refl; of_passes = refl }
 
-pub mine_more : {S : Type 0} (v w : Known S) (o : ReaderState S) (others left : ℕ) → v ≡ first_of o others (suc left) → w ≡ one_more v → w.mine ≡ []
+pub mine_more : {S : Type 0} (v w : Known S) (o : ReaderState S) (others left : ℕ) → v ≡ first_pass o others (suc left) → w ≡ one_more v → w.mine ≡ []
 mine_more v w o others left is made = ap (λ u. u.mine) (made ∙ ap one_more is)
 
 -- The pass that the first one makes.
-pub made_knows : {S : Type 0} (w : Known S) (o : ReaderState S) (n k : ℕ) → k < n → 1 ≤ k → w ≡ one_more (first_of o (n - 1) (suc (n - (k + 1)))) → (w ≡ opened o n w.number) × (w.number ≡ k)
+pub made_knows : {S : Type 0} (w : Known S) (o : ReaderState S) (n k : ℕ) → k < n → 1 ≤ k → w ≡ one_more (first_pass o (n - 1) (suc (n - (k + 1)))) → (w ≡ opened o n w.number) × (w.number ≡ k)
 made_knows w o n k less some is =
     let counted : w.number ≡ k = ap (λ u. u.number) is ∙ omega arith in
     (is ∙ ap (λ (t : ℕ). opened o t (suc (n - 1) - suc (n - (k + 1)))) (omega arith) ∙ ap (opened o n) (sym (ap (λ u. u.number) is)), counted)
@@ -71,10 +71,10 @@ module _ {S : Type 0} (drawn : S → List SourceAnswer → S → Type 0) where
   taken_at v u x y e t = subst (λ (z : ReaderState S). Took drawn v z u) (sym e) t
 
   pub produces : (made : ReaderState S → Entry → ReaderState S → Type 0) (v u : Known S) (x y : ReaderState S) → Took drawn v x u → (call : Request) (answers : List SourceAnswer) (r : Replied)
-      → made x (record { by = u.number; call = call; answers = answers; reply = r }) y → drawn x.source answers y.source → Step call answers x.store y.store r → capacity x ≤ capacity y → Produces drawn made u y
-  produces made v u x y t call answers r such d step room = subst (λ (k : Known S). k.number ≡ u.number → Produces drawn made k y) (sym t.after) of_taken refl
+      → made x (record { by = u.number; call = call; answers = answers; reply = r }) y → drawn x.source answers y.source → Step call answers x.store y.store r → reader_capacity x ≤ reader_capacity y → ProducesCall drawn made u y
+  produces made v u x y t call answers r such d step room = subst (λ (k : Known S). k.number ≡ u.number → ProducesCall drawn made k y) (sym t.after) of_taken refl
     where
-      of_taken : v.number ≡ u.number → Produces drawn made (record v { seen = v.seen ++ t.between; has = true }) y
+      of_taken : v.number ≡ u.number → ProducesCall drawn made (record v { seen = v.seen ++ t.between; has = true }) y
       of_taken same = record {
         opening = t.opening;
         found = x;
@@ -193,15 +193,15 @@ module _ {S : Type 0} (drawn : S → List SourceAnswer → S → Type 0) where
 pub last_met : {S : Type 0} (last : Option ℕ) (v other w : Known S) → w ≡ taught v other → last ≡ last_from None v.mine → last ≡ last_from None w.mine
 last_met last v other w is before = before ∙ ap (λ k. last_from None k.mine) (sym is)
 
-last_from-push : (n : Option ℕ) (es : List Entry) (e : Entry) → last_from n (es ++ e ∷ []) ≡ last_of (last_from n es) e.reply
+last_from-push : (n : Option ℕ) (es : List Entry) (e : Entry) → last_from n (es ++ e ∷ []) ≡ last_taken (last_from n es) e.reply
 last_from-push n [] e = refl
-last_from-push n (x ∷ es) e = last_from-push (last_of n x.reply) es e
+last_from-push n (x ∷ es) e = last_from-push (last_taken n x.reply) es e
 
 -- The number of what was taken last, after one call with this reply.
 pub last_after : {S : Type 0} (drawn : S → List SourceAnswer → S → Type 0) (made : ReaderState S → Entry → ReaderState S → Type 0) (r : Replied) (v u w : Known S) (x y : ReaderState S) (last : Option ℕ)
-    → Took drawn v x u → (p : Put drawn made u y w) → p.0.call.reply ≡ r → last ≡ last_from None v.mine → last_of last r ≡ last_from None w.mine
+    → Took drawn v x u → (p : Put drawn made u y w) → p.0.call.reply ≡ r → last ≡ last_from None v.mine → last_taken last r ≡ last_from None w.mine
 last_after drawn made r v u w x y last t p is before =
-    ap (λ (n : Option ℕ). last_of n r) (before ∙ ap (λ k. last_from None k.mine) (sym t.after)) ∙ ap (last_of (last_from None u.mine)) (sym is) ∙ sym (last_from-push None u.mine p.0.call)
+    ap (λ (n : Option ℕ). last_taken n r) (before ∙ ap (λ k. last_from None k.mine) (sym t.after)) ∙ ap (last_taken (last_from None u.mine)) (sym is) ∙ sym (last_from-push None u.mine p.0.call)
     ∙ ap (λ k. last_from None k.mine) (sym p.1)
 
 -- What holds of a fault holds of it in the reply.
@@ -223,7 +223,7 @@ flags_memory (Err x) q P s h kind e = subst P (faulted (error_kind x) kind (s �
     faulted k l e = cc
 
 -- What a read's number says, and its memory.
-pub last_read : {A : Type 0} (n : Option ℕ) (r : Result (Taken (InternalEvent A)) Error) → last_of n (read_reply r) ≡ last_said n r
+pub last_read : {A : Type 0} (n : Option ℕ) (r : Result (Taken (InternalEvent A)) Error) → last_taken n (read_reply r) ≡ last_said n r
 last_read n (Ok x) = refl
 last_read n (Err e) = refl
 
@@ -234,7 +234,7 @@ read_memory (Ok x) P h kind e = absurd (take_not e)
     take_not e = absurd (cc)
 read_memory (Err x) P h kind e = subst P (fault_of (error_kind x) kind e) h
 
-pub last_try : {A : Type 0} (n : Option ℕ) (r : Result (Option (Taken (InternalEvent A))) Error) → last_of n (try_reply r) ≡ last_tried n r
+pub last_try : {A : Type 0} (n : Option ℕ) (r : Result (Option (Taken (InternalEvent A))) Error) → last_taken n (try_reply r) ≡ last_tried n r
 last_try n (Ok (Some x)) = refl
 last_try n (Ok None) = refl
 last_try n (Err e) = refl
@@ -259,7 +259,7 @@ read_kept P (Err x) (Ok y) e h = absurd (came_not (seen y) (error_kind x) e)
 read_kept P taken (Err y) e h = tt
 
 -- A poll takes nothing.
-pub last_poll : (n : Option ℕ) (r : Result Bool Error) → last_of n (replied (poll_reply r)) ≡ n
+pub last_poll : (n : Option ℕ) (r : Result Bool Error) → last_taken n (replied (poll_reply r)) ≡ n
 last_poll n (Ok b) = refl
 last_poll n (Err e) = refl
 

@@ -7,7 +7,7 @@ use Rattle.std.proofs.lemmas.Simd.{map-map}
 use Rattle.std.specs.List.{AllByRecursion, position, position_or_len, remove}
 use Rattle.crossterm_types.specs.Seen.{Seen, seen}
 use Rattle.crossterm_read.specs.inside.Asking.{held_with}
-use Rattle.crossterm_read.specs.inside.Queues.{AreJoined, AreKept, Finds, HaveRoom, HaveRoomFor, Joins, TakesOne, behind, joined, member_kept, queue_of, queues_of}
+use Rattle.crossterm_read.specs.inside.Queues.{AreJoined, AreKept, FindsPlace, HaveRoom, HaveRoomFor, Joins, TakesOne, behind, joined, member_kept, queue_of, queues_of}
 use Rattle.crossterm_read.specs.Store.{EventStore}
 use Rattle.crossterm_read.specs.Steps.{TakeReplies, first_admitted}
 use Rattle.crossterm_read.specs.declared.read.held.kind.Kind.{Kind}
@@ -49,7 +49,7 @@ module _ {A : Type 0} where
     first_nowhere all held h a = ap (λ l. first_admitted f l) h ∙ position_map member_kept (λ k. f k.0) all ∙ position_nowhere (λ x. f (seen x.event)) all a
 
     -- Whether one is found.
-    pub found_is : (q : Kind → List (Member A)) (r : Option Place) (held : List (Seen × ℕ)) → held ≡ map member_kept (joined q) → Finds (λ m. f (seen m.event)) q r → is_some r ≡ is_some (first_admitted f held)
+    pub found_is : (q : Kind → List (Member A)) (r : Option Place) (held : List (Seen × ℕ)) → held ≡ map member_kept (joined q) → FindsPlace (λ m. f (seen m.event)) q r → is_some r ≡ is_some (first_admitted f held)
     found_is q None held h a = sym (ap is_some (first_nowhere (joined q) held h a))
     found_is q (Some place) held h s = sym (ap is_some (first_there s.before s.after s.member held (h ∙ ap (λ l. map member_kept l) s.order) s.first s.admitted))
 

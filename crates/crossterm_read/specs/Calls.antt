@@ -74,8 +74,8 @@ Run s (c ∷ cs) [] rs t = ⊥
 Run s (c ∷ cs) (zs ∷ zss) [] t = ⊥
 
 -- The answers of all calls, in order.
-abbrev pub joined : List (List SourceAnswer) → List SourceAnswer
-joined zss = flat_map (λ zs. zs) zss
+abbrev pub all_answers : List (List SourceAnswer) → List SourceAnswer
+all_answers zss = flat_map (λ zs. zs) zss
 
 -- No event is held, and none has arrived.
 abbrev pub empty : EventStore
@@ -89,7 +89,7 @@ pub record Plays (device_answers : List DeviceAnswer) (calls : List Call) (answe
   pub replies : List Replied
   pub last : EventStore
   -- All of it follows from what the device answered.
-  pub answered : Answered device_answers (joined drawn)
+  pub answered : Answered device_answers (all_answers drawn)
   -- Each call is a step of a reader.
   pub run : Run empty calls drawn replies last
   pub shows : answers ≡ map shown replies

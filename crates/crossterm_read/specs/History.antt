@@ -7,7 +7,7 @@ use Rattle.crossterm_types.specs.declared.event.filter.AnyFilter.{AnyFilter}
 use Rattle.crossterm_types.specs.declared.event.filter.AnyFilter.TheVariants as filter
 use Rattle.crossterm_read.specs.Answers.{SourceAnswer}
 use Rattle.crossterm_read.specs.Calls.{Request, Read, Take, Position, Keyboard, Step, IsWithin, taken}
-use Rattle.crossterm_read.specs.Store.{IsLow, ReaderState, arrived, capacity, numbered_after}
+use Rattle.crossterm_read.specs.Store.{IsLow, ReaderState, arrived, reader_capacity, numbered_after}
 use Rattle.crossterm_read.specs.Replies.{Replied, ToPoll, ToTake, ToQuery, Fault}
 
 -- One call of a pass.
@@ -121,23 +121,23 @@ pub record Sits {S : Type 0} (v : Known S) : Type 0 where
   pub of_passes : are_of v.passes v.seen ≡ true
 
 -- The arrival number of the event that was taken last, after one more reply.
-abbrev pub last_of : Option ℕ → Replied → Option ℕ
-last_of n (ToTake (Some x)) = Some x.1
-last_of n (ToTake None) = n
-last_of n (ToQuery x (Some y)) = Some y.1
-last_of n (ToQuery x None) = Some x.1
-last_of n (ToPoll ready) = n
-last_of n (Fault kind) = n
+abbrev pub last_taken : Option ℕ → Replied → Option ℕ
+last_taken n (ToTake (Some x)) = Some x.1
+last_taken n (ToTake None) = n
+last_taken n (ToQuery x (Some y)) = Some y.1
+last_taken n (ToQuery x None) = Some x.1
+last_taken n (ToPoll ready) = n
+last_taken n (Fault kind) = n
 
 -- The arrival number of the event that was taken last, after these calls.
 abbrev pub last_from : Option ℕ → List Entry → Option ℕ
 last_from n [] = n
-last_from n (e ∷ es) = last_from (last_of n e.reply) es
+last_from n (e ∷ es) = last_from (last_taken n e.reply) es
 
 module _ {S : Type 0} (drawn : S → List SourceAnswer → S → Type 0) where
   -- A call leads from one state of the reader to another, as with a reader of one thread. No room is lost.
   abbrev pub Makes : Entry → ReaderState S → ReaderState S → Type 0
-  Makes e s t = drawn s.source e.answers t.source × Step e.call e.answers s.store t.store e.reply × (capacity s ≤ capacity t)
+  Makes e s t = drawn s.source e.answers t.source × Step e.call e.answers s.store t.store e.reply × (reader_capacity s ≤ reader_capacity t)
 
   -- A legal history: each call begins in the state that the one before left, and the last one leaves `t`.
   abbrev pub Runs : ReaderState S → List Entry → ReaderState S → Type 0
@@ -165,7 +165,7 @@ module _ {S : Type 0} (drawn : S → List SourceAnswer → S → Type 0) where
     -- No event that the pass had seen arrive is missing.
     pub fresh : numbered_after opening.store.arrivals (answers_of v.seen) ≤ found.store.arrivals
     -- No room is lost that there was at first.
-    pub room : capacity opening ≤ capacity found
+    pub room : reader_capacity opening ≤ reader_capacity found
     pub each_once : EachOnce opening w.seen left
 
   -- Two passes met. One of them now sees a legal history that begins with all that both had seen.

@@ -26,12 +26,12 @@ ShowsUnrefused (Came x) = Unit {0}
 ShowsUnrefused (Faulted kind) = kind ≢ OutOfMemory
 
 -- A call that is no query for the keyboard flags.
-abbrev pub IsPlain : Call → Type 0
-IsPlain (call.Poll tries f) = Unit {0}
-IsPlain (call.Read tries f) = Unit {0}
-IsPlain (call.Take f) = Unit {0}
-IsPlain (call.Position tries) = Unit {0}
-IsPlain (call.Keyboard tries) = ⊥
+abbrev pub IsNoKeyboardQuery : Call → Type 0
+IsNoKeyboardQuery (call.Poll tries f) = Unit {0}
+IsNoKeyboardQuery (call.Read tries f) = Unit {0}
+IsNoKeyboardQuery (call.Take f) = Unit {0}
+IsNoKeyboardQuery (call.Position tries) = Unit {0}
+IsNoKeyboardQuery (call.Keyboard tries) = ⊥
 
 -- Bytes that end an event leave no paste open.
 abbrev pub IsApart : Outcome → Type 0
@@ -55,7 +55,7 @@ OneResult = (device_answers : List DeviceAnswer) (calls : List Call) (answers ot
 -- The same by what callers see alone, if no call is a query for the keyboard flags.
 abbrev pub OneShown : Type 0
 OneShown = (device_answers : List DeviceAnswer) (calls : List Call) (answers others : List Said) (held kept : List Seen) → PastesApart device_answers
-    → AllByRecursion IsPlain calls
+    → AllByRecursion IsNoKeyboardQuery calls
     → Plays device_answers calls answers held → AllByRecursion ShowsUnrefused answers
     → Plays device_answers calls others kept → AllByRecursion ShowsUnrefused others
     → (answers ≡ others) × (held ≡ kept)

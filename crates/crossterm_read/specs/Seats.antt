@@ -11,8 +11,8 @@ module _ {S A : Type 0} where
   knows p = view p.seat
 
   -- The number of the pass.
-  abbrev pub number : Pass S A → ℕ
-  number p = (knows p).number
+  abbrev pub pass_number : Pass S A → ℕ
+  pass_number p = (knows p).number
 
 -- The pass belongs to this slot, and it doesn't have the reader.
 abbrev pub IsSeatOf : {S A T V Q : Type 0} → Slotted T V Q A → Pass S A → Type 0

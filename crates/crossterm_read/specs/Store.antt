@@ -22,8 +22,8 @@ pub record ReaderState (S : Type 0) : Type 0 where
   pub source : S
 
 -- How many events it can hold without asking for memory.
-abbrev pub capacity : {S : Type 0} → ReaderState S → ℕ
-capacity s = length s.store.held + s.room
+abbrev pub reader_capacity : {S : Type 0} → ReaderState S → ℕ
+reader_capacity s = length s.store.held + s.room
 
 -- The number after `n`. Numbers rise to the greatest u64 and stay there.
 abbrev pub next_number : ℕ → ℕ

@@ -7,7 +7,7 @@ use Rattle.crossterm_style.specs.declared.types.color.Color.{Color}
 use Rattle.crossterm_style.specs.declared.types.colored.Colored.TheVariants.{ForegroundColor, BackgroundColor, UnderlineColor}
 use Rattle.crossterm_style.specs.declared.content_style.ContentStyle.{ContentStyle}
 use Rattle.crossterm_style.specs.Acts.{attribute_acts, style_acts, where_there}
-use Rattle.crossterm_style.specs.Acts.Act.{Takes}
+use Rattle.crossterm_style.specs.Acts.StyleAct.{Takes}
 use Rattle.crossterm_style.specs.Appearance.{FitsAct, FitsThere, colors_acts}
 use Rattle.crossterm_style.specs.Attributes.{members}
 

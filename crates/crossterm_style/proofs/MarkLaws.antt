@@ -18,30 +18,30 @@ use mathlib.Core.Logic.{inl, inr}
 use Rattle.std.specs.Str.Pattern.{FindsText, HasMatch, LacksTextAt}
 use Rattle.std.proofs.lemmas.Bool.{and_from, false_from_ne_true, lt-ltb, ltb-true}
 use Rattle.crossterm_style.specs.Reading.{ReadsByte}
-use Rattle.crossterm_style.specs.Values.{all_digits, begins, byte_of, holds, three_of, without, without_after}
+use Rattle.crossterm_style.specs.Values.{all_digits, text_begins, byte_of, holds, three_of, without, without_after}
 
 -- What begins with a part is the part and more.
-begins_is : (part text : List ℕ) → begins part text ≡ true → text ≡ part ++ drop (length part) text
+begins_is : (part text : List ℕ) → text_begins part text ≡ true → text ≡ part ++ drop (length part) text
 begins_is [] text h = refl
 begins_is (p ∷ ps) [] h = absurd (true≢false (sym h))
 begins_is (p ∷ ps) (x ∷ xs) h =
-    let head : p ≡ x = (unsigned_Decides p x).0 (first_so (p == x) (begins ps xs) h) in
-    let rest = begins_is ps xs (second_so (p == x) (begins ps xs) h) in
+    let head : p ≡ x = (unsigned_Decides p x).0 (first_so (p == x) (text_begins ps xs) h) in
+    let rest = begins_is ps xs (second_so (p == x) (text_begins ps xs) h) in
     λ i. (sym head i) ∷ rest i
 
 equal_itself : (n : ℕ) → (n == n) ≡ true
 equal_itself n = (unsigned_Decides n n).1 refl
 
 -- A part and more begin with it.
-pub begins_so : (part rest : List ℕ) → begins part (part ++ rest) ≡ true
+pub begins_so : (part rest : List ℕ) → text_begins part (part ++ rest) ≡ true
 begins_so [] rest = refl
-begins_so (p ∷ ps) rest = and_from (p == p) (begins ps (ps ++ rest)) (equal_itself p) (begins_so ps rest)
+begins_so (p ∷ ps) rest = and_from (p == p) (text_begins ps (ps ++ rest)) (equal_itself p) (begins_so ps rest)
 
 -- A text that nowhere has the part.
 nowhere : (part text : List ℕ) → ((i : ℕ) → i ≤ length text → LacksTextAt part text i) → holds part text ≡ false
-nowhere part [] none = false_from_ne_true (begins part []) (λ h. none 0 (omega arith) _ (begins_is part [] h))
+nowhere part [] none = false_from_ne_true (text_begins part []) (λ h. none 0 (omega arith) _ (begins_is part [] h))
 nowhere part (x ∷ xs) none =
-    neither (begins part (x ∷ xs)) (holds part xs) (λ h. none 0 (omega arith) _ (begins_is part (x ∷ xs) h)) (nowhere part xs (λ i h rest e. none (suc i) (omega arith) rest e))
+    neither (text_begins part (x ∷ xs)) (holds part xs) (λ h. none 0 (omega arith) _ (begins_is part (x ∷ xs) h)) (nowhere part xs (λ i h rest e. none (suc i) (omega arith) rest e))
   where
     neither : (a b : Bool) → (a ≡ true → ⊥) → b ≡ false → (a || b) ≡ false
     neither true b f h = absurd (f refl)
@@ -61,9 +61,9 @@ at_end (suc i) = refl
 
 -- A text that has it somewhere.
 somewhere : (part text rest : List ℕ) (i : ℕ) → drop i text ≡ part ++ rest → i ≤ length text → holds part text ≡ true
-somewhere part [] rest i e h = subst (λ t. begins part t ≡ true) (sym (at_end i ∙ e)) (begins_so part rest)
-somewhere part (x ∷ xs) rest zero e h = either_first (begins part (x ∷ xs)) (holds part xs) (subst (λ t. begins part t ≡ true) (sym e) (begins_so part rest))
-somewhere part (x ∷ xs) rest (suc i) e h = either_second (begins part (x ∷ xs)) (holds part xs) (somewhere part xs rest i e (omega arith))
+somewhere part [] rest i e h = subst (λ t. text_begins part t ≡ true) (sym (at_end i ∙ e)) (begins_so part rest)
+somewhere part (x ∷ xs) rest zero e h = either_first (text_begins part (x ∷ xs)) (holds part xs) (subst (λ t. text_begins part t ≡ true) (sym e) (begins_so part rest))
+somewhere part (x ∷ xs) rest (suc i) e h = either_second (text_begins part (x ∷ xs)) (holds part xs) (somewhere part xs rest i e (omega arith))
 
 -- `contains` returns whether a text has a part.
 pub part_held : (text part : List ℕ) (found : Bool) → MatchBool found (HasMatch (FindsText part) text) (FindsText part text None) → found ≡ holds part text
@@ -84,8 +84,8 @@ if_false false x y h = refl
 stays : (part text : List ℕ) → ((i : ℕ) → i ≤ length text → LacksTextAt part text i) → without part text ≡ text
 stays part [] none = refl
 stays part (x ∷ xs) none =
-    let apart : begins part (x ∷ xs) ≡ false = false_from_ne_true (begins part (x ∷ xs)) (λ h. none 0 (omega arith) _ (begins_is part (x ∷ xs) h)) in
-    if_false (begins part (x ∷ xs)) _ _ apart ∙ ap (λ l. x ∷ l) (stays part xs (λ i h rest e. none (suc i) (omega arith) rest e))
+    let apart : text_begins part (x ∷ xs) ≡ false = false_from_ne_true (text_begins part (x ∷ xs)) (λ h. none 0 (omega arith) _ (begins_is part (x ∷ xs) h)) in
+    if_false (text_begins part (x ∷ xs)) _ _ apart ∙ ap (λ l. x ∷ l) (stays part xs (λ i h rest e. none (suc i) (omega arith) rest e))
 
 skips : (part front rest : List ℕ) → without_after part (length front) (front ++ rest) ≡ without part rest
 skips part [] rest = refl
@@ -96,7 +96,7 @@ goes : (part rest : List ℕ) → 0 < length part → without part (part ++ rest
 goes [] rest h = absurd (omega arith)
 goes (p ∷ ps) rest h =
     let last : suc (length ps) - 1 ≡ length ps = omega arith in
-    if_true (begins (p ∷ ps) (p ∷ (ps ++ rest))) (without_after (p ∷ ps) (suc (length ps) - 1) (ps ++ rest)) (p ∷ without (p ∷ ps) (ps ++ rest)) (begins_so (p ∷ ps) rest)
+    if_true (text_begins (p ∷ ps) (p ∷ (ps ++ rest))) (without_after (p ∷ ps) (suc (length ps) - 1) (ps ++ rest)) (p ∷ without (p ∷ ps) (ps ++ rest)) (begins_so (p ∷ ps) rest)
     ∙ ap (λ n. without_after (p ∷ ps) n (ps ++ rest)) last ∙ skips (p ∷ ps) ps rest
 
 -- Up to the first place of the part a text stays.
@@ -105,8 +105,8 @@ cut : (part text rest : List ℕ) (a : ℕ) → 0 < length part → ((i : ℕ) �
 cut part text rest zero h none e = ap (without part) e ∙ goes part rest h
 cut part [] rest (suc a) h none e = absurd (omega (arith, h, ap length e, length-append part rest))
 cut part (x ∷ xs) rest (suc a) h none e =
-    let apart : begins part (x ∷ xs) ≡ false = false_from_ne_true (begins part (x ∷ xs)) (λ t. none 0 (omega arith) _ (begins_is part (x ∷ xs) t)) in
-    if_false (begins part (x ∷ xs)) _ _ apart ∙ ap (λ l. x ∷ l) (cut part xs rest a h (λ i k more f. none (suc i) (omega arith) more f) e)
+    let apart : text_begins part (x ∷ xs) ≡ false = false_from_ne_true (text_begins part (x ∷ xs)) (λ t. none 0 (omega arith) _ (begins_is part (x ∷ xs) t)) in
+    if_false (text_begins part (x ∷ xs)) _ _ apart ∙ ap (λ l. x ∷ l) (cut part xs rest a h (λ i k more f. none (suc i) (omega arith) more f) e)
 
 -- `replace` by nothing leaves the text without the part.
 pub replaced : (n : ℕ) (part : Bor (List ℕ)) (text out : List ℕ) → 0 < length part.now → ReplacesMatches (λ p. FindsText p.now) (λ p q. q.now ≡ p.now) [] n part text out → out ≡ without part.now text

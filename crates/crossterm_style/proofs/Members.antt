@@ -7,10 +7,10 @@ use Rattle.std.proofs.lemmas.List.Folds.{flat_map-map}
 use Rattle.std.specs.List.{filter}
 use Rattle.std.specs.Int.RustNames.{bit_or}
 use Rattle.crossterm_style.specs.declared.types.attribute.Attribute.{Attribute}
-use Rattle.crossterm_style.specs.Attributes.{all_attributes, bit_of, has, members, of_list, with_all}
+use Rattle.crossterm_style.specs.Attributes.{all_attributes, bit_of, has_attribute, members, of_list, with_all}
 use Rattle.crossterm_style.specs.Acts.{attribute_acts}
-use Rattle.crossterm_style.specs.Acts.Act.{Takes}
-use Rattle.crossterm_style.specs.Styles.{act_functions, attribute_functions, told}
+use Rattle.crossterm_style.specs.Acts.StyleAct.{Takes}
+use Rattle.crossterm_style.specs.Styles.{act_functions, attribute_functions, act_tokens}
 use Rattle.crossterm_command.specs.declared.color_output.ColorOutput.{ColorOutput}
 use Rattle.crossterm_command.specs.Tokens.{text_of}
 use Rattle.crossterm_command.proofs.Readings.{text_of_each}
@@ -38,12 +38,12 @@ abbrev pub attribute_text : Attribute → List ℕ
 attribute_text a = text_of (attribute_functions a)
 
 -- All attributes that are in a set are its members.
-pub all_written : (colors : ColorOutput) (bits n : ℕ) → length all_attributes ≤ n → flat_map attribute_text (filter (has bits) (take n all_attributes)) ≡ text_of (told colors (attribute_acts bits))
+pub all_written : (colors : ColorOutput) (bits n : ℕ) → length all_attributes ≤ n → flat_map attribute_text (filter (has_attribute bits) (take n all_attributes)) ≡ text_of (act_tokens colors (attribute_acts bits))
 unfolding members
 all_written colors bits n l =
-    ap (λ all. flat_map attribute_text (filter (has bits) all)) (take_all n all_attributes l)
-    ∙ sym (text_of_each attribute_functions (filter (has bits) all_attributes))
-    ∙ ap text_of (sym (flat_map-map (act_functions colors) Takes (filter (has bits) all_attributes)))
+    ap (λ all. flat_map attribute_text (filter (has_attribute bits) all)) (take_all n all_attributes l)
+    ∙ sym (text_of_each attribute_functions (filter (has_attribute bits) all_attributes))
+    ∙ ap text_of (sym (flat_map-map (act_functions colors) Takes (filter (has_attribute bits) all_attributes)))
 
 -- One more attribute in a list is one more bit.
 one_more : (bits : ℕ) (all : List Attribute) (a : Attribute) → with_all bits (all ++ (a ∷ [])) ≡ bit_or (with_all bits all) (bit_of a)

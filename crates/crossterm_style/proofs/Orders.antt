@@ -2,7 +2,7 @@
 use Rattle.std.proofs.Common.{◌≡◌, rules}
 use Rattle.crossterm_flags.proofs.Ranks.{in_order, in_rank_order}
 use Rattle.crossterm_flags.specs.Variants.{rank_order}
-use Rattle.crossterm_style.specs.Attributes.{attributes, place_of}
+use Rattle.crossterm_style.specs.Attributes.{attributes, attribute_index}
 use Rattle.crossterm_style.specs.Ranks.{color_holds, color_order, color_rank, colored_holds, colored_order, colored_rank}
 use Rattle.crossterm_style.specs.contracts.types.attribute.Attribute as attribute_enum
 use Rattle.crossterm_style.specs.contracts.types.attribute.AttributeOrd.TheImpl as attribute
@@ -15,7 +15,7 @@ use Rattle.crossterm_style.specs.declared.types.color.Color.{Color}
 use Rattle.crossterm_style.specs.declared.types.colored.Colored.{Colored}
 
 pub attributes_ordered : (a b : Attribute) → attribute.ghosts.cmp a b ≡ rank_order attributes a b
-attributes_ordered = in_rank_order attribute_enum.enum _ place_of (search rules)
+attributes_ordered = in_rank_order attribute_enum.enum _ attribute_index (search rules)
 
 pub colors_ordered : (a b : Color) → color.ghosts.cmp a b ≡ color_order a b
 colors_ordered = in_order colors.enum _ color_rank color_holds (search rules)

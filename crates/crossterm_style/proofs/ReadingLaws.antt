@@ -8,7 +8,7 @@ use Rattle.crossterm_style.specs.declared.types.sgr.SgrColor.{SgrColor}
 use Rattle.crossterm_style.specs.declared.types.sgr.SgrColor.TheVariants.{Own, Indexed, Rgb}
 use Rattle.crossterm_style.specs.Colors.{color_of}
 use Rattle.crossterm_style.specs.Reading.{ReadsInk, ReadsColor, ReadsPlace, ReadsColored}
-use Rattle.crossterm_style.specs.Fields.{AreParts, BeginsWith, BeginsWithNone, OneColor, OneColored, Sets, SetsNone}
+use Rattle.crossterm_style.specs.Fields.{AreParts, BeginsWith, BeginsWithNone, OneColor, OneColored, SetsPlace, SetsNone}
 use Rattle.crossterm_style.proofs.FieldLaws.{SgrAfter, begins_once, sgr_after, sgr_form}
 
 -- ---- a place and what follows its number
@@ -86,7 +86,7 @@ no_colored_set n rest more none (ForegroundColor c) p = no_place_set 38 39 n res
 no_colored_set n rest more none (BackgroundColor c) p = no_place_set 48 49 n rest c more none.1 p
 no_colored_set n rest more none (UnderlineColor c) p = no_place_set 58 59 n rest c more none.2 p
 
-sets_after : (n : ℕ) (rest : List (List ℕ)) (d : Color) (c : Colored) → ReadsColor rest d → Sets n d c → ColoredAfter n rest c
+sets_after : (n : ℕ) (rest : List (List ℕ)) (d : Color) (c : Colored) → ReadsColor rest d → SetsPlace n d c → ColoredAfter n rest c
 sets_after n rest d (ForegroundColor c) r p = inr (p.0, subst (ReadsColor rest) (sym p.1) r)
 sets_after n rest d (BackgroundColor c) r p = inr (p.0, subst (ReadsColor rest) (sym p.1) r)
 sets_after n rest d (UnderlineColor c) r p = inr (p.0, subst (ReadsColor rest) (sym p.1) r)
@@ -101,7 +101,7 @@ answers_none fs none c p =
 pub answers_no_ink : (fs rest : List (List ℕ)) (n : ℕ) → BeginsWith fs n rest → rest ≢ [] → ((sgr : SgrColor) → ReadsInk rest sgr → ⊥) → (c : Colored) → ReadsColored fs c → ⊥
 answers_no_ink fs rest n first more none c p = no_colored_by_ink n rest more none c (colored_after fs rest n c first p)
 
-pub answers_set : (fs rest : List (List ℕ)) (n : ℕ) (sgr : SgrColor) (d : Color) (o : Option Colored) → BeginsWith fs n rest → ReadsInk rest sgr → d ≡ color_of sgr → MatchOption o (SetsNone n) (Sets n d)
+pub answers_set : (fs rest : List (List ℕ)) (n : ℕ) (sgr : SgrColor) (d : Color) (o : Option Colored) → BeginsWith fs n rest → ReadsInk rest sgr → d ≡ color_of sgr → MatchOption o (SetsNone n) (SetsPlace n d)
     → MatchOption o ((c : Colored) → ReadsColored fs c → ⊥) (ReadsColored fs)
 answers_set fs rest n sgr d None first r e p = λ c q. no_colored_set n rest (sgr_there rest sgr r) p c (colored_after fs rest n c first q)
 answers_set fs rest n sgr d (Some c) first r e p = colored_told fs rest n c first (sets_after n rest d c (sgr, r, e) p)

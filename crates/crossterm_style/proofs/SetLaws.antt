@@ -10,7 +10,7 @@ use Rattle.crossterm_flags.proofs.Ranks.{of_each}
 use Rattle.crossterm_style.specs.contracts.types.attribute.Attribute as attribute_enum
 use Rattle.crossterm_style.specs.declared.types.attribute.Attribute.{Attribute}
 use Rattle.crossterm_style.specs.declared.types.attribute.Attribute.TheVariants as attribute
-use Rattle.crossterm_style.specs.Attributes.{Makes, all_attributes, bit_of, differ, has, place_of}
+use Rattle.crossterm_style.specs.Attributes.{Combines, all_attributes, bit_of, differ, has_attribute, attribute_index}
 
 -- ---- two bits
 
@@ -28,49 +28,49 @@ module _ (on_bits : ℕ → ℕ → ℕ) (on_truths : Bool → Bool → Bool)
 
 -- ---- places
 
-pub place_few : (a : Attribute) → place_of a < 28
+pub place_few : (a : Attribute) → attribute_index a < 28
 place_few = of_each attribute_enum.enum _ (search (arith, rules))
 
-at_place : (a : Attribute) → get_or all_attributes (place_of a) attribute.Reset ≡ a
+at_place : (a : Attribute) → get_or all_attributes (attribute_index a) attribute.Reset ≡ a
 at_place = of_each attribute_enum.enum _ (search rules)
 
-same_place : (a b : Attribute) → place_of b ≡ place_of a → b ≡ a
+same_place : (a b : Attribute) → attribute_index b ≡ attribute_index a → b ≡ a
 same_place a b e = sym (at_place b) ∙ ap (λ n. get_or all_attributes n attribute.Reset) e ∙ at_place a
 
 -- ---- sets
 
-pub union : (x y : ℕ) → Makes (λ p q. p || q) x y (bit_or x y)
-union x y a = let i = place_of a + 1 in ap (λ n. n == 1) (bit_at_or x y i) ∙ two_bits max (λ p q. p || q) refl refl refl refl (bit_at x i) (bit_at y i) (bit_at-lt x i) (bit_at-lt y i)
+pub union : (x y : ℕ) → Combines (λ p q. p || q) x y (bit_or x y)
+union x y a = let i = attribute_index a + 1 in ap (λ n. n == 1) (bit_at_or x y i) ∙ two_bits max (λ p q. p || q) refl refl refl refl (bit_at x i) (bit_at y i) (bit_at-lt x i) (bit_at-lt y i)
 
-pub intersection : (x y : ℕ) → Makes (λ p q. p && q) x y (bit_and x y)
-intersection x y a = let i = place_of a + 1 in ap (λ n. n == 1) (bit_at_and x y i) ∙ two_bits min (λ p q. p && q) refl refl refl refl (bit_at x i) (bit_at y i) (bit_at-lt x i) (bit_at-lt y i)
+pub intersection : (x y : ℕ) → Combines (λ p q. p && q) x y (bit_and x y)
+intersection x y a = let i = attribute_index a + 1 in ap (λ n. n == 1) (bit_at_and x y i) ∙ two_bits min (λ p q. p && q) refl refl refl refl (bit_at x i) (bit_at y i) (bit_at-lt x i) (bit_at-lt y i)
 
-pub symmetric_difference : (x y : ℕ) → Makes differ x y (bit_xor x y)
-symmetric_difference x y a = let i = place_of a + 1 in ap (λ n. n == 1) (bit_at_xor x y i) ∙ two_bits (λ p q. (p + q) % 2) differ refl refl refl refl (bit_at x i) (bit_at y i) (bit_at-lt x i) (bit_at-lt y i)
+pub symmetric_difference : (x y : ℕ) → Combines differ x y (bit_xor x y)
+symmetric_difference x y a = let i = attribute_index a + 1 in ap (λ n. n == 1) (bit_at_xor x y i) ∙ two_bits (λ p q. (p + q) % 2) differ refl refl refl refl (bit_at x i) (bit_at y i) (bit_at-lt x i) (bit_at-lt y i)
 
-pub difference : (x y : ℕ) → y < 2 ^ 32 → Makes (λ p q. p && not q) x y (bit_and x (bit_not w32 y))
+pub difference : (x y : ℕ) → y < 2 ^ 32 → Combines (λ p q. p && not q) x y (bit_and x (bit_not w32 y))
 difference x y fits a =
-    let i = place_of a + 1 in
+    let i = attribute_index a + 1 in
     let few : i < 32 = omega (arith, place_few a) in
     ap (λ n. n == 1) (bit_at_and x (bit_not w32 y) i ∙ ap (min (bit_at x i)) (bit_at_not w32 y i fits few))
     ∙ two_bits (λ p q. min p (1 - q)) (λ p q. p && not q) refl refl refl refl (bit_at x i) (bit_at y i) (bit_at-lt x i) (bit_at-lt y i)
 
-pub itself : (a : Attribute) → has (bit_of a) a ≡ true
-itself a = ap (λ n. n == 1) (bit_at-pow_same (place_of a + 1))
+pub itself : (a : Attribute) → has_attribute (bit_of a) a ≡ true
+itself a = ap (λ n. n == 1) (bit_at-pow_same (attribute_index a + 1))
 
 other_places : (m n : ℕ) → (m == n) ≡ false → m + 1 ≢ n + 1
 other_places m n e same = absurd (grind (arith, nat_tests))
 
-pub one : (a b : Attribute) → has (bit_of a) b ≡ true → b ≡ a
-one a b is = go (place_of b == place_of a) refl where
-  go : (t : Bool) → (place_of b == place_of a) ≡ t → b ≡ a
-  go true e = same_place a b (eqb-true (place_of b) (place_of a) e)
+pub one : (a b : Attribute) → has_attribute (bit_of a) b ≡ true → b ≡ a
+one a b is = go (attribute_index b == attribute_index a) refl where
+  go : (t : Bool) → (attribute_index b == attribute_index a) ≡ t → b ≡ a
+  go true e = same_place a b (eqb-true (attribute_index b) (attribute_index a) e)
   go false e =
-      let gone : has (bit_of a) b ≡ false = ap (λ n. n == 1) (bit_at-pow_other (place_of a + 1) (place_of b + 1) (other_places (place_of b) (place_of a) e)) in
+      let gone : has_attribute (bit_of a) b ≡ false = ap (λ n. n == 1) (bit_at-pow_other (attribute_index a + 1) (attribute_index b + 1) (other_places (attribute_index b) (attribute_index a) e)) in
       absurd (true≢false (sym is ∙ gone))
 
-pub none : (a : Attribute) → has 0 a ≡ false
-none a = ap (λ n. n == 1) (bit_at-zero (place_of a + 1))
+pub none : (a : Attribute) → has_attribute 0 a ≡ false
+none a = ap (λ n. n == 1) (bit_at-zero (attribute_index a + 1))
 
 -- What is said of sets.
 pub ruleset said = (union, intersection, symmetric_difference, difference, itself, none)

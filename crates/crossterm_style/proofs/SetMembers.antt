@@ -12,7 +12,7 @@ use Rattle.std.specs.Int.RustNames.{bit_and, bit_or, bit_xor}
 use Rattle.std.specs.List.{Contains}
 use Rattle.crossterm_style.specs.declared.types.attribute.Attribute.{Attribute}
 use Rattle.crossterm_style.specs.declared.types.attribute.Attribute.TheVariants as attribute
-use Rattle.crossterm_style.specs.Attributes.{OnlyAttributes, all_attributes, bit_of, has, of_list, place_of, with_all}
+use Rattle.crossterm_style.specs.Attributes.{OnlyAttributes, all_attributes, bit_of, has_attribute, of_list, attribute_index, with_all}
 use Rattle.crossterm_style.proofs.SetLaws as law
 
 -- ---- the set of a list
@@ -34,29 +34,29 @@ only_is x a (zero, few, is) = is
 only_is x a (suc k, few, is) = absurd (omega (arith, few))
 
 -- A set with the attributes of a list has those that it had, and those of the list.
-listed_from : (bits : ℕ) (all : List Attribute) (a : Attribute) → IsTrue (has (with_all bits all) a) ↔ (IsTrue (has bits a) ⊎ Contains all a)
+listed_from : (bits : ℕ) (all : List Attribute) (a : Attribute) → IsTrue (has_attribute (with_all bits all) a) ↔ (IsTrue (has_attribute bits a) ⊎ Contains all a)
 listed_from bits [] a = (λ h. inl h, elim [ inl h ↦ h | inr none ↦ absurd (omega (arith, none.1)) ])
 listed_from bits (x ∷ all) a =
     let later = listed_from (bit_or bits (bit_of x)) all a in
-    let union : has (bit_or bits (bit_of x)) a ≡ (has bits a || has (bit_of x) a) = law.union bits (bit_of x) a in
-    let has_one : IsTrue (has (bit_or bits (bit_of x)) a) → IsTrue (has bits a) ⊎ Contains (x ∷ all) a =
-    λ h. elim (either (has bits a) (has (bit_of x) a) (sym union ∙ h)) [ inl had ↦ inl had | inr one ↦ inr (first_is x all a (law.one x a one)) ] in
-    let is_one : Contains (x ∷ []) a → IsTrue (has (bit_of x) a) = λ c. subst (λ (b : Attribute). has (bit_of x) b ≡ true) (only_is x a c) (law.itself x) in (
+    let union : has_attribute (bit_or bits (bit_of x)) a ≡ (has_attribute bits a || has_attribute (bit_of x) a) = law.union bits (bit_of x) a in
+    let has_one : IsTrue (has_attribute (bit_or bits (bit_of x)) a) → IsTrue (has_attribute bits a) ⊎ Contains (x ∷ all) a =
+    λ h. elim (either (has_attribute bits a) (has_attribute (bit_of x) a) (sym union ∙ h)) [ inl had ↦ inl had | inr one ↦ inr (first_is x all a (law.one x a one)) ] in
+    let is_one : Contains (x ∷ []) a → IsTrue (has_attribute (bit_of x) a) = λ c. subst (λ (b : Attribute). has_attribute (bit_of x) b ≡ true) (only_is x a c) (law.itself x) in (
       λ h. elim (later.0 h) [ inl one ↦ has_one one | inr c ↦ inr (Contains-append_right (x ∷ []) all a c) ],
       elim [
-        | inl had ↦ later.1 (inl (union ∙ of_either (has bits a) (has (bit_of x) a) (inl had)))
+        | inl had ↦ later.1 (inl (union ∙ of_either (has_attribute bits a) (has_attribute (bit_of x) a) (inl had)))
         | inr c ↦ elim (Contains-append_cases (x ∷ []) all a c) [
-          | inl one ↦ later.1 (inl (union ∙ of_either (has bits a) (has (bit_of x) a) (inr (is_one one))))
+          | inl one ↦ later.1 (inl (union ∙ of_either (has_attribute bits a) (has_attribute (bit_of x) a) (inr (is_one one))))
           | inr more ↦ later.1 (inr more)
         ]
       ],
     )
 
 -- The set of a list has exactly its attributes.
-pub listed : (all : List Attribute) (a : Attribute) → IsTrue (has (of_list all) a) ↔ Contains all a
+pub listed : (all : List Attribute) (a : Attribute) → IsTrue (has_attribute (of_list all) a) ↔ Contains all a
 listed all a =
     let both = listed_from 0 all a in
-    let none : has 0 a ≡ false = law.none a in (
+    let none : has_attribute 0 a ≡ false = law.none a in (
       λ h. elim (both.0 h) [ inl was ↦ absurd (cc) | inr c ↦ c ],
       λ c. both.1 (inr c),
     )
@@ -64,11 +64,11 @@ listed all a =
 -- ---- sets of attributes alone
 
 pub one_low : (a : Attribute) → bit_at (bit_of a) 0 ≡ 0
-one_low a = bit_at-pow_other (place_of a + 1) 0 (λ e. omega (arith, e))
+one_low a = bit_at-pow_other (attribute_index a + 1) 0 (λ e. omega (arith, e))
 
 pub one_few : (a : Attribute) → bit_of a < 2 ^ 29
 one_few a =
-    let few : place_of a + 1 < 29 = omega (arith, law.place_few a) in
+    let few : attribute_index a + 1 < 29 = omega (arith, law.place_few a) in
     pow-lt few
 
 pub union_low : (x y : ℕ) → bit_at x 0 ≡ 0 → bit_at y 0 ≡ 0 → bit_at (bit_or x y) 0 ≡ 0
@@ -114,9 +114,9 @@ below_or i = cases_lt i 29
 
 abbrev InPlaces : ℕ → List Attribute → Type 0
 InPlaces n [] = Unit {0}
-InPlaces n (a ∷ all) = (place_of a ≡ n) × InPlaces (suc n) all
+InPlaces n (a ∷ all) = (attribute_index a ≡ n) × InPlaces (suc n) all
 
-placed : (all : List Attribute) (n k : ℕ) → InPlaces n all → k < length all → place_of (get_or all k attribute.Reset) ≡ n + k
+placed : (all : List Attribute) (n k : ℕ) → InPlaces n all → k < length all → attribute_index (get_or all k attribute.Reset) ≡ n + k
 placed [] n k places few = absurd (omega (arith, few))
 placed (a ∷ all) n zero places few = omega (arith, places.0)
 placed (a ∷ all) n (suc k) places few = omega (arith, placed all (suc n) k places.1 (omega (arith, few)))
@@ -132,10 +132,10 @@ same_test (suc zero) (suc zero) l m e = refl
 same_test (suc (suc p)) q l m e = absurd (omega (arith, l))
 same_test p (suc (suc q)) l m e = absurd (omega (arith, m))
 
-module _ (x y : ℕ) (p : OnlyAttributes x) (q : OnlyAttributes y) (same : (a : Attribute) → has x a ≡ has y a) where
+module _ (x y : ℕ) (p : OnlyAttributes x) (q : OnlyAttributes y) (same : (a : Attribute) → has_attribute x a ≡ has_attribute y a) where
   same_at : (k : ℕ) → k < 28 → bit_at x (k + 1) ≡ bit_at y (k + 1)
   same_at k few =
-      let is : place_of (get_or all_attributes k attribute.Reset) ≡ k = placed all_attributes 0 k all_placed few ∙ omega arith in
+      let is : attribute_index (get_or all_attributes k attribute.Reset) ≡ k = placed all_attributes 0 k all_placed few ∙ omega arith in
       let test : (bit_at x (k + 1) == 1) ≡ (bit_at y (k + 1) == 1) = subst (λ (n : ℕ). (bit_at x (n + 1) == 1) ≡ (bit_at y (n + 1) == 1)) is (same (get_or all_attributes k attribute.Reset)) in
       same_test (bit_at x (k + 1)) (bit_at y (k + 1)) (bit_at-lt x (k + 1)) (bit_at-lt y (k + 1)) test
 
@@ -149,9 +149,9 @@ module _ (x y : ℕ) (p : OnlyAttributes x) (q : OnlyAttributes y) (same : (a : 
   same_members = same_bits 29 x y p.1 q.1 (λ i. same_bit i (below_or i))
 
 -- A set of attributes alone is empty exactly if it has no members.
-pub no_members : (x : ℕ) → OnlyAttributes x → (x == 0) ≡ true ↔ ((a : Attribute) → has x a ≡ false)
+pub no_members : (x : ℕ) → OnlyAttributes x → (x == 0) ≡ true ↔ ((a : Attribute) → has_attribute x a ≡ false)
 no_members x p = (
-  λ h a. subst (λ (n : ℕ). has n a ≡ false) (sym (same_number h)) (law.none a),
+  λ h a. subst (λ (n : ℕ). has_attribute n a ≡ false) (sym (same_number h)) (law.none a),
   λ none. let empty : x ≡ 0 = same_members x 0 p no_bit (λ a. none a ∙ sym (law.none a)) in rw empty,
 )
   where

@@ -9,13 +9,13 @@ use Rattle.crossterm_style.specs.declared.types.color.Color.{Color}
 use Rattle.crossterm_style.specs.declared.types.color.Color.TheVariants as color
 use Rattle.crossterm_style.specs.declared.types.colored.Colored.TheVariants.{ForegroundColor, BackgroundColor, UnderlineColor}
 use Rattle.crossterm_style.specs.declared.content_style.ContentStyle.{ContentStyle}
-use Rattle.crossterm_style.specs.Acts.{Act, after_acts, attribute_acts, either_there, end_acts, reset_acts, shade, style_acts, styled_acts, where_there}
-use Rattle.crossterm_style.specs.Acts.Act.{Colors, Prints, Takes}
+use Rattle.crossterm_style.specs.Acts.{StyleAct, after_acts, attribute_acts, either_there, end_acts, reset_acts, shade, style_acts, styled_acts, where_there}
+use Rattle.crossterm_style.specs.Acts.StyleAct.{Colors, Prints, Takes}
 use Rattle.crossterm_style.specs.Appearance.{DisabledMakesPlain, FitsAct, OneUnderline, IndexedHasNames, ResetComesFirst, StyledEndsPlain, UnderlineColorStays}
 use Rattle.crossterm_style.specs.Attributes.{members, of_list}
 use Rattle.crossterm_style.specs.Looks.{plain, put, style_after}
-use Rattle.crossterm_style.specs.Looks.Place.{Underlining}
-use Rattle.crossterm_style.specs.Styles.{no_style, told}
+use Rattle.crossterm_style.specs.Looks.ColorPlace.{Underlining}
+use Rattle.crossterm_style.specs.Styles.{no_style, act_tokens}
 use Rattle.crossterm_style.proofs.ActLooks.{acts_show, after_joined}
 
 -- ---- the end of a content in its style
@@ -85,7 +85,7 @@ own_to u (inr e) = rw e refl
 pub styled_ends_plain : StyledEndsPlain
 styled_ends_plain s content h =
     let same = (acts_show Enabled (styled_acts s content) plain (styled_fits s content h)).1 in
-    let Ends : Type 0 = style_after (told Enabled (styled_acts s content)) plain ≡ plain in
+    let Ends : Type 0 = style_after (act_tokens Enabled (styled_acts s content)) plain ≡ plain in
     let Has : Type 0 = (s.attributes.0 ≢ 0) ⊎ HasOwn s.underline_color in
     elim (s.attributes.0 == 0) as (λ b. (s.attributes.0 == 0) ≡ b → Ends ↔ Has) [
       | true ↦ λ e.
@@ -100,7 +100,7 @@ styled_ends_plain s content h =
 
 pub indexed_has_names : IndexedHasNames
 indexed_has_names =
-    let acts : List Act = (Colors (ForegroundColor (color.AnsiValue 9)) ∷ Prints (codes "a") ∷ []) in
+    let acts : List StyleAct = (Colors (ForegroundColor (color.AnsiValue 9)) ∷ Prints (codes "a") ∷ []) in
     let fits : AllByRecursion FitsAct acts = (omega arith, (tt, tt)) in ((acts_show Enabled acts plain fits).0, refl)
 
 pub disabled_makes_plain : DisabledMakesPlain
@@ -109,7 +109,7 @@ disabled_makes_plain = (refl, refl)
 pub reset_comes_first : ResetComesFirst
 unfolding members
 reset_comes_first =
-    let acts : List Act = (Colors (ForegroundColor color.Red) ∷ (attribute_acts (of_list (Bold ∷ Reset ∷ [])) ++ (Prints (codes "x") ∷ []))) in
+    let acts : List StyleAct = (Colors (ForegroundColor color.Red) ∷ (attribute_acts (of_list (Bold ∷ Reset ∷ [])) ++ (Prints (codes "x") ∷ []))) in
     let fits : AllByRecursion FitsAct acts = (omega arith, (tt, (tt, (tt, tt)))) in ((acts_show Enabled acts plain fits).0, refl)
 
 pub one_underline : OneUnderline
@@ -118,7 +118,7 @@ one_underline = (refl, refl)
 pub underline_color_stays : UnderlineColorStays
 unfolding members
 underline_color_stays =
-    let acts : List Act = (styled_acts (record no_style { underline_color = Some color.Green }) (codes "x") ++ (Prints (codes "y") ∷ [])) in
+    let acts : List StyleAct = (styled_acts (record no_style { underline_color = Some color.Green }) (codes "x") ++ (Prints (codes "y") ∷ [])) in
     let fits : AllByRecursion FitsAct acts = (omega arith, (tt, (tt, (tt, tt)))) in ((acts_show Enabled acts plain fits).0, refl)
 
 -- What is said of some looks.

@@ -12,7 +12,7 @@ use Rattle.crossterm_style.specs.declared.types.colored.Colored.TheVariants.{For
 use Rattle.crossterm_command.specs.declared.color_output.ColorOutput.TheVariants.{Enabled}
 use Rattle.crossterm_style.specs.declared.types.sgr.SgrColor.{SgrColor}
 use Rattle.crossterm_style.specs.declared.types.sgr.SgrColor.TheVariants.{Own, Indexed, Rgb}
-use Rattle.crossterm_style.specs.Colors.{colored_text, sgr_of, sgr_text, named, FitsColored, FitsSgr}
+use Rattle.crossterm_style.specs.Colors.{colored_text, sgr_of, sgr_text, with_name, FitsColored, FitsSgr}
 use Rattle.crossterm_style.specs.Reading.{ReadsByte, ReadsPlace, ReadsColored}
 use Rattle.crossterm_style.specs.Fields.{IsColoredRead, TextIsReadBack, fields}
 use Rattle.crossterm_style.proofs.ReadingLaws.{one_colored}
@@ -84,7 +84,7 @@ place_reads set reset x y sets resets cut whole (Rgb r g b) h =
       (50 ∷ [], decimal r, decimal g, decimal b, refl, ((omega arith, (omega arith, tt)), refl, omega arith), byte_reads r h.0, byte_reads g h.1, byte_reads b h.2),
     )
 
-text_reads : (c : Colored) → FitsColored c → ReadsColored (fields (colored_text Enabled c)) (named c)
+text_reads : (c : Colored) → FitsColored c → ReadsColored (fields (colored_text Enabled c)) (with_name c)
 text_reads (ForegroundColor c) h =
     (sgr_of c, place_reads 38 39 (codes "38") (codes "39") ((omega arith, (omega arith, (omega arith, tt))), refl, omega arith) ((omega arith, (omega arith, (omega arith, tt))), refl, omega arith) (λ rest. refl) refl (sgr_of c) h, refl)
 text_reads (BackgroundColor c) h =
@@ -92,9 +92,9 @@ text_reads (BackgroundColor c) h =
 text_reads (UnderlineColor c) h =
     (sgr_of c, place_reads 58 59 (codes "58") (codes "59") ((omega arith, (omega arith, (omega arith, tt))), refl, omega arith) ((omega arith, (omega arith, (omega arith, tt))), refl, omega arith) (λ rest. refl) refl (sgr_of c) h, refl)
 
-read_back : (c : Colored) (o : Option Colored) → FitsColored c → IsColoredRead (colored_text Enabled c) o → o ≡ Some (named c)
-read_back c None h p = absurd (p (named c) (text_reads c h))
-read_back c (Some d) h p = ap Some (one_colored (fields (colored_text Enabled c)) d (named c) p (text_reads c h))
+read_back : (c : Colored) (o : Option Colored) → FitsColored c → IsColoredRead (colored_text Enabled c) o → o ≡ Some (with_name c)
+read_back c None h p = absurd (p (with_name c) (text_reads c h))
+read_back c (Some d) h p = ap Some (one_colored (fields (colored_text Enabled c)) d (with_name c) p (text_reads c h))
 
 pub text_is_read_back : TextIsReadBack
 text_is_read_back = read_back

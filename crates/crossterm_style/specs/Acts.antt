@@ -13,17 +13,17 @@ use Rattle.crossterm_style.specs.Attributes.{members}
 use Rattle.crossterm_style.specs.Colors.{indexed_color}
 use Rattle.crossterm_style.specs.Looks.{Style, plain, put}
 use Rattle.crossterm_style.specs.Looks.Blink.{Slow, Rapid}
-use Rattle.crossterm_style.specs.Looks.Place.{Foreground, Background, Underlining}
+use Rattle.crossterm_style.specs.Looks.ColorPlace.{Foreground, Background, Underlining}
 use Rattle.crossterm_style.specs.Looks.Underline.{Straight, Double, Curled, Dotted, Dashed}
 
 -- What a style command does.
-pub data Act : Type 0 where
+pub data StyleAct : Type 0 where
   -- Characters are printed.
-  Prints : List ℕ → Act
+  Prints : List ℕ → StyleAct
   -- A colour is set.
-  Colors : Colored → Act
+  Colors : Colored → StyleAct
   -- An attribute is set.
-  Takes : Attribute → Act
+  Takes : Attribute → StyleAct
 
 -- ---- what they do to a style
 
@@ -71,41 +71,41 @@ with_color (BackgroundColor c) s = put Background (shade c) s
 with_color (UnderlineColor c) s = put Underlining (shade c) s
 
 -- The style after an act. A colour that is set while colours aren't written makes all plain.
-abbrev pub after_act : ColorOutput → Act → Style → Style
+abbrev pub after_act : ColorOutput → StyleAct → Style → Style
 after_act colors (Prints cs) s = s
 after_act Enabled (Colors c) s = with_color c s
 after_act Disabled (Colors c) s = plain
 after_act colors (Takes a) s = with_attribute a s
 
 -- The style after acts, one after another.
-abbrev pub after_acts : ColorOutput → List Act → Style → Style
+abbrev pub after_acts : ColorOutput → List StyleAct → Style → Style
 after_acts colors [] s = s
 after_acts colors (a ∷ acts) s = after_acts colors acts (after_act colors a s)
 
 -- The characters that an act prints, each in the style.
-abbrev pub painted_by : Act → Style → List (ℕ × Style)
+abbrev pub painted_by : StyleAct → Style → List (ℕ × Style)
 painted_by (Prints cs) s = map (λ c. (c, s)) cs
 painted_by a s = []
 
 -- Each character that the acts print, with the style that it is printed in.
-abbrev pub painted : ColorOutput → List Act → Style → List (ℕ × Style)
+abbrev pub painted : ColorOutput → List StyleAct → Style → List (ℕ × Style)
 painted colors [] s = []
 painted colors (a ∷ acts) s = painted_by a s ++ painted colors acts (after_act colors a s)
 
 -- ---- the acts of a style
 
 -- The act that sets a colour at a place, or none if there is no colour.
-abbrev pub where_there : (Color → Colored) → Option Color → List Act
+abbrev pub where_there : (Color → Colored) → Option Color → List StyleAct
 where_there place None = []
 where_there place (Some c) = Colors (place c) ∷ []
 
 -- The acts that set each attribute of a set, in declared order.
-abbrev pub attribute_acts : ℕ → List Act
+abbrev pub attribute_acts : ℕ → List StyleAct
 attribute_acts bits = map Takes (members bits)
 
 -- The acts that set a style: its background, foreground and underline colour, if there are any, and then its
 -- attributes.
-abbrev pub style_acts : ContentStyle → List Act
+abbrev pub style_acts : ContentStyle → List StyleAct
 style_acts s =
     where_there BackgroundColor s.background_color ++ (where_there ForegroundColor s.foreground_color
     ++ (where_there UnderlineColor s.underline_color ++ attribute_acts s.attributes.0))
@@ -121,17 +121,17 @@ abbrev pub reset_where : Bool → Option Color
 reset_where there = if there then Some color.Reset else None
 
 -- The acts that reset the background and the foreground to the terminal's own colours, as far as asked for.
-abbrev pub reset_acts : Bool → Bool → List Act
+abbrev pub reset_acts : Bool → Bool → List StyleAct
 reset_acts background foreground = where_there BackgroundColor (reset_where background) ++ where_there ForegroundColor (reset_where foreground)
 
 -- The acts after a styled content: a reset of everything if the style has attributes.
 -- Otherwise the background is reset if it had a colour, and the foreground if it or the underline had one.
-abbrev pub end_acts : ContentStyle → List Act
+abbrev pub end_acts : ContentStyle → List StyleAct
 end_acts s =
     if s.attributes.0 == 0
     then reset_acts (either_there s.background_color None) (either_there s.foreground_color s.underline_color)
     else Takes attribute.Reset ∷ []
 
 -- The acts of a styled content: its style, the content, and the end of the style.
-abbrev pub styled_acts : ContentStyle → List ℕ → List Act
+abbrev pub styled_acts : ContentStyle → List ℕ → List StyleAct
 styled_acts s content = style_acts s ++ (Prints content ∷ end_acts s)

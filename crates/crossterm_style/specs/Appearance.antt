@@ -9,20 +9,20 @@ use Rattle.crossterm_style.specs.declared.types.color.Color.{Color}
 use Rattle.crossterm_style.specs.declared.types.color.Color.TheVariants as color
 use Rattle.crossterm_style.specs.declared.types.colored.Colored.TheVariants.{ForegroundColor, BackgroundColor}
 use Rattle.crossterm_style.specs.declared.content_style.ContentStyle.{ContentStyle}
-use Rattle.crossterm_style.specs.Acts.{Act, after_acts, attribute_acts, painted, style_acts, styled_acts, where_there}
-use Rattle.crossterm_style.specs.Acts.Act.{Prints, Colors, Takes}
+use Rattle.crossterm_style.specs.Acts.{StyleAct, after_acts, attribute_acts, painted, style_acts, styled_acts, where_there}
+use Rattle.crossterm_style.specs.Acts.StyleAct.{Prints, Colors, Takes}
 use Rattle.crossterm_style.specs.Attributes.{of_list}
 use Rattle.crossterm_style.specs.Colors.{FitsColored, FitsSgr, sgr_of}
-use Rattle.crossterm_style.specs.Looks.{Style, plain, shown, style_after}
+use Rattle.crossterm_style.specs.Looks.{Style, plain, displayed, style_after}
 use Rattle.crossterm_style.specs.Looks.Underline.{Curled}
-use Rattle.crossterm_style.specs.Styles.{colors_functions, no_style, told}
+use Rattle.crossterm_style.specs.Styles.{colors_functions, no_style, act_tokens}
 
 -- The tokens show the characters that the acts paint, and leave the style that the acts leave.
-abbrev pub ShowsAs : ColorOutput → List Token → List Act → Style → Type 0
-ShowsAs colors ts acts s = (shown ts s ≡ painted colors acts s) × (style_after ts s ≡ after_acts colors acts s)
+abbrev pub ShowsAs : ColorOutput → List Token → List StyleAct → Style → Type 0
+ShowsAs colors ts acts s = (displayed ts s ≡ painted colors acts s) × (style_after ts s ≡ after_acts colors acts s)
 
 -- The numbers of a colour that the act sets are bytes.
-abbrev pub FitsAct : Act → Type 0
+abbrev pub FitsAct : StyleAct → Type 0
 FitsAct (Colors c) = FitsColored c
 FitsAct a = ⊤
 
@@ -33,10 +33,10 @@ FitsThere (Some c) = FitsSgr (sgr_of c)
 
 -- From any style, the tokens of acts show as the acts paint, if all numbers of colours are bytes.
 abbrev pub ActsShow : Type 0
-ActsShow = (colors : ColorOutput) (acts : List Act) (s : Style) → AllByRecursion FitsAct acts → ShowsAs colors (told colors acts) acts s
+ActsShow = (colors : ColorOutput) (acts : List StyleAct) (s : Style) → AllByRecursion FitsAct acts → ShowsAs colors (act_tokens colors acts) acts s
 
 -- The acts that set a foreground and a background, if they are there.
-abbrev pub colors_acts : Option Color → Option Color → List Act
+abbrev pub colors_acts : Option Color → Option Color → List StyleAct
 colors_acts f b = where_there ForegroundColor f ++ where_there BackgroundColor b
 
 -- From any style, a foreground and a background that one sequence sets show as if set one after the other.
@@ -47,13 +47,13 @@ ColorsShow = (colors : ColorOutput) (f b : Option Color) (s : Style) → AllByRe
 -- terminal's own.
 abbrev pub StyledEndsPlain : Type 0
 StyledEndsPlain = (s : ContentStyle) (content : List ℕ) → AllByRecursion FitsAct (style_acts s)
-    → (style_after (told Enabled (styled_acts s content)) plain ≡ plain) ↔ ((s.attributes.0 ≢ 0) ⊎ ((s.underline_color ≡ None) ⊎ (s.underline_color ≡ Some color.Reset)))
+    → (style_after (act_tokens Enabled (styled_acts s content)) plain ≡ plain) ↔ ((s.attributes.0 ≢ 0) ⊎ ((s.underline_color ≡ None) ⊎ (s.underline_color ≡ Some color.Reset)))
 
 -- ---- some looks, from the plain style
 
 -- On the plain style, the tokens of the acts show these characters, and the acts paint them.
-abbrev pub Look : ColorOutput → List Act → List (ℕ × Style) → Type 0
-Look colors acts cells = (shown (told colors acts) plain ≡ cells) × (painted colors acts plain ≡ cells)
+abbrev pub Look : ColorOutput → List StyleAct → List (ℕ × Style) → Type 0
+Look colors acts cells = (displayed (act_tokens colors acts) plain ≡ cells) × (painted colors acts plain ≡ cells)
 
 -- The palette's colour 9 is Red.
 abbrev pub IndexedHasNames : Type 0

@@ -35,24 +35,24 @@ abbrev pub code_of : Attribute → List ℕ
 code_of = name_in attributes.eq (map (λ row. (row.1, row.2)) table)
 
 -- The place of an attribute in declared order, from 0.
-abbrev pub place_of : Attribute → ℕ
-place_of = rank attributes
+abbrev pub attribute_index : Attribute → ℕ
+attribute_index = rank attributes
 
 -- The value of an attribute's bit in a set: 2 for the first one, 4 for the second, and so on.
 abbrev pub bit_of : Attribute → ℕ
-bit_of a = 2 ^ (place_of a + 1)
+bit_of a = 2 ^ (attribute_index a + 1)
 
 -- Whether an attribute is in a set.
-abbrev pub has : ℕ → Attribute → Bool
-has bits a = bit_at bits (place_of a + 1) == 1
+abbrev pub has_attribute : ℕ → Attribute → Bool
+has_attribute bits a = bit_at bits (attribute_index a + 1) == 1
 
 -- The attributes in a set, in declared order.
 unfoldable pub members : ℕ → List Attribute
-members bits = filter (has bits) all_attributes
+members bits = filter (has_attribute bits) all_attributes
 
 -- The set `z` has exactly those attributes for which `together` of the other two sets is true.
-abbrev pub Makes : (Bool → Bool → Bool) → ℕ → ℕ → ℕ → Type 0
-Makes together x y z = (a : Attribute) → has z a ≡ together (has x a) (has y a)
+abbrev pub Combines : (Bool → Bool → Bool) → ℕ → ℕ → ℕ → Type 0
+Combines together x y z = (a : Attribute) → has_attribute z a ≡ together (has_attribute x a) (has_attribute y a)
 
 -- A set with the attributes of a list added.
 abbrev pub with_all : ℕ → List Attribute → ℕ

@@ -79,10 +79,10 @@ color_of (Indexed n) = indexed_color n
 color_of (Rgb r g b) = color.Rgb r g b
 
 -- A colour at its place, by its name if it is one of the palette's first sixteen.
-abbrev pub named : Colored → Colored
-named (ForegroundColor c) = ForegroundColor (color_of (sgr_of c))
-named (BackgroundColor c) = BackgroundColor (color_of (sgr_of c))
-named (UnderlineColor c) = UnderlineColor (color_of (sgr_of c))
+abbrev pub with_name : Colored → Colored
+with_name (ForegroundColor c) = ForegroundColor (color_of (sgr_of c))
+with_name (BackgroundColor c) = BackgroundColor (color_of (sgr_of c))
+with_name (UnderlineColor c) = UnderlineColor (color_of (sgr_of c))
 
 -- The numbers of an SGR colour are bytes.
 abbrev pub FitsSgr : SgrColor → Type 0

@@ -7,7 +7,7 @@ use Rattle.crossterm_style.specs.declared.types.color.Color.TheVariants.{Reset}
 use Rattle.crossterm_style.specs.declared.types.colored.Colored.{Colored}
 use Rattle.crossterm_style.specs.declared.types.colored.Colored.TheVariants.{ForegroundColor, BackgroundColor, UnderlineColor}
 use Rattle.crossterm_command.specs.declared.color_output.ColorOutput.TheVariants.{Enabled}
-use Rattle.crossterm_style.specs.Colors.{colored_text, named, FitsColored}
+use Rattle.crossterm_style.specs.Colors.{colored_text, with_name, FitsColored}
 use Rattle.crossterm_style.specs.Reading.{ReadsByte, ReadsColor, ReadsColored}
 
 -- The fields of a text between semicolons. There is at least one.
@@ -33,7 +33,7 @@ OneColored = (fields : List (List ℕ)) (c d : Colored) → ReadsColored fields 
 -- The SGR parameters of a colour at its place read as that colour, by its name if it is one of the palette's first
 -- sixteen.
 abbrev pub TextIsReadBack : Type 0
-TextIsReadBack = (c : Colored) (result : Option Colored) → FitsColored c → IsColoredRead (colored_text Enabled c) result → result ≡ Some (named c)
+TextIsReadBack = (c : Colored) (result : Option Colored) → FitsColored c → IsColoredRead (colored_text Enabled c) result → result ≡ Some (with_name c)
 
 -- ---- one field after another
 
@@ -65,10 +65,10 @@ abbrev pub ResetsNone : ℕ → Type 0
 ResetsNone n = (n ≢ 39) × (n ≢ 49) × (n ≢ 59)
 
 -- The number sets a place to the colour: 38 the foreground, 48 the background, 58 the underline.
-abbrev pub Sets : ℕ → Color → Colored → Type 0
-Sets n color (ForegroundColor c) = (n ≡ 38) × (c ≡ color)
-Sets n color (BackgroundColor c) = (n ≡ 48) × (c ≡ color)
-Sets n color (UnderlineColor c) = (n ≡ 58) × (c ≡ color)
+abbrev pub SetsPlace : ℕ → Color → Colored → Type 0
+SetsPlace n color (ForegroundColor c) = (n ≡ 38) × (c ≡ color)
+SetsPlace n color (BackgroundColor c) = (n ≡ 48) × (c ≡ color)
+SetsPlace n color (UnderlineColor c) = (n ≡ 58) × (c ≡ color)
 
 -- The number sets no place.
 abbrev pub SetsNone : ℕ → Type 0

@@ -64,13 +64,13 @@ plain = record {
 }
 
 -- What a colour is for.
-pub data Place : Type 0 where
-  Foreground : Place
-  Background : Place
-  Underlining : Place
+pub data ColorPlace : Type 0 where
+  Foreground : ColorPlace
+  Background : ColorPlace
+  Underlining : ColorPlace
 
 -- The style with a colour at a place. `None` is the terminal's own colour.
-abbrev pub put : Place → Option Color → Style → Style
+abbrev pub put : ColorPlace → Option Color → Style → Style
 put Foreground o s = record s { foreground = o }
 put Background o s = record s { background = o }
 put Underlining o s = record s { underline_color = o }
@@ -87,12 +87,12 @@ pub data Parameter : Type 0 where
   Other : Parameter
 
 -- Whether a byte is a decimal digit.
-abbrev pub is_digit : ℕ → Bool
-is_digit c = nat_le 48 c && nat_le c 57
+abbrev pub is_decimal : ℕ → Bool
+is_decimal c = nat_le 48 c && nat_le c 57
 
 -- The number of digits if it is below 256, 0 if there are none, and `None` otherwise.
-abbrev pub number : List ℕ → Option ℕ
-number digits = if list_all is_digit digits && nat_lt (digits_value 10 digits) 256 then Some (digits_value 10 digits) else None
+abbrev pub byte_number : List ℕ → Option ℕ
+byte_number digits = if list_all is_decimal digits && nat_lt (digits_value 10 digits) 256 then Some (digits_value 10 digits) else None
 
 -- A parameter that is a number, or another one if there is no number.
 abbrev pub number_or_other : Option ℕ → Parameter
@@ -106,8 +106,8 @@ kind_or_other n k = Other
 
 -- A parameter by its parts between colons: a number, the kind of an underline as in `4:3`, or another one.
 abbrev pub parameter_of : List (List ℕ) → Parameter
-parameter_of (n ∷ []) = number_or_other (number n)
-parameter_of (n ∷ kind ∷ []) = kind_or_other (number n) (number kind)
+parameter_of (n ∷ []) = number_or_other (byte_number n)
+parameter_of (n ∷ kind ∷ []) = kind_or_other (byte_number n) (byte_number kind)
 parameter_of parts = Other
 
 -- The parameter that a text is.
@@ -162,8 +162,8 @@ by_kind k s =
     s))))
 
 -- The place that a number sets to the colour behind it, or `None` for other numbers.
-abbrev pub place_at : ℕ → Option Place
-place_at n = if n == 38 then Some Foreground else (if n == 48 then Some Background else (if n == 58 then Some Underlining else None))
+abbrev pub color_place : ℕ → Option ColorPlace
+color_place n = if n == 38 then Some Foreground else (if n == 48 then Some Background else (if n == 58 then Some Underlining else None))
 
 -- The colour of `r` and the next two parameters, and how many parameters it takes. `None` if they aren't numbers.
 abbrev pub rgb_at : ℕ → List Parameter → Option (Color × ℕ)
@@ -181,7 +181,7 @@ abbrev pub by_parameters : List Parameter → ℕ → Style → Style
 by_parameters [] taken s = s
 by_parameters (p ∷ ps) (suc taken) s = by_parameters ps taken s
 by_parameters (Number n ∷ ps) zero s =
-    elim (place_at n) [
+    elim (color_place n) [
       | None ↦ by_parameters ps zero (by_number n s)
       | Some place ↦ elim (color_at ps) [ None ↦ s | Some told ↦ by_parameters ps told.1 (put place (Some told.0) s) ]
     ]
@@ -210,9 +210,9 @@ shown_by (Char c) s = (c, s) ∷ []
 shown_by t s = []
 
 -- Each character that tokens print, with the style that is set when it is printed.
-abbrev pub shown : List Token → Style → List (ℕ × Style)
-shown [] s = []
-shown (t ∷ ts) s = shown_by t s ++ shown ts (after_token t s)
+abbrev pub displayed : List Token → Style → List (ℕ × Style)
+displayed [] s = []
+displayed (t ∷ ts) s = shown_by t s ++ displayed ts (after_token t s)
 
 -- The style after tokens, one after another.
 abbrev pub style_after : List Token → Style → Style

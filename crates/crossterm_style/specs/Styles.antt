@@ -10,8 +10,8 @@ use Rattle.crossterm_style.specs.declared.types.color.Color.{Color}
 use Rattle.crossterm_style.specs.declared.types.colored.Colored.{Colored}
 use Rattle.crossterm_style.specs.declared.types.colored.Colored.TheVariants.{ForegroundColor, BackgroundColor}
 use Rattle.crossterm_style.specs.declared.content_style.ContentStyle.{ContentStyle}
-use Rattle.crossterm_style.specs.Acts.{Act, end_acts, style_acts}
-use Rattle.crossterm_style.specs.Acts.Act.{Prints, Colors, Takes}
+use Rattle.crossterm_style.specs.Acts.{StyleAct, end_acts, style_acts}
+use Rattle.crossterm_style.specs.Acts.StyleAct.{Prints, Colors, Takes}
 use Rattle.crossterm_style.specs.Attributes.{code_of}
 use Rattle.crossterm_style.specs.Colors.{colored_text}
 
@@ -39,16 +39,16 @@ abbrev pub reset_functions : List Token
 reset_functions = control (codes "0") "m"
 
 -- The tokens of an act: its characters, or SGR with a colour or an attribute.
-abbrev pub act_functions : ColorOutput → Act → List Token
+abbrev pub act_functions : ColorOutput → StyleAct → List Token
 act_functions colors (Prints cs) = map Char cs
 act_functions colors (Colors c) = color_functions colors c
 act_functions colors (Takes a) = attribute_functions a
 
 -- The tokens of acts, one after another.
-abbrev pub told : ColorOutput → List Act → List Token
-told colors acts = flat_map (act_functions colors) acts
+abbrev pub act_tokens : ColorOutput → List StyleAct → List Token
+act_tokens colors acts = flat_map (act_functions colors) acts
 
 -- The text of a styled content: the style, the content's text, and the end of the style. `None` if the content's text
 -- isn't known.
 abbrev pub styled_text : ColorOutput → ContentStyle → Option (List ℕ) → Option (List ℕ)
-styled_text colors s content = Some (text_of (told colors (style_acts s))) ++? content ++? Some (text_of (told colors (end_acts s)))
+styled_text colors s content = Some (text_of (act_tokens colors (style_acts s))) ++? content ++? Some (text_of (act_tokens colors (end_acts s)))

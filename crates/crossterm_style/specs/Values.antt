@@ -40,21 +40,21 @@ color_in [] text = None
 color_in (e ∷ es) text = if same (str_to_ascii_lowercase text) e.0 then Some e.1 else color_in es text
 
 -- Whether a text begins with a part.
-abbrev pub begins : List ℕ → List ℕ → Bool
-begins [] text = true
-begins (p ∷ ps) [] = false
-begins (p ∷ ps) (x ∷ xs) = p == x && begins ps xs
+abbrev pub text_begins : List ℕ → List ℕ → Bool
+text_begins [] text = true
+text_begins (p ∷ ps) [] = false
+text_begins (p ∷ ps) (x ∷ xs) = p == x && text_begins ps xs
 
 -- Whether a text contains a part.
 abbrev pub holds : List ℕ → List ℕ → Bool
-holds part [] = begins part []
-holds part (x ∷ xs) = begins part (x ∷ xs) || holds part xs
+holds part [] = text_begins part []
+holds part (x ∷ xs) = text_begins part (x ∷ xs) || holds part xs
 
 -- A text without a part, wherever it occurs, from left to right. The first `skip` bytes are left out.
 abbrev pub without_after : List ℕ → ℕ → List ℕ → List ℕ
 without_after part skip [] = []
 without_after part (suc skip) (x ∷ xs) = without_after part skip xs
-without_after part zero (x ∷ xs) = if begins part (x ∷ xs) then without_after part (length part - 1) xs else x ∷ without_after part 0 xs
+without_after part zero (x ∷ xs) = if text_begins part (x ∷ xs) then without_after part (length part - 1) xs else x ∷ without_after part 0 xs
 
 -- A text without a part, wherever it occurs, from left to right.
 abbrev pub without : List ℕ → List ℕ → List ℕ

@@ -4,7 +4,7 @@
 ghost use Rattle.std.specs.Prelude.{◌≡◌, ◌==◌, ◌↔◌, IsTrue, false};
 ghost use Rattle.std.specs.Int.{bit_not, w32};
 ghost use Rattle.std.specs.Int.RustNames.{bit_and, bit_or, bit_xor};
-ghost use Rattle.crossterm_style.specs.Attributes.{OnlyAttributes, bit_of, has, of_list};
+ghost use Rattle.crossterm_style.specs.Attributes.{OnlyAttributes, bit_of, has_attribute, of_list};
 ghost use Rattle.crossterm_style.specs.declared.types.attribute.Attribute.{Attribute};
 
 use crate::Attribute;
@@ -78,7 +78,7 @@ impl Attributes {
 
     /// Whether an attribute is in the set.
     pub fn has(self, attribute: Attribute) -> bool
-        ensures { result ≡ has self.0 attribute }
+        ensures { result ≡ has_attribute self.0 attribute }
     {
         self.0 >> (attribute.place() + 1) & 1 == 1
     }
@@ -93,7 +93,7 @@ impl Attributes {
     /// Whether no attribute is in the set.
     pub fn is_empty(self) -> bool
         ensures bits { result ≡ (self.0 == 0) }
-        ensures members { IsTrue result ↔ ((a : Attribute) → has self.0 a ≡ false) }
+        ensures members { IsTrue result ↔ ((a : Attribute) → has_attribute self.0 a ≡ false) }
     {
         self.known();
         self.has_no_bits()

@@ -7,7 +7,7 @@ ghost use Rattle.crossterm_flags.specs.Orders.{ComparesBy};
 ghost use Rattle.crossterm_flags.specs.Variants.{rank_order};
 ghost use Rattle.crossterm_style.specs.Acts.{style_acts};
 ghost use Rattle.crossterm_style.specs.Appearance.{ActsShow, ColorsShow, DisabledMakesPlain, FitsAct, FitsThere, OneUnderline, IndexedHasNames, ResetComesFirst, StyledEndsPlain, UnderlineColorStays, colors_acts};
-ghost use Rattle.crossterm_style.specs.Attributes.{Makes, attributes, bit_of, differ, has, of_list};
+ghost use Rattle.crossterm_style.specs.Attributes.{Combines, attributes, bit_of, differ, has_attribute, of_list};
 ghost use Rattle.crossterm_style.specs.declared.types.attribute.Attribute.{Attribute};
 ghost use Rattle.crossterm_style.specs.Colors.{FitsColored, LaterIsAssociative, LaterWins, NoColorsAreNeutral};
 ghost use Rattle.crossterm_style.specs.Fields.{OneColor, OneColored, TextIsReadBack};
@@ -20,19 +20,19 @@ use std::cmp::{Ord, PartialOrd};
 /// `toggle` and `^` the symmetric difference; a set of one attribute has that one alone, that of a list exactly the list's, and the empty set none.
 #[tactic(auto, using(crate::proofs::SetLaws::said, crate::proofs::SetMembers::listed))]
 pub fn sets()
-    ensures union { (x y : ℕ) → Makes (λ p q. p || q) x y (bit_or x y) }
-    ensures intersection { (x y : ℕ) → Makes (λ p q. p && q) x y (bit_and x y) }
-    ensures symmetric_difference { (x y : ℕ) → Makes differ x y (bit_xor x y) }
-    ensures difference { (x y : ℕ) → y < 2 ^ 32 → Makes (λ p q. p && not q) x y (bit_and x (bit_not w32 y)) }
-    ensures one { (a b : Attribute) → has (bit_of a) b ≡ true → b ≡ a }
-    ensures itself { (a : Attribute) → has (bit_of a) a ≡ true }
-    ensures none { (a : Attribute) → has 0 a ≡ false }
-    ensures listed { (all : List Attribute) (a : Attribute) → IsTrue (has (of_list all) a) ↔ Contains all a }
+    ensures union { (x y : ℕ) → Combines (λ p q. p || q) x y (bit_or x y) }
+    ensures intersection { (x y : ℕ) → Combines (λ p q. p && q) x y (bit_and x y) }
+    ensures symmetric_difference { (x y : ℕ) → Combines differ x y (bit_xor x y) }
+    ensures difference { (x y : ℕ) → y < 2 ^ 32 → Combines (λ p q. p && not q) x y (bit_and x (bit_not w32 y)) }
+    ensures one { (a b : Attribute) → has_attribute (bit_of a) b ≡ true → b ≡ a }
+    ensures itself { (a : Attribute) → has_attribute (bit_of a) a ≡ true }
+    ensures none { (a : Attribute) → has_attribute 0 a ≡ false }
+    ensures listed { (all : List Attribute) (a : Attribute) → IsTrue (has_attribute (of_list all) a) ↔ Contains all a }
 {}
 
 /// Two sets of `Attributes` are equal exactly if their members are the same. It does nothing when it runs.
 pub fn sets_are_their_members(left: Attributes, right: Attributes)
-    ensures { (left ≡ right) ↔ ((a : Attribute) → has left.0 a ≡ has right.0 a) }
+    ensures { (left ≡ right) ↔ ((a : Attribute) → has_attribute left.0 a ≡ has_attribute right.0 a) }
 {
     left.known();
     right.known();

@@ -19,9 +19,9 @@ abbrev pub with_underline : Color → ContentStyle → ContentStyle
 with_underline c s = record s { underline_color = Some c }
 
 -- The style with this attribute in addition.
-abbrev pub with_attribute : Attribute → ContentStyle → ContentStyle
-with_attribute a s = record s { attributes = record { 0 = bit_or s.attributes.0 (bit_of a) } }
+abbrev pub plus_attribute : Attribute → ContentStyle → ContentStyle
+plus_attribute a s = record s { attributes = record { 0 = bit_or s.attributes.0 (bit_of a) } }
 
 -- A value that has a style, with its style changed.
-abbrev pub changed : {S : Type 0} → (S → ContentStyle) → (S → ContentStyle → S) → (ContentStyle → ContentStyle) → S → S
-changed style_of restyled change s = restyled s (change (style_of s))
+abbrev pub style_changed : {S : Type 0} → (S → ContentStyle) → (S → ContentStyle → S) → (ContentStyle → ContentStyle) → S → S
+style_changed style_of restyled change s = restyled s (change (style_of s))

@@ -10,7 +10,7 @@ use Rattle.crossterm_flags.specs.contracts.modifiers.KeyModifiersPartialEq.TheIm
 use Rattle.crossterm_flags.specs.contracts.state.KeyEventStatePartialEq.TheImpl as state
 use Rattle.crossterm_flags.specs.declared.modifiers.KeyModifiers.{KeyModifiers}
 use Rattle.crossterm_flags.specs.declared.state.KeyEventState.{KeyEventState}
-use Rattle.crossterm_types.specs.Compared.{fields, compared, key_eq, key_cmp}
+use Rattle.crossterm_types.specs.Compared.{key_fields, compared, key_eq, key_cmp}
 use Rattle.crossterm_types.specs.Normal.{normal}
 use Rattle.crossterm_types.specs.contracts.event.key.KeyCode as key_code
 use Rattle.crossterm_types.specs.contracts.event.key.KeyCodePartialEq.TheImpl as code
@@ -83,7 +83,7 @@ key_of key = record { code = key.code; modifiers = key.modifiers; kind = key.kin
 pub equal-normal : (a b : KeyEvent) → IsTrue (key_eq a b) ↔ (normal a ≡ normal b)
 equal-normal a b = (
   λ h. ap key_of (same_fields (compared a) (compared b) h),
-  λ e. let Equal : KeyEvent → Type 0 = λ key. normal_key.ghosts.eq (compared a) (fields key) ≡ true in subst Equal e (equal_laws.laws-law.refl (compared a)),
+  λ e. let Equal : KeyEvent → Type 0 = λ key. normal_key.ghosts.eq (compared a) (key_fields key) ≡ true in subst Equal e (equal_laws.laws-law.refl (compared a)),
 )
 
 -- A key equals its normal form.

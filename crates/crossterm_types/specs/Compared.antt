@@ -44,9 +44,9 @@ abbrev pub key_hash : KeyEvent → HashWrites
 key_hash key = fields_hash (normal key)
 
 -- The fields of a key.
-abbrev pub fields : KeyEvent → NormalKey
-fields key = record { code = key.code; modifiers = key.modifiers; kind = key.kind; state = key.state }
+abbrev pub key_fields : KeyEvent → NormalKey
+key_fields key = record { code = key.code; modifiers = key.modifiers; kind = key.kind; state = key.state }
 
 -- The fields of a key's normal form.
 abbrev pub compared : KeyEvent → NormalKey
-compared key = fields (normal key)
+compared key = key_fields (normal key)

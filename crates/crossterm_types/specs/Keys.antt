@@ -14,5 +14,5 @@ abbrev pub pressed : KeyCode → KeyModifiers → KeyEvent
 pressed code modifiers = record { code = code; modifiers = modifiers; kind = Press; state = record { 0 = 0 } }
 
 -- A key that is pressed alone.
-abbrev pub alone : KeyCode → KeyEvent
-alone code = pressed code (modifiers_of 0)
+abbrev pub pressed_alone : KeyCode → KeyEvent
+pressed_alone code = pressed code (modifiers_of 0)

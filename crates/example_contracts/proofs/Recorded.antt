@@ -4,7 +4,7 @@ use Rattle.std.proofs.Common.{ap, subst, sym, ◌∙◌, append-nil}
 use Rattle.crossterm_types.specs.Admitting.{admitted}
 use Rattle.crossterm_types.specs.declared.event.filter.AnyFilter.{AnyFilter}
 use Rattle.crossterm_read.specs.Answers.{SourceAnswer}
-use Rattle.crossterm_read.specs.Calls.{Plays, empty, joined}
+use Rattle.crossterm_read.specs.Calls.{Plays, empty, all_answers}
 use Rattle.crossterm_read.specs.Device.{Answering}
 use Rattle.crossterm_read.specs.OneResult.{OneShown}
 use Rattle.crossterm_read.specs.OverScripts.{IsNew}
@@ -33,7 +33,7 @@ two_replay {D} {W} contents answering law one_shown tries f s m t one two zs ys 
     let r = law s t (two_calls tries f) (zs ∷ ys ∷ []) (p ∷ q ∷ []) two new begun still drawn (one, e, (two, v, refl)) in
     let plays : EndsLast r.0.given → Plays (recorded r.0.given) (two_calls tries f) (a ∷ b ∷ []) (map (λ h. h.0) two.held) =
     λ ends. subst (λ (l : List Said). Plays (recorded r.0.given) (two_calls tries f) l (map (λ h. h.0) two.held)) (sym same) (r.1 ends).0 in (
-      joined (zs ∷ ys ∷ []),
+      all_answers (zs ∷ ys ∷ []),
       r.0,
       λ ends. (
         plays ends,
@@ -45,7 +45,7 @@ two_replay {D} {W} contents answering law one_shown tries f s m t one two zs ys 
     both : SourceDrawn (Records contents answering.answered) s (zs ++ ys) t
     both = source_on (recorder_answering contents answering).answered (recorder_answering contents answering).on s m t zs ys d u
 
-    drawn : SourceDrawn (Records contents answering.answered) s (joined (zs ∷ ys ∷ [])) t
+    drawn : SourceDrawn (Records contents answering.answered) s (all_answers (zs ∷ ys ∷ [])) t
     drawn = subst (λ (l : List SourceAnswer). SourceDrawn (Records contents answering.answered) s (zs ++ l) t) (sym (append-nil ys)) both
 
     same : a ∷ b ∷ [] ≡ map shown (p ∷ q ∷ [])

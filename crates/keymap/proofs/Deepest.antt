@@ -6,8 +6,8 @@ use Rattle.std.proofs.lemmas.List.{length-take-le}
 use Rattle.crossterm_types.specs.declared.event.key.KeyEvent.{KeyEvent}
 use Rattle.keymap.proofs.Cutting.{front_length}
 use Rattle.keymap.specs.Bindings.{AreShort, are_same}
-use Rattle.keymap.specs.Chords.{Bound, is_front, longer, longest, longest_from, match_of, same_chord}
-use Rattle.keymap.specs.inside.Places.{Tells, deepest, found_or, number_from, place_at}
+use Rattle.keymap.specs.Chords.{Bound, is_front, longer_match, longest, longest_from, match_of, same_chord}
+use Rattle.keymap.specs.inside.Places.{HasPlaces, deepest, found_or, number_from, place_at}
 use Rattle.keymap.specs.declared.inside.Match.{Match}
 use Rattle.keymap.specs.declared.inside.Place.{Place}
 
@@ -43,7 +43,7 @@ not_less m n l = grind (arith, nat_tests)
 less : (m n : ℕ) → m ≤ suc n → nat_eq m (suc n) ≡ false → true ≡ nat_lt m (suc n)
 less m n l h = grind (arith, nat_tests)
 
-first_longer : (a : Match) (o : Option Match) → ((y : Match) → o ≡ Some y → y.count ≤ a.count) → Some a ≡ longer (Some a) o
+first_longer : (a : Match) (o : Option Match) → ((y : Match) → o ≡ Some y → y.count ≤ a.count) → Some a ≡ longer_match (Some a) o
 first_longer a None within = refl
 first_longer a (Some b) within = ap (λ c. cond c (Some b) (Some a)) (not_less a.count b.count (within b refl))
 
@@ -58,14 +58,14 @@ same_number : (m n : ℕ) → nat_eq m n ≡ true → m ≡ n
 same_number m n h = grind (arith, nat_tests)
 
 -- Another number is found for the greatest count, or none.
-after_put : (i m n : ℕ) (g : Option ℕ) (rest more : Option Match) → m ≤ suc n → nat_eq m (suc n) ≡ false → (g ≡ None → more ≡ longer (Some (record { number = i; count = m })) rest)
-    → found_or g (suc n) more ≡ longer (Some (record { number = i; count = m })) (found_or g (suc n) rest)
+after_put : (i m n : ℕ) (g : Option ℕ) (rest more : Option Match) → m ≤ suc n → nat_eq m (suc n) ≡ false → (g ≡ None → more ≡ longer_match (Some (record { number = i; count = m })) rest)
+    → found_or g (suc n) more ≡ longer_match (Some (record { number = i; count = m })) (found_or g (suc n) rest)
 after_put i m n None rest more l h on = on refl
 after_put i m n (Some j) rest more l h on = ap (λ c. cond c (Some (record { number = j; count = suc n })) (Some (record { number = i; count = m }))) (less m n l h)
 
 put_within : (i m : ℕ) (g : ℕ → Option ℕ) (n : ℕ) (here : Bool) → 0 < m → m ≤ suc n → nat_eq m (suc n) ≡ here
-    → (m ≤ n → deepest (put_at i m g) n ≡ longer (Some (record { number = i; count = m })) (deepest g n))
-    → found_or (cond here (Some i) (g (suc n))) (suc n) (deepest (put_at i m g) n) ≡ longer (Some (record { number = i; count = m })) (deepest g (suc n))
+    → (m ≤ n → deepest (put_at i m g) n ≡ longer_match (Some (record { number = i; count = m })) (deepest g n))
+    → found_or (cond here (Some i) (g (suc n))) (suc n) (deepest (put_at i m g) n) ≡ longer_match (Some (record { number = i; count = m })) (deepest g (suc n))
 put_within i m g n true some l is on =
     let end : m ≡ suc n = same_number m (suc n) is in
     ap (λ k. Some (record { number = i; count = k })) (sym end)
@@ -73,7 +73,7 @@ put_within i m g n true some l is on =
 put_within i m g n false some l is on =
     after_put i m n (g (suc n)) (deepest g n) (deepest (put_at i m g) n) l is (λ none. on (grind (arith, nat_tests)))
 
-pub put_deepest : (i m : ℕ) (g : ℕ → Option ℕ) (n : ℕ) → 0 < m → m ≤ n → deepest (put_at i m g) n ≡ longer (Some (record { number = i; count = m })) (deepest g n)
+pub put_deepest : (i m : ℕ) (g : ℕ → Option ℕ) (n : ℕ) → 0 < m → m ≤ n → deepest (put_at i m g) n ≡ longer_match (Some (record { number = i; count = m })) (deepest g n)
 put_deepest i m g zero some l = absurd (omega (arith, some, l))
 put_deepest i m g (suc n) some l = put_within i m g n (nat_eq m (suc n)) some l refl (λ within. put_deepest i m g n some within)
 
@@ -98,7 +98,7 @@ number_front i cs ks n rest l =
     ∙ same_at (is_front cs (take n ks)) (nat_eq (length cs) n) (is_front cs ks) i rest (λ h. let e = same_number (length cs) n h in front_take cs ks n (omega (arith, e)))
 
 one_longer : (i : ℕ) (cs ks : List KeyEvent) (m : ℕ) (g : ℕ → Option ℕ) (front : Bool) → is_front cs ks ≡ front → 0 < length cs → (length cs ≤ length ks → length cs ≤ m)
-    → deepest (λ n. cond front (cond (nat_eq (length cs) n) (Some i) (g n)) (g n)) m ≡ longer (cond front (Some (record { number = i; count = length cs })) None) (deepest g m)
+    → deepest (λ n. cond front (cond (nat_eq (length cs) n) (Some i) (g n)) (g n)) m ≡ longer_match (cond front (Some (record { number = i; count = length cs })) None) (deepest g m)
 one_longer i cs ks m g true is some fits = put_deepest i (length cs) g m some (fits (front_length cs ks is))
 one_longer i cs ks m g false is some fits = refl
 
@@ -108,13 +108,13 @@ longest_deepest i [] ks short = sym (none_deepest (min (length ks) 8))
 longest_deepest i (cs ∷ bound) ks short =
     let m = min (length ks) 8 in
     let g : ℕ → Option ℕ = λ n. number_from (suc i) bound (take n ks) in
-    ap (longer (match_of i cs ks)) (longest_deepest (suc i) bound ks short.1)
+    ap (longer_match (match_of i cs ks)) (longest_deepest (suc i) bound ks short.1)
     ∙ sym (deepest_same (λ n. number_from i (cs ∷ bound) (take n ks)) (λ n. cond (is_front cs ks) (cond (nat_eq (length cs) n) (Some i) (g n)) (g n)) m
     (λ n l. number_front i cs ks n (g n) (omega (arith, l)))
     ∙ one_longer i cs ks m g (is_front cs ks) refl short.0.0 (λ l. let few = short.0.1 in omega (arith, l, few)))
 
 -- What a table finds is the longest list.
-pub tells_longest : {S : Type 0} (bound : Bound) (places : HashMap (List KeyEvent) Place S) (ks : List KeyEvent) → AreShort bound → Tells bound places
+pub tells_longest : {S : Type 0} (bound : Bound) (places : HashMap (List KeyEvent) Place S) (ks : List KeyEvent) → AreShort bound → HasPlaces bound places
     → deepest (λ n. (place_at places (take n ks)).number) (min (length ks) 8) ≡ longest bound ks
 tells_longest bound places ks short tells =
     deepest_same (λ n. (place_at places (take n ks)).number) (λ n. number_from 0 bound (take n ks)) (min (length ks) 8) (λ n l. ap (λ (p : Place). p.number) (tells (take n ks)))

@@ -5,7 +5,7 @@ use Rattle.crossterm_types.specs.declared.event.key.KeyEvent.{KeyEvent}
 use Rattle.std.specs.List.{AllByRecursion}
 use Rattle.keymap.specs.Bindings.{AreShort, Binding, bound_of}
 use Rattle.keymap.specs.Chords.{Bound, longest, is_begun}
-use Rattle.keymap.specs.Cut.{cut, given, left, told_of, more_of}
+use Rattle.keymap.specs.Cut.{cut_keys, given, left, told_of, more_of}
 use Rattle.keymap.specs.Matching.{Matching, IsFed, IsFlushed}
 use Rattle.keymap.specs.Told.{Told}
 use Rattle.keymap.specs.declared.inside.Match.{Match}
@@ -59,7 +59,7 @@ module _ (bound : Bound) where
   fewer [] h = absurd (omega arith)
   fewer (k ∷ ks) h = omega (arith, length-drop (more_of (longest bound (k ∷ ks))) ks)
 
-  pub cut_on : (keys : List KeyEvent) → 0 < length keys → cut bound keys ≡ told_first bound keys ++ cut bound (after_first bound keys)
+  pub cut_on : (keys : List KeyEvent) → 0 < length keys → cut_keys bound keys ≡ told_first bound keys ++ cut_keys bound (after_first bound keys)
   cut_on [] h = absurd (omega arith)
   cut_on (k ∷ ks) h = (first bound k ks).is_cut
 
@@ -98,21 +98,21 @@ fed m n key same alike short w u = record {
 }
 
 -- A matcher that gave all is flushed.
-pub flushed : (m n : Matching) → n.keymap ≡ m.keymap → n.passes ≡ m.passes → n.waiting ≡ m.waiting ++ cut (bound_of m.keymap) m.undecided → n.undecided ≡ [] → IsFlushed m n
+pub flushed : (m n : Matching) → n.keymap ≡ m.keymap → n.passes ≡ m.passes → n.waiting ≡ m.waiting ++ cut_keys (bound_of m.keymap) m.undecided → n.undecided ≡ [] → IsFlushed m n
 flushed m n same alike w u = record {
   keymap = same;
   passes = alike;
   gives = λ keys stands.
       let bound = bound_of m.keymap in
       record {
-        more = cut bound m.undecided;
+        more = cut_keys bound m.undecided;
         waiting = w;
-        told = rest bound keys ∙ ap (λ v. given bound keys ++ cut bound v) (sym stands);
+        told = rest bound keys ∙ ap (λ v. given bound keys ++ cut_keys bound v) (sym stands);
         stands = u;
       };
 }
   where
-    rest : (bound : Bound) (keys : List KeyEvent) → cut bound keys ≡ given bound keys ++ cut bound (left bound keys)
+    rest : (bound : Bound) (keys : List KeyEvent) → cut_keys bound keys ≡ given bound keys ++ cut_keys bound (left bound keys)
     rest bound keys =
         let g = goes_on 0 bound keys [] (omega arith) in
-        ap (cut bound) (sym (append-nil keys)) ∙ g.cut ∙ ap (λ v. given bound keys ++ cut bound v) (append-nil (left bound keys))
+        ap (cut_keys bound) (sym (append-nil keys)) ∙ g.cut ∙ ap (λ v. given bound keys ++ cut_keys bound v) (append-nil (left bound keys))

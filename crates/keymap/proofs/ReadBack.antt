@@ -22,7 +22,7 @@ use Rattle.crossterm_types.specs.declared.event.key.KeyCode.{KeyCode}
 use Rattle.crossterm_types.specs.declared.event.key.KeyCode.TheVariants as key
 use Rattle.crossterm_types.specs.declared.event.key.MediaKeyCode.TheVariants as media
 use Rattle.crossterm_types.specs.declared.event.key.ModifierKeyCode.TheVariants as modifier
-use Rattle.keymap.specs.Spelling.{AllReadBack, function_number, key_words, modifier_words, parts, read_code, read_key, read_modifier, read_parts, spelled_after, spelled_bits, spelled_code, with_bits}
+use Rattle.keymap.specs.Spelling.{ChordsReadBack, function_number, key_words, modifier_words, hyphen_parts, read_code, read_key, read_modifier, read_parts, spelled_after, spelled_bits, spelled_code, with_bits}
 use Rattle.keymap.proofs.Words.{read_word}
 
 -- ---- numbers below a limit, one by one
@@ -51,7 +51,7 @@ equal_each f g h i l = (unsigned_Decides (f i) (g i)).0 (each (λ n. f n == g n)
 
 -- A modifier's word is a part by itself, and has the modifier's bit.
 record IsWord (row : List ℕ × ℕ) : Type 0 where
-  is_part : (rest : List ℕ) → parts ((row.0 ++ 45 ∷ []) ++ rest) ≡ row.0 ∷ parts rest
+  is_part : (rest : List ℕ) → hyphen_parts ((row.0 ++ 45 ∷ []) ++ rest) ≡ row.0 ∷ hyphen_parts rest
   is_some : false ≡ (length row.0 == 0)
   has_bit : value_in modifier_words row.0 ≡ Some row.1
 
@@ -85,14 +85,14 @@ bits_after [] bits before = before
 bits_after (row ∷ rows) bits before = bits_after rows bits (if bit_and bits row.1 == 0 then before else bit_or before row.1)
 
 word_read : (row : List ℕ × ℕ) → IsWord row → (b : Bool) (before : ℕ) (rest : List ℕ)
-    → read_parts before (parts ((if b then [] else row.0 ++ 45 ∷ []) ++ rest)) ≡ read_parts (if b then before else bit_or before row.1) (parts rest)
+    → read_parts before (hyphen_parts ((if b then [] else row.0 ++ 45 ∷ []) ++ rest)) ≡ read_parts (if b then before else bit_or before row.1) (hyphen_parts rest)
 word_read row is true before rest = refl
 word_read row is false before rest =
     ap (λ l. read_parts before l) (is.is_part rest) ∙ read_word before row.0 rest is.is_some
-    ∙ ap (λ v. read_modifier v (λ bit. read_parts (bit_or before bit) (parts rest))) is.has_bit
+    ∙ ap (λ v. read_modifier v (λ bit. read_parts (bit_or before bit) (hyphen_parts rest))) is.has_bit
 
 words_read : (rows : List (List ℕ × ℕ)) → AllByRecursion IsWord rows → (bits before : ℕ) (text : List ℕ)
-    → read_parts before (parts (spelled_after rows bits text)) ≡ read_parts (bits_after rows bits before) (parts text)
+    → read_parts before (hyphen_parts (spelled_after rows bits text)) ≡ read_parts (bits_after rows bits before) (hyphen_parts text)
 words_read [] is bits before text = refl
 words_read (row ∷ rows) is bits before text =
     word_read row is.0 (bit_and bits row.1 == 0) before (spelled_after rows bits text)
@@ -112,9 +112,9 @@ left_out true x y h = absurd (true≢false h)
 left_out false x y h = refl
 
 -- A text without a hyphen is one part.
-one_part : (text : List ℕ) → AllByRecursion (λ b. (b == 45) ≡ false) text → parts text ≡ text ∷ []
+one_part : (text : List ℕ) → AllByRecursion (λ b. (b == 45) ≡ false) text → hyphen_parts text ≡ text ∷ []
 one_part [] none = refl
-one_part (b ∷ bs) none = left_out (b == 45) ([] ∷ parts bs) (onto_first b (parts bs)) none.0 ∙ ap (λ l. onto_first b l) (one_part bs none.1)
+one_part (b ∷ bs) none = left_out (b == 45) ([] ∷ hyphen_parts bs) (onto_first b (hyphen_parts bs)) none.0 ∙ ap (λ l. onto_first b l) (one_part bs none.1)
 
 far : (b m : ℕ) → m < b → (b == m) ≡ false
 far b m l = grind (arith, nat_tests, l)
@@ -146,14 +146,14 @@ char_some : (bits c : ℕ) → read_key bits (encode_utf8 c) ≡ with_bits bits 
 unfolding encode_utf8
 char_some bits c = key_some bits c (ltb c 128) (ltb c 2048) (ltb c 65536)
 
-char_read : (bits c : ℕ) (blank hyphen : Bool) → IsScalar c → (c == 32) ≡ blank → (c == 45) ≡ hyphen → read_parts bits (parts (if blank then codes "space" else encode_utf8 c)) ≡ Ok (pressed (key.Char c) (modifiers_of bits))
+char_read : (bits c : ℕ) (blank hyphen : Bool) → IsScalar c → (c == 32) ≡ blank → (c == 45) ≡ hyphen → read_parts bits (hyphen_parts (if blank then codes "space" else encode_utf8 c)) ≡ Ok (pressed (key.Char c) (modifiers_of bits))
 unfolding encode_utf8
 char_read bits c true hyphen is e h =
     let blank : 32 ≡ c = sym ((unsigned_Decides c 32).0 e) in
     ap (λ n. Ok (pressed (key.Char n) (modifiers_of bits))) blank
 char_read bits c false true is e h =
     let hyphen : c ≡ 45 = (unsigned_Decides c 45).0 h in
-    subst (λ n. read_parts bits (parts (encode_utf8 n)) ≡ Ok (pressed (key.Char n) (modifiers_of bits))) (sym hyphen) refl
+    subst (λ n. read_parts bits (hyphen_parts (encode_utf8 n)) ≡ Ok (pressed (key.Char n) (modifiers_of bits))) (sym hyphen) refl
 char_read bits c false false is e h =
     ap (λ l. read_parts bits l) (one_part (encode_utf8 c) (char_apart 45 c (omega arith) h))
     ∙ char_some bits c
@@ -179,7 +179,7 @@ no_hyphens (b ∷ bs) h = (unequal (b == 45) (first_so (not (b == 45)) (list_all
     unequal true e = sym e
     unequal false e = refl
 
-function_read : (bits n : ℕ) → n < 256 → read_parts bits (parts (102 ∷ decimal n)) ≡ Ok (pressed (key.F n) (modifiers_of bits))
+function_read : (bits n : ℕ) → n < 256 → read_parts bits (hyphen_parts (102 ∷ decimal n)) ≡ Ok (pressed (key.F n) (modifiers_of bits))
 function_read bits n l =
     let text : List ℕ = 102 ∷ decimal n in
     let tests : is_text_of n ≡ true = each is_text_of 256 function_texts n l in
@@ -199,7 +199,7 @@ function_read bits n l =
     has_is None m h = absurd (true≢false (sym h))
     has_is (Some k) m h = ap Some ((unsigned_Decides k m).0 h)
 
-code_read : (bits : ℕ) (code : KeyCode) → FitsCode code → read_parts bits (parts (spelled_code code)) ≡ Ok (pressed code (modifiers_of bits))
+code_read : (bits : ℕ) (code : KeyCode) → FitsCode code → read_parts bits (hyphen_parts (spelled_code code)) ≡ Ok (pressed code (modifiers_of bits))
 unfolding encode_utf8
 code_read bits (key.F n) fits = function_read bits n fits
 code_read bits (key.Char c) fits = char_read bits c (c == 32) (c == 45) fits refl refl
@@ -330,12 +330,12 @@ bits_fit (key.F n) bits l = l
 bits_fit (key.Media k) bits l = l
 bits_fit (key.Modifier k) bits l = l
 
-pub all_read_back : AllReadBack
+pub all_read_back : ChordsReadBack
 all_read_back k fits =
     let bits = spelled_bits k.code k.modifiers.0 in (
       pressed k.code (modifiers_of bits),
       words_read modifier_words are_words bits 0 (spelled_code k.code)
-          ∙ ap (λ b. read_parts b (parts (spelled_code k.code))) (bits_back bits (bits_fit k.code k.modifiers.0 fits.1))
+          ∙ ap (λ b. read_parts b (hyphen_parts (spelled_code k.code))) (bits_back bits (bits_fit k.code k.modifiers.0 fits.1))
           ∙ code_read bits k.code fits.0,
       bits_normal k.code k.modifiers.0 fits.1,
     )

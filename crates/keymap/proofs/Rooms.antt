@@ -6,41 +6,41 @@ use Rattle.std.proofs.lemmas.List.{length-map}
 use Rattle.crossterm_types.specs.declared.event.key.KeyEvent.{KeyEvent}
 use Rattle.keymap.specs.Bindings.{Binding}
 use Rattle.keymap.specs.Matching.{room_made, with_room}
-use Rattle.keymap.specs.Told.{told}
+use Rattle.keymap.specs.Told.{outcome_seen}
 use Rattle.keymap.specs.declared.outcome.Outcome.{Outcome}
 use Rattle.keymap.specs.inside.Room.{room_in, matcher_of}
 
 module _ {A B : Type 0} where
   -- As many outcomes wait as a clause sees.
-  pub count_is : (q : VecDeque (Outcome A) B) → deque_len q ≡ length (map told q.items)
-  count_is q = q.ok.0 ∙ sym (length-map q.items told)
+  pub count_is : (q : VecDeque (Outcome A) B) → deque_len q ≡ length (map outcome_seen q.items)
+  count_is q = q.ok.0 ∙ sym (length-map q.items outcome_seen)
 
   -- Those that wait and the room are all that it holds.
-  pub all_is : (q : VecDeque (Outcome A) B) → length (map told q.items) + room_in q ≡ deque_capacity q
+  pub all_is : (q : VecDeque (Outcome A) B) → length (map outcome_seen q.items) + room_in q ≡ deque_capacity q
   all_is q = omega (arith, count_is q, q.small.1)
 
   -- What keeps its capacity holds as many.
-  pub kept_is : (q r : VecDeque (Outcome A) B) → deque_capacity r ≡ deque_capacity q → length (map told r.items) + room_in r ≡ length (map told q.items) + room_in q
+  pub kept_is : (q r : VecDeque (Outcome A) B) → deque_capacity r ≡ deque_capacity q → length (map outcome_seen r.items) + room_in r ≡ length (map outcome_seen q.items) + room_in q
   kept_is q r kept = all_is r ∙ kept ∙ sym (all_is q)
 
   -- Room was made, and then as many were held.
   pub whole_is : (n : ℕ) (q r s : VecDeque (Outcome A) B) → r.items ≡ q.items → room_in r ≡ room_made n (room_in q) (deque_len q) → deque_capacity s ≡ deque_capacity r
-      → length (map told s.items) + room_in s ≡ length (map told q.items) + room_made n (room_in q) (length (map told q.items))
+      → length (map outcome_seen s.items) + room_in s ≡ length (map outcome_seen q.items) + room_made n (room_in q) (length (map outcome_seen q.items))
   whole_is n q r s same made kept =
-      kept_is r s kept ∙ ap (λ items. length (map told items) + room_in r) same ∙ ap (λ room. length (map told q.items) + room) (made ∙ ap (room_made n (room_in q)) (count_is q))
+      kept_is r s kept ∙ ap (λ items. length (map outcome_seen items) + room_in r) same ∙ ap (λ room. length (map outcome_seen q.items) + room) (made ∙ ap (room_made n (room_in q)) (count_is q))
 
   -- No outcome waited, and then room was made.
   pub record IsRoomy (n : ℕ) (q p r : VecDeque (Outcome A) B) : Type 0 where
-    pub none : map told q.items ≡ []
-    pub none_still : map told p.items ≡ []
+    pub none : map outcome_seen q.items ≡ []
+    pub none_still : map outcome_seen p.items ≡ []
     pub kept : deque_capacity p ≡ deque_capacity q
     pub items : r.items ≡ p.items
     pub made : room_in r ≡ room_made n (room_in p) (deque_len p)
 
-  same_is : (n : ℕ) (q p r : VecDeque (Outcome A) B) → IsRoomy n q p r → map told r.items ≡ map told q.items
-  same_is n q p r h = ap (map told) h.items ∙ h.none_still ∙ sym h.none
+  same_is : (n : ℕ) (q p r : VecDeque (Outcome A) B) → IsRoomy n q p r → map outcome_seen r.items ≡ map outcome_seen q.items
+  same_is n q p r h = ap (map outcome_seen) h.items ∙ h.none_still ∙ sym h.none
 
-  made_is : (n : ℕ) (q p r : VecDeque (Outcome A) B) → IsRoomy n q p r → room_in r ≡ room_made n (room_in q) (length (map told q.items))
+  made_is : (n : ℕ) (q p r : VecDeque (Outcome A) B) → IsRoomy n q p r → room_in r ≡ room_made n (room_in q) (length (map outcome_seen q.items))
   made_is n q p r h =
       let count : deque_len p ≡ deque_len q = count_is p ∙ ap length (h.none_still ∙ sym h.none) ∙ sym (count_is q) in
       let room : room_in p ≡ room_in q = omega (arith, count, h.kept) in
@@ -55,5 +55,5 @@ module _ {A B : Type 0} where
   }
 
   pub whole_after : (n : ℕ) (q p r s : VecDeque (Outcome A) B) → IsRoomy n q p r → deque_capacity s ≡ deque_capacity r
-      → length (map told s.items) + room_in s ≡ length (map told q.items) + room_made n (room_in q) (length (map told q.items))
+      → length (map outcome_seen s.items) + room_in s ≡ length (map outcome_seen q.items) + room_made n (room_in q) (length (map outcome_seen q.items))
   whole_after n q p r s h kept = kept_is r s kept ∙ (λ i. length (same_is n q p r h i) + made_is n q p r h i)

@@ -3,16 +3,16 @@ use Rattle.std.proofs.Common.{◌≡◌, Bool, List, [], ◌∷◌, ◌++◌, Op
 use Rattle.crossterm_types.specs.Seen.{Seen}
 use Rattle.crossterm_types.specs.declared.event.key.KeyEvent.{KeyEvent}
 use Rattle.keymap.specs.Bindings.{Binding, bound_of}
-use Rattle.keymap.specs.Cut.{cut}
-use Rattle.keymap.specs.Matching.{Matching, TakesFirst}
+use Rattle.keymap.specs.Cut.{cut_keys}
+use Rattle.keymap.specs.Matching.{Matching, TakesOutcome}
 use Rattle.keymap.specs.Taking.{IsFollowed}
 use Rattle.keymap.specs.Told.{Told, Event}
 use Rattle.keymap.specs.inside.Giving.{TakesFirstOf}
 use Rattle.keymap.proofs.Giving.{flushed}
 
-pub followed : (m n : Matching) (x : Seen) → n.keymap ≡ m.keymap → n.passes ≡ m.passes → n.waiting ≡ (m.waiting ++ cut (bound_of m.keymap) m.undecided) ++ Event x ∷ [] → n.undecided ≡ [] → IsFollowed m x n
+pub followed : (m n : Matching) (x : Seen) → n.keymap ≡ m.keymap → n.passes ≡ m.passes → n.waiting ≡ (m.waiting ++ cut_keys (bound_of m.keymap) m.undecided) ++ Event x ∷ [] → n.undecided ≡ [] → IsFollowed m x n
 followed m n x same alike w u =
-    let f : Matching = record { keymap = m.keymap; passes = m.passes; undecided = []; waiting = m.waiting ++ cut (bound_of m.keymap) m.undecided } in
+    let f : Matching = record { keymap = m.keymap; passes = m.passes; undecided = []; waiting = m.waiting ++ cut_keys (bound_of m.keymap) m.undecided } in
     record {
       flushed = f;
       flushes = flushed m f refl refl refl refl;
@@ -20,6 +20,6 @@ followed m n x same alike w u =
     }
 
 pub takes : (keymap : List Binding) (passes : Bool) (keys : List KeyEvent) (old new : List Told) (o : Option Told) → TakesFirstOf old o new
-    → TakesFirst (record { keymap = keymap; passes = passes; undecided = keys; waiting = old }) o (record { keymap = keymap; passes = passes; undecided = keys; waiting = new })
+    → TakesOutcome (record { keymap = keymap; passes = passes; undecided = keys; waiting = old }) o (record { keymap = keymap; passes = passes; undecided = keys; waiting = new })
 takes keymap passes keys old new None t = (t.0, λ i. record { keymap = keymap; passes = passes; undecided = keys; waiting = (t.1 ∙ sym t.0) i })
 takes keymap passes keys old new (Some x) t = (t, refl)

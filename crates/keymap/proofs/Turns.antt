@@ -5,12 +5,12 @@ use Rattle.crossterm_types.specs.Seen.{Seen}
 use Rattle.crossterm_types.specs.declared.event.key.KeyEvent.{KeyEvent}
 use Rattle.keymap.specs.Bindings.{Binding, bound_of}
 use Rattle.keymap.specs.Chords.{Bound, longest}
-use Rattle.keymap.specs.Cut.{Place, cut, given, left, told_at, told_of, places, decided, remaining}
-use Rattle.keymap.specs.Matching.{Matching, IsFed, IsFlushed, StandsFor, TakesFirst}
-use Rattle.keymap.specs.Runs.{Act, outcomes}
+use Rattle.keymap.specs.Cut.{Place, cut_keys, given, left, told_at, told_of, places, decided, remaining}
+use Rattle.keymap.specs.Matching.{Matching, IsFed, IsFlushed, StandsFor, TakesOutcome}
+use Rattle.keymap.specs.Runs.{MatcherCall, outcomes}
 use Rattle.keymap.specs.Taking.{IsPassed, TakesBy, way_of}
 use Rattle.keymap.specs.Told.{Told, Action, Key, Event}
-use Rattle.keymap.specs.Turns.{Turn, Came, Rested, Gave, TakesTurns, TurnsAreTold, gave, acts, act_by, unfed, unfed_by, of_keys, events}
+use Rattle.keymap.specs.Turns.{StepPart, Came, Rested, Gave, TakesTurns, TurnsAreTold, given_outcomes, key_calls, act_by, unfed, unfed_by, of_keys, events}
 use Rattle.keymap.specs.declared.inside.Match.{Match}
 use Rattle.keymap.specs.declared.inside.Way.{Way}
 use Rattle.keymap.specs.declared.inside.Way.TheVariants.{Feed, Pass, Follow}
@@ -100,20 +100,20 @@ fed m u key b p keys past done told s f =
     }
 
 flushed : (m u : Matching) (b : List Binding) (p : Bool) (keys : List KeyEvent) (past done : List Told) (told : List Seen)
-    → Stood m b p keys past done told → IsFlushed m u → Stood u b p [] past (done ++ cut (bound_of b) keys) told
+    → Stood m b p keys past done told → IsFlushed m u → Stood u b p [] past (done ++ cut_keys (bound_of b) keys) told
 flushed m u b p keys past done told s f =
     let g = f.gives keys s.stands in
     let ps = decided (bound_of b) (places (bound_of b) keys) in
     let qs = places (bound_of b) keys in
-    let e : cut (bound_of b) keys ≡ given (bound_of b) keys ++ g.more =
-    subst (λ l. cut (bound_of l) keys ≡ given (bound_of l) keys ++ g.more) s.keymap g.told in
+    let e : cut_keys (bound_of b) keys ≡ given (bound_of b) keys ++ g.more =
+    subst (λ l. cut_keys (bound_of l) keys ≡ given (bound_of l) keys ++ g.more) s.keymap g.told in
     record {
       keymap = f.keymap ∙ s.keymap;
       same = f.passes ∙ s.same;
       stands = g.stands;
       of_them = ap (λ w. of_keys (past ++ w)) g.waiting
-          ∙ wait_keys past m.waiting g.more done (given (bound_of b) keys) (cut (bound_of b) keys) s.of_them (more_keys (bound_of b) ps qs g.more e)
-          ∙ sym (append-nil (done ++ cut (bound_of b) keys));
+          ∙ wait_keys past m.waiting g.more done (given (bound_of b) keys) (cut_keys (bound_of b) keys) s.of_them (more_keys (bound_of b) ps qs g.more e)
+          ∙ sym (append-nil (done ++ cut_keys (bound_of b) keys));
       others = ap (λ w. events (past ++ w)) g.waiting ∙ wait_events past m.waiting g.more told s.others (more_events (bound_of b) ps qs g.more e);
     }
 
@@ -133,7 +133,7 @@ passed m u x b p keys past done told s r =
     }
 
 taken : (m u : Matching) (x : Told) (b : List Binding) (p : Bool) (keys : List KeyEvent) (past done : List Told) (told : List Seen)
-    → Stood m b p keys past done told → TakesFirst m (Some x) u → Stood u b p keys (past ++ x ∷ []) done told
+    → Stood m b p keys past done told → TakesOutcome m (Some x) u → Stood u b p keys (past ++ x ∷ []) done told
 taken m u x b p keys past done told s t =
     let kept : u.keymap ≡ m.keymap = ap (λ (k : Matching). k.keymap) t.1 in
     let still : u.undecided ≡ m.undecided = ap (λ (k : Matching). k.undecided) t.1 in
@@ -148,26 +148,26 @@ taken m u x b p keys past done told s t =
     }
 
 -- What is given after further turns.
-abbrev Ends : Matching → List Told → List Act → List Seen → List Binding → List KeyEvent → List Told → List Seen → Type 0
-Ends n all acts others b keys done told =
-    (of_keys (all ++ n.waiting) ≡ done ++ outcomes (bound_of b) keys acts) × (events (all ++ n.waiting) ≡ told ++ others)
+abbrev Ends : Matching → List Told → List MatcherCall → List Seen → List Binding → List KeyEvent → List Told → List Seen → Type 0
+Ends n all key_calls others b keys done told =
+    (of_keys (all ++ n.waiting) ≡ done ++ outcomes (bound_of b) keys key_calls) × (events (all ++ n.waiting) ≡ told ++ others)
 
-came : (way : Way) (m u n : Matching) (x : Seen) (turns : List Turn) (b : List Binding) (p : Bool) (keys : List KeyEvent) (past done : List Told) (told : List Seen)
+came : (way : Way) (m u n : Matching) (x : Seen) (turns : List StepPart) (b : List Binding) (p : Bool) (keys : List KeyEvent) (past done : List Told) (told : List Seen)
     → Stood m b p keys past done told → TakesBy way m x u
-    → ((ks : List KeyEvent) (d : List Told) (t : List Seen) → Stood u b p ks past d t → Ends n (past ++ gave turns) (acts p turns) (unfed p turns) b ks d t)
-    → Ends n (past ++ gave turns) (act_by way ++ acts p turns) (unfed_by way x ++ unfed p turns) b keys done told
+    → ((ks : List KeyEvent) (d : List Told) (t : List Seen) → Stood u b p ks past d t → Ends n (past ++ given_outcomes turns) (key_calls p turns) (unfed p turns) b ks d t)
+    → Ends n (past ++ given_outcomes turns) (act_by way ++ key_calls p turns) (unfed_by way x ++ unfed p turns) b keys done told
 came (Feed key) m u n x turns b p keys past done told s f next = next (keys ++ key ∷ []) done told (fed m u key b p keys past done told s f)
 came Pass m u n x turns b p keys past done told s f next =
     let e = next keys done (told ++ x ∷ []) (passed m u x b p keys past done told s f) in
     (e.0, e.1 ∙ append_assoc told (x ∷ []) (unfed p turns))
 came Follow m u n x turns b p keys past done told s f next =
     let v = f.flushed in
-    let c = done ++ cut (bound_of b) keys in
+    let c = done ++ cut_keys (bound_of b) keys in
     let e = next [] c (told ++ x ∷ []) (passed v u x b p [] past c told (flushed m v b p keys past done told s f.flushes) f.follows) in
-    (e.0 ∙ append_assoc done (cut (bound_of b) keys) (outcomes (bound_of b) [] (acts p turns)), e.1 ∙ append_assoc told (x ∷ []) (unfed p turns))
+    (e.0 ∙ append_assoc done (cut_keys (bound_of b) keys) (outcomes (bound_of b) [] (key_calls p turns)), e.1 ∙ append_assoc told (x ∷ []) (unfed p turns))
 
-on : (m n : Matching) (turns : List Turn) (b : List Binding) (p : Bool) (keys : List KeyEvent) (past done : List Told) (told : List Seen)
-    → Stood m b p keys past done told → TakesTurns m turns n → Ends n (past ++ gave turns) (acts p turns) (unfed p turns) b keys done told
+on : (m n : Matching) (turns : List StepPart) (b : List Binding) (p : Bool) (keys : List KeyEvent) (past done : List Told) (told : List Seen)
+    → Stood m b p keys past done told → TakesTurns m turns n → Ends n (past ++ given_outcomes turns) (key_calls p turns) (unfed p turns) b keys done told
 on m n [] b p keys past done told s r =
     let all : (past ++ []) ++ n.waiting ≡ past ++ m.waiting = ap (λ l. l ++ n.waiting) (append-nil past) ∙ ap (λ (k : Matching). past ++ k.waiting) r in
     (ap of_keys all ∙ s.of_them, ap events all ∙ s.others ∙ sym (append-nil told))
@@ -175,11 +175,11 @@ on m n (Came x ∷ turns) b p keys past done told s r =
     came (way_of p x) m r.0 n x turns b p keys past done told s (subst (λ q. TakesBy (way_of q x) m x r.0) s.same r.1)
     (λ ks d t z. on r.0 n turns b p ks past d t z r.2)
 on m n (Rested ∷ turns) b p keys past done told s r =
-    let e = on r.0 n turns b p [] past (done ++ cut (bound_of b) keys) told (flushed m r.0 b p keys past done told s r.1) r.2 in
-    (e.0 ∙ append_assoc done (cut (bound_of b) keys) (outcomes (bound_of b) [] (acts p turns)), e.1)
+    let e = on r.0 n turns b p [] past (done ++ cut_keys (bound_of b) keys) told (flushed m r.0 b p keys past done told s r.1) r.2 in
+    (e.0 ∙ append_assoc done (cut_keys (bound_of b) keys) (outcomes (bound_of b) [] (key_calls p turns)), e.1)
 on m n (Gave x ∷ turns) b p keys past done told s r =
     let e = on r.0 n turns b p keys (past ++ x ∷ []) done told (taken m r.0 x b p keys past done told s r.1) r.2 in
-    let all : (past ++ x ∷ gave turns) ++ n.waiting ≡ ((past ++ x ∷ []) ++ gave turns) ++ n.waiting = ap (λ l. l ++ n.waiting) (sym (append_assoc past (x ∷ []) (gave turns))) in
+    let all : (past ++ x ∷ given_outcomes turns) ++ n.waiting ≡ ((past ++ x ∷ []) ++ given_outcomes turns) ++ n.waiting = ap (λ l. l ++ n.waiting) (sym (append_assoc past (x ∷ []) (given_outcomes turns))) in
     (ap of_keys all ∙ e.0, ap events all ∙ e.1)
 
 pub turns_are_told : TurnsAreTold

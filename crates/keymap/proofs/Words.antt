@@ -11,24 +11,24 @@ use Rattle.crossterm_flags.specs.Variants.{name_in, value_in}
 use Rattle.crossterm_types.specs.contracts.event.key.KeyCodePartialEq.TheImpl as code_eq
 use Rattle.crossterm_types.specs.declared.event.key.KeyCode.{KeyCode}
 use Rattle.crossterm_types.specs.declared.event.key.KeyCode.TheVariants as key
-use Rattle.keymap.specs.Spelling.{key_words, modifier_words, parts, read_modifier, read_parts, spelled_code}
+use Rattle.keymap.specs.Spelling.{key_words, modifier_words, hyphen_parts, read_modifier, read_parts, spelled_code}
 use Rattle.keymap.specs.declared.spelling.ChordFault.TheVariants.{UnknownModifier}
 
 -- ---- parts
 
 -- A text has a part.
-parts_there : (text : List ℕ) → parts text ≡ [] → ⊥
+parts_there : (text : List ℕ) → hyphen_parts text ≡ [] → ⊥
 parts_there text e = omega (arith, length-slice_split (λ b. b == 45) text, ap length e)
 
 -- `split_once` takes the first part.
 pub parts_more : (text front back : List ℕ) → (front ≡ before_first (λ b. b == 45) text) × (back ≡ after_first (λ b. b == 45) text) × (position_or_len (λ b. b == 45) text < length text)
-    → parts text ≡ front ∷ parts back
+    → hyphen_parts text ≡ front ∷ hyphen_parts back
 parts_more text front back s =
     let within : position_or_len (λ b. b == 45) text < length text = s.2 in
     slice_split_first (λ b. b == 45) text 0 within ∙ cc
 
 -- A text without a hyphen is its only part.
-pub parts_one : (text : List ℕ) → position_or_len (λ b. b == 45) text ≡ length text → parts text ≡ text ∷ []
+pub parts_one : (text : List ℕ) → position_or_len (λ b. b == 45) text ≡ length text → hyphen_parts text ≡ text ∷ []
 parts_one text e = slice_split_none (λ b. b == 45) text (λ k d l. fails_before_first (λ b. b == 45) text k d (omega arith))
 
 pub empty_is : (text : List ℕ) → true ≡ (length text == 0) → text ≡ []
@@ -45,12 +45,12 @@ modifier_first : (bits : ℕ) (word : List ℕ) (rest : List (List ℕ)) → (wo
     → read_parts bits (word ∷ rest) ≡ read_modifier (value_in modifier_words word) (λ bit. read_parts (bit_or bits bit) rest)
 modifier_first bits [] rest f g = absurd (f refl)
 modifier_first bits (b ∷ bs) [] f g = absurd (g refl)
-modifier_first bits (b ∷ bs) (part ∷ parts) f g = refl
+modifier_first bits (b ∷ bs) (part ∷ hyphen_parts) f g = refl
 
 -- A word before a hyphen is a modifier, and the rest is read after it.
 pub read_word : (bits : ℕ) (word rest : List ℕ) → false ≡ (length word == 0)
-    → read_parts bits (word ∷ parts rest) ≡ read_modifier (value_in modifier_words word) (λ bit. read_parts (bit_or bits bit) (parts rest))
-read_word bits word rest e = modifier_first bits word (parts rest) (not_empty word e) (parts_there rest)
+    → read_parts bits (word ∷ hyphen_parts rest) ≡ read_modifier (value_in modifier_words word) (λ bit. read_parts (bit_or bits bit) (hyphen_parts rest))
+read_word bits word rest e = modifier_first bits word (hyphen_parts rest) (not_empty word e) (parts_there rest)
 
 no_hyphen : (bits x : ℕ) (t : Bool) (q : List (List ℕ)) → (q ≡ [] → ⊥) → read_parts bits ([] ∷ cond t ([] ∷ q) (onto_first x q)) ≡ Err UnknownModifier
 no_hyphen bits x t [] f = absurd (f refl)
@@ -58,9 +58,9 @@ no_hyphen bits x true (p ∷ ps) f = refl
 no_hyphen bits x false (p ∷ ps) f = refl
 
 -- A hyphen at the beginning, and more after it.
-pub read_none : (bits : ℕ) (rest : List ℕ) → false ≡ (length rest == 0) → read_parts bits ([] ∷ parts rest) ≡ Err UnknownModifier
+pub read_none : (bits : ℕ) (rest : List ℕ) → false ≡ (length rest == 0) → read_parts bits ([] ∷ hyphen_parts rest) ≡ Err UnknownModifier
 read_none bits [] e = absurd (true≢false (sym e))
-read_none bits (x ∷ xs) e = no_hyphen bits x (x == 45) (parts xs) (parts_there xs)
+read_none bits (x ∷ xs) e = no_hyphen bits x (x == 45) (hyphen_parts xs) (parts_there xs)
 
 -- ---- keys
 

@@ -2,7 +2,7 @@
 use Rattle.std.specs.Prelude.{◌≡◌, ◌<◌, ◌+◌, ℕ, Bool, if◌then◌else◌, nat_le, max, List, [], ◌∷◌, ◌++◌, Option, Some, None, length}
 use Rattle.crossterm_types.specs.declared.event.key.KeyEvent.{KeyEvent}
 use Rattle.keymap.specs.Bindings.{Binding, bound_of}
-use Rattle.keymap.specs.Cut.{cut, given, left}
+use Rattle.keymap.specs.Cut.{cut_keys, given, left}
 use Rattle.keymap.specs.Told.{Told}
 
 -- What a matcher matches with, and what it has read.
@@ -43,7 +43,7 @@ pub record GivesAll (m : Matching) (keys : List KeyEvent) (n : Matching) : Type 
   -- New outcomes wait, behind those before.
   pub waiting : n.waiting ≡ m.waiting ++ more
   -- The new outcomes are what the cut of the keys has and wasn't given before.
-  pub told : cut (bound_of m.keymap) keys ≡ given (bound_of m.keymap) keys ++ more
+  pub told : cut_keys (bound_of m.keymap) keys ≡ given (bound_of m.keymap) keys ++ more
   -- The matcher keeps no keys.
   pub stands : StandsFor n []
 
@@ -54,9 +54,9 @@ pub record IsFlushed (m n : Matching) : Type 0 where
   pub gives : (keys : List KeyEvent) → StandsFor m keys → GivesAll m keys n
 
 -- The first outcome that waits is taken, or none if none waits, and nothing else changes.
-abbrev pub TakesFirst : Matching → Option Told → Matching → Type 0
-TakesFirst m None n = (m.waiting ≡ []) × (n ≡ m)
-TakesFirst m (Some x) n = (m.waiting ≡ x ∷ n.waiting) × (n ≡ record m { waiting = n.waiting })
+abbrev pub TakesOutcome : Matching → Option Told → Matching → Type 0
+TakesOutcome m None n = (m.waiting ≡ []) × (n ≡ m)
+TakesOutcome m (Some x) n = (m.waiting ≡ x ∷ n.waiting) × (n ≡ record m { waiting = n.waiting })
 
 -- A matcher as its callers see it: what it matches, and for how many more outcomes it has room without memory.
 pub record MatcherState : Type 0 where
@@ -64,8 +64,8 @@ pub record MatcherState : Type 0 where
   pub room : ℕ
 
 -- How many outcomes a matcher holds at most without memory: those that wait, and those for which it has room.
-abbrev pub capacity : MatcherState → ℕ
-capacity m = length m.matching.waiting + m.room
+abbrev pub outcome_capacity : MatcherState → ℕ
+outcome_capacity m = length m.matching.waiting + m.room
 
 -- The room after room for `count` more outcomes is asked for: unchanged if it is enough, otherwise 16 or `waiting`,
 -- whichever is more.

@@ -3,7 +3,7 @@ use Rattle.std.specs.Prelude.{◌≡◌, ◌<◌, ◌≤◌, ℕ, true, false, L
 use Rattle.std.specs.List.{flat_map, slice_get}
 use Rattle.crossterm_types.specs.declared.event.key.KeyEvent.{KeyEvent}
 use Rattle.keymap.specs.Chords.{Bound, is_front}
-use Rattle.keymap.specs.Cut.{cut}
+use Rattle.keymap.specs.Cut.{cut_keys}
 use Rattle.keymap.specs.Told.{Told, Action, Key, Event}
 
 -- Some keys side by side, and their outcome.
@@ -12,8 +12,8 @@ pub record Part : Type 0 where
   pub outcome : Told
 
 -- The keys of all parts, in order.
-abbrev pub joined : List Part → List KeyEvent
-joined parts = flat_map (λ part. part.keys) parts
+abbrev pub keys_of_parts : List Part → List KeyEvent
+keys_of_parts parts = flat_map (λ part. part.keys) parts
 
 -- The list with this number has `count` chords, and the keys begin with it. No such list is longer, and none before
 -- it is as long.
@@ -40,16 +40,16 @@ IsOutcomeOf bound (Event _) part rest = ⊥
 -- Each part has the right outcome, given the parts that follow.
 abbrev pub AreRight : Bound → List Part → Type 0
 AreRight bound [] = Unit {0}
-AreRight bound (part ∷ parts) = IsOutcomeOf bound part.outcome part.keys (joined parts) × AreRight bound parts
+AreRight bound (part ∷ parts) = IsOutcomeOf bound part.outcome part.keys (keys_of_parts parts) × AreRight bound parts
 
 -- The keys are cut into these outcomes: they are joined parts, each with its right outcome.
 pub record IsCutInto (bound : Bound) (keys : List KeyEvent) (outcomes : List Told) : Type 0 where
   pub parts : List Part
-  pub keys_are : keys ≡ joined parts
+  pub keys_are : keys ≡ keys_of_parts parts
   pub outcomes_are : outcomes ≡ map (λ part. part.outcome) parts
   pub right : AreRight bound parts
 
 -- The keys are cut into their cut, and into nothing else.
 pub record IsOnlyCut (bound : Bound) (keys : List KeyEvent) : Type 0 where
-  pub is_cut : IsCutInto bound keys (cut bound keys)
-  pub is_only : (outcomes : List Told) → IsCutInto bound keys outcomes → outcomes ≡ cut bound keys
+  pub is_cut : IsCutInto bound keys (cut_keys bound keys)
+  pub is_only : (outcomes : List Told) → IsCutInto bound keys outcomes → outcomes ≡ cut_keys bound keys

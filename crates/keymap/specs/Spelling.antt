@@ -71,20 +71,20 @@ spelled_after [] bits text = text
 spelled_after (row ∷ rows) bits text = (if bit_and bits row.1 == 0 then [] else row.0 ++ 45 ∷ []) ++ spelled_after rows bits text
 
 -- The text of a chord: its modifiers and its key, as `ctrl-c`.
-abbrev pub spelled : KeyEvent → List ℕ
-spelled k = spelled_after modifier_words (spelled_bits k.code k.modifiers.0) (spelled_code k.code)
+abbrev pub chord_text : KeyEvent → List ℕ
+chord_text k = spelled_after modifier_words (spelled_bits k.code k.modifiers.0) (spelled_code k.code)
 
 -- ---- what a text reads as
 
 -- The number of digits behind those of `n`, or `None` if a byte isn't a digit or the number is above 255.
-abbrev pub number_after : ℕ → List ℕ → Option ℕ
-number_after n [] = Some n
-number_after n (d ∷ ds) = if nat_lt 47 d && (nat_lt d 58 && nat_lt (n * 10 + (d - 48)) 256) then number_after (n * 10 + (d - 48)) ds else None
+abbrev pub byte_after : ℕ → List ℕ → Option ℕ
+byte_after n [] = Some n
+byte_after n (d ∷ ds) = if nat_lt 47 d && (nat_lt d 58 && nat_lt (n * 10 + (d - 48)) 256) then byte_after (n * 10 + (d - 48)) ds else None
 
 -- The number of a function key, as 5 of `f5`, or `None` if the text isn't one.
 abbrev pub function_number : List ℕ → Option ℕ
 function_number [] = None
-function_number (first ∷ digits) = if (first == 102) && nat_lt 0 (length digits) then number_after 0 digits else None
+function_number (first ∷ digits) = if (first == 102) && nat_lt 0 (length digits) then byte_after 0 digits else None
 
 -- The key of a text: a single character, a function key, or a word. `None` if it is none of them.
 abbrev pub read_code : List ℕ → Option KeyCode
@@ -114,23 +114,23 @@ read_hyphen bits _ _ = Err UnknownModifier
 abbrev pub read_parts : ℕ → List (List ℕ) → Result KeyEvent ChordFault
 read_parts bits [] = Err Empty
 read_parts bits (text ∷ []) = read_key bits text
-read_parts bits ([] ∷ part ∷ parts) = read_hyphen bits part parts
-read_parts bits ((b ∷ bs) ∷ part ∷ parts) = read_modifier (value_in modifier_words (b ∷ bs)) (λ bit. read_parts (bit_or bits bit) (part ∷ parts))
+read_parts bits ([] ∷ part ∷ hyphen_parts) = read_hyphen bits part hyphen_parts
+read_parts bits ((b ∷ bs) ∷ part ∷ hyphen_parts) = read_modifier (value_in modifier_words (b ∷ bs)) (λ bit. read_parts (bit_or bits bit) (part ∷ hyphen_parts))
 
 -- The parts of a text between its hyphens.
-abbrev pub parts : List ℕ → List (List ℕ)
-parts text = slice_split (λ b. b == 45) text
+abbrev pub hyphen_parts : List ℕ → List (List ℕ)
+hyphen_parts text = slice_split (λ b. b == 45) text
 
 -- The chord that a text reads as, or its fault.
-abbrev pub read : List ℕ → Result KeyEvent ChordFault
-read text = read_parts 0 (parts text)
+abbrev pub read_spelled : List ℕ → Result KeyEvent ChordFault
+read_spelled text = read_parts 0 (hyphen_parts text)
 
 -- ---- reading back
 
 -- The text of a chord reads as a key with the same normal form.
-abbrev pub ReadsBack : KeyEvent → Type 0
-ReadsBack k = (found : KeyEvent) × (read (spelled k) ≡ Ok found) × (normal found ≡ normal (chord k))
+abbrev pub ChordReadsBack : KeyEvent → Type 0
+ChordReadsBack k = (found : KeyEvent) × (read_spelled (chord_text k) ≡ Ok found) × (normal found ≡ normal (chord k))
 
 -- The text of each chord with a valid key reads as the same chord.
-abbrev pub AllReadBack : Type 0
-AllReadBack = (k : KeyEvent) → FitsKey k → ReadsBack k
+abbrev pub ChordsReadBack : Type 0
+ChordsReadBack = (k : KeyEvent) → FitsKey k → ChordReadsBack k

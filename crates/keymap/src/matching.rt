@@ -4,9 +4,9 @@ ghost use Rattle.std.specs.Option.{option_map};
 ghost use Rattle.std.specs.VecDeque.{deque_len, deque_capacity};
 ghost use Rattle.keymap.specs.Bindings.{bound_of, AreShort};
 ghost use Rattle.keymap.specs.Chords.{longest};
-ghost use Rattle.keymap.specs.Cut.{cut, given, left, told_of, more_of};
-ghost use Rattle.keymap.specs.Matching.{IsFed, IsFlushed, StandsFor, TakesFirst, capacity, with_room};
-ghost use Rattle.keymap.specs.Told.{told};
+ghost use Rattle.keymap.specs.Cut.{cut_keys, given, left, told_of, more_of};
+ghost use Rattle.keymap.specs.Matching.{IsFed, IsFlushed, StandsFor, TakesOutcome, outcome_capacity, with_room};
+ghost use Rattle.keymap.specs.Told.{outcome_seen};
 ghost use Rattle.keymap.specs.inside.Giving.{after_first, told_first};
 ghost use Rattle.keymap.specs.declared.fault.KeymapFault.TheVariants.{Memory};
 
@@ -70,7 +70,7 @@ fn first_of(keys: &[KeyEvent]) -> KeyEvent
 
 // The outcome of a place, whether a list is matched there or not.
 fn outcome_of<A: Allocator>(key: KeyEvent, found: Option<Match>) -> Outcome<A>
-    ensures { told result ≡ told_of key found }
+    ensures { outcome_seen result ≡ told_of key found }
 {
     match found {
         Some(found) => Outcome::Action(found.number),
@@ -96,11 +96,11 @@ fn give_first<A: Allocator>(
 )
     requires some { 0 < length keys.old }
     requires room { deque_len waiting.old < deque_capacity waiting.old }
-    ensures waiting { map told waiting.new.items ≡ map told waiting.old.items ++ told_first (bound_of keymap.now) keys.old }
+    ensures waiting { map outcome_seen waiting.new.items ≡ map outcome_seen waiting.old.items ++ told_first (bound_of keymap.now) keys.old }
     ensures keys { keys.new ≡ after_first (bound_of keymap.now) keys.old }
     ensures fewer { length keys.new < length keys.old }
     ensures len { deque_len waiting.new ≡ deque_len waiting.old + 1 }
-    ensures capacity { deque_capacity waiting.new ≡ deque_capacity waiting.old }
+    ensures outcome_capacity { deque_capacity waiting.new ≡ deque_capacity waiting.old }
 {
     let remaining = keys.as_slice();
     let key = first_of(remaining);
@@ -116,10 +116,10 @@ pub(crate) fn give_decided<A: Allocator>(
     waiting: &mut VecDeque<Outcome<A>, A>,
 )
     requires { deque_len waiting.old + length keys.old ≤ deque_capacity waiting.old }
-    ensures waiting { map told waiting.new.items ≡ map told waiting.old.items ++ given (bound_of keymap.now) keys.old }
+    ensures waiting { map outcome_seen waiting.new.items ≡ map outcome_seen waiting.old.items ++ given (bound_of keymap.now) keys.old }
     ensures keys { keys.new ≡ left (bound_of keymap.now) keys.old }
     ensures short { length keys.new < 8 }
-    ensures capacity { deque_capacity waiting.new ≡ deque_capacity waiting.old }
+    ensures outcome_capacity { deque_capacity waiting.new ≡ deque_capacity waiting.old }
 {
     while !keys.is_empty() {
         if keymap.is_begun(keys.as_slice()) {
@@ -136,10 +136,10 @@ pub(crate) fn give_all<A: Allocator>(
     waiting: &mut VecDeque<Outcome<A>, A>,
 )
     requires { deque_len waiting.old + length keys.old ≤ deque_capacity waiting.old }
-    ensures waiting { map told waiting.new.items ≡ map told waiting.old.items ++ cut (bound_of keymap.now) keys.old }
+    ensures waiting { map outcome_seen waiting.new.items ≡ map outcome_seen waiting.old.items ++ cut_keys (bound_of keymap.now) keys.old }
     ensures keys { keys.new ≡ [] }
     ensures room { deque_len waiting.new ≤ deque_len waiting.old + length keys.old }
-    ensures capacity { deque_capacity waiting.new ≡ deque_capacity waiting.old }
+    ensures outcome_capacity { deque_capacity waiting.new ≡ deque_capacity waiting.old }
 {
     while !keys.is_empty() {
         give_first(keymap, keys, waiting);
@@ -225,8 +225,8 @@ impl<A: Allocator> Matcher<A> {
     /// }
     /// ```
     pub fn next(&mut self) -> Option<Outcome<A>>
-        ensures first { TakesFirst self.old.matching (option_map told result) self.new.matching }
-        ensures room { capacity self.new ≡ capacity self.old }
+        ensures first { TakesOutcome self.old.matching (option_map outcome_seen result) self.new.matching }
+        ensures room { outcome_capacity self.new ≡ outcome_capacity self.old }
     {
         self.waiting.pop_front()
     }
@@ -245,7 +245,7 @@ impl<A: Allocator> Matcher<A> {
     /// ```
     pub fn feed(&mut self, key: KeyEvent) -> Result<(), KeymapFault>
         ensures ok { OnOk result (IsFed self.old.matching key self.new.matching) }
-        ensures room { OnOk result (capacity self.new ≡ capacity (with_room 8 self.old)) }
+        ensures room { OnOk result (outcome_capacity self.new ≡ outcome_capacity (with_room 8 self.old)) }
         ensures err { OnErr result (self.new ≡ self.old) }
         ensures full { OnErr result (self.old.room < 8) }
         ensures fault { IfErr result (λ fault. fault ≡ Memory) }
@@ -270,7 +270,7 @@ impl<A: Allocator> Matcher<A> {
     /// ```
     pub fn flush(&mut self) -> Result<(), KeymapFault>
         ensures ok { OnOk result (IsFlushed self.old.matching self.new.matching) }
-        ensures room { OnOk result (capacity self.new ≡ capacity (with_room 7 self.old)) }
+        ensures room { OnOk result (outcome_capacity self.new ≡ outcome_capacity (with_room 7 self.old)) }
         ensures err { OnErr result (self.new ≡ self.old) }
         ensures full { OnErr result (self.old.room < 7) }
         ensures fault { IfErr result (λ fault. fault ≡ Memory) }

@@ -154,7 +154,7 @@ fn value_in<T: Copy>(table: &[(&'static str, T)], word: &str) -> Option<T>
 
 // A number below 256, after so much of it was read.
 fn number_after(n: u8, digits: &[u8]) -> Option<u8>
-    ensures { result ≡ spec.number_after n digits.now }
+    ensures { result ≡ spec.byte_after n digits.now }
 {
     match digits.split_first() {
         None => Some(n),
@@ -226,7 +226,7 @@ fn read_key(bits: u8, text: &str) -> Result<KeyEvent, ChordFault>
 
 // The parts of a chord, after modifiers of these bits.
 fn read_parts(bits: u8, text: &str) -> Result<KeyEvent, ChordFault>
-    ensures { result ≡ spec.read_parts bits (spec.parts text.now) }
+    ensures { result ≡ spec.read_parts bits (spec.hyphen_parts text.now) }
 {
     match text.split_once('-') {
         None => read_key(bits, text),
@@ -263,7 +263,7 @@ fn read_parts(bits: u8, text: &str) -> Result<KeyEvent, ChordFault>
 /// let save = keymap.bind(&[read_chord("ctrl-x")?, read_chord("ctrl-s")?], "save")?;
 /// ```
 pub fn read_chord(text: &str) -> Result<KeyEvent, ChordFault>
-    ensures { result ≡ spec.read text.now }
+    ensures { result ≡ spec.read_spelled text.now }
 {
     read_parts(0, text)
 }
@@ -333,7 +333,7 @@ fn part_of(code: KeyCode) -> Part
 pub struct Spelled(pub KeyEvent);
 
 impl fmt::Display for Spelled {
-    ghost output = { λ chord. Some (spec.spelled chord.0) };
+    ghost output = { λ chord. Some (spec.chord_text chord.0) };
 
     fn fmt<W: fmt::Write>(&self, f: &mut fmt::Formatter<W>) -> fmt::Result {
         let code = part_of(self.0.code);

@@ -7,7 +7,7 @@ ghost use Rattle.keymap.specs.Matching.{IsFed, IsFlushed};
 ghost use Rattle.keymap.specs.Taking as spec;
 ghost use Rattle.keymap.specs.Taking.{IsFollowed, IsPassed, TakesEvent};
 ghost use Rattle.keymap.specs.Told as Told;
-ghost use Rattle.keymap.specs.Told.{told};
+ghost use Rattle.keymap.specs.Told.{outcome_seen};
 ghost use Rattle.keymap.specs.inside.Giving.{TakesFirstOf, state_of};
 
 use crate::bindings::Keymap;
@@ -59,7 +59,7 @@ fn way_of<A: Allocator>(passes: bool, event: &Event<A>) -> Way
 // An event joins the outcomes that wait.
 fn pass_on<A: Allocator>(waiting: &mut VecDeque<Outcome<A>, A>, event: Event<A>)
     requires { deque_len waiting.old < deque_capacity waiting.old }
-    ensures event { map told waiting.new.items ≡ map told waiting.old.items ++ Told.Event (seen_event event) ∷ [] }
+    ensures event { map outcome_seen waiting.new.items ≡ map outcome_seen waiting.old.items ++ Told.Event (seen_event event) ∷ [] }
     ensures capacity { deque_capacity waiting.new ≡ deque_capacity waiting.old }
 {
     waiting.push_back_reserved(Outcome::Event(event));
@@ -135,7 +135,7 @@ pub(crate) fn flush<A: Allocator>(
 
 // Takes the first outcome that waits.
 pub(crate) fn pop<A: Allocator>(waiting: &mut VecDeque<Outcome<A>, A>) -> Option<Outcome<A>>
-    ensures first { TakesFirstOf (map told waiting.old.items) (option_map told result) (map told waiting.new.items) }
+    ensures first { TakesFirstOf (map outcome_seen waiting.old.items) (option_map outcome_seen result) (map outcome_seen waiting.new.items) }
     ensures none { IfNone result (deque_len waiting.new ≡ 0) }
     ensures capacity { deque_capacity waiting.new ≡ deque_capacity waiting.old }
 {

@@ -2,34 +2,34 @@
 use Rattle.std.proofs.Common.{◌≡◌, ℕ, true, false, List, [], ◌∷◌, refl, sym, ap, ◌∙◌}
 use Rattle.line_editor.specs.declared.places.Target.{Target}
 use Rattle.line_editor.specs.Splits.{Split}
-use Rattle.line_editor.specs.Edits.{cut, empty, erased, inserted, meeting, transposed}
+use Rattle.line_editor.specs.Edits.{cut_text, empty_line, erased, inserted, meeting, transposed}
 use Rattle.line_editor.specs.Shown.{is_shown}
-use Rattle.line_editor.specs.States.{EditorState, changed, erase_cut, fresh, kill_cut, transpose_at, type_char, typed, write}
+use Rattle.line_editor.specs.States.{EditorState, changed, erase_cut, fresh, kill_cut, transpose_at, type_char, after_typing, write}
 use Rattle.line_editor.specs.declared.limits.Limits.{Limits}
 
-pub fresh_of : (limits : Limits) (line unfinished : Split) (killed : List ℕ) (past undone history : List Split) → line ≡ empty → unfinished ≡ empty
+pub fresh_of : (limits : Limits) (line unfinished : Split) (killed : List ℕ) (past undone history : List Split) → line ≡ empty_line → unfinished ≡ empty_line
     → killed ≡ [] → past ≡ [] → undone ≡ [] → history ≡ []
     → record { limits = limits; line = line; killed = killed; past = past; undone = undone; history = history; back = 0; unfinished = unfinished; typing = false }
     ≡ fresh limits
 fresh_of limits line unfinished killed past undone history a b c d e f = rw (a, b, c, d, e, f) refl
 
-module _ (target : Target) (w : EditorState) (d : Split) (text : List ℕ) (same : w.line ≡ d) (e : text ≡ cut target d) where
-  is_cut : text ≡ cut target w.line
-  is_cut = e ∙ ap (cut target) (sym same)
+module _ (target : Target) (w : EditorState) (d : Split) (text : List ℕ) (same : w.line ≡ d) (e : text ≡ cut_text target d) where
+  is_cut : text ≡ cut_text target w.line
+  is_cut = e ∙ ap (cut_text target) (sym same)
 
-  pub erase_none : text ≡ [] → w ≡ erase_cut (cut target w.line) target w
+  pub erase_none : text ≡ [] → w ≡ erase_cut (cut_text target w.line) target w
   erase_none none = sym (ap (λ t. erase_cut t target w) (sym is_cut ∙ none))
 
-  pub kill_none : text ≡ [] → w ≡ kill_cut (cut target w.line) target w
+  pub kill_none : text ≡ [] → w ≡ kill_cut (cut_text target w.line) target w
   kill_none none = sym (ap (λ t. kill_cut t target w) (sym is_cut ∙ none))
 
   module _ (c : ℕ) (rest : List ℕ) (some : text ≡ c ∷ rest) (line : Split) (f : line ≡ erased target d) where
-    pub erase_some : changed line w ≡ erase_cut (cut target w.line) target w
+    pub erase_some : changed line w ≡ erase_cut (cut_text target w.line) target w
     erase_some =
         ap (λ (l : Split). changed l w) (f ∙ ap (erased target) (sym same)) ∙ sym (ap (λ t. erase_cut t target w) (sym is_cut ∙ some))
 
     pub kill_some : (killed : List ℕ) (v : EditorState) → killed ≡ text → v ≡ changed line w
-        → record v { killed = killed } ≡ kill_cut (cut target w.line) target w
+        → record v { killed = killed } ≡ kill_cut (cut_text target w.line) target w
     kill_some killed v k g =
         ap (λ (x : EditorState). record x { killed = killed }) (g ∙ ap (λ (l : Split). changed l w) (f ∙ ap (erased target) (sym same)))
         ∙ ap (λ t. record (changed (erased target w.line) w) { killed = t }) (k ∙ some)
@@ -45,9 +45,9 @@ module _ (w : EditorState) (d : Split) (text wanted : List ℕ) (same : w.line �
       ap (λ (l : Split). changed l w) (f ∙ ap (λ t. inserted t d) some ∙ ap (inserted (c ∷ rest)) (sym same)) ∙ sym (ap (λ t. write t w) (sym e ∙ some))
 
 pub type_some : (c : ℕ) (w : EditorState) (d line : Split) (text : List ℕ) → w.line ≡ d → is_shown c ≡ true → text ≡ c ∷ [] → line ≡ inserted text d
-    → typed line w ≡ type_char c w
+    → after_typing line w ≡ type_char c w
 type_some c w d line text same here one f =
-    ap (λ (l : Split). typed l w) (f ∙ ap (λ t. inserted t d) one ∙ ap (inserted (c ∷ [])) (sym same)) ∙ (rw here refl)
+    ap (λ (l : Split). after_typing l w) (f ∙ ap (λ t. inserted t d) one ∙ ap (inserted (c ∷ [])) (sym same)) ∙ (rw here refl)
 
 module _ (w : EditorState) (d : Split) (same : w.line ≡ d) where
   pub transpose_none : (meeting d.before d.after).before ≡ [] → w ≡ transpose_at (meeting w.line.before w.line.after).before w

@@ -13,12 +13,12 @@ use Rattle.line_editor.specs.declared.places.Target.{Target}
 use Rattle.line_editor.specs.declared.places.Target.TheVariants.{Forward}
 use Rattle.line_editor.specs.Bounded.{AreRoomy, IsBounded, IsHeld, IsKept, StaysBounded, all_done}
 use Rattle.line_editor.specs.Bounds.{is_too_long, room_of, size, written}
-use Rattle.line_editor.specs.Edits.{cut, empty, erased, inserted, meeting, settled, transposed}
-use Rattle.line_editor.specs.History.{ended, has_room, lines_of, loaded}
-use Rattle.line_editor.specs.Places.{place}
-use Rattle.line_editor.specs.Shown.{AreShown, is_shown, shown}
-use Rattle.line_editor.specs.Splits.{Split, text_of}
-use Rattle.line_editor.specs.States.{EditorState, after, changed, dropped, erase_cut, found, fresh, kill_cut, left_for, moved, newer_from, newer_line, newer_to, older_to, redo_to, remembered, searched_to, transpose_at, type_char, typed, undo_to, unfinished_at, write}
+use Rattle.line_editor.specs.Edits.{cut_text, empty_line, erased, inserted, meeting, settled, transposed}
+use Rattle.line_editor.specs.History.{loaded_line, has_room, lines_of, loaded}
+use Rattle.line_editor.specs.Places.{target_place}
+use Rattle.line_editor.specs.Shown.{AreShown, is_shown, shown_part}
+use Rattle.line_editor.specs.Splits.{Split, line_text}
+use Rattle.line_editor.specs.States.{EditorState, after, changed, dropped, erase_cut, found, fresh, kill_cut, left_for, moved, newer_from, newer_line, newer_to, older_to, redo_to, remembered, searched_to, transpose_at, type_char, after_typing, undo_to, unfinished_at, write}
 use Rattle.line_editor.specs.Tasks.{Task, Acts, Pastes, Accepts, LetsGo, Loads, Closes, Nothing, done, task_text}
 use Rattle.line_editor.proofs.Held.{Found, all-drop, all-get, all-take, cut-shown, end-after, found-held, held-erased, held-inserted, held-moved, held-same, held-settled, held-transposed}
 use Rattle.line_editor.proofs.Keeping.{keeps_text}
@@ -33,10 +33,10 @@ take-short (suc n) (d ∷ lines) = omega (arith, take-short n lines)
 pub size-some : (c : ℕ) (text : List ℕ) → 0 < size (c ∷ text)
 size-some c text = omega (arith, size-cons c text, encode_utf8_nonempty c)
 
-has_room_for : (text : List ℕ) (w : EditorState) → is_too_long text w ≡ false → size text ≤ w.limits.bytes - size (text_of w.line)
+has_room_for : (text : List ℕ) (w : EditorState) → is_too_long text w ≡ false → size text ≤ w.limits.bytes - size (line_text w.line)
 has_room_for text w h = ltb-false (room_of w) (size text) h
 
-held-empty : (limits : Limits) → IsHeld limits empty
+held-empty : (limits : Limits) → IsHeld limits empty_line
 held-empty limits = (refl, omega arith)
 
 fresh-bounded : (limits : Limits) → IsBounded (fresh limits)
@@ -77,7 +77,7 @@ module _ (w : EditorState) (h : IsBounded w) where
     steps = omega (arith, take-short w.limits.steps (w.line ∷ w.past));
   }
 
-  bounded-typed : (d : Split) → IsHeld w.limits d → IsBounded (typed d w)
+  bounded-typed : (d : Split) → IsHeld w.limits d → IsBounded (after_typing d w)
   bounded-typed d k = record {
     line = k;
     unfinished = h.unfinished;
@@ -101,11 +101,11 @@ module _ (w : EditorState) (h : IsBounded w) where
     steps = h.steps;
   }
 
-  bounded-type : (c : ℕ) → is_too_long (shown (c ∷ [])) w ≡ false → IsBounded (type_char c w)
+  bounded-type : (c : ℕ) → is_too_long (shown_part (c ∷ [])) w ≡ false → IsBounded (type_char c w)
   bounded-type c room =
       elim (cases_Bool (is_shown c)) [
         | inl here ↦ rw here (
-            let one : shown (c ∷ []) ≡ c ∷ [] = rw here refl in
+            let one : shown_part (c ∷ []) ≡ c ∷ [] = rw here refl in
             let P : List ℕ → Type 0 = λ t. is_too_long t w ≡ false in
             bounded-typed (inserted (c ∷ []) w.line)
             (held-inserted w.limits (c ∷ []) w.line h.line (and_from _ _ here refl) (has_room_for (c ∷ []) w (subst P one room))))
@@ -210,9 +210,9 @@ module _ (w : EditorState) (h : IsBounded w) where
 
   bounded-after : (action : Action) → is_too_long (written action w) w ≡ false → IsBounded (after action w)
   bounded-after (Insert c) room = bounded-type c room
-  bounded-after (Go target) room = bounded-moved (place target w.line) (held-moved w.limits target w.line h.line)
-  bounded-after (Erase target) room = bounded-erase (cut target w.line) target
-  bounded-after (Kill target) room = bounded-kill (cut target w.line) target (cut-shown w.limits target w.line h.line)
+  bounded-after (Go target) room = bounded-moved (target_place target w.line) (held-moved w.limits target w.line h.line)
+  bounded-after (Erase target) room = bounded-erase (cut_text target w.line) target
+  bounded-after (Kill target) room = bounded-kill (cut_text target w.line) target (cut-shown w.limits target w.line h.line)
   bounded-after Yank room = bounded-write w.killed h.killed room
   bounded-after Transpose room = bounded-transpose (meeting w.line.before w.line.after).before
   bounded-after Undo room = bounded-undo w.past h.past h.steps
@@ -238,31 +238,31 @@ module _ (w : EditorState) (h : IsBounded w) where
   }
 
   -- A line that isn't empty is kept with its cursor at its end.
-  kept-end : (c : ℕ) (text : List ℕ) → text_of w.line ≡ c ∷ text → IsKept w.limits (place (Forward Edge) w.line)
+  kept-end : (c : ℕ) (text : List ℕ) → line_text w.line ≡ c ∷ text → IsKept w.limits (target_place (Forward Edge) w.line)
   kept-end c text e =
-      let same : text_of (place (Forward Edge) w.line) ≡ c ∷ text = keeps_text (Forward Edge) w.line ∙ e in
+      let same : line_text (target_place (Forward Edge) w.line) ≡ c ∷ text = keeps_text (Forward Edge) w.line ∙ e in
       let P : List ℕ → Type 0 = λ t. 0 < size t in
       (held-moved w.limits (Forward Edge) w.line h.line, subst P (sym same) (size-some c text), end-after w.line)
 
-  bounded-remembered : (text : List ℕ) → text_of w.line ≡ text
+  bounded-remembered : (text : List ℕ) → line_text w.line ≡ text
       → IsBounded (record (dropped w) { history = remembered w.limits w.line text w.history })
   bounded-remembered [] e = bounded-ended w.history h.history h.lines
   bounded-remembered (c ∷ text) e =
-      let all = place (Forward Edge) w.line ∷ w.history in
+      let all = target_place (Forward Edge) w.line ∷ w.history in
       bounded-ended (take w.limits.lines all) (all-take w.limits (IsKept w.limits) w.limits.lines all (kept-end c text e, h.history))
       (take-short w.limits.lines all)
 
 -- ---- a history that is loaded
 
 -- A line that is loaded has the text.
-text_of-ended : (text : List ℕ) → text_of (ended text) ≡ text
+text_of-ended : (text : List ℕ) → line_text (loaded_line text) ≡ text
 text_of-ended text = append-nil (reverse (reverse text)) ∙ reverse-reverse text
 
-kept-ended : (limits : Limits) (text : List ℕ) → AreShown text → has_room limits text ≡ true → IsKept limits (ended text)
+kept-ended : (limits : Limits) (text : List ℕ) → AreShown text → has_room limits text ≡ true → IsKept limits (loaded_line text)
 kept-ended limits text k room =
     let parts = and_parts _ _ room in
     let P : List ℕ → Type 0 = λ t. 0 < size t in (
-      held-same limits (text_of (ended text)) text (text_of-ended text) (k, leb-true (size text) limits.bytes parts.1),
+      held-same limits (line_text (loaded_line text)) text (text_of-ended text) (k, leb-true (size text) limits.bytes parts.1),
       subst P (sym (text_of-ended text)) (ltb-true 0 (size text) parts.0),
       refl,
     )
@@ -276,23 +276,23 @@ all-reverse P [] h = tt
 all-reverse P (d ∷ lines) h =
     subst (AllByRecursion P) (sym (reverse-append (d ∷ []) lines)) (all-append P (reverse lines) (d ∷ []) (all-reverse P lines h.1) (h.0, tt))
 
-all-loaded : (limits : Limits) (lines : List (List ℕ)) → AllByRecursion (IsKept limits) (map ended (filter (has_room limits) (map shown lines)))
+all-loaded : (limits : Limits) (lines : List (List ℕ)) → AllByRecursion (IsKept limits) (map loaded_line (filter (has_room limits) (map shown_part lines)))
 all-loaded limits [] = tt
 all-loaded limits (line ∷ lines) =
-    elim (cases_Bool (has_room limits (shown line))) [
-      | inl here ↦ rw here (kept-ended limits (shown line) (shown-filter line) here, all-loaded limits lines)
+    elim (cases_Bool (has_room limits (shown_part line))) [
+      | inl here ↦ rw here (kept-ended limits (shown_part line) (shown-filter line) here, all-loaded limits lines)
       | inr not_here ↦ rw not_here (all-loaded limits lines)
     ]
 
 bounded-loaded : (w : EditorState) → IsBounded w → (text : List ℕ) → IsBounded (loaded text w)
 bounded-loaded w h text =
-    let all = reverse (map ended (filter (has_room w.limits) (map shown (lines_of text)))) in
+    let all = reverse (map loaded_line (filter (has_room w.limits) (map shown_part (lines_of text)))) in
     record {
       line = h.line;
       unfinished = h.unfinished;
       past = h.past;
       undone = h.undone;
-      history = all-take w.limits (IsKept w.limits) w.limits.lines all (all-reverse (IsKept w.limits) (map ended (filter (has_room w.limits) (map shown (lines_of text)))) (all-loaded w.limits (lines_of text)));
+      history = all-take w.limits (IsKept w.limits) w.limits.lines all (all-reverse (IsKept w.limits) (map loaded_line (filter (has_room w.limits) (map shown_part (lines_of text)))) (all-loaded w.limits (lines_of text)));
       killed = h.killed;
       lines = take-short w.limits.lines all;
       steps = h.steps;
@@ -300,8 +300,8 @@ bounded-loaded w h text =
 
 bounded-done : (task : Task) (w : EditorState) → IsBounded w → is_too_long (task_text task w) w ≡ false → IsBounded (done task w)
 bounded-done (Acts action) w h room = bounded-after w h action room
-bounded-done (Pastes text) w h room = bounded-write w h (shown text) (shown-filter text) room
-bounded-done Accepts w h room = bounded-remembered w h (text_of w.line) refl
+bounded-done (Pastes text) w h room = bounded-write w h (shown_part text) (shown-filter text) room
+bounded-done Accepts w h room = bounded-remembered w h (line_text w.line) refl
 bounded-done LetsGo w h room = bounded-ended w h w.history h.history h.lines
 bounded-done (Loads text) w h room = bounded-loaded w h text
 bounded-done Closes w h room = h

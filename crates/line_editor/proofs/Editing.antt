@@ -8,8 +8,8 @@ use Rattle.line_editor.specs.declared.places.Stop.TheVariants.{Cluster}
 use Rattle.line_editor.specs.declared.places.Target.{Target}
 use Rattle.line_editor.specs.declared.places.Target.TheVariants.{Back, Forward}
 use Rattle.line_editor.specs.Splits.{Split, split_at}
-use Rattle.line_editor.specs.Edits.{cut, end_of, erased, from_to, joined, meeting, start_of, transposed}
-use Rattle.line_editor.specs.Places.{back_from, is_between, place}
+use Rattle.line_editor.specs.Edits.{cut_text, reach_end, erased, from_to, line_with, meeting, start_of, transposed}
+use Rattle.line_editor.specs.Places.{back_from, is_between, target_place}
 use Rattle.line_editor.proofs.Settling.{chars-slice_range}
 use Rattle.line_editor.proofs.Stepping.{chars_from-end}
 
@@ -17,30 +17,30 @@ view_of : (text inside : List ℕ) (at : ℕ) (d : Split) → text ≡ inside �
 view_of text inside at d e v = let P : List ℕ → Type 0 = λ t. split_at t at ≡ d in subst P (sym e) v
 
 module _ (target : Target) (text inside : List ℕ) (from to at : ℕ) (d : Split) (e : text ≡ inside) (v : split_at inside at ≡ d)
-    (start : split_at text from ≡ start_of target (split_at text at)) (end : split_at text to ≡ end_of target (split_at text at)) where
-  pub erased_as : (with : List ℕ) → with ≡ [] → joined (split_at text from) (chars with) (split_at text to) ≡ erased target d
+    (start : split_at text from ≡ start_of target (split_at text at)) (end : split_at text to ≡ reach_end target (split_at text at)) where
+  pub erased_as : (with : List ℕ) → with ≡ [] → line_with (split_at text from) (chars with) (split_at text to) ≡ erased target d
   erased_as with none =
       let same = view_of text inside at d e v in
       let first : split_at text from ≡ start_of target d = start ∙ ap (start_of target) same in
-      let last : split_at text to ≡ end_of target d = end ∙ ap (end_of target) same in
-      ap (λ (p : Split). joined p (chars with) (split_at text to)) first
-      ∙ ap (λ (q : Split). joined (start_of target d) (chars with) q) last
-      ∙ ap (λ t. joined (start_of target d) t (end_of target d)) (ap chars none ∙ chars-nil)
+      let last : split_at text to ≡ reach_end target d = end ∙ ap (reach_end target) same in
+      ap (λ (p : Split). line_with p (chars with) (split_at text to)) first
+      ∙ ap (λ (q : Split). line_with (start_of target d) (chars with) q) last
+      ∙ ap (λ t. line_with (start_of target d) t (reach_end target d)) (ap chars none ∙ chars-nil)
 
   pub cut_as : IsUtf8 text → IsCharBoundary text from → IsCharBoundary text to → from ≤ to
-      → (part : List ℕ) → part ≡ slice_range text from to → chars part ≡ cut target d
+      → (part : List ℕ) → part ≡ slice_range text from to → chars part ≡ cut_text target d
   cut_as u a b le part f =
       let same = view_of text inside at d e v in
       ap chars f ∙ chars-slice_range text from to u a b le
       ∙ ap (λ (p : Split). from_to p (split_at text to)) (start ∙ ap (start_of target) same)
-      ∙ ap (λ (q : Split). from_to (start_of target d) q) (end ∙ ap (end_of target) same)
+      ∙ ap (λ (q : Split). from_to (start_of target d) q) (end ∙ ap (reach_end target) same)
 
 -- Two clusters meet at the cursor if something is behind it.
 pub meeting_here : (before after : List ℕ) → (after ≡ [] → ⊥) → meeting before after ≡ record { before = before; after = after }
 meeting_here before [] some = absurd (some refl)
 meeting_here before (c ∷ after) some = refl
 
-pub meeting_end : (text : List ℕ) (at : ℕ) (m : Split) → length text ≤ at → m ≡ place (Back Cluster) (split_at text at)
+pub meeting_end : (text : List ℕ) (at : ℕ) (m : Split) → length text ≤ at → m ≡ target_place (Back Cluster) (split_at text at)
     → m ≡ meeting (chars_before text at) (chars_from text at)
 meeting_end text at m h e =
     let none = chars_from-end text at h in
@@ -51,8 +51,8 @@ pub transposed_as : (text inside with : List ℕ) (from middle to at : ℕ) (d :
     → IsUtf8 text → IsCharBoundary text from → IsCharBoundary text middle → IsCharBoundary text to → from ≤ middle → middle ≤ to
     → with ≡ slice_range text middle to ++ slice_range text from middle
     → split_at text middle ≡ meeting (chars_before text at) (chars_from text at)
-    → split_at text from ≡ place (Back Cluster) (split_at text middle) → split_at text to ≡ place (Forward Cluster) (split_at text middle)
-    → joined (split_at text from) (chars with) (split_at text to) ≡ transposed d
+    → split_at text from ≡ target_place (Back Cluster) (split_at text middle) → split_at text to ≡ target_place (Forward Cluster) (split_at text middle)
+    → line_with (split_at text from) (chars with) (split_at text to) ≡ transposed d
 transposed_as text inside with from middle to at d e v u a b z le more f m p q =
     let same = view_of text inside at d e v in
     let meets : split_at text middle ≡ meeting d.before d.after = m ∙ ap (λ (x : Split). meeting x.before x.after) same in
@@ -60,10 +60,10 @@ transposed_as text inside with from middle to at d e v u a b z le more f m p q =
     ap chars f ∙ chars-append (slice_range text middle to) (slice_range text from middle) (IsUtf8-between text middle to u more b z)
     ∙ ap (λ t. t ++ chars (slice_range text from middle)) (chars-slice_range text middle to u b z more)
     ∙ ap (λ t. from_to (split_at text middle) (split_at text to) ++ t) (chars-slice_range text from middle u a b le) in
-    ap (λ t. joined (split_at text from) t (split_at text to)) parts
-    ∙ ap (λ (x : Split). joined x (from_to (split_at text middle) (split_at text to) ++ from_to x (split_at text middle)) (split_at text to)) p
-    ∙ ap (λ (x : Split). joined (place (Back Cluster) (split_at text middle)) (from_to (split_at text middle) x ++ from_to (place (Back Cluster) (split_at text middle)) (split_at text middle)) x) q
-    ∙ ap (λ (x : Split). joined (place (Back Cluster) x) (from_to x (place (Forward Cluster) x) ++ from_to (place (Back Cluster) x) x) (place (Forward Cluster) x)) meets
+    ap (λ t. line_with (split_at text from) t (split_at text to)) parts
+    ∙ ap (λ (x : Split). line_with x (from_to (split_at text middle) (split_at text to) ++ from_to x (split_at text middle)) (split_at text to)) p
+    ∙ ap (λ (x : Split). line_with (target_place (Back Cluster) (split_at text middle)) (from_to (split_at text middle) x ++ from_to (target_place (Back Cluster) (split_at text middle)) (split_at text middle)) x) q
+    ∙ ap (λ (x : Split). line_with (target_place (Back Cluster) x) (from_to x (target_place (Forward Cluster) x) ++ from_to (target_place (Back Cluster) x) x) (target_place (Forward Cluster) x)) meets
 
 -- Something is behind a place before the end.
 pub some_after : (text : List ℕ) (at : ℕ) → IsUtf8 text → IsCharBoundary text at → at < length text → chars_from text at ≡ [] → ⊥

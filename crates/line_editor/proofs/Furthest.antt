@@ -5,15 +5,15 @@ use Rattle.std.proofs.lemmas.List.{length-reverse, reverse-append, reverse-rever
 use Rattle.line_editor.specs.Edits.{IsSettled}
 use Rattle.line_editor.specs.Splits.{Split}
 use Rattle.line_editor.specs.Places.{is_between}
-use Rattle.line_editor.specs.Views.{Start, columns, columns_of, furthest, last_seen, place_or, start, start_or}
+use Rattle.line_editor.specs.Views.{Start, width_of, columns_of, furthest, last_seen, place_or, start, start_or}
 
-pub columns-append : (a b : List ℕ) → columns (a ++ b) ≡ columns a + columns b
+pub columns-append : (a b : List ℕ) → width_of (a ++ b) ≡ width_of a + width_of b
 columns-append [] b = omega arith
 columns-append (c ∷ a) b = omega (arith, columns-append a b)
 
-pub columns-reverse : (text : List ℕ) → columns (reverse text) ≡ columns text
+pub columns-reverse : (text : List ℕ) → width_of (reverse text) ≡ width_of text
 columns-reverse [] = refl
-columns-reverse (c ∷ text) = ap columns (reverse-append (c ∷ []) text) ∙ omega (arith, columns-append (reverse text) (c ∷ []), columns-reverse text)
+columns-reverse (c ∷ text) = ap width_of (reverse-append (c ∷ []) text) ∙ omega (arith, columns-append (reverse text) (c ∷ []), columns-reverse text)
 
 -- ---- before the cursor
 
@@ -41,7 +41,7 @@ furthest-back room used (c ∷ before) after best n a b =
 -- The furthest start is as far back as any place between clusters from which there is room.
 furthest-far : (room used : ℕ) (between before after : List ℕ) (best : Start)
     → (IsSettled (record { before = between ++ before; after = after }) → best.place ≡ record { before = between ++ before; after = after })
-    → IsSettled (record { before = before; after = reverse between ++ after }) → used + columns between ≤ room
+    → IsSettled (record { before = before; after = reverse between ++ after }) → used + width_of between ≤ room
     → length (furthest room used (between ++ before) after best).place.before ≤ length before
 furthest-far room used [] before after best b h le =
     let here = b h in
@@ -55,7 +55,7 @@ furthest-far room used (c ∷ between) before after best b h le =
     rw room_for (furthest-far room (used + columns_of c) between before (c ∷ after) (start_or s best) (or-here s best) (subst P same h) (omega (arith, le)))
 
 pub start-far : (room : ℕ) (d : Split) (front part : List ℕ) → reverse d.before ≡ front ++ part → is_between (reverse front) (part ++ d.after) ≡ true
-    → columns part ≤ room - 1 → length (start room d).place.before ≤ length front
+    → width_of part ≤ room - 1 → length (start room d).place.before ≤ length front
 start-far room d front part e h le =
     let split : d.before ≡ reverse part ++ reverse front = sym (reverse-reverse d.before) ∙ ap reverse e ∙ reverse-append front part in
     let P : List ℕ → Type 0 = λ t. length (furthest (room - 1) 0 t d.after (record { place = record { before = t; after = d.after }; column = 0 })).place.before ≤ length (reverse front) in
@@ -89,7 +89,7 @@ last_seen-on room used before (c ∷ after) best n a b =
 -- The last place seen is as far on as any place between clusters up to which there is room.
 pub last_seen-far : (room used : ℕ) (before part after : List ℕ) (best : Split)
     → (IsSettled (record { before = before; after = part ++ after }) → best ≡ record { before = before; after = part ++ after })
-    → IsSettled (record { before = reverse part ++ before; after = after }) → used + columns part ≤ room
+    → IsSettled (record { before = reverse part ++ before; after = after }) → used + width_of part ≤ room
     → length (last_seen room used before (part ++ after) best).after ≤ length after
 last_seen-far room used before [] after best b h le =
     let here = b h in

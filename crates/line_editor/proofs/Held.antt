@@ -10,11 +10,11 @@ use Rattle.line_editor.specs.declared.places.Target.{Target}
 use Rattle.line_editor.specs.declared.places.Target.TheVariants.{Back, Forward}
 use Rattle.line_editor.specs.Bounded.{IsHeld, IsKept}
 use Rattle.line_editor.specs.Bounds.{size}
-use Rattle.line_editor.specs.Edits.{cut, end_of, erased, from_to, inserted, meeting, settled, start_of, transposed}
-use Rattle.line_editor.specs.Places.{place, stops}
+use Rattle.line_editor.specs.Edits.{cut_text, reach_end, erased, from_to, inserted, meeting, settled, start_of, transposed}
+use Rattle.line_editor.specs.Places.{target_place, stops}
 use Rattle.line_editor.specs.Shown.{AreShown}
-use Rattle.line_editor.specs.Splits.{Split, ahead, text_of}
-use Rattle.line_editor.specs.States.{behind_front, first_with, or_else}
+use Rattle.line_editor.specs.Splits.{Split, ahead, line_text}
+use Rattle.line_editor.specs.States.{behind_front, first_with, rest_or}
 use Rattle.line_editor.proofs.Keeping.{cuts_out, ends-IsFrom, from_to-IsFrom, keeps_text, text_of-IsFrom, text_of-joined, writes_at}
 use Rattle.line_editor.proofs.Showing.{shown-append, shown-back, shown-front}
 
@@ -29,13 +29,13 @@ module _ (limits : Limits) where
   pub held-same : (a b : List ℕ) → a ≡ b → Holds limits b → Holds limits a
   held-same a b e h = subst (Holds limits) (sym e) h
 
-  pub held-moved : (target : Target) (d : Split) → IsHeld limits d → IsHeld limits (place target d)
-  held-moved target d h = held-same (text_of (place target d)) (text_of d) (keeps_text target d) h
+  pub held-moved : (target : Target) (d : Split) → IsHeld limits d → IsHeld limits (target_place target d)
+  held-moved target d h = held-same (line_text (target_place target d)) (line_text d) (keeps_text target d) h
 
-  pub held-inserted : (text : List ℕ) (d : Split) → IsHeld limits d → AreShown text → size text ≤ limits.bytes - size (text_of d) → IsHeld limits (inserted text d)
+  pub held-inserted : (text : List ℕ) (d : Split) → IsHeld limits d → AreShown text → size text ≤ limits.bytes - size (line_text d) → IsHeld limits (inserted text d)
   held-inserted text d h k few =
       let front = reverse d.before in
-      held-same (text_of (inserted text d)) (front ++ (text ++ d.after)) (writes_at text d) (
+      held-same (line_text (inserted text d)) (front ++ (text ++ d.after)) (writes_at text d) (
         shown-append front (text ++ d.after) (shown-front front d.after h.0) (shown-append text d.after k (shown-back front d.after h.0)),
         omega (arith, few, h.1, size-append front (text ++ d.after), size-append text d.after, size-append front d.after),
       )
@@ -43,32 +43,32 @@ module _ (limits : Limits) where
   pub held-erased : (target : Target) (d : Split) → IsHeld limits d → IsHeld limits (erased target d)
   held-erased target d h =
       let front = reverse (start_of target d).before in
-      let back = (end_of target d).after in
-      let piece = cut target d in
+      let back = (reach_end target d).after in
+      let piece = cut_text target d in
       let out = cuts_out target d in
-      let all : Holds limits (front ++ (piece ++ back)) = held-same (front ++ (piece ++ back)) (text_of d) (sym out.was) h in
-      held-same (text_of (erased target d)) (front ++ back) out.stays (
+      let all : Holds limits (front ++ (piece ++ back)) = held-same (front ++ (piece ++ back)) (line_text d) (sym out.was) h in
+      held-same (line_text (erased target d)) (front ++ back) out.stays (
         shown-append front back (shown-front front (piece ++ back) all.0) (shown-back piece back (shown-back front (piece ++ back) all.0)),
         omega (arith, all.1, size-append front (piece ++ back), size-append piece back, size-append front back),
       )
 
-  pub cut-shown : (target : Target) (d : Split) → IsHeld limits d → AreShown (cut target d)
+  pub cut-shown : (target : Target) (d : Split) → IsHeld limits d → AreShown (cut_text target d)
   cut-shown target d h =
       let front = reverse (start_of target d).before in
-      let back = (end_of target d).after in
-      let piece = cut target d in
-      let all : Holds limits (front ++ (piece ++ back)) = held-same (front ++ (piece ++ back)) (text_of d) (sym (cuts_out target d).was) h in
+      let back = (reach_end target d).after in
+      let piece = cut_text target d in
+      let all : Holds limits (front ++ (piece ++ back)) = held-same (front ++ (piece ++ back)) (line_text d) (sym (cuts_out target d).was) h in
       shown-front piece back (shown-back front (piece ++ back) all.0)
 
-  meeting-text : (before after : List ℕ) → text_of (meeting before after) ≡ reverse before ++ after
+  meeting-text : (before after : List ℕ) → line_text (meeting before after) ≡ reverse before ++ after
   meeting-text before [] = keeps_text (Back Cluster) (record { before = before; after = [] })
   meeting-text before (c ∷ after) = refl
 
   pub held-transposed : (d : Split) → IsHeld limits d → IsHeld limits (transposed d)
   held-transposed d h =
       let m = meeting d.before d.after in
-      let p = place (Back Cluster) m in
-      let q = place (Forward Cluster) m in
+      let p = target_place (Back Cluster) m in
+      let q = target_place (Forward Cluster) m in
       let left = ends-IsFrom (Back Cluster) m in
       let right = ends-IsFrom (Forward Cluster) m in
       let x = from_to p m in
@@ -76,15 +76,15 @@ module _ (limits : Limits) where
       let front = reverse p.before in
       let first : x ≡ left.0 = from_to-IsFrom p m left.0 left.1 in
       let second : y ≡ right.0 = from_to-IsFrom m q right.0 right.1 in
-      let text : text_of m ≡ front ++ (x ++ (y ++ q.after)) =
+      let text : line_text m ≡ front ++ (x ++ (y ++ q.after)) =
       text_of-IsFrom p m left.0 left.1
       ∙ ap (λ t. front ++ t) (left.1.after ∙ ap (λ t. t ++ m.after) (sym first))
       ∙ ap (λ t. front ++ (x ++ t)) (right.1.after ∙ ap (λ t. t ++ q.after) (sym second)) in
       let all : Holds limits (front ++ (x ++ (y ++ q.after))) =
-      held-same (front ++ (x ++ (y ++ q.after))) (text_of d) (sym text ∙ meeting-text d.before d.after) h in
+      held-same (front ++ (x ++ (y ++ q.after))) (line_text d) (sym text ∙ meeting-text d.before d.after) h in
       let behind = shown-back front (x ++ (y ++ q.after)) all.0 in
       let later = shown-back x (y ++ q.after) behind in
-      held-same (text_of (transposed d)) (front ++ ((y ++ x) ++ q.after)) (text_of-joined p (y ++ x) q) (
+      held-same (line_text (transposed d)) (front ++ ((y ++ x) ++ q.after)) (text_of-joined p (y ++ x) q) (
         shown-append front ((y ++ x) ++ q.after) (shown-front front (x ++ (y ++ q.after)) all.0)
             (shown-append (y ++ x) q.after (shown-append y x (shown-front y q.after later) (shown-front x (y ++ q.after) behind)) (shown-back y q.after later)),
         omega (
@@ -137,32 +137,32 @@ module _ (limits : Limits) where
   Found front found = Holds limits (front ++ found.1)
 
   or-else : (front : List ℕ) (o : Option (List ℕ)) (n : ℕ) (other : Option (ℕ × List ℕ)) → IfSome o (λ rest. Holds limits (front ++ rest))
-      → IfSome other (Found front) → IfSome (or_else o n other) (Found front)
+      → IfSome other (Found front) → IfSome (rest_or o n other) (Found front)
   or-else front (Some rest) n other h k = h
   or-else front None n other h k = k
 
   pub found-held : (front : List ℕ) (passed : ℕ) (lines : List Split) → AllByRecursion (IsKept limits) lines → IfSome (first_with front passed lines) (Found front)
   found-held front passed [] h = tt
   found-held front passed (d ∷ lines) h =
-      or-else front (behind_front front (text_of d)) (passed + 1) (first_with front (passed + 1) lines)
-      (some-weaker (λ rest. text_of d ≡ front ++ rest) (λ rest. Holds limits (front ++ rest)) (behind_front front (text_of d))
-      (λ rest e. held-same (front ++ rest) (text_of d) (sym e) h.0.0) (behind-front front (text_of d)))
+      or-else front (behind_front front (line_text d)) (passed + 1) (first_with front (passed + 1) lines)
+      (some-weaker (λ rest. line_text d ≡ front ++ rest) (λ rest. Holds limits (front ++ rest)) (behind_front front (line_text d))
+      (λ rest e. held-same (front ++ rest) (line_text d) (sym e) h.0.0) (behind-front front (line_text d)))
       (found-held front (passed + 1) lines h.1)
 
   pub held-settled : (before after : List ℕ) → Holds limits (reverse before ++ after) → IsHeld limits (settled (record { before = before; after = after }))
   held-settled before after h =
       let p : Split = record { before = before; after = [] } in
       let q : Split = record { before = []; after = after } in
-      held-same (text_of (settled (record { before = before; after = after }))) (reverse before ++ after) (text_of-joined p [] q) h
+      held-same (line_text (settled (record { before = before; after = after }))) (reverse before ++ after) (text_of-joined p [] q) h
 
 -- The end of a line has nothing behind it.
 pub edge-end : (before after : List ℕ) → (ahead (stops Edge) before after).after ≡ []
 edge-end before [] = refl
 edge-end before (c ∷ after) = edge-end (c ∷ before) after
 
-pub end-after : (d : Split) → (place (Forward Edge) d).after ≡ []
+pub end-after : (d : Split) → (target_place (Forward Edge) d).after ≡ []
 end-after d = by d.before d.after
   where
-    by : (before after : List ℕ) → (place (Forward Edge) (record { before = before; after = after })).after ≡ []
+    by : (before after : List ℕ) → (target_place (Forward Edge) (record { before = before; after = after })).after ≡ []
     by before [] = refl
     by before (c ∷ after) = edge-end (c ∷ before) after

@@ -5,8 +5,8 @@ use Rattle.std.proofs.lemmas.List.{length-reverse, reverse-append, reverse-rever
 use Rattle.unicode_segmentation.specs.Segments.{Rule}
 use Rattle.line_editor.specs.declared.places.Target.{Target}
 use Rattle.line_editor.specs.declared.places.Target.TheVariants.{Back, Forward}
-use Rattle.line_editor.specs.Splits.{Split, ahead, behind, text_of}
-use Rattle.line_editor.specs.Edits.{cut, end_of, erased, from_to, inserted, joined, start_of}
+use Rattle.line_editor.specs.Splits.{Split, ahead, last_stop, line_text}
+use Rattle.line_editor.specs.Edits.{cut_text, reach_end, erased, from_to, inserted, line_with, start_of}
 use Rattle.line_editor.specs.Laws.{CutsOut, KeepsText, WritesAt, YanksBack}
 use Rattle.line_editor.specs.Places.{back_from, is_between, forward_from, stops}
 use Rattle.line_editor.proofs.Stepping.{ahead_here}
@@ -45,7 +45,7 @@ IsFrom-last p c part before after h = record {
   after = h.after ∙ sym (append_assoc part (c ∷ []) after);
 }
 
-pub behind-IsFrom : (r : Rule) (before after : List ℕ) → (part : List ℕ) × IsFrom (behind r before after) (record { before = before; after = after }) part
+pub behind-IsFrom : (r : Rule) (before after : List ℕ) → (part : List ℕ) × IsFrom (last_stop r before after) (record { before = before; after = after }) part
 behind-IsFrom r [] after = ([], IsFrom-none _)
 behind-IsFrom r (c ∷ before) after =
     elim (cases_Bool (r (c ∷ before) after)) [
@@ -68,12 +68,12 @@ forward_from-IsFrom r before (c ∷ after) =
     (c ∷ rest.0, IsFrom-one (record { before = before; after = after }) _ c rest.0 before rest.1)
 
 -- From the earlier to the later of the cursor and a target.
-pub ends-IsFrom : (target : Target) (d : Split) → (part : List ℕ) × IsFrom (start_of target d) (end_of target d) part
+pub ends-IsFrom : (target : Target) (d : Split) → (part : List ℕ) × IsFrom (start_of target d) (reach_end target d) part
 ends-IsFrom (Back stop) d = back_from-IsFrom (stops stop) d.before d.after
 ends-IsFrom (Forward stop) d = forward_from-IsFrom (stops stop) d.before d.after
 
 -- Both places have one text.
-pub text_of-IsFrom : (p q : Split) (part : List ℕ) → IsFrom p q part → text_of q ≡ text_of p
+pub text_of-IsFrom : (p q : Split) (part : List ℕ) → IsFrom p q part → line_text q ≡ line_text p
 text_of-IsFrom p q part h =
     ap (λ t. reverse t ++ q.after) h.before
     ∙ ap (λ t. t ++ q.after) (reverse-append (reverse part) p.before ∙ ap (λ t. reverse p.before ++ t) (reverse-reverse part))
@@ -92,7 +92,7 @@ from_to-IsFrom p q part h =
     ap (take (length q.before - length p.before)) h.after ∙ take_at part q.after _ count
 
 -- The cursor's way on to the end of its cluster keeps the text.
-pub text_of-joined : (p : Split) (text : List ℕ) (q : Split) → text_of (joined p text q) ≡ reverse p.before ++ (text ++ q.after)
+pub text_of-joined : (p : Split) (text : List ℕ) (q : Split) → line_text (line_with p text q) ≡ reverse p.before ++ (text ++ q.after)
 text_of-joined p text q =
     let rest = ahead-IsFrom is_between (reverse text ++ p.before) q.after in
     text_of-IsFrom _ _ rest.0 rest.1
@@ -103,15 +103,15 @@ pub cuts_out : (target : Target) (d : Split) → CutsOut target d
 cuts_out target d =
     let ends = ends-IsFrom target d in
     let p = start_of target d in
-    let q = end_of target d in
-    let part : cut target d ≡ ends.0 = from_to-IsFrom p q ends.0 ends.1 in
-    let text : text_of d ≡ text_of p = start-text target d in
+    let q = reach_end target d in
+    let part : cut_text target d ≡ ends.0 = from_to-IsFrom p q ends.0 ends.1 in
+    let text : line_text d ≡ line_text p = start-text target d in
     record {
       was = text ∙ ap (λ t. reverse p.before ++ t) (ends.1.after ∙ ap (λ t. t ++ q.after) (sym part));
       stays = text_of-joined p [] q;
     }
   where
-    start-text : (target : Target) (d : Split) → text_of d ≡ text_of (start_of target d)
+    start-text : (target : Target) (d : Split) → line_text d ≡ line_text (start_of target d)
     start-text (Back stop) d = sym (keeps_text (Back stop) d)
     start-text (Forward stop) d = refl
 
@@ -121,9 +121,9 @@ writes_at text d = text_of-joined d text d
 pub yanks_back : (target : Target) (d : Split) → YanksBack target d
 yanks_back target d between =
     let p = start_of target d in
-    let q = end_of target d in
-    let part = cut target d in
+    let q = reach_end target d in
+    let part = cut_text target d in
     let left : erased target d ≡ record { before = p.before; after = q.after } = ahead_here is_between p.before q.after between in
-    ap (λ (x : Split). text_of (inserted part x)) left
+    ap (λ (x : Split). line_text (inserted part x)) left
     ∙ writes_at part (record { before = p.before; after = q.after })
     ∙ sym (cuts_out target d).was

@@ -14,9 +14,9 @@ use Rattle.unicode_segmentation.specs.Segments.{chars_before, chars_from}
 use Rattle.line_editor.specs.declared.limits.Limits.{Limits}
 use Rattle.line_editor.specs.Bounds.{size}
 use Rattle.line_editor.specs.Edits.{settled}
-use Rattle.line_editor.specs.History.{ended, has_room, lines_of, saved, with_line}
-use Rattle.line_editor.specs.Shown.{shown}
-use Rattle.line_editor.specs.Splits.{Split, text_of}
+use Rattle.line_editor.specs.History.{loaded_line, has_room, lines_of, saved, with_line}
+use Rattle.line_editor.specs.Shown.{shown_part}
+use Rattle.line_editor.specs.Splits.{Split, line_text}
 use Rattle.line_editor.specs.inside.Lines.{IsFirstLine}
 use Rattle.line_editor.proofs.Searching.{from_line, past_lines}
 use Rattle.line_editor.proofs.Settling.{text_of-split_at}
@@ -79,14 +79,14 @@ pub line_loaded : (limits : Limits) (text all : List ℕ) (line : Split) (histor
     → line ≡ settled (record { before = reverse (chars text); after = chars [] }) → has_room limits all ≡ true
     → take limits.lines (line ∷ history) ≡ with_line limits all history
 line_loaded limits text all line history e f room =
-    let end : line ≡ ended all = f ∙ ap (λ t. settled (record { before = reverse (chars text); after = t })) chars-nil ∙ ap ended e in
+    let end : line ≡ loaded_line all = f ∙ ap (λ t. settled (record { before = reverse (chars text); after = t })) chars-nil ∙ ap loaded_line e in
     ap (λ (d : Split). take limits.lines (d ∷ history)) end ∙ (rw room refl)
 
 -- ---- the lines of a text
 
 -- What lines come to, the newest first.
 abbrev pub kept : Limits → List (List ℕ) → List Split
-kept limits lines = reverse (map ended (filter (has_room limits) (map shown lines)))
+kept limits lines = reverse (map loaded_line (filter (has_room limits) (map shown_part lines)))
 
 -- What the lines of a text come to in front of a history.
 abbrev pub loads : Limits → List Split → List ℕ → List Split
@@ -99,37 +99,37 @@ take_within (suc n) m [] ys le = take-take (suc n) m ys le
 take_within (suc n) m (x ∷ xs) ys le = ap (λ t. x ∷ t) (take_within n m xs ys (omega (arith, le)))
 
 kept_cons : (limits : Limits) (line : List ℕ) (lines : List (List ℕ)) (history : List Split)
-    → take limits.lines (kept limits (line ∷ lines) ++ history) ≡ take limits.lines (kept limits lines ++ with_line limits (shown line) history)
+    → take limits.lines (kept limits (line ∷ lines) ++ history) ≡ take limits.lines (kept limits lines ++ with_line limits (shown_part line) history)
 kept_cons limits line lines history =
-    elim (cases_Bool (has_room limits (shown line))) [
+    elim (cases_Bool (has_room limits (shown_part line))) [
       | inl here ↦ rw here (
-          ap (λ t. take limits.lines (t ++ history)) (reverse-append (ended (shown line) ∷ []) (map ended (filter (has_room limits) (map shown lines))))
-          ∙ ap (take limits.lines) (append_assoc (kept limits lines) (ended (shown line) ∷ []) history)
-          ∙ sym (take_within limits.lines limits.lines (kept limits lines) (ended (shown line) ∷ history) (omega arith)))
+          ap (λ t. take limits.lines (t ++ history)) (reverse-append (loaded_line (shown_part line) ∷ []) (map loaded_line (filter (has_room limits) (map shown_part lines))))
+          ∙ ap (take limits.lines) (append_assoc (kept limits lines) (loaded_line (shown_part line) ∷ []) history)
+          ∙ sym (take_within limits.lines limits.lines (kept limits lines) (loaded_line (shown_part line) ∷ history) (omega arith)))
       | inr not_here ↦ rw not_here refl
     ]
 
 pub loads_step : (limits : Limits) (history : List Split) (text line back : List ℕ) → IsFirstLine text line back
-    → loads limits history text ≡ loads limits (with_line limits (shown line) history) back
+    → loads limits history text ≡ loads limits (with_line limits (shown_part line) history) back
 loads_step limits history text line back (inl more) = ap (λ t. take limits.lines (kept limits t ++ history)) more ∙ kept_cons limits line (lines_of back) history
 loads_step limits history text line back (inr last) =
     ap (λ t. take limits.lines (kept limits t ++ history)) last.0 ∙ kept_cons limits line [] history
-    ∙ ap (loads limits (with_line limits (shown line) history)) (sym last.1)
+    ∙ ap (loads limits (with_line limits (shown_part line) history)) (sym last.1)
 
 pub with_line-short : (limits : Limits) (text : List ℕ) (history : List Split) → take limits.lines history ≡ history
     → take limits.lines (with_line limits text history) ≡ with_line limits text history
 with_line-short limits text history short =
     elim (cases_Bool (has_room limits text)) [
-      | inl here ↦ rw here (take-take limits.lines limits.lines (ended text ∷ history) (omega arith))
+      | inl here ↦ rw here (take-take limits.lines limits.lines (loaded_line text ∷ history) (omega arith))
       | inr not_here ↦ rw not_here short
     ]
 
 -- ---- the text of a history
 
 -- One line more is behind the older ones.
-pub saved_cons : (d : Split) (history : List Split) → saved (d ∷ history) ≡ saved history ++ (text_of d ++ 10 ∷ [])
+pub saved_cons : (d : Split) (history : List Split) → saved (d ∷ history) ≡ saved history ++ (line_text d ++ 10 ∷ [])
 saved_cons d history =
-    let line : Split → List ℕ = λ x. text_of x ++ 10 ∷ [] in
+    let line : Split → List ℕ = λ x. line_text x ++ 10 ∷ [] in
     ap (flat_map line) (reverse-append (d ∷ []) history) ∙ flat_map-append line (reverse history) (d ∷ [])
     ∙ ap (λ t. saved history ++ t) (append-nil (line d))
 
@@ -141,19 +141,19 @@ line_pushed old line mid new u e f =
     ∙ ap (λ t. old ++ (encode_utf8_all (chars line) ++ t)) (sym feed)
     ∙ ap (λ t. old ++ t) (sym (encodes-append (chars line) (10 ∷ [])))
 
-pub saved_step : (lines : List Split) (at : ℕ) (line old new : List ℕ) → 0 < at → Some (chars line) ≡ option_map text_of (slice_get lines (at - 1))
+pub saved_step : (lines : List Split) (at : ℕ) (line old new : List ℕ) → 0 < at → Some (chars line) ≡ option_map line_text (slice_get lines (at - 1))
     → old ≡ encode_utf8_all (saved (drop at lines)) → new ≡ old ++ encode_utf8_all (chars line ++ 10 ∷ []) → new ≡ encode_utf8_all (saved (drop (at - 1) lines))
 saved_step lines at line old new some is e f =
     let found = from_line lines (at - 1) (chars line) is in
     let next : suc (at - 1) ≡ at = omega (arith, some) in
     f ∙ ap (λ t. t ++ encode_utf8_all (chars line ++ 10 ∷ [])) e
     ∙ ap (λ t. encode_utf8_all (saved (drop at lines)) ++ encode_utf8_all (t ++ 10 ∷ [])) (sym found.2)
-    ∙ sym (encodes-append (saved (drop at lines)) (text_of found.0 ++ 10 ∷ []))
+    ∙ sym (encodes-append (saved (drop at lines)) (line_text found.0 ++ 10 ∷ []))
     ∙ ap encode_utf8_all (sym (saved_cons found.0 (drop at lines)))
     ∙ ap (λ n. encode_utf8_all (saved (found.0 ∷ drop n lines))) (sym next)
     ∙ ap (λ t. encode_utf8_all (saved t)) (sym found.1)
 
-pub saved_past : (lines : List Split) (at : ℕ) (old : List ℕ) → 0 < at → None ≡ option_map text_of (slice_get lines (at - 1))
+pub saved_past : (lines : List Split) (at : ℕ) (old : List ℕ) → 0 < at → None ≡ option_map line_text (slice_get lines (at - 1))
     → old ≡ encode_utf8_all (saved (drop at lines)) → old ≡ encode_utf8_all (saved (drop (at - 1) lines))
 saved_past lines at old some is e =
     let none = past_lines lines (at - 1) is in

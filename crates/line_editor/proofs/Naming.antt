@@ -16,7 +16,7 @@ use Rattle.line_editor.specs.declared.actions.Action.TheVariants.{Insert, Go, Er
 use Rattle.line_editor.specs.declared.places.Stop.TheVariants.{Cluster, WordStart, WordEnd, Blank, Edge}
 use Rattle.line_editor.specs.declared.places.Target.{Target}
 use Rattle.line_editor.specs.declared.places.Target.TheVariants.{Back, Forward}
-use Rattle.line_editor.specs.Names.{ReadsBack, action_name, action_rows, char_name, char_named, one_char, target_name, target_rows, verb_named}
+use Rattle.line_editor.specs.Names.{NameReadsBack, action_name, action_rows, key_char_name, char_named, one_char, target_name, target_rows, verb_named}
 
 -- ---- a target
 
@@ -45,18 +45,18 @@ space-chars : chars (codes "space") ≡ codes "space"
 unfolding encode_utf8
 space-chars = chars-encodes (codes "space") refl
 
-char_back : (c : ℕ) → IsScalar c → char_named (char_name c) ≡ Some c
+char_back : (c : ℕ) → IsScalar c → char_named (key_char_name c) ≡ Some c
 char_back c h =
     elim (cases_Bool (c == 32)) [
       | inl here ↦ rw here (ap (λ t. option_or (one_char t) (Some 32)) space-chars ∙ ap Some (sym (eqb-true c 32 here)))
       | inr not_here ↦ rw not_here (ap (λ t. option_or (one_char t) (if same (codes "space") (encode_utf8 c) then Some 32 else None)) (chars-encode_utf8 c (is_text c h)))
     ]
 
-pub reads_back : (action : Action) → ReadsBack action
+pub reads_back : (action : Action) → NameReadsBack action
 reads_back (Insert c) h =
     let name = action_name (Insert c) in
     let found : nat_lt 6 (length name) ≡ true = lt-ltb 6 (length name) (omega arith) in
-    ap (λ b. read_at b (codes "insert") (char_name c) name) found ∙ ap (option_map Insert) (char_back c h)
+    ap (λ b. read_at b (codes "insert") (key_char_name c) name) found ∙ ap (option_map Insert) (char_back c h)
 reads_back (Go target) h =
     let name = action_name (Go target) in
     let found : nat_lt 2 (length name) ≡ true = lt-ltb 2 (length name) (omega arith) in

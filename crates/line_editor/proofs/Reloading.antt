@@ -6,9 +6,9 @@ use Rattle.std.specs.List.{AllByRecursion, filter, flat_map, list_all}
 use Rattle.unicode_width.specs.Width.{char_width}
 use Rattle.line_editor.specs.declared.limits.Limits.{Limits}
 use Rattle.line_editor.specs.Bounded.{IsKept, LoadsSaved}
-use Rattle.line_editor.specs.History.{ended, has_room, lines_of}
-use Rattle.line_editor.specs.Shown.{AreShown, is_shown, shown}
-use Rattle.line_editor.specs.Splits.{Split, text_of}
+use Rattle.line_editor.specs.History.{loaded_line, has_room, lines_of}
+use Rattle.line_editor.specs.Shown.{AreShown, is_shown, shown_part}
+use Rattle.line_editor.specs.Splits.{Split, line_text}
 use Rattle.line_editor.specs.States.{EditorState}
 use Rattle.line_editor.proofs.Bounding.{all-reverse}
 use Rattle.line_editor.proofs.Loading.{is_within, line_before, room_for}
@@ -28,7 +28,7 @@ shown-within (c ∷ text) h =
       | inr not_here ↦ and_from _ _ (rw not_here refl) (shown-within text parts.1)
     ]
 
-shown-all : (text : List ℕ) → AreShown text → shown text ≡ text
+shown-all : (text : List ℕ) → AreShown text → shown_part text ≡ text
 shown-all [] h = refl
 shown-all (c ∷ text) h =
     let parts = and_parts _ _ h in
@@ -37,35 +37,35 @@ shown-all (c ∷ text) h =
 
 -- The lines of a text that was saved, the oldest first.
 abbrev line : Split → List ℕ
-line d = text_of d ++ 10 ∷ []
+line d = line_text d ++ 10 ∷ []
 
-lines_of-saved : (limits : Limits) (lines : List Split) → AllByRecursion (IsKept limits) lines → lines_of (flat_map line lines) ≡ map text_of lines ++ [] ∷ []
+lines_of-saved : (limits : Limits) (lines : List Split) → AllByRecursion (IsKept limits) lines → lines_of (flat_map line lines) ≡ map line_text lines ++ [] ∷ []
 lines_of-saved limits [] h = refl
 lines_of-saved limits (d ∷ lines) h =
-    ap lines_of (append_assoc (text_of d) (10 ∷ []) (flat_map line lines))
-    ∙ line_before (text_of d) (flat_map line lines) (shown-within (text_of d) h.0.0.0)
-    ∙ ap (λ t. text_of d ∷ t) (lines_of-saved limits lines h.1)
+    ap lines_of (append_assoc (line_text d) (10 ∷ []) (flat_map line lines))
+    ∙ line_before (line_text d) (flat_map line lines) (shown-within (line_text d) h.0.0.0)
+    ∙ ap (λ t. line_text d ∷ t) (lines_of-saved limits lines h.1)
 
-ended-text : (d : Split) → d.after ≡ [] → ended (text_of d) ≡ d
+ended-text : (d : Split) → d.after ≡ [] → loaded_line (line_text d) ≡ d
 ended-text d e =
-    let before : reverse (text_of d) ≡ d.before = ap (λ t. reverse (reverse d.before ++ t)) e ∙ ap reverse (append-nil (reverse d.before)) ∙ reverse-reverse d.before in
+    let before : reverse (line_text d) ≡ d.before = ap (λ t. reverse (reverse d.before ++ t)) e ∙ ap reverse (append-nil (reverse d.before)) ∙ reverse-reverse d.before in
     ap (λ t. record { before = t; after = [] }) before ∙ ap (λ t. record { before = d.before; after = t }) (sym e)
 
 loaded-back : (limits : Limits) (lines : List Split) → AllByRecursion (IsKept limits) lines
-    → map ended (filter (has_room limits) (map shown (map text_of lines ++ [] ∷ []))) ≡ lines
+    → map loaded_line (filter (has_room limits) (map shown_part (map line_text lines ++ [] ∷ []))) ≡ lines
 loaded-back limits [] h = refl
 loaded-back limits (d ∷ lines) h =
     let held = h.0.0 in
-    let text : shown (text_of d) ≡ text_of d = shown-all (text_of d) held.0 in
-    let room : has_room limits (text_of d) ≡ true = room_for limits (text_of d) h.0.1 held.1 in
-    rw text (rw room (ap (λ x. x ∷ map ended (filter (has_room limits) (map shown (map text_of lines ++ [] ∷ [])))) (ended-text d h.0.2)
+    let text : shown_part (line_text d) ≡ line_text d = shown-all (line_text d) held.0 in
+    let room : has_room limits (line_text d) ≡ true = room_for limits (line_text d) h.0.1 held.1 in
+    rw text (rw room (ap (λ x. x ∷ map loaded_line (filter (has_room limits) (map shown_part (map line_text lines ++ [] ∷ [])))) (ended-text d h.0.2)
     ∙ ap (λ t. d ∷ t) (loaded-back limits lines h.1)))
 
 pub loads_saved : (w : EditorState) → LoadsSaved w
 loads_saved w h =
     let oldest = reverse w.history in
     let all = all-reverse (IsKept w.limits) w.history h.history in
-    ap (λ t. take w.limits.lines (reverse (map ended (filter (has_room w.limits) (map shown t))))) (lines_of-saved w.limits oldest all)
+    ap (λ t. take w.limits.lines (reverse (map loaded_line (filter (has_room w.limits) (map shown_part t))))) (lines_of-saved w.limits oldest all)
     ∙ ap (λ t. take w.limits.lines (reverse t)) (loaded-back w.limits oldest all)
     ∙ ap (take w.limits.lines) (reverse-reverse w.history)
     ∙ take_all w.limits.lines w.history h.lines

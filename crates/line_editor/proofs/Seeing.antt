@@ -7,8 +7,8 @@ use Rattle.unicode_segmentation.specs.Segments.{chars_before, chars_from}
 use Rattle.line_editor.specs.Splits.{Split, split_at}
 use Rattle.line_editor.specs.Edits.{IsSettled, from_to}
 use Rattle.line_editor.specs.Places.{is_between}
-use Rattle.line_editor.specs.Seen.{Fits, KeepsClusters}
-use Rattle.line_editor.specs.Views.{Start, columns, columns_of, end_seen, furthest, last_seen, place_or, seen, start, start_at, start_or}
+use Rattle.line_editor.specs.Seen.{IsSeenIn, KeepsClusters}
+use Rattle.line_editor.specs.Views.{Start, width_of, columns_of, end_seen, furthest, last_seen, place_or, seen_text, start, start_at, start_or}
 use Rattle.line_editor.proofs.Furthest.{columns-append, last_seen-far, start-far}
 use Rattle.line_editor.proofs.Keeping.{IsFrom, IsFrom-last, IsFrom-none, IsFrom-one, from_to-IsFrom, text_of-IsFrom}
 use Rattle.line_editor.proofs.Settling.{chars-slice_range}
@@ -28,20 +28,20 @@ last_seen-end room used at text best h = ap (λ t. last_seen room used (chars_be
 
 -- A start from which so many columns are before the cursor, for which there is room.
 abbrev pub Holds : ℕ → Split → Start → Type 0
-Holds room d s = (part : List ℕ) × IsFrom s.place d part × (columns part ≡ s.column) × (s.column ≤ room)
+Holds room d s = (part : List ℕ) × IsFrom s.place d part × (width_of part ≡ s.column) × (s.column ≤ room)
 
 holds-or : (room : ℕ) (d : Split) (s best : Start) → Holds room d s → Holds room d best → Holds room d (start_or s best)
 holds-or room d s best h k =
     elim (cases_Bool (is_between s.place.before s.place.after)) [ inl here ↦ rw here h | inr not_here ↦ rw not_here k ]
 
 furthest-Holds : (room : ℕ) (d : Split) (before after part : List ℕ) (used : ℕ) (best : Start) → IsFrom (record { before = before; after = after }) d part
-    → columns part ≡ used → Holds room d best → Holds room d (furthest room used before after best)
+    → width_of part ≡ used → Holds room d best → Holds room d (furthest room used before after best)
 furthest-Holds room d [] after part used best h e k = k
 furthest-Holds room d (c ∷ before) after part used best h e k =
     elim (cases_Bool (leb (used + columns_of c) room)) [
       | inl here ↦ rw here (
           let more : IsFrom (record { before = before; after = c ∷ after }) d (c ∷ part) = IsFrom-one (record { before = before; after = after }) d c part before h in
-          let f : columns (c ∷ part) ≡ used + columns_of c = omega (arith, e) in
+          let f : width_of (c ∷ part) ≡ used + columns_of c = omega (arith, e) in
           let s : Start = record { place = record { before = before; after = c ∷ after }; column = used + columns_of c } in
           furthest-Holds room d before (c ∷ after) (c ∷ part) (used + columns_of c) (start_or s best) more f
           (holds-or room d s best (c ∷ part, more, f, leb-true (used + columns_of c) room here) k))
@@ -50,20 +50,20 @@ furthest-Holds room d (c ∷ before) after part used best h e k =
 
 -- A place up to which there are so many columns, for which there is room.
 abbrev pub Ends : ℕ → ℕ → Split → Split → Type 0
-Ends room column d q = (part : List ℕ) × IsFrom d q part × (column + columns part ≤ room)
+Ends room column d q = (part : List ℕ) × IsFrom d q part × (column + width_of part ≤ room)
 
 ends-or : (room column : ℕ) (d q best : Split) → Ends room column d q → Ends room column d best → Ends room column d (place_or q best)
 ends-or room column d q best h k =
     elim (cases_Bool (is_between q.before q.after)) [ inl here ↦ rw here h | inr not_here ↦ rw not_here k ]
 
 last_seen-Ends : (room column : ℕ) (d : Split) (before after part : List ℕ) (used : ℕ) (best : Split) → IsFrom d (record { before = before; after = after }) part
-    → column + columns part ≡ used → Ends room column d best → Ends room column d (last_seen room used before after best)
+    → column + width_of part ≡ used → Ends room column d best → Ends room column d (last_seen room used before after best)
 last_seen-Ends room column d before [] part used best h e k = k
 last_seen-Ends room column d before (c ∷ after) part used best h e k =
     elim (cases_Bool (leb (used + columns_of c) room)) [
       | inl here ↦ rw here (
           let more : IsFrom d (record { before = c ∷ before; after = after }) (part ++ c ∷ []) = IsFrom-last d c part before after h in
-          let f : column + columns (part ++ c ∷ []) ≡ used + columns_of c = omega (arith, e, columns-append part (c ∷ [])) in
+          let f : column + width_of (part ++ c ∷ []) ≡ used + columns_of c = omega (arith, e, columns-append part (c ∷ [])) in
           let q : Split = record { before = c ∷ before; after = after } in
           last_seen-Ends room column d (c ∷ before) after (part ++ c ∷ []) (used + columns_of c) (place_or q best) more f
           (ends-or room column d q best (part ++ c ∷ [], more, omega (arith, f, leb-true (used + columns_of c) room here)) k))
@@ -78,17 +78,17 @@ IsFrom-join p d q a b h k = record {
   after = h.after ∙ ap (λ t. a ++ t) k.after ∙ sym (append_assoc a b q.after);
 }
 
-pub fits : (room : ℕ) (d : Split) → Fits room d
+pub fits : (room : ℕ) (d : Split) → IsSeenIn room d
 fits room d some =
     let begin = furthest-Holds (room - 1) d d.before d.after [] 0 (record { place = d; column = 0 }) (IsFrom-none d) refl
     ([], IsFrom-none d, refl, omega arith) in
     let s = start room d in
     let less : s.column < room = omega (arith, begin.3, some) in
     let end = last_seen-Ends room s.column d d.before d.after [] s.column d (IsFrom-none d) (omega arith) ([], IsFrom-none d, omega (arith, less)) in
-    let whole : seen room d ≡ begin.0 ++ end.0 = from_to-IsFrom s.place (end_seen room s.column d) (begin.0 ++ end.0) (IsFrom-join s.place d _ begin.0 end.0 begin.1 end.1) in
+    let whole : seen_text room d ≡ begin.0 ++ end.0 = from_to-IsFrom s.place (end_seen room s.column d) (begin.0 ++ end.0) (IsFrom-join s.place d _ begin.0 end.0 begin.1 end.1) in
     record {
       cursor = less;
-      text = omega (arith, ap columns whole, columns-append begin.0 end.0, begin.2, end.2);
+      text = omega (arith, ap width_of whole, columns-append begin.0 end.0, begin.2, end.2);
       left = begin.0;
       right = end.0;
       whole = whole;
@@ -147,14 +147,14 @@ keeps_clusters room d stands =
     let q = end_seen room s.column d in
     let end = last_seen-Ends room s.column d d.before d.after [] s.column d (IsFrom-none d) (omega arith) ([], IsFrom-none d, omega (arith, begin.3)) in
     let all = IsFrom-join p d q begin.0 end.0 begin.1 end.1 in
-    let part : seen room d ≡ begin.0 ++ end.0 = from_to-IsFrom p q (begin.0 ++ end.0) all in
-    let behind : p.after ≡ seen room d ++ q.after = all.after ∙ ap (λ t. t ++ q.after) (sym part) in
-    let ahead : q.before ≡ reverse (reverse p.before ++ seen room d) =
+    let part : seen_text room d ≡ begin.0 ++ end.0 = from_to-IsFrom p q (begin.0 ++ end.0) all in
+    let behind : p.after ≡ seen_text room d ++ q.after = all.after ∙ ap (λ t. t ++ q.after) (sym part) in
+    let ahead : q.before ≡ reverse (reverse p.before ++ seen_text room d) =
     all.before ∙ ap (λ t. reverse t ++ p.before) (sym part)
-    ∙ sym (reverse-append (reverse p.before) (seen room d) ∙ ap (λ t. reverse (seen room d) ++ t) (reverse-reverse p.before)) in
+    ∙ sym (reverse-append (reverse p.before) (seen_text room d) ∙ ap (λ t. reverse (seen_text room d) ++ t) (reverse-reverse p.before)) in
     let starts = furthest-IsSettled (room - 1) 0 d.before d.after (record { place = d; column = 0 }) stands in
     let stops = last_seen-IsSettled room s.column d.before d.after d stands in
-    let P : List ℕ → Type 0 = λ t. is_between t (seen room d ++ q.after) ≡ true in
+    let P : List ℕ → Type 0 = λ t. is_between t (seen_text room d ++ q.after) ≡ true in
     let Q : List ℕ → Type 0 = λ t. is_between p.before t ≡ true in
     let R : List ℕ → Type 0 = λ t. is_between t q.after ≡ true in
     record {
@@ -169,7 +169,7 @@ keeps_clusters room d stands =
 pub seen_as : (text inside part : List ℕ) (room at to : ℕ) (s : ℕ × ℕ) (d : Split) → text ≡ inside → split_at inside at ≡ d
     → IsUtf8 text → IsCharBoundary text s.0 → IsCharBoundary text to → s.0 ≤ to → part ≡ slice_range text s.0 to
     → start_at text s ≡ start room (split_at text at) → split_at text to ≡ end_seen room s.1 (split_at text at)
-    → chars part ≡ seen room d
+    → chars part ≡ seen_text room d
 seen_as text inside part room at to s d e v u a b le f g h =
     let P : List ℕ → Type 0 = λ t. split_at t at ≡ d in
     let same : split_at text at ≡ d = subst P (sym e) v in

@@ -7,14 +7,14 @@ use Rattle.std.specs.Str.{chars, IsUtf8, IsCharBoundary}
 use Rattle.unicode_segmentation.specs.Steps.{IsCharAt}
 use Rattle.unicode_segmentation.proofs.TextLemmas.{IsCharAt-last}
 use Rattle.unicode_segmentation.specs.Segments.{Rule, chars_before, chars_from}
-use Rattle.line_editor.specs.Splits.{ahead, behind, split_at}
+use Rattle.line_editor.specs.Splits.{ahead, last_stop, split_at}
 
 -- A search that begins at a stop ends there.
 pub ahead_here : (stops : Rule) (before after : List ℕ) → stops before after ≡ true → ahead stops before after ≡ record { before = before; after = after }
 ahead_here stops before [] h = refl
 ahead_here stops before (c ∷ after) h = rw h refl
 
-pub behind_here : (stops : Rule) (before after : List ℕ) → stops before after ≡ true → behind stops before after ≡ record { before = before; after = after }
+pub behind_here : (stops : Rule) (before after : List ℕ) → stops before after ≡ true → last_stop stops before after ≡ record { before = before; after = after }
 behind_here stops [] after h = refl
 behind_here stops (c ∷ before) after h = rw h refl
 
@@ -33,7 +33,7 @@ ahead_end stops text at h =
     rw none refl
 
 pub behind_start : (stops : Rule) (text : List ℕ) (at : ℕ) → at ≤ 0
-    → behind stops (chars_before text at) (chars_from text at) ≡ split_at text at
+    → last_stop stops (chars_before text at) (chars_from text at) ≡ split_at text at
 behind_start stops text at h =
     let zero : at ≡ 0 = omega arith in
     rw zero (rw (chars_before-start text) refl)

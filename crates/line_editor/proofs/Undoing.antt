@@ -7,11 +7,11 @@ use Rattle.line_editor.specs.declared.actions.Action.{Action}
 use Rattle.line_editor.specs.declared.actions.Action.TheVariants.{Insert, Go, Erase, Kill, Yank, Transpose, Undo, Redo, Older, Newer, Search}
 use Rattle.line_editor.specs.declared.limits.Limits.{Limits}
 use Rattle.line_editor.specs.declared.places.Target.{Target}
-use Rattle.line_editor.specs.Splits.{Split, text_of}
-use Rattle.line_editor.specs.Edits.{cut, meeting}
-use Rattle.line_editor.specs.Laws.{ArePlain, CanBeUndone, IsPlain, KeepsHistory, RedoesUndone, undo_times}
+use Rattle.line_editor.specs.Splits.{Split, line_text}
+use Rattle.line_editor.specs.Edits.{cut_text, meeting}
+use Rattle.line_editor.specs.Laws.{ArePlain, CanBeUndone, IsNoUndo, KeepsHistory, RedoesUndone, undo_times}
 use Rattle.line_editor.specs.Shown.{is_shown}
-use Rattle.line_editor.specs.States.{EditorState, after, erase_cut, found, kill_cut, newer_from, newer_line, newer_to, older_to, pushed, redo_to, run, searched_to, transpose_at, type_char, typed, undo_to, write}
+use Rattle.line_editor.specs.States.{EditorState, after, erase_cut, found, kill_cut, newer_from, newer_line, newer_to, older_to, pushed, redo_to, run_actions, searched_to, transpose_at, type_char, after_typing, undo_to, write}
 use Rattle.line_editor.proofs.Keeping.{keeps_text}
 
 -- ---- history
@@ -62,8 +62,8 @@ search_history (Some found) w = refl
 pub keeps_history : (action : Action) (w : EditorState) → KeepsHistory action w
 keeps_history (Insert c) w = type_history c w
 keeps_history (Go target) w = refl
-keeps_history (Erase target) w = erase_history (cut target w.line) target w
-keeps_history (Kill target) w = kill_history (cut target w.line) target w
+keeps_history (Erase target) w = erase_history (cut_text target w.line) target w
+keeps_history (Kill target) w = kill_history (cut_text target w.line) target w
 keeps_history Yank w = write_history w.killed w
 keeps_history Transpose w = transpose_history (meeting w.line.before w.line.after).before w
 keeps_history Undo w = undo_history w.past w
@@ -76,8 +76,8 @@ keeps_history Search w = search_history (found w) w
 
 -- The text is one that was there, or the last of some lines that can be had again has it.
 abbrev pub EndsIn : List ℕ → List Split → EditorState → Type 0
-EndsIn text [] w = (text_of w.line ≡ text) × (w.typing ≡ false)
-EndsIn text (d ∷ []) w = text_of d ≡ text
+EndsIn text [] w = (line_text w.line ≡ text) × (w.typing ≡ false)
+EndsIn text (d ∷ []) w = line_text d ≡ text
 EndsIn text (d ∷ e ∷ extra) w = EndsIn text (e ∷ extra) w
 
 -- The text is there again after so many undos, and what could be undone before; so many actions more have steps.
@@ -93,11 +93,11 @@ ends-lines text x [] v w h = h
 ends-lines text x (y ∷ extra) v w h = ends-lines text y extra v w h
 
 ends-cons : (text : List ℕ) (d : Split) (extra : List Split) (v w : EditorState) → d ≡ v.line → EndsIn text extra v → EndsIn text (d ∷ extra) w
-ends-cons text d [] v w e h = ap text_of e ∙ h.0
+ends-cons text d [] v w e h = ap line_text e ∙ h.0
 ends-cons text d (x ∷ extra) v w e h = ends-lines text x extra v w h
 
 -- The same lines, in another state with the same text.
-ends-same : (text : List ℕ) (extra : List Split) (v w : EditorState) → text_of w.line ≡ text_of v.line → w.typing ≡ false → EndsIn text extra v → EndsIn text extra w
+ends-same : (text : List ℕ) (extra : List Split) (v w : EditorState) → line_text w.line ≡ line_text v.line → w.typing ≡ false → EndsIn text extra v → EndsIn text extra w
 ends-same text [] v w e f h = (e ∙ h.0, f)
 ends-same text (d ∷ []) v w e f h = h
 ends-same text (d ∷ x ∷ extra) v w e f h = ends-same text (x ∷ extra) v w e f h
@@ -121,7 +121,7 @@ module _ (text : List ℕ) (past : List Split) (n : ℕ) (w : EditorState) (h : 
       }
 
   -- No change of the text.
-  leads-same : (v : EditorState) → v.past ≡ w.past → v.limits ≡ w.limits → text_of v.line ≡ text_of w.line → v.typing ≡ false → Leads text past n v
+  leads-same : (v : EditorState) → v.past ≡ w.past → v.limits ≡ w.limits → line_text v.line ≡ line_text w.line → v.typing ≡ false → Leads text past n v
   leads-same v e l f t = record {
     extra = h.extra;
     lines = e ∙ h.lines;
@@ -134,19 +134,19 @@ module _ (text : List ℕ) (past : List Split) (n : ℕ) (w : EditorState) (h : 
   leads-none = record { extra = h.extra; lines = h.lines; ends = h.ends; room = omega (arith, h.room) }
 
   -- What is typed.
-  leads-typed : (d : Split) → Leads text past n (typed d w)
+  leads-typed : (d : Split) → Leads text past n (after_typing d w)
   leads-typed d =
       elim (cases_Bool w.typing) [
         | inl on ↦ record {
           extra = h.extra;
           lines = (rw on refl) ∙ h.lines;
-          ends = ends-typed text h.extra w (typed d w) on h.ends;
+          ends = ends-typed text h.extra w (after_typing d w) on h.ends;
           room = omega (arith, h.room, ap length (still on));
         }
-        | inr off ↦ leads-changed (typed d w) (rw off refl) refl
+        | inr off ↦ leads-changed (after_typing d w) (rw off refl) refl
       ]
     where
-      still : w.typing ≡ true → (typed d w).past ≡ w.past
+      still : w.typing ≡ true → (after_typing d w).past ≡ w.past
       still on = rw on refl
 
   leads-type : (c : ℕ) → Leads text past n (type_char c w)
@@ -184,12 +184,12 @@ module _ (text : List ℕ) (past : List Split) (n : ℕ) (w : EditorState) (h : 
   leads-newer_from zero = leads-none
   leads-newer_from (suc back) = leads-newer (newer_line back w)
 
-pub leads-after : (text : List ℕ) (past : List Split) (n : ℕ) (w : EditorState) → Leads text past (suc n) w → (action : Action) → IsPlain action
+pub leads-after : (text : List ℕ) (past : List Split) (n : ℕ) (w : EditorState) → Leads text past (suc n) w → (action : Action) → IsNoUndo action
     → Leads text past n (after action w)
 leads-after text past n w h (Insert c) f = leads-type text past n w h c
 leads-after text past n w h (Go target) f = leads-same text past n w h _ refl refl (keeps_text target w.line) refl
-leads-after text past n w h (Erase target) f = leads-erase text past n w h (cut target w.line) target
-leads-after text past n w h (Kill target) f = leads-kill text past n w h (cut target w.line) target
+leads-after text past n w h (Erase target) f = leads-erase text past n w h (cut_text target w.line) target
+leads-after text past n w h (Kill target) f = leads-kill text past n w h (cut_text target w.line) target
 leads-after text past n w h Yank f = leads-write text past n w h w.killed
 leads-after text past n w h Transpose f = leads-transpose text past n w h (meeting w.line.before w.line.after).before
 leads-after text past n w h Undo f = absurd f
@@ -199,27 +199,27 @@ leads-after text past n w h Newer f = leads-newer_from text past n w h w.back
 leads-after text past n w h Search f = leads-search text past n w h (found w)
 
 pub leads-run : (text : List ℕ) (past : List Split) (actions : List Action) (w : EditorState) → ArePlain actions → Leads text past (length actions) w
-    → Leads text past 0 (run actions w)
+    → Leads text past 0 (run_actions actions w)
 leads-run text past [] w f h = h
 leads-run text past (a ∷ actions) w f h = leads-run text past actions (after a w) f.1 (leads-after text past (length actions) w h a f.0)
 
 -- As many undos as there are lines.
 undone : (text : List ℕ) (past extra : List Split) (w : EditorState) → w.past ≡ extra ++ past → EndsIn text extra w
-    → (n : ℕ) × (text_of (undo_times n w).line ≡ text) × ((undo_times n w).past ≡ past)
+    → (n : ℕ) × (line_text (undo_times n w).line ≡ text) × ((undo_times n w).past ≡ past)
 undone text past [] w e h = (zero, h.0, e)
 undone text past (d ∷ []) w e h =
     let step : after Undo w ≡ undo_to (d ∷ past) w = ap (λ t. undo_to t w) e in
-    (suc zero, ap (λ (x : EditorState). text_of x.line) step ∙ h, ap (λ (x : EditorState). x.past) step)
+    (suc zero, ap (λ (x : EditorState). line_text x.line) step ∙ h, ap (λ (x : EditorState). x.past) step)
 undone text past (d ∷ x ∷ extra) w e h =
     let v = undo_to (d ∷ ((x ∷ extra) ++ past)) w in
     let step : after Undo w ≡ v = ap (λ t. undo_to t w) e in
     let rest = undone text past (x ∷ extra) v refl (ends-lines text x extra w v h) in
-    (suc rest.0, ap (λ (y : EditorState). text_of (undo_times rest.0 y).line) step ∙ rest.1, ap (λ (y : EditorState). (undo_times rest.0 y).past) step ∙ rest.2)
+    (suc rest.0, ap (λ (y : EditorState). line_text (undo_times rest.0 y).line) step ∙ rest.1, ap (λ (y : EditorState). (undo_times rest.0 y).past) step ∙ rest.2)
 
 pub can_be_undone : (actions : List Action) (w : EditorState) → CanBeUndone actions w
 can_be_undone actions w plain rests enough =
-    let all = leads-run (text_of w.line) w.past actions w plain (record { extra = []; lines = refl; ends = (refl, rests); room = enough }) in
-    undone (text_of w.line) w.past all.extra (run actions w) all.lines all.ends
+    let all = leads-run (line_text w.line) w.past actions w plain (record { extra = []; lines = refl; ends = (refl, rests); room = enough }) in
+    undone (line_text w.line) w.past all.extra (run_actions actions w) all.lines all.ends
 
 pub redoes_undone : (w : EditorState) → RedoesUndone w
 redoes_undone w d past e = ap (λ t. after Redo (undo_to t w)) e ∙ (record_with w d past e)

@@ -5,17 +5,17 @@ use Rattle.line_editor.specs.declared.limits.Limits.{Limits}
 use Rattle.line_editor.specs.Bounds.{is_too_long, size}
 use Rattle.line_editor.specs.History.{history_of, saved}
 use Rattle.line_editor.specs.Shown.{AreShown}
-use Rattle.line_editor.specs.Splits.{Split, text_of}
+use Rattle.line_editor.specs.Splits.{Split, line_text}
 use Rattle.line_editor.specs.States.{EditorState, fresh}
 use Rattle.line_editor.specs.Tasks.{Task, done, task_text}
 
 -- A line is held if each of its characters is shown, and it has no more bytes than the limit.
 abbrev pub IsHeld : Limits → Split → Type 0
-IsHeld limits d = AreShown (text_of d) × (size (text_of d) ≤ limits.bytes)
+IsHeld limits d = AreShown (line_text d) × (size (line_text d) ≤ limits.bytes)
 
 -- A line of the history is held, isn't empty, and has its cursor at its end.
 abbrev pub IsKept : Limits → Split → Type 0
-IsKept limits d = IsHeld limits d × (0 < size (text_of d)) × (d.after ≡ [])
+IsKept limits d = IsHeld limits d × (0 < size (line_text d)) × (d.after ≡ [])
 
 -- All lines of an editor are held, and there are no more of them than the limits say.
 pub record IsBounded (w : EditorState) : Type 0 where

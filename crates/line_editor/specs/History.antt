@@ -3,13 +3,13 @@ use Rattle.std.specs.Prelude.{ℕ, Bool, nat_le, nat_lt, ◌&&◌, ◌==◌, Lis
 use Rattle.std.specs.List.{filter, flat_map, slice_split}
 use Rattle.line_editor.specs.declared.limits.Limits.{Limits}
 use Rattle.line_editor.specs.Bounds.{size}
-use Rattle.line_editor.specs.Shown.{shown}
-use Rattle.line_editor.specs.Splits.{Split, text_of}
+use Rattle.line_editor.specs.Shown.{shown_part}
+use Rattle.line_editor.specs.Splits.{Split, line_text}
 use Rattle.line_editor.specs.States.{EditorState}
 
 -- The text of a history: its lines, the oldest first, with a line feed behind each.
 abbrev pub saved : List Split → List ℕ
-saved history = flat_map (λ d. text_of d ++ 10 ∷ []) (reverse history)
+saved history = flat_map (λ d. line_text d ++ 10 ∷ []) (reverse history)
 
 -- The lines of a text, which are what is between its line feeds.
 abbrev pub lines_of : List ℕ → List (List ℕ)
@@ -20,17 +20,17 @@ abbrev pub has_room : Limits → List ℕ → Bool
 has_room limits text = nat_lt 0 (size text) && nat_le (size text) limits.bytes
 
 -- A loaded line, with its cursor at its end.
-abbrev pub ended : List ℕ → Split
-ended text = record { before = reverse text; after = [] }
+abbrev pub loaded_line : List ℕ → Split
+loaded_line text = record { before = reverse text; after = [] }
 
 -- A history with a loaded line as its newest if the line has room. The oldest lines beyond the limit are left out.
 abbrev pub with_line : Limits → List ℕ → List Split → List Split
-with_line limits text history = if has_room limits text then take limits.lines (ended text ∷ history) else history
+with_line limits text history = if has_room limits text then take limits.lines (loaded_line text ∷ history) else history
 
 -- The history of a text: its last lines, the newest first, each with its shown characters. Lines without room are
 -- left out.
 abbrev pub history_of : Limits → List ℕ → List Split
-history_of limits text = take limits.lines (reverse (map ended (filter (has_room limits) (map shown (lines_of text)))))
+history_of limits text = take limits.lines (reverse (map loaded_line (filter (has_room limits) (map shown_part (lines_of text)))))
 
 -- The editor with the history of a text in place of its own. Its line stays, as one that isn't in the history.
 abbrev pub loaded : List ℕ → EditorState → EditorState

@@ -14,18 +14,18 @@ use Rattle.line_editor.specs.declared.places.Target.TheVariants.{Back, Forward}
 
 -- What a key without Control and Alt asks for, or `None`. A character is typed, and Up and Down go through the
 -- history.
-abbrev pub plain : KeyCode → Option KeyCommand
-plain (key.Char c) = Some (Act (Insert c))
-plain key.Enter = Some Accept
-plain key.Backspace = Some (Act (Erase (Back Cluster)))
-plain key.Delete = Some (Act (Erase (Forward Cluster)))
-plain key.Left = Some (Act (Go (Back Cluster)))
-plain key.Right = Some (Act (Go (Forward Cluster)))
-plain key.Home = Some (Act (Go (Back Edge)))
-plain key.End = Some (Act (Go (Forward Edge)))
-plain key.Up = Some (Act Older)
-plain key.Down = Some (Act Newer)
-plain code = None
+abbrev pub unmodified : KeyCode → Option KeyCommand
+unmodified (key.Char c) = Some (Act (Insert c))
+unmodified key.Enter = Some Accept
+unmodified key.Backspace = Some (Act (Erase (Back Cluster)))
+unmodified key.Delete = Some (Act (Erase (Forward Cluster)))
+unmodified key.Left = Some (Act (Go (Back Cluster)))
+unmodified key.Right = Some (Act (Go (Forward Cluster)))
+unmodified key.Home = Some (Act (Go (Back Edge)))
+unmodified key.End = Some (Act (Go (Forward Edge)))
+unmodified key.Up = Some (Act Older)
+unmodified key.Down = Some (Act Newer)
+unmodified code = None
 
 -- What the row of a character asks for, or `None` if it has no row.
 abbrev pub row_in : List (ℕ × KeyCommand) → ℕ → Option KeyCommand
@@ -50,11 +50,11 @@ both_rows = (95, Act Redo) ∷ (55, Act Redo) ∷ []
 
 -- What a key with Control asks for, or `None`. A character has its row, in small letters, and Left and Right go by
 -- words.
-abbrev pub control : KeyCode → Option KeyCommand
-control (key.Char c) = row_in control_rows (to_ascii_lowercase c)
-control key.Left = Some (Act (Go (Back WordStart)))
-control key.Right = Some (Act (Go (Forward WordEnd)))
-control code = None
+abbrev pub control_key : KeyCode → Option KeyCommand
+control_key (key.Char c) = row_in control_rows (to_ascii_lowercase c)
+control_key key.Left = Some (Act (Go (Back WordStart)))
+control_key key.Right = Some (Act (Go (Forward WordEnd)))
+control_key code = None
 
 -- What a key with Alt asks for, or `None`. A character has its row, in small letters, and Backspace kills a word.
 abbrev pub alt : KeyCode → Option KeyCommand
@@ -63,22 +63,22 @@ alt key.Backspace = Some (Act (Kill (Back WordStart)))
 alt code = None
 
 -- What a key with Control and Alt asks for, or `None`. Only characters have a row.
-abbrev pub both : KeyCode → Option KeyCommand
-both (key.Char c) = row_in both_rows c
-both code = None
+abbrev pub control_alt_key : KeyCode → Option KeyCommand
+control_alt_key (key.Char c) = row_in both_rows c
+control_alt_key code = None
 
 -- What a key asks for with no modifiers (0), Control (2), Alt (4) or both (6). With any others it asks for nothing.
 abbrev pub by_modifiers : ℕ → KeyCode → Option KeyCommand
 by_modifiers bits code =
-    if bits == 0 then plain code else (if bits == 2 then control code else (if bits == 4 then alt code else (if bits == 6 then both code else None)))
+    if bits == 0 then unmodified code else (if bits == 2 then control_key code else (if bits == 4 then alt code else (if bits == 6 then control_alt_key code else None)))
 
 -- What a key asks for with its modifiers but Shift, which is in its character. A key that is released asks for
 -- nothing.
-abbrev pub by_kind : KeyEventKind → KeyEvent → Option KeyCommand
-by_kind Press k = by_modifiers (bit_and k.modifiers.0 254) k.code
-by_kind Repeat k = by_modifiers (bit_and k.modifiers.0 254) k.code
-by_kind Release k = None
+abbrev pub command_of_key : KeyEventKind → KeyEvent → Option KeyCommand
+command_of_key Press k = by_modifiers (bit_and k.modifiers.0 254) k.code
+command_of_key Repeat k = by_modifiers (bit_and k.modifiers.0 254) k.code
+command_of_key Release k = None
 
 -- What a key event asks for, or `None`.
 abbrev pub command_of : KeyEvent → Option KeyCommand
-command_of k = by_kind k.kind k
+command_of k = command_of_key k.kind k

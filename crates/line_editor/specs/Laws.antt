@@ -3,28 +3,28 @@ use Rattle.std.specs.Prelude.{◌≡◌, ◌≤◌, ◌+◌, ℕ, zero, suc, ⊤
 use Rattle.line_editor.specs.declared.actions.Action.{Action}
 use Rattle.line_editor.specs.declared.actions.Action.TheVariants.{Newer, Older, Redo, Undo}
 use Rattle.line_editor.specs.declared.places.Target.{Target}
-use Rattle.line_editor.specs.Splits.{Split, text_of}
-use Rattle.line_editor.specs.Edits.{cut, end_of, erased, inserted, start_of}
-use Rattle.line_editor.specs.Places.{is_between, place}
-use Rattle.line_editor.specs.States.{EditorState, after, run}
+use Rattle.line_editor.specs.Splits.{Split, line_text}
+use Rattle.line_editor.specs.Edits.{cut_text, reach_end, erased, inserted, start_of}
+use Rattle.line_editor.specs.Places.{is_between, target_place}
+use Rattle.line_editor.specs.States.{EditorState, after, run_actions}
 
 -- A move keeps the text.
 abbrev pub KeepsText : Target → Split → Type 0
-KeepsText target d = text_of (place target d) ≡ text_of d
+KeepsText target d = line_text (target_place target d) ≡ line_text d
 
 -- An erasure takes one piece out of the text, and the rest of the text stays.
 pub record CutsOut (target : Target) (d : Split) : Type 0 where
-  pub was : text_of d ≡ reverse (start_of target d).before ++ (cut target d ++ (end_of target d).after)
-  pub stays : text_of (erased target d) ≡ reverse (start_of target d).before ++ (end_of target d).after
+  pub was : line_text d ≡ reverse (start_of target d).before ++ (cut_text target d ++ (reach_end target d).after)
+  pub stays : line_text (erased target d) ≡ reverse (start_of target d).before ++ (reach_end target d).after
 
 -- An inserted text is at the cursor, and the rest of the text stays.
 abbrev pub WritesAt : List ℕ → Split → Type 0
-WritesAt text d = text_of (inserted text d) ≡ reverse d.before ++ (text ++ d.after)
+WritesAt text d = line_text (inserted text d) ≡ reverse d.before ++ (text ++ d.after)
 
 -- A kill and then a yank give the text back, if the characters around the cut don't become one cluster in between.
 abbrev pub YanksBack : Target → Split → Type 0
 YanksBack target d =
-    is_between (start_of target d).before (end_of target d).after ≡ true → text_of (inserted (cut target d) (erased target d)) ≡ text_of d
+    is_between (start_of target d).before (reach_end target d).after ≡ true → line_text (inserted (cut_text target d) (erased target d)) ≡ line_text d
 
 -- An action keeps the accepted lines.
 abbrev pub KeepsHistory : Action → EditorState → Type 0
@@ -49,15 +49,15 @@ ComesBack n w = w.back ≡ 0 → n ≤ length w.history → (newer_times n (olde
 -- ---- undo
 
 -- An action is plain if it is neither undo nor redo.
-abbrev pub IsPlain : Action → Type 0
-IsPlain Undo = ⊥
-IsPlain Redo = ⊥
-IsPlain action = ⊤
+abbrev pub IsNoUndo : Action → Type 0
+IsNoUndo Undo = ⊥
+IsNoUndo Redo = ⊥
+IsNoUndo action = ⊤
 
 -- Each action is plain.
 abbrev pub ArePlain : List Action → Type 0
 ArePlain [] = ⊤
-ArePlain (a ∷ actions) = IsPlain a × ArePlain actions
+ArePlain (a ∷ actions) = IsNoUndo a × ArePlain actions
 
 -- The editor after `n` undos.
 abbrev pub undo_times : ℕ → EditorState → EditorState
@@ -70,7 +70,7 @@ undo_times (suc n) w = undo_times n (after Undo w)
 abbrev pub CanBeUndone : List Action → EditorState → Type 0
 CanBeUndone actions w =
     ArePlain actions → w.typing ≡ false → length w.past + length actions ≤ w.limits.steps
-    → (n : ℕ) × (text_of (undo_times n (run actions w)).line ≡ text_of w.line) × ((undo_times n (run actions w)).past ≡ w.past)
+    → (n : ℕ) × (line_text (undo_times n (run_actions actions w)).line ≡ line_text w.line) × ((undo_times n (run_actions actions w)).past ≡ w.past)
 
 -- A redo gives back what an undo took. No character counts as just typed then.
 abbrev pub RedoesUndone : EditorState → Type 0

@@ -28,12 +28,12 @@ target_name (Back Edge) = codes "line-start"
 target_name (Forward Edge) = codes "line-end"
 
 -- The name of a character: `space` for a blank, otherwise the character itself.
-abbrev pub char_name : ℕ → List ℕ
-char_name c = if c == 32 then codes "space" else encode_utf8 c
+abbrev pub key_char_name : ℕ → List ℕ
+key_char_name c = if c == 32 then codes "space" else encode_utf8 c
 
 -- The name of an action: a verb, and its target or character, as `kill-line-end`.
 abbrev pub action_name : Action → List ℕ
-action_name (Insert c) = codes "insert-" ++ char_name c
+action_name (Insert c) = codes "insert-" ++ key_char_name c
 action_name (Go target) = codes "go-" ++ target_name target
 action_name (Erase target) = codes "erase-" ++ target_name target
 action_name (Kill target) = codes "kill-" ++ target_name target
@@ -96,5 +96,5 @@ HasScalar (Insert c) = IsScalar c
 HasScalar action = ⊤
 
 -- The name of an action reads as this action.
-abbrev pub ReadsBack : Action → Type 0
-ReadsBack action = HasScalar action → action_named (action_name action) ≡ Some action
+abbrev pub NameReadsBack : Action → Type 0
+NameReadsBack action = HasScalar action → action_named (action_name action) ≡ Some action

@@ -6,7 +6,7 @@ use Rattle.line_editor.specs.declared.places.Stop.{Stop}
 use Rattle.line_editor.specs.declared.places.Stop.TheVariants.{Cluster, WordStart, WordEnd, Blank, Edge}
 use Rattle.line_editor.specs.declared.places.Target.{Target}
 use Rattle.line_editor.specs.declared.places.Target.TheVariants.{Back, Forward}
-use Rattle.line_editor.specs.Splits.{Split, ahead, behind}
+use Rattle.line_editor.specs.Splits.{Split, ahead, last_stop}
 use Rattle.line_editor.specs.Words.{begins_unblank, begins_with_word, ends_in_word}
 
 -- Whether a place is between clusters: Unicode's rules for extended grapheme clusters (UAX 29) have a boundary there.
@@ -26,7 +26,7 @@ stops Edge before after = false
 -- The last stop before the cursor, or the start of the line if there is none.
 abbrev pub back_from : Rule → List ℕ → List ℕ → Split
 back_from stops [] after = record { before = []; after = after }
-back_from stops (c ∷ before) after = behind stops before (c ∷ after)
+back_from stops (c ∷ before) after = last_stop stops before (c ∷ after)
 
 -- The first stop behind the cursor, or the end of the line if there is none.
 abbrev pub forward_from : Rule → List ℕ → List ℕ → Split
@@ -34,9 +34,9 @@ forward_from stops before [] = record { before = before; after = [] }
 forward_from stops before (c ∷ after) = ahead stops (c ∷ before) after
 
 -- The place to which a target brings the cursor, back or forward to a stop.
-abbrev pub place : Target → Split → Split
-place (Back stop) d = back_from (stops stop) d.before d.after
-place (Forward stop) d = forward_from (stops stop) d.before d.after
+abbrev pub target_place : Target → Split → Split
+target_place (Back stop) d = back_from (stops stop) d.before d.after
+target_place (Forward stop) d = forward_from (stops stop) d.before d.after
 
 -- The target is before the cursor.
 abbrev pub IsBack : Target → Type 0

@@ -13,8 +13,8 @@ abbrev pub is_shown : ℕ → Bool
 is_shown c = is_width_shown (char_width false c)
 
 -- The characters of a text that are shown, which are those that come into a line.
-abbrev pub shown : List ℕ → List ℕ
-shown text = filter is_shown text
+abbrev pub shown_part : List ℕ → List ℕ
+shown_part text = filter is_shown text
 
 -- Each character of a text is shown.
 abbrev pub AreShown : List ℕ → Type 0

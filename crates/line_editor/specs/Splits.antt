@@ -8,8 +8,8 @@ pub record Split : Type 0 where
   pub after : List ℕ
 
 -- The text of a line: both parts in reading order.
-abbrev pub text_of : Split → List ℕ
-text_of d = reverse d.before ++ d.after
+abbrev pub line_text : Split → List ℕ
+line_text d = reverse d.before ++ d.after
 
 -- A text in UTF-8, split at a byte offset.
 abbrev pub split_at : List ℕ → ℕ → Split
@@ -22,7 +22,7 @@ ahead stops before (c ∷ after) =
     if stops before (c ∷ after) then record { before = before; after = c ∷ after } else ahead stops (c ∷ before) after
 
 -- The last place up to this one at which a rule holds, or the start of the line if there is none.
-abbrev pub behind : Rule → List ℕ → List ℕ → Split
-behind stops [] after = record { before = []; after = after }
-behind stops (c ∷ before) after =
-    if stops (c ∷ before) after then record { before = c ∷ before; after = after } else behind stops before (c ∷ after)
+abbrev pub last_stop : Rule → List ℕ → List ℕ → Split
+last_stop stops [] after = record { before = []; after = after }
+last_stop stops (c ∷ before) after =
+    if stops (c ∷ before) after then record { before = c ∷ before; after = after } else last_stop stops before (c ∷ after)

@@ -7,10 +7,10 @@ use Rattle.line_editor.specs.declared.limits.Limits.{Limits}
 use Rattle.line_editor.specs.declared.places.Stop.TheVariants.{Edge}
 use Rattle.line_editor.specs.declared.places.Target.{Target}
 use Rattle.line_editor.specs.declared.places.Target.TheVariants.{Forward}
-use Rattle.line_editor.specs.Splits.{Split, text_of}
-use Rattle.line_editor.specs.Edits.{cut, empty, erased, inserted, meeting, settled, transposed}
-use Rattle.line_editor.specs.Places.{place}
-use Rattle.line_editor.specs.Shown.{is_shown, shown}
+use Rattle.line_editor.specs.Splits.{Split, line_text}
+use Rattle.line_editor.specs.Edits.{cut_text, empty_line, erased, inserted, meeting, settled, transposed}
+use Rattle.line_editor.specs.Places.{target_place}
+use Rattle.line_editor.specs.Shown.{is_shown, shown_part}
 
 -- An editor: its line, and what came before it.
 pub record EditorState : Type 0 where
@@ -35,13 +35,13 @@ pub record EditorState : Type 0 where
 abbrev pub fresh : Limits → EditorState
 fresh limits = record {
   limits = limits;
-  line = empty;
+  line = empty_line;
   killed = [];
   past = [];
   undone = [];
   history = [];
   back = 0;
-  unfinished = empty;
+  unfinished = empty_line;
   typing = false;
 }
 
@@ -56,8 +56,8 @@ abbrev pub changed : Split → EditorState → EditorState
 changed d w = record w { line = d; past = pushed w; undone = []; typing = false }
 
 -- The editor after a character was typed. It is undone together with the characters that were typed just before it.
-abbrev pub typed : Split → EditorState → EditorState
-typed d w = record w { line = d; past = if w.typing then w.past else pushed w; undone = []; typing = true }
+abbrev pub after_typing : Split → EditorState → EditorState
+after_typing d w = record w { line = d; past = if w.typing then w.past else pushed w; undone = []; typing = true }
 
 -- The editor with its cursor elsewhere.
 abbrev pub moved : Split → EditorState → EditorState
@@ -67,7 +67,7 @@ moved d w = record w { line = d; typing = false }
 
 -- The editor after a character is typed, which does nothing if the character isn't shown.
 abbrev pub type_char : ℕ → EditorState → EditorState
-type_char c w = if is_shown c then typed (inserted (c ∷ []) w.line) w else w
+type_char c w = if is_shown c then after_typing (inserted (c ∷ []) w.line) w else w
 
 -- The editor after a text is written at the cursor. An empty text does nothing.
 abbrev pub write : List ℕ → EditorState → EditorState
@@ -75,8 +75,8 @@ write [] w = w
 write (c ∷ text) w = changed (inserted (c ∷ text) w.line) w
 
 -- The editor after a paste, whose shown characters are written.
-abbrev pub pasted : List ℕ → EditorState → EditorState
-pasted text w = write (shown text) w
+abbrev pub pasted_into : List ℕ → EditorState → EditorState
+pasted_into text w = write (shown_part text) w
 
 -- ---- what is erased
 
@@ -146,15 +146,15 @@ behind_front (c ∷ front) [] = None
 behind_front (c ∷ front) (d ∷ text) = if c == d then behind_front front text else None
 
 -- The rest that was found with its place in the history, or what else was found.
-abbrev pub or_else : Option (List ℕ) → ℕ → Option (ℕ × List ℕ) → Option (ℕ × List ℕ)
-or_else (Some rest) back other = Some (back, rest)
-or_else None back other = other
+abbrev pub rest_or : Option (List ℕ) → ℕ → Option (ℕ × List ℕ) → Option (ℕ × List ℕ)
+rest_or (Some rest) back other = Some (back, rest)
+rest_or None back other = other
 
 -- The first of the lines that begins with a text: its place behind `passed` others, and the rest of it. `None` if
 -- there is none.
 abbrev pub first_with : List ℕ → ℕ → List Split → Option (ℕ × List ℕ)
 first_with front passed [] = None
-first_with front passed (d ∷ lines) = or_else (behind_front front (text_of d)) (passed + 1) (first_with front (passed + 1) lines)
+first_with front passed (d ∷ lines) = rest_or (behind_front front (line_text d)) (passed + 1) (first_with front (passed + 1) lines)
 
 -- The editor with a line that was found, if there is one. The cursor is behind the text that was searched for.
 abbrev pub searched_to : Option (ℕ × List ℕ) → EditorState → EditorState
@@ -169,7 +169,7 @@ found w = first_with (reverse w.line.before) w.back (drop w.back w.history)
 -- The history with an accepted line as its newest, up to the limit of lines. An empty line isn't remembered.
 abbrev pub remembered : Limits → Split → List ℕ → List Split → List Split
 remembered limits d [] history = history
-remembered limits d (c ∷ text) history = take limits.lines (place (Forward Edge) d ∷ history)
+remembered limits d (c ∷ text) history = take limits.lines (target_place (Forward Edge) d ∷ history)
 
 -- A fresh editor with the killed text and the history of the one before.
 abbrev pub dropped : EditorState → EditorState
@@ -177,16 +177,16 @@ dropped w = record (fresh w.limits) { killed = w.killed; history = w.history }
 
 -- A fresh editor with the killed text and the history of the one before, in which the accepted line is remembered.
 abbrev pub accepted : EditorState → EditorState
-accepted w = record (dropped w) { history = remembered w.limits w.line (text_of w.line) w.history }
+accepted w = record (dropped w) { history = remembered w.limits w.line (line_text w.line) w.history }
 
 -- ---- actions
 
 -- The editor after an action.
 abbrev pub after : Action → EditorState → EditorState
 after (does.Insert c) w = type_char c w
-after (does.Go target) w = moved (place target w.line) w
-after (does.Erase target) w = erase_cut (cut target w.line) target w
-after (does.Kill target) w = kill_cut (cut target w.line) target w
+after (does.Go target) w = moved (target_place target w.line) w
+after (does.Erase target) w = erase_cut (cut_text target w.line) target w
+after (does.Kill target) w = kill_cut (cut_text target w.line) target w
 after does.Yank w = write w.killed w
 after does.Transpose w = transpose_at (meeting w.line.before w.line.after).before w
 after does.Undo w = undo_to w.past w
@@ -201,6 +201,6 @@ IsMove (does.Go target) = ⊤
 IsMove action = ⊥
 
 -- The editor after actions, one after another.
-abbrev pub run : List Action → EditorState → EditorState
-run [] w = w
-run (a ∷ actions) w = run actions (after a w)
+abbrev pub run_actions : List Action → EditorState → EditorState
+run_actions [] w = w
+run_actions (a ∷ actions) w = run_actions actions (after a w)

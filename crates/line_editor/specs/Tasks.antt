@@ -3,8 +3,8 @@ use Rattle.std.specs.Prelude.{ℕ, List, []}
 use Rattle.line_editor.specs.declared.actions.Action.{Action}
 use Rattle.line_editor.specs.Bounds.{written}
 use Rattle.line_editor.specs.History.{loaded}
-use Rattle.line_editor.specs.Shown.{shown}
-use Rattle.line_editor.specs.States.{EditorState, accepted, after, dropped, pasted}
+use Rattle.line_editor.specs.Shown.{shown_part}
+use Rattle.line_editor.specs.States.{EditorState, accepted, after, dropped, pasted_into}
 
 -- What a call does to an editor.
 pub data Task : Type 0 where
@@ -26,7 +26,7 @@ pub data Task : Type 0 where
 -- The editor after a task. Closing changes nothing.
 abbrev pub done : Task → EditorState → EditorState
 done (Acts action) w = after action w
-done (Pastes text) w = pasted text w
+done (Pastes text) w = pasted_into text w
 done Accepts w = accepted w
 done LetsGo w = dropped w
 done (Loads text) w = loaded text w
@@ -36,5 +36,5 @@ done Nothing w = w
 -- What a task writes: the text of its action, or the shown characters of a paste.
 abbrev pub task_text : Task → EditorState → List ℕ
 task_text (Acts action) w = written action w
-task_text (Pastes text) w = shown text
+task_text (Pastes text) w = shown_part text
 task_text task w = []

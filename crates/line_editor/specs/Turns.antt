@@ -15,7 +15,7 @@ use Rattle.line_editor.specs.declared.places.Stop.TheVariants.{Cluster}
 use Rattle.line_editor.specs.declared.places.Target.TheVariants.{Forward}
 use Rattle.line_editor.specs.Bounds.{is_too_long}
 use Rattle.line_editor.specs.Keys.{command_of}
-use Rattle.line_editor.specs.Splits.{text_of}
+use Rattle.line_editor.specs.Splits.{line_text}
 use Rattle.line_editor.specs.States.{EditorState}
 use Rattle.line_editor.specs.Tasks.{Task, Acts, Pastes, Accepts, LetsGo, Closes, Nothing, done, task_text}
 
@@ -29,7 +29,7 @@ abbrev pub task_of_command : KeyCommand → EditorState → Task
 task_of_command (asks.Act action) w = Acts action
 task_of_command asks.Accept w = Accepts
 task_of_command asks.Interrupt w = LetsGo
-task_of_command asks.EraseOrClose w = erase_or_close (text_of w.line)
+task_of_command asks.EraseOrClose w = erase_or_close (line_text w.line)
 
 -- The task of a key with a command. A key without one does nothing.
 abbrev pub task_of_key : Option KeyCommand → EditorState → Task
@@ -54,15 +54,15 @@ pub data Answer : Type 0 where
   Closed : Answer
 
 -- What contracts see of an outcome.
-abbrev pub answer_of : {A : Type 0} → Outcome A → Answer
-answer_of outcome.Going = Going
-answer_of (outcome.Line text) = Line (chars (string_bytes text))
-answer_of outcome.Interrupted = Interrupted
-answer_of outcome.Closed = Closed
+abbrev pub seen_outcome : {A : Type 0} → Outcome A → Answer
+seen_outcome outcome.Going = Going
+seen_outcome (outcome.Line text) = Line (chars (string_bytes text))
+seen_outcome outcome.Interrupted = Interrupted
+seen_outcome outcome.Closed = Closed
 
 -- The outcome of a task: the line's text if it is accepted, an interruption, a closing, or else the line goes on.
 abbrev pub answer : Task → EditorState → Answer
-answer Accepts w = Line (text_of w.line)
+answer Accepts w = Line (line_text w.line)
 answer LetsGo w = Interrupted
 answer Closes w = Closed
 answer task w = Going

@@ -16,9 +16,9 @@ abbrev pub columns_of : ℕ → ℕ
 columns_of c = columns_of_width (char_width false c)
 
 -- How many columns the characters of a text take together.
-abbrev pub columns : List ℕ → ℕ
-columns [] = 0
-columns (c ∷ text) = columns_of c + columns text
+abbrev pub width_of : List ℕ → ℕ
+width_of [] = 0
+width_of (c ∷ text) = columns_of c + width_of text
 
 -- The place from which a line is seen, and the number of columns from there to the cursor.
 pub record Start : Type 0 where
@@ -62,8 +62,8 @@ abbrev pub end_seen : ℕ → ℕ → Split → Split
 end_seen room column d = last_seen room column d.before d.after d
 
 -- The text that is seen: the part from the start to the end.
-abbrev pub seen : ℕ → Split → List ℕ
-seen room d = from_to (start room d).place (end_seen room (start room d).column d)
+abbrev pub seen_text : ℕ → Split → List ℕ
+seen_text room d = from_to (start room d).place (end_seen room (start room d).column d)
 
 -- The cursor's column: the number of columns from the start to the cursor.
 abbrev pub column : ℕ → Split → ℕ

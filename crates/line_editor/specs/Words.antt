@@ -11,8 +11,8 @@ is_zero None = false
 is_zero (Some width) = width == 0
 
 -- Whether a character is a mark: it takes no column, as a combining accent.
-abbrev pub is_mark : ℕ → Bool
-is_mark c = is_zero (char_width false c)
+abbrev pub takes_no_column : ℕ → Bool
+takes_no_column c = is_zero (char_width false c)
 
 -- Whether a character is one of words: a letter or a digit.
 abbrev pub is_of_word : ℕ → Bool
@@ -21,7 +21,7 @@ is_of_word c = is_alphabetic c || is_numeric c
 -- Whether characters, nearest first, end in a word. Marks at the end belong to the character before them.
 abbrev pub ends_in_word : List ℕ → Bool
 ends_in_word [] = false
-ends_in_word (c ∷ before) = is_of_word c || (is_mark c && ends_in_word before)
+ends_in_word (c ∷ before) = is_of_word c || (takes_no_column c && ends_in_word before)
 
 -- Whether the first character is one of words.
 abbrev pub begins_with_word : List ℕ → Bool

@@ -4,13 +4,13 @@ ghost use Rattle.std.specs.Str.{chars};
 ghost use Rattle.std.specs.String.{string_bytes};
 ghost use Rattle.line_editor.specs.declared.actions.Action.{Action};
 ghost use Rattle.line_editor.specs.declared.fault.EditFault.TheVariants.{Memory};
-ghost use Rattle.line_editor.specs.Bounds.{AreAllowed, StopsAt, fault_of, is_too_long, room_of, written};
-ghost use Rattle.line_editor.specs.Edits.{cut, inserted, meeting};
+ghost use Rattle.line_editor.specs.Bounds.{AreAllowed, StopsAt, refusal_of, is_too_long, room_of, written};
+ghost use Rattle.line_editor.specs.Edits.{cut_text, inserted, meeting};
 ghost use Rattle.line_editor.specs.History.{loaded, saved};
-ghost use Rattle.line_editor.specs.Places.{place};
-ghost use Rattle.line_editor.specs.Shown.{AreShown, shown};
-ghost use Rattle.line_editor.specs.Splits.{text_of};
-ghost use Rattle.line_editor.specs.States.{IsMove, accepted, after, changed, dropped, erase_cut, found, fresh, kill_cut, left_for, moved, newer_from, newer_line, older_to, pasted, redo_to, remembered, run, searched_to, transpose_at, type_char, typed, undo_to, write};
+ghost use Rattle.line_editor.specs.Places.{target_place};
+ghost use Rattle.line_editor.specs.Shown.{AreShown, shown_part};
+ghost use Rattle.line_editor.specs.Splits.{line_text};
+ghost use Rattle.line_editor.specs.States.{IsMove, accepted, after, changed, dropped, erase_cut, found, fresh, kill_cut, left_for, moved, newer_from, newer_line, older_to, pasted_into, redo_to, remembered, run_actions, searched_to, transpose_at, type_char, after_typing, undo_to, write};
 
 use crate::actions::Action;
 use crate::fault::EditFault;
@@ -188,7 +188,7 @@ impl<A: Allocator + Clone> Editor<A> {
 
     /// The same for a line with a character more, which is undone with those typed just before.
     fn change_on(&mut self, line: Line<A>) -> Result<(), AllocError>
-        ensures ok { OnOk result (self.new ≡ typed line self.old) }
+        ensures ok { OnOk result (self.new ≡ after_typing line self.old) }
         ensures err { OnErr result (self.new ≡ self.old) }
     {
         if self.typing {
@@ -216,7 +216,7 @@ impl<A: Allocator + Clone> Editor<A> {
 
     /// Brings the cursor to a target.
     fn go(&mut self, target: Target)
-        ensures { self.new ≡ moved (place target self.old.line) self.old }
+        ensures { self.new ≡ moved (target_place target self.old.line) self.old }
     {
         self.line.go(target);
         self.typing = false;
@@ -224,7 +224,7 @@ impl<A: Allocator + Clone> Editor<A> {
 
     /// Erases what a target reaches.
     fn erase(&mut self, target: Target) -> Result<(), AllocError>
-        ensures ok { OnOk result (self.new ≡ erase_cut (cut target self.old.line) target self.old) }
+        ensures ok { OnOk result (self.new ≡ erase_cut (cut_text target self.old.line) target self.old) }
         ensures err { OnErr result (self.new ≡ self.old) }
     {
         if is_nothing(self.line.cut(target)) {
@@ -236,7 +236,7 @@ impl<A: Allocator + Clone> Editor<A> {
 
     /// Erases what a target reaches, and keeps it.
     fn kill(&mut self, target: Target) -> Result<(), AllocError>
-        ensures ok { OnOk result (self.new ≡ kill_cut (cut target self.old.line) target self.old) }
+        ensures ok { OnOk result (self.new ≡ kill_cut (cut_text target self.old.line) target self.old) }
         ensures err { OnErr result (self.new ≡ self.old) }
     {
         let text = self.line.cut(target);
@@ -417,7 +417,7 @@ impl<A: Allocator + Clone> Editor<A> {
         ensures ok { OnOk result (self.new ≡ after action self.old) }
         ensures room { OnOk result (is_too_long (written action self.old) self.old ≡ false) }
         ensures err { OnErr result (self.new ≡ self.old) }
-        ensures fault { IfErr result (λ fault. fault ≡ fault_of (written action self.old) self.old) }
+        ensures fault { IfErr result (λ fault. fault ≡ refusal_of (written action self.old) self.old) }
         ensures free { IsMove action → IsOk result }
     {
         if self.is_too_long(action) {
@@ -439,7 +439,7 @@ impl<A: Allocator + Clone> Editor<A> {
     /// editor.run(&[Action::Insert('a'), Action::Insert('b')])?;
     /// ```
     pub fn run(&mut self, actions: &[Action]) -> Result<(), EditFault>
-        ensures ok { OnOk result (self.new ≡ run actions.now self.old) }
+        ensures ok { OnOk result (self.new ≡ run_actions actions.now self.old) }
         ensures room { OnOk result (AreAllowed actions.now self.old) }
         ensures err { IfErr result (λ fault. StopsAt fault actions.now self.old self.new) }
     {
@@ -451,7 +451,7 @@ impl<A: Allocator + Clone> Editor<A> {
 
     /// Writes a text's characters that come into a line.
     fn write_shown(&mut self, text: &str) -> Result<(), AllocError>
-        ensures ok { OnOk result (self.new ≡ pasted (chars text.now) self.old) }
+        ensures ok { OnOk result (self.new ≡ pasted_into (chars text.now) self.old) }
         ensures err { OnErr result (self.new ≡ self.old) }
     {
         let text = shown(self.alloc.clone()?, text)?;
@@ -474,10 +474,10 @@ impl<A: Allocator + Clone> Editor<A> {
     /// assert_eq!(rt; editor.line().text(), "onetwo");
     /// ```
     pub fn paste(&mut self, text: &str) -> Result<(), EditFault>
-        ensures ok { OnOk result (self.new ≡ pasted (chars text.now) self.old) }
-        ensures room { OnOk result (is_too_long (shown (chars text.now)) self.old ≡ false) }
+        ensures ok { OnOk result (self.new ≡ pasted_into (chars text.now) self.old) }
+        ensures room { OnOk result (is_too_long (shown_part (chars text.now)) self.old ≡ false) }
         ensures err { OnErr result (self.new ≡ self.old) }
-        ensures fault { IfErr result (λ fault. fault ≡ fault_of (shown (chars text.now)) self.old) }
+        ensures fault { IfErr result (λ fault. fault ≡ refusal_of (shown_part (chars text.now)) self.old) }
     {
         if self.room() < shown_len(text) {
             return Err(EditFault::TooLong);
@@ -490,7 +490,7 @@ impl<A: Allocator + Clone> Editor<A> {
 
     /// The line becomes the newest of the history, unless it is empty.
     fn remember(&mut self) -> Result<(), AllocError>
-        ensures ok { OnOk result (self.new ≡ record self.old { history = remembered self.old.limits self.old.line (text_of self.old.line) self.old.history }) }
+        ensures ok { OnOk result (self.new ≡ record self.old { history = remembered self.old.limits self.old.line (line_text self.old.line) self.old.history }) }
         ensures err { OnErr result (self.new ≡ self.old) }
     {
         if is_nothing(self.line.text()) {
@@ -503,8 +503,8 @@ impl<A: Allocator + Clone> Editor<A> {
 
     /// The line's text. The line is remembered, and let go.
     fn accepted_text(&mut self) -> Result<String<A>, AllocError>
-        ensures text { IfOk result (λ text. chars (string_bytes text) ≡ text_of self.old.line) }
-        ensures shown { IfOk result (λ text. AreShown (chars (string_bytes text))) }
+        ensures text { IfOk result (λ text. chars (string_bytes text) ≡ line_text self.old.line) }
+        ensures shown_part { IfOk result (λ text. AreShown (chars (string_bytes text))) }
         ensures ok { OnOk result (self.new ≡ accepted self.old) }
         ensures err { OnErr result (self.new ≡ self.old) }
     {
@@ -525,8 +525,8 @@ impl<A: Allocator + Clone> Editor<A> {
     /// let text = editor.accept()?;
     /// ```
     pub fn accept(&mut self) -> Result<String<A>, EditFault>
-        ensures text { IfOk result (λ text. chars (string_bytes text) ≡ text_of self.old.line) }
-        ensures shown { IfOk result (λ text. AreShown (chars (string_bytes text))) }
+        ensures text { IfOk result (λ text. chars (string_bytes text) ≡ line_text self.old.line) }
+        ensures shown_part { IfOk result (λ text. AreShown (chars (string_bytes text))) }
         ensures ok { OnOk result (self.new ≡ accepted self.old) }
         ensures err { OnErr result (self.new ≡ self.old) }
         ensures fault { IfErr result (λ fault. fault ≡ Memory) }

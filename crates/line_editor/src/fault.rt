@@ -1,7 +1,7 @@
 //! Why an edit is refused.
 ghost use Rattle.std.specs.Prelude.{◌≡◌};
 ghost use Rattle.std.specs.IoError.{error_kind};
-ghost use Rattle.line_editor.specs.Bounds.{kind_of};
+ghost use Rattle.line_editor.specs.Bounds.{line_fault_kind};
 
 use std::io;
 use std::io::ErrorKind;
@@ -26,7 +26,7 @@ pub enum EditFault {
 }
 
 impl From<EditFault> for io::Error {
-    ghost from_gives = { λ fault error. error_kind error ≡ kind_of fault };
+    ghost from_gives = { λ fault error. error_kind error ≡ line_fault_kind fault };
 
     /// Of the kind `OutOfMemory` if memory was refused, else `InvalidInput`.
     fn from(fault: EditFault) -> io::Error {

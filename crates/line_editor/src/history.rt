@@ -3,7 +3,7 @@ ghost use Rattle.std.specs.Prelude.{◌≡◌, ◌<◌, ◌++◌, ◌∷◌, [],
 ghost use Rattle.std.specs.Str.{chars};
 ghost use Rattle.std.specs.String.{string_bytes};
 ghost use Rattle.line_editor.specs.History.{history_of, saved, with_line};
-ghost use Rattle.line_editor.specs.Shown.{shown};
+ghost use Rattle.line_editor.specs.Shown.{shown_part};
 ghost use Rattle.line_editor.specs.inside.Lines.{IsFirstLine};
 
 use crate::limits::Limits;
@@ -64,7 +64,7 @@ fn load_line<A: Allocator + Clone>(
     limits: Limits,
     line: &str,
 ) -> Result<(), AllocError>
-    ensures { OnOk result (history.new ≡ with_line limits (shown (chars line.now)) history.old) }
+    ensures { OnOk result (history.new ≡ with_line limits (shown_part (chars line.now)) history.old) }
 {
     let len = shown_len(line);
     if len == 0 || limits.bytes < len {

@@ -21,7 +21,7 @@ pub enum KeyCommand {
 
 /// What a key asks for without Control and Alt.
 fn plain(code: KeyCode) -> Option<KeyCommand>
-    ensures { result ≡ spec.plain code }
+    ensures { result ≡ spec.unmodified code }
 {
     let action = match code {
         KeyCode::Char(c) => Action::Insert(c),
@@ -70,7 +70,7 @@ fn control_char(c: char) -> Option<KeyCommand>
 
 /// What a key asks for with Control.
 fn control(code: KeyCode) -> Option<KeyCommand>
-    ensures { result ≡ spec.control code }
+    ensures { result ≡ spec.control_key code }
 {
     match code {
         KeyCode::Char(c) => control_char(c.to_ascii_lowercase()),
@@ -106,7 +106,7 @@ fn alt(code: KeyCode) -> Option<KeyCommand>
 
 /// What a key asks for with Control and Alt.
 fn both(code: KeyCode) -> Option<KeyCommand>
-    ensures { result ≡ spec.both code }
+    ensures { result ≡ spec.control_alt_key code }
 {
     match code {
         KeyCode::Char('_') => Some(KeyCommand::Act(Action::Redo)),

@@ -5,8 +5,8 @@ ghost use Rattle.line_editor.specs.declared.places.Target.{Target};
 ghost use Rattle.line_editor.specs.declared.limits.Limits.{Limits};
 ghost use Rattle.line_editor.specs.Bounded.{LoadsSaved, StaysBounded};
 ghost use Rattle.line_editor.specs.Laws.{CanBeUndone, ComesBack, CutsOut, KeepsHistory, KeepsText, RedoesUndone, WritesAt, YanksBack};
-ghost use Rattle.line_editor.specs.Names.{ReadsBack};
-ghost use Rattle.line_editor.specs.Seen.{Fits, KeepsClusters};
+ghost use Rattle.line_editor.specs.Names.{NameReadsBack};
+ghost use Rattle.line_editor.specs.Seen.{IsSeenIn, KeepsClusters};
 ghost use Rattle.line_editor.specs.Splits.{Split};
 ghost use Rattle.line_editor.specs.States.{EditorState};
 ghost use Rattle.line_editor.specs.Tasks.{Task};
@@ -53,7 +53,7 @@ pub fn redoes_undone()
 
 /// What is seen of a line has room in a row, and so has the cursor, at its place in the line.
 pub fn fits()
-    ensures { (room : ℕ) (d : Split) → Fits room d }
+    ensures { (room : ℕ) (d : Split) → IsSeenIn room d }
 {}
 
 /// What is seen of a line begins and ends between clusters, if the cursor is between clusters.
@@ -63,7 +63,7 @@ pub fn keeps_clusters()
 
 /// The name of an action reads as this action.
 pub fn reads_back()
-    ensures { (action : Action) → ReadsBack action }
+    ensures { (action : Action) → NameReadsBack action }
 {}
 
 /// From its beginning on, an editor stays within its limits, whatever is done to it that isn't refused as too long.

@@ -4,12 +4,12 @@ ghost use Rattle.std.specs.String.{string_bytes};
 ghost use Rattle.std.specs.Str.{chars, IsCharBoundary};
 ghost use Rattle.unicode_segmentation.specs.Segments.{chars_before, chars_from};
 ghost use Rattle.line_editor.specs.Bounds.{size};
-ghost use Rattle.line_editor.specs.Edits.{IsSettled, cut, empty, end_of, erased, inserted, joined, meeting, settled, start_of, transposed};
-ghost use Rattle.line_editor.specs.Places.{place};
+ghost use Rattle.line_editor.specs.Edits.{IsSettled, cut_text, empty_line, reach_end, erased, inserted, line_with, meeting, settled, start_of, transposed};
+ghost use Rattle.line_editor.specs.Places.{target_place};
 ghost use Rattle.line_editor.specs.Seen.{IsInClusters, IsSeen};
 ghost use Rattle.line_editor.specs.Shown.{AreShown};
-ghost use Rattle.line_editor.specs.Splits.{split_at, text_of};
-ghost use Rattle.line_editor.specs.Views.{column, seen};
+ghost use Rattle.line_editor.specs.Splits.{split_at, line_text};
+ghost use Rattle.line_editor.specs.Views.{column, seen_text};
 
 use crate::places::{Stop, Target, ahead, place_of};
 use crate::texts::split_last;
@@ -80,7 +80,7 @@ fn edited<A: Allocator>(
     requires to { IsCharBoundary text.now to }
     requires text { AreShown (chars text.now) }
     requires with { AreShown (chars with.now) }
-    ensures { IfOk result (λ line. line ≡ joined (split_at text.now from) (chars with.now) (split_at text.now to)) }
+    ensures { IfOk result (λ line. line ≡ line_with (split_at text.now from) (chars with.now) (split_at text.now to)) }
 {
     let new = spliced(alloc, text, from, to, with)?;
     let whole = new.as_str();
@@ -95,7 +95,7 @@ fn reach(text: &str, at: usize, target: Target) -> (usize, usize)
     ensures from { IsCharBoundary text.now result.0 }
     ensures to { IsCharBoundary text.now result.1 }
     ensures start { split_at text.now result.0 ≡ start_of target (split_at text.now at) }
-    ensures end { split_at text.now result.1 ≡ end_of target (split_at text.now at) }
+    ensures end { split_at text.now result.1 ≡ reach_end target (split_at text.now at) }
 {
     let place = place_of(text, at, target);
     match target {
@@ -108,7 +108,7 @@ fn reach(text: &str, at: usize, target: Target) -> (usize, usize)
 fn meeting(text: &str, at: usize) -> usize
     requires { IsCharBoundary text.now at }
     ensures boundary { IsCharBoundary text.now result }
-    ensures place { split_at text.now result ≡ meeting (chars_before text.now at) (chars_from text.now at) }
+    ensures target_place { split_at text.now result ≡ meeting (chars_before text.now at) (chars_from text.now at) }
 {
     if at < text.len() {
         return at;
@@ -119,7 +119,7 @@ fn meeting(text: &str, at: usize) -> usize
 impl<A: Allocator> Line<A> {
     /// An empty line.
     pub(crate) fn new(alloc: A) -> Line<A>
-        ensures { result ≡ empty }
+        ensures { result ≡ empty_line }
     {
         Line {
             text: String::new(alloc),
@@ -146,8 +146,8 @@ impl<A: Allocator> Line<A> {
     /// assert_eq!(rt; editor.line().text(), "");
     /// ```
     pub fn text(&self) -> &str
-        ensures text { chars result.now ≡ text_of self.now }
-        ensures len { length result.now ≡ size (text_of self.now) }
+        ensures text { chars result.now ≡ line_text self.now }
+        ensures len { length result.now ≡ size (line_text self.now) }
         ensures shown { AreShown (chars result.now) }
     {
         self.text.as_str()
@@ -179,14 +179,14 @@ impl<A: Allocator> Line<A> {
 
     /// Brings the cursor to a target.
     pub(crate) fn go(&mut self, target: Target)
-        ensures { self.new ≡ place target self.old }
+        ensures { self.new ≡ target_place target self.old }
     {
         self.at = place_of(self.text.as_str(), self.at, target);
     }
 
     /// Lets the text go. Its memory stays.
     pub(crate) fn clear(&mut self)
-        ensures { self.new ≡ empty }
+        ensures { self.new ≡ empty_line }
     {
         self.text.clear();
         self.at = 0;
@@ -216,7 +216,7 @@ impl<A: Allocator> Line<A> {
     /// let (text, column) = editor.line().seen(40);
     /// ```
     pub fn seen(&self, room: u16) -> (&str, usize)
-        ensures text { chars result.0.now ≡ seen room self.now }
+        ensures text { chars result.0.now ≡ seen_text room self.now }
         ensures shown { AreShown (chars result.0.now) }
         ensures column { result.1 ≡ column room self.now }
         ensures few { result.1 ≤ 65535 }
@@ -237,7 +237,7 @@ impl<A: Allocator + Clone> Line<A> {
     /// let word = editor.line().cut(Target::Back(Stop::WordStart));
     /// ```
     pub fn cut(&self, target: Target) -> &str
-        ensures text { chars result.now ≡ cut target self.now }
+        ensures text { chars result.now ≡ cut_text target self.now }
         ensures shown { AreShown (chars result.now) }
     {
         let text = self.text.as_str();

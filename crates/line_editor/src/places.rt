@@ -3,9 +3,9 @@ ghost use Rattle.std.specs.Prelude.{◌≡◌, ◌<◌, ◌≤◌, length, rever
 ghost use Rattle.std.specs.Str.{chars, IsCharBoundary};
 ghost use Rattle.unicode_segmentation.specs.Segments.{breaks_at, chars_before, chars_from};
 ghost use Rattle.unicode_segmentation.specs.Steps.{IsCharAt, IsOneChar};
-ghost use Rattle.line_editor.specs.Places.{IsBack, IsForward, is_between, place, stops};
-ghost use Rattle.line_editor.specs.Splits.{ahead, behind, split_at};
-ghost use Rattle.line_editor.specs.Words.{begins_unblank, begins_with_word, ends_in_word, is_mark};
+ghost use Rattle.line_editor.specs.Places.{IsBack, IsForward, is_between, target_place, stops};
+ghost use Rattle.line_editor.specs.Splits.{ahead, last_stop, split_at};
+ghost use Rattle.line_editor.specs.Words.{begins_unblank, begins_with_word, ends_in_word, takes_no_column};
 
 use crate::texts::split_last;
 use unicode_segmentation::GraphemeCursor;
@@ -41,7 +41,7 @@ pub enum Target {
 
 /// Whether a character takes no column, as a combining accent.
 fn is_mark(c: char) -> bool
-    ensures { result ≡ is_mark c }
+    ensures { result ≡ takes_no_column c }
 {
     match c.width() {
         None => false,
@@ -193,7 +193,7 @@ pub(crate) fn behind(text: &str, at: usize, stop: Stop) -> usize
     requires { IsCharBoundary text.now at }
     ensures boundary { IsCharBoundary text.now result }
     ensures back { result ≤ at }
-    ensures last { split_at text.now result ≡ behind (stops stop) (chars_before text.now at) (chars_from text.now at) }
+    ensures last { split_at text.now result ≡ last_stop (stops stop) (chars_before text.now at) (chars_from text.now at) }
 {
     let mut place = at;
     while place > 0 {
@@ -211,7 +211,7 @@ pub(crate) fn place_of(text: &str, at: usize, target: Target) -> usize
     ensures boundary { IsCharBoundary text.now result }
     ensures back { IsBack target → result ≤ at }
     ensures on { IsForward target → at ≤ result }
-    ensures place { split_at text.now result ≡ place target (split_at text.now at) }
+    ensures target_place { split_at text.now result ≡ target_place target (split_at text.now at) }
 {
     match target {
         Target::Back(stop) => {

@@ -4,7 +4,7 @@ ghost use Rattle.std.specs.Option.{option_map};
 ghost use Rattle.std.specs.Str.{chars};
 ghost use Rattle.line_editor.specs.Recent.{first_or, pushed_if, rest_of};
 ghost use Rattle.line_editor.specs.Shown.{AreShown};
-ghost use Rattle.line_editor.specs.Splits.{text_of};
+ghost use Rattle.line_editor.specs.Splits.{line_text};
 ghost use Rattle.line_editor.specs.States.{first_with};
 
 use crate::lines::Line;
@@ -123,7 +123,7 @@ impl<A: Allocator> RecentLines<A> {
 impl<A: Allocator> RecentLines<A> {
     /// The text of the line with so many newer ones, if there is one.
     pub(crate) fn text_at(&self, at: usize) -> Option<&str>
-        ensures text { option_map (λ text. chars text.now) result ≡ option_map text_of (slice_get self.now at) }
+        ensures text { option_map (λ text. chars text.now) result ≡ option_map line_text (slice_get self.now at) }
         ensures shown { IfSome result (λ text. AreShown (chars text.now)) }
     {
         match self.lines.get(at) {

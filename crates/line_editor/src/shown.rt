@@ -3,7 +3,7 @@ ghost use Rattle.std.specs.Prelude.{◌≡◌, IfOk};
 ghost use Rattle.std.specs.Str.{chars};
 ghost use Rattle.std.specs.String.{string_bytes};
 ghost use Rattle.line_editor.specs.Bounds.{size};
-ghost use Rattle.line_editor.specs.Shown.{AreShown, is_shown, shown};
+ghost use Rattle.line_editor.specs.Shown.{AreShown, is_shown, shown_part};
 
 use crate::texts::split_first;
 use std::alloc::{AllocError, Allocator};
@@ -21,7 +21,7 @@ pub(crate) fn is_shown(c: char) -> bool
 
 /// The bytes of a text's characters that come into a line.
 pub(crate) fn shown_len(text: &str) -> usize
-    ensures { result ≡ size (shown (chars text.now)) }
+    ensures { result ≡ size (shown_part (chars text.now)) }
 {
     let mut len = 0usize;
     let mut rest = text;
@@ -36,8 +36,8 @@ pub(crate) fn shown_len(text: &str) -> usize
 
 /// A text's characters that come into a line.
 pub(crate) fn shown<A: Allocator>(alloc: A, text: &str) -> Result<String<A>, AllocError>
-    ensures text { IfOk result (λ new. chars (string_bytes new) ≡ shown (chars text.now)) }
-    ensures shown { IfOk result (λ new. AreShown (chars (string_bytes new))) }
+    ensures text { IfOk result (λ new. chars (string_bytes new) ≡ shown_part (chars text.now)) }
+    ensures shown_part { IfOk result (λ new. AreShown (chars (string_bytes new))) }
 {
     let mut new = String::new(alloc);
     let mut rest = text;

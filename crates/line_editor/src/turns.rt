@@ -2,10 +2,10 @@
 ghost use Rattle.std.specs.Prelude.{◌≡◌, ◌++◌, true, false, map, IfErr, IfOk, OnOk, OnErr};
 ghost use Rattle.crossterm_types.specs.Seen.{seen_event};
 ghost use Rattle.line_editor.specs.declared.fault.EditFault.TheVariants.{TooLong};
-ghost use Rattle.line_editor.specs.Bounds.{fault_of, is_too_long};
+ghost use Rattle.line_editor.specs.Bounds.{refusal_of, is_too_long};
 ghost use Rattle.line_editor.specs.Tasks as tasks;
 ghost use Rattle.line_editor.specs.Tasks.{done, task_text};
-ghost use Rattle.line_editor.specs.Turns.{AreTaken, StopsBefore, after_events, answer, answer_of, event_text, lines_in, lines_of_events, task_of, task_of_command, texts, turned};
+ghost use Rattle.line_editor.specs.Turns.{AreTaken, StopsBefore, after_events, answer, seen_outcome, event_text, lines_in, lines_of_events, task_of, task_of_command, texts, turned};
 ghost use Rattle.line_editor.specs.Turns as turns;
 
 use crate::actions::Action;
@@ -22,10 +22,10 @@ impl<A: Allocator + Clone> Editor<A> {
     /// Does an action, and the line goes on.
     fn act_on(&mut self, action: Action) -> Result<Outcome<A>, EditFault>
         ensures ok { OnOk result (self.new ≡ done (tasks.Acts action) self.old) }
-        ensures answer { IfOk result (λ outcome. answer_of outcome ≡ turns.Going) }
+        ensures answer { IfOk result (λ outcome. seen_outcome outcome ≡ turns.Going) }
         ensures room { OnOk result (is_too_long (task_text (tasks.Acts action) self.old) self.old ≡ false) }
         ensures err { OnErr result (self.new ≡ self.old) }
-        ensures fault { IfErr result (λ fault. fault ≡ fault_of (task_text (tasks.Acts action) self.old) self.old) }
+        ensures fault { IfErr result (λ fault. fault ≡ refusal_of (task_text (tasks.Acts action) self.old) self.old) }
     {
         match self.act(action) {
             Ok(()) => Ok(Outcome::Going),
@@ -36,10 +36,10 @@ impl<A: Allocator + Clone> Editor<A> {
     /// Does what a key asks for.
     fn obey(&mut self, command: KeyCommand) -> Result<Outcome<A>, EditFault>
         ensures ok { OnOk result (self.new ≡ done (task_of_command command self.old) self.old) }
-        ensures answer { IfOk result (λ outcome. answer_of outcome ≡ answer (task_of_command command self.old) self.old) }
+        ensures answer { IfOk result (λ outcome. seen_outcome outcome ≡ answer (task_of_command command self.old) self.old) }
         ensures room { OnOk result (is_too_long (task_text (task_of_command command self.old) self.old) self.old ≡ false) }
         ensures err { OnErr result (self.new ≡ self.old) }
-        ensures fault { IfErr result (λ fault. fault ≡ fault_of (task_text (task_of_command command self.old) self.old) self.old) }
+        ensures fault { IfErr result (λ fault. fault ≡ refusal_of (task_text (task_of_command command self.old) self.old) self.old) }
     {
         match command {
             KeyCommand::Act(action) => self.act_on(action),
@@ -75,10 +75,10 @@ impl<A: Allocator + Clone> Editor<A> {
     /// ```
     pub fn turn<B: Allocator>(&mut self, event: &Event<B>) -> Result<Outcome<A>, EditFault>
         ensures ok { OnOk result (self.new ≡ turned (seen_event event.now) self.old) }
-        ensures answer { IfOk result (λ outcome. answer_of outcome ≡ answer (task_of (seen_event event.now) self.old) self.old) }
+        ensures answer { IfOk result (λ outcome. seen_outcome outcome ≡ answer (task_of (seen_event event.now) self.old) self.old) }
         ensures room { OnOk result (is_too_long (event_text (seen_event event.now) self.old) self.old ≡ false) }
         ensures err { OnErr result (self.new ≡ self.old) }
-        ensures fault { IfErr result (λ fault. fault ≡ fault_of (event_text (seen_event event.now) self.old) self.old) }
+        ensures fault { IfErr result (λ fault. fault ≡ refusal_of (event_text (seen_event event.now) self.old) self.old) }
     {
         match event {
             Event::Key(key) => match command_of(key) {

@@ -12,7 +12,7 @@ use Rattle.crossterm_read.specs.Replies.{Came}
 use Rattle.line_editor.specs.Bounds.{is_too_long}
 use Rattle.line_editor.specs.States.{EditorState}
 use Rattle.line_editor.specs.Turns.{Going, event_text}
-use Rattle.prompt.specs.Asking.{GoesOn, Fails, unread, further, refused}
+use Rattle.prompt.specs.Asking.{GoesOn, StopsAsking, unread, further, refused}
 use Rattle.prompt.specs.inside.Turning.{TakesAs}
 
 module _ {S : Type 0} (drawn : S → List SourceAnswer → S → Type 0) (asked : S → List (Option Duration)) (v : Known S) (w : EditorState) where
@@ -28,6 +28,6 @@ module _ {S : Type 0} (drawn : S → List SourceAnswer → S → Type 0) (asked 
 
   -- Memory was refused for one more event.
   pub refuses : (p q : Known S) (k z : EditorState) (e : Seen) (kind : ErrorKind) → GoesOn drawn asked v w p k → Reads drawn asked filters.Event p q (Came (Some e))
-      → is_too_long (event_text e k) k ≡ false → z ≡ k → kind ≡ OutOfMemory → Fails drawn asked v w kind q z
+      → is_too_long (event_text e k) k ≡ false → z ≡ k → kind ≡ OutOfMemory → StopsAsking drawn asked v w kind q z
   refuses p q k z e kind goes reads room same is =
-      subst (λ (x : EditorState). Fails drawn asked v w kind q x) (sym same) (refused p e goes reads room is)
+      subst (λ (x : EditorState). StopsAsking drawn asked v w kind q x) (sym same) (refused p e goes reads room is)

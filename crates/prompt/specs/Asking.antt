@@ -17,8 +17,8 @@ use Rattle.prompt.specs.declared.read.Read.{Read}
 use Rattle.prompt.specs.declared.read.Read.TheVariants as read
 
 -- The editor after an event. If the event's text is too long, nothing changes.
-abbrev pub pressed : Seen → EditorState → EditorState
-pressed e w = cond (is_too_long (event_text e w) w) w (turned e w)
+abbrev pub after_event : Seen → EditorState → EditorState
+after_event e w = cond (is_too_long (event_text e w) w) w (turned e w)
 
 -- The outcome of an event: that of its turn, or the line goes on if its text is too long.
 abbrev pub answer_to : Seen → EditorState → Answer
@@ -35,24 +35,24 @@ pub data GoesOn {S : Type 0} (drawn : S → List SourceAnswer → S → Type 0) 
   -- Nothing was read.
   unread : GoesOn drawn asked v w v w
   -- The line went on, one more event was read, and it goes on after it.
-  further : (p q : Known S) (k : EditorState) (e : Seen) → GoesOn drawn asked v w p k → Reads drawn asked filters.Event p q (Came (Some e)) → answer_to e k ≡ Going → GoesOn drawn asked v w q (pressed e k)
+  further : (p q : Known S) (k : EditorState) (e : Seen) → GoesOn drawn asked v w p k → Reads drawn asked filters.Event p q (Came (Some e)) → answer_to e k ≡ Going → GoesOn drawn asked v w q (after_event e k)
 
 -- A line ends with this outcome: it went on, and then one more event was read, which has this outcome.
-pub record Ends {S : Type 0} (drawn : S → List SourceAnswer → S → Type 0) (asked : S → List (Option Duration)) (v : Known S) (w : EditorState) (a : Answer) (u : Known S) (z : EditorState) : Type 0 where
+pub record LineEnds {S : Type 0} (drawn : S → List SourceAnswer → S → Type 0) (asked : S → List (Option Duration)) (v : Known S) (w : EditorState) (a : Answer) (u : Known S) (z : EditorState) : Type 0 where
   pub before : Known S
   pub line : EditorState
   pub event : Seen
   pub goes : GoesOn drawn asked v w before line
   pub reads : Reads drawn asked filters.Event before u (Came (Some event))
   pub ends : answer_to event line ≡ a
-  pub left : z ≡ pressed event line
+  pub left : z ≡ after_event event line
 
 -- Asking stops with an error of this kind. The editor took all events that were read, but not one for which memory
 -- was refused.
-pub data Fails {S : Type 0} (drawn : S → List SourceAnswer → S → Type 0) (asked : S → List (Option Duration)) (v : Known S) (w : EditorState) (kind : ErrorKind) (u : Known S) (z : EditorState) : Type 0 where
+pub data StopsAsking {S : Type 0} (drawn : S → List SourceAnswer → S → Type 0) (asked : S → List (Option Duration)) (v : Known S) (w : EditorState) (kind : ErrorKind) (u : Known S) (z : EditorState) : Type 0 where
   -- The prompt was refused, or the writer or the device of modes failed: the line went on up to there.
-  stopped : GoesOn drawn asked v w u z → Fails drawn asked v w kind u z
+  stopped : GoesOn drawn asked v w u z → StopsAsking drawn asked v w kind u z
   -- The next read failed with this error.
-  broke : (p : Known S) → GoesOn drawn asked v w p z → Reads drawn asked filters.Event p u (Faulted kind) → Fails drawn asked v w kind u z
+  broke : (p : Known S) → GoesOn drawn asked v w p z → Reads drawn asked filters.Event p u (Faulted kind) → StopsAsking drawn asked v w kind u z
   -- Memory was refused for the event that was read next, whose text has room.
-  refused : (p : Known S) (e : Seen) → GoesOn drawn asked v w p z → Reads drawn asked filters.Event p u (Came (Some e)) → is_too_long (event_text e z) z ≡ false → kind ≡ OutOfMemory → Fails drawn asked v w kind u z
+  refused : (p : Known S) (e : Seen) → GoesOn drawn asked v w p z → Reads drawn asked filters.Event p u (Came (Some e)) → is_too_long (event_text e z) z ≡ false → kind ≡ OutOfMemory → StopsAsking drawn asked v w kind u z

@@ -6,7 +6,7 @@ ghost use Rattle.crossterm_types.specs.Seen.{seen_event};
 ghost use Rattle.crossterm_read.specs.History.{Known};
 ghost use Rattle.crossterm_read.specs.Seats.{knows};
 ghost use Rattle.line_editor.specs.States.{EditorState};
-ghost use Rattle.prompt.specs.Asking.{Ends, Fails, GoesOn, answer_told};
+ghost use Rattle.prompt.specs.Asking.{LineEnds, StopsAsking, GoesOn, answer_told};
 ghost use Rattle.prompt.specs.Prompts as prompts;
 ghost use Rattle.prompt.specs.inside.Turning.{IsTaken, Leads};
 
@@ -156,8 +156,8 @@ fn go_on<
     prompt: &str,
     mut columns: u16,
 ) -> io::Result<Read<A>>
-    ensures line { IfOk result (λ read. Ends S.drawn S.asked (knows tty.old.pass) editor.old (answer_told read) (knows tty.new.pass) editor.new) }
-    ensures err { IfErr result (λ error. Fails S.drawn S.asked (knows tty.old.pass) editor.old (error_kind error) (knows tty.new.pass) editor.new) }
+    ensures line { IfOk result (λ read. LineEnds S.drawn S.asked (knows tty.old.pass) editor.old (answer_told read) (knows tty.new.pass) editor.new) }
+    ensures err { IfErr result (λ error. StopsAsking S.drawn S.asked (knows tty.old.pass) editor.old (error_kind error) (knows tty.new.pass) editor.new) }
     ensures features { tty.new.features ≡ tty.old.features }
     ensures mode { tty.new.term.prior ≡ tty.old.term.prior }
 {
@@ -207,8 +207,8 @@ pub fn read_line<
     editor: &mut Editor<A>,
     prompt: &str,
 ) -> io::Result<Read<A>>
-    ensures line { IfOk result (λ read. Ends S.drawn S.asked (knows tty.old.pass) editor.old (answer_told read) (knows tty.new.pass) editor.new) }
-    ensures err { IfErr result (λ error. Fails S.drawn S.asked (knows tty.old.pass) editor.old (error_kind error) (knows tty.new.pass) editor.new) }
+    ensures line { IfOk result (λ read. LineEnds S.drawn S.asked (knows tty.old.pass) editor.old (answer_told read) (knows tty.new.pass) editor.new) }
+    ensures err { IfErr result (λ error. StopsAsking S.drawn S.asked (knows tty.old.pass) editor.old (error_kind error) (knows tty.new.pass) editor.new) }
     ensures refused { prompts.has_control (chars prompt.now) ≡ true → IsErrAnd result (λ error. error_kind error ≡ InvalidInput) × (tty.new ≡ tty.old) × (editor.new ≡ editor.old) }
     ensures allowed { OnOk result (prompts.has_control (chars prompt.now) ≡ false) }
     ensures features { tty.new.features ≡ tty.old.features }

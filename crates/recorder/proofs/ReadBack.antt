@@ -17,8 +17,8 @@ use Rattle.std.proofs.lemmas.Bool.{false_from_ne_true}
 use Rattle.hex.specs.Hex.{IsBytes, encode_lower, encode_with, lower_digits}
 use Rattle.hex.proofs.HexLemmas.{decode_of-encode_lower}
 use Rattle.crossterm_read.specs.Device.{DeviceAnswer, Bytes, Resized, Woken, Idle, Fault}
-use Rattle.recorder.specs.Lines.{answers_of, entry, line, lines, stamp, text, times_of}
-use Rattle.recorder.specs.Reads.{AllReadBack, IsEntry, IsWritable, LinesReadBack, Session, is_comment, last_time, nothing, number, number_after, only, or_else, pair, parts, read_after, read_digits, read_hex, read_line, read_next, read_then, read_time, read_numbers, read_pair, time_after, with_act, zeros}
+use Rattle.recorder.specs.Lines.{entry_answers, entry, line, lines, stamp, text, times_of}
+use Rattle.recorder.specs.Reads.{EntriesReadBack, IsEntry, IsWritable, LinesReadBack, Session, is_comment, last_time, nothing, read_number, limited_after, only, or_else, pair, parts, read_after, read_hex, read_hex, read_line, read_next, read_then, read_time, read_numbers, read_pair, time_after, with_act, zeros}
 use Rattle.recorder.proofs.Cutting.{parts_there}
 use Rattle.crossterm_types.proofs.Lists.{all_append}
 
@@ -127,32 +127,32 @@ chosen false b c x y p q r = absurd (true≢false (sym p))
 chosen true false c x y p q r = absurd (true≢false (sym q))
 chosen true true false x y p q r = absurd (true≢false (sym r))
 
-number_reads : (limit : ℕ) (ds : List ℕ) (n : ℕ) → AreDigits ds → value_after n ds < limit → number_after limit n ds ≡ Some (value_after n ds)
+number_reads : (limit : ℕ) (ds : List ℕ) (n : ℕ) → AreDigits ds → value_after n ds < limit → limited_after limit n ds ≡ Some (value_after n ds)
 number_reads limit [] n a l = refl
 number_reads limit (d ∷ ds) n a l =
     let low : 48 ≤ d = a.0.0 in
     let high : d ≤ 57 = a.0.1 in
     let next : n * 10 + (d - 48) < limit = omega (arith, l, rises ds (n * 10 + (d - 48))) in
-    chosen (nat_lt 47 d) (nat_lt d 58) (nat_lt (n * 10 + (d - 48)) limit) (number_after limit (n * 10 + (d - 48)) ds) None
+    chosen (nat_lt 47 d) (nat_lt d 58) (nat_lt (n * 10 + (d - 48)) limit) (limited_after limit (n * 10 + (d - 48)) ds) None
     (lt-ltb 47 d (omega (arith, low))) (lt-ltb d 58 (omega (arith, high))) (lt-ltb (n * 10 + (d - 48)) limit next)
     ∙ number_reads limit ds (n * 10 + (d - 48)) a.1 l
 
 digits_of_number : (limit n : ℕ) → limit ≤ 4294967296 → n < limit → AreDigits (decimal n)
 digits_of_number limit n m l = digits_decimal model n (small limit n m l)
 
-there : (limit n : ℕ) → limit ≤ 4294967296 → n < limit → (ds : List ℕ) → decimal n ≡ ds → number limit ds ≡ number_after limit 0 ds
+there : (limit n : ℕ) → limit ≤ 4294967296 → n < limit → (ds : List ℕ) → decimal n ≡ ds → read_number limit ds ≡ limited_after limit 0 ds
 unfolding digits
 there limit n m l [] e =
     let value : value_after 0 (decimal n) ≡ n = digits_value-decimal model n (small limit n m l) in
     let none : n ≡ 0 = sym value ∙ ap (value_after 0) e in
     let wrong : 1 ≡ 0 = ap length (ap decimal (sym none) ∙ e) in
     absurd (omega (arith, wrong))
-there limit n m l (d ∷ ds) e = ap (λ b. if b then None else number_after limit 0 (d ∷ ds)) (false_from_ne_true (length (d ∷ ds) == 0) (λ t. some t))
+there limit n m l (d ∷ ds) e = ap (λ b. if b then None else limited_after limit 0 (d ∷ ds)) (false_from_ne_true (length (d ∷ ds) == 0) (λ t. some t))
   where
     some : (length (d ∷ ds) == 0) ≡ true → ⊥
     some t = let none : length (d ∷ ds) ≡ 0 = (unsigned_Decides (length (d ∷ ds)) 0).0 t in omega (arith, none)
 
-number_back : (limit n : ℕ) → limit ≤ 4294967296 → n < limit → number limit (decimal n) ≡ Some n
+number_back : (limit n : ℕ) → limit ≤ 4294967296 → n < limit → read_number limit (decimal n) ≡ Some n
 number_back limit n m l =
     let value : value_after 0 (decimal n) ≡ n = digits_value-decimal model n (small limit n m l) in
     there limit n m l (decimal n) refl ∙ number_reads limit (decimal n) 0 (digits_of_number limit n m l) (omega (arith, l, value)) ∙ ap Some value
@@ -252,10 +252,10 @@ fault_lacks kind.Uncategorized = refl
 
 bytes_back : (bytes : List ℕ) (raw : Bool) → IsBytes bytes → read_line (line (Bytes bytes raw)) ≡ Ok (Bytes bytes raw)
 bytes_back bytes true h =
-    ap (λ words. read_digits true (only words)) (one_part 32 (encode_lower bytes) (above_without 32 (omega arith) (encode_lower bytes) (hex_above bytes h)))
+    ap (λ words. read_hex true (only words)) (one_part 32 (encode_lower bytes) (above_without 32 (omega arith) (encode_lower bytes) (hex_above bytes h)))
     ∙ ap (read_hex true) (decode_of-encode_lower bytes h)
 bytes_back bytes false h =
-    ap (λ words. read_digits false (only words)) (one_part 32 (encode_lower bytes) (above_without 32 (omega arith) (encode_lower bytes) (hex_above bytes h)))
+    ap (λ words. read_hex false (only words)) (one_part 32 (encode_lower bytes) (above_without 32 (omega arith) (encode_lower bytes) (hex_above bytes h)))
     ∙ ap (read_hex false) (decode_of-encode_lower bytes h)
 
 size_back : (columns rows : ℕ) → columns < 65536 → rows < 65536 → read_line (line (Resized columns rows)) ≡ Ok (Resized columns rows)
@@ -263,7 +263,7 @@ size_back columns rows k l =
     ap (λ words. read_pair (pair words))
     (first_part 32 (decimal columns) (decimal rows) refl (above_without 32 (omega arith) (decimal columns) (number_above 65536 columns (omega arith) k))
     ∙ ap (λ words. decimal columns ∷ words) (one_part 32 (decimal rows) (above_without 32 (omega arith) (decimal rows) (number_above 65536 rows (omega arith) l))))
-    ∙ ap (λ c. read_numbers c (number 65536 (decimal rows))) (number_back 65536 columns (omega arith) k)
+    ∙ ap (λ c. read_numbers c (read_number 65536 (decimal rows))) (number_back 65536 columns (omega arith) k)
     ∙ ap (λ r. read_numbers (Some columns) r) (number_back 65536 rows (omega arith) l)
 
 line_back : (w : DeviceAnswer) → IsWritable w → read_line (line w) ≡ Ok w
@@ -334,7 +334,7 @@ pub stamp_read : (s : Session) (n : ℕ) → n < 4294967296 → read_next s (sta
 stamp_read s n l = ap (λ time. Ok (at s time)) (time_back s.end n l)
 
 abbrev joined_with : Session → List (ℕ × DeviceAnswer) → Session
-joined_with s es = record { acts = s.acts ++ answers_of es; times = s.times ++ times_of es; end = last_time s.end es }
+joined_with s es = record { acts = s.acts ++ entry_answers es; times = s.times ++ times_of es; end = last_time s.end es }
 
 pub entry_split : (e : ℕ × DeviceAnswer) (rest : List ℕ) → entry e ++ rest ≡ stamp e.0 ++ 10 ∷ (line e.1 ++ 10 ∷ rest)
 entry_split e rest = append_assoc (stamp e.0) (10 ∷ (line e.1 ++ 10 ∷ [])) rest ∙ ap (λ l. stamp e.0 ++ 10 ∷ l) (append_assoc (line e.1) (10 ∷ []) rest)
@@ -347,10 +347,10 @@ all_read (e ∷ es) s n h =
     ∙ read_first s (at s e.0) n (stamp e.0) (line e.1 ++ 10 ∷ text es) (no_end_of_stamp e.0 h.0.0) (stamp_read s e.0 h.0.0)
     ∙ read_first (at s e.0) (after_line (at s e.0) e.1) (n + 1) (line e.1) (text es) (no_end e.1 h.0.1) (line_read (at s e.0) e.1 h.0.1)
     ∙ all_read es (after_line (at s e.0) e.1) (n + 1 + 1) h.1
-    ∙ ap (λ acts. Ok (record { acts = acts; times = (s.times ++ e.0 ∷ []) ++ times_of es; end = last_time e.0 es })) (append_assoc s.acts (e.1 ∷ []) (answers_of es))
-    ∙ ap (λ times. Ok (record { acts = s.acts ++ e.1 ∷ answers_of es; times = times; end = last_time e.0 es })) (append_assoc s.times (e.0 ∷ []) (times_of es))
+    ∙ ap (λ acts. Ok (record { acts = acts; times = (s.times ++ e.0 ∷ []) ++ times_of es; end = last_time e.0 es })) (append_assoc s.acts (e.1 ∷ []) (entry_answers es))
+    ∙ ap (λ times. Ok (record { acts = s.acts ++ e.1 ∷ entry_answers es; times = times; end = last_time e.0 es })) (append_assoc s.times (e.0 ∷ []) (times_of es))
 
-pub all_read_back : AllReadBack
+pub all_read_back : EntriesReadBack
 all_read_back es h = all_read es nothing 1 h
 
 lines_read : (ws : List DeviceAnswer) (s : Session) (n : ℕ) → s.end ≡ 0 → AllByRecursion IsWritable ws

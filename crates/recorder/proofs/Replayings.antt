@@ -2,7 +2,7 @@
 use Rattle.std.proofs.Common.{◌≡◌, ◌≢◌, ◌≤◌, ◌<◌, arith, ℕ, ◌+◌, List, [], ◌∷◌, ◌++◌, map, Option, None, false, ap, refl, sym, subst, ◌∙◌, append_assoc}
 use Rattle.std.specs.List.{AllByRecursion}
 use Rattle.crossterm_read.specs.Answers.{SourceAnswer}
-use Rattle.crossterm_read.specs.Calls.{Plays, joined}
+use Rattle.crossterm_read.specs.Calls.{Plays, all_answers}
 use Rattle.crossterm_read.specs.Device.{Answering, DeviceAnswer, Bytes, Resized, Woken, Idle, Fault}
 use Rattle.crossterm_read.specs.History.{Entry, Runs}
 use Rattle.crossterm_read.specs.History as history
@@ -13,10 +13,10 @@ use Rattle.crossterm_read.specs.OverScripts.{HistoriesAreTold, ScriptsAreTold}
 use Rattle.crossterm_read.specs.Scripted.{AnswersWith, ScriptLeft, ScriptTells, faults}
 use Rattle.crossterm_read.specs.Store.{ReaderState}
 use Rattle.crossterm_read.specs.Sources.{At, DrawnFor, Source, SourceDrawn, Turn, Turns, source_on, waited, again, fresh, other}
-use Rattle.recorder.specs.Lines.{answers_of, times_of}
+use Rattle.recorder.specs.Lines.{entry_answers, times_of}
 use Rattle.recorder.specs.Reads.{IsEntry, IsWritable}
 use Rattle.recorder.specs.Answering.{recorder_answering}
-use Rattle.recorder.specs.Recording.{IsAnswer, Recording, Records, Rises, Writes, millis, recorded}
+use Rattle.recorder.specs.Recording.{IsPossible, Recording, Records, Rises, WritesEntries, millis, recorded}
 use Rattle.recorder.specs.Replaying.{EndsLast, HistoriesReplay, IsEnd, PlaysAlike, Replayed, Replays}
 use Rattle.recorder.specs.declared.recorder.Stop.{Stop}
 use Rattle.recorder.proofs.ReadBack.{all_read_back}
@@ -83,7 +83,7 @@ all_given (Woken ∷ ws) h = (refl, all_given ws h)
 all_given (Idle ∷ ws) h = (refl, all_given ws h)
 all_given (Fault kind ∷ ws) h = (refl, all_given ws h)
 
-writable : (ws : List DeviceAnswer) → AllByRecursion IsAnswer ws → AllByRecursion IsWritable (recorded ws)
+writable : (ws : List DeviceAnswer) → AllByRecursion IsPossible ws → AllByRecursion IsWritable (recorded ws)
 writable [] h = tt
 writable (Bytes [] raw ∷ ws) h = writable ws h.1
 writable (Bytes (b ∷ bs) raw ∷ ws) h = (h.0.1, writable ws h.1)
@@ -97,7 +97,7 @@ highest : (low high : ℕ) (times : List ℕ) → Rises low times high → low �
 highest low high [] r = r
 highest low high (time ∷ times) r = omega (arith, r.0, highest time high times r.1)
 
-entries_fit : (es : List (ℕ × DeviceAnswer)) (low high : ℕ) → high < 4294967296 → Rises low (times_of es) high → AllByRecursion IsWritable (answers_of es) → AllByRecursion IsEntry es
+entries_fit : (es : List (ℕ × DeviceAnswer)) (low high : ℕ) → high < 4294967296 → Rises low (times_of es) high → AllByRecursion IsWritable (entry_answers es) → AllByRecursion IsEntry es
 entries_fit [] low high l r h = tt
 entries_fit (e ∷ es) low high l r h = ((omega (arith, l, highest e.0 high (times_of es) r.1), h.0), entries_fit es e.0 high l r.1 h.1)
 
@@ -120,8 +120,8 @@ replays told contents answered s t xs new before after d =
       entries = es;
       by_device = d.1.given;
       says = d.1.says;
-      written = (subst (λ (f : Option Stop). Writes contents None s.device.room s.device.writer es f t.device.room t.device.writer) after
-          (subst (λ (f : Option Stop). Writes contents f s.device.room s.device.writer es t.device.stop t.device.room t.device.writer) before d.1.written)).0;
+      written = (subst (λ (f : Option Stop). WritesEntries contents None s.device.room s.device.writer es f t.device.room t.device.writer) after
+          (subst (λ (f : Option Stop). WritesEntries contents f s.device.room s.device.writer es t.device.stop t.device.room t.device.writer) before d.1.written)).0;
       reads = all_read_back es (are_entries contents answered s.device t.device ws d.1);
       replays = λ ends. told
           (record { parser = s.parser; untaken = s.untaken; device = record { left = recorded ws; failed = 0 } })
@@ -138,7 +138,7 @@ replays told contents answered s t xs new before after d =
 
 pub plays_alike : {D W : Type 0} (told : ScriptsAreTold) (one : OneResult) (contents : W → Option (List ℕ)) (answered : D → List DeviceAnswer → D → Type 0) → PlaysAlike contents answered
 plays_alike told one contents answered s t calls drawn replies last new before after d run =
-    let r : Replayed contents answered s.device (joined drawn) t.device = replays told contents answered s t (joined drawn) new before after d in (
+    let r : Replayed contents answered s.device (all_answers drawn) t.device = replays told contents answered s t (all_answers drawn) new before after d in (
       r,
       λ ends.
           let plays : Plays (recorded r.given) calls (map shown replies) (map (λ h. h.0) last.held) =

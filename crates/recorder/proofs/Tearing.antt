@@ -5,9 +5,9 @@ use Rattle.std.specs.List.{AllByRecursion}
 use Rattle.std.proofs.lemmas.List.{map-append}
 use Rattle.std.specs.declared.result.Result.TheVariants.{Ok, Err}
 use Rattle.crossterm_read.specs.Device.{DeviceAnswer}
-use Rattle.recorder.specs.Lines.{answers_of, line, stamp, text, times_of}
+use Rattle.recorder.specs.Lines.{entry_answers, line, stamp, text, times_of}
 use Rattle.recorder.specs.Reads.{IsEntry, Refusal, Session, nothing, parts, read_after}
-use Rattle.recorder.specs.Recording.{Cuts, Fails, Writes}
+use Rattle.recorder.specs.Recording.{Cuts, WritesPrefix, WritesEntries}
 use Rattle.recorder.specs.Stopping.{CutsKeep, FailuresTear, FrontsRead}
 use Rattle.recorder.specs.declared.reading.Wrong.TheVariants.{Unended}
 use Rattle.recorder.specs.declared.recorder.Stop.{Stop}
@@ -39,7 +39,7 @@ cut_where (a ∷ first) tail (b ∷ front) rest e =
 -- ---- what reads then
 
 abbrev up_to : Session → List (ℕ × DeviceAnswer) → ℕ → Session
-up_to s kept end = record { acts = s.acts ++ answers_of kept; times = s.times ++ times_of kept; end = end }
+up_to s kept end = record { acts = s.acts ++ entry_answers kept; times = s.times ++ times_of kept; end = end }
 
 abbrev Ends : Session → List (ℕ × DeviceAnswer) → Result Session Refusal → Type 0
 Ends s es r = ((kept : List (ℕ × DeviceAnswer)) × (rest : List (ℕ × DeviceAnswer)) × (end : ℕ) × (es ≡ kept ++ rest) × (r ≡ Ok (up_to s kept end)))
@@ -63,8 +63,8 @@ one_more s e es r d = elim d [
     k.1,
     k.2,
     ap (λ (l : List (ℕ × DeviceAnswer)). e ∷ l) k.3,
-    k.4 ∙ ap (λ acts. Ok (record { acts = acts; times = (s.times ++ e.0 ∷ []) ++ times_of k.0; end = k.2 })) (append_assoc s.acts (e.1 ∷ []) (answers_of k.0))
-        ∙ ap (λ times. Ok (record { acts = s.acts ++ e.1 ∷ answers_of k.0; times = times; end = k.2 })) (append_assoc s.times (e.0 ∷ []) (times_of k.0)),
+    k.4 ∙ ap (λ acts. Ok (record { acts = acts; times = (s.times ++ e.0 ∷ []) ++ times_of k.0; end = k.2 })) (append_assoc s.acts (e.1 ∷ []) (entry_answers k.0))
+        ∙ ap (λ times. Ok (record { acts = s.acts ++ e.1 ∷ entry_answers k.0; times = times; end = k.2 })) (append_assoc s.times (e.0 ∷ []) (times_of k.0)),
   )
   | inr n ↦ inr n
 ]
@@ -100,14 +100,14 @@ pub cuts_keep : {D W : Type 0} (contents : W → Option (List ℕ)) (answered : 
 cuts_keep contents answered s t xs before after d =
     let r = d.1 in
     let cut : Cuts (contents s.device.writer) (contents t.device.writer) s.device.room r.entries =
-    subst (λ (f : Option Stop). Writes contents None s.device.room s.device.writer r.entries f t.device.room t.device.writer) after
-    (subst (λ (f : Option Stop). Writes contents f s.device.room s.device.writer r.entries t.device.stop t.device.room t.device.writer) before r.written) in
+    subst (λ (f : Option Stop). WritesEntries contents None s.device.room s.device.writer r.entries f t.device.room t.device.writer) after
+    (subst (λ (f : Option Stop). WritesEntries contents f s.device.room s.device.writer r.entries t.device.stop t.device.room t.device.writer) before r.written) in
     record {
       given = d.0;
       kept = cut.kept;
-      rest = answers_of (cut.next ∷ cut.rest);
+      rest = entry_answers (cut.next ∷ cut.rest);
       by_device = r.given;
-      says = sym r.says ∙ ap answers_of cut.split ∙ map-append (λ (e : ℕ × DeviceAnswer). e.1) cut.kept (cut.next ∷ cut.rest);
+      says = sym r.says ∙ ap entry_answers cut.split ∙ map-append (λ (e : ℕ × DeviceAnswer). e.1) cut.kept (cut.next ∷ cut.rest);
       written = cut.written;
       reads = all_read_back cut.kept (all_front IsEntry cut.kept (cut.next ∷ cut.rest)
           (subst (λ (l : List (ℕ × DeviceAnswer)). AllByRecursion IsEntry l) cut.split (are_entries contents answered s.device t.device d.0 r)));
@@ -116,9 +116,9 @@ cuts_keep contents answered s t xs before after d =
 pub failures_tear : {D W : Type 0} (contents : W → Option (List ℕ)) (answered : D → List DeviceAnswer → D → Type 0) → FailuresTear contents answered
 failures_tear contents answered s t xs kind before after d =
     let r = d.1 in
-    let failed : Fails (contents s.device.writer) (contents t.device.writer) s.device.room (text r.entries) =
-    subst (λ (f : Option Stop). Writes contents None s.device.room s.device.writer r.entries f t.device.room t.device.writer) after
-    (subst (λ (f : Option Stop). Writes contents f s.device.room s.device.writer r.entries t.device.stop t.device.room t.device.writer) before r.written) in
+    let failed : WritesPrefix (contents s.device.writer) (contents t.device.writer) s.device.room (text r.entries) =
+    subst (λ (f : Option Stop). WritesEntries contents None s.device.room s.device.writer r.entries f t.device.room t.device.writer) after
+    (subst (λ (f : Option Stop). WritesEntries contents f s.device.room s.device.writer r.entries t.device.stop t.device.room t.device.writer) before r.written) in
     record {
       given = d.0;
       entries = r.entries;

@@ -5,7 +5,7 @@ use Rattle.std.specs.Cmp.{unsigned_Decides}
 use Rattle.std.specs.declared.result.Result.TheVariants.{Ok, Err}
 use Rattle.crossterm_read.specs.Device.{DeviceAnswer}
 use Rattle.crossterm_read.specs.declared.source.script.Act.{Act}
-use Rattle.recorder.specs.Lines.{told}
+use Rattle.recorder.specs.Lines.{act_answer}
 use Rattle.recorder.specs.Reads.{Session, only, pair, parts, read_after, read_alone, read_fault, read_named, read_next, read_then}
 use Rattle.recorder.specs.declared.reading.Wrong.{Wrong}
 use Rattle.recorder.specs.declared.reading.Wrong.TheVariants.{Argument, Unended}
@@ -30,9 +30,9 @@ alone_words w (word ∷ words) f = refl
 
 -- ---- lines
 
-pub told_on : {A : Type 0} → (acts : List (Act A)) (a : Act A) → map told (acts ++ a ∷ []) ≡ map told acts ++ told a ∷ []
+pub told_on : {A : Type 0} → (acts : List (Act A)) (a : Act A) → map act_answer (acts ++ a ∷ []) ≡ map act_answer acts ++ act_answer a ∷ []
 told_on [] a = refl
-told_on (x ∷ acts) a = ap (λ l. told x ∷ l) (told_on acts a)
+told_on (x ∷ acts) a = ap (λ l. act_answer x ∷ l) (told_on acts a)
 
 pub next_line : (s t : Session) (n : ℕ) (rest first after : List ℕ) → parts 10 rest ≡ first ∷ parts 10 after → read_next s first ≡ Ok t
     → read_after s n (parts 10 rest) ≡ read_after t (n + 1) (parts 10 after)

@@ -4,8 +4,8 @@ use Rattle.std.specs.Io.KnownBytes.{Appends}
 use Rattle.std.proofs.Common.{ap, arith, sym, subst, ◌∙◌, append_assoc}
 use Rattle.std.proofs.KnownBytes.{Appends-nil, Appends-trans}
 use Rattle.crossterm_read.specs.Device.{Answering, DeviceAnswer, Bytes, Resized, Woken, Idle, Fault}
-use Rattle.recorder.specs.Lines.{answers_of, entry, text, times_of}
-use Rattle.recorder.specs.Recording.{Fits, IsAnswer, Recording, Records, Rises, Uses, Writes, millis, recorded}
+use Rattle.recorder.specs.Lines.{entry_answers, entry, text, times_of}
+use Rattle.recorder.specs.Recording.{HasRoomFor, IsPossible, Recording, Records, Rises, Uses, WritesEntries, millis, recorded}
 use Rattle.recorder.specs.declared.recorder.Stop.{Stop}
 use Rattle.recorder.specs.declared.recorder.Stop.TheVariants as stop
 use Rattle.crossterm_types.proofs.Lists.{all_append}
@@ -23,10 +23,10 @@ pub text_on : (xs ys : List (ℕ × DeviceAnswer)) → text (xs ++ ys) ≡ text 
 text_on [] ys = refl
 text_on (e ∷ es) ys = ap (λ l. entry e ++ l) (text_on es ys) ∙ sym (append_assoc (entry e) (text es) (text ys))
 
-pub says_on : (xs ys : List (ℕ × DeviceAnswer)) (us vs : List DeviceAnswer) → answers_of xs ≡ us → answers_of ys ≡ vs → answers_of (xs ++ ys) ≡ us ++ vs
-says_on xs ys us vs d e = on xs ∙ ap (λ l. l ++ answers_of ys) d ∙ ap (λ l. us ++ l) e
+pub says_on : (xs ys : List (ℕ × DeviceAnswer)) (us vs : List DeviceAnswer) → entry_answers xs ≡ us → entry_answers ys ≡ vs → entry_answers (xs ++ ys) ≡ us ++ vs
+says_on xs ys us vs d e = on xs ∙ ap (λ l. l ++ entry_answers ys) d ∙ ap (λ l. us ++ l) e
   where
-    on : (xs : List (ℕ × DeviceAnswer)) → answers_of (xs ++ ys) ≡ answers_of xs ++ answers_of ys
+    on : (xs : List (ℕ × DeviceAnswer)) → entry_answers (xs ++ ys) ≡ entry_answers xs ++ entry_answers ys
     on [] = refl
     on (x ∷ xs) = ap (λ l. x.1 ∷ l) (on xs)
 
@@ -51,28 +51,28 @@ uses_on (Some room) s t m n d e = joined (subst (λ (o : Option ℕ). Uses o n t
     joined : Uses (Some d.0) n t → Uses (Some room) (m + n) t
     joined u = (u.0, u.1, omega (arith, d.2, u.2))
 
-fits_on : (r s : Option ℕ) (m n : ℕ) → Uses r m s → Fits s n → Fits r (m + n)
+fits_on : (r s : Option ℕ) (m n : ℕ) → Uses r m s → HasRoomFor s n → HasRoomFor r (m + n)
 fits_on None s m n d f = tt
-fits_on (Some room) s m n d f = joined (subst (λ (o : Option ℕ). Fits o n) d.1 f) d.2
+fits_on (Some room) s m n d f = joined (subst (λ (o : Option ℕ). HasRoomFor o n) d.1 f) d.2
   where
     joined : n ≤ d.0 → d.0 + m ≡ room → m + n ≤ room
     joined l e = omega (arith, l, e)
 
 -- ---- writing
 
-front_fits : (r s : Option ℕ) (m n : ℕ) (l : ℕ) → l ≡ m + n → Uses r m s → Fits s n → Fits r l
-front_fits r s m n l e d f = subst (λ (k : ℕ). Fits r k) (sym e) (fits_on r s m n d f)
+front_fits : (r s : Option ℕ) (m n : ℕ) (l : ℕ) → l ≡ m + n → Uses r m s → HasRoomFor s n → HasRoomFor r l
+front_fits r s m n l e d f = subst (λ (k : ℕ). HasRoomFor r k) (sym e) (fits_on r s m n d f)
 
-not_fits : (r s : Option ℕ) (m n : ℕ) → Uses r m s → (Fits s n → ⊥) → Fits r (m + n) → ⊥
-not_fits None s m n d f l = f (subst (λ (o : Option ℕ). Fits o n) (sym d) tt)
-not_fits (Some room) s m n d f l = f (subst (λ (o : Option ℕ). Fits o n) (sym d.1) (left d.2 l))
+not_fits : (r s : Option ℕ) (m n : ℕ) → Uses r m s → (HasRoomFor s n → ⊥) → HasRoomFor r (m + n) → ⊥
+not_fits None s m n d f l = f (subst (λ (o : Option ℕ). HasRoomFor o n) (sym d) tt)
+not_fits (Some room) s m n d f l = f (subst (λ (o : Option ℕ). HasRoomFor o n) (sym d.1) (left d.2 l))
   where
     left : d.0 + m ≡ room → m + n ≤ room → n ≤ d.0
     left u v = omega (arith, u, v)
 
 -- What was written whole before comes first.
 whole_then : {W : Type 0} (contents : W → Option (List ℕ)) (why : Stop) (r s t : Option ℕ) (a b c : W) (xs ys : List (ℕ × DeviceAnswer))
-    → Writes contents None r a xs None s b → Writes contents None s b ys (Some why) t c → Writes contents None r a (xs ++ ys) (Some why) t c
+    → WritesEntries contents None r a xs None s b → WritesEntries contents None s b ys (Some why) t c → WritesEntries contents None r a (xs ++ ys) (Some why) t c
 whole_then contents stop.Cut r s t a b c xs ys d e = record {
   kept = xs ++ e.kept;
   next = e.next;
@@ -80,7 +80,7 @@ whole_then contents stop.Cut r s t a b c xs ys d e = record {
   split = ap (λ l. xs ++ l) e.split ∙ sym (append_assoc xs e.kept (e.next ∷ e.rest));
   written = subst (λ (l : List ℕ). Appends (contents a) (contents c) l) (sym (text_on xs e.kept)) (Appends-trans _ _ _ _ _ d.0 e.written);
   full = λ f. not_fits r s (length (text xs)) (length (text (e.kept ++ e.next ∷ []))) d.1 e.full
-      (subst (λ (n : ℕ). Fits r n) (ap (λ l. length (text l)) (append_assoc xs e.kept (e.next ∷ [])) ∙ ap length (text_on xs (e.kept ++ e.next ∷ [])) ∙ length_on (text xs) (text (e.kept ++ e.next ∷ []))) f);
+      (subst (λ (n : ℕ). HasRoomFor r n) (ap (λ l. length (text l)) (append_assoc xs e.kept (e.next ∷ [])) ∙ ap length (text_on xs (e.kept ++ e.next ∷ [])) ∙ length_on (text xs) (text (e.kept ++ e.next ∷ []))) f);
 }
 whole_then contents (stop.Failed kind) r s t a b c xs ys d e = record {
   written = record {
@@ -94,7 +94,7 @@ whole_then contents (stop.Failed kind) r s t a b c xs ys d e = record {
 
 -- After a stop nothing more is written.
 stopped_then : {W : Type 0} (contents : W → Option (List ℕ)) (why : Stop) (r s t : Option ℕ) (a b : W) (xs ys : List (ℕ × DeviceAnswer))
-    → Writes contents None r a xs (Some why) s b → Writes contents None r a (xs ++ ys) (Some why) t b
+    → WritesEntries contents None r a xs (Some why) s b → WritesEntries contents None r a (xs ++ ys) (Some why) t b
 stopped_then contents stop.Cut r s t a b xs ys d = record {
   kept = d.kept;
   next = d.next;
@@ -114,7 +114,7 @@ stopped_then contents (stop.Failed kind) r s t a b xs ys d = record {
 }
 
 pub writes_on : {W : Type 0} (contents : W → Option (List ℕ)) (f g h : Option Stop) (r s t : Option ℕ) (a b c : W) (xs ys : List (ℕ × DeviceAnswer))
-    → Writes contents f r a xs g s b → Writes contents g s b ys h t c → Writes contents f r a (xs ++ ys) h t c
+    → WritesEntries contents f r a xs g s b → WritesEntries contents g s b ys h t c → WritesEntries contents f r a (xs ++ ys) h t c
 writes_on contents None None None r s t a b c xs ys d e = (
   subst (λ (l : List ℕ). Appends (contents a) (contents c) l) (sym (text_on xs ys)) (Appends-trans _ _ _ _ _ d.0 e.0),
   subst (λ (n : ℕ). Uses r n t) (sym (ap length (text_on xs ys) ∙ length_on (text xs) (text ys))) (uses_on r s t (length (text xs)) (length (text ys)) d.1 e.1),
@@ -122,8 +122,8 @@ writes_on contents None None None r s t a b c xs ys d e = (
 writes_on contents None None (Some k) r s t a b c xs ys d e = whole_then contents k r s t a b c xs ys d e
 writes_on contents None (Some j) None r s t a b c xs ys d e = absurd e
 writes_on contents None (Some j) (Some k) r s t a b c xs ys d e =
-    subst (λ (w : Stop). Writes contents None r a (xs ++ ys) (Some w) t c) (sym e.0)
-    (subst (λ (x : _). Writes contents None r a (xs ++ ys) (Some j) t x) (sym e.1) (stopped_then contents j r s t a b xs ys d))
+    subst (λ (w : Stop). WritesEntries contents None r a (xs ++ ys) (Some w) t c) (sym e.0)
+    (subst (λ (x : _). WritesEntries contents None r a (xs ++ ys) (Some j) t x) (sym e.1) (stopped_then contents j r s t a b xs ys d))
 writes_on contents (Some i) None h r s t a b c xs ys d e = absurd d
 writes_on contents (Some i) (Some j) None r s t a b c xs ys d e = absurd e
 writes_on contents (Some i) (Some j) (Some k) r s t a b c xs ys d e = (e.0 ∙ d.0, e.1 ∙ d.1)
@@ -132,7 +132,7 @@ uses_none : (r : Option ℕ) → Uses r 0 r
 uses_none None = refl
 uses_none (Some room) = (room, refl, omega arith)
 
-pub writes_none : {W : Type 0} (contents : W → Option (List ℕ)) (f : Option Stop) (r : Option ℕ) (s : W) → Writes contents f r s [] f r s
+pub writes_none : {W : Type 0} (contents : W → Option (List ℕ)) (f : Option Stop) (r : Option ℕ) (s : W) → WritesEntries contents f r s [] f r s
 writes_none contents None r s = (Appends-nil (contents s), uses_none r)
 writes_none contents (Some k) r s = (refl, refl)
 
@@ -154,6 +154,6 @@ recorder_answering contents answering = record {
     says = says_on d.entries e.entries (recorded xs) (recorded ys) d.says e.says ∙ sym (recorded_on xs ys);
     rises = rises_on (millis s.clock) (millis t.clock) (millis u.clock) d.entries e.entries d.rises e.rises;
     written = writes_on contents s.stop t.stop u.stop s.room t.room u.room s.writer t.writer u.writer d.entries e.entries d.written e.written;
-    are_answers = all_append IsAnswer xs ys d.are_answers e.are_answers;
+    are_answers = all_append IsPossible xs ys d.are_answers e.are_answers;
   };
 }

@@ -54,8 +54,8 @@ kind_name kind.Other = codes "Other"
 kind_name kind.Uncategorized = codes "Uncategorized"
 
 -- All error kinds.
-abbrev pub kinds : List ErrorKind
-kinds =
+abbrev pub error_kinds : List ErrorKind
+error_kinds =
     kind.NotFound ∷ kind.PermissionDenied ∷ kind.ConnectionRefused ∷ kind.ConnectionReset ∷ kind.HostUnreachable ∷ kind.NetworkUnreachable ∷
     kind.ConnectionAborted ∷ kind.NotConnected ∷ kind.AddrInUse ∷ kind.AddrNotAvailable ∷ kind.NetworkDown ∷ kind.BrokenPipe ∷
     kind.AlreadyExists ∷ kind.WouldBlock ∷ kind.NotADirectory ∷ kind.IsADirectory ∷ kind.DirectoryNotEmpty ∷ kind.ReadOnlyFilesystem ∷
@@ -65,8 +65,8 @@ kinds =
     kind.Unsupported ∷ kind.UnexpectedEof ∷ kind.OutOfMemory ∷ kind.InProgress ∷ kind.Other ∷ kind.Uncategorized ∷ []
 
 -- Error kinds with their names.
-abbrev pub named : List ErrorKind → List (List ℕ × ErrorKind)
-named ks = map (λ k. (kind_name k, k)) ks
+abbrev pub named_kinds : List ErrorKind → List (List ℕ × ErrorKind)
+named_kinds ks = map (λ k. (kind_name k, k)) ks
 
 -- The word before bytes: `raw` in raw mode, otherwise `piece`.
 abbrev pub bytes_word : Bool → List ℕ
@@ -103,13 +103,13 @@ abbrev pub times_of : List (ℕ × DeviceAnswer) → List ℕ
 times_of es = map (λ e. e.0) es
 
 -- The answers of entries.
-abbrev pub answers_of : List (ℕ × DeviceAnswer) → List DeviceAnswer
-answers_of es = map (λ e. e.1) es
+abbrev pub entry_answers : List (ℕ × DeviceAnswer) → List DeviceAnswer
+entry_answers es = map (λ e. e.1) es
 
 -- The answer that an act describes, however long its bytes are.
-abbrev pub told : {A : Type 0} → Act A → DeviceAnswer
-told (act.Piece bytes raw) = Bytes bytes.items raw
-told (act.Resize columns rows) = Resized columns rows
-told act.Woken = Woken
-told act.Idle = Idle
-told (act.Fault k) = Fault k
+abbrev pub act_answer : {A : Type 0} → Act A → DeviceAnswer
+act_answer (act.Piece bytes raw) = Bytes bytes.items raw
+act_answer (act.Resize columns rows) = Resized columns rows
+act_answer act.Woken = Woken
+act_answer act.Idle = Idle
+act_answer (act.Fault k) = Fault k

@@ -8,7 +8,7 @@ use Rattle.hex.specs.declared.error.FromHexError.{FromHexError}
 use Rattle.crossterm_flags.specs.Values.{same}
 use Rattle.crossterm_flags.specs.Variants.{value_in}
 use Rattle.crossterm_read.specs.Device.{DeviceAnswer, Bytes, Resized, Woken, Idle, Fault}
-use Rattle.recorder.specs.Lines.{answers_of, kinds, lines, named, text, times_of}
+use Rattle.recorder.specs.Lines.{entry_answers, error_kinds, lines, named_kinds, text, times_of}
 use Rattle.recorder.specs.declared.reading.Wrong.{Wrong}
 use Rattle.recorder.specs.declared.reading.Wrong.TheVariants.{Word, Argument, Unended}
 
@@ -17,14 +17,14 @@ abbrev pub parts : ℕ → List ℕ → List (List ℕ)
 parts c bytes = slice_split (λ b. b == c) bytes
 
 -- The number of digits behind those of `n`, or `None` if a byte isn't a digit or the limit is reached.
-abbrev pub number_after : ℕ → ℕ → List ℕ → Option ℕ
-number_after limit n [] = Some n
-number_after limit n (d ∷ ds) =
-    if nat_lt 47 d && (nat_lt d 58 && nat_lt (n * 10 + (d - 48)) limit) then number_after limit (n * 10 + (d - 48)) ds else None
+abbrev pub limited_after : ℕ → ℕ → List ℕ → Option ℕ
+limited_after limit n [] = Some n
+limited_after limit n (d ∷ ds) =
+    if nat_lt 47 d && (nat_lt d 58 && nat_lt (n * 10 + (d - 48)) limit) then limited_after limit (n * 10 + (d - 48)) ds else None
 
 -- The number of decimal digits, or `None` if there are none, one isn't a digit, or the limit is reached.
-abbrev pub number : ℕ → List ℕ → Option ℕ
-number limit ds = if length ds == 0 then None else number_after limit 0 ds
+abbrev pub read_number : ℕ → List ℕ → Option ℕ
+read_number limit ds = if length ds == 0 then None else limited_after limit 0 ds
 
 -- The only word, or `None` if there isn't exactly one.
 abbrev pub only : List (List ℕ) → Option (List ℕ)
@@ -42,13 +42,13 @@ read_hex raw (Ok bytes) = Ok (Bytes bytes raw)
 read_hex raw (Err e) = Err Argument
 
 -- The answer of bytes in hexadecimal digits, or the fault `Argument` if there are no valid digits.
-abbrev pub read_digits : Bool → Option (List ℕ) → Result DeviceAnswer Wrong
-read_digits raw (Some digits) = read_hex raw (decode_of digits)
-read_digits raw None = Err Argument
+abbrev pub read_hex : Bool → Option (List ℕ) → Result DeviceAnswer Wrong
+read_hex raw (Some digits) = read_hex raw (decode_of digits)
+read_hex raw None = Err Argument
 
 -- The answer of bytes, whose hexadecimal digits are the only word. Other words are the fault `Argument`.
 abbrev pub read_bytes : Bool → List (List ℕ) → Result DeviceAnswer Wrong
-read_bytes raw words = read_digits raw (only words)
+read_bytes raw words = read_hex raw (only words)
 
 -- The answer of a new size, or the fault `Argument` if a number is missing.
 abbrev pub read_numbers : Option ℕ → Option ℕ → Result DeviceAnswer Wrong
@@ -58,7 +58,7 @@ read_numbers None _ = Err Argument
 
 -- The answer of a new size, of two numbers below 65536. Anything else is the fault `Argument`.
 abbrev pub read_pair : Option (List ℕ × List ℕ) → Result DeviceAnswer Wrong
-read_pair (Some p) = read_numbers (number 65536 p.0) (number 65536 p.1)
+read_pair (Some p) = read_numbers (read_number 65536 p.0) (read_number 65536 p.1)
 read_pair None = Err Argument
 
 -- The answer of a new size, whose numbers are the only two words. Other words are the fault `Argument`.
@@ -77,7 +77,7 @@ read_kind None = Err Argument
 
 -- The answer of a fault whose kind has this name, or the fault `Argument` if none has.
 abbrev pub read_named : Option (List ℕ) → Result DeviceAnswer Wrong
-read_named (Some name) = read_kind (value_in (named kinds) name)
+read_named (Some name) = read_kind (value_in (named_kinds error_kinds) name)
 read_named None = Err Argument
 
 -- The answer of a fault, whose kind is named by the only word. Without a word, the kind is `Other`.
@@ -111,7 +111,7 @@ is_comment (b ∷ bs) = b == 35
 
 -- The time of a comment `# TIME`, in milliseconds below 2 to the 32nd. `None` for other words.
 abbrev pub read_time : Option (List ℕ × List ℕ) → Option ℕ
-read_time (Some p) = if same p.0 (codes "#") then number 4294967296 p.1 else None
+read_time (Some p) = if same p.0 (codes "#") then read_number 4294967296 p.1 else None
 read_time None = None
 
 -- The other time, or the given one if there is no other.
@@ -188,11 +188,11 @@ last_time time (e ∷ es) = last_time e.0 es
 
 -- The session of entries: their answers, their times, and the last time.
 abbrev pub session : List (ℕ × DeviceAnswer) → Session
-session es = record { acts = answers_of es; times = times_of es; end = last_time 0 es }
+session es = record { acts = entry_answers es; times = times_of es; end = last_time 0 es }
 
 -- The text of entries reads as these entries.
-abbrev pub AllReadBack : Type 0
-AllReadBack = (es : List (ℕ × DeviceAnswer)) → AllByRecursion IsEntry es → read_text (text es) ≡ Ok (session es)
+abbrev pub EntriesReadBack : Type 0
+EntriesReadBack = (es : List (ℕ × DeviceAnswer)) → AllByRecursion IsEntry es → read_text (text es) ≡ Ok (session es)
 
 -- The time 0 for each answer.
 abbrev pub zeros : List DeviceAnswer → List ℕ

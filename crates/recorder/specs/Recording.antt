@@ -5,7 +5,7 @@ use Rattle.std.specs.Io.KnownBytes.{Appends}
 use Rattle.hex.specs.Hex.{IsBytes}
 use Rattle.crossterm_command.specs.Writing.{AppendsFront}
 use Rattle.crossterm_read.specs.Device.{DeviceAnswer, Bytes, Resized, Woken, Idle, Fault}
-use Rattle.recorder.specs.Lines.{answers_of, text, times_of}
+use Rattle.recorder.specs.Lines.{entry_answers, text, times_of}
 use Rattle.recorder.specs.declared.recorder.Stop.{Stop}
 use Rattle.recorder.specs.declared.recorder.Stop.TheVariants as stop
 
@@ -20,12 +20,12 @@ recorded (Idle ∷ ws) = Idle ∷ recorded ws
 recorded (Fault kind ∷ ws) = Fault kind ∷ recorded ws
 
 -- What a device can answer: at most 1024 bytes, each below 256, and sizes below 65536.
-abbrev pub IsAnswer : DeviceAnswer → Type 0
-IsAnswer (Bytes bytes raw) = (length bytes ≤ 1024) × IsBytes bytes
-IsAnswer (Resized columns rows) = (columns < 65536) × (rows < 65536)
-IsAnswer Woken = Unit {0}
-IsAnswer Idle = Unit {0}
-IsAnswer (Fault kind) = Unit {0}
+abbrev pub IsPossible : DeviceAnswer → Type 0
+IsPossible (Bytes bytes raw) = (length bytes ≤ 1024) × IsBytes bytes
+IsPossible (Resized columns rows) = (columns < 65536) × (rows < 65536)
+IsPossible Woken = Unit {0}
+IsPossible Idle = Unit {0}
+IsPossible (Fault kind) = Unit {0}
 
 -- ---- times
 
@@ -41,9 +41,9 @@ Rises low (time ∷ times) high = (low ≤ time) × Rises time times high
 -- ---- room
 
 -- `n` bytes fit into the room. Without a bound, any number fits.
-abbrev pub Fits : Option ℕ → ℕ → Type 0
-Fits None n = Unit {0}
-Fits (Some room) n = n ≤ room
+abbrev pub HasRoomFor : Option ℕ → ℕ → Type 0
+HasRoomFor None n = Unit {0}
+HasRoomFor (Some room) n = n ≤ room
 
 -- `n` bytes of the room are used, and `after` is what is left. Without a bound, nothing changes.
 abbrev pub Uses : Option ℕ → ℕ → Option ℕ → Type 0
@@ -61,21 +61,21 @@ pub record Cuts (old new : Option (List ℕ)) (room : Option ℕ) (es : List (�
   -- The entries before it were written whole, and nothing of it.
   pub written : Appends old new (text kept)
   -- With the next one, they wouldn't fit into the room.
-  pub full : Fits room (length (text (kept ++ next ∷ []))) → ⊥
+  pub full : HasRoomFor room (length (text (kept ++ next ∷ []))) → ⊥
 
 -- A prefix of the bytes was written, and no more than there is room for.
-pub record Fails (old new : Option (List ℕ)) (room : Option ℕ) (bytes : List ℕ) : Type 0 where
+pub record WritesPrefix (old new : Option (List ℕ)) (room : Option ℕ) (bytes : List ℕ) : Type 0 where
   pub written : AppendsFront old new bytes
-  pub fits : Fits room (length written.front)
+  pub fits : HasRoomFor room (length written.front)
 
 -- Entries go to a writer: all of them, those that fit, or a prefix of their text before a failure. Nothing is written
 -- after a stop.
-abbrev pub Writes : {W : Type 0} → (W → Option (List ℕ)) → Option Stop → Option ℕ → W → List (ℕ × DeviceAnswer) → Option Stop → Option ℕ → W → Type 0
-Writes contents None room s es None left t = Appends (contents s) (contents t) (text es) × Uses room (length (text es)) left
-Writes contents None room s es (Some stop.Cut) left t = Cuts (contents s) (contents t) room es
-Writes contents None room s es (Some (stop.Failed kind)) left t = Fails (contents s) (contents t) room (text es)
-Writes contents (Some why) room s es None left t = ⊥
-Writes contents (Some why) room s es (Some same) left t = (same ≡ why) × (t ≡ s)
+abbrev pub WritesEntries : {W : Type 0} → (W → Option (List ℕ)) → Option Stop → Option ℕ → W → List (ℕ × DeviceAnswer) → Option Stop → Option ℕ → W → Type 0
+WritesEntries contents None room s es None left t = Appends (contents s) (contents t) (text es) × Uses room (length (text es)) left
+WritesEntries contents None room s es (Some stop.Cut) left t = Cuts (contents s) (contents t) room es
+WritesEntries contents None room s es (Some (stop.Failed kind)) left t = WritesPrefix (contents s) (contents t) room (text es)
+WritesEntries contents (Some why) room s es None left t = ⊥
+WritesEntries contents (Some why) room s es (Some same) left t = (same ≡ why) × (t ≡ s)
 
 -- A recorder as its callers see it.
 pub record Recording (D W : Type 0) : Type 0 where
@@ -93,7 +93,7 @@ pub record Records {D W : Type 0} (contents : W → Option (List ℕ)) (answered
     (s : Recording D W) (ws : List DeviceAnswer) (t : Recording D W) : Type 0 where
   pub given : answered s.device ws t.device
   pub entries : List (ℕ × DeviceAnswer)
-  pub says : answers_of entries ≡ recorded ws
+  pub says : entry_answers entries ≡ recorded ws
   pub rises : Rises (millis s.clock) (times_of entries) (millis t.clock)
-  pub written : Writes contents s.stop s.room s.writer entries t.stop t.room t.writer
-  pub are_answers : AllByRecursion IsAnswer ws
+  pub written : WritesEntries contents s.stop s.room s.writer entries t.stop t.room t.writer
+  pub are_answers : AllByRecursion IsPossible ws

@@ -4,7 +4,7 @@ use Rattle.std.specs.List.{AllByRecursion}
 use Rattle.std.specs.Io.KnownBytes.{Appends}
 use Rattle.crossterm_types.specs.Seen.{Seen}
 use Rattle.crossterm_read.specs.Answers.{SourceAnswer}
-use Rattle.crossterm_read.specs.Calls.{IsAccounted, Plays, Run, empty, joined}
+use Rattle.crossterm_read.specs.Calls.{IsAccounted, Plays, Run, empty, all_answers}
 use Rattle.crossterm_read.specs.Device.{DeviceAnswer, Bytes, Resized, Woken, Idle, Fault}
 use Rattle.crossterm_read.specs.History.{Entry, Runs, taken_by}
 use Rattle.crossterm_read.specs.History as history
@@ -17,9 +17,9 @@ use Rattle.crossterm_read.specs.declared.read.call.Call.{Call}
 use Rattle.crossterm_read.specs.Scripted.{device_answers}
 use Rattle.crossterm_read.specs.declared.source.script.Act.{Act}
 use Rattle.crossterm_read.specs.Sources.{Source, SourceDrawn}
-use Rattle.recorder.specs.Lines.{answers_of, text, told}
+use Rattle.recorder.specs.Lines.{entry_answers, text, act_answer}
 use Rattle.recorder.specs.Reads.{read_text, session}
-use Rattle.recorder.specs.Recording.{IsAnswer, Recording, Records, recorded}
+use Rattle.recorder.specs.Recording.{IsPossible, Recording, Records, recorded}
 
 -- The answer is the end of input: bytes of which there are none.
 abbrev pub IsEnd : DeviceAnswer → Type 0
@@ -48,7 +48,7 @@ pub record Replayed {D W : Type 0} (contents : W → Option (List ℕ)) (answere
   -- The device gave these answers.
   pub by_device : answered s.device given t.device
   -- The entries have what is recorded of them.
-  pub says : answers_of entries ≡ recorded given
+  pub says : entry_answers entries ≡ recorded given
   -- The writer grew by the text of the entries.
   pub written : Appends (contents s.writer) (contents t.writer) (text entries)
   -- That text reads as the entries.
@@ -71,11 +71,11 @@ IsLine (Fault kind) = Unit {0}
 
 -- A script of acts that a recording can have answers exactly what they describe, one answer for each act.
 abbrev pub AnswersAsTold : (A : Type 0) → Type 0
-AnswersAsTold A = (acts : List (Act A)) → AllByRecursion IsLine (map told acts) → device_answers acts ≡ map told acts
+AnswersAsTold A = (acts : List (Act A)) → AllByRecursion IsLine (map act_answer acts) → device_answers acts ≡ map act_answer acts
 
 -- What is recorded of a device's answers is always such an answer (`IsLine`).
 abbrev pub RecordsLines : Type 0
-RecordsLines = (ws : List DeviceAnswer) → AllByRecursion IsAnswer ws → AllByRecursion IsLine (recorded ws)
+RecordsLines = (ws : List DeviceAnswer) → AllByRecursion IsPossible ws → AllByRecursion IsLine (recorded ws)
 
 -- Any other run of these calls over the recording has the same result.
 -- This holds if no call of either is refused memory, and no answer's bytes both end an event and leave a paste open.
@@ -88,8 +88,8 @@ IsOnlyResult device_answers calls replies held = PastesApart device_answers → 
 -- If nothing follows the end of input, the same calls over the recording have the same result, which is the only one.
 abbrev pub PlaysAlike : {D W : Type 0} → (W → Option (List ℕ)) → (D → List DeviceAnswer → D → Type 0) → Type 0
 PlaysAlike {D} {W} contents answered = (s t : Source (Recording D W)) (calls : List Call) (drawn : List (List SourceAnswer)) (replies : List Replied) (last : EventStore)
-    → IsNew s → s.device.stop ≡ None → t.device.stop ≡ None → SourceDrawn (Records contents answered) s (joined drawn) t → Run empty calls drawn replies last
-    → (r : Replayed contents answered s.device (joined drawn) t.device) × (EndsLast r.given →
+    → IsNew s → s.device.stop ≡ None → t.device.stop ≡ None → SourceDrawn (Records contents answered) s (all_answers drawn) t → Run empty calls drawn replies last
+    → (r : Replayed contents answered s.device (all_answers drawn) t.device) × (EndsLast r.given →
     Plays (recorded r.given) calls (map shown replies) (map (λ h. h.0) last.held) × IsOnlyResult (recorded r.given) calls replies (map (λ h. h.0) last.held))
 
 -- What a shared reader over a recorder draws is replayed, as long as the recording goes on. The reader is new and

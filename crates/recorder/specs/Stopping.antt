@@ -9,7 +9,7 @@ use Rattle.crossterm_read.specs.Answers.{SourceAnswer}
 use Rattle.crossterm_read.specs.Device.{DeviceAnswer}
 use Rattle.crossterm_read.specs.Outcomes.{Happened}
 use Rattle.crossterm_read.specs.Sources.{Source, SourceDrawn}
-use Rattle.recorder.specs.Lines.{answers_of, text, times_of}
+use Rattle.recorder.specs.Lines.{entry_answers, text, times_of}
 use Rattle.recorder.specs.Reads.{IsEntry, Session, read_text, session}
 use Rattle.recorder.specs.Recording.{Recording, Records, recorded}
 use Rattle.recorder.specs.declared.reading.Wrong.TheVariants.{Unended}
@@ -32,7 +32,7 @@ pub record ReadsFirst (es : List (ℕ × DeviceAnswer)) (s : Session) : Type 0 w
   pub kept : List (ℕ × DeviceAnswer)
   pub rest : List (ℕ × DeviceAnswer)
   pub split : es ≡ kept ++ rest
-  pub acts : s.acts ≡ answers_of kept
+  pub acts : s.acts ≡ entry_answers kept
   pub times : s.times ≡ times_of kept
 
 -- A text reads as the first of these entries, or it is refused because its last line has no end.
@@ -53,7 +53,7 @@ pub record Kept {D W : Type 0} (contents : W → Option (List ℕ)) (answered : 
   -- The device gave these answers.
   pub by_device : answered s.device given t.device
   -- The kept entries have the first of those that are recorded.
-  pub says : recorded given ≡ answers_of kept ++ rest
+  pub says : recorded given ≡ entry_answers kept ++ rest
   -- The writer grew by the text of the kept entries.
   pub written : Appends (contents s.writer) (contents t.writer) (text kept)
   -- That text reads as the kept entries.
@@ -71,7 +71,7 @@ pub record Torn {D W : Type 0} (contents : W → Option (List ℕ)) (answered : 
   -- The device gave these answers.
   pub by_device : answered s.device given t.device
   -- The entries have what is recorded of them.
-  pub says : answers_of entries ≡ recorded given
+  pub says : entry_answers entries ≡ recorded given
   -- The writer grew by a prefix of the entries' text.
   pub written : AppendsFront (contents s.writer) (contents t.writer) (text entries)
   -- That prefix reads as the first entries, or its last line has no end.

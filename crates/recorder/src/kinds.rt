@@ -1,7 +1,7 @@
 //! Kinds of errors by their names.
 ghost use Rattle.std.specs.Prelude.{◌≡◌};
 ghost use Rattle.crossterm_flags.specs.Variants.{value_in};
-ghost use Rattle.recorder.specs.Lines.{kind_name, kinds, named};
+ghost use Rattle.recorder.specs.Lines.{kind_name, error_kinds, named_kinds};
 
 use crossterm_flags::variants;
 use std::io::ErrorKind;
@@ -58,7 +58,7 @@ pub(crate) fn kind_name(kind: ErrorKind) -> &'static str
 
 // All kinds.
 fn kinds() -> &'static [ErrorKind]
-    ensures { result.now ≡ kinds }
+    ensures { result.now ≡ error_kinds }
 {
     &variants!(ErrorKind:
         NotFound PermissionDenied ConnectionRefused ConnectionReset HostUnreachable
@@ -73,7 +73,7 @@ fn kinds() -> &'static [ErrorKind]
 
 /// The kind of a name, if it is one.
 pub(crate) fn kind_named(name: &[u8]) -> Option<ErrorKind>
-    ensures { result ≡ value_in (named kinds) name.now }
+    ensures { result ≡ value_in (named_kinds error_kinds) name.now }
 {
     for kind in kinds() {
         if kind_name(*kind).as_bytes() == name {

@@ -1,5 +1,5 @@
 //! What holds of all recordings.
-ghost use Rattle.recorder.specs.Reads.{AllReadBack, LinesReadBack};
+ghost use Rattle.recorder.specs.Reads.{EntriesReadBack, LinesReadBack};
 ghost use Rattle.recorder.specs.Replaying.{AnswersAsTold, HistoriesReplay, PlaysAlike, RecordsLines, Replays};
 ghost use Rattle.recorder.specs.Stopping.{CutsKeep, FailuresTear, FrontsHappen, FrontsRead, OneList};
 
@@ -11,7 +11,7 @@ use std::io::Write;
 
 /// The law of texts: what was written reads as what was written, answer for answer and time for time.
 pub fn reads_back()
-    ensures recordings { AllReadBack }
+    ensures recordings { EntriesReadBack }
     ensures acts { LinesReadBack }
 {}
 

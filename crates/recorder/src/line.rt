@@ -138,7 +138,7 @@ pub(crate) fn push_entry<A: Allocator>(
 
 // What an act says in one line.
 fn said<A: Allocator>(act: &Act<A>) -> Told<'_>
-    ensures { told_answer result ≡ spec.told act.now }
+    ensures { told_answer result ≡ spec.act_answer act.now }
 {
     match act {
         Act::Piece { bytes, raw } => Told::Bytes {
@@ -166,7 +166,7 @@ pub fn write_act<A: Allocator, B: Allocator>(
     out: &mut Vec<u8, B>,
     act: &Act<A>,
 ) -> Result<(), AllocError>
-    ensures ok { OnOk result (out.new.items ≡ out.old.items ++ spec.lines (spec.told act.now ∷ [])) }
+    ensures ok { OnOk result (out.new.items ≡ out.old.items ++ spec.lines (spec.act_answer act.now ∷ [])) }
     ensures err { OnErr result (out.new.items ≡ out.old.items) }
 {
     let count = out.len();

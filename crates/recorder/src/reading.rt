@@ -2,9 +2,9 @@
 ghost use Rattle.std.specs.Prelude.{◌≡◌, ◌⊎◌, ◌<◌, ℕ, List, [], ◌∷◌, ◌++◌, Ok, Err, IfOk, IfErr, IfSome, OnOk, length};
 ghost use Rattle.crossterm_flags.specs.Values.{same};
 ghost use Rattle.crossterm_read.specs.Device.{Woken, Idle};
-ghost use Rattle.recorder.specs.Lines.{told};
+ghost use Rattle.recorder.specs.Lines.{act_answer};
 ghost use Rattle.recorder.specs.Reads as spec;
-ghost use Rattle.recorder.specs.inside.Words.{CutsAt, words_of, now_of, both_now, session_of, IsRead};
+ghost use Rattle.recorder.specs.inside.Words.{CutsAt, words_of, now_of, both_now, session_of, WasRead};
 ghost use Rattle.recorder.specs.declared.reading.Wrong.TheVariants.{Memory};
 
 use crate::kinds::kind_named;
@@ -98,7 +98,7 @@ fn pair(words: Option<&[u8]>) -> Option<(&[u8], &[u8])>
 // A number below a limit in decimal digits. The limit is 2 to the 32nd at most.
 fn number(digits: &[u8], limit: u64) -> Option<u64>
     requires { limit < 4294967297 }
-    ensures number { result ≡ spec.number limit digits.now }
+    ensures number { result ≡ spec.read_number limit digits.now }
     ensures below { IfSome result (λ n. n < limit) }
 {
     if digits.is_empty() {
@@ -128,7 +128,7 @@ fn read_bytes<A: Allocator + Clone>(
     raw: bool,
     words: Option<&[u8]>,
 ) -> Result<Act<A>, Wrong>
-    ensures { IsRead (spec.read_bytes raw (words_of words.entry)) result }
+    ensures { WasRead (spec.read_bytes raw (words_of words.entry)) result }
 {
     match only(words) {
         None => Err(Wrong::Argument),
@@ -142,7 +142,7 @@ fn read_bytes<A: Allocator + Clone>(
 
 // Reads the words behind `resize`.
 fn read_size<A: Allocator>(words: Option<&[u8]>) -> Result<Act<A>, Wrong>
-    ensures { IsRead (spec.read_size (words_of words.entry)) result }
+    ensures { WasRead (spec.read_size (words_of words.entry)) result }
 {
     match pair(words) {
         None => Err(Wrong::Argument),
@@ -158,7 +158,7 @@ fn read_size<A: Allocator>(words: Option<&[u8]>) -> Result<Act<A>, Wrong>
 
 // Reads the words behind `fault`.
 fn read_fault<A: Allocator>(words: Option<&[u8]>) -> Result<Act<A>, Wrong>
-    ensures { IsRead (spec.read_fault (words_of words.entry)) result }
+    ensures { WasRead (spec.read_fault (words_of words.entry)) result }
 {
     match words {
         None => Ok(Act::Fault(ErrorKind::Other)),
@@ -174,7 +174,7 @@ fn read_fault<A: Allocator>(words: Option<&[u8]>) -> Result<Act<A>, Wrong>
 
 // Reads the words behind one that takes none.
 fn read_woken<A: Allocator>(words: Option<&[u8]>) -> Result<Act<A>, Wrong>
-    ensures { IsRead (spec.read_alone Woken (words_of words.entry)) result }
+    ensures { WasRead (spec.read_alone Woken (words_of words.entry)) result }
 {
     match words {
         None => Ok(Act::Woken),
@@ -183,7 +183,7 @@ fn read_woken<A: Allocator>(words: Option<&[u8]>) -> Result<Act<A>, Wrong>
 }
 
 fn read_idle<A: Allocator>(words: Option<&[u8]>) -> Result<Act<A>, Wrong>
-    ensures { IsRead (spec.read_alone Idle (words_of words.entry)) result }
+    ensures { WasRead (spec.read_alone Idle (words_of words.entry)) result }
 {
     match words {
         None => Ok(Act::Idle),
@@ -197,7 +197,7 @@ fn read_words<A: Allocator + Clone>(
     word: &[u8],
     words: Option<&[u8]>,
 ) -> Result<Act<A>, Wrong>
-    ensures { IsRead (spec.read_words (word.now ∷ words_of words.entry)) result }
+    ensures { WasRead (spec.read_words (word.now ∷ words_of words.entry)) result }
 {
     if is(word, "piece") {
         return read_bytes(alloc, false, words);
@@ -226,7 +226,7 @@ fn read_words<A: Allocator + Clone>(
 ///
 /// Why it is none.
 pub fn read_act<A: Allocator + Clone>(alloc: &A, line: &[u8]) -> Result<Act<A>, Wrong>
-    ensures { IsRead (spec.read_line line.now) result }
+    ensures { WasRead (spec.read_line line.now) result }
 {
     match cut_at(line, b' ') {
         None => read_words(alloc, line, None),
@@ -289,7 +289,7 @@ impl<A: Allocator + Clone> Session<A> {
 
     // Adds an act at the last time.
     fn add(&mut self, act: Act<A>) -> Result<(), AllocError>
-        ensures { OnOk result (spec.with_act (session_of self.old) (Ok (told act)) ≡ Ok (session_of self.new)) }
+        ensures { OnOk result (spec.with_act (session_of self.old) (Ok (act_answer act)) ≡ Ok (session_of self.new)) }
     {
         self.times.push(self.end)?;
         self.acts.push(act)?;

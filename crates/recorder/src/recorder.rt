@@ -2,7 +2,7 @@
 ghost use Rattle.std.specs.Prelude.{◌≡◌, ◌≤◌, ◌↔◌, ℕ, List, [], ◌∷◌, length, Option, None, Some, IfOk, IsTrue, false};
 ghost use Rattle.crossterm_read.specs.Device.{CountWithin, device_answer};
 ghost use Rattle.recorder.specs.Answering.{recorder_answering};
-ghost use Rattle.recorder.specs.Recording.{Fits, IsAnswer, Recording, Uses, Writes, millis, recorded};
+ghost use Rattle.recorder.specs.Recording.{HasRoomFor, IsPossible, Recording, Uses, WritesEntries, millis, recorded};
 ghost use Rattle.recorder.specs.inside.Said.{Notes, said_by, told_answer};
 
 use crate::line::{Told, push_entry};
@@ -57,7 +57,7 @@ impl<D, W, C: Clock, A: Allocator> Model for Recorder<D, W, C, A> {
 fn line_of<'a>(answer: &io::Result<Answer>, buf: &'a [u8]) -> Option<Told<'a>>
     requires within { IfOk answer.now (λ a. CountWithin a (length buf.now)) }
     requires most { length buf.now ≤ 1024 }
-    ensures is_answer { IsAnswer (device_answer answer.now buf.now) }
+    ensures is_answer { IsPossible (device_answer answer.now buf.now) }
     ensures line { said_by result ≡ recorded (device_answer answer.now buf.now ∷ []) }
 {
     match answer {
@@ -92,7 +92,7 @@ fn moment<C: Clock>(clock: &mut C) -> u32
 // Takes so many bytes of the room, if it has as many, and returns whether it had.
 fn take_room(room: &mut Option<u64>, count: usize) -> bool
     ensures uses { IsTrue result → Uses room.old count room.new }
-    ensures full { result ≡ false → Fits room.old count → ⊥ }
+    ensures full { result ≡ false → HasRoomFor room.old count → ⊥ }
 {
     match *room {
         None => true,
@@ -115,7 +115,7 @@ fn write_entry<W: Write, A: Allocator>(
     time: u32,
     told: Told<'_>,
 ) -> Option<Stop>
-    ensures { Writes W.contents None room.old writer.old ((time, told_answer told.entry) ∷ []) result room.new writer.new }
+    ensures { WritesEntries W.contents None room.old writer.old ((time, told_answer told.entry) ∷ []) result room.new writer.new }
 {
     line.clear();
     if push_entry(line, time, told).is_err() {

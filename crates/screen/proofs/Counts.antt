@@ -8,50 +8,50 @@ use Rattle.crossterm_command.specs.Tokens.Token.{Char, Csi, Osc, Private}
 use Rattle.crossterm_command.specs.declared.color_output.ColorOutput.{ColorOutput}
 use Rattle.crossterm_command.specs.declared.color_output.ColorOutput.TheVariants.{Enabled, Disabled}
 use Rattle.crossterm_style.specs.declared.content_style.ContentStyle.{ContentStyle}
-use Rattle.crossterm_style.specs.Acts.{Act, style_acts}
-use Rattle.crossterm_style.specs.Acts.Act.{Prints, Colors, Takes}
-use Rattle.crossterm_style.specs.Styles.{no_style, told}
+use Rattle.crossterm_style.specs.Acts.{StyleAct, style_acts}
+use Rattle.crossterm_style.specs.Acts.StyleAct.{Prints, Colors, Takes}
+use Rattle.crossterm_style.specs.Styles.{no_style, act_tokens}
 use Rattle.screen.specs.Cells.{Cell}
 use Rattle.screen.specs.declared.settings.Setting.{Setting}
 use Rattle.screen.specs.declared.settings.Setting.TheVariants as setting
 use Rattle.screen.specs.declared.strokes.Stroke.{Stroke}
 use Rattle.screen.specs.declared.strokes.Stroke.TheVariants as stroke
-use Rattle.screen.specs.Drawings.{DifferAt, printed}
+use Rattle.screen.specs.Drawings.{DifferAt, printed_count}
 use Rattle.screen.specs.Updates.{HasToBePrinted}
 use Rattle.screen.specs.inside.Strokes.{cell_strokes, color_tokens, cursor_strokes, first_strokes, last_strokes, tokens, tokens_of}
 use Rattle.screen.proofs.Runs.{SetsStyle, style_sets}
 
 -- ---- tokens in a row
 
-printed_joined : (ts us : List Token) → printed (ts ++ us) ≡ printed ts + printed us
+printed_joined : (ts us : List Token) → printed_count (ts ++ us) ≡ printed_count ts + printed_count us
 printed_joined [] us = omega arith
 printed_joined (Char c ∷ ts) us = omega (arith, printed_joined ts us)
 printed_joined (Csi a b f ∷ ts) us = printed_joined ts us
 printed_joined (Osc t e ∷ ts) us = printed_joined ts us
 printed_joined (Private b ∷ ts) us = printed_joined ts us
 
-pub strokes_printed : (colors : ColorOutput) (xs ys : List Stroke) → printed (tokens_of colors (xs ++ ys)) ≡ printed (tokens_of colors xs) + printed (tokens_of colors ys)
-strokes_printed colors xs ys = ap printed (flat_map-append (tokens colors) xs ys) ∙ printed_joined (tokens_of colors xs) (tokens_of colors ys)
+pub strokes_printed : (colors : ColorOutput) (xs ys : List Stroke) → printed_count (tokens_of colors (xs ++ ys)) ≡ printed_count (tokens_of colors xs) + printed_count (tokens_of colors ys)
+strokes_printed colors xs ys = ap printed_count (flat_map-append (tokens colors) xs ys) ∙ printed_joined (tokens_of colors xs) (tokens_of colors ys)
 
-told_prints : (colors : ColorOutput) (acts : List Act) → AllByRecursion SetsStyle acts → printed (told colors acts) ≡ 0
+told_prints : (colors : ColorOutput) (acts : List StyleAct) → AllByRecursion SetsStyle acts → printed_count (act_tokens colors acts) ≡ 0
 told_prints colors [] h = refl
 told_prints colors (Prints cs ∷ acts) h = absurd h.0
 told_prints colors (Colors c ∷ acts) h = told_prints colors acts h.1
 told_prints colors (Takes a ∷ acts) h = told_prints colors acts h.1
 
-style_prints : (colors : ColorOutput) (s : ContentStyle) (ss : List Stroke) → printed (tokens_of colors (stroke.Style s ∷ ss)) ≡ printed (tokens_of colors ss)
+style_prints : (colors : ColorOutput) (s : ContentStyle) (ss : List Stroke) → printed_count (tokens_of colors (stroke.Style s ∷ ss)) ≡ printed_count (tokens_of colors ss)
 style_prints colors s ss =
-    printed_joined (tokens colors (stroke.Style s)) (tokens_of colors ss) ∙ ap (λ n. n + printed (tokens_of colors ss)) (told_prints colors (style_acts s) (style_sets s)) ∙ (omega arith)
+    printed_joined (tokens colors (stroke.Style s)) (tokens_of colors ss) ∙ ap (λ n. n + printed_count (tokens_of colors ss)) (told_prints colors (style_acts s) (style_sets s)) ∙ (omega arith)
 
-color_prints : (colors : ColorOutput) (change : ContentStyle) → printed (color_tokens colors change) ≡ 0
+color_prints : (colors : ColorOutput) (change : ContentStyle) → printed_count (color_tokens colors change) ≡ 0
 color_prints Enabled change = told_prints Enabled (style_acts change) (style_sets change)
 color_prints Disabled change = refl
 
-colors_print : (colors : ColorOutput) (change : ContentStyle) (ss : List Stroke) → printed (tokens_of colors (stroke.Colors change ∷ ss)) ≡ printed (tokens_of colors ss)
+colors_print : (colors : ColorOutput) (change : ContentStyle) (ss : List Stroke) → printed_count (tokens_of colors (stroke.Colors change ∷ ss)) ≡ printed_count (tokens_of colors ss)
 colors_print colors change ss =
-    printed_joined (color_tokens colors change) (tokens_of colors ss) ∙ ap (λ n. n + printed (tokens_of colors ss)) (color_prints colors change) ∙ (omega arith)
+    printed_joined (color_tokens colors change) (tokens_of colors ss) ∙ ap (λ n. n + printed_count (tokens_of colors ss)) (color_prints colors change) ∙ (omega arith)
 
-pub cell_prints : (colors : ColorOutput) (there : Bool) (how : Setting) (column row : ℕ) (c : Cell) → printed (tokens_of colors (cell_strokes there how column row c)) ≡ 1
+pub cell_prints : (colors : ColorOutput) (there : Bool) (how : Setting) (column row : ℕ) (c : Cell) → printed_count (tokens_of colors (cell_strokes there how column row c)) ≡ 1
 cell_prints colors true setting.Kept column row c = refl
 cell_prints colors true (setting.Colors change) column row c = colors_print colors change (stroke.Print c.symbol ∷ [])
 cell_prints colors true (setting.Whole s) column row c = style_prints colors s (stroke.Print c.symbol ∷ [])
@@ -59,11 +59,11 @@ cell_prints colors false setting.Kept column row c = refl
 cell_prints colors false (setting.Colors change) column row c = colors_print colors change (stroke.Print c.symbol ∷ [])
 cell_prints colors false (setting.Whole s) column row c = style_prints colors s (stroke.Print c.symbol ∷ [])
 
-pub last_prints : (colors : ColorOutput) (cursor : Option (ℕ × ℕ)) → printed (tokens_of colors (last_strokes cursor)) ≡ 0
+pub last_prints : (colors : ColorOutput) (cursor : Option (ℕ × ℕ)) → printed_count (tokens_of colors (last_strokes cursor)) ≡ 0
 last_prints colors None = style_prints colors no_style (cursor_strokes None ++ (stroke.End ∷ []))
 last_prints colors (Some place) = style_prints colors no_style (cursor_strokes (Some place) ++ (stroke.End ∷ []))
 
-pub first_prints : (colors : ColorOutput) (known : Bool) → printed (tokens_of colors (first_strokes known)) ≡ 0
+pub first_prints : (colors : ColorOutput) (known : Bool) → printed_count (tokens_of colors (first_strokes known)) ≡ 0
 first_prints colors true = refl
 first_prints colors false = style_prints colors no_style (stroke.Erase ∷ [])
 

@@ -8,12 +8,12 @@ use Rattle.crossterm_style.specs.Styles.{no_style}
 use Rattle.screen.specs.declared.strokes.Stroke.{Stroke}
 use Rattle.screen.specs.declared.strokes.Stroke.TheVariants as stroke
 use Rattle.screen.specs.Buffers.{Picture}
-use Rattle.screen.specs.Cells.{ArePaired, Cell, blank, seen}
-use Rattle.screen.specs.Drawings.{DifferAt, HasCursor, HasSize, IsFrame, MayShow, cells_before, knows_cells, printed}
+use Rattle.screen.specs.Cells.{ArePaired, Cell, blank, cell_look}
+use Rattle.screen.specs.Drawings.{DifferAt, HasCursor, HasSize, IsFrame, MayShow, cells_before, knows_cells, printed_count}
 use Rattle.screen.specs.Updates.{IsSparing}
 use Rattle.screen.specs.Screens.{View}
 use Rattle.screen.specs.Grids.{Grid, run}
-use Rattle.screen.specs.inside.Scans.{IsPairedIf, Planned, StartsWith, Visited, is_known}
+use Rattle.screen.specs.inside.Scans.{IsPairedIf, Planned, StartsFrom, Visited, is_known}
 use Rattle.screen.specs.inside.Strokes.{AreFitting, IsFitting, last_strokes, tokens, tokens_of}
 use Rattle.screen.proofs.Counts.{last_prints, strokes_printed}
 use Rattle.screen.proofs.Runs.{moved, plain_set, run_then, runs_then}
@@ -60,8 +60,8 @@ planned known width height before after cursor strokes ws hs inside visited = re
         ),
       );
   count = λ colors.
-      let same : printed (tokens_of colors (strokes ++ last_strokes cursor)) ≡ printed (tokens_of colors strokes) =
-      strokes_printed colors strokes (last_strokes cursor) ∙ ap (λ n. printed (tokens_of colors strokes) + n) (last_prints colors cursor) ∙ (omega arith) in
+      let same : printed_count (tokens_of colors (strokes ++ last_strokes cursor)) ≡ printed_count (tokens_of colors strokes) =
+      strokes_printed colors strokes (last_strokes cursor) ∙ ap (λ n. printed_count (tokens_of colors strokes) + n) (last_prints colors cursor) ∙ (omega arith) in
       subst (DifferAt before after) (sym same) (visited.count colors);
   update = updated known width before after cursor strokes visited.spares;
   sparing = sparing known width before after cursor strokes visited.spares;
@@ -85,10 +85,10 @@ abbrev Begun : ℕ → ℕ → Option ColorOutput → List Cell → ColorOutput 
 Begun width height drawn shown colors before = before ≡ (if is_known drawn colors then shown else replicate (width * height) blank)
 
 started : (width height : ℕ) (drawn : Option ColorOutput) (shown : List Cell) (room : ℕ) (colors : ColorOutput) (before : List Cell) → Begun width height drawn shown colors before
-    → (g : Grid) → MayShow (view_of width height drawn shown room) g → StartsWith (is_known drawn colors) colors width height before g
+    → (g : Grid) → MayShow (view_of width height drawn shown room) g → StartsFrom (is_known drawn colors) colors width height before g
 started width height None shown room colors before e g m = m.0
-started width height (Some Enabled) shown room Enabled before e g m = (m.0, m.1 ∙ ap (map (seen Enabled)) (sym e))
-started width height (Some Disabled) shown room Disabled before e g m = (m.0, m.1 ∙ ap (map (seen Disabled)) (sym e))
+started width height (Some Enabled) shown room Enabled before e g m = (m.0, m.1 ∙ ap (map (cell_look Enabled)) (sym e))
+started width height (Some Disabled) shown room Disabled before e g m = (m.0, m.1 ∙ ap (map (cell_look Disabled)) (sym e))
 started width height (Some Enabled) shown room Disabled before e g m = m.0
 started width height (Some Disabled) shown room Enabled before e g m = m.0
 
@@ -112,7 +112,7 @@ framed width height drawn shown before room colors p cursor strokes w h e plan =
   turns = λ g m.
       let (i, ran, shows) = plan.leads colors g (started width height drawn shown room colors before e g m) in
       (i, ran, (sized p width height i w h shows.0, shows.1, shows.2, shows.3));
-  count = subst (λ l. DifferAt l p.cells (printed (tokens_of colors strokes))) (begun width height drawn shown room colors before e) (plan.count colors);
+  count = subst (λ l. DifferAt l p.cells (printed_count (tokens_of colors strokes))) (begun width height drawn shown room colors before e) (plan.count colors);
   update = plan.update colors;
   sparing = subst (λ l. IsSparing (knows_cells (view_of width height drawn shown room).drawn colors) p.width l p.cells cursor (tokens_of colors strokes)) (begun width height drawn shown room colors before e)
       (subst (λ n. IsSparing (knows_cells (view_of width height drawn shown room).drawn colors) n before p.cells cursor (tokens_of colors strokes)) (sym w)

@@ -11,7 +11,7 @@ use Rattle.crossterm_command.proofs.Readings.{text_joined}
 use Rattle.crossterm_command.proofs.Rows.{front_of_first, front_of_second}
 use Rattle.screen.specs.declared.pens.Pen.{Pen}
 use Rattle.screen.specs.declared.strokes.Stroke.{Stroke}
-use Rattle.screen.specs.inside.Pens.{Breaks, Ends, Passes, Puts}
+use Rattle.screen.specs.inside.Pens.{Breaks, Ends, PassesOn, PutsStrokes}
 use Rattle.screen.specs.inside.Strokes.{tokens, tokens_of}
 
 -- ---- texts
@@ -19,11 +19,11 @@ use Rattle.screen.specs.inside.Strokes.{tokens, tokens_of}
 abbrev Known : Type 0
 Known = Option (List ℕ)
 
-passes_none : (u : List ℕ) (f : Option CommandFault) (a : Known) → Passes u f [] a a u f
+passes_none : (u : List ℕ) (f : Option CommandFault) (a : Known) → PassesOn u f [] a a u f
 passes_none u None a = ([], append-nil u, Appends-nil a)
 passes_none u (Some e) a = refl
 
-passes_both : (u v w : List ℕ) (f g h : Option CommandFault) (s t : List ℕ) (a b c : Known) → Passes u f s a b v g → Passes v g t b c w h → Passes u f (s ++ t) a c w h
+passes_both : (u v w : List ℕ) (f g h : Option CommandFault) (s t : List ℕ) (a b c : Known) → PassesOn u f s a b v g → PassesOn v g t b c w h → PassesOn u f (s ++ t) a c w h
 passes_both u v w None None None s t a b c p q = (
   p.0 ++ q.0,
   sym (append_assoc u s t) ∙ ap (λ l. l ++ t) p.1 ∙ append_assoc p.0 v t ∙ ap (λ l. p.0 ++ l) q.1 ∙ sym (append_assoc p.0 q.0 w),
@@ -40,7 +40,7 @@ passes_both u v w (Some d) (Some e) None s t a b c p q = absurd q
 passes_both u v w (Some d) (Some e) (Some f) s t a b c p q = q ∙ p
 
 -- All was put from the beginning on, and the last of it was written.
-passes_whole : (u v : List ℕ) (f g : Option CommandFault) (text : List ℕ) (a b c : Known) → u ≡ [] → f ≡ None → Passes u f text a b v g → Ends v g b c → Appends a c text
+passes_whole : (u v : List ℕ) (f g : Option CommandFault) (text : List ℕ) (a b c : Known) → u ≡ [] → f ≡ None → PassesOn u f text a b v g → Ends v g b c → Appends a c text
 passes_whole u v (Some e) g text a b c n o p q = cc
 passes_whole u v None (Some e) text a b c n o p q = absurd q
 passes_whole u v None None text a b c n o p q =
@@ -48,7 +48,7 @@ passes_whole u v None None text a b c n o p q =
     subst (Appends a c) whole (Appends-trans a b c p.0 v p.2 q)
 
 -- All was put from the beginning on, and there was a fault.
-passes_front : (u v : List ℕ) (f g : Option CommandFault) (text : List ℕ) (a b c : Known) → u ≡ [] → f ≡ None → Passes u f text a b v g → Breaks v g b c → AppendsFront a c text
+passes_front : (u v : List ℕ) (f g : Option CommandFault) (text : List ℕ) (a b c : Known) → u ≡ [] → f ≡ None → PassesOn u f text a b v g → Breaks v g b c → AppendsFront a c text
 passes_front u v (Some e) g text a b c n o p q = cc
 passes_front u v None (Some e) text a b c n o p q =
     subst (λ k. AppendsFront a k text) (sym q) (subst (AppendsFront a b) (ap (λ l. l ++ text) n) p)
@@ -61,35 +61,35 @@ passes_front u v None None text a b c n o p q =
 texts_joined : (colors : ColorOutput) (xs ys : List Stroke) → text_of (tokens_of colors (xs ++ ys)) ≡ text_of (tokens_of colors xs) ++ text_of (tokens_of colors ys)
 texts_joined colors xs ys = ap text_of (flat_map-append (tokens colors) xs ys) ∙ text_joined (tokens_of colors xs) (tokens_of colors ys)
 
-pub puts_none : (a : Known) (p : Pen) → Puts [] a p a p
+pub puts_none : (a : Known) (p : Pen) → PutsStrokes [] a p a p
 puts_none a p = (refl, passes_none p.waiting.bytes p.fault a)
 
-pub puts_both : (xs ys : List Stroke) (a b c : Known) (p q r : Pen) → Puts xs a p b q → Puts ys b q c r → Puts (xs ++ ys) a p c r
+pub puts_both : (xs ys : List Stroke) (a b c : Known) (p q r : Pen) → PutsStrokes xs a p b q → PutsStrokes ys b q c r → PutsStrokes (xs ++ ys) a p c r
 puts_both xs ys a b c p q r s t =
     let colors = p.colors in
-    let later : Passes q.waiting.bytes q.fault (text_of (tokens_of colors ys)) b c r.waiting.bytes r.fault =
-    subst (λ k. Passes q.waiting.bytes q.fault (text_of (tokens_of k ys)) b c r.waiting.bytes r.fault) s.0 t.1 in (
+    let later : PassesOn q.waiting.bytes q.fault (text_of (tokens_of colors ys)) b c r.waiting.bytes r.fault =
+    subst (λ k. PassesOn q.waiting.bytes q.fault (text_of (tokens_of k ys)) b c r.waiting.bytes r.fault) s.0 t.1 in (
       t.0 ∙ s.0,
-      subst (λ l. Passes p.waiting.bytes p.fault l a c r.waiting.bytes r.fault) (sym (texts_joined colors xs ys))
+      subst (λ l. PassesOn p.waiting.bytes p.fault l a c r.waiting.bytes r.fault) (sym (texts_joined colors xs ys))
           (passes_both p.waiting.bytes q.waiting.bytes r.waiting.bytes p.fault q.fault r.fault (text_of (tokens_of colors xs)) (text_of (tokens_of colors ys)) a b c s.1 later),
     )
 
 -- Strokes that a new pen put, and the last of which were written.
-pub puts_whole : (colors : ColorOutput) (strokes : List Stroke) (a b c : Known) (p q : Pen) → p.colors ≡ colors → p.waiting.bytes ≡ [] → p.fault ≡ None → Puts strokes a p b q
+pub puts_whole : (colors : ColorOutput) (strokes : List Stroke) (a b c : Known) (p q : Pen) → p.colors ≡ colors → p.waiting.bytes ≡ [] → p.fault ≡ None → PutsStrokes strokes a p b q
     → Ends q.waiting.bytes q.fault b c → Appends a c (text_of (tokens_of colors strokes))
 puts_whole colors strokes a b c p q e n o s t =
     subst (λ k. Appends a c (text_of (tokens_of k strokes))) e
     (passes_whole p.waiting.bytes q.waiting.bytes p.fault q.fault (text_of (tokens_of p.colors strokes)) a b c n o s.1 t)
 
 -- Strokes that a new pen put before a fault.
-pub puts_front : (colors : ColorOutput) (strokes : List Stroke) (a b c : Known) (p q : Pen) → p.colors ≡ colors → p.waiting.bytes ≡ [] → p.fault ≡ None → Puts strokes a p b q
+pub puts_front : (colors : ColorOutput) (strokes : List Stroke) (a b c : Known) (p q : Pen) → p.colors ≡ colors → p.waiting.bytes ≡ [] → p.fault ≡ None → PutsStrokes strokes a p b q
     → Breaks q.waiting.bytes q.fault b c → AppendsFront a c (text_of (tokens_of colors strokes))
 puts_front colors strokes a b c p q e n o s t =
     subst (λ k. AppendsFront a c (text_of (tokens_of k strokes))) e
     (passes_front p.waiting.bytes q.waiting.bytes p.fault q.fault (text_of (tokens_of p.colors strokes)) a b c n o s.1 t)
 
 -- A stroke's text waits behind the others.
-pub waits : (s : Stroke) (p q : Pen) (a : Known) → p.fault ≡ None → q.colors ≡ p.colors → q.fault ≡ None → q.waiting.bytes ≡ p.waiting.bytes ++ text_of (tokens p.colors s) → Puts (s ∷ []) a p a q
+pub waits : (s : Stroke) (p q : Pen) (a : Known) → p.fault ≡ None → q.colors ≡ p.colors → q.fault ≡ None → q.waiting.bytes ≡ p.waiting.bytes ++ text_of (tokens p.colors s) → PutsStrokes (s ∷ []) a p a q
 waits s p q a f c g w = (c, steps p.fault q.fault f g)
   where
     text : List ℕ
@@ -98,7 +98,7 @@ waits s p q a f c g w = (c, steps p.fault q.fault f g)
     same : text ≡ text_of (tokens p.colors s)
     same = ap text_of (append-nil (tokens p.colors s))
 
-    steps : (f g : Option CommandFault) → f ≡ None → g ≡ None → Passes p.waiting.bytes f text a a q.waiting.bytes g
+    steps : (f g : Option CommandFault) → f ≡ None → g ≡ None → PassesOn p.waiting.bytes f text a a q.waiting.bytes g
     steps None None d h = ([], ap (λ l. p.waiting.bytes ++ l) same ∙ sym w, Appends-nil a)
     steps None (Some x) d h = cc
     steps (Some x) g d h = cc

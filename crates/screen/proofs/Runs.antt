@@ -18,12 +18,12 @@ use Rattle.crossterm_style.specs.declared.types.attribute.Attribute.TheVariants.
 use Rattle.crossterm_style.specs.declared.types.color.Color.{Color}
 use Rattle.crossterm_style.specs.declared.types.colored.Colored.{Colored}
 use Rattle.crossterm_style.specs.declared.types.colored.Colored.TheVariants.{ForegroundColor, BackgroundColor, UnderlineColor}
-use Rattle.crossterm_style.specs.Acts.{Act, after_acts, style_acts, where_there}
-use Rattle.crossterm_style.specs.Acts.Act.{Prints, Colors, Takes}
+use Rattle.crossterm_style.specs.Acts.{StyleAct, after_acts, style_acts, where_there}
+use Rattle.crossterm_style.specs.Acts.StyleAct.{Prints, Colors, Takes}
 use Rattle.crossterm_style.specs.Appearance.{FitsAct}
 use Rattle.crossterm_style.specs.Attributes.{members}
-use Rattle.crossterm_style.specs.Looks.{is_digit, plain, style_after}
-use Rattle.crossterm_style.specs.Styles.{attribute_functions, no_style, told}
+use Rattle.crossterm_style.specs.Looks.{is_decimal, plain, style_after}
+use Rattle.crossterm_style.specs.Styles.{attribute_functions, no_style, act_tokens}
 use Rattle.crossterm_style.proofs.ActLooks.{acts_show}
 use Rattle.crossterm_style.proofs.TextLaws.{IsDigit, next_field, one_field}
 use Rattle.crossterm.specs.Sequences.{move_to}
@@ -31,10 +31,10 @@ use Rattle.screen.specs.declared.settings.Setting.{Setting}
 use Rattle.screen.specs.declared.settings.Setting.TheVariants as setting
 use Rattle.screen.specs.declared.strokes.Stroke.{Stroke}
 use Rattle.screen.specs.declared.strokes.Stroke.TheVariants as stroke
-use Rattle.screen.specs.Cells.{Cell, is_wide, last_of, look}
-use Rattle.screen.specs.Grids.{Grid, is_last, is_width, move_cursor, number, overwritten, place, place_told, print_at, print_one, print_two, right_of, run, step, takes_one, takes_two}
+use Rattle.screen.specs.Cells.{Cell, is_wide, last_place, look}
+use Rattle.screen.specs.Grids.{Grid, is_last, is_width, move_cursor, parameter_number, overwritten, place, place_told, print_at, print_one, print_two, right_of, run, step, takes_one, takes_two}
 use Rattle.screen.specs.Grids.Square.{Whole, First, Second}
-use Rattle.screen.specs.inside.Settings.{Fits, Sets}
+use Rattle.screen.specs.inside.Settings.{HasByteColors, Sets}
 use Rattle.screen.specs.inside.Strokes.{cell_strokes, color_tokens, move_strokes, style_strokes, tokens, tokens_of}
 use Rattle.screen.proofs.Recolorings.{recolored, recolored_by}
 use Rattle.screen.proofs.Squares.{squares}
@@ -66,14 +66,14 @@ decimal_digits : (n : ℕ) → n < 2 ^ 64 → AllByRecursion IsDigit (decimal n)
 decimal_digits = decimal_by_steps (λ n ds. AllByRecursion IsDigit ds) (λ n h. ((omega arith, omega arith), tt))
     (λ n ds h a. all_joined IsDigit ds _ a ((omega arith, omega (arith, mod-lt n {m = 10} (omega arith))), tt))
 
-digit_passes : (d : ℕ) → IsDigit d → is_digit d ≡ true
+digit_passes : (d : ℕ) → IsDigit d → is_decimal d ≡ true
 digit_passes d h = grind (arith, nat_tests)
 
-digits_pass : (ds : List ℕ) → AllByRecursion IsDigit ds → list_all is_digit ds ≡ true
+digits_pass : (ds : List ℕ) → AllByRecursion IsDigit ds → list_all is_decimal ds ≡ true
 digits_pass [] a = refl
 digits_pass (d ∷ ds) a = rw (digit_passes d a.0, digits_pass ds a.1) refl
 
-number_read : (n : ℕ) → n < 2 ^ 64 → number (decimal n) ≡ Some n
+number_read : (n : ℕ) → n < 2 ^ 64 → parameter_number (decimal n) ≡ Some n
 number_read n h =
     let value : digits_value 10 (decimal n) ≡ n = (decimal_is_IsNumeral n h).1 in
     rw (digits_pass (decimal n) (decimal_digits n h), value) refl
@@ -94,19 +94,19 @@ pub moved : (row column : ℕ) (g : Grid) → row < g.height → column < g.widt
     → run (move_to column row) g ≡ Some (record g { cursor = Some (row * g.width + column) })
 moved row column g r c rs cs =
     let parts = place_parts (row + 1) (column + 1) (omega (arith, rs)) (omega (arith, cs)) in
-    let told : place_told (slice_split (λ b. b == 59) (decimal (row + 1) ++ (codes ";" ++ decimal (column + 1)))) g ≡ Some (row * g.width + column) =
-    ap (λ p. place_told p g) parts ∙ ap (λ n. place n (number (decimal (column + 1))) g) (number_read (row + 1) (omega (arith, rs)))
+    let act_tokens : place_told (slice_split (λ b. b == 59) (decimal (row + 1) ++ (codes ";" ++ decimal (column + 1)))) g ≡ Some (row * g.width + column) =
+    ap (λ p. place_told p g) parts ∙ ap (λ n. place n (parameter_number (decimal (column + 1))) g) (number_read (row + 1) (omega (arith, rs)))
     ∙ ap (λ n. place (Some (row + 1)) n g) (number_read (column + 1) (omega (arith, cs))) ∙ place_read row column g r c in
-    ap (λ o. elim (move_cursor o g) [ None ↦ None | Some h ↦ Some h ]) told
+    ap (λ o. elim (move_cursor o g) [ None ↦ None | Some h ↦ Some h ]) act_tokens
 
 -- ---- styles
 
 -- An act that prints nothing.
-abbrev pub SetsStyle : Act → Type 0
+abbrev pub SetsStyle : StyleAct → Type 0
 SetsStyle (Prints cs) = ⊥
 SetsStyle a = Unit {0}
 
-style_told : (colors : ColorOutput) (acts : List Act) → AllByRecursion SetsStyle acts → (g : Grid) → run (told colors acts) g ≡ Some (record g { style = style_after (told colors acts) g.style })
+style_told : (colors : ColorOutput) (acts : List StyleAct) → AllByRecursion SetsStyle acts → (g : Grid) → run (act_tokens colors acts) g ≡ Some (record g { style = style_after (act_tokens colors acts) g.style })
 style_told colors [] h g = refl
 style_told colors (Prints cs ∷ acts) h g = absurd h.0
 style_told colors (Colors c ∷ acts) h g = style_told colors acts h.1 _
@@ -126,15 +126,15 @@ style_sets s =
     (all_joined SetsStyle (where_there ForegroundColor s.foreground_color) _ (color_sets ForegroundColor s.foreground_color)
     (all_joined SetsStyle (where_there UnderlineColor s.underline_color) _ (color_sets UnderlineColor s.underline_color) (takes_set (members s.attributes.0))))
 
-from_plain : (colors : ColorOutput) (s : ContentStyle) (g : Grid) → AllByRecursion FitsAct (style_acts s) → g.style ≡ plain → run (told colors (style_acts s)) g ≡ Some (record g { style = look colors s })
+from_plain : (colors : ColorOutput) (s : ContentStyle) (g : Grid) → AllByRecursion FitsAct (style_acts s) → g.style ≡ plain → run (act_tokens colors (style_acts s)) g ≡ Some (record g { style = look colors s })
 from_plain colors s g fits is_plain =
-    style_told colors (style_acts s) (style_sets s) g ∙ ap (λ p. Some (record g { style = style_after (told colors (style_acts s)) p })) is_plain
+    style_told colors (style_acts s) (style_sets s) g ∙ ap (λ p. Some (record g { style = style_after (act_tokens colors (style_acts s)) p })) is_plain
     ∙ ap (λ p. Some (record g { style = p })) ((acts_show colors (style_acts s) plain fits).1)
 
 -- A style that is set from any.
 pub styled : (colors : ColorOutput) (s : ContentStyle) (g : Grid) → AllByRecursion FitsAct (style_acts s) → run (tokens colors (stroke.Style s)) g ≡ Some (record g { style = look colors s })
 styled colors s g fits =
-    run_then (attribute_functions Reset) (told colors (style_acts s)) g (record g { style = plain }) refl ∙ from_plain colors s (record g { style = plain }) fits refl
+    run_then (attribute_functions Reset) (act_tokens colors (style_acts s)) g (record g { style = plain }) refl ∙ from_plain colors s (record g { style = plain }) fits refl
 
 -- What colours make of any style.
 colors_run : (colors : ColorOutput) (change : ContentStyle) (g : Grid) → AllByRecursion FitsAct (style_acts change) → run (color_tokens colors change) g ≡ Some (record g { style = recolored_by colors change g.style })
@@ -157,7 +157,7 @@ plain_set colors g = styled colors no_style g (subst (AllByRecursion FitsAct) (s
 -- ---- a cell
 
 abbrev pub painted : ColorOutput → Grid → ℕ → Cell → Grid
-painted colors g at c = record g { cells = overwritten g.cells at (squares colors c); cursor = right_of g.width (last_of at c); style = look colors c.style }
+painted colors g at c = record g { cells = overwritten g.cells at (squares colors c); cursor = right_of g.width (last_place at c); style = look colors c.style }
 
 by_two : (o : Option ℕ) → is_width 2 o ≡ true → is_width 1 o ≡ false
 by_two None e = cc
@@ -189,7 +189,7 @@ moved_if colors true row column g r k rs ks h = ap (λ o. Some (record g { curso
 moved_if colors false row column g r k rs ks h = moved row column g r k rs ks
 
 -- A style that is set after another one.
-styled_from : (colors : ColorOutput) (set : Option ContentStyle) (to : ContentStyle) (how : Setting) (g : Grid) → Sets set to how → Fits how → ((s : ContentStyle) → set ≡ Some s → g.style ≡ look colors s)
+styled_from : (colors : ColorOutput) (set : Option ContentStyle) (to : ContentStyle) (how : Setting) (g : Grid) → Sets set to how → HasByteColors how → ((s : ContentStyle) → set ≡ Some s → g.style ≡ look colors s)
     → run (tokens_of colors (style_strokes how)) g ≡ Some (record g { style = look colors to })
 styled_from colors None to setting.Kept g is fits h = cc
 styled_from colors None to (setting.Colors change) g is fits h = cc
@@ -204,7 +204,7 @@ styled_from colors (Some from) to (setting.Whole s) g is fits h =
     ap (λ ts. run ts g) (append-nil (tokens colors (stroke.Style s))) ∙ styled colors s g fits ∙ ap (λ t. Some (record g { style = look colors t })) is.1
 
 pub cell_painted : (colors : ColorOutput) (there : Bool) (set : Option ContentStyle) (how : Setting) (row column : ℕ) (c : Cell) (g : Grid) → row < g.height → column < g.width → row < 2 ^ 32 → column < 2 ^ 32
-    → Sets set c.style how → Fits how → (takes_one c.symbol ≡ true) ⊎ (takes_two c.symbol ≡ true) → (is_wide c ≡ true → is_last g.width (row * g.width + column) ≡ false)
+    → Sets set c.style how → HasByteColors how → (takes_one c.symbol ≡ true) ⊎ (takes_two c.symbol ≡ true) → (is_wide c ≡ true → is_last g.width (row * g.width + column) ≡ false)
     → (there ≡ true → g.cursor ≡ Some (row * g.width + column)) → ((s : ContentStyle) → set ≡ Some s → g.style ≡ look colors s)
     → run (tokens_of colors (cell_strokes there how column row c)) g ≡ Some (painted colors g (row * g.width + column) c)
 cell_painted colors there set how row column c g r k rs ks is fits takes room at_place is_set =

@@ -10,13 +10,13 @@ use Rattle.screen.specs.declared.settings.Setting.{Setting}
 use Rattle.screen.specs.declared.settings.Setting.TheVariants as setting
 use Rattle.screen.specs.declared.strokes.Stroke.{Stroke}
 use Rattle.screen.specs.declared.strokes.Stroke.TheVariants as stroke
-use Rattle.screen.specs.Cells.{ArePaired, Cell, IsPrinted, Stands, blank, is_covered, is_wide, last_of, look, seen}
-use Rattle.screen.specs.Drawings.{DifferAt, printed}
+use Rattle.screen.specs.Cells.{ArePaired, Cell, IsPrinted, Stands, blank, is_covered, is_wide, last_place, look, cell_look}
+use Rattle.screen.specs.Drawings.{DifferAt, printed_count}
 use Rattle.screen.specs.Updates.{HasToBePrinted}
 use Rattle.screen.specs.Grids.{Grid, Square, begun, blank_square, is_last, overwritten, right_of, run}
 use Rattle.screen.specs.Grids.Square.{Whole}
-use Rattle.screen.specs.inside.Scans.{Counts, IsWithin, Reaches, Spares, Visited, rest}
-use Rattle.screen.specs.inside.Settings.{Fits, Sets}
+use Rattle.screen.specs.inside.Scans.{Counts, IsSized, ReachesPlace, Spares, Visited, rest_from}
+use Rattle.screen.specs.inside.Settings.{HasByteColors, Sets}
 use Rattle.screen.specs.inside.Strokes.{AreFitting, IsFitting, cell_strokes, first_strokes, tokens, tokens_of}
 use Rattle.screen.proofs.Counts.{cell_prints, first_prints, other_at, same_at, strokes_printed}
 use Rattle.screen.proofs.Runs.{cell_painted, looks_plain, painted, plain_set, run_then, runs_then}
@@ -24,18 +24,18 @@ use Rattle.screen.proofs.Squares.{At, at_place, blank_seen, grown, opened, paire
 
 -- ---- the beginning
 
-erased_cells : (colors : ColorOutput) (xs : List Square) → map (λ c. blank_square) xs ≡ map (seen colors) (replicate (length xs) blank)
+erased_cells : (colors : ColorOutput) (xs : List Square) → map (λ c. blank_square) xs ≡ map (cell_look colors) (replicate (length xs) blank)
 erased_cells colors [] = refl
 erased_cells colors (x ∷ xs) =
-    let square : blank_square ≡ seen colors blank = ap (λ s. Whole 32 s) (sym (looks_plain colors)) ∙ sym (blank_seen colors) in
-    ap (λ l. blank_square ∷ l) (erased_cells colors xs) ∙ ap (λ q. q ∷ map (seen colors) (replicate (length xs) blank)) square
+    let square : blank_square ≡ cell_look colors blank = ap (λ s. Whole 32 s) (sym (looks_plain colors)) ∙ sym (blank_seen colors) in
+    ap (λ l. blank_square ∷ l) (erased_cells colors xs) ∙ ap (λ q. q ∷ map (cell_look colors) (replicate (length xs) blank)) square
 
-pub within_length : (known : Bool) (width height : ℕ) (before : List Cell) → IsWithin known width height before → length before ≡ width * height
+pub within_length : (known : Bool) (width height : ℕ) (before : List Cell) → IsSized known width height before → length before ≡ width * height
 within_length true width height before w = w
 within_length false width height before w = ap length w ∙ length-replicate (width * height) blank
 
-pub starts : (known : Bool) (width height : ℕ) (before after : List Cell) → IsWithin known width height before
-    → ArePaired false before → ArePaired false after → Reaches known width height before after 0 None None (first_strokes known)
+pub starts : (known : Bool) (width height : ℕ) (before after : List Cell) → IsSized known width height before
+    → ArePaired false before → ArePaired false after → ReachesPlace known width height before after 0 None None (first_strokes known)
 starts true width height before after w b a =
     (λ colors g s. (g, refl, record { size = s.0; cells = s.1 ∙ sym (rest_same colors false after before a b); place = λ n y. cc; set = λ t y. cc }))
 starts false width height before after w b a =
@@ -44,7 +44,7 @@ starts false width height before after w b a =
     let h : Grid = record g1 { cells = map (λ c. blank_square) g.cells } in
     let ran : run (tokens_of colors (first_strokes false)) g ≡ Some h =
     run_then (tokens colors (stroke.Style no_style)) (tokens_of colors (stroke.Erase ∷ [])) g g1 (plain_set colors g) in
-    let cells : h.cells ≡ map (seen colors) before = erased_cells colors g.cells ∙ ap (λ n. map (seen colors) (replicate n blank)) s.2 ∙ ap (map (seen colors)) (sym w) in
+    let cells : h.cells ≡ map (cell_look colors) before = erased_cells colors g.cells ∙ ap (λ n. map (cell_look colors) (replicate n blank)) s.2 ∙ ap (map (cell_look colors)) (sym w) in
     (h, ran, record { size = (s.0, s.1, length-map g.cells (λ c. blank_square) ∙ s.2); cells = cells ∙ sym (rest_same colors false after before a b); place = λ n y. cc; set = λ t y. cc }))
 
 pub starts_counted : (known : Bool) (before after : List Cell) → Counts before after 0 (first_strokes known)
@@ -58,32 +58,32 @@ starts_fitting false = (tt, (tt, (tt, tt)))
 
 -- The grid's cells before the place `k` is visited.
 abbrev stage : ColorOutput → List Cell → List Cell → ℕ → List Square
-stage colors before after k = take k (map (seen colors) after) ++ rest (drop k after) (map (seen colors) (drop k before))
+stage colors before after k = take k (map (cell_look colors) after) ++ rest_from (drop k after) (map (cell_look colors) (drop k before))
 
 -- The cells of the next stage, if the cell isn't written.
 stage_kept : (colors : ColorOutput) (before after : List Cell) (k : ℕ) (b c : Cell) → k < length before → k < length after → get_or before k b ≡ b → get_or after k c ≡ c
     → (covered : Bool) → is_covered c ≡ covered → (covered ≡ false → b ≡ c) → At colors before k → At colors after k → stage colors before after k ≡ stage colors before after (k + 1)
 stage_kept colors before after k b c lb la eb ec covered cv same ab aa =
-    let front = take k (map (seen colors) after) in
-    let later = map (seen colors) (drop (k + 1) before) in
-    let opens : stage colors before after k ≡ front ++ rest (c ∷ drop (k + 1) after) (seen colors b ∷ later) =
-    ap (λ l. front ++ rest l (map (seen colors) (drop k before))) (opened after k c la ec)
-    ∙ ap (λ l. front ++ rest (c ∷ drop (k + 1) after) (map (seen colors) l)) (opened before k b lb eb) in
-    let closes : front ++ (seen colors c ∷ rest (drop (k + 1) after) later) ≡ stage colors before after (k + 1) =
-    sym (append_assoc front (seen colors c ∷ []) (rest (drop (k + 1) after) later)) ∙ ap (λ l. l ++ rest (drop (k + 1) after) later) (sym (grown colors after k c la ec)) in
+    let front = take k (map (cell_look colors) after) in
+    let later = map (cell_look colors) (drop (k + 1) before) in
+    let opens : stage colors before after k ≡ front ++ rest_from (c ∷ drop (k + 1) after) (cell_look colors b ∷ later) =
+    ap (λ l. front ++ rest_from l (map (cell_look colors) (drop k before))) (opened after k c la ec)
+    ∙ ap (λ l. front ++ rest_from (c ∷ drop (k + 1) after) (map (cell_look colors) l)) (opened before k b lb eb) in
+    let closes : front ++ (cell_look colors c ∷ rest_from (drop (k + 1) after) later) ≡ stage colors before after (k + 1) =
+    sym (append_assoc front (cell_look colors c ∷ []) (rest_from (drop (k + 1) after) later)) ∙ ap (λ l. l ++ rest_from (drop (k + 1) after) later) (sym (grown colors after k c la ec)) in
     let pairs : ArePaired (is_wide c) (drop (k + 1) after) = (paired_next colors after k c la ec aa).1 in
     elim covered as (λ v. is_covered c ≡ v → (v ≡ false → b ≡ c) → stage colors before after k ≡ stage colors before after (k + 1)) [
-      | true ↦ λ e d. opens ∙ ap (λ l. front ++ l) (rest_covered colors c (drop (k + 1) after) (seen colors b ∷ later) e pairs) ∙ closes
+      | true ↦ λ e d. opens ∙ ap (λ l. front ++ l) (rest_covered colors c (drop (k + 1) after) (cell_look colors b ∷ later) e pairs) ∙ closes
       | false ↦ λ e d.
           let old : ArePaired (is_wide c) (drop (k + 1) before) = subst (λ x. ArePaired (is_wide x) (drop (k + 1) before)) (d refl) (paired_next colors before k b lb eb ab).1 in
-          opens ∙ ap (λ x. front ++ rest (c ∷ drop (k + 1) after) (seen colors x ∷ later)) (d refl)
+          opens ∙ ap (λ x. front ++ rest_from (c ∷ drop (k + 1) after) (cell_look colors x ∷ later)) (d refl)
           ∙ ap (λ l. front ++ l) (rest_kept colors c (drop (k + 1) after) (drop (k + 1) before) e pairs old) ∙ closes
     ] cv same
 
 -- A cell that is shown already, or is covered, is left.
 pub keeps : (known : Bool) (k width height : ℕ) (before after : List Cell) (cursor : Option ℕ) (style : Option ContentStyle) (strokes : List Stroke) (b c : Cell)
     → k < length before → k < length after → get_or before k b ≡ b → get_or after k c ≡ c → (is_covered c ≡ false → b ≡ c) → ArePaired false before → ArePaired false after
-    → Reaches known width height before after k cursor style strokes → Reaches known width height before after (k + 1) cursor style strokes
+    → ReachesPlace known width height before after k cursor style strokes → ReachesPlace known width height before after (k + 1) cursor style strokes
 keeps known k width height before after cursor style strokes b c lb la eb ec e pb pa reached colors g s =
     let (h, ran, scanned) = reached colors g s in (
       h,
@@ -100,36 +100,36 @@ keeps known k width height before after cursor style strokes b c lb la eb ec e p
 stage_painted : (colors : ColorOutput) (before after : List Cell) (cells : List Square) (k : ℕ) (b c : Cell) → k < length before → k < length after → get_or before k b ≡ b → get_or after k c ≡ c
     → is_covered c ≡ false → At colors after k → cells ≡ stage colors before after k → overwritten cells k (squares colors c) ≡ stage colors before after (k + 1)
 stage_painted colors before after cells k b c lb la eb ec cv aa is =
-    let front = take k (map (seen colors) after) in
-    let old = map (seen colors) (drop k before) in
-    let later = map (seen colors) (drop (k + 1) before) in
+    let front = take k (map (cell_look colors) after) in
+    let old = map (cell_look colors) (drop k before) in
+    let later = map (cell_look colors) (drop (k + 1) before) in
     let pairs : (is_covered c ≡ aa.first) × ArePaired (is_wide c) (drop (k + 1) after) = paired_next colors after k c la ec aa in
     let narrow : aa.first ≡ false = sym pairs.0 ∙ cv in
-    let long : length front ≡ k = length-take-le k (map (seen colors) after) (subst (λ n. k ≤ n) (sym (length-map after (seen colors))) (omega (arith, la))) in
-    let begun_so : cells ≡ front ++ rest (c ∷ drop (k + 1) after) old = is ∙ ap (λ l. front ++ rest l old) (opened after k c la ec) in
+    let long : length front ≡ k = length-take-le k (map (cell_look colors) after) (subst (λ n. k ≤ n) (sym (length-map after (cell_look colors))) (omega (arith, la))) in
+    let begun_so : cells ≡ front ++ rest_from (c ∷ drop (k + 1) after) old = is ∙ ap (λ l. front ++ rest_from l old) (opened after k c la ec) in
     rest_painted colors c (drop (k + 1) after) cells front old k cv pairs.1 begun_so long (aa.whole narrow)
-    ∙ ap (λ l. front ++ (seen colors c ∷ rest (drop (k + 1) after) (drop 1 (map (seen colors) l)))) (opened before k b lb eb)
-    ∙ sym (append_assoc front (seen colors c ∷ []) (rest (drop (k + 1) after) later))
-    ∙ ap (λ l. l ++ rest (drop (k + 1) after) later) (sym (grown colors after k c la ec))
+    ∙ ap (λ l. front ++ (cell_look colors c ∷ rest_from (drop (k + 1) after) (drop 1 (map (cell_look colors) l)))) (opened before k b lb eb)
+    ∙ sym (append_assoc front (cell_look colors c ∷ []) (rest_from (drop (k + 1) after) later))
+    ∙ ap (λ l. l ++ rest_from (drop (k + 1) after) later) (sym (grown colors after k c la ec))
 
 -- Each stage has the same number of cells.
 stage_length : (colors : ColorOutput) (before after : List Cell) (k : ℕ) → length before ≡ length after → k ≤ length after → length (stage colors before after k) ≡ length after
 stage_length colors before after k same le =
-    let old = map (seen colors) (drop k before) in
-    let long : length old ≡ length after - k = length-map (drop k before) (seen colors) ∙ length-drop k before ∙ ap (λ n. n - k) same in
-    let back : length (rest (drop k after) old) ≡ length after - k = rest_length (drop k after) old (length-drop k after ∙ sym long) ∙ long in
-    let front : length (take k (map (seen colors) after)) ≡ k =
-    length-take-le k (map (seen colors) after) (subst (λ n. k ≤ n) (sym (length-map after (seen colors))) le) in
-    omega (arith, le, length-append (take k (map (seen colors) after)) (rest (drop k after) old), front, back)
+    let old = map (cell_look colors) (drop k before) in
+    let long : length old ≡ length after - k = length-map (drop k before) (cell_look colors) ∙ length-drop k before ∙ ap (λ n. n - k) same in
+    let back : length (rest_from (drop k after) old) ≡ length after - k = rest_length (drop k after) old (length-drop k after ∙ sym long) ∙ long in
+    let front : length (take k (map (cell_look colors) after)) ≡ k =
+    length-take-le k (map (cell_look colors) after) (subst (λ n. k ≤ n) (sym (length-map after (cell_look colors))) le) in
+    omega (arith, le, length-append (take k (map (cell_look colors) after)) (rest_from (drop k after) old), front, back)
 
 -- A cell that is painted is shown.
 pub paints : (known : Bool) (k width height : ℕ) (before after : List Cell) (cursor : Option ℕ) (style : Option ContentStyle) (strokes : List Stroke) (b c : Cell) (there : Bool) (how : Setting) (row column : ℕ)
     → k < length before → k < length after → length before ≡ width * height → length after ≡ width * height → get_or before k b ≡ b → get_or after k c ≡ c
     → row < height → column < width → height < 2 ^ 32 → width < 2 ^ 32 → row * width + column ≡ k
-    → Sets style c.style how → Fits how → IsPrinted c.symbol → is_covered c ≡ false → (is_wide c ≡ true → is_last width k ≡ false) → ArePaired false before → ArePaired false after
+    → Sets style c.style how → HasByteColors how → IsPrinted c.symbol → is_covered c ≡ false → (is_wide c ≡ true → is_last width k ≡ false) → ArePaired false before → ArePaired false after
     → (there ≡ true → cursor ≡ Some k)
-    → Reaches known width height before after k cursor style strokes
-    → Reaches known width height before after (k + 1) (right_of width (last_of k c)) (Some c.style) (strokes ++ cell_strokes there how column row c)
+    → ReachesPlace known width height before after k cursor style strokes
+    → ReachesPlace known width height before after (k + 1) (right_of width (last_place k c)) (Some c.style) (strokes ++ cell_strokes there how column row c)
 paints known k width height before after cursor style strokes b c there how row column lb la bl al eb ec r q hs ws at is fits takes cv room pb pa is_there reached colors g s =
     let (h, ran, scanned) = reached colors g s in
     let (wide, high, all) = scanned.size in
@@ -149,7 +149,7 @@ paints known k width height before after cursor style strokes b c there how row 
       record {
         size = (wide, high, size);
         cells = cells;
-        place = λ n y. ap (λ w. right_of w (last_of k c)) wide ∙ y;
+        place = λ n y. ap (λ w. right_of w (last_place k c)) wide ∙ y;
         set = λ t y. ap (λ o. elim o [ None ↦ look colors c.style | Some u ↦ look colors u ]) y;
       },
     )
@@ -160,14 +160,14 @@ stands_printed c e (inr p) = p.1
 
 pub keeps_counted : (before after : List Cell) (k : ℕ) (strokes : List Stroke) (b c : Cell) → k < length before → k < length after → get_or before k b ≡ b → get_or after k c ≡ c → (HasToBePrinted b c → ⊥)
     → Counts before after k strokes → Counts before after (k + 1) strokes
-keeps_counted before after k strokes b c lb la eb ec e counts colors = same_at before after k (printed (tokens_of colors strokes)) b c lb la eb ec e (counts colors)
+keeps_counted before after k strokes b c lb la eb ec e counts colors = same_at before after k (printed_count (tokens_of colors strokes)) b c lb la eb ec e (counts colors)
 
 pub paints_counted : (before after : List Cell) (k : ℕ) (strokes : List Stroke) (b c : Cell) (there : Bool) (how : Setting) (row column : ℕ) → k < length before → k < length after → get_or before k b ≡ b → get_or after k c ≡ c → HasToBePrinted b c
     → Counts before after k strokes → Counts before after (k + 1) (strokes ++ cell_strokes there how column row c)
 paints_counted before after k strokes b c there how row column lb la eb ec e counts colors =
-    let one : printed (tokens_of colors (strokes ++ cell_strokes there how column row c)) ≡ printed (tokens_of colors strokes) + 1 =
-    strokes_printed colors strokes (cell_strokes there how column row c) ∙ ap (λ n. printed (tokens_of colors strokes) + n) (cell_prints colors there how column row c) in
-    subst (DifferAt (take (k + 1) before) (take (k + 1) after)) (sym one) (other_at before after k (printed (tokens_of colors strokes)) b c lb la eb ec e (counts colors))
+    let one : printed_count (tokens_of colors (strokes ++ cell_strokes there how column row c)) ≡ printed_count (tokens_of colors strokes) + 1 =
+    strokes_printed colors strokes (cell_strokes there how column row c) ∙ ap (λ n. printed_count (tokens_of colors strokes) + n) (cell_prints colors there how column row c) in
+    subst (DifferAt (take (k + 1) before) (take (k + 1) after)) (sym one) (other_at before after k (printed_count (tokens_of colors strokes)) b c lb la eb ec e (counts colors))
 
 cell_fitting : (there : Bool) (how : Setting) (column row : ℕ) (c : Cell) → IsPrinted c.symbol → AreFitting (cell_strokes there how column row c)
 cell_fitting true setting.Kept column row c f = (f, tt)
@@ -184,15 +184,15 @@ paints_fitting strokes there how column row c f all = all_joined IsFitting strok
 
 -- At the end all are shown.
 pub ends : (known : Bool) (k width height : ℕ) (before after : List Cell) (cursor : Option ℕ) (style : Option ContentStyle) (strokes : List Stroke) → length before ≡ width * height → length after ≡ width * height → width * height ≤ k
-    → Reaches known width height before after k cursor style strokes → Counts before after k strokes → Spares known width before after strokes → Visited known width height before after strokes
+    → ReachesPlace known width height before after k cursor style strokes → Counts before after k strokes → Spares known width before after strokes → Visited known width height before after strokes
 ends known k width height before after cursor style strokes lb la le reached counts few = record {
   leads = λ colors g s.
       let (h, ran, scanned) = reached colors g s in
-      let new = map (seen colors) after in
-      let long : length new ≡ width * height = length-map after (seen colors) ∙ la in
-      let nothing : rest (drop k after) (map (seen colors) (drop k before)) ≡ [] =
-      ap (λ l. rest l (map (seen colors) (drop k before))) (drop_all k after (subst (λ n. n ≤ k) (sym la) le))
-      ∙ ap (λ l. begun (map (seen colors) l)) (drop_all k before (subst (λ n. n ≤ k) (sym lb) le)) in (
+      let new = map (cell_look colors) after in
+      let long : length new ≡ width * height = length-map after (cell_look colors) ∙ la in
+      let nothing : rest_from (drop k after) (map (cell_look colors) (drop k before)) ≡ [] =
+      ap (λ l. rest_from l (map (cell_look colors) (drop k before))) (drop_all k after (subst (λ n. n ≤ k) (sym la) le))
+      ∙ ap (λ l. begun (map (cell_look colors) l)) (drop_all k before (subst (λ n. n ≤ k) (sym lb) le)) in (
         h,
         ran,
         (
@@ -201,7 +201,7 @@ ends known k width height before after cursor style strokes lb la le reached cou
         ),
       );
   count = λ colors.
-      subst (λ l. DifferAt l after (printed (tokens_of colors strokes))) (take_all k before (subst (λ n. n ≤ k) (sym lb) le))
-      (subst (λ l. DifferAt (take k before) l (printed (tokens_of colors strokes))) (take_all k after (subst (λ n. n ≤ k) (sym la) le)) (counts colors));
+      subst (λ l. DifferAt l after (printed_count (tokens_of colors strokes))) (take_all k before (subst (λ n. n ≤ k) (sym lb) le))
+      (subst (λ l. DifferAt (take k before) l (printed_count (tokens_of colors strokes))) (take_all k after (subst (λ n. n ≤ k) (sym la) le)) (counts colors));
   spares = few;
 }

@@ -7,7 +7,7 @@ use Rattle.crossterm_style.specs.declared.content_style.ContentStyle.{ContentSty
 use Rattle.screen.specs.declared.strokes.Stroke.{Stroke}
 use Rattle.screen.specs.Cells.{ArePaired, Cell, blank}
 use Rattle.screen.specs.Updates.{HasToBePrinted}
-use Rattle.screen.specs.inside.Scans.{Counts, Reaches, Sparing}
+use Rattle.screen.specs.inside.Scans.{Counts, ReachesPlace, Sparing}
 use Rattle.screen.proofs.Scans.{keeps, keeps_counted}
 use Rattle.screen.proofs.Spares.{spares_kept}
 
@@ -55,7 +55,7 @@ copied_all before after cells at c le = ext_get_or blank cells after c.long (λ 
 
 -- What the strokes have done before a place.
 pub record Stage (known : Bool) (width height : ℕ) (before after : List Cell) (strokes : List Stroke) (cursor : Option ℕ) (style : Option ContentStyle) (at : ℕ) : Type 0 where
-  pub reached : Reaches known width height before after at cursor style strokes
+  pub reached : ReachesPlace known width height before after at cursor style strokes
   pub counted : Counts before after at strokes
   pub sparing : Sparing known width before after at cursor style strokes
 

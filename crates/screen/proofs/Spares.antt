@@ -10,10 +10,10 @@ use Rattle.crossterm_command.specs.declared.color_output.ColorOutput.{ColorOutpu
 use Rattle.crossterm_command.specs.declared.color_output.ColorOutput.TheVariants.{Enabled, Disabled}
 use Rattle.crossterm_command.proofs.Readings.{all_joined}
 use Rattle.crossterm_style.specs.declared.content_style.ContentStyle.{ContentStyle}
-use Rattle.crossterm_style.specs.Acts.{Act, style_acts, where_there}
-use Rattle.crossterm_style.specs.Acts.Act.{Prints, Colors, Takes}
-use Rattle.crossterm_style.specs.Attributes.{all_attributes, has, members}
-use Rattle.crossterm_style.specs.Styles.{no_style, told}
+use Rattle.crossterm_style.specs.Acts.{StyleAct, style_acts, where_there}
+use Rattle.crossterm_style.specs.Acts.StyleAct.{Prints, Colors, Takes}
+use Rattle.crossterm_style.specs.Attributes.{all_attributes, has_attribute, members}
+use Rattle.crossterm_style.specs.Styles.{no_style, act_tokens}
 use Rattle.crossterm_style.specs.declared.types.color.Color.{Color}
 use Rattle.crossterm_style.specs.declared.types.colored.Colored.{Colored}
 use Rattle.crossterm_style.specs.declared.types.colored.Colored.TheVariants.{ForegroundColor, BackgroundColor, UnderlineColor}
@@ -21,9 +21,9 @@ use Rattle.screen.specs.declared.settings.Setting.{Setting}
 use Rattle.screen.specs.declared.settings.Setting.TheVariants as setting
 use Rattle.screen.specs.declared.strokes.Stroke.{Stroke}
 use Rattle.screen.specs.declared.strokes.Stroke.TheVariants as stroke
-use Rattle.screen.specs.Cells.{Cell, last_of}
+use Rattle.screen.specs.Cells.{Cell, last_place}
 use Rattle.screen.specs.Grids.{right_of}
-use Rattle.screen.specs.Updates.{ArePrinted, HasSameStyle, HasToBePrinted, IsBeside, IsBetween, IsOneUpdate, IsSparing, Placed, Runs, begin_update, begins_with_style, changes, end_moves, end_styles, how_many, is_move, is_other, is_style, longest_style}
+use Rattle.screen.specs.Updates.{ArePrinted, HasSameStyle, HasToBePrinted, IsBeside, IsBetween, IsOneUpdate, IsSparing, Placed, HasRuns, begin_update, begins_with_style, changes, end_moves, end_styles, how_many, is_move, is_other, is_style, longest_style}
 use Rattle.screen.specs.inside.Scans.{Continues, Spares, Sparing}
 use Rattle.screen.specs.inside.Settings.{Sets, is_kept}
 use Rattle.screen.specs.inside.Strokes.{IsInner, cell_strokes, color_tokens, cursor_strokes, first_strokes, is_move_stroke, is_other_stroke, is_style_stroke, last_strokes, tokens, tokens_of}
@@ -49,7 +49,7 @@ none_of kind (x ∷ xs) a = ap (λ b. cond b (how_many kind xs + 1) (how_many ki
 -- ---- the tokens of a style
 
 -- What holds of each SGR holds of each token of a style.
-told_all : (P : Token → Type 0) → ((text : List ℕ) → P (Csi text [] 0x6D)) → (colors : ColorOutput) (acts : List Act) → AllByRecursion SetsStyle acts → AllByRecursion P (told colors acts)
+told_all : (P : Token → Type 0) → ((text : List ℕ) → P (Csi text [] 0x6D)) → (colors : ColorOutput) (acts : List StyleAct) → AllByRecursion SetsStyle acts → AllByRecursion P (act_tokens colors acts)
 told_all P p colors [] h = tt
 told_all P p colors (Prints cs ∷ acts) h = absurd h.0
 told_all P p colors (Colors c ∷ acts) h = (p _, told_all P p colors acts h.1)
@@ -148,7 +148,7 @@ all_of kind (x ∷ xs) =
       | false ↦ omega (arith, more)
     ]
 
-told_length : (colors : ColorOutput) (acts : List Act) → AllByRecursion SetsStyle acts → length (told colors acts) ≡ length acts
+told_length : (colors : ColorOutput) (acts : List StyleAct) → AllByRecursion SetsStyle acts → length (act_tokens colors acts) ≡ length acts
 told_length colors [] h = refl
 told_length colors (Prints cs ∷ acts) h = absurd h.0
 told_length colors (Colors c ∷ acts) h = ap (λ n. suc n) (told_length colors acts h.1)
@@ -158,7 +158,7 @@ few_members : (bits : ℕ) → length (members bits) ≤ 28
 unfolding members
 few_members bits =
     let all : length all_attributes ≡ 28 = refl in
-    omega (arith, length-filter (has bits) all_attributes, count_by-le-length (has bits) all_attributes, all)
+    omega (arith, length-filter (has_attribute bits) all_attributes, count_by-le-length (has_attribute bits) all_attributes, all)
 
 one_color : (at : Color → Colored) (o : Option Color) → length (where_there at o) ≤ 1
 one_color at None = omega arith
@@ -191,7 +191,7 @@ style_each colors stroke.Begin = omega arith
 style_each colors stroke.End = omega arith
 style_each colors stroke.Erase = omega arith
 style_each colors (stroke.Move column row) = omega arith
-style_each colors (stroke.Style s) = omega (arith, all_of is_style (told colors (style_acts s)), told_length colors (style_acts s) (style_sets s), few_acts s)
+style_each colors (stroke.Style s) = omega (arith, all_of is_style (act_tokens colors (style_acts s)), told_length colors (style_acts s) (style_sets s), few_acts s)
 style_each colors (stroke.Colors change) = omega (arith, all_of is_style (color_tokens colors change), color_length colors change)
 style_each colors (stroke.Print c) = omega arith
 style_each colors stroke.Show = omega arith
@@ -240,7 +240,7 @@ one_update colors strokes within e a = (
 
 -- ---- runs
 
-runs_more : {X : Type 0} (R : X → X → Type 0) (xs : List X) (y : X) (n : ℕ) → Continues R xs y → Runs R xs n → Runs R (xs ++ y ∷ []) n
+runs_more : {X : Type 0} (R : X → X → Type 0) (xs : List X) (y : X) (n : ℕ) → Continues R xs y → HasRuns R xs n → HasRuns R (xs ++ y ∷ []) n
 runs_more R [] y n c r = absurd c
 runs_more R (x ∷ []) y n c r = inl (c, r)
 runs_more R (x ∷ z ∷ xs) y n c r = elim r [
@@ -248,7 +248,7 @@ runs_more R (x ∷ z ∷ xs) y n c r = elim r [
   | inr q ↦ inr (q.0, q.1, q.2, runs_more R (z ∷ xs) y q.1 c q.3)
 ]
 
-runs_new : {X : Type 0} (R : X → X → Type 0) (xs : List X) (y : X) (n : ℕ) → (Continues R xs y → ⊥) → Runs R xs n → Runs R (xs ++ y ∷ []) (n + 1)
+runs_new : {X : Type 0} (R : X → X → Type 0) (xs : List X) (y : X) (n : ℕ) → (Continues R xs y → ⊥) → HasRuns R xs n → HasRuns R (xs ++ y ∷ []) (n + 1)
 runs_new R [] y n c r = omega (arith, r)
 runs_new R (x ∷ []) y n c r = inr (c, 1, omega (arith, r), refl)
 runs_new R (x ∷ z ∷ xs) y n c r = elim r [
@@ -268,8 +268,8 @@ continues_from R (a ∷ b ∷ xs) x y c = continues_from R (b ∷ xs) x y c
 
 -- One more element: whether the last one is related to it decides if there is one more run, and the count grows only
 -- then.
-runs_push : {X : Type 0} (R : X → X → Type 0) (xs : List X) (y : X) (n m e : ℕ) (there : Bool) → (there ≡ true → Continues R xs y) → (Continues R xs y → there ≡ true) → Runs R xs n → m ≤ n + e
-    → (k : ℕ) × Runs R (xs ++ y ∷ []) k × (m + cond there 0 1 ≤ k + e)
+runs_push : {X : Type 0} (R : X → X → Type 0) (xs : List X) (y : X) (n m e : ℕ) (there : Bool) → (there ≡ true → Continues R xs y) → (Continues R xs y → there ≡ true) → HasRuns R xs n → m ≤ n + e
+    → (k : ℕ) × HasRuns R (xs ++ y ∷ []) k × (m + cond there 0 1 ≤ k + e)
 runs_push R xs y n m e true goes back r le = (n, runs_more R xs y n (goes refl) r, omega (arith, le))
 runs_push R xs y n m e false goes back r le = (n + 1, runs_new R xs y n (λ c. let f : false ≡ true = back c in cc) r, omega (arith, le))
 
@@ -374,19 +374,19 @@ cell_inner false (setting.Whole s) column row c = (tt, (tt, (tt, tt)))
 pub spares_painted : (known : Bool) (width : ℕ) (before after : List Cell) (k : ℕ) (cursor : Option ℕ) (style : Option ContentStyle) (strokes : List Stroke) (b c : Cell) (there : Bool) (how : Setting) (column row : ℕ)
     → k < length before → k < length after → get_or before k b ≡ b → get_or after k c ≡ c → HasToBePrinted b c → (there ≡ true) ↔ (cursor ≡ Some k) → Sets style c.style how
     → Sparing known width before after k cursor style strokes
-    → Sparing known width before after (k + 1) (right_of width (last_of k c)) (Some c.style) (strokes ++ cell_strokes there how column row c)
+    → Sparing known width before after (k + 1) (right_of width (last_place k c)) (Some c.style) (strokes ++ cell_strokes there how column row c)
 spares_painted known width before after k cursor style strokes b c there how column row lb la eb ec e at sets s =
     let set = kept_there style c.style how sets in
     let more = cell_strokes there how column row c in
     let all = s.spares.all in
     let x = placed k c in
     let long : 0 + length (take k before) ≡ k = omega (arith, length-take-le k before (omega (arith, lb))) in
-    let moves : (n : ℕ) × Runs (IsBeside width) all n × (how_many is_move_stroke strokes ≤ n) = s.spares.moves in
-    let styles : (n : ℕ) × Runs HasSameStyle all n × (how_many is_style_stroke strokes + 1 ≤ n + end_styles known) = s.spares.styles in
+    let moves : (n : ℕ) × HasRuns (IsBeside width) all n × (how_many is_move_stroke strokes ≤ n) = s.spares.moves in
+    let styles : (n : ℕ) × HasRuns HasSameStyle all n × (how_many is_style_stroke strokes + 1 ≤ n + end_styles known) = s.spares.styles in
     let begun : (within : List Stroke) × (strokes ≡ stroke.Begin ∷ within) × AllByRecursion IsInner within = s.spares.begun in
-    let moved : (i : ℕ) × Runs (IsBeside width) (all ++ x ∷ []) i × (how_many is_move_stroke strokes + cond there 0 1 ≤ i + 0) =
+    let moved : (i : ℕ) × HasRuns (IsBeside width) (all ++ x ∷ []) i × (how_many is_move_stroke strokes + cond there 0 1 ≤ i + 0) =
     runs_push (IsBeside width) all x moves.0 (how_many is_move_stroke strokes) 0 there (λ y. (s.beside x).1 (at.0 y)) (λ y. at.1 ((s.beside x).0 y)) moves.1 (omega (arith, moves.2)) in
-    let styled : (i : ℕ) × Runs HasSameStyle (all ++ x ∷ []) i × (how_many is_style_stroke strokes + 1 + cond (is_kept how) 0 1 ≤ i + end_styles known) =
+    let styled : (i : ℕ) × HasRuns HasSameStyle (all ++ x ∷ []) i × (how_many is_style_stroke strokes + 1 + cond (is_kept how) 0 1 ≤ i + end_styles known) =
     runs_push HasSameStyle all x styles.0 (how_many is_style_stroke strokes + 1) (end_styles known) (is_kept how) (λ y. (s.same x).1 (set.0 y)) (λ y. set.1 ((s.same x).0 y)) styles.1 styles.2 in
     record {
       spares = record {
@@ -443,8 +443,8 @@ pub sparing : (known : Bool) (width : ℕ) (before after : List Cell) (cursor : 
 sparing known width before after cursor strokes s colors =
     let ends = last_strokes cursor in
     let all = strokes ++ ends in
-    let moves : (n : ℕ) × Runs (IsBeside width) s.all n × (how_many is_move_stroke strokes ≤ n) = s.moves in
-    let styles : (n : ℕ) × Runs HasSameStyle s.all n × (how_many is_style_stroke strokes + 1 ≤ n + end_styles known) = s.styles in
+    let moves : (n : ℕ) × HasRuns (IsBeside width) s.all n × (how_many is_move_stroke strokes ≤ n) = s.moves in
+    let styles : (n : ℕ) × HasRuns HasSameStyle s.all n × (how_many is_style_stroke strokes + 1 ≤ n + end_styles known) = s.styles in
     record {
       all = s.all;
       printed = s.printed;

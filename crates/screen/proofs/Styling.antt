@@ -7,7 +7,7 @@ use Rattle.std.proofs.lemmas.Bool.Decides.{nat_tests}
 use Rattle.std.proofs.lemmas.List.{drop_all, drop_more, length-drop, length-take, length-take-le, set_at, take_all, take_more, take-append-drop}
 use Rattle.crossterm_style.specs.declared.content_style.ContentStyle.{ContentStyle}
 use Rattle.screen.specs.declared.rects.Rect.{Rect}
-use Rattle.screen.specs.Areas.{begins_in, has, styled, styled_from}
+use Rattle.screen.specs.Areas.{begins_in, span_has, styled, styled_from}
 use Rattle.screen.specs.Cells.{AreLaidOut, ArePaired, Cell, Stands, is_covered, is_wide}
 use Rattle.screen.specs.Grids.{is_last}
 use Rattle.screen.proofs.Laying.{StayFrom, all_cons, all_first, all_rest, from_rows, rows_from}
@@ -20,11 +20,11 @@ out_by true columns s c e = cc
 out_by false columns s c e = refl
 
 -- Cells in no row of the rectangle stay.
-styled_out : (w : ℕ) (r : Rect) (s : ContentStyle) (at : ℕ) (cells : List Cell) → ((k : ℕ) → at ≤ k → k < at + length cells → has r.y r.height (k / w) ≡ false)
+styled_out : (w : ℕ) (r : Rect) (s : ContentStyle) (at : ℕ) (cells : List Cell) → ((k : ℕ) → at ≤ k → k < at + length cells → span_has r.y r.height (k / w) ≡ false)
     → styled_from w r s at cells ≡ cells
 styled_out w r s at [] out = refl
 styled_out w r s at (c ∷ cells) out =
-    let first : styled r s (at % w) (at / w) c ≡ c = out_by (has r.y r.height (at / w)) _ s c (out at (omega arith) (omega arith)) in
+    let first : styled r s (at % w) (at / w) c ≡ c = out_by (span_has r.y r.height (at / w)) _ s c (out at (omega arith) (omega arith)) in
     ap (λ x. x ∷ styled_from w r s (at + 1) cells) first
     ∙ ap (λ l. c ∷ l) (styled_out w r s (at + 1) cells (λ k le lt. out k (omega (arith, le)) (omega (arith, lt))))
 
@@ -44,21 +44,21 @@ some_width : (w y k : ℕ) → k < y * w → 0 < w
 some_width zero y k lt = absurd (omega (arith, lt))
 some_width (suc w) y k lt = omega arith
 
-above_out : (first count row : ℕ) → row < first → has first count row ≡ false
+above_out : (first count row : ℕ) → row < first → span_has first count row ≡ false
 above_out first count row lt = grind (arith, nat_tests)
 
 -- The row behind the last row of the rectangle.
 abbrev pub bottom : ℕ → Rect → ℕ
 bottom height r = cond (nat_lt height (r.y + r.height)) height (r.y + r.height)
 
-below_by : (few : Bool) (height first count row : ℕ) → nat_lt height (first + count) ≡ few → cond few height (first + count) ≤ row → row < height → has first count row ≡ false
+below_by : (few : Bool) (height first count row : ℕ) → nat_lt height (first + count) ≡ few → cond few height (first + count) ≤ row → row < height → span_has first count row ≡ false
 below_by true height first count row e le lt = absurd (omega (arith, le, lt))
 below_by false height first count row e le lt = grind (arith, nat_tests)
 
 pub styled_start : (w : ℕ) (r : Rect) (s : ContentStyle) (old : List Cell) (at : ℕ) → at ≡ r.y * w → IsStyled w r s old at old
 styled_start w r s old at e =
     let short : length (take at old) ≤ at = omega (arith, length-take at old, min-le_left at (length old)) in
-    let out : (k : ℕ) → 0 ≤ k → k < 0 + length (take at old) → has r.y r.height (k / w) ≡ false = λ k le lt.
+    let out : (k : ℕ) → 0 ≤ k → k < 0 + length (take at old) → span_has r.y r.height (k / w) ≡ false = λ k le lt.
     let before : k < r.y * w = omega (arith, lt, short, e) in
     above_out r.y r.height (k / w) ((div-lt_iff_lt-mul (some_width w r.y k before)).1 before) in
     sym (ap (λ l. l ++ drop at old) (styled_out w r s 0 (take at old) out) ∙ take-append-drop at old)
@@ -95,7 +95,7 @@ pub styled_end : (within : Bool) (w h : ℕ) (r : Rect) (s : ContentStyle) (old 
     → IsStyled w r s old at cells → cells ≡ styled_from w r s 0 old
 styled_end true w h r s old cells at e whole le before =
     let few : at ≤ length old = grind (arith, nat_tests) in
-    let out : (k : ℕ) → at ≤ k → k < at + length (drop at old) → has r.y r.height (k / w) ≡ false = λ k from lt.
+    let out : (k : ℕ) → at ≤ k → k < at + length (drop at old) → span_has r.y r.height (k / w) ≡ false = λ k from lt.
     let turned : w * h ≡ h * w = grind arith in
     let within : k < h * w = omega (arith, lt, length-drop at old, few, whole, turned) in
     let some = some_width w h k within in

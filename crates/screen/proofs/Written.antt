@@ -3,14 +3,14 @@ use Rattle.std.proofs.Common.{◌≡◌, ℕ, ◌+◌, true, false, List, [], �
 use Rattle.std.specs.Fmt.{decimal}
 use Rattle.std.specs.List.{AllByRecursion}
 use Rattle.unicode_width.specs.Width.{char_width}
-use Rattle.crossterm_command.specs.Tokens.{IsParameter, IsPlain, IsWellFormed, Reads, text_of}
+use Rattle.crossterm_command.specs.Tokens.{IsParameter, IsPlain, IsWellFormed, ReadsAs, text_of}
 use Rattle.crossterm_command.specs.declared.color_output.ColorOutput.{ColorOutput}
 use Rattle.crossterm_command.specs.declared.color_output.ColorOutput.TheVariants.{Enabled, Disabled}
 use Rattle.crossterm_command.proofs.Readings.{all_joined, control_formed, decimal_is_parameters, known_formed, parameters_at}
 use Rattle.crossterm_style.specs.declared.types.attribute.Attribute.TheVariants.{Reset}
 use Rattle.crossterm_style.specs.declared.content_style.ContentStyle.{ContentStyle}
 use Rattle.crossterm_style.specs.Acts.{style_acts}
-use Rattle.crossterm_style.specs.Styles.{attribute_functions, told}
+use Rattle.crossterm_style.specs.Styles.{attribute_functions, act_tokens}
 use Rattle.crossterm.specs.Sequences.{clear}
 use Rattle.crossterm.specs.declared.terminal.ClearType.TheVariants.{All}
 use Rattle.crossterm.proofs.StyleReadings.{Formed, attribute_formed, style_plain, told_formed}
@@ -48,7 +48,7 @@ stroke_formed colors stroke.End f = known_formed (tokens colors stroke.End) refl
 stroke_formed colors stroke.Erase f = known_formed (clear All) refl
 stroke_formed colors (stroke.Move column row) f = control_formed _ "H" (two_formed (row + 1) (column + 1)) refl
 stroke_formed colors (stroke.Style s) f =
-    all_joined IsWellFormed (attribute_functions Reset) (told colors (style_acts s)) (attribute_formed Reset) (told_formed colors (style_acts s) (style_plain s))
+    all_joined IsWellFormed (attribute_functions Reset) (act_tokens colors (style_acts s)) (attribute_formed Reset) (told_formed colors (style_acts s) (style_plain s))
 stroke_formed colors (stroke.Colors change) f = colors_formed colors change
 stroke_formed colors (stroke.Print c) f = ((f.0, printed_plain c f.1), tt)
 stroke_formed colors stroke.Show f = known_formed (tokens colors stroke.Show) refl
@@ -59,5 +59,5 @@ strokes_formed colors [] f = tt
 strokes_formed colors (s ∷ strokes) f = all_joined IsWellFormed (tokens colors s) (tokens_of colors strokes) (stroke_formed colors s f.0) (strokes_formed colors strokes f.1)
 
 -- Their text reads as their tokens.
-pub strokes_read : (colors : ColorOutput) (strokes : List Stroke) → AreFitting strokes → Reads (text_of (tokens_of colors strokes)) (tokens_of colors strokes)
+pub strokes_read : (colors : ColorOutput) (strokes : List Stroke) → AreFitting strokes → ReadsAs (text_of (tokens_of colors strokes)) (tokens_of colors strokes)
 strokes_read colors strokes f = (strokes_formed colors strokes f, refl)

@@ -10,8 +10,8 @@ use Rattle.screen.specs.Buffers.{Picture, with_text}
 use Rattle.screen.specs.Texts.{text_columns, within}
 
 -- The number of columns that a rectangle and the picture have in common.
-abbrev pub room_in : Picture → Rect → ℕ
-room_in p r = if nat_lt r.width (p.width - r.x) then r.width else p.width - r.x
+abbrev pub common_columns : Picture → Rect → ℕ
+common_columns p r = if nat_lt r.width (p.width - r.x) then r.width else p.width - r.x
 
 -- The fault `Outside` if the rectangle or the picture hasn't this row of the rectangle, otherwise the other fault, if
 -- any.
@@ -20,7 +20,7 @@ refusal_in p r row other = if nat_lt row r.height && nat_lt (r.y + row) p.height
 
 -- The longest prefix of a text that fits into the columns that the rectangle and the picture have in common.
 abbrev pub clipped_in : Picture → Rect → List ℕ → List ℕ
-clipped_in p r text = within (room_in p r) text
+clipped_in p r text = within (common_columns p r) text
 
 -- How many of the columns `room` come before a text of `used` columns. If `Center`, it is half of the free ones,
 -- rounded down.
@@ -32,7 +32,7 @@ indent Right room used = room - used
 -- The column of the picture in which a clipped text begins if it is aligned in the columns that the picture has of
 -- the rectangle.
 abbrev pub column_in : Picture → Rect → Alignment → List ℕ → ℕ
-column_in p r alignment text = r.x + indent alignment (room_in p r) (text_columns (clipped_in p r text))
+column_in p r alignment text = r.x + indent alignment (common_columns p r) (text_columns (clipped_in p r text))
 
 -- The picture with a text in a row of a rectangle, clipped to the rectangle and aligned in it.
 abbrev pub with_text_in : Picture → Rect → ℕ → Alignment → List ℕ → ContentStyle → Picture

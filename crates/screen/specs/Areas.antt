@@ -8,13 +8,13 @@ use Rattle.screen.specs.Buffers.{Picture}
 use Rattle.screen.specs.Cells.{Cell, is_covered}
 
 -- Whether `one` is among the `count` columns or rows from `first` on.
-abbrev pub has : ℕ → ℕ → ℕ → Bool
-has first count one = nat_le first one && nat_lt one (first + count)
+abbrev pub span_has : ℕ → ℕ → ℕ → Bool
+span_has first count one = nat_le first one && nat_lt one (first + count)
 
 -- Whether the character of the cell at this place begins in the rectangle. A covered cell's character begins in the
 -- column before.
 abbrev pub begins_in : Rect → ℕ → ℕ → Cell → Bool
-begins_in r column row c = has r.y r.height row && has r.x r.width (if is_covered c then column - 1 else column)
+begins_in r column row c = span_has r.y r.height row && span_has r.x r.width (if is_covered c then column - 1 else column)
 
 -- A cell, with this style if its character begins in the rectangle, otherwise unchanged.
 abbrev pub styled : Rect → ContentStyle → ℕ → ℕ → Cell → Cell

@@ -22,8 +22,8 @@ abbrev pub filled : ℕ → ℕ → Cell → ℕ → Picture
 filled width height c room = record { width = width; height = height; cells = replicate (width * height) c; room = room }
 
 -- Whether the picture has this column and this row.
-abbrev pub has : Picture → ℕ → ℕ → Bool
-has p column row = nat_lt column p.width && nat_lt row p.height
+abbrev pub has_place : Picture → ℕ → ℕ → Bool
+has_place p column row = nat_lt column p.width && nat_lt row p.height
 
 -- Whether a character takes two columns but begins in the last one.
 abbrev pub is_cut : ℕ → ℕ → ℕ → Bool
@@ -36,7 +36,7 @@ column_refusal width column symbol =
 
 -- `Outside` if the picture hasn't the place, otherwise the fault of the character in its column, if any.
 abbrev pub refusal : Picture → ℕ → ℕ → ℕ → Option CellFault
-refusal p column row symbol = if has p column row then column_refusal p.width column symbol else Some Outside
+refusal p column row symbol = if has_place p column row then column_refusal p.width column symbol else Some Outside
 
 -- The picture after the cells of a character overwrite those from a column of a row on.
 abbrev pub with_symbol : Picture → ℕ → ℕ → ℕ → ContentStyle → Picture

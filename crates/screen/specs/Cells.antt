@@ -35,12 +35,12 @@ abbrev pub is_wide : Cell → Bool
 is_wide c = takes_two c.symbol
 
 -- The last place that the character of the cell at a place takes.
-abbrev pub last_of : ℕ → Cell → ℕ
-last_of at c = if is_wide c then at + 1 else at
+abbrev pub last_place : ℕ → Cell → ℕ
+last_place at c = if is_wide c then at + 1 else at
 
 -- How a cell looks on a terminal: as a second cell, a first cell, or the whole of a character.
-abbrev pub seen : ColorOutput → Cell → Square
-seen colors c = if is_covered c then Second else (if is_wide c then First c.symbol (look colors c.style) else Whole c.symbol (look colors c.style))
+abbrev pub cell_look : ColorOutput → Cell → Square
+cell_look colors c = if is_covered c then Second else (if is_wide c then First c.symbol (look colors c.style) else Whole c.symbol (look colors c.style))
 
 -- A Unicode scalar value that takes one cell or two.
 abbrev pub IsPrinted : ℕ → Type 0

@@ -13,7 +13,7 @@ use Rattle.crossterm_style.specs.Looks.{plain}
 use Rattle.screen.specs.declared.faults.DrawFault.{DrawFault}
 use Rattle.screen.specs.declared.faults.DrawFault.TheVariants.{Size, Cursor, Command}
 use Rattle.screen.specs.Buffers.{Picture}
-use Rattle.screen.specs.Cells.{Cell, blank, seen}
+use Rattle.screen.specs.Cells.{Cell, blank, cell_look}
 use Rattle.screen.specs.Grids.{Grid, run}
 use Rattle.screen.specs.Screens.{Drawn, View}
 use Rattle.screen.specs.Updates.{HasToBePrinted, IsOneUpdate, IsSparing}
@@ -26,7 +26,7 @@ HasSize width height g = (g.width ≡ width) × (g.height ≡ height) × (length
 
 -- The grid shows exactly these cells, each with its character and its look.
 abbrev pub ShowsCells : ColorOutput → List Cell → Grid → Type 0
-ShowsCells colors cells g = g.cells ≡ map (seen colors) cells
+ShowsCells colors cells g = g.cells ≡ map (cell_look colors) cells
 
 -- The grid shows the cells that were drawn. If none were drawn, it may show any.
 abbrev pub ShowsDrawn : Option Drawn → Grid → Type 0
@@ -47,16 +47,16 @@ abbrev pub Shows : ColorOutput → Picture → Option (ℕ × ℕ) → Grid → 
 Shows colors p cursor g = HasSize p.width p.height g × ShowsCells colors p.cells g × HasCursor cursor g × (g.style ≡ plain)
 
 -- From each grid that the terminal may show, the tokens lead to one that shows the picture.
-abbrev pub Turns : View → ColorOutput → Picture → Option (ℕ × ℕ) → List Token → Type 0
-Turns s colors p cursor ts = (g : Grid) → MayShow s g → (h : Grid) × (run ts g ≡ Some h) × Shows colors p cursor h
+abbrev pub TurnsInto : View → ColorOutput → Picture → Option (ℕ × ℕ) → List Token → Type 0
+TurnsInto s colors p cursor ts = (g : Grid) → MayShow s g → (h : Grid) × (run ts g ≡ Some h) × Shows colors p cursor h
 
 -- ---- how much is printed
 
 -- How many of the tokens are characters.
-abbrev pub printed : List Token → ℕ
-printed [] = 0
-printed (Char c ∷ ts) = printed ts + 1
-printed (t ∷ ts) = printed ts
+abbrev pub printed_count : List Token → ℕ
+printed_count [] = 0
+printed_count (Char c ∷ ts) = printed_count ts + 1
+printed_count (t ∷ ts) = printed_count ts
 
 -- The lists have the same length, and a character has to be printed for exactly `n` of the cells.
 abbrev pub DifferAt : List Cell → List Cell → ℕ → Type 0
@@ -95,9 +95,9 @@ cells_before s colors = cells_drawn s s.drawn colors
 -- The tokens of one frame of the picture.
 pub record IsFrame (s : View) (colors : ColorOutput) (p : Picture) (cursor : Option (ℕ × ℕ)) (ts : List Token) : Type 0 where
   -- The tokens lead from each grid that the terminal may show to one that shows the picture.
-  pub turns : Turns s colors p cursor ts
+  pub turns : TurnsInto s colors p cursor ts
   -- The tokens print as many characters as there are cells that have to be printed.
-  pub count : DifferAt (cells_before s colors) p.cells (printed ts)
+  pub count : DifferAt (cells_before s colors) p.cells (printed_count ts)
   -- The tokens are one synchronized update.
   pub update : IsOneUpdate ts
   -- The tokens have no more moves, styles and other control functions than a frame needs.
@@ -131,7 +131,7 @@ NotDrawn (Command fault) s t colors p cursor old new =
     × (ts : List Token) × IsFrame s colors p cursor ts × AppendsFront old new (text_of ts)
 
 -- The error that a fault becomes: the one of the command's fault, otherwise one of the kind `InvalidInput`.
-abbrev pub Answers : DrawFault → Error → Type 0
-Answers Size answer = error_kind answer ≡ InvalidInput
-Answers Cursor answer = error_kind answer ≡ InvalidInput
-Answers (Command fault) answer = command.Answers fault answer
+abbrev pub BecomesError : DrawFault → Error → Type 0
+BecomesError Size answer = error_kind answer ≡ InvalidInput
+BecomesError Cursor answer = error_kind answer ≡ InvalidInput
+BecomesError (Command fault) answer = command.Answers fault answer

@@ -6,7 +6,7 @@ use Rattle.std.specs.Str.Parse.{digits_value}
 use Rattle.unicode_width.specs.Width.{char_width}
 use Rattle.crossterm_command.specs.Tokens.{Token}
 use Rattle.crossterm_command.specs.Tokens.Token.{Char, Csi}
-use Rattle.crossterm_style.specs.Looks.{Style, is_digit, plain, sgr}
+use Rattle.crossterm_style.specs.Looks.{Style, is_decimal, plain, sgr}
 
 -- What a cell of the screen shows.
 pub data Square : Type 0 where
@@ -100,8 +100,8 @@ print_at (Some at) c g =
 -- ---- places
 
 -- The number that decimal digits write, 0 if there are none, or `None` if a byte isn't a digit.
-abbrev pub number : List ℕ → Option ℕ
-number digits = if list_all is_digit digits then Some (digits_value 10 digits) else None
+abbrev pub parameter_number : List ℕ → Option ℕ
+parameter_number digits = if list_all is_decimal digits then Some (digits_value 10 digits) else None
 
 -- The place of a row and a column, both counted from 1, or `None` if the grid hasn't it.
 abbrev pub place : Option ℕ → Option ℕ → Grid → Option ℕ
@@ -111,7 +111,7 @@ place row column g = None
 
 -- The place that two parameters give, a row and a column. `None` if there aren't two, or the grid hasn't the place.
 abbrev pub place_told : List (List ℕ) → Grid → Option ℕ
-place_told (row ∷ column ∷ []) g = place (number row) (number column) g
+place_told (row ∷ column ∷ []) g = place (parameter_number row) (parameter_number column) g
 place_told parts g = None
 
 -- The grid with the cursor at a place, or `None` if there is no place.
@@ -148,8 +148,8 @@ mode text on g =
 -- ---- tokens
 
 -- The grid after CUP, ED, SGR, SM or RM, chosen by the final byte. Other control functions give `None`.
-abbrev pub control : List ℕ → ℕ → Grid → Option Grid
-control text final g =
+abbrev pub control_effect : List ℕ → ℕ → Grid → Option Grid
+control_effect text final g =
     if final == 0x48 then move_cursor (place_told (slice_split (λ b. b == 59) text) g) g else (
     if final == 0x4A then erase text g else (
     if final == 0x6D then Some (record g { style = sgr text g.style }) else (
@@ -160,7 +160,7 @@ control text final g =
 -- The grid after a token, or `None` if it isn't known.
 abbrev pub step : Token → Grid → Option Grid
 step (Char c) g = print_at g.cursor c g
-step (Csi text [] final) g = control text final g
+step (Csi text [] final) g = control_effect text final g
 step t g = None
 
 -- The grid after tokens, one after another, or `None` if it isn't known.

@@ -3,7 +3,7 @@ use Rattle.std.specs.Prelude.{◌≡◌, ◌≢◌, ◌⊎◌, ℕ, ◌+◌, ◌
 use Rattle.std.specs.List.{AllByRecursion}
 use Rattle.crossterm_command.specs.Tokens.{Token}
 use Rattle.crossterm_command.specs.Tokens.Token.{Char, Csi}
-use Rattle.screen.specs.Cells.{Cell, is_covered, last_of}
+use Rattle.screen.specs.Cells.{Cell, is_covered, last_place}
 use Rattle.screen.specs.Grids.{right_of}
 
 -- ---- one update
@@ -77,14 +77,14 @@ ArePrinted at (a ∷ before) (b ∷ after) xs =
 ArePrinted at before after xs = ⊥
 
 -- The list has `n` runs. Within a run each element is related to the next, and between two runs it isn't.
-abbrev pub Runs : {X : Type 0} → (X → X → Type 0) → List X → ℕ → Type 0
-Runs R [] n = n ≡ 0
-Runs R (x ∷ []) n = n ≡ 1
-Runs R (x ∷ y ∷ xs) n = (R x y × Runs R (y ∷ xs) n) ⊎ ((R x y → ⊥) × (m : ℕ) × (n ≡ m + 1) × Runs R (y ∷ xs) m)
+abbrev pub HasRuns : {X : Type 0} → (X → X → Type 0) → List X → ℕ → Type 0
+HasRuns R [] n = n ≡ 0
+HasRuns R (x ∷ []) n = n ≡ 1
+HasRuns R (x ∷ y ∷ xs) n = (R x y × HasRuns R (y ∷ xs) n) ⊎ ((R x y → ⊥) × (m : ℕ) × (n ≡ m + 1) × HasRuns R (y ∷ xs) m)
 
 -- The second character is right behind the first one, in the same row.
 abbrev pub IsBeside : ℕ → Placed → Placed → Type 0
-IsBeside width x y = right_of width (last_of x.at x.cell) ≡ Some y.at
+IsBeside width x y = right_of width (last_place x.at x.cell) ≡ Some y.at
 
 -- Both characters have the same style.
 abbrev pub HasSameStyle : Placed → Placed → Type 0
@@ -117,9 +117,9 @@ pub record IsSparing (known : Bool) (width : ℕ) (before after : List Cell) (cu
   pub all : List Placed
   pub printed : ArePrinted 0 before after all
   -- Beside those at the frame's ends, one move at most for each run of characters side by side.
-  pub moves : (n : ℕ) × Runs (IsBeside width) all n × (how_many is_move ts ≤ n + end_moves cursor)
+  pub moves : (n : ℕ) × HasRuns (IsBeside width) all n × (how_many is_move ts ≤ n + end_moves cursor)
   -- Beside those at the frame's ends, one style at most for each run of characters in one style. There are at most 32
   -- SGR for each.
-  pub styles : (n : ℕ) × Runs HasSameStyle all n × (changes ts ≤ n + end_styles known) × (how_many is_style ts ≤ longest_style * (n + end_styles known))
+  pub styles : (n : ℕ) × HasRuns HasSameStyle all n × (changes ts ≤ n + end_styles known) × (how_many is_style ts ≤ longest_style * (n + end_styles known))
   -- No other control functions than those at the frame's ends.
   pub others : how_many is_other ts ≤ end_others known

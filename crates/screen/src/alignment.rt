@@ -1,6 +1,6 @@
 //! Texts in rectangles.
 ghost use Rattle.std.specs.Prelude.{◌≡◌, ◌+◌, ◌-◌, ◌<◌, ◌≤◌, OnOk, IfOk, IfErr, Option, None, Some, chars};
-ghost use Rattle.screen.specs.Alignments.{clipped_in, indent, refusal_in, room_in, with_text_in};
+ghost use Rattle.screen.specs.Alignments.{clipped_in, indent, refusal_in, common_columns, with_text_in};
 ghost use Rattle.screen.specs.Texts.{text_columns, text_fault, within};
 
 use crate::buffers::Buffer;
@@ -37,7 +37,7 @@ fn indent(alignment: Alignment, room: u16, used: u16) -> u16
 impl<A: Allocator> Buffer<A> {
     /// How many columns of a rectangle there are.
     fn room_in(&self, rect: &Rect) -> u16
-        ensures value { result ≡ room_in self.now rect.now }
+        ensures value { result ≡ common_columns self.now rect.now }
         ensures fits { 0 < result → rect.now.x + result ≤ self.now.width }
         ensures few { rect.now.x + result < 65536 }
     {

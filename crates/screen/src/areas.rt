@@ -1,6 +1,6 @@
 //! Rectangles in which a style or a character is set.
 ghost use Rattle.std.specs.Prelude.{◌≡◌, ◌+◌, ◌*◌, ◌<◌, ◌≤◌, OnOk, IfErr, None, Some, if◌then◌else◌, length, nat_lt};
-ghost use Rattle.screen.specs.Areas.{begins_in, count_in, covering, has, part, styled, styled_from, with_area};
+ghost use Rattle.screen.specs.Areas.{begins_in, count_in, covering, span_has, part, styled, styled_from, with_area};
 ghost use Rattle.screen.specs.Borders.{with_stamps};
 ghost use Rattle.screen.specs.Texts.{replacement_fault};
 ghost use Rattle.screen.specs.inside.Edges.{IsNarrow};
@@ -16,7 +16,7 @@ use std::alloc::Allocator;
 
 /// Whether some columns or rows have one.
 fn has(first: u16, count: u16, one: usize) -> bool
-    ensures { result ≡ has first count one }
+    ensures { result ≡ span_has first count one }
 {
     let first = usize::from(first);
     first <= one && one < first + usize::from(count)

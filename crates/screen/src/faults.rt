@@ -2,7 +2,7 @@
 ghost use Rattle.std.specs.Prelude.{◌≡◌};
 ghost use Rattle.std.specs.declared.io.ErrorKind.TheVariants.{InvalidInput};
 ghost use Rattle.std.specs.IoError.{error_kind};
-ghost use Rattle.screen.specs.Drawings.{Answers};
+ghost use Rattle.screen.specs.Drawings.{BecomesError};
 
 use crossterm_command::CommandFault;
 use std::io;
@@ -56,7 +56,7 @@ impl From<CellFault> for io::Error {
 }
 
 impl From<DrawFault> for io::Error {
-    ghost from_gives = { Answers };
+    ghost from_gives = { BecomesError };
 
     /// What a command's fault becomes, else an error of the kind `InvalidInput`.
     fn from(fault: DrawFault) -> io::Error {

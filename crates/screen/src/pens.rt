@@ -1,6 +1,6 @@
 //! Pens: strokes on their way to a writer.
 ghost use Rattle.std.specs.Prelude.{◌≡◌, ◌∷◌, [], List, None, OnErr, OnOk, Option, ℕ};
-ghost use Rattle.screen.specs.inside.Pens.{Breaks, Ends, Puts};
+ghost use Rattle.screen.specs.inside.Pens.{Breaks, Ends, PutsStrokes};
 
 use crate::strokes::Stroke;
 use arrayvec::ArrayString;
@@ -35,7 +35,7 @@ impl Pen {
 
 /// Writes what waits.
 fn hand_on<W: io::Write>(writer: &mut W, pen: &mut Pen)
-    ensures { Puts [] (W.contents writer.old) pen.old (W.contents writer.new) pen.new }
+    ensures { PutsStrokes [] (W.contents writer.old) pen.old (W.contents writer.new) pen.new }
 {
     match pen.fault {
         Some(_) => {}
@@ -48,7 +48,7 @@ fn hand_on<W: io::Write>(writer: &mut W, pen: &mut Pen)
 
 /// Writes what waits if the longest stroke has no room behind it.
 fn make_room<W: io::Write>(writer: &mut W, pen: &mut Pen)
-    ensures { Puts [] (W.contents writer.old) pen.old (W.contents writer.new) pen.new }
+    ensures { PutsStrokes [] (W.contents writer.old) pen.old (W.contents writer.new) pen.new }
 {
     if pen.waiting.remaining_capacity() < LONGEST {
         hand_on(writer, pen);
@@ -57,7 +57,7 @@ fn make_room<W: io::Write>(writer: &mut W, pen: &mut Pen)
 
 /// Puts a stroke behind what waits.
 fn take(pen: &mut Pen, stroke: &Stroke)
-    ensures { (known : Option (List ℕ)) → Puts (stroke.now ∷ []) known pen.old known pen.new }
+    ensures { (known : Option (List ℕ)) → PutsStrokes (stroke.now ∷ []) known pen.old known pen.new }
 {
     match pen.fault {
         Some(_) => {}
@@ -70,7 +70,7 @@ fn take(pen: &mut Pen, stroke: &Stroke)
 
 /// Puts a stroke behind the ones before.
 pub(crate) fn put<W: io::Write>(writer: &mut W, pen: &mut Pen, stroke: Stroke)
-    ensures { Puts (stroke ∷ []) (W.contents writer.old) pen.old (W.contents writer.new) pen.new }
+    ensures { PutsStrokes (stroke ∷ []) (W.contents writer.old) pen.old (W.contents writer.new) pen.new }
 {
     make_room(writer, pen);
     take(pen, &stroke);

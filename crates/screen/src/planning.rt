@@ -4,11 +4,11 @@ ghost use Rattle.std.specs.Io.KnownBytes.{Appends};
 ghost use Rattle.std.specs.List.{All};
 ghost use Rattle.crossterm_command.specs.Tokens.{text_of};
 ghost use Rattle.crossterm_command.specs.Writing.{AppendsFront};
-ghost use Rattle.screen.specs.Cells.{ArePaired, StayInRows, Stands, last_of};
+ghost use Rattle.screen.specs.Cells.{ArePaired, StayInRows, Stands, last_place};
 ghost use Rattle.screen.specs.Grids.{right_of};
 ghost use Rattle.screen.specs.declared.strokes.Stroke.{Stroke};
-ghost use Rattle.screen.specs.inside.Pens.{Puts};
-ghost use Rattle.screen.specs.inside.Scans.{IsWithin, Planned, Visited};
+ghost use Rattle.screen.specs.inside.Pens.{PutsStrokes};
+ghost use Rattle.screen.specs.inside.Scans.{IsSized, Planned, Visited};
 ghost use Rattle.screen.specs.inside.Strokes.{AreFitting, cell_strokes, cursor_strokes, first_strokes, last_strokes, move_strokes, style_strokes, tokens_of};
 
 use crate::cells::{Cell, is_covered, is_wide};
@@ -34,7 +34,7 @@ fn place_of(at: usize, width: u16, height: u16) -> (u16, u16)
 
 /// Moves the cursor, unless it is there.
 fn put_move<W: io::Write>(writer: &mut W, pen: &mut Pen, there: bool, place: (u16, u16))
-    ensures { Puts (move_strokes there place.0 place.1) (W.contents writer.old) pen.old (W.contents writer.new) pen.new }
+    ensures { PutsStrokes (move_strokes there place.0 place.1) (W.contents writer.old) pen.old (W.contents writer.new) pen.new }
 {
     if !there {
         put(writer, pen, Stroke::Move(place.0, place.1));
@@ -43,7 +43,7 @@ fn put_move<W: io::Write>(writer: &mut W, pen: &mut Pen, there: bool, place: (u1
 
 /// Sets a style, unless it is set.
 fn put_style<W: io::Write>(writer: &mut W, pen: &mut Pen, setting: &Setting)
-    ensures { Puts (style_strokes setting.now) (W.contents writer.old) pen.old (W.contents writer.new) pen.new }
+    ensures { PutsStrokes (style_strokes setting.now) (W.contents writer.old) pen.old (W.contents writer.new) pen.new }
 {
     match setting {
         Setting::Kept => {}
@@ -61,7 +61,7 @@ fn paint<W: io::Write>(
     place: (u16, u16),
     cell: &Cell,
 )
-    ensures { Puts (cell_strokes there setting.now place.0 place.1 cell.now) (W.contents writer.old) pen.old (W.contents writer.new) pen.new }
+    ensures { PutsStrokes (cell_strokes there setting.now place.0 place.1 cell.now) (W.contents writer.old) pen.old (W.contents writer.new) pen.new }
 {
     put_move(writer, pen, there, place);
     put_style(writer, pen, setting);
@@ -95,7 +95,7 @@ fn right_of(at: usize, width: u16) -> Option<usize>
 /// The last place that the character at a place takes.
 fn last_of(at: usize, cell: &Cell) -> usize
     requires { at < 2 ^ 32 }
-    ensures value { result ≡ last_of at cell.now }
+    ensures value { result ≡ last_place at cell.now }
     ensures bound { result ≤ at + 1 }
 {
     if is_wide(cell) { at + 1 } else { at }
@@ -103,7 +103,7 @@ fn last_of(at: usize, cell: &Cell) -> usize
 
 /// Begins a frame.
 fn put_first<W: io::Write>(writer: &mut W, pen: &mut Pen, is_known: bool)
-    ensures { Puts (first_strokes is_known) (W.contents writer.old) pen.old (W.contents writer.new) pen.new }
+    ensures { PutsStrokes (first_strokes is_known) (W.contents writer.old) pen.old (W.contents writer.new) pen.new }
 {
     put(writer, pen, Stroke::Begin);
     if !is_known {
@@ -121,14 +121,14 @@ fn scan<W: io::Write>(
     before: &mut [Cell],
     after: &[Cell],
 )
-    requires before { IsWithin is_known size.0 size.1 before.old }
+    requires before { IsSized is_known size.0 size.1 before.old }
     requires length { length after.now ≡ size.0 * size.1 }
     requires fits { All Stands after.now }
     requires before_paired { ArePaired false before.old }
     requires after_paired { ArePaired false after.now }
     requires rows { StayInRows size.0 after.now }
     ensures strokes { (strokes : List Stroke) × Visited is_known size.0 size.1 before.old after.now strokes × AreFitting strokes
-        × Puts strokes (W.contents writer.old) pen.old (W.contents writer.new) pen.new }
+        × PutsStrokes strokes (W.contents writer.old) pen.old (W.contents writer.new) pen.new }
     ensures shown { before.new ≡ after.now }
 {
     let (width, height) = size;
@@ -153,7 +153,7 @@ fn scan<W: io::Write>(
 
 /// Puts the cursor at the place that was asked for.
 fn put_cursor<W: io::Write>(writer: &mut W, pen: &mut Pen, cursor: Option<(u16, u16)>)
-    ensures { Puts (cursor_strokes cursor) (W.contents writer.old) pen.old (W.contents writer.new) pen.new }
+    ensures { PutsStrokes (cursor_strokes cursor) (W.contents writer.old) pen.old (W.contents writer.new) pen.new }
 {
     match cursor {
         None => put(writer, pen, Stroke::Hide),
@@ -166,7 +166,7 @@ fn put_cursor<W: io::Write>(writer: &mut W, pen: &mut Pen, cursor: Option<(u16, 
 
 /// Ends a frame.
 fn put_last<W: io::Write>(writer: &mut W, pen: &mut Pen, cursor: Option<(u16, u16)>)
-    ensures { Puts (last_strokes cursor) (W.contents writer.old) pen.old (W.contents writer.new) pen.new }
+    ensures { PutsStrokes (last_strokes cursor) (W.contents writer.old) pen.old (W.contents writer.new) pen.new }
 {
     put(writer, pen, Stroke::Style(ContentStyle::new()));
     put_cursor(writer, pen, cursor);
@@ -183,7 +183,7 @@ pub(crate) fn write_frame<W: io::Write>(
     after: &[Cell],
     cursor: Option<(u16, u16)>,
 ) -> Result<(), CommandFault>
-    requires before { IsWithin is_known size.0 size.1 before.old }
+    requires before { IsSized is_known size.0 size.1 before.old }
     requires length { length after.now ≡ size.0 * size.1 }
     requires fits { All Stands after.now }
     requires before_paired { ArePaired false before.old }

@@ -1,8 +1,8 @@
 //! Settings: how a style is set after another one.
 ghost use Rattle.std.specs.Prelude.{◌≡◌, ◌↔◌, IsTrue, None, false};
-ghost use Rattle.crossterm_style.specs.Attributes.{has};
+ghost use Rattle.crossterm_style.specs.Attributes.{has_attribute};
 ghost use Rattle.crossterm_style.specs.declared.types.attribute.Attribute.TheVariants.{Reset};
-ghost use Rattle.screen.specs.inside.Settings.{Fits, HasSameRest, Recolors, Sets, SetsFrom, Changes};
+ghost use Rattle.screen.specs.inside.Settings.{HasByteColors, HasSameRest, Recolors, Sets, SetsFrom, Changes};
 
 use crate::packed::{PackedColor, PackedStyle, is_same_color, is_same_set, is_same_style};
 use crossterm_style::laws::style_fits;
@@ -94,7 +94,7 @@ fn setting_from(from: &PackedStyle, to: &PackedStyle) -> Setting
 
 /// The numbers of its colours are bytes. It does nothing when it runs.
 fn setting_fits(setting: &Setting)
-    ensures { Fits setting.now }
+    ensures { HasByteColors setting.now }
 {
     match setting {
         Setting::Kept => {}
@@ -106,7 +106,7 @@ fn setting_fits(setting: &Setting)
 /// How a style is set if that one is known to be set, or none is known.
 pub(crate) fn setting_of(set: Option<PackedStyle>, to: &PackedStyle) -> Setting
     ensures sets { Sets set to.now result }
-    ensures fits { Fits result }
+    ensures fits { HasByteColors result }
 {
     let setting = match set {
         None => Setting::Whole(to.style()),

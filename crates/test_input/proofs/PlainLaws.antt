@@ -13,12 +13,12 @@ use Rattle.crossterm_parse.specs.Marked.{bytes_of}
 use Rattle.crossterm_parse.specs.declared.marked.Marked.{Marked}
 use Rattle.crossterm_parse.specs.Grammar.{begins, Whole, paste_mark, paste_start, paste_end}
 use Rattle.crossterm_parse.specs.Recognizer.{is_whole, is_decided, is_shape, is_character, ends_character, ends_numbered, ends_paste, ends_digit, is_continuing, is_nil}
-use Rattle.crossterm_parse.specs.Tracking.{Kept, Tracks}
+use Rattle.crossterm_parse.specs.Tracking.{KeptAgrees, Tracks}
 use Rattle.crossterm_parse.specs.Transitions.{parameters_after, readings_at, number_after, reading}
 use Rattle.crossterm_parse.specs.Division.{Divides, IsUndecided}
 use Rattle.crossterm_parse.specs.Meaning.{reply_meaning, csi_meaning, flags_reply, meaning, meaning_seen, meaning_of, seen_meaning}
 use Rattle.crossterm_parse.specs.Number.{number}
-use Rattle.crossterm_parse.specs.Numbered.{readings_of, numbered, sgr, last_of, front_of}
+use Rattle.crossterm_parse.specs.Numbered.{readings_of, numbered_meaning, sgr_meaning, last_of, front_of}
 use Rattle.crossterm_parse.specs.declared.meaning.Meaning.{Meaning}
 use Rattle.crossterm_parse.specs.declared.meaning.Meaning.TheVariants.{PrimaryDeviceAttributes}
 use Rattle.crossterm_parse.specs.declared.number.Number.{Number}
@@ -106,13 +106,13 @@ ends_on n (b ∷ bs) l m h =
     ap (λ (xs : List ℕ). ends_character (n - 1) xs) (take_all (length (b ∷ bs) - 1) bs (omega arith)) ∙ sym (ends_further n b bs m ∙ rw h refl)
 
 -- One more byte of a numbered sequence.
-pub number_next : (d new : Parameters) (text : List ℕ) (i b : ℕ) → i < length text → b ≡ get_or text i 0 → new ≡ parameters_after d b → Kept d (take i text) → Kept new (take (i + 1) text)
+pub number_next : (d new : Parameters) (text : List ℕ) (i b : ℕ) → i < length text → b ≡ get_or text i 0 → new ≡ parameters_after d b → KeptAgrees d (take i text) → KeptAgrees new (take (i + 1) text)
 number_next d new text i b l is e k =
     let longer : take (i + 1) text ≡ take i text ++ b ∷ [] = take_more text i 0 l ∙ ap (λ (c : ℕ). take i text ++ c ∷ []) (sym is) in
-    subst (λ (n : Parameters). Kept n (take (i + 1) text)) (sym e) (subst (Kept (parameters_after d b)) (sym longer) (kept_more d (take i text) b k))
+    subst (λ (n : Parameters). KeptAgrees n (take (i + 1) text)) (sym e) (subst (KeptAgrees (parameters_after d b)) (sym longer) (kept_more d (take i text) b k))
 
-pub number_over : (d : Parameters) (text : List ℕ) (i : ℕ) → length text ≤ i → Kept d (take i text) → readings_at d ≡ readings_of text
-number_over d text i l k = kept_readings d text (subst (Kept d) (take_all i text l) k)
+pub number_over : (d : Parameters) (text : List ℕ) (i : ℕ) → length text ≤ i → KeptAgrees d (take i text) → readings_at d ≡ readings_of text
+number_over d text i l k = kept_readings d text (subst (KeptAgrees d) (take_all i text l) k)
 
 -- One more byte of a number.
 pub digit_next : (n : Number) (text : List ℕ) (i b : ℕ) → i < length text → b ≡ get_or text i 0 → Tracks (take i text) n → Tracks (take (i + 1) text) (number_after n b)
@@ -137,13 +137,13 @@ pub read_at : (means : ℕ → Readings → Option Meaning) (bytes : List ℕ) (
 read_at means bytes r l e = rw (last_at bytes l, front_at bytes, e) refl
 
 -- What is meant by bytes that begin with a digit, and with `<`.
-pub number_at : (raw : Bool) (bytes : List ℕ) → 1 ≤ length bytes → 48 ≤ get_or bytes 0 0 → get_or bytes 0 0 ≤ 57 → numbered raw bytes ≡ csi_meaning raw bytes
+pub number_at : (raw : Bool) (bytes : List ℕ) → 1 ≤ length bytes → 48 ≤ get_or bytes 0 0 → get_or bytes 0 0 ≤ 57 → numbered_meaning raw bytes ≡ csi_meaning raw bytes
 number_at raw [] l m n = absurd (omega arith)
 number_at raw (b ∷ bs) l m n = let t = digit_apart b (m, n) in rw (t.0, t.1, t.2, t.3, t.4) refl
 
-pub report_at : (raw : Bool) (bytes : List ℕ) → 1 ≤ length bytes → get_or bytes 0 0 ≡ 60 → sgr (take (length bytes - 1) (drop 1 bytes)) ≡ csi_meaning raw bytes
+pub report_at : (raw : Bool) (bytes : List ℕ) → 1 ≤ length bytes → get_or bytes 0 0 ≡ 60 → sgr_meaning (take (length bytes - 1) (drop 1 bytes)) ≡ csi_meaning raw bytes
 report_at raw [] l h = absurd (omega arith)
-report_at raw (b ∷ bs) l h = ap sgr (take_all (length (b ∷ bs) - 1) bs (omega arith)) ∙ rw h refl
+report_at raw (b ∷ bs) l h = ap sgr_meaning (take_all (length (b ∷ bs) - 1) bs (omega arith)) ∙ rw h refl
 
 -- What a front that is taken away says.
 pub stripped : (front bytes : List ℕ) → pointwise eqb (take (length front) bytes) front ≡ begins front bytes

@@ -1,6 +1,6 @@
 //! The size of a terminal's window, and sizes as `tput` writes them.
 ghost use Rattle.std.specs.Prelude.{◌≡◌, ◌≤◌, ◌∷◌, ℕ, List};
-ghost use Rattle.crossterm.specs.Sizes.{both, number_after, number_in, size_in};
+ghost use Rattle.crossterm.specs.Sizes.{both, size_after, number_in, size_in};
 
 /// How large a terminal's window is.
 #[derive(Clone, Copy, PartialEq, Eq, Debug)]
@@ -22,7 +22,7 @@ const ABOVE: u32 = 65_536;
 fn with_byte(number: u32, byte: u8) -> u32
     requires { number ≤ 65536 }
     ensures most { result ≤ 65536 }
-    ensures read { (rest : List ℕ) → number_after result rest ≡ number_after number (byte ∷ rest) }
+    ensures read { (rest : List ℕ) → size_after result rest ≡ size_after number (byte ∷ rest) }
 {
     match byte {
         b'0'..=b'9' => (number * 10 + u32::from(byte - b'0')).min(ABOVE),

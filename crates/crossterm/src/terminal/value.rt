@@ -2,7 +2,7 @@
 ghost use Rattle.std.specs.Prelude.{◌≡◌, IfOk, Some};
 ghost use Rattle.serde_json.specs.Data.{string};
 ghost use Rattle.serde_json.specs.View.{view};
-ghost use Rattle.crossterm_flags.specs.Values.{Reads, Tells};
+ghost use Rattle.crossterm_flags.specs.Values.{ReadsJson, WritesJson};
 ghost use Rattle.crossterm_flags.specs.Variants.{all, reads_variant, variant};
 ghost use Rattle.crossterm.specs.Values.{clears};
 
@@ -37,7 +37,7 @@ impl ClearType {
     /// `Memory` if memory for it was refused.
     #[tactic(auto, using(crate::proofs::ValueLaws::clear_back, crossterm_flags::proofs::ValueLaws::told_back))]
     pub fn to_value(&self, alloc: Global) -> Result<Value, ValueFault>
-        ensures tells { Tells (string (variant clears self.now)) result }
+        ensures tells { WritesJson (string (variant clears self.now)) result }
         ensures back { IfOk result (λ v. reads_variant clears (view v) ≡ Some self.now) }
     {
         tell_named(alloc, *self)
@@ -49,7 +49,7 @@ impl ClearType {
     ///
     /// `Shape` if the JSON is no such text.
     pub fn from_value(value: &Value) -> Result<ClearType, ValueFault>
-        ensures { Reads (λ x. x) (reads_variant clears (view value.now)) result }
+        ensures { ReadsJson (λ x. x) (reads_variant clears (view value.now)) result }
     {
         shaped(read_named(value))
     }

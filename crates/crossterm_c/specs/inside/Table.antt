@@ -9,24 +9,24 @@ use Rattle.crossterm_parse.specs.declared.state.State.{State}
 use Rattle.crossterm_read.specs.Store.{next_number}
 use Rattle.crossterm_c.specs.Event.{event_at}
 use Rattle.crossterm_c.specs.Feeding.{Feeds}
-use Rattle.crossterm_c.specs.Held.{number_after, numbered}
+use Rattle.crossterm_c.specs.Held.{next_arrival, held_from}
 use Rattle.crossterm_c.specs.declared.event.GelvanhEvent.{GelvanhEvent}
 use Rattle.crossterm_c.specs.declared.held.GelvanhHeld.{GelvanhHeld}
 use Rattle.crossterm_c.specs.declared.table.Table.{Table}
 
 -- How many places a table has.
-abbrev pub capacity : Table → ℕ
-capacity t = if t.is_held then length t.held.now else length t.events.now
+abbrev pub table_capacity : Table → ℕ
+table_capacity t = if t.is_held then length t.held.now else length t.events.now
 
 -- These events were put behind the filled places of a table, with their numbers if they are held.
 pub record PutsEvents (old : Table) (given : List GelvanhEvent) (new : Table) : Type 0 where
   pub same : (new.events.ghost_name ≡ old.events.ghost_name) × (new.held.ghost_name ≡ old.held.ghost_name) × (new.is_held ≡ old.is_held)
-  pub places : capacity new ≡ capacity old
-  pub within : old.end ≤ capacity old → new.end ≤ capacity new
+  pub places : table_capacity new ≡ table_capacity old
+  pub within : old.end ≤ table_capacity old → new.end ≤ table_capacity new
   pub count : new.end ≡ old.end + length given
   pub events : old.is_held ≡ false → take new.end new.events.now ≡ take old.end old.events.now ++ given
-  pub held : old.is_held ≡ true → take new.end new.held.now ≡ take old.end old.held.now ++ numbered old.number given
-  pub number : old.is_held ≡ true → new.number ≡ number_after old.number given
+  pub held : old.is_held ≡ true → take new.end new.held.now ≡ take old.end old.held.now ++ held_from old.number given
+  pub number : old.is_held ≡ true → new.number ≡ next_arrival old.number given
 
 -- The events that were put into the table have these meanings.
 pub record Filled (old : Table) (meanings : List Meaning) (new : Table) : Type 0 where
@@ -40,11 +40,11 @@ pub record FillsBy (before after : State) (old new : Table) (bytes : List ℕ) (
   pub feeds : Feeds before after given bytes taken
   pub puts : PutsEvents old given new
 
-number_after_append : (n : ℕ) (xs ys : List GelvanhEvent) → number_after n (xs ++ ys) ≡ number_after (number_after n xs) ys
+number_after_append : (n : ℕ) (xs ys : List GelvanhEvent) → next_arrival n (xs ++ ys) ≡ next_arrival (next_arrival n xs) ys
 number_after_append n [] ys = refl
 number_after_append n (x ∷ xs) ys = number_after_append (next_number n) xs ys
 
-numbered_append : (n : ℕ) (xs ys : List GelvanhEvent) → numbered n (xs ++ ys) ≡ numbered n xs ++ numbered (number_after n xs) ys
+numbered_append : (n : ℕ) (xs ys : List GelvanhEvent) → held_from n (xs ++ ys) ≡ held_from n xs ++ held_from (next_arrival n xs) ys
 numbered_append n [] ys = refl
 numbered_append n (x ∷ xs) ys = ap (λ (hs : List GelvanhHeld). record { event = x; arrival = n } ∷ hs) (numbered_append (next_number n) xs ys)
 
@@ -68,9 +68,9 @@ puts_on s t u xs ys first more = record {
   events = λ bare. more.events (first.same.2 ∙ bare) ∙ ap (λ (es : List GelvanhEvent). es ++ ys) (first.events bare) ∙ append_assoc (take s.end s.events.now) xs ys;
   held = λ is.
       let front = take s.end s.held.now in
-      more.held (first.same.2 ∙ is) ∙ ap (λ (hs : List GelvanhHeld). hs ++ numbered t.number ys) (first.held is) ∙ append_assoc front (numbered s.number xs) (numbered t.number ys)
-      ∙ ap (λ (n : ℕ). front ++ (numbered s.number xs ++ numbered n ys)) (first.number is) ∙ ap (λ (hs : List GelvanhHeld). front ++ hs) (sym (numbered_append s.number xs ys));
-  number = λ is. more.number (first.same.2 ∙ is) ∙ ap (λ (n : ℕ). number_after n ys) (first.number is) ∙ sym (number_after_append s.number xs ys);
+      more.held (first.same.2 ∙ is) ∙ ap (λ (hs : List GelvanhHeld). hs ++ held_from t.number ys) (first.held is) ∙ append_assoc front (held_from s.number xs) (held_from t.number ys)
+      ∙ ap (λ (n : ℕ). front ++ (held_from s.number xs ++ held_from n ys)) (first.number is) ∙ ap (λ (hs : List GelvanhHeld). front ++ hs) (sym (numbered_append s.number xs ys));
+  number = λ is. more.number (first.same.2 ∙ is) ∙ ap (λ (n : ℕ). next_arrival n ys) (first.number is) ∙ sym (number_after_append s.number xs ys);
 }
 
 pub filled_none : (t : Table) → Filled t [] t

@@ -1,5 +1,5 @@
 //! Commands that say which events a terminal reports.
-ghost use Rattle.crossterm_c.specs.Command.{AnswersTo, event_text};
+ghost use Rattle.crossterm_c.specs.Command.{AnswersTo, report_text};
 
 use super::GelvanhCommand;
 use crate::outlet::{Answer, write_plain};
@@ -11,7 +11,7 @@ use crossterm::event::{
 
 /// Writes a command that says which events to report.
 pub(super) fn write_event(command: &GelvanhCommand, slice: &mut [u8]) -> Answer
-    ensures { AnswersTo (event_text command.now) slice.old slice.new result.length result.outcome }
+    ensures { AnswersTo (report_text command.now) slice.old slice.new result.length result.outcome }
 {
     match command.kind {
         27 => write_plain(&EnableMouseCapture, slice),

@@ -1,7 +1,7 @@
 //! JSON values of flags.
 ghost use Rattle.std.specs.Prelude.{◌≡◌, MatchResult};
 ghost use Rattle.serde_json.specs.View.{view};
-ghost use Rattle.crossterm_flags.specs.Values.{Reads, number_value, reads_below};
+ghost use Rattle.crossterm_flags.specs.Values.{ReadsJson, number_value, reads_below};
 
 use crate::value::{ValueFault, read_byte};
 use crate::{KeyEventState, KeyModifiers, KeyboardEnhancementFlags};
@@ -25,7 +25,7 @@ impl KeyModifiers {
     ///
     /// `Shape` if the JSON is nothing of that kind.
     pub fn from_value(value: &Value) -> Result<KeyModifiers, ValueFault>
-        ensures { Reads (λ set. set.0) (reads_below 256 (view value.now)) result }
+        ensures { ReadsJson (λ set. set.0) (reads_below 256 (view value.now)) result }
     {
         match read_byte(value) {
             Some(bits) => Ok(KeyModifiers::from_bits_retain(bits)),
@@ -52,7 +52,7 @@ impl KeyEventState {
     ///
     /// `Shape` if the JSON is nothing of that kind.
     pub fn from_value(value: &Value) -> Result<KeyEventState, ValueFault>
-        ensures { Reads (λ set. set.0) (reads_below 256 (view value.now)) result }
+        ensures { ReadsJson (λ set. set.0) (reads_below 256 (view value.now)) result }
     {
         match read_byte(value) {
             Some(bits) => Ok(KeyEventState::from_bits_retain(bits)),
@@ -79,7 +79,7 @@ impl KeyboardEnhancementFlags {
     ///
     /// `Shape` if the JSON is nothing of that kind.
     pub fn from_value(value: &Value) -> Result<KeyboardEnhancementFlags, ValueFault>
-        ensures { Reads (λ set. set.0) (reads_below 256 (view value.now)) result }
+        ensures { ReadsJson (λ set. set.0) (reads_below 256 (view value.now)) result }
     {
         match read_byte(value) {
             Some(bits) => Ok(KeyboardEnhancementFlags::from_bits_retain(bits)),

@@ -48,8 +48,8 @@ abbrev pub in_third : ℕ → ℕ → Number → Fields
 in_third f s n = record { first = one_field (Value f); second = one_field (Value s); third = n; place = place.Third }
 
 -- what is kept of them, with the last byte
-abbrev pub read : Fields → ℕ → Parameters
-read fields last = record { fields = fields; last = last; validity = Sound }
+abbrev pub kept_of : Fields → ℕ → Parameters
+kept_of fields last = record { fields = fields; last = last; validity = Sound }
 
 -- The bytes begin with digits, which are this number, and the byte behind them.
 pub record IsNumber (bytes : List ℕ) (n : PlainNumber) : Type 0 where

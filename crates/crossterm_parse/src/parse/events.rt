@@ -1,7 +1,7 @@
 //! The events of a parser, one after another.
 ghost use Rattle.std.specs.Prelude.{◌≡◌};
 ghost use Rattle.std.specs.Iterator.{item_count};
-ghost use Rattle.crossterm_parse.specs.Giving.{GivesFirst, GivesInOrder, events_left_in};
+ghost use Rattle.crossterm_parse.specs.Giving.{GivesWaiting, GivesInOrder, events_left_in};
 
 use crate::parse::Parser;
 use crossterm_types::event::InternalEvent;
@@ -29,7 +29,7 @@ impl<A: Allocator + Clone> Parser<A> {
 impl<A: Allocator + Clone> Iterator for Events<'_, A> {
     type Item = InternalEvent<A>;
 
-    ghost next_gives = { GivesFirst };
+    ghost next_gives = { GivesWaiting };
 
     ghost remaining = { item_count events_left_in };
 

@@ -41,10 +41,10 @@ module _ {A : Type 0} where
   all_of t (Err e) = t
 
   -- An event that is given would be the first one admitted, if it was held.
-  abbrev pub GivesFirst : (Seen → Bool) → EventStore → Result (Option (Taken (InternalEvent A))) Error → Type 0
-  GivesFirst f t (Ok (Some taken)) = TakeReplies f (held_with t (kept taken)) t (Some (kept taken))
-  GivesFirst f t (Ok None) = Unit {0}
-  GivesFirst f t (Err e) = Unit {0}
+  abbrev pub WouldGiveFirst : (Seen → Bool) → EventStore → Result (Option (Taken (InternalEvent A))) Error → Type 0
+  WouldGiveFirst f t (Ok (Some taken)) = TakeReplies f (held_with t (kept taken)) t (Some (kept taken))
+  WouldGiveFirst f t (Ok None) = Unit {0}
+  WouldGiveFirst f t (Err e) = Unit {0}
 
 -- If asking ended with an error, its kind meets the condition.
 abbrev pub BrokeWhere : End → (ErrorKind → Type 0) → Type 0
@@ -59,7 +59,7 @@ HasPlace t taken = (0 < t.room) × IsOrderly (t.store.held ++ kept taken ∷ [])
 -- Some answers were drawn, and asking gave this: the first admitted event, which isn't held then, or none.
 abbrev pub Asked : {S A : Type 0} → (S → List SourceAnswer → S → Type 0) → (S → ℕ) → AtWake → (Seen → Bool) → Patience → ReaderState S → ReaderState S → Result (Option (Taken (InternalEvent A))) Error → Type 0
 Asked drawn failed wake f patience s t result = (zs : List SourceAnswer) × drawn s.source zs t.source × Arrives s.store zs (all_of t.store result) × Asks wake f patience s.store.held zs (end_of result)
-    × BrokeWhere (end_of result) (RefusedOnlyWithoutRoom s.room zs) × IsSteady failed s.source zs t.source × GivesFirst f t.store result
+    × BrokeWhere (end_of result) (RefusedOnlyWithoutRoom s.room zs) × IsSteady failed s.source zs t.source × WouldGiveFirst f t.store result
 
 -- What one question of the source led to, after room for one event was made. An admitted event isn't held.
 abbrev pub DrawsOne : {S A : Type 0} → (S → List SourceAnswer → S → Type 0) → (S → ℕ) → AtWake → (Seen → Bool) → ReaderState S → ReaderState S → Once A → Type 0

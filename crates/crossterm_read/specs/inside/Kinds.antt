@@ -23,15 +23,15 @@ same_kind Attributes Attributes = true
 same_kind _ _ = false
 
 -- Whether a kind is one of these classes.
-abbrev pub has : Classes → Kind → Bool
-has classes Event = classes.event
-has classes Cursor = classes.cursor
-has classes Flags = classes.flags
-has classes Attributes = classes.attributes
+abbrev pub has_class : Classes → Kind → Bool
+has_class classes Event = classes.event
+has_class classes Cursor = classes.cursor
+has_class classes Flags = classes.flags
+has_class classes Attributes = classes.attributes
 
 -- The place in the queue of this kind.
-abbrev pub place_of : Places → Kind → ℕ
-place_of at Event = at.event
-place_of at Cursor = at.cursor
-place_of at Flags = at.flags
-place_of at Attributes = at.attributes
+abbrev pub queue_place : Places → Kind → ℕ
+queue_place at Event = at.event
+queue_place at Cursor = at.cursor
+queue_place at Flags = at.flags
+queue_place at Attributes = at.attributes

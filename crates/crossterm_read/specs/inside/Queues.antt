@@ -3,7 +3,7 @@ use Rattle.std.specs.Prelude.{◌≡◌, ℕ, ◌+◌, ◌<◌, ◌≤◌, Bool,
 use Rattle.std.specs.VecDeque.{deque_capacity}
 use Rattle.std.specs.List.{AllByRecursion, filter}
 use Rattle.crossterm_types.specs.Seen.{Seen, seen}
-use Rattle.crossterm_read.specs.inside.Kinds.{kind_of, place_of, same_kind}
+use Rattle.crossterm_read.specs.inside.Kinds.{kind_of, queue_place, same_kind}
 use Rattle.crossterm_read.specs.declared.read.held.kind.Kind.{Kind}
 use Rattle.crossterm_read.specs.declared.read.held.kind.Kind.TheVariants.{Event, Cursor, Flags, Attributes}
 use Rattle.crossterm_read.specs.declared.read.held.kind.Place.{Place}
@@ -35,7 +35,7 @@ module _ {A : Type 0} where
 
   -- What is at these places and behind them.
   abbrev pub behind : (Kind → List (Member A)) → Places → Kind → List (Member A)
-  behind q at kind = drop (place_of at kind) (q kind)
+  behind q at kind = drop (queue_place at kind) (q kind)
 
   -- A member goes before the first one with a greater order number.
   abbrev pub put_in : Member A → List (Member A) → List (Member A)
@@ -93,9 +93,9 @@ module _ {A : Type 0} where
     pub at : place.at ≡ length (of_kind place.kind before)
 
   -- The place of the first member that passes, or nothing if none does.
-  abbrev pub Finds : (Member A → Bool) → (Kind → List (Member A)) → Option Place → Type 0
-  Finds passes q None = AllByRecursion (λ m. passes m ≡ false) (joined q)
-  Finds passes q (Some place) = IsFirstAt passes q place
+  abbrev pub FindsPlace : (Member A → Bool) → (Kind → List (Member A)) → Option Place → Type 0
+  FindsPlace passes q None = AllByRecursion (λ m. passes m ≡ false) (joined q)
+  FindsPlace passes q (Some place) = IsFirstAt passes q place
 
   -- The first member that passes is taken out, and no other.
   pub record TakesOne (passes : Member A → Bool) (old new : Kind → List (Member A)) (m : Member A) : Type 0 where
@@ -107,9 +107,9 @@ module _ {A : Type 0} where
     pub others : Joins (before ++ after) new
 
   -- The first member that passes is taken out; if none passes, nothing changes.
-  abbrev pub Takes : (Member A → Bool) → (Kind → List (Member A)) → (Kind → List (Member A)) → Option (Member A) → Type 0
-  Takes passes old new None = AllByRecursion (λ m. passes m ≡ false) (joined old) × ((kind : Kind) → new kind ≡ old kind)
-  Takes passes old new (Some m) = TakesOne passes old new m
+  abbrev pub TakesMember : (Member A → Bool) → (Kind → List (Member A)) → (Kind → List (Member A)) → Option (Member A) → Type 0
+  TakesMember passes old new None = AllByRecursion (λ m. passes m ≡ false) (joined old) × ((kind : Kind) → new kind ≡ old kind)
+  TakesMember passes old new (Some m) = TakesOne passes old new m
 
 -- All kinds.
 abbrev pub all_kinds : List Kind

@@ -24,6 +24,6 @@ module _ {A : Type 0} where
   one_of (Some taken) = 1
 
   -- While one is ready, no other is in the queues, and there is room for it there.
-  abbrev pub IsAlone : Option (Taken (InternalEvent A)) → Holding → Type 0
-  IsAlone None queued = Unit {0}
-  IsAlone (Some taken) queued = (queued.store.held ≡ []) × (0 < queued.room)
+  abbrev pub IsReadyAlone : Option (Taken (InternalEvent A)) → Holding → Type 0
+  IsReadyAlone None queued = Unit {0}
+  IsReadyAlone (Some taken) queued = (queued.store.held ≡ []) × (0 < queued.room)

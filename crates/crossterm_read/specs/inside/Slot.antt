@@ -12,8 +12,8 @@ abbrev pub newcomer : {S : Type 0} → Known S
 newcomer = record { number = 0; passes = 0; spare = 0; opening = None; seen = []; mine = []; has = false; met = None }
 
 -- The first pass, which makes so many others. It represents those that it hasn't made yet.
-abbrev pub first_of : {S : Type 0} → ReaderState S → ℕ → ℕ → Known S
-first_of o others left = record { number = 0; passes = suc others; spare = left; opening = Some o; seen = []; mine = []; has = false; met = None }
+abbrev pub first_pass : {S : Type 0} → ReaderState S → ℕ → ℕ → Known S
+first_pass o others left = record { number = 0; passes = suc others; spare = left; opening = Some o; seen = []; mine = []; has = false; met = None }
 
 -- The first pass after one more was made of it.
 abbrev pub one_less : {S : Type 0} → Known S → Known S
@@ -33,7 +33,7 @@ taught v w = record v { seen = longer v.seen w.seen; met = Some (record { other 
 
 module _ {S : Type 0} (drawn : S → List SourceAnswer → S → Type 0) where
   -- What the history is to one pass.
-  pub record Fits (o : ReaderState S) (passes : ℕ) (log : List Entry) (by : ℕ) (v : Known S) : Type 0 where
+  pub record Agrees (o : ReaderState S) (passes : ℕ) (log : List Entry) (by : ℕ) (v : Known S) : Type 0 where
     pub number : v.number ≡ by
     pub passes_so : v.passes ≡ passes
     pub spare : by ≢ 0 → v.spare ≡ 0
@@ -57,8 +57,8 @@ module _ {S : Type 0} (drawn : S → List SourceAnswer → S → Type 0) where
     pub alone : (j : ℕ) (u : Known S) → get_elem? views j ≡ some u → u.has ≡ true → j ≡ by
 
   -- The reader is in the slot as the history left it, or one pass has it.
-  abbrev pub Place : List (ReaderState S) → List (Known S) → ReaderState S → Type 0
-  Place items views now = ((items ≡ now ∷ []) × Nobody views) ⊎ ((items ≡ []) × Holder views)
+  abbrev pub ReaderPlace : List (ReaderState S) → List (Known S) → ReaderState S → Type 0
+  ReaderPlace items views now = ((items ≡ now ∷ []) × Nobody views) ⊎ ((items ≡ []) × Holder views)
 
   -- There is one legal history from the opening state, which some pass has seen whole. The passes are those that the reader was opened for, and each call is
   -- one of theirs.
@@ -71,14 +71,14 @@ module _ {S : Type 0} (drawn : S → List SourceAnswer → S → Type 0) where
     pub fits : opening.store.arrivals < 2 ^ 64
     pub runs : Runs drawn opening log now
     pub whole : (by : ℕ) × (v : Known S) × (get_elem? views by ≡ some v) × (v.seen ≡ log)
-    pub place : Place items views now
-    pub each : (by : ℕ) (v : Known S) → get_elem? views by ≡ some v → Fits opening passes log by v
+    pub place : ReaderPlace items views now
+    pub each : (by : ℕ) (v : Known S) → get_elem? views by ≡ some v → Agrees opening passes log by v
     pub count : (v : Known S) → get_elem? views 0 ≡ some v → length views + v.spare ≡ passes
     pub callers : are_of (length views) log ≡ true
 
   -- The rule of the slot.
-  abbrev pub Kept : List (ReaderState S) → List (Known S) → Type 0
-  Kept items views = ((items ≡ []) × (views ≡ newcomer ∷ [])) ⊎ Open items views
+  abbrev pub SlotRule : List (ReaderState S) → List (Known S) → Type 0
+  SlotRule items views = ((items ≡ []) × (views ≡ newcomer ∷ [])) ⊎ Open items views
 
   -- What a take promises: the pass has seen the whole history, and has the reader as that left it.
   pub record Took (v : Known S) (x : ReaderState S) (w : Known S) : Type 0 where
@@ -94,7 +94,7 @@ module _ {S : Type 0} (drawn : S → List SourceAnswer → S → Type 0) where
 
   -- What a put requires: the pass has the reader, and one such call led from the state that the history left to the
   -- reader's.
-  pub record Produces (made : ReaderState S → Entry → ReaderState S → Type 0) (v : Known S) (x : ReaderState S) : Type 0 where
+  pub record ProducesCall (made : ReaderState S → Entry → ReaderState S → Type 0) (v : Known S) (x : ReaderState S) : Type 0 where
     pub opening : ReaderState S
     pub found : ReaderState S
     pub call : Entry
@@ -107,7 +107,7 @@ module _ {S : Type 0} (drawn : S → List SourceAnswer → S → Type 0) where
 
   -- What a put promises: the call is the last one of the history, and of its pass.
   abbrev pub Put : (ReaderState S → Entry → ReaderState S → Type 0) → Known S → ReaderState S → Known S → Type 0
-  Put made v x w = (b : Produces made v x) × (w ≡ record v { seen = v.seen ++ b.call ∷ []; mine = v.mine ++ b.call ∷ []; has = false })
+  Put made v x w = (b : ProducesCall made v x) × (w ≡ record v { seen = v.seen ++ b.call ∷ []; mine = v.mine ++ b.call ∷ []; has = false })
 
   -- What a pass knows after it met another.
   pub record Learnt (v : Known S) : Type 0 where

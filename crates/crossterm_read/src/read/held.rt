@@ -4,7 +4,7 @@ ghost use Rattle.std.specs.Iterator.{YieldsFirstBy, item_count};
 ghost use Rattle.std.specs.Option.{option_map};
 ghost use Rattle.crossterm_types.specs.Seen.{Seen, seen};
 ghost use Rattle.crossterm_read.specs.inside.Asking.{held_with};
-ghost use Rattle.crossterm_read.specs.inside.Ready.{IsAlone, held_by, one_of, seen_by};
+ghost use Rattle.crossterm_read.specs.inside.Ready.{IsReadyAlone, held_by, one_of, seen_by};
 ghost use Rattle.crossterm_read.specs.inside.Replies.{kept};
 ghost use Rattle.crossterm_read.specs.Store.{Holding, next_number};
 ghost use Rattle.crossterm_read.specs.Steps.{TakeReplies, first_admitted};
@@ -69,7 +69,7 @@ impl<A: Allocator> Model for HeldEvents<A> {
 
     ghost view = { λ h. record { store = record { held = held_by h.ready h.queued.store.held; arrivals = h.queued.store.arrivals }; room = h.queued.room - one_of h.ready } };
 
-    ghost invariant = { λ h. IsAlone h.ready h.queued × (h.len ≡ length (held_by h.ready h.queued.store.held)) };
+    ghost invariant = { λ h. IsReadyAlone h.ready h.queued × (h.len ≡ length (held_by h.ready h.queued.store.held)) };
 }
 
 // An event that is ready goes into its queue.
@@ -78,7 +78,7 @@ fn queue_ready<A: Allocator>(
     ready: &mut Option<Taken<InternalEvent<A>>>,
     queued: &mut QueuedEvents<A>,
 )
-    requires { IsAlone ready.old queued.old }
+    requires { IsReadyAlone ready.old queued.old }
     ensures ready { ready.new ≡ None }
     ensures held { queued.new.store.held ≡ held_by ready.old queued.old.store.held }
     ensures arrivals { queued.new.store.arrivals ≡ queued.old.store.arrivals }

@@ -10,7 +10,7 @@ ghost use Rattle.crossterm_read.specs.Answers.{IsOwn};
 ghost use Rattle.crossterm_read.specs.Device.{AsksAtOnce};
 ghost use Rattle.crossterm_read.specs.Steps as steps;
 ghost use Rattle.crossterm_read.specs.Steps.{first_admitted};
-ghost use Rattle.crossterm_read.specs.Store.{capacity};
+ghost use Rattle.crossterm_read.specs.Store.{reader_capacity};
 ghost use Rattle.crossterm_read.specs.Waiting.{AsksLeft};
 ghost use Rattle.crossterm_read.specs.inside.Asking.{Asked, AsksInTime, BreaksWhere, DrawsOne, HasPlace, IsRefused};
 ghost use Rattle.crossterm_read.specs.inside.Limits.{none_at_once, none_left};
@@ -52,7 +52,7 @@ pub(crate) trait Patience {
         ensures first { KeepsFirst C.began clock.old clock.new }
         ensures asked { Asked S.drawn S.failed at_wake (F.admits filter.now) (lasted self.now (C.told clock.new)) reader.old reader.new result }
         ensures limits { limits self.now (C.told clock.new) (S.asked reader.old.source) (S.asked reader.new.source) }
-        ensures room { capacity reader.old ≤ capacity reader.new }
+        ensures room { reader_capacity reader.old ≤ reader_capacity reader.new }
         ensures place { IfOk result (λ given. IfSome given (HasPlace reader.new)) }
         ensures rise { S.failed reader.old.source ≤ S.failed reader.new.source }
         ensures err { IfErr result (λ e. IsOwn (error_kind e) ⊎ (S.failed reader.old.source < S.failed reader.new.source)) }
@@ -150,7 +150,7 @@ impl<S: EventSource<A>, A: Allocator + Clone> InternalEventReader<S, A> {
         ensures first { KeepsFirst C.began clock.old clock.new }
         ensures asked { AsksInTime timeout.now (C.told clock.new) (S.asked self.old.source) (S.asked self.new.source) }
         ensures one { DrawsOne S.drawn S.failed at_wake (F.admits filter.now) self.old self.new result }
-        ensures room { capacity self.old ≤ capacity self.new }
+        ensures room { reader_capacity self.old ≤ reader_capacity self.new }
         ensures full { IsRefused result → self.old.room ≡ 0 }
         ensures rise { S.failed self.old.source ≤ S.failed self.new.source }
         ensures err { BreaksWhere result (λ kind. IsOwn kind ⊎ (S.failed self.old.source < S.failed self.new.source)) }

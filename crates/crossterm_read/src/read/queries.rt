@@ -9,11 +9,11 @@ ghost use Rattle.crossterm_types.specs.Seen.{CursorPosition, Seen, seen};
 ghost use Rattle.crossterm_types.specs.Timing.{KeepsFirst};
 ghost use Rattle.crossterm_read.specs.Answers.{SourceAnswer, IsOwn};
 ghost use Rattle.crossterm_read.specs.Device.{AsksAtOnce};
-ghost use Rattle.crossterm_read.specs.History.{last_of};
+ghost use Rattle.crossterm_read.specs.History.{last_taken};
 ghost use Rattle.crossterm_read.specs.Queries.{AfterReply, KeyboardStep, QueryStep};
 ghost use Rattle.crossterm_read.specs.Replies.{Replied, ToQuery, flags_seen, keyboard_said, position_said, shown};
 ghost use Rattle.crossterm_read.specs.inside.Replies.{flags_said, kept, last_said, read_reply};
-ghost use Rattle.crossterm_read.specs.Store.{capacity};
+ghost use Rattle.crossterm_read.specs.Store.{reader_capacity};
 ghost use Rattle.crossterm_read.specs.Steps.{UpTo, Within, RefusedOnlyWithoutRoom};
 ghost use Rattle.crossterm_read.specs.Waiting.{AsksLeft, AsksWithin};
 ghost use Rattle.std.specs.declared.time.Duration.{Duration};
@@ -58,7 +58,7 @@ fn flags_of<A: Allocator>(event: &InternalEvent<A>) -> Option<KeyboardEnhancemen
 
 // The number of what was taken, or else of what was taken before.
 fn number_of<A: Allocator>(taken: &Option<Taken<InternalEvent<A>>>, before: u64) -> u64
-    ensures { (x : Seen) → last_of None (ToQuery (x, before) (option_map kept taken.now)) ≡ Some result }
+    ensures { (x : Seen) → last_taken None (ToQuery (x, before) (option_map kept taken.now)) ≡ Some result }
 {
     match taken {
         Some(taken) => taken.number,
@@ -82,7 +82,7 @@ impl<S: EventSource<A>, A: Allocator + Clone> InternalEventReader<S, A> {
         ensures limits { P.limits patience.now (C.told clock.new) (S.asked self.old.source) (S.asked self.new.source) }
         ensures later { C.told clock.old ≤ C.told clock.new }
         ensures first { KeepsFirst C.began clock.old clock.new }
-        ensures room { capacity self.old ≤ capacity self.new }
+        ensures room { reader_capacity self.old ≤ reader_capacity self.new }
         ensures rise { S.failed self.old.source ≤ S.failed self.new.source }
         ensures err { IfErr result (λ e. (error_kind e ≡ Other) ⊎ IsOwn (error_kind e) ⊎ (S.failed self.old.source < S.failed self.new.source)) }
     {
@@ -112,7 +112,7 @@ impl<S: EventSource<A>, A: Allocator + Clone> InternalEventReader<S, A> {
         // The source is asked with limit zero alone, and so at once.
         ensures at_once { AsksAtOnce (S.asked self.old.source) (S.asked self.new.source) }
         // No room is lost, and failures never fall.
-        ensures room { capacity self.old ≤ capacity self.new }
+        ensures room { reader_capacity self.old ≤ reader_capacity self.new }
         ensures rise { S.failed self.old.source ≤ S.failed self.new.source }
         ensures err { IfErr result (λ e. (error_kind e ≡ Other) ⊎ IsOwn (error_kind e) ⊎ (S.failed self.old.source < S.failed self.new.source)) }
     {
@@ -134,7 +134,7 @@ impl<S: EventSource<A>, A: Allocator + Clone> InternalEventReader<S, A> {
         ensures limits { P.limits patience.now (C.told clock.new) (S.asked self.old.source) (S.asked self.new.source) }
         ensures later { C.told clock.old ≤ C.told clock.new }
         ensures first { KeepsFirst C.began clock.old clock.new }
-        ensures room { capacity self.old ≤ capacity self.new }
+        ensures room { reader_capacity self.old ≤ reader_capacity self.new }
         ensures rise { S.failed self.old.source ≤ S.failed self.new.source }
     {
         match self.query_while(patience, clock, &PrimaryDeviceAttributesFilter) {
@@ -158,7 +158,7 @@ impl<S: EventSource<A>, A: Allocator + Clone> InternalEventReader<S, A> {
         // The source is asked with limit zero alone, and so at once.
         ensures at_once { AsksAtOnce (S.asked self.old.source) (S.asked self.new.source) }
         // No room is lost, and failures never fall.
-        ensures room { capacity self.old ≤ capacity self.new }
+        ensures room { reader_capacity self.old ≤ reader_capacity self.new }
         ensures rise { S.failed self.old.source ≤ S.failed self.new.source }
         ensures err { IfErr result (λ e. (error_kind e ≡ Other) ⊎ IsOwn (error_kind e) ⊎ (S.failed self.old.source < S.failed self.new.source)) }
     {
@@ -188,12 +188,12 @@ impl<S: EventSource<A>, A: Allocator + Clone> InternalEventReader<S, A> {
         ensures step { (now : ℕ) × (second : ℕ) × (C.told clock.old ≤ now) × (now ≤ second) × (second ≤ C.told clock.new)
             × (zs : List SourceAnswer) × (r : Replied) × S.drawn self.old.source zs self.new.source
             × KeyboardStep (Within timeout.limit (now - as_nanos timeout.start)) (Within (Some again) (C.told clock.new - second)) zs self.old.store self.new.store r
-            × (flags_said result ≡ shown r) × IfErr result (λ e. RefusedOnlyWithoutRoom self.old.room zs (error_kind e)) × ((n : Option ℕ) → last_of n r ≡ last_said n result)
+            × (flags_said result ≡ shown r) × IfErr result (λ e. RefusedOnlyWithoutRoom self.old.room zs (error_kind e)) × ((n : Option ℕ) → last_taken n r ≡ last_said n result)
             × (middle : List (Option Duration)) × AsksLeft timeout now (S.asked self.old.source) middle
             × ((S.asked self.new.source ≡ middle) ⊎ AsksWithin (Some again) second (C.told clock.new) middle (S.asked self.new.source)) }
         ensures later { C.told clock.old ≤ C.told clock.new }
         ensures first { KeepsFirst C.began clock.old clock.new }
-        ensures room { capacity self.old ≤ capacity self.new }
+        ensures room { reader_capacity self.old ≤ reader_capacity self.new }
     {
         match self.query_while(
             &InTime { rt, timeout },

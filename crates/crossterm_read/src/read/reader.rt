@@ -12,7 +12,7 @@ ghost use Rattle.crossterm_read.specs.Device.{AsksWith, AsksAtOnce};
 ghost use Rattle.crossterm_read.specs.inside.Numbers.{IsOrderly};
 ghost use Rattle.crossterm_read.specs.Replies.{Replied, poll_reply, shown, try_said};
 ghost use Rattle.crossterm_read.specs.inside.Replies.{kept, try_reply};
-ghost use Rattle.crossterm_read.specs.Store.{ReaderState, capacity};
+ghost use Rattle.crossterm_read.specs.Store.{ReaderState, reader_capacity};
 ghost use Rattle.crossterm_read.specs.Steps.{UpTo, NextStep, PollStep, ReadStep, RefusedOnlyWithoutRoom, TakeReplies, first_admitted};
 ghost use Rattle.crossterm_read.specs.inside.Asking.{BreaksWhere, DrawsOne, HasPlace, IsRefused, held_with};
 
@@ -143,7 +143,7 @@ impl<S: EventSource<A>, A: Allocator> InternalEventReader<S, A> {
         ensures step { (x : Option (Seen × ℕ)) × TakeReplies (F.admits filter.now) self.old.store self.new.store x
             × (option_map seen result ≡ option_map (λ e. e.0) x) }
         // An event that is given leaves room for one more.
-        ensures room { capacity self.new ≡ capacity self.old }
+        ensures room { reader_capacity self.new ≡ reader_capacity self.old }
         ensures source { self.new.source ≡ self.old.source }
     {
         unnumbered(self.take_numbered(filter))
@@ -153,7 +153,7 @@ impl<S: EventSource<A>, A: Allocator> InternalEventReader<S, A> {
     #[inline(always)]
     pub(crate) fn take_numbered<F: Filter>(&mut self, filter: &F) -> Option<Taken<InternalEvent<A>>>
         ensures step { TakeReplies (F.admits filter.now) self.old.store self.new.store (option_map kept result) }
-        ensures room { capacity self.new ≡ capacity self.old }
+        ensures room { reader_capacity self.new ≡ reader_capacity self.old }
         ensures source { self.new.source ≡ self.old.source }
     {
         self.held.take(filter)
@@ -163,7 +163,7 @@ impl<S: EventSource<A>, A: Allocator> InternalEventReader<S, A> {
     pub(crate) fn hold(&mut self, given: Taken<InternalEvent<A>>)
         requires { HasPlace self.old given }
         ensures store { self.new.store ≡ held_with self.old.store (kept given) }
-        ensures room { capacity self.new ≡ capacity self.old }
+        ensures room { reader_capacity self.new ≡ reader_capacity self.old }
         ensures source { self.new.source ≡ self.old.source }
     {
         self.held.push_reserved(given);
@@ -188,7 +188,7 @@ impl<S: EventSource<A>, A: Allocator + Clone> InternalEventReader<S, A> {
     ) -> Once<A>
         ensures one { DrawsOne S.drawn S.failed at_wake (F.admits filter.now) self.old self.new result }
         ensures asked { AsksWith limit (S.asked self.old.source) (S.asked self.new.source) }
-        ensures room { capacity self.old ≤ capacity self.new }
+        ensures room { reader_capacity self.old ≤ reader_capacity self.new }
         ensures full { IsRefused result → self.old.room ≡ 0 }
         ensures rise { S.failed self.old.source ≤ S.failed self.new.source }
         ensures err { BreaksWhere result (λ kind. IsOwn kind ⊎ (S.failed self.old.source < S.failed self.new.source)) }
@@ -237,12 +237,12 @@ impl<S: EventSource<A>, A: Allocator + Clone> InternalEventReader<S, A> {
             × NextStep at_wake (P.lasted patience.now (C.told clock.new)) (F.admits filter.now) zs self.old.store self.new.store (try_reply result)
             × IfErr result (λ e. RefusedOnlyWithoutRoom self.old.room zs (error_kind e))
             × IsSteady S.failed self.old.source zs self.new.source }
-        ensures held { is_some (first_admitted (F.admits filter.now) self.old.store.held) ≡ true → (capacity self.new ≡ capacity self.old) × (self.new.source ≡ self.old.source) }
+        ensures held { is_some (first_admitted (F.admits filter.now) self.old.store.held) ≡ true → (reader_capacity self.new ≡ reader_capacity self.old) × (self.new.source ≡ self.old.source) }
         ensures admitted { IfOk result (λ taken. IfSome taken (λ x. F.admits filter.now (seen x.event) ≡ true)) }
         ensures limits { P.limits patience.now (C.told clock.new) (S.asked self.old.source) (S.asked self.new.source) }
         ensures later { C.told clock.old ≤ C.told clock.new }
         ensures first { KeepsFirst C.began clock.old clock.new }
-        ensures room { capacity self.old ≤ capacity self.new }
+        ensures room { reader_capacity self.old ≤ reader_capacity self.new }
         ensures rise { S.failed self.old.source ≤ S.failed self.new.source }
         ensures err { IfErr result (λ e. IsOwn (error_kind e) ⊎ (S.failed self.old.source < S.failed self.new.source)) }
         ensures awake { at_wake ≡ GoesOn → IfErr result (λ e. error_kind e ≢ Interrupted) }
@@ -268,7 +268,7 @@ impl<S: EventSource<A>, A: Allocator + Clone> InternalEventReader<S, A> {
         ensures limits { P.limits patience.now (C.told clock.new) (S.asked self.old.source) (S.asked self.new.source) }
         ensures later { C.told clock.old ≤ C.told clock.new }
         ensures first { KeepsFirst C.began clock.old clock.new }
-        ensures room { capacity self.old ≤ capacity self.new }
+        ensures room { reader_capacity self.old ≤ reader_capacity self.new }
         ensures rise { S.failed self.old.source ≤ S.failed self.new.source }
         ensures steady { IfOk result (λ ready. IsTrue ready → S.failed self.new.source ≡ S.failed self.old.source) }
         ensures err { IfErr result (λ e. IsOwn (error_kind e) ⊎ (S.failed self.old.source < S.failed self.new.source)) }
@@ -310,7 +310,7 @@ impl<S: EventSource<A>, A: Allocator + Clone> InternalEventReader<S, A> {
         // The source is asked with limit zero alone, and so at once.
         ensures at_once { AsksAtOnce (S.asked self.old.source) (S.asked self.new.source) }
         // No room is lost.
-        ensures room { capacity self.old ≤ capacity self.new }
+        ensures room { reader_capacity self.old ≤ reader_capacity self.new }
         // Failures never fall, and if an event is there, none was new.
         ensures rise { S.failed self.old.source ≤ S.failed self.new.source }
         ensures steady { IfOk result (λ ready. IsTrue ready → S.failed self.new.source ≡ S.failed self.old.source) }
@@ -339,11 +339,11 @@ impl<S: EventSource<A>, A: Allocator + Clone> InternalEventReader<S, A> {
             × IfErr result (λ e. RefusedOnlyWithoutRoom self.old.room zs (error_kind e))
             × IsSteady S.failed self.old.source zs self.new.source }
         // If an admitted event is held, no memory is taken, and the source isn't asked.
-        ensures held { is_some (first_admitted (F.admits filter.now) self.old.store.held) ≡ true → (capacity self.new ≡ capacity self.old) × (self.new.source ≡ self.old.source) }
+        ensures held { is_some (first_admitted (F.admits filter.now) self.old.store.held) ≡ true → (reader_capacity self.new ≡ reader_capacity self.old) × (self.new.source ≡ self.old.source) }
         // The source is asked with limit zero alone, and so at once.
         ensures at_once { AsksAtOnce (S.asked self.old.source) (S.asked self.new.source) }
         // No room is lost, and failures never fall.
-        ensures room { capacity self.old ≤ capacity self.new }
+        ensures room { reader_capacity self.old ≤ reader_capacity self.new }
         ensures rise { S.failed self.old.source ≤ S.failed self.new.source }
         ensures err { IfErr result (λ e. IsOwn (error_kind e) ⊎ (S.failed self.old.source < S.failed self.new.source)) }
         // A wake-up is no error.

@@ -9,7 +9,7 @@ ghost use Rattle.crossterm_read.specs.Answers.{SourceAnswer, IsOwn, IsSteady};
 ghost use Rattle.crossterm_read.specs.Calls.{Step};
 ghost use Rattle.crossterm_read.specs.Replies.{Replied, poll_reply, read_said, shown};
 ghost use Rattle.crossterm_read.specs.inside.Replies.{read_reply, reply_within, request_within};
-ghost use Rattle.crossterm_read.specs.Store.{capacity};
+ghost use Rattle.crossterm_read.specs.Store.{reader_capacity};
 ghost use Rattle.crossterm_read.specs.Steps.{Within, PollStep, ReadStep, RefusedOnlyWithoutRoom, first_admitted};
 ghost use Rattle.crossterm_read.specs.Waiting.{AsksForever, AsksWithin};
 
@@ -62,7 +62,7 @@ impl<S: EventSource<A>, A: Allocator + Clone> InternalEventReader<S, A> {
         ensures later { C.told clock.old ≤ C.told clock.new }
         ensures first { KeepsFirst C.began clock.old clock.new }
         // No room is lost.
-        ensures room { capacity self.old ≤ capacity self.new }
+        ensures room { reader_capacity self.old ≤ reader_capacity self.new }
         // Failures never fall, and if an event is there, none was new.
         ensures rise { S.failed self.old.source ≤ S.failed self.new.source }
         ensures steady { IfOk result (λ ready. IsTrue ready → S.failed self.new.source ≡ S.failed self.old.source) }
@@ -88,11 +88,11 @@ impl<S: EventSource<A>, A: Allocator + Clone> InternalEventReader<S, A> {
             × IfErr result (λ e. RefusedOnlyWithoutRoom self.old.room zs (error_kind e))
             × IsSteady S.failed self.old.source zs self.new.source }
         // If an admitted event is held, no memory is taken, and the source isn't asked.
-        ensures held { is_some (first_admitted (F.admits filter.now) self.old.store.held) ≡ true → (capacity self.new ≡ capacity self.old) × (self.new.source ≡ self.old.source) }
+        ensures held { is_some (first_admitted (F.admits filter.now) self.old.store.held) ≡ true → (reader_capacity self.new ≡ reader_capacity self.old) × (self.new.source ≡ self.old.source) }
         // The device is asked without a limit.
         ensures asked { AsksForever (S.asked self.old.source) (S.asked self.new.source) }
         // No room is lost, and failures never fall.
-        ensures room { capacity self.old ≤ capacity self.new }
+        ensures room { reader_capacity self.old ≤ reader_capacity self.new }
         ensures rise { S.failed self.old.source ≤ S.failed self.new.source }
         ensures err { IfErr result (λ e. IsOwn (error_kind e) ⊎ (S.failed self.old.source < S.failed self.new.source)) }
         // A wake-up is no error.
@@ -115,10 +115,10 @@ impl<S: EventSource<A>, A: Allocator + Clone> InternalEventReader<S, A> {
             × ReadStep (Within None past) (F.admits filter.now) zs self.old.store self.new.store (read_reply result)
             × IfErr result (λ e. RefusedOnlyWithoutRoom self.old.room zs (error_kind e))
             × IsSteady S.failed self.old.source zs self.new.source }
-        ensures held { is_some (first_admitted (F.admits filter.now) self.old.store.held) ≡ true → (capacity self.new ≡ capacity self.old) × (self.new.source ≡ self.old.source) }
+        ensures held { is_some (first_admitted (F.admits filter.now) self.old.store.held) ≡ true → (reader_capacity self.new ≡ reader_capacity self.old) × (self.new.source ≡ self.old.source) }
         ensures asked { AsksForever (S.asked self.old.source) (S.asked self.new.source) }
         ensures admitted { IfOk result (λ x. F.admits filter.now (seen x.event) ≡ true) }
-        ensures room { capacity self.old ≤ capacity self.new }
+        ensures room { reader_capacity self.old ≤ reader_capacity self.new }
         ensures rise { S.failed self.old.source ≤ S.failed self.new.source }
         ensures err { IfErr result (λ e. IsOwn (error_kind e) ⊎ (S.failed self.old.source < S.failed self.new.source)) }
         ensures awake { IfErr result (λ e. error_kind e ≢ Interrupted) }
@@ -150,7 +150,7 @@ impl<S: EventSource<A>, A: Allocator + Clone> InternalEventReader<S, A> {
         ensures limits { P.limits patience.now (C.told clock.new) (S.asked self.old.source) (S.asked self.new.source) }
         ensures later { C.told clock.old ≤ C.told clock.new }
         ensures first { KeepsFirst C.began clock.old clock.new }
-        ensures room { capacity self.old ≤ capacity self.new }
+        ensures room { reader_capacity self.old ≤ reader_capacity self.new }
         ensures awake { IfErr result (λ e. error_kind e ≢ Interrupted) }
     {
         match self.next(patience, clock, AtWake::Stops, &filter) {

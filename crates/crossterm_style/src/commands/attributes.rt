@@ -3,7 +3,7 @@ ghost use Rattle.std.specs.Prelude.{Some};
 ghost use Rattle.crossterm_command.specs.declared.color_output.ColorOutput.TheVariants.{Enabled};
 ghost use Rattle.crossterm_command.specs.Tokens.{text_of};
 ghost use Rattle.crossterm_style.specs.Acts.{attribute_acts};
-ghost use Rattle.crossterm_style.specs.Styles.{attribute_functions, told};
+ghost use Rattle.crossterm_style.specs.Styles.{attribute_functions, act_tokens};
 
 use crate::{Attribute, Attributes};
 use arrayvec::ArrayString;
@@ -39,7 +39,7 @@ impl fmt::Display for SetAttribute {
 pub struct SetAttributes(pub Attributes);
 
 impl Command for SetAttributes {
-    ghost text = { λ c colors. Some (text_of (told colors (attribute_acts c.0.0))) };
+    ghost text = { λ c colors. Some (text_of (act_tokens colors (attribute_acts c.0.0))) };
 
     fn write_ansi<W: fmt::Write>(&self, f: &mut W, colors: ColorOutput) -> fmt::Result {
         for attribute in Attribute::all() {

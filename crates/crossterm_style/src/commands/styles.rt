@@ -4,7 +4,7 @@ ghost use Rattle.crossterm_command.specs.Writing.{Writes};
 ghost use Rattle.crossterm_command.specs.declared.color_output.ColorOutput.TheVariants.{Enabled};
 ghost use Rattle.crossterm_command.specs.Tokens.{text_of};
 ghost use Rattle.crossterm_style.specs.Acts.{either_there, end_acts, reset_acts, reset_where, style_acts, where_there};
-ghost use Rattle.crossterm_style.specs.Styles.{styled_text, told};
+ghost use Rattle.crossterm_style.specs.Styles.{styled_text, act_tokens};
 ghost use Rattle.crossterm_style.specs.declared.types.colored.Colored.TheVariants.{BackgroundColor, ForegroundColor, UnderlineColor};
 
 use crate::{
@@ -21,7 +21,7 @@ fn set_background<W: fmt::Write>(
     colors: ColorOutput,
     color: Option<Color>,
 ) -> fmt::Result
-    ensures { OnOk result (Writes W.write_str_gives f.old (Some (text_of (told colors (where_there BackgroundColor color)))) f.new) }
+    ensures { OnOk result (Writes W.write_str_gives f.old (Some (text_of (act_tokens colors (where_there BackgroundColor color)))) f.new) }
 {
     match color {
         Some(color) => SetBackgroundColor(color).write_ansi(f, colors),
@@ -35,7 +35,7 @@ fn set_foreground<W: fmt::Write>(
     colors: ColorOutput,
     color: Option<Color>,
 ) -> fmt::Result
-    ensures { OnOk result (Writes W.write_str_gives f.old (Some (text_of (told colors (where_there ForegroundColor color)))) f.new) }
+    ensures { OnOk result (Writes W.write_str_gives f.old (Some (text_of (act_tokens colors (where_there ForegroundColor color)))) f.new) }
 {
     match color {
         Some(color) => SetForegroundColor(color).write_ansi(f, colors),
@@ -45,7 +45,7 @@ fn set_foreground<W: fmt::Write>(
 
 /// Sets an underline's colour that is there.
 fn set_underline<W: fmt::Write>(f: &mut W, colors: ColorOutput, color: Option<Color>) -> fmt::Result
-    ensures { OnOk result (Writes W.write_str_gives f.old (Some (text_of (told colors (where_there UnderlineColor color)))) f.new) }
+    ensures { OnOk result (Writes W.write_str_gives f.old (Some (text_of (act_tokens colors (where_there UnderlineColor color)))) f.new) }
 {
     match color {
         Some(color) => SetUnderlineColor(color).write_ansi(f, colors),
@@ -58,7 +58,7 @@ fn set_underline<W: fmt::Write>(f: &mut W, colors: ColorOutput, color: Option<Co
 pub struct SetStyle(pub ContentStyle);
 
 impl Command for SetStyle {
-    ghost text = { λ c colors. Some (text_of (told colors (style_acts c.0))) };
+    ghost text = { λ c colors. Some (text_of (act_tokens colors (style_acts c.0))) };
 
     fn write_ansi<W: fmt::Write>(&self, f: &mut W, colors: ColorOutput) -> fmt::Result {
         set_background(f, colors, self.0.background_color)?;
@@ -92,7 +92,7 @@ fn reset_colors<W: fmt::Write>(
     background: bool,
     foreground: bool,
 ) -> fmt::Result
-    ensures { OnOk result (Writes W.write_str_gives f.old (Some (text_of (told colors (reset_acts background foreground)))) f.new) }
+    ensures { OnOk result (Writes W.write_str_gives f.old (Some (text_of (act_tokens colors (reset_acts background foreground)))) f.new) }
 {
     set_background(f, colors, reset_where(background))?;
     set_foreground(f, colors, reset_where(foreground))
@@ -100,7 +100,7 @@ fn reset_colors<W: fmt::Write>(
 
 /// Ends a style: all is reset if it has attributes, else a background, and then the foreground if it or the underline has a colour.
 fn end_style<W: fmt::Write>(f: &mut W, colors: ColorOutput, style: ContentStyle) -> fmt::Result
-    ensures { OnOk result (Writes W.write_str_gives f.old (Some (text_of (told colors (end_acts style)))) f.new) }
+    ensures { OnOk result (Writes W.write_str_gives f.old (Some (text_of (act_tokens colors (end_acts style)))) f.new) }
 {
     if !style.attributes.is_empty() {
         return ResetColor.write_ansi(f, colors);

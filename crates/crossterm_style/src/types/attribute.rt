@@ -1,7 +1,7 @@
 //! Attributes of text.
 ghost use Rattle.std.specs.Prelude.{◌≡◌, ◌<◌, ◌≤◌, length, IfOk, IfErr, Some, string_bytes};
 ghost use Rattle.std.specs.IoError.{error_kind};
-ghost use Rattle.crossterm_style.specs.Attributes.{all_attributes, attributes, bit_of, code_of, place_of};
+ghost use Rattle.crossterm_style.specs.Attributes.{all_attributes, attributes, bit_of, code_of, attribute_index};
 ghost use Rattle.crossterm_command.specs.Tokens.{text_of};
 ghost use Rattle.crossterm_style.specs.Styles.{attribute_functions};
 
@@ -119,7 +119,7 @@ impl Attribute {
 
     /// Its place in declared order, from 0.
     pub(crate) fn place(self) -> u32
-        ensures place { result ≡ place_of self }
+        ensures place { result ≡ attribute_index self }
         ensures few { result < 28 }
     {
         self as u32

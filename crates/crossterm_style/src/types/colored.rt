@@ -7,7 +7,7 @@ ghost use Rattle.arrayvec.specs.ArrayString.{array_string_len};
 ghost use Rattle.crossterm_command.specs.Environment.{is_set};
 ghost use Rattle.crossterm_command.specs.declared.color_output.ColorOutput.TheVariants.{Enabled};
 ghost use Rattle.crossterm_style.specs.Colors.{colored_text};
-ghost use Rattle.crossterm_style.specs.Fields.{IsColoredRead, Resets, ResetsNone, Sets, SetsNone};
+ghost use Rattle.crossterm_style.specs.Fields.{IsColoredRead, Resets, ResetsNone, SetsPlace, SetsNone};
 
 use crate::fields::Fields;
 use crate::{Color, ColorOutput, SgrColor};
@@ -64,7 +64,7 @@ impl Colored {
 
     /// The place that a number sets, with a colour.
     fn set_by(number: u8, color: Color) -> Option<Colored>
-        ensures { MatchOption result (SetsNone number) (λ c. Sets number color c) }
+        ensures { MatchOption result (SetsNone number) (λ c. SetsPlace number color c) }
     {
         match number {
             38 => Some(Colored::ForegroundColor(color)),

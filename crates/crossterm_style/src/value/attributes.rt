@@ -2,7 +2,7 @@
 ghost use Rattle.std.specs.Prelude.{◌≡◌, IfOk, Some};
 ghost use Rattle.serde_json.specs.Data.{string};
 ghost use Rattle.serde_json.specs.View.{view};
-ghost use Rattle.crossterm_flags.specs.Values.{Reads, Tells};
+ghost use Rattle.crossterm_flags.specs.Values.{ReadsJson, WritesJson};
 ghost use Rattle.crossterm_flags.specs.Variants.{reads_variant, variant};
 ghost use Rattle.crossterm_style.specs.Attributes.{attributes};
 
@@ -20,7 +20,7 @@ impl Attribute {
     /// `Memory` if memory for it was refused.
     #[tactic(auto, using(crate::proofs::ValueLaws::attribute_back, crossterm_flags::proofs::ValueLaws::told_back))]
     pub fn to_value(&self, alloc: Global) -> Result<Value, ValueFault>
-        ensures tells { Tells (string (variant attributes self.now)) result }
+        ensures tells { WritesJson (string (variant attributes self.now)) result }
         ensures back { IfOk result (λ v. reads_variant attributes (view v) ≡ Some self.now) }
     {
         tell_named(alloc, *self)
@@ -32,7 +32,7 @@ impl Attribute {
     ///
     /// `Shape` if the JSON is no such text.
     pub fn from_value(value: &Value) -> Result<Attribute, ValueFault>
-        ensures { Reads (λ x. x) (reads_variant attributes (view value.now)) result }
+        ensures { ReadsJson (λ x. x) (reads_variant attributes (view value.now)) result }
     {
         shaped(read_named(value))
     }

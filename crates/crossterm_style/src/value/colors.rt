@@ -3,7 +3,7 @@ ghost use Rattle.std.specs.Prelude.{◌≡◌, ◌<◌, ◌||◌, IfOk, Some, co
 ghost use Rattle.serde_json.specs.Find.{as_str};
 ghost use Rattle.serde_json.specs.Data.{string};
 ghost use Rattle.serde_json.specs.View.{view};
-ghost use Rattle.crossterm_flags.specs.Values.{Tells, reads_member};
+ghost use Rattle.crossterm_flags.specs.Values.{WritesJson, reads_member};
 ghost use Rattle.crossterm_style.specs.Values.{FitsColor, FitsPlace, ReadsOrRefused, color_text, colored_value, copies, copies_member, copies_some, holds, place_of_color, read_color, reads_color, reads_colored, unmarked, unnamed};
 
 use crate::types::{color_named, name_of};
@@ -27,7 +27,7 @@ impl Color {
     /// `Memory` if memory for it was refused.
     #[tactic(auto, using(crate::proofs::ColorBack::color_back, crossterm_flags::proofs::ValueLaws::told_back))]
     pub fn to_value(&self, alloc: Global) -> Result<Value, ValueFault>
-        ensures tells { Tells (string (color_text self.now)) result }
+        ensures tells { WritesJson (string (color_text self.now)) result }
         ensures back { IfOk result (λ v. reads_color (view v) ≡ Some self.now) }
     {
         self.known();
@@ -36,7 +36,7 @@ impl Color {
 
     /// The colour as JSON.
     fn tell(self, alloc: Global) -> Result<Value, ValueFault>
-        ensures { Tells (string (color_text self)) result }
+        ensures { WritesJson (string (color_text self)) result }
     {
         match self {
             Color::AnsiValue(n) => Ok(Value::from(format!(in alloc; "ansi_({n})")?)),
@@ -112,7 +112,7 @@ impl Colored {
     /// `Memory` if memory for it was refused.
     #[tactic(auto, using(crate::proofs::ColorBack::colored_back, crossterm_flags::proofs::ValueLaws::told_back))]
     pub fn to_value(&self, alloc: Global) -> Result<Value, ValueFault>
-        ensures tells { Tells (colored_value self.now) result }
+        ensures tells { WritesJson (colored_value self.now) result }
         ensures back { IfOk result (λ v. reads_colored (view v) ≡ Some self.now) }
     {
         self.known();
@@ -121,7 +121,7 @@ impl Colored {
 
     /// The colour and its place as JSON.
     fn tell(self, alloc: Global) -> Result<Value, ValueFault>
-        ensures { Tells (colored_value self) result }
+        ensures { WritesJson (colored_value self) result }
     {
         match self {
             Colored::ForegroundColor(color) => {

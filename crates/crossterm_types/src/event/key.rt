@@ -157,9 +157,9 @@ impl KeyEvent {
 }
 
 impl From<KeyCode> for KeyEvent {
-    ghost use Rattle.crossterm_types.specs.Keys.{alone};
+    ghost use Rattle.crossterm_types.specs.Keys.{pressed_alone};
 
-    ghost from_gives = { λ code key. key ≡ alone code };
+    ghost from_gives = { λ code key. key ≡ pressed_alone code };
 
     fn from(code: KeyCode) -> KeyEvent {
         KeyEvent::new(code, KeyModifiers::empty())

@@ -2,7 +2,7 @@
 ghost use Rattle.std.specs.Prelude.{◌≡◌, IfOk, Some};
 ghost use Rattle.std.specs.Option.{option_map};
 ghost use Rattle.serde_json.specs.View.{view};
-ghost use Rattle.crossterm_flags.specs.Values.{Tells};
+ghost use Rattle.crossterm_flags.specs.Values.{WritesJson};
 
 mod keys;
 mod mouse;
@@ -45,7 +45,7 @@ impl<A: Allocator> Event<A> {
     /// `Memory` if memory for it was refused.
     #[tactic(auto, using(crate::proofs::ValueLaws::event_back, crossterm_flags::proofs::ValueLaws::told_back))]
     pub fn to_value(&self, alloc: Global) -> Result<Value, ValueFault>
-        ensures tells { Tells (event_value self.now) result }
+        ensures tells { WritesJson (event_value self.now) result }
         ensures back { IfOk result (λ v. reads_event (view v) ≡ Some (seen_event self.now)) }
     {
         self.known();
@@ -54,7 +54,7 @@ impl<A: Allocator> Event<A> {
 
     /// The event as JSON.
     fn tell(&self, alloc: Global) -> Result<Value, ValueFault>
-        ensures { Tells (event_value self.now) result }
+        ensures { WritesJson (event_value self.now) result }
     {
         match self {
             Event::FocusGained => tell_text(alloc, "FocusGained"),

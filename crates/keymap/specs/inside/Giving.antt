@@ -5,7 +5,7 @@ use Rattle.keymap.specs.Chords.{Bound, longest}
 use Rattle.keymap.specs.Cut.{told_of, more_of}
 use Rattle.keymap.specs.Bindings.{Binding}
 use Rattle.keymap.specs.Matching.{Matching}
-use Rattle.keymap.specs.Told.{Told, told}
+use Rattle.keymap.specs.Told.{Told, outcome_seen}
 use Rattle.keymap.specs.declared.outcome.Outcome.{Outcome}
 
 -- The outcome at the first key, or none if there is no key.
@@ -20,7 +20,7 @@ after_first bound (k ∷ ks) = drop (more_of (longest bound (k ∷ ks))) ks
 
 -- A matcher of these parts.
 abbrev pub state_of : {A : Type 0} → List Binding → Bool → List KeyEvent → List (Outcome A) → Matching
-state_of keymap passes keys outcomes = record { keymap = keymap; passes = passes; undecided = keys; waiting = map told outcomes }
+state_of keymap passes keys outcomes = record { keymap = keymap; passes = passes; undecided = keys; waiting = map outcome_seen outcomes }
 
 -- The first of the outcomes is taken, or none if there is none.
 abbrev pub TakesFirstOf : List Told → Option Told → List Told → Type 0

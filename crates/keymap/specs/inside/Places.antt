@@ -32,8 +32,8 @@ abbrev pub place_at : {S : Type 0} → HashMap (List KeyEvent) Place S → List 
 place_at places keys = unwrap_or (get (pointwise key_eq) places (map chord keys)) nowhere
 
 -- A table has the right place for any keys.
-abbrev pub Tells : {S : Type 0} → Bound → HashMap (List KeyEvent) Place S → Type 0
-Tells bound places = (keys : List KeyEvent) → place_at places keys ≡ place_of bound keys
+abbrev pub HasPlaces : {S : Type 0} → Bound → HashMap (List KeyEvent) Place S → Type 0
+HasPlaces bound places = (keys : List KeyEvent) → place_at places keys ≡ place_of bound keys
 
 -- The place of some keys after a list is bound to a number: the number if they are its chords, and begun if it goes
 -- beyond them.
@@ -60,7 +60,7 @@ deepest numbers (suc count) = found_or (numbers (suc count)) (suc count) (deepes
 -- The table has the right place for any keys. There is no table before a list is bound.
 abbrev pub TellsOf : {S : Type 0} → Bound → Option (HashMap (List KeyEvent) Place S) → Type 0
 TellsOf bound None = bound ≡ []
-TellsOf bound (Some places) = Tells bound places
+TellsOf bound (Some places) = HasPlaces bound places
 
 -- There is a table, with room for `count` more places.
 abbrev pub HasRoom : {S : Type 0} → ℕ → Option (HashMap (List KeyEvent) Place S) → Type 0

@@ -13,11 +13,11 @@ use Rattle.prompt.specs.declared.asking.Taken.{Taken}
 use Rattle.prompt.specs.declared.asking.Taken.TheVariants as taken
 use Rattle.prompt.specs.declared.asking.Turn.{Turn}
 use Rattle.prompt.specs.declared.asking.Turn.TheVariants as turn
-use Rattle.prompt.specs.Asking.{Ends, Fails, GoesOn, answer_to, answer_told, pressed}
+use Rattle.prompt.specs.Asking.{LineEnds, StopsAsking, GoesOn, answer_to, answer_told, after_event}
 
 -- An editor took an event, which has this outcome.
 abbrev pub TakesAs : Answer → Seen → EditorState → EditorState → Type 0
-TakesAs a e w z = (answer_to e w ≡ a) × (z ≡ pressed e w)
+TakesAs a e w z = (answer_to e w ≡ a) × (z ≡ after_event e w)
 
 -- An editor took an event, or memory was refused for it. Then its text has room, and nothing has changed.
 abbrev pub IsTaken : {A : Type 0} → Taken A → Seen → EditorState → EditorState → Type 0
@@ -29,5 +29,5 @@ IsTaken taken.Refused e w z = (is_too_long (event_text e w) w ≡ false) × (z �
 -- A turn leads on, to the line's end, or to an error.
 abbrev pub Leads : {S A : Type 0} → (S → List SourceAnswer → S → Type 0) → (S → List (Option Duration)) → Known S → EditorState → Turn A → Known S → EditorState → Type 0
 Leads drawn asked v w turn.Going u z = GoesOn drawn asked v w u z
-Leads drawn asked v w (turn.Ended read) u z = Ends drawn asked v w (answer_told read) u z
-Leads drawn asked v w (turn.Failed error) u z = Fails drawn asked v w (error_kind error) u z
+Leads drawn asked v w (turn.Ended read) u z = LineEnds drawn asked v w (answer_told read) u z
+Leads drawn asked v w (turn.Failed error) u z = StopsAsking drawn asked v w (error_kind error) u z

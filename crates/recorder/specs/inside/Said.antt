@@ -1,8 +1,8 @@
 -- What is written of one answer, as the private functions see it.
 use Rattle.std.specs.Prelude.{◌≡◌, ℕ, List, [], ◌∷◌, Option, Some, None}
 use Rattle.crossterm_read.specs.Device.{DeviceAnswer, Bytes, Resized, Woken, Idle, Fault}
-use Rattle.recorder.specs.Lines.{answers_of, times_of}
-use Rattle.recorder.specs.Recording.{Rises, Writes, millis}
+use Rattle.recorder.specs.Lines.{entry_answers, times_of}
+use Rattle.recorder.specs.Recording.{Rises, WritesEntries, millis}
 use Rattle.recorder.specs.declared.recorder.Stop.{Stop}
 use Rattle.recorder.specs.declared.line.Told.{Told}
 use Rattle.recorder.specs.declared.line.Told.TheVariants as told
@@ -25,6 +25,6 @@ said_by (Some t) = told_answer t ∷ []
 pub record Notes {W : Type 0} (contents : W → Option (List ℕ)) (clock : ℕ) (stop : Option Stop) (room : Option ℕ) (writer : W) (ws : List DeviceAnswer)
     (later : ℕ) (stopped : Option Stop) (left : Option ℕ) (after : W) : Type 0 where
   pub entries : List (ℕ × DeviceAnswer)
-  pub says : answers_of entries ≡ ws
+  pub says : entry_answers entries ≡ ws
   pub rises : Rises (millis clock) (times_of entries) (millis later)
-  pub written : Writes contents stop room writer entries stopped left after
+  pub written : WritesEntries contents stop room writer entries stopped left after

@@ -3,7 +3,7 @@ use Rattle.std.specs.Prelude.{◌≡◌, ◌⊎◌, ◌<◌, ℕ, List, [], ◌�
 use Rattle.std.specs.Borrow.{Bor}
 use Rattle.crossterm_read.specs.Device.{DeviceAnswer}
 use Rattle.crossterm_read.specs.declared.source.script.Act.{Act}
-use Rattle.recorder.specs.Lines.{told}
+use Rattle.recorder.specs.Lines.{act_answer}
 use Rattle.recorder.specs.Reads as reads
 use Rattle.recorder.specs.Reads.{parts}
 use Rattle.recorder.specs.declared.reading.Session.{Session}
@@ -31,10 +31,10 @@ both_now None = None
 both_now (Some x) = Some (x.0.now, x.1.now)
 
 -- What was read, or the same fault, unless memory was refused.
-abbrev pub IsRead : {A : Type 0} → Result DeviceAnswer Wrong → Result (Act A) Wrong → Type 0
-IsRead r (Ok act) = r ≡ Ok (told act)
-IsRead r (Err e) = (e ≡ Memory) ⊎ (r ≡ Err e)
+abbrev pub WasRead : {A : Type 0} → Result DeviceAnswer Wrong → Result (Act A) Wrong → Type 0
+WasRead r (Ok act) = r ≡ Ok (act_answer act)
+WasRead r (Err e) = (e ≡ Memory) ⊎ (r ≡ Err e)
 
 -- What contracts see of a session.
 abbrev pub session_of : {A : Type 0} → Session A → reads.Session
-session_of s = record { acts = map told s.acts.items; times = s.times.items; end = s.end }
+session_of s = record { acts = map act_answer s.acts.items; times = s.times.items; end = s.end }

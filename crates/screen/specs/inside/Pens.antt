@@ -10,16 +10,16 @@ use Rattle.screen.specs.inside.Strokes.{tokens_of}
 
 -- A text is appended to bytes that wait, some of which may be written now. Nothing is written after the first fault,
 -- and at it a prefix.
-abbrev pub Passes : List ℕ → Option CommandFault → List ℕ → Option (List ℕ) → Option (List ℕ) → List ℕ → Option CommandFault → Type 0
-Passes waiting None text old new later None = (sent : List ℕ) × (waiting ++ text ≡ sent ++ later) × Appends old new sent
-Passes waiting None text old new later (Some e) = AppendsFront old new (waiting ++ text)
-Passes waiting (Some e) text old new later None = ⊥
-Passes waiting (Some e) text old new later (Some f) = new ≡ old
+abbrev pub PassesOn : List ℕ → Option CommandFault → List ℕ → Option (List ℕ) → Option (List ℕ) → List ℕ → Option CommandFault → Type 0
+PassesOn waiting None text old new later None = (sent : List ℕ) × (waiting ++ text ≡ sent ++ later) × Appends old new sent
+PassesOn waiting None text old new later (Some e) = AppendsFront old new (waiting ++ text)
+PassesOn waiting (Some e) text old new later None = ⊥
+PassesOn waiting (Some e) text old new later (Some f) = new ≡ old
 
 -- The strokes' text is appended to the pen's waiting bytes, some of which may be written now, and its colours stay.
-abbrev pub Puts : List Stroke → Option (List ℕ) → Pen → Option (List ℕ) → Pen → Type 0
-Puts strokes old pen new next =
-    (next.colors ≡ pen.colors) × Passes pen.waiting.bytes pen.fault (text_of (tokens_of pen.colors strokes)) old new next.waiting.bytes next.fault
+abbrev pub PutsStrokes : List Stroke → Option (List ℕ) → Pen → Option (List ℕ) → Pen → Type 0
+PutsStrokes strokes old pen new next =
+    (next.colors ≡ pen.colors) × PassesOn pen.waiting.bytes pen.fault (text_of (tokens_of pen.colors strokes)) old new next.waiting.bytes next.fault
 
 -- The last bytes were written, and there was no fault before.
 abbrev pub Ends : List ℕ → Option CommandFault → Option (List ℕ) → Option (List ℕ) → Type 0

@@ -7,19 +7,19 @@ use Rattle.crossterm_style.specs.declared.types.color.Color.{Color}
 use Rattle.crossterm_style.specs.declared.types.color.Color.TheVariants as color
 use Rattle.crossterm_style.specs.Acts.{style_acts}
 use Rattle.crossterm_style.specs.Appearance.{FitsAct}
-use Rattle.crossterm_style.specs.Attributes.{has}
+use Rattle.crossterm_style.specs.Attributes.{has_attribute}
 use Rattle.screen.specs.declared.settings.Setting.{Setting}
 use Rattle.screen.specs.declared.settings.Setting.TheVariants as setting
 
 -- The colour that is written for a wanted one, or the terminal's own if none is wanted.
-abbrev pub written : Option Color → Color
-written None = color.Reset
-written (Some c) = c
+abbrev pub written_color : Option Color → Color
+written_color None = color.Reset
+written_color (Some c) = c
 
 -- What is written turns one colour into another: nothing if they are the same, otherwise the other one.
 abbrev pub Changes : Option Color → Option Color → Option Color → Type 0
 Changes from to None = from ≡ to
-Changes from to (Some c) = (from ≢ to) × (c ≡ written to)
+Changes from to (Some c) = (from ≢ to) × (c ≡ written_color to)
 
 -- A change of colours alone turns the colours of one style into those of another.
 pub record Recolors (from to change : ContentStyle) : Type 0 where
@@ -30,7 +30,7 @@ pub record Recolors (from to change : ContentStyle) : Type 0 where
 
 -- The attributes are the same, and none of them clears the colours.
 abbrev pub HasSameRest : ContentStyle → ContentStyle → Type 0
-HasSameRest from to = (has to.attributes.0 Reset ≡ false) × (from.attributes ≡ to.attributes)
+HasSameRest from to = (has_attribute to.attributes.0 Reset ≡ false) × (from.attributes ≡ to.attributes)
 
 -- The setting turns one style into another: nothing if they are the same, only colours if the attributes are the
 -- same, or all.
@@ -45,10 +45,10 @@ Sets None to how = how ≡ setting.Whole to
 Sets (Some from) to how = SetsFrom from to how
 
 -- The numbers of the setting's colours are bytes.
-abbrev pub Fits : Setting → Type 0
-Fits setting.Kept = ⊤
-Fits (setting.Colors change) = AllByRecursion FitsAct (style_acts change)
-Fits (setting.Whole s) = AllByRecursion FitsAct (style_acts s)
+abbrev pub HasByteColors : Setting → Type 0
+HasByteColors setting.Kept = ⊤
+HasByteColors (setting.Colors change) = AllByRecursion FitsAct (style_acts change)
+HasByteColors (setting.Whole s) = AllByRecursion FitsAct (style_acts s)
 
 -- Whether nothing is written.
 abbrev pub is_kept : Setting → Bool

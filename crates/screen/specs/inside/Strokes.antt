@@ -9,7 +9,7 @@ use Rattle.crossterm_command.specs.declared.color_output.ColorOutput.TheVariants
 use Rattle.crossterm_style.specs.declared.content_style.ContentStyle.{ContentStyle}
 use Rattle.crossterm_style.specs.declared.types.attribute.Attribute.TheVariants.{Reset}
 use Rattle.crossterm_style.specs.Acts.{style_acts}
-use Rattle.crossterm_style.specs.Styles.{attribute_functions, no_style, told}
+use Rattle.crossterm_style.specs.Styles.{attribute_functions, no_style, act_tokens}
 use Rattle.crossterm.specs.Sequences.{clear, move_to}
 use Rattle.crossterm.specs.declared.terminal.ClearType.TheVariants.{All}
 use Rattle.screen.specs.declared.settings.Setting.{Setting}
@@ -20,7 +20,7 @@ use Rattle.screen.specs.Cells.{Cell, IsPrinted}
 
 -- The tokens that set colours, or none if colours aren't written.
 abbrev pub color_tokens : ColorOutput → ContentStyle → List Token
-color_tokens Enabled change = told Enabled (style_acts change)
+color_tokens Enabled change = act_tokens Enabled (style_acts change)
 color_tokens Disabled change = []
 
 -- The tokens of a stroke.
@@ -29,7 +29,7 @@ tokens colors stroke.Begin = set "2026"
 tokens colors stroke.End = reset "2026"
 tokens colors stroke.Erase = clear All
 tokens colors (stroke.Move column row) = move_to column row
-tokens colors (stroke.Style s) = attribute_functions Reset ++ told colors (style_acts s)
+tokens colors (stroke.Style s) = attribute_functions Reset ++ act_tokens colors (style_acts s)
 tokens colors (stroke.Colors change) = color_tokens colors change
 tokens colors (stroke.Print c) = Char c ∷ []
 tokens colors stroke.Show = set "25"

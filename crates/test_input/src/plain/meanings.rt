@@ -3,7 +3,7 @@ ghost use Rattle.std.specs.Prelude.{◌≡◌};
 ghost use Rattle.crossterm_parse.specs.Transitions.{readings_at, reading};
 ghost use Rattle.crossterm_parse.specs.Meaning.{character_meaning, x10_meaning, reply_meaning, csi_meaning, escape_meaning, meaning};
 ghost use Rattle.crossterm_parse.specs.Number.{number};
-ghost use Rattle.crossterm_parse.specs.Numbered.{numbered, readings_of, sgr};
+ghost use Rattle.crossterm_parse.specs.Numbered.{numbered_meaning, readings_of, sgr_meaning};
 
 use crossterm_parse::meaning::{
     Meaning, meaning_after_csi, meaning_after_ss3, meaning_of_byte, meaning_of_character,
@@ -48,7 +48,7 @@ fn read_number(text: &[u8]) -> Number
 
 /// What a numbered sequence means, from the first digit on.
 fn meaning_of_number(bytes: &[u8], raw: bool) -> Option<Meaning>
-    ensures { result ≡ numbered raw bytes.now }
+    ensures { result ≡ numbered_meaning raw bytes.now }
 {
     match bytes {
         [] => None,
@@ -58,7 +58,7 @@ fn meaning_of_number(bytes: &[u8], raw: bool) -> Option<Meaning>
 
 /// What a report of the mouse in digits means, from the byte after `<` on.
 fn meaning_of_report(bytes: &[u8]) -> Option<Meaning>
-    ensures { result ≡ sgr bytes.now }
+    ensures { result ≡ sgr_meaning bytes.now }
 {
     match bytes {
         [] => None,

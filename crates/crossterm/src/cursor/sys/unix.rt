@@ -13,7 +13,7 @@ ghost use Rattle.crossterm_read.specs.Replies.{Replied, position_said, shown};
 ghost use Rattle.crossterm_read.specs.Seats.{knows};
 ghost use Rattle.crossterm_read.specs.Shared.{IsPassOf};
 ghost use Rattle.crossterm_read.specs.Steps.{RefusedOnlyWithoutRoom, UpTo};
-ghost use Rattle.crossterm_read.specs.Store.{capacity};
+ghost use Rattle.crossterm_read.specs.Store.{reader_capacity};
 
 use crate::csi;
 use crate::terminal::sys::unix::{ModeDevice, QUERY_MILLIS, Terminal, send_query};
@@ -40,7 +40,7 @@ pub fn position_within<S: EventSource<A>, A: Allocator + Clone>(
         × QueryStep is_cursor_position (UpTo tries) zs reader.old.store reader.new.store r × (position_said result ≡ shown r)
         × IfErr result (λ e. RefusedOnlyWithoutRoom reader.old.room zs (error_kind e)) }
     ensures at_once { AsksAtOnce (S.asked reader.old.source) (S.asked reader.new.source) }
-    ensures room { capacity reader.old ≤ capacity reader.new }
+    ensures room { reader_capacity reader.old ≤ reader_capacity reader.new }
     ensures rise { S.failed reader.old.source ≤ S.failed reader.new.source }
     ensures err { IfErr result (λ e. (error_kind e ≡ Other) ⊎ IsOwn (error_kind e) ⊎ (S.failed reader.old.source < S.failed reader.new.source)) }
 {

@@ -16,7 +16,7 @@ ghost use Rattle.std.specs.Io.KnownBytes.{Appends, Consumes};
 ghost use Rattle.crossterm_command.specs.Writing.{AppendsFront};
 ghost use Rattle.crossterm.specs.Modes.{Sets};
 ghost use Rattle.crossterm.specs.Sizes.{both, size_in};
-ghost use Rattle.crossterm.specs.Stty.{AsksNoSize, AsksSize, IsMode, ReadsNoLine, ReadsNoMode, ReadsNoSize, Stty, line, stty_answered};
+ghost use Rattle.crossterm.specs.Stty.{AsksNoSize, AsksSize, IsMode, ReadsNoLine, ReadsNoMode, ReadsNoSize, Stty, line_of, stty_answered};
 
 use crate::terminal::size::{WindowSize, tput_size};
 use crate::terminal::sys::unix::{ModeDevice, send_query};
@@ -76,7 +76,7 @@ fn read_byte<R: Read>(answers: &mut R) -> io::Result<u8>
 
 // Reads one line, and gives it without its end.
 fn read_line<R: Read>(answers: &mut R) -> io::Result<ArrayString<LONGEST>>
-    ensures ok { IfOk result (λ text. Consumes (R.remaining answers.old) (R.remaining answers.new) (line text.bytes)) }
+    ensures ok { IfOk result (λ text. Consumes (R.remaining answers.old) (R.remaining answers.new) (line_of text.bytes)) }
     ensures err { OnErr result (ReadsNoLine (R.remaining answers.old) (R.remaining answers.new)) }
 {
     let mut text = ArrayString::<LONGEST>::new();
@@ -97,7 +97,7 @@ fn read_line<R: Read>(answers: &mut R) -> io::Result<ArrayString<LONGEST>>
 
 // Reads a mode.
 fn read_mode<R: Read>(answers: &mut R) -> io::Result<SttyMode>
-    ensures ok { IfOk result (λ mode. Consumes (R.remaining answers.old) (R.remaining answers.new) (line mode.text.bytes) × IsMode mode.text.bytes) }
+    ensures ok { IfOk result (λ mode. Consumes (R.remaining answers.old) (R.remaining answers.new) (line_of mode.text.bytes) × IsMode mode.text.bytes) }
     ensures err { OnErr result (ReadsNoMode (R.remaining answers.old) (R.remaining answers.new)) }
 {
     match read_line(answers) {
@@ -111,7 +111,7 @@ fn read_mode<R: Read>(answers: &mut R) -> io::Result<SttyMode>
 
 // Reads a size: a line of rows, and a line of columns. Returns columns and rows.
 fn read_size<R: Read>(answers: &mut R) -> io::Result<(u16, u16)>
-    ensures ok { IfOk result (λ size. (rows : List ℕ) × (columns : List ℕ) × Consumes (R.remaining answers.old) (R.remaining answers.new) (line rows ++ line columns)
+    ensures ok { IfOk result (λ size. (rows : List ℕ) × (columns : List ℕ) × Consumes (R.remaining answers.old) (R.remaining answers.new) (line_of rows ++ line_of columns)
         × (both (size_in columns) (size_in rows) ≡ Some size)) }
     ensures err { OnErr result (ReadsNoSize (R.remaining answers.old) (R.remaining answers.new)) }
 {
@@ -137,8 +137,8 @@ impl<R: Read + Drop, W: Write + Drop> SttyDevice<R, W> {
     /// Those of the reader and the writer, `UnexpectedEof` if the helper is gone among them; `InvalidData` if what it answers is no line;
     /// `Other` if it refuses.
     pub fn new(mut answers: R, mut requests: W) -> io::Result<Self>
-        ensures { IfOk result (λ s. Appends (W.contents requests) (W.contents s.requests) (line (codes "mode"))
-            × Consumes (R.remaining answers) (R.remaining s.answers) (line s.mode.text.bytes) × IsMode s.mode.text.bytes × (s.failures ≡ 0)) }
+        ensures { IfOk result (λ s. Appends (W.contents requests) (W.contents s.requests) (line_of (codes "mode"))
+            × Consumes (R.remaining answers) (R.remaining s.answers) (line_of s.mode.text.bytes) × IsMode s.mode.text.bytes × (s.failures ≡ 0)) }
     {
         send_query(&mut requests, "mode\n")?;
         let mode = read_mode(&mut answers)?;
@@ -153,7 +153,7 @@ impl<R: Read + Drop, W: Write + Drop> SttyDevice<R, W> {
     // Asks by a line, and keeps the mode that is reported for it.
     fn ask_mode(&mut self, request: &str) -> io::Result<()>
         ensures ok { OnOk result (Appends (W.contents self.old.requests) (W.contents self.new.requests) request.now
-            × Consumes (R.remaining self.old.answers) (R.remaining self.new.answers) (line self.new.mode.text.bytes) × IsMode self.new.mode.text.bytes) }
+            × Consumes (R.remaining self.old.answers) (R.remaining self.new.answers) (line_of self.new.mode.text.bytes) × IsMode self.new.mode.text.bytes) }
         ensures err { OnErr result (AppendsFront (W.contents self.old.requests) (W.contents self.new.requests) request.now
             × ReadsNoMode (R.remaining self.old.answers) (R.remaining self.new.answers) × (self.new.mode ≡ self.old.mode)) }
         ensures failures { self.new.failures ≡ self.old.failures }

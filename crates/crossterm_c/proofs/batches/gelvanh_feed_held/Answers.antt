@@ -2,7 +2,7 @@ use Rattle.std.proofs.Common.{rules, List, [], ◌+◌, ◌-◌, ◌∷◌, ◌+
 use Rattle.crossterm_parse.specs.Marked.{marked}
 use Rattle.crossterm_parse.specs.declared.state.State.{State}
 use Rattle.crossterm_c.specs.Feeding.{Feeds}
-use Rattle.crossterm_c.specs.Held.{FeedsHeld, numbered}
+use Rattle.crossterm_c.specs.Held.{FeedsHeld, held_from}
 use Rattle.crossterm_c.specs.State.{state_at}
 use Rattle.crossterm_c.specs.declared.held.GelvanhHeld.{GelvanhHeld}
 use Rattle.crossterm_c.specs.declared.held.GelvanhReader.{GelvanhReader}
@@ -18,7 +18,7 @@ returns-clause-held c =
     let end = c.feed-taken.new.table.end in
     let bytes = take c.feed-taken.result c.args.piece.now in
     let taken = take c.feed-taken.result (marked c.args.piece.now c.args.more c.args.raw) in
-    let more = numbered c.args.reader.now.arrivals fills.given in
+    let more = held_from c.args.reader.now.arrivals fills.given in
     let size = length_numbered c.args.reader.now.arrivals fills.given in
     let left : GelvanhReader = record { first = first; held = end - first; arrivals = c.feed-taken.new.table.number } in
     subst (λ (table : List GelvanhHeld). FeedsHeld old (state_at c.flatten.result) c.args.reader.now c.args.table.now left table (end - (first + c.span-first.result.1)) bytes taken)

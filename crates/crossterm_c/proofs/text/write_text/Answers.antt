@@ -1,7 +1,7 @@
 use Rattle.std.proofs.Common.{rules, ◌+◌, ◌-◌, ◌++◌, ◌∙◌, ℕ, List, ap, sym, subst, take, length, arith}
 use Rattle.std.proofs.lemmas.List.{take_rest}
 use Rattle.std.proofs.lemmas.Slice.{take-put_mid}
-use Rattle.crossterm_c.specs.Text.{Begins}
+use Rattle.crossterm_c.specs.Text.{TextBeginsWith}
 use Rattle.crossterm_c.proofs.TextLaws.{begins_on}
 use Rattle.crossterm_c.proofs.text.write_text.Goals as goal
 
@@ -15,7 +15,7 @@ loop-place-preserved c =
     record {
       within = omega (arith, c.front_of-read.ensures.within);
       fits = search rules;
-      text = subst (λ (xs : List ℕ). Begins c.args.bytes.now xs (c.loop-place.place + c.front_of-read.result.1)) (sym longer)
+      text = subst (λ (xs : List ℕ). TextBeginsWith c.args.bytes.now xs (c.loop-place.place + c.front_of-read.result.1)) (sym longer)
           (begins_on c.args.bytes.now (take c.loop-place.written c.loop-place.text) front c.loop-place.place c.front_of-read.result.1 c.loop-place.invariant.text
-          (subst (λ (xs : List ℕ). Begins xs front c.front_of-read.result.1) (take_rest c.args.bytes.now c.loop-place.place) c.front_of-read.ensures.text));
+          (subst (λ (xs : List ℕ). TextBeginsWith xs front c.front_of-read.result.1) (take_rest c.args.bytes.now c.loop-place.place) c.front_of-read.ensures.text));
     }

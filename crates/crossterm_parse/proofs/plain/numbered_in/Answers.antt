@@ -1,5 +1,5 @@
 use Rattle.std.proofs.Common.{rules, ◌+◌, ◌-◌, arith, refl, take, drop, length}
-use Rattle.crossterm_parse.specs.inside.Plain.{in_kind, in_second, read}
+use Rattle.crossterm_parse.specs.inside.Plain.{in_kind, in_second, kept_of}
 use Rattle.crossterm_parse.specs.declared.number.Number.TheVariants.{Empty}
 use Rattle.crossterm_parse.specs.declared.state.State.TheVariants.{Csi}
 use Rattle.crossterm_parse.proofs.PlainLaws.{first_field, last_number, number_goes_on, number_opens, one_number, opened, reads_kind, reads_second}
@@ -32,4 +32,4 @@ returns c =
     c.ended-2.ensures bytes
     (last_number (in_kind x y) (reads_kind x y) bytes (first.count + mask.count) 58 c.in_ok-kind.kind c.with_kind.result
     (omega (arith, c.in_ok-first.ensures.within, c.in_ok-mask.ensures.within, rest_size bytes first.count))
-    (opens_on Csi (opened (read (in_second x Empty) 59)) (opened (read (in_kind x y Empty) 58)) bytes first.count mask.count one two) c.in_ok-kind.ensures c.with_kind.ensures)
+    (opens_on Csi (opened (kept_of (in_second x Empty) 59)) (opened (kept_of (in_kind x y Empty) 58)) bytes first.count mask.count one two) c.in_ok-kind.ensures c.with_kind.ensures)

@@ -1,6 +1,6 @@
 //! The kinds of events that a reader holds, and places in their queues.
 ghost use Rattle.std.specs.Prelude.{◌≡◌, ◌+◌, ◌-◌, ◌^◌, ◌<◌, if◌then◌else◌};
-ghost use Rattle.crossterm_read.specs.inside.Kinds.{has, kind_of, place_of, same_kind};
+ghost use Rattle.crossterm_read.specs.inside.Kinds.{has_class, kind_of, queue_place, same_kind};
 
 use crossterm_types::event::InternalEvent;
 use crossterm_types::event::filter::Classes;
@@ -29,7 +29,7 @@ impl Kind {
 
     // Whether the kind is one of these classes.
     pub(crate) fn is_in(self, classes: Classes) -> bool
-        ensures { result ≡ has classes self }
+        ensures { result ≡ has_class classes self }
     {
         match self {
             Kind::Event => classes.event,
@@ -59,7 +59,7 @@ impl Places {
     };
 
     pub(crate) fn of(self, kind: Kind) -> usize
-        ensures { result ≡ place_of self kind }
+        ensures { result ≡ queue_place self kind }
     {
         match kind {
             Kind::Event => self.event,
@@ -71,8 +71,8 @@ impl Places {
 
     // One place further in this queue.
     pub(crate) fn after(self, kind: Kind) -> Self
-        requires { place_of self kind < 2 ^ 64 - 1 }
-        ensures { (other : Kind) → place_of result other ≡ (if same_kind other kind then place_of self other + 1 else place_of self other) }
+        requires { queue_place self kind < 2 ^ 64 - 1 }
+        ensures { (other : Kind) → queue_place result other ≡ (if same_kind other kind then queue_place self other + 1 else queue_place self other) }
     {
         match kind {
             Kind::Event => Places {

@@ -3,8 +3,8 @@ ghost use Rattle.std.specs.Prelude.{◌≡◌, ℕ, ◌+◌, ◌<◌, ◌≤◌,
 ghost use Rattle.std.specs.List.{AllByRecursion};
 ghost use Rattle.std.specs.VecDeque.{deque_len, deque_capacity};
 ghost use Rattle.crossterm_types.specs.Seen.{seen};
-ghost use Rattle.crossterm_read.specs.inside.Kinds.{has, kind_of, place_of, same_kind};
-ghost use Rattle.crossterm_read.specs.inside.Queues.{AreJoined, Finds, HaveRoom, IsEarliest, Joins, SameQueues, Takes, all_kinds, behind, earlier_of, joined, member_kept, numbered_anew, queue_of};
+ghost use Rattle.crossterm_read.specs.inside.Kinds.{has_class, kind_of, queue_place, same_kind};
+ghost use Rattle.crossterm_read.specs.inside.Queues.{AreJoined, FindsPlace, HaveRoom, IsEarliest, Joins, SameQueues, TakesMember, all_kinds, behind, earlier_of, joined, member_kept, numbered_anew, queue_of};
 
 use super::kind::{Kind, Place, Places};
 use crossterm_types::event::InternalEvent;
@@ -132,7 +132,7 @@ impl<A: Allocator> Queues<A> {
 
     // The member of this kind at its place, if the kind is wanted.
     fn front(&self, wanted: Classes, at: Places, kind: Kind) -> Option<Front<'_, A>>
-        ensures { IsEarliest (behind (queue_of self.now) at) (has wanted) (kind ∷ []) result }
+        ensures { IsEarliest (behind (queue_of self.now) at) (has_class wanted) (kind ∷ []) result }
     {
         if !kind.is_in(wanted) {
             return None;
@@ -143,7 +143,7 @@ impl<A: Allocator> Queues<A> {
 
     // The member with the least order number among those at their places.
     pub(crate) fn earliest(&self, wanted: Classes, at: Places) -> Option<Front<'_, A>>
-        ensures { IsEarliest (behind (queue_of self.now) at) (has wanted) all_kinds result }
+        ensures { IsEarliest (behind (queue_of self.now) at) (has_class wanted) all_kinds result }
     {
         let events = self.front(wanted, at, Kind::Event);
         let cursors = self.front(wanted, at, Kind::Cursor);
@@ -155,7 +155,7 @@ impl<A: Allocator> Queues<A> {
     // The place of the first member that is admitted.
     pub(crate) fn place<F: Filter>(&self, filter: &F) -> Option<Place>
         requires { AreJoined (queue_of self.now) }
-        ensures { Finds (λ m. F.admits filter.now (seen m.event)) (queue_of self.now) result }
+        ensures { FindsPlace (λ m. F.admits filter.now (seen m.event)) (queue_of self.now) result }
     {
         match filter.classes() {
             Some(classes) => match self.earliest(classes, Places::FRONTS) {
@@ -172,7 +172,7 @@ impl<A: Allocator> Queues<A> {
     // The place of the first member that is admitted, by a walk through all of them.
     fn walk<F: Filter>(&self, filter: &F) -> Option<Place>
         requires { AreJoined (queue_of self.now) }
-        ensures { Finds (λ m. F.admits filter.now (seen m.event)) (queue_of self.now) result }
+        ensures { FindsPlace (λ m. F.admits filter.now (seen m.event)) (queue_of self.now) result }
     {
         let mut at = Places::FRONTS;
         while let Some(front) = self.earliest(ALL, at) {
@@ -224,7 +224,7 @@ impl<A: Allocator> Queues<A> {
     // Takes the first member that is admitted.
     pub(crate) fn take<F: Filter>(&mut self, filter: &F) -> Option<Member<A>>
         requires { AreJoined (queue_of self.old) }
-        ensures takes { Takes (λ m. F.admits filter.now (seen m.event)) (queue_of self.old) (queue_of self.new) result }
+        ensures takes { TakesMember (λ m. F.admits filter.now (seen m.event)) (queue_of self.old) (queue_of self.new) result }
         ensures room { (n : ℕ) → HaveRoom self.old n → HaveRoom self.new n }
     {
         match self.place(filter) {

@@ -4,7 +4,7 @@ ghost use Rattle.std.specs.IoError.{error_kind};
 ghost use Rattle.std.specs.List.{range_with_len};
 ghost use Rattle.std.specs.declared.io.ErrorKind.TheVariants.{OutOfMemory};
 ghost use Rattle.crossterm_read.specs.History.{Closes, Meets, opened};
-ghost use Rattle.crossterm_read.specs.Seats.{knows, number};
+ghost use Rattle.crossterm_read.specs.Seats.{knows, pass_number};
 ghost use Rattle.crossterm_read.specs.Shared.{IsPassOf, IsShareOf};
 
 use crate::read::InternalEventReader;
@@ -46,8 +46,8 @@ impl<S: EventSource<A>, A: Allocator + Clone> EventReader<S, A> {
         reader: InternalEventReader<S, A>,
         passes: usize,
     ) -> io::Result<(EventReader<S, A>, Vec<Pass<S, A>, A>)>
-        ensures numbers { IfOk result (λ r. map number r.1.items ≡ range_with_len 0 passes) }
-        ensures passes { IfOk result (λ r. All (λ p. IsPassOf r.0 p × (knows p ≡ opened reader passes (number p))) r.1.items) }
+        ensures numbers { IfOk result (λ r. map pass_number r.1.items ≡ range_with_len 0 passes) }
+        ensures passes { IfOk result (λ r. All (λ p. IsPassOf r.0 p × (knows p ≡ opened reader passes (pass_number p))) r.1.items) }
         ensures err { IfErr result (λ e. error_kind e ≡ OutOfMemory) }
     {
         let others = passes.saturating_sub(1);

@@ -7,9 +7,9 @@ ghost use Rattle.crossbeam_queue.specs.Passes as queue;
 ghost use Rattle.crossbeam_queue.specs.Passes.{IsSamePass, ruled_capacity, view};
 ghost use Rattle.crossterm_types.specs.Timing.{HasElapsed, KeepsFirst};
 ghost use Rattle.crossterm_read.specs.History.{opened};
-ghost use Rattle.crossterm_read.specs.Seats.{IsSeatOf, knows, number};
+ghost use Rattle.crossterm_read.specs.Seats.{IsSeatOf, knows, pass_number};
 ghost use Rattle.crossterm_read.specs.Store.{ReaderState};
-ghost use Rattle.crossterm_read.specs.inside.Slot.{Produces, Learnt, Put, Took, first_of, one_less, one_more, taught};
+ghost use Rattle.crossterm_read.specs.inside.Slot.{ProducesCall, Learnt, Put, Took, first_pass, one_less, one_more, taught};
 
 use crate::read::InternalEventReader;
 use crate::read::shared::boxed::Boxed;
@@ -44,7 +44,7 @@ impl<S: EventSource<A>, A: Allocator + Clone> Room<S, A> {
         others: usize,
     ) -> io::Result<(Room<S, A>, Seat<S, A>)>
         requires { M.others ≡ others }
-        ensures first { IfOk result (λ r. queue.IsPassOf r.0.slot r.1 × (view r.1 ≡ first_of reader others others)) }
+        ensures first { IfOk result (λ r. queue.IsPassOf r.0.slot r.1 × (view r.1 ≡ first_pass reader others others)) }
         ensures err { IfErr result (λ e. error_kind e ≡ OutOfMemory) }
     {
         let waker = reader.waker()?;
@@ -75,9 +75,9 @@ impl<S: EventSource<A>, A: Allocator> Room<S, A> {
         passes: usize,
     ) -> io::Result<Vec<Pass<S, A>, A>>
         requires seat { queue.IsPassOf self.now.slot first }
-        requires first { (o : ReaderState S) × (view first ≡ first_of o (passes - 1) (passes - 1)) }
-        ensures numbers { IfOk result (λ made. map number made.items ≡ range_with_len 0 passes) }
-        ensures passes { IfOk result (λ made. (o : ReaderState S) → view first ≡ first_of o (passes - 1) (passes - 1) → All (λ p. IsSeatOf self.now.slot p × (knows p ≡ opened o passes (number p))) made.items) }
+        requires first { (o : ReaderState S) × (view first ≡ first_pass o (passes - 1) (passes - 1)) }
+        ensures numbers { IfOk result (λ made. map pass_number made.items ≡ range_with_len 0 passes) }
+        ensures passes { IfOk result (λ made. (o : ReaderState S) → view first ≡ first_pass o (passes - 1) (passes - 1) → All (λ p. IsSeatOf self.now.slot p × (knows p ≡ opened o passes (pass_number p))) made.items) }
         ensures err { IfErr result (λ e. error_kind e ≡ OutOfMemory) }
     {
         let mut made = Vec::with_capacity(alloc, passes)?;
@@ -95,7 +95,7 @@ impl<S: EventSource<A>, A: Allocator> Room<S, A> {
     // One of the passes that the first one represents.
     pub(crate) fn another(&self, first: &mut Seat<S, A>) -> Pass<S, A>
         requires seat { queue.IsPassOf self.now.slot first.old }
-        requires first { (o : ReaderState S) × (others : ℕ) × (left : ℕ) × (left < others) × (view first.old ≡ first_of o others (suc left)) }
+        requires first { (o : ReaderState S) × (others : ℕ) × (left : ℕ) × (left < others) × (view first.old ≡ first_pass o others (suc left)) }
         ensures seat { queue.IsPassOf self.now.slot first.new }
         ensures left { view first.new ≡ one_less (view first.old) }
         ensures table { result.seat.table_id ≡ self.now.slot.table.shared.table_id }
@@ -219,7 +219,7 @@ impl<S: EventSource<A>, A: Allocator> Room<S, A> {
         _about: &T,
     )
         requires seat { queue.IsPassOf self.now.slot seat.old }
-        requires produces { Produces S.drawn M.made (view seat.old) reader.value }
+        requires produces { ProducesCall S.drawn M.made (view seat.old) reader.value }
         ensures seat { IsSamePass seat.old seat.new }
         ensures put { Put S.drawn M.made (view seat.old) reader.value (view seat.new) }
     {

@@ -1,7 +1,7 @@
 //! The rule of the slot, and what each step on it says.
 ghost use Rattle.std.specs.Prelude.{◌≡◌, ℕ, List, [], ⊤};
 ghost use Rattle.crossterm_read.specs.History.{Entry};
-ghost use Rattle.crossterm_read.specs.inside.Slot.{Kept, Learnt, Put, Took, first_of, newcomer, one_less, one_more, taught};
+ghost use Rattle.crossterm_read.specs.inside.Slot.{SlotRule, Learnt, Put, Took, first_pass, newcomer, one_less, one_more, taught};
 
 use crate::read::shared::boxed::Boxed;
 use crate::read::shared::view::View;
@@ -15,7 +15,7 @@ use std::marker::{Brand, PhantomData};
 pub struct OneHistory;
 
 impl<S: EventSource<A>, A: Allocator> Protocol<Boxed<S, A>, View<S>> for OneHistory {
-    ghost holds = { Kept S.drawn };
+    ghost holds = { SlotRule S.drawn };
 
     ghost first = { newcomer };
 }
@@ -33,7 +33,7 @@ impl Others for Brand {
 pub struct Opens<M>(PhantomData<M>);
 
 impl<S: EventSource<A>, A: Allocator, M: Others> Outcome<Boxed<S, A>, View<S>> for Opens<M> {
-    ghost then = { λ v x w. w ≡ first_of x M.others M.others };
+    ghost then = { λ v x w. w ≡ first_pass x M.others M.others };
 }
 
 impl<S: EventSource<A>, A: Allocator, M: Others> Lesson<Boxed<S, A>, View<S>> for Opens<M> {

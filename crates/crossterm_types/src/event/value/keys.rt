@@ -1,7 +1,7 @@
 //! JSON values of keys.
 ghost use Rattle.std.specs.Prelude.{◌≡◌, IfOk, Some};
 ghost use Rattle.serde_json.specs.View.{view};
-ghost use Rattle.crossterm_flags.specs.Values.{Reads, Tells};
+ghost use Rattle.crossterm_flags.specs.Values.{ReadsJson, WritesJson};
 ghost use Rattle.crossterm_types.specs.Values.{FitsCode, FitsKey, code_value, holding_code, key_value, only_char, reads_code, reads_key};
 
 use crate::event::{KeyCode, KeyEvent, KeyEventState, KeyModifiers};
@@ -36,7 +36,7 @@ impl KeyCode {
     /// `Memory` if memory for it was refused.
     #[tactic(auto, using(crate::proofs::ValueLaws::code_back, crossterm_flags::proofs::ValueLaws::told_back))]
     pub fn to_value(&self, alloc: Global) -> Result<Value, ValueFault>
-        ensures tells { Tells (code_value self.now) result }
+        ensures tells { WritesJson (code_value self.now) result }
         ensures back { IfOk result (λ v. reads_code (view v) ≡ Some self.now) }
     {
         self.known();
@@ -45,7 +45,7 @@ impl KeyCode {
 
     /// The key as JSON.
     fn tell(self, alloc: Global) -> Result<Value, ValueFault>
-        ensures { Tells (code_value self) result }
+        ensures { WritesJson (code_value self) result }
     {
         match self {
             KeyCode::F(number) => tell_member(alloc, "F", Value::from(number)),
@@ -91,7 +91,7 @@ impl KeyCode {
     ///
     /// `Shape` if the JSON represents no key.
     pub fn from_value(value: &Value) -> Result<KeyCode, ValueFault>
-        ensures { Reads (λ x. x) (reads_code (view value.now)) result }
+        ensures { ReadsJson (λ x. x) (reads_code (view value.now)) result }
     {
         shaped(KeyCode::read(value))
     }
@@ -112,7 +112,7 @@ impl KeyEvent {
     /// `Memory` if memory for it was refused.
     #[tactic(auto, using(crate::proofs::ValueLaws::key_back, crossterm_flags::proofs::ValueLaws::told_back))]
     pub fn to_value(&self, alloc: Global) -> Result<Value, ValueFault>
-        ensures tells { Tells (key_value self.now) result }
+        ensures tells { WritesJson (key_value self.now) result }
         ensures back { IfOk result (λ v. reads_key (view v) ≡ Some self.now) }
     {
         self.known();
@@ -121,7 +121,7 @@ impl KeyEvent {
 
     /// The key as JSON.
     fn tell(self, alloc: Global) -> Result<Value, ValueFault>
-        ensures { Tells (key_value self) result }
+        ensures { WritesJson (key_value self) result }
     {
         let code = self.code.to_value(alloc)?;
         let kind = self.kind.to_value(alloc)?;
@@ -136,7 +136,7 @@ impl KeyEvent {
     ///
     /// `Shape` if the JSON is no such object.
     pub fn from_value(value: &Value) -> Result<KeyEvent, ValueFault>
-        ensures { Reads (λ x. x) (reads_key (view value.now)) result }
+        ensures { ReadsJson (λ x. x) (reads_key (view value.now)) result }
     {
         shaped(KeyEvent::read(value))
     }

@@ -1,7 +1,7 @@
 //! JSON values of the mouse.
 ghost use Rattle.std.specs.Prelude.{◌≡◌, IfOk, Some};
 ghost use Rattle.serde_json.specs.View.{view};
-ghost use Rattle.crossterm_flags.specs.Values.{Reads, Tells};
+ghost use Rattle.crossterm_flags.specs.Values.{ReadsJson, WritesJson};
 ghost use Rattle.crossterm_types.specs.Values.{FitsMouse, holding_mouse, mouse_kind_value, mouse_value, reads_mouse, reads_mouse_kind};
 
 use crate::event::{KeyModifiers, MouseEvent, MouseEventKind};
@@ -20,7 +20,7 @@ impl MouseEventKind {
     /// `Memory` if memory for it was refused.
     #[tactic(auto, using(crate::proofs::ValueLaws::mouse_kind_back, crossterm_flags::proofs::ValueLaws::told_back))]
     pub fn to_value(&self, alloc: Global) -> Result<Value, ValueFault>
-        ensures tells { Tells (mouse_kind_value self.now) result }
+        ensures tells { WritesJson (mouse_kind_value self.now) result }
         ensures back { IfOk result (λ v. reads_mouse_kind (view v) ≡ Some self.now) }
     {
         match self {
@@ -62,7 +62,7 @@ impl MouseEventKind {
     ///
     /// `Shape` if the JSON represents nothing that the mouse does.
     pub fn from_value(value: &Value) -> Result<MouseEventKind, ValueFault>
-        ensures { Reads (λ x. x) (reads_mouse_kind (view value.now)) result }
+        ensures { ReadsJson (λ x. x) (reads_mouse_kind (view value.now)) result }
     {
         shaped(MouseEventKind::read(value))
     }
@@ -81,7 +81,7 @@ impl MouseEvent {
     /// `Memory` if memory for it was refused.
     #[tactic(auto, using(crate::proofs::ValueLaws::mouse_back, crossterm_flags::proofs::ValueLaws::told_back))]
     pub fn to_value(&self, alloc: Global) -> Result<Value, ValueFault>
-        ensures tells { Tells (mouse_value self.now) result }
+        ensures tells { WritesJson (mouse_value self.now) result }
         ensures back { IfOk result (λ v. reads_mouse (view v) ≡ Some self.now) }
     {
         self.known();
@@ -90,7 +90,7 @@ impl MouseEvent {
 
     /// The mouse event as JSON.
     fn tell(self, alloc: Global) -> Result<Value, ValueFault>
-        ensures { Tells (mouse_value self) result }
+        ensures { WritesJson (mouse_value self) result }
     {
         let kind = self.kind.to_value(alloc)?;
         let column = self.column;
@@ -106,7 +106,7 @@ impl MouseEvent {
     ///
     /// `Shape` if the JSON is no such object.
     pub fn from_value(value: &Value) -> Result<MouseEvent, ValueFault>
-        ensures { Reads (λ x. x) (reads_mouse (view value.now)) result }
+        ensures { ReadsJson (λ x. x) (reads_mouse (view value.now)) result }
     {
         shaped(MouseEvent::read(value))
     }

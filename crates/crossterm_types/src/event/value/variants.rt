@@ -2,7 +2,7 @@
 ghost use Rattle.std.specs.Prelude.{◌≡◌, IfOk, Some};
 ghost use Rattle.serde_json.specs.Data.{string};
 ghost use Rattle.serde_json.specs.View.{view};
-ghost use Rattle.crossterm_flags.specs.Values.{Reads, Tells};
+ghost use Rattle.crossterm_flags.specs.Values.{ReadsJson, WritesJson};
 ghost use Rattle.crossterm_flags.specs.Variants.{reads_variant, variant};
 ghost use Rattle.crossterm_types.specs.Variants.{buttons, kinds, media_keys, modifier_keys, plain_keys, plain_mouse};
 
@@ -30,7 +30,7 @@ impl KeyEventKind {
     /// `Memory` if memory for it was refused.
     #[tactic(auto, using(crate::proofs::ValueLaws::kind_back, crossterm_flags::proofs::ValueLaws::told_back))]
     pub fn to_value(&self, alloc: Global) -> Result<Value, ValueFault>
-        ensures tells { Tells (string (variant kinds self.now)) result }
+        ensures tells { WritesJson (string (variant kinds self.now)) result }
         ensures back { IfOk result (λ v. reads_variant kinds (view v) ≡ Some self.now) }
     {
         tell_named(alloc, *self)
@@ -42,7 +42,7 @@ impl KeyEventKind {
     ///
     /// `Shape` if the JSON is no such text.
     pub fn from_value(value: &Value) -> Result<KeyEventKind, ValueFault>
-        ensures { Reads (λ x. x) (reads_variant kinds (view value.now)) result }
+        ensures { ReadsJson (λ x. x) (reads_variant kinds (view value.now)) result }
     {
         shaped(read_named(value))
     }
@@ -67,7 +67,7 @@ impl MediaKeyCode {
     /// `Memory` if memory for it was refused.
     #[tactic(auto, using(crate::proofs::ValueLaws::media_back, crossterm_flags::proofs::ValueLaws::told_back))]
     pub fn to_value(&self, alloc: Global) -> Result<Value, ValueFault>
-        ensures tells { Tells (string (variant media_keys self.now)) result }
+        ensures tells { WritesJson (string (variant media_keys self.now)) result }
         ensures back { IfOk result (λ v. reads_variant media_keys (view v) ≡ Some self.now) }
     {
         tell_named(alloc, *self)
@@ -79,7 +79,7 @@ impl MediaKeyCode {
     ///
     /// `Shape` if the JSON is no such text.
     pub fn from_value(value: &Value) -> Result<MediaKeyCode, ValueFault>
-        ensures { Reads (λ x. x) (reads_variant media_keys (view value.now)) result }
+        ensures { ReadsJson (λ x. x) (reads_variant media_keys (view value.now)) result }
     {
         shaped(read_named(value))
     }
@@ -104,7 +104,7 @@ impl ModifierKeyCode {
     /// `Memory` if memory for it was refused.
     #[tactic(auto, using(crate::proofs::ValueLaws::modifier_back, crossterm_flags::proofs::ValueLaws::told_back))]
     pub fn to_value(&self, alloc: Global) -> Result<Value, ValueFault>
-        ensures tells { Tells (string (variant modifier_keys self.now)) result }
+        ensures tells { WritesJson (string (variant modifier_keys self.now)) result }
         ensures back { IfOk result (λ v. reads_variant modifier_keys (view v) ≡ Some self.now) }
     {
         tell_named(alloc, *self)
@@ -116,7 +116,7 @@ impl ModifierKeyCode {
     ///
     /// `Shape` if the JSON is no such text.
     pub fn from_value(value: &Value) -> Result<ModifierKeyCode, ValueFault>
-        ensures { Reads (λ x. x) (reads_variant modifier_keys (view value.now)) result }
+        ensures { ReadsJson (λ x. x) (reads_variant modifier_keys (view value.now)) result }
     {
         shaped(read_named(value))
     }
@@ -138,7 +138,7 @@ impl MouseButton {
     /// `Memory` if memory for it was refused.
     #[tactic(auto, using(crate::proofs::ValueLaws::button_back, crossterm_flags::proofs::ValueLaws::told_back))]
     pub fn to_value(&self, alloc: Global) -> Result<Value, ValueFault>
-        ensures tells { Tells (string (variant buttons self.now)) result }
+        ensures tells { WritesJson (string (variant buttons self.now)) result }
         ensures back { IfOk result (λ v. reads_variant buttons (view v) ≡ Some self.now) }
     {
         tell_named(alloc, *self)
@@ -150,7 +150,7 @@ impl MouseButton {
     ///
     /// `Shape` if the JSON is no such text.
     pub fn from_value(value: &Value) -> Result<MouseButton, ValueFault>
-        ensures { Reads (λ x. x) (reads_variant buttons (view value.now)) result }
+        ensures { ReadsJson (λ x. x) (reads_variant buttons (view value.now)) result }
     {
         shaped(read_named(value))
     }

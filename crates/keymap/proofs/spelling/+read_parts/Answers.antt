@@ -11,7 +11,7 @@ returns-in-None k c = c.read_key.ensures ∙ sym (ap (λ l. spec.read_parts c.ar
 pub returns-else-is_empty-2 : goal.returns-else-is_empty-2
 returns-else-is_empty-2 k c =
     let more = parts_more _ _ _ (c.in-Some.ensures.byte (omega arith) (λ w o f. f)) in
-    let none = ap (λ w. w ∷ spec.parts c.in-Some.rest.now) (empty_is c.in-Some.word.now c.if-is_empty.ensures) in
+    let none = ap (λ w. w ∷ spec.hyphen_parts c.in-Some.rest.now) (empty_is c.in-Some.word.now c.if-is_empty.ensures) in
     sym (ap (λ l. spec.read_parts c.args.bits l) (more ∙ none) ∙ read_none c.args.bits c.in-Some.rest.now c.if-is_empty-2.ensures)
 
 pub returns-in-Some-value_in : goal.returns-in-Some-value_in
@@ -20,11 +20,11 @@ returns-in-Some-value_in k c =
     let bit = sym (c.in-Some-value_in.ensures ∙ ap (λ t. value_in t c.in-Some.word.now) c.modifier_words.ensures) in
     c.read_parts.ensures
     ∙ sym (ap (λ l. spec.read_parts c.args.bits l) more ∙ read_word c.args.bits c.in-Some.word.now c.in-Some.rest.now c.if-is_empty.ensures
-    ∙ ap (λ v. spec.read_modifier v (λ bit. spec.read_parts (bit_or c.args.bits bit) (spec.parts c.in-Some.rest.now))) bit)
+    ∙ ap (λ v. spec.read_modifier v (λ bit. spec.read_parts (bit_or c.args.bits bit) (spec.hyphen_parts c.in-Some.rest.now))) bit)
 
 pub returns-in-None-value_in : goal.returns-in-None-value_in
 returns-in-None-value_in k c =
     let more = parts_more _ _ _ (c.in-Some.ensures.byte (omega arith) (λ w o f. f)) in
     let none = sym (c.in-None-value_in.ensures ∙ ap (λ t. value_in t c.in-Some.word.now) c.modifier_words.ensures) in
     sym (ap (λ l. spec.read_parts c.args.bits l) more ∙ read_word c.args.bits c.in-Some.word.now c.in-Some.rest.now c.if-is_empty.ensures
-    ∙ ap (λ v. spec.read_modifier v (λ bit. spec.read_parts (bit_or c.args.bits bit) (spec.parts c.in-Some.rest.now))) none)
+    ∙ ap (λ v. spec.read_modifier v (λ bit. spec.read_parts (bit_or c.args.bits bit) (spec.hyphen_parts c.in-Some.rest.now))) none)

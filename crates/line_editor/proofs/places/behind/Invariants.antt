@@ -1,7 +1,7 @@
 use Rattle.std.proofs.Common.{◌≡◌, ◌≤◌}
 use Rattle.std.specs.Str.{IsCharBoundary}
 use Rattle.unicode_segmentation.specs.Segments.{chars_before, chars_from}
-use Rattle.line_editor.specs.Splits.{behind}
+use Rattle.line_editor.specs.Splits.{last_stop}
 use Rattle.line_editor.specs.Places.{stops}
 use Rattle.line_editor.proofs.places.behind.Given as goal
 
@@ -9,8 +9,8 @@ abbrev pub invariant-loop-place : goal.invariant-loop-place
 invariant-loop-place l = record {
   boundary : IsCharBoundary l.text l.place;
   on : l.place ≤ l.at;
-  same : behind (stops l.stop) (chars_before l.text l.at) (chars_from l.text l.at)
-      ≡ behind (stops l.stop) (chars_before l.text l.place) (chars_from l.text l.place);
+  same : last_stop (stops l.stop) (chars_before l.text l.at) (chars_from l.text l.at)
+      ≡ last_stop (stops l.stop) (chars_before l.text l.place) (chars_from l.text l.place);
 }
 
 abbrev pub decreases-loop-place : goal.decreases-loop-place

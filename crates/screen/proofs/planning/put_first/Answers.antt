@@ -1,7 +1,7 @@
 use Rattle.std.proofs.Common.{◌≡◌, ◌∷◌, [], false, subst, sym}
 use Rattle.crossterm_style.specs.Styles.{no_style}
 use Rattle.screen.specs.declared.strokes.Stroke.TheVariants as stroke
-use Rattle.screen.specs.inside.Pens.{Puts}
+use Rattle.screen.specs.inside.Pens.{PutsStrokes}
 use Rattle.screen.specs.inside.Strokes.{first_strokes}
 use Rattle.screen.proofs.Putting.{puts_both}
 use Rattle.screen.proofs.planning.put_first.Goals as goal
@@ -14,8 +14,8 @@ returns-then-not-is_known g c =
     let plain = held c.put-then-not-is_known.new.writer in
     let now = held c.put-then-not-is_known-2.new.writer in
     let unknown : c.args.is_known ≡ false = c.if-not-is_known.true in
-    let style : Puts (stroke.Style no_style ∷ []) begun c.put.new.pen plain c.put-then-not-is_known.new.pen =
-    subst (λ s. Puts (stroke.Style s ∷ []) begun c.put.new.pen plain c.put-then-not-is_known.new.pen) c.new.ensures c.put-then-not-is_known.ensures in
-    subst (λ b. Puts (first_strokes b) old c.args.pen.now now c.put-then-not-is_known-2.new.pen) (sym unknown)
+    let style : PutsStrokes (stroke.Style no_style ∷ []) begun c.put.new.pen plain c.put-then-not-is_known.new.pen =
+    subst (λ s. PutsStrokes (stroke.Style s ∷ []) begun c.put.new.pen plain c.put-then-not-is_known.new.pen) c.new.ensures c.put-then-not-is_known.ensures in
+    subst (λ b. PutsStrokes (first_strokes b) old c.args.pen.now now c.put-then-not-is_known-2.new.pen) (sym unknown)
     (puts_both (stroke.Begin ∷ []) (stroke.Style no_style ∷ stroke.Erase ∷ []) old begun now c.args.pen.now c.put.new.pen c.put-then-not-is_known-2.new.pen c.put.ensures
     (puts_both (stroke.Style no_style ∷ []) (stroke.Erase ∷ []) begun plain now c.put.new.pen c.put-then-not-is_known.new.pen c.put-then-not-is_known-2.new.pen style c.put-then-not-is_known-2.ensures))

@@ -1,10 +1,10 @@
 use Rattle.std.proofs.Common.{rules, ◌≡◌, ◌≢◌, ◌++◌, ◌+◌, ◌*◌, ◌<◌, ◌≤◌, ◌^◌, List, None, set, length, get_or, arith, true, false, sym, ap, ◌∙◌, subst, Some}
 use Rattle.std.proofs.lemmas.List.{get_or_default}
-use Rattle.screen.specs.Cells.{IsPrinted, Stands, blank, is_covered, is_wide, last_of}
+use Rattle.screen.specs.Cells.{IsPrinted, Stands, blank, is_covered, is_wide, last_place}
 use Rattle.screen.specs.Grids.{is_last, right_of}
 use Rattle.screen.specs.Updates.{HasToBePrinted}
 use Rattle.screen.specs.declared.strokes.Stroke.{Stroke}
-use Rattle.screen.specs.inside.Pens.{Puts}
+use Rattle.screen.specs.inside.Pens.{PutsStrokes}
 use Rattle.screen.specs.inside.Settings.{Sets}
 use Rattle.screen.specs.inside.Strokes.{AreFitting, cell_strokes, first_strokes}
 use Rattle.screen.proofs.Putting.{puts_both}
@@ -61,14 +61,14 @@ loop-at-preserved g c =
     let high : h < 2 ^ 32 = omega arith in
     let pb = c.requires.before_paired in
     let pa = c.requires.after_paired in
-    let inv : (strokes : List Stroke) × Stage known w h before after strokes c.loop-at.cursor c.loop-at.style k × AreFitting strokes × Puts strokes old c.args.pen.now (held c.loop-at.writer) c.loop-at.pen
+    let inv : (strokes : List Stroke) × Stage known w h before after strokes c.loop-at.cursor c.loop-at.style k × AreFitting strokes × PutsStrokes strokes old c.args.pen.now (held c.loop-at.writer) c.loop-at.pen
     × AreCopied before after c.loop-at.before k × (k ≤ length after) × (k < length after → get_or c.loop-at.before k blank ≢ get_or after k blank) = c.loop-at.invariant in
     let strokes = inv.0 in
     let stage = inv.1 in
     let copied = inv.4 in
     let differ : b ≢ cell = λ e. inv.6 la (copied.rest k (omega arith) ∙ e ∙ sym ec ∙ get_or_default after k cell blank la) in
     let j = c.if-not-is_covered in
-    let visited : (more : List Stroke) × Stage known w h before after more j.cursor j.style (k + 1) × AreFitting more × Puts more old c.args.pen.now (held j.writer) j.pen =
+    let visited : (more : List Stroke) × Stage known w h before after more j.cursor j.style (k + 1) × AreFitting more × PutsStrokes more old c.args.pen.now (held j.writer) j.pen =
     elim c.if-not-is_covered.branch [
       | then-not-is_covered p ↦
           let place = p.place_of-place.result in
@@ -80,7 +80,7 @@ loop-at-preserved g c =
           let fits : IsPrinted cell.symbol = stands_printed cell uncovered stands in
           let room : is_wide cell ≡ true → is_last w k ≡ false = λ y. c.requires.rows k cell la (ap is_wide ec ∙ y) in
           let more = cell_strokes there how place.0 place.1 cell in
-          let next = right_of w (last_of k cell) in
+          let next = right_of w (last_place k cell) in
           let cursor : j.cursor ≡ next = ◌∙◌ {b = right_of w p.last_of.result} {c = next} (◌∙◌ {b = p.right_of-cursor.result} {c = right_of w p.last_of.result} p.cursor-is p.right_of-cursor.ensures) (ap (right_of w) p.last_of.ensures.value) in
           let set_now : j.style ≡ Some cell.style = search rules in
           let sets = subst (λ s. Sets c.loop-at.style s how) p.packed_style.ensures p.setting_of-setting.ensures.sets in
@@ -90,12 +90,12 @@ loop-at-preserved g c =
             counted = paints_counted before after k strokes b cell there how place.1 place.0 kb la eb ec prints stage.counted;
             sparing = spares_painted known w before after k c.loop-at.cursor c.loop-at.style strokes b cell there how place.0 place.1 kb la eb ec prints p.is_at-there.ensures sets stage.sparing;
           } in
-          let put : Puts (strokes ++ more) old c.args.pen.now (held p.paint.new.writer) p.paint.new.pen =
+          let put : PutsStrokes (strokes ++ more) old c.args.pen.now (held p.paint.new.writer) p.paint.new.pen =
           puts_both strokes more old (held c.loop-at.writer) (held p.paint.new.writer) c.args.pen.now c.loop-at.pen p.paint.new.pen inv.3 p.paint.ensures in (
             strokes ++ more,
             subst (λ o. Stage known w h before after (strokes ++ more) o j.style (k + 1)) (sym cursor) (subst (λ o. Stage known w h before after (strokes ++ more) next o (k + 1)) (sym set_now) painted),
             paints_fitting strokes there how place.0 place.1 cell fits inv.2,
-            subst (λ n. Puts (strokes ++ more) old c.args.pen.now (held n) j.pen) (sym p.writer-is) (subst (λ n. Puts (strokes ++ more) old c.args.pen.now (held p.paint.new.writer) n) (sym p.pen-is) put),
+            subst (λ n. PutsStrokes (strokes ++ more) old c.args.pen.now (held n) j.pen) (sym p.writer-is) (subst (λ n. PutsStrokes (strokes ++ more) old c.args.pen.now (held p.paint.new.writer) n) (sym p.pen-is) put),
           )
       | else-not-is_covered q ↦
           let covered : is_covered cell ≡ true = search rules in
@@ -109,7 +109,7 @@ loop-at-preserved g c =
             strokes,
             subst (λ o. Stage known w h before after strokes o j.style (k + 1)) (sym q.cursor-is) (subst (λ o. Stage known w h before after strokes c.loop-at.cursor o (k + 1)) (sym q.style-is) kept),
             inv.2,
-            subst (λ n. Puts strokes old c.args.pen.now (held n) j.pen) (sym q.writer-is) (subst (λ n. Puts strokes old c.args.pen.now (held c.loop-at.writer) n) (sym q.pen-is) inv.3),
+            subst (λ n. PutsStrokes strokes old c.args.pen.now (held n) j.pen) (sym q.writer-is) (subst (λ n. PutsStrokes strokes old c.args.pen.now (held c.loop-at.writer) n) (sym q.pen-is) inv.3),
           )
     ] in
     let next = c.next_difference-at-in-loop-at in
@@ -137,7 +137,7 @@ returns-clause-strokes g c =
     let lb : length before ≡ w * h = within_length known w h before c.requires.before in
     let la : length after ≡ w * h = c.requires.length in
     let long : w * h ≤ k = omega (arith, la, c.loop-at-test.false) in
-    let inv : (strokes : List Stroke) × Stage known w h before after strokes c.loop-at.cursor c.loop-at.style k × AreFitting strokes × Puts strokes (held c.args.writer.now) c.args.pen.now (held c.loop-at.writer) c.loop-at.pen
+    let inv : (strokes : List Stroke) × Stage known w h before after strokes c.loop-at.cursor c.loop-at.style k × AreFitting strokes × PutsStrokes strokes (held c.args.writer.now) c.args.pen.now (held c.loop-at.writer) c.loop-at.pen
     × AreCopied before after c.loop-at.before k × (k ≤ length after) × (k < length after → get_or c.loop-at.before k blank ≢ get_or after k blank) = c.loop-at.invariant in
     let few = spares_all known w k before after c.loop-at.cursor c.loop-at.style inv.0 (omega (arith, lb, long)) (omega (arith, la, long)) inv.1.sparing in
     (inv.0, ends known k w h before after c.loop-at.cursor c.loop-at.style inv.0 lb la long inv.1.reached inv.1.counted few, inv.2, inv.3)

@@ -2,7 +2,7 @@
 use Rattle.std.proofs.Common.{◌≢◌, ◌-◌, ◌<◌, ◌≤◌, List, get_or, length}
 use Rattle.screen.specs.Cells.{blank}
 use Rattle.screen.specs.declared.strokes.Stroke.{Stroke}
-use Rattle.screen.specs.inside.Pens.{Puts}
+use Rattle.screen.specs.inside.Pens.{PutsStrokes}
 use Rattle.screen.specs.inside.Strokes.{AreFitting}
 use Rattle.screen.proofs.Skips.{AreCopied, Stage}
 use Rattle.screen.proofs.planning.scan.Given as goal
@@ -12,7 +12,7 @@ invariant-loop-at g l =
     (strokes : List Stroke)
     × Stage l.fn.is_known l.width l.height l.fn.before l.fn.after strokes l.cursor l.style l.at
     × AreFitting strokes
-    × Puts strokes (g.W.Write.contents l.fn.writer) l.fn.pen (g.W.Write.contents l.writer) l.pen
+    × PutsStrokes strokes (g.W.Write.contents l.fn.writer) l.fn.pen (g.W.Write.contents l.writer) l.pen
     × AreCopied l.fn.before l.fn.after l.before l.at
     × (l.at ≤ length l.fn.after)
     × (l.at < length l.fn.after → get_or l.before l.at blank ≢ get_or l.fn.after l.at blank)

@@ -1,6 +1,6 @@
 use Rattle.std.proofs.Common.{◌++◌, ◌<◌, ◌^◌, List, arith}
 use Rattle.screen.specs.declared.strokes.Stroke.{Stroke}
-use Rattle.screen.specs.inside.Pens.{Puts}
+use Rattle.screen.specs.inside.Pens.{PutsStrokes}
 use Rattle.screen.specs.inside.Scans.{Visited}
 use Rattle.screen.specs.inside.Strokes.{AreFitting, last_strokes}
 use Rattle.screen.proofs.Frames.{fitting, planned}
@@ -17,7 +17,7 @@ returns-in-Ok-clause-ok g c =
     let h = c.args.size.1 in
     let wide : w < 2 ^ 32 = omega arith in
     let high : h < 2 ^ 32 = omega arith in
-    let scanned : (strokes : List Stroke) × Visited c.args.is_known w h c.args.before.now c.args.after.now strokes × AreFitting strokes × Puts strokes old c.new-pen.result painted c.scan.new.pen = c.scan.ensures.strokes in
+    let scanned : (strokes : List Stroke) × Visited c.args.is_known w h c.args.before.now c.args.after.now strokes × AreFitting strokes × PutsStrokes strokes old c.new-pen.result painted c.scan.new.pen = c.scan.ensures.strokes in
     let last = last_strokes c.args.cursor in
     let all = puts_both scanned.0 last old painted ended c.new-pen.result c.scan.new.pen c.put_last.new.pen scanned.3 c.put_last.ensures in (
       scanned.0 ++ last,
@@ -36,7 +36,7 @@ returns-in-Err-clause-err g c =
     let h = c.args.size.1 in
     let wide : w < 2 ^ 32 = omega arith in
     let high : h < 2 ^ 32 = omega arith in
-    let scanned : (strokes : List Stroke) × Visited c.args.is_known w h c.args.before.now c.args.after.now strokes × AreFitting strokes × Puts strokes old c.new-pen.result painted c.scan.new.pen = c.scan.ensures.strokes in
+    let scanned : (strokes : List Stroke) × Visited c.args.is_known w h c.args.before.now c.args.after.now strokes × AreFitting strokes × PutsStrokes strokes old c.new-pen.result painted c.scan.new.pen = c.scan.ensures.strokes in
     let last = last_strokes c.args.cursor in
     let all = puts_both scanned.0 last old painted ended c.new-pen.result c.scan.new.pen c.put_last.new.pen scanned.3 c.put_last.ensures in (
       scanned.0 ++ last,

@@ -3,20 +3,20 @@ use Rattle.std.proofs.Output.{has_written_append, has_written_of_eq}
 use Rattle.std.proofs.lemmas.List.{take_more, map-append}
 use Rattle.std.proofs.lemmas.Str.{encodes-append}
 use Rattle.crossterm.specs.declared.clipboard.ClipboardType.{ClipboardType}
-use Rattle.crossterm.specs.Clipboard.{char_of, selection_text}
+use Rattle.crossterm.specs.Clipboard.{letter_of, selection_text}
 use Rattle.crossterm.proofs.clipboard.ClipboardSelectionDisplay.fmt.Goals as goal
 
 -- the letters up to a place, and the letter at it
-one_more : (types : List ClipboardType) (i : ℕ) (d : ClipboardType) (c : ℕ) → i < length types → c ≡ char_of (get_or types i d)
+one_more : (types : List ClipboardType) (i : ℕ) (d : ClipboardType) (c : ℕ) → i < length types → c ≡ letter_of (get_or types i d)
     → selection_text (take i types) ++ encode_utf8 c ≡ selection_text (take (i + 1) types)
 one_more types i d c l e =
     let place = get_or types i d in
-    let front = map char_of (take i types) in
-    let last = encode_utf8 (char_of place) in
+    let front = map letter_of (take i types) in
+    let last = encode_utf8 (letter_of place) in
     sym (
     ap selection_text (take_more types i d l)
-    ∙ ap encode_utf8_all (map-append char_of (take i types) (place ∷ []))
-    ∙ encodes-append front (char_of place ∷ [])
+    ∙ ap encode_utf8_all (map-append letter_of (take i types) (place ∷ []))
+    ∙ encodes-append front (letter_of place ∷ [])
     ∙ ap (λ t. encode_utf8_all front ++ t) (append-nil last)
     ∙ ap (λ x. encode_utf8_all front ++ encode_utf8 x) (sym e)
     )

@@ -8,7 +8,7 @@ use Rattle.crossterm_read.proofs.Spelling.{script_answered}
 use Rattle.crossterm_read.specs.declared.read.call.Call.{Call}
 use Rattle.crossterm_read.specs.declared.read.call.Reply.{Reply}
 use Rattle.crossterm_read.specs.Store.{ReaderState}
-use Rattle.crossterm_read.specs.Calls.{said, joined, empty, Run}
+use Rattle.crossterm_read.specs.Calls.{said, all_answers, empty, Run}
 use Rattle.crossterm_read.proofs.Accounting.{accounts}
 use Rattle.crossterm_read.proofs.Runs.{Played, played_none, played_more}
 use Rattle.crossterm_read.proofs.read.trace.play.Goals as goal
@@ -29,13 +29,13 @@ returns-clause-run g c =
     let all : take c.loop-call.call-index c.args.calls.now ≡ c.args.calls.now = take_all c.loop-call.call-index c.args.calls.now (omega arith) in
     let p : Played (SourceDrawn ScriptTells) (record { store = empty; room = 0; source = source }) (take c.loop-call.call-index c.args.calls.now) (map said c.loop-call.replies.items) c.loop-call.reader =
     subst (λ (y : ReaderState (Source ScriptLeft)). Played (SourceDrawn ScriptTells) y (take c.loop-call.call-index c.args.calls.now) (map said c.loop-call.replies.items) c.loop-call.reader) c.new-reader.ensures c.loop-call.invariant in
-    let answered = script_answered source c.loop-call.reader.source (joined p.answers) c.new-source.ensures.waiting c.new-source.ensures.represents c.new-source.ensures.untaken p.drawn_so in
+    let answered = script_answered source c.loop-call.reader.source (all_answers p.answers) c.new-source.ensures.waiting c.new-source.ensures.represents c.new-source.ensures.untaken p.drawn_so in
     record {
       drawn = p.answers;
       replies = p.replies;
       shows = p.said_so;
       last = c.loop-call.reader.store;
-      answered = subst (λ (l : List DeviceAnswer). Answered l (joined p.answers)) (ap (λ (d : ScriptLeft). d.left) (c.new-source.ensures.device ∙ c.new.ensures)) answered;
+      answered = subst (λ (l : List DeviceAnswer). Answered l (all_answers p.answers)) (ap (λ (d : ScriptLeft). d.left) (c.new-source.ensures.device ∙ c.new.ensures)) answered;
       run = subst (λ (l : List Call). Run empty l p.answers p.replies c.loop-call.reader.store) all p.run;
       left = c.in_ok-held.ensures;
     }

@@ -1,6 +1,6 @@
 use Rattle.std.proofs.Common.{◌≡◌, ◌∷◌, ◌++◌, [], length, map, sym, ap, ◌∙◌, subst, arith}
 use Rattle.std.proofs.lemmas.Grind.{common_steps}
-use Rattle.keymap.specs.Bindings.{AreShort, bound_of, refusal}
+use Rattle.keymap.specs.Bindings.{AreShort, bound_of, bind_refusal}
 use Rattle.keymap.specs.inside.Bindings.{binding}
 use Rattle.keymap.specs.inside.Places.{TellsOf}
 use Rattle.keymap.proofs.Kept.{allowed, same_count, short_more}
@@ -21,7 +21,7 @@ invariant_of-self-2 g c =
     let bound = bound_of (map binding bs) in
     let b = c.in_ok-binding.binding in
     let chords = c.args.chords.now in
-    let may = allowed bound chords (ap (λ m. refusal (bound_of m) chords) c.self.view_is ∙ c.requires) in
+    let may = allowed bound chords (ap (λ m. bind_refusal (bound_of m) chords) c.self.view_is ∙ c.requires) in
     let own = c.in_ok-binding.ensures.0 in
     let same = same_count bs in
     let count : c.len-number.result ≡ length bound = grind (arith, common_steps, c.len-number.ensures, same) in

@@ -3,8 +3,8 @@ use Rattle.std.proofs.lemmas.List.{take-append-drop, take_all, take_more}
 use Rattle.line_editor.specs.declared.actions.Action.{Action}
 use Rattle.line_editor.specs.declared.actions.Action.TheVariants.{Insert}
 use Rattle.line_editor.specs.declared.fault.EditFault.{EditFault}
-use Rattle.line_editor.specs.Bounds.{AreAllowed, StopsAt, fault_of, written}
-use Rattle.line_editor.specs.States.{EditorState, after, run}
+use Rattle.line_editor.specs.Bounds.{AreAllowed, StopsAt, refusal_of, written}
+use Rattle.line_editor.specs.States.{EditorState, after, run_actions}
 use Rattle.line_editor.proofs.Running.{allowed_end, err_as, run_end}
 use Rattle.line_editor.proofs.editor.Editor.run.Goals as goal
 
@@ -26,7 +26,7 @@ returns-in_err-act-clause-err g c =
       are = parts;
       allowed = c.loop-action.invariant.allowed;
       done = c.in_err-act.ensures.err ∙ c.loop-action.invariant.done;
-      why = c.in_err-act.ensures.fault ∙ ap (λ (x : EditorState). fault_of (written a x) x) (sym c.in_err-act.ensures.err);
+      why = c.in_err-act.ensures.fault ∙ ap (λ (x : EditorState). refusal_of (written a x) x) (sym c.in_err-act.ensures.err);
     } in
     err_as c.from_residual.result P c.in_err-act.field-0.0 c.from_residual.ensures.1 stops
 
@@ -46,5 +46,5 @@ loop-action-preserved g c =
     let Q : EditorState → Type 0 = λ v. AreAllowed (a ∷ []) v in
     record {
       allowed = subst P (sym more) (allowed_end (take i actions) a w c.loop-action.invariant.allowed (subst Q c.loop-action.invariant.done (c.in_ok-act.ensures.room, tt)).0);
-      done = c.in_ok-act.ensures.ok ∙ ap (after a) c.loop-action.invariant.done ∙ sym (run_end (take i actions) a w) ∙ ap (λ t. run t w) (sym more);
+      done = c.in_ok-act.ensures.ok ∙ ap (after a) c.loop-action.invariant.done ∙ sym (run_end (take i actions) a w) ∙ ap (λ t. run_actions t w) (sym more);
     }

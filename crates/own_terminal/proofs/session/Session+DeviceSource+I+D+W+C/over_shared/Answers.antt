@@ -4,7 +4,7 @@ use Rattle.std.specs.List.{range_with_len}
 use Rattle.std.proofs.Common.{Global, ap, arith, subst, sym, ◌∙◌}
 use Rattle.crossterm_read.specs.History.{opened}
 use Rattle.crossterm_read.specs.OverScripts.{IsNew}
-use Rattle.crossterm_read.specs.Seats.{knows, number}
+use Rattle.crossterm_read.specs.Seats.{knows, pass_number}
 use Rattle.crossterm_read.specs.Shared.{IsPassOf, IsShareOf}
 use Rattle.crossterm_read.specs.declared.source.DeviceSource.{DeviceSource}
 use Rattle.own_terminal.specs.declared.events.Events.{Events}
@@ -13,8 +13,8 @@ use Rattle.own_terminal.proofs.session.Session+DeviceSource+I+D+W+C.over_shared.
 
 pub unreachable-requires : goal.unreachable-requires
 unreachable-requires g c =
-    let numbers = subst (λ n. map number c.in_ok-reader.passes.items ≡ range_with_len 0 n) c.in-Some.ensures.1 c.in_ok-reader.ensures.numbers in
-    some_made number (λ e. e.pass) c.args.others c.in_ok-reader.passes.items c.in_ok-shares.shares.items c.in_ok-shares.ensures.passes numbers (omega (arith, c.in_ok-shares.shares.ok, c.in-None.ensures.cases.0))
+    let numbers = subst (λ n. map pass_number c.in_ok-reader.passes.items ≡ range_with_len 0 n) c.in-Some.ensures.1 c.in_ok-reader.ensures.numbers in
+    some_made pass_number (λ e. e.pass) c.args.others c.in_ok-reader.passes.items c.in_ok-shares.shares.items c.in_ok-shares.ensures.passes numbers (omega (arith, c.in_ok-shares.shares.ok, c.in-None.ensures.cases.0))
 
 pub returns-clause-begins : goal.returns-clause-begins
 returns-clause-begins g c =
@@ -23,9 +23,9 @@ returns-clause-begins g c =
     let reader = c.new-reader.result in
     let passes = c.in_ok-reader.passes.items in
     let count = c.in-Some.ensures.1 in
-    let numbers = subst (λ n. map number passes ≡ range_with_len 0 n) count c.in_ok-reader.ensures.numbers in
-    let known = subst (λ n. All (λ p. IsPassOf c.in_ok-reader.reader p × (knows p ≡ opened reader n (number p))) passes) count c.in_ok-reader.ensures.passes in
-    let apart = known_apart number knows (opened reader (c.args.others + 1)) (λ e. e.pass) c.args.others passes c.pop.new.self.items c.in-Some-pop.field-0
+    let numbers = subst (λ n. map pass_number passes ≡ range_with_len 0 n) count c.in_ok-reader.ensures.numbers in
+    let known = subst (λ n. All (λ p. IsPassOf c.in_ok-reader.reader p × (knows p ≡ opened reader n (pass_number p))) passes) count c.in_ok-reader.ensures.passes in
+    let apart = known_apart pass_number knows (opened reader (c.args.others + 1)) (λ e. e.pass) c.args.others passes c.pop.new.self.items c.in-Some-pop.field-0
     (subst (λ made. map (λ e. e.pass) made ≡ passes) c.in-Some-pop.ensures.items c.in_ok-shares.ensures.passes) numbers (λ k d h. (known k d h).1) in (
       reader,
       subst IsNew (sym source) (record { waiting = new.waiting; represents = new.represents; untaken = new.untaken }),
@@ -37,8 +37,8 @@ returns-clause-begins g c =
 
 pub returns-clause-count : goal.returns-clause-count
 returns-clause-count g c =
-    let numbers = subst (λ n. map number c.in_ok-reader.passes.items ≡ range_with_len 0 n) c.in-Some.ensures.1 c.in_ok-reader.ensures.numbers in
-    all_but_one number (λ e. e.pass) c.args.others c.in_ok-reader.passes.items c.in_ok-shares.shares.items c.pop.new.self.items c.in-Some-pop.field-0
+    let numbers = subst (λ n. map pass_number c.in_ok-reader.passes.items ≡ range_with_len 0 n) c.in-Some.ensures.1 c.in_ok-reader.ensures.numbers in
+    all_but_one pass_number (λ e. e.pass) c.args.others c.in_ok-reader.passes.items c.in_ok-shares.shares.items c.pop.new.self.items c.in-Some-pop.field-0
     c.in_ok-shares.ensures.passes numbers c.in-Some-pop.ensures.items
 
 pub returns-clause-shared : goal.returns-clause-shared

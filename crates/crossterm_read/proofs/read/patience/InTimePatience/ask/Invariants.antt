@@ -1,7 +1,7 @@
 use Rattle.std.proofs.Common.{◌≡◌, ◌≤◌, ℕ}
 use Rattle.crossterm_types.specs.Timing.{KeepsFirst}
 use Rattle.crossterm_read.specs.Device.{AsksEach, IsAtOnce}
-use Rattle.crossterm_read.specs.Store.{capacity}
+use Rattle.crossterm_read.specs.Store.{reader_capacity}
 use Rattle.crossterm_read.proofs.Asking.{Asking}
 use Rattle.crossterm_read.proofs.Waiting.{WasSomeLeft}
 use Rattle.crossterm_read.proofs.read.patience.InTimePatience.ask.Given as goal
@@ -12,7 +12,7 @@ invariant-loop g l = record {
   later : g.C.Clock.told l.fn.clock ≤ g.C.Clock.told l.clock;
   first : KeepsFirst g.C.Clock.began l.fn.clock l.clock;
   limits : AsksEach (WasSomeLeft l.self.timeout (g.C.Clock.told l.clock)) (g.S.EventSource.asked l.fn.reader.source) (g.S.EventSource.asked l.reader.source);
-  room : capacity l.fn.reader ≤ capacity l.reader;
+  room : reader_capacity l.fn.reader ≤ reader_capacity l.reader;
   rise : g.S.EventSource.failed l.fn.reader.source ≤ g.S.EventSource.failed l.reader.source;
   can : (goal.iterator-loop g).can_next l.iterator';
   ends : (goal.iterator-loop g).is_finite l.iterator';

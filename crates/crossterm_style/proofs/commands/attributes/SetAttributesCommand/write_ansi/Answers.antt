@@ -2,7 +2,7 @@ use Rattle.std.proofs.Common.{inl, ℕ, ◌+◌, List, take, flat_map, length, s
 use Rattle.std.specs.List.{filter}
 use Rattle.std.specs.Fmt.{WritesInCalls}
 use Rattle.crossterm_command.proofs.Texts.{in_calls, writes_both}
-use Rattle.crossterm_style.specs.Attributes.{all_attributes, has}
+use Rattle.crossterm_style.specs.Attributes.{all_attributes, has_attribute}
 use Rattle.crossterm_style.proofs.Members.{all_written, attribute_text, text_more, text_same}
 use Rattle.crossterm_style.proofs.commands.attributes.SetAttributesCommand.write_ansi.Goals as goal
 use Rattle.crossterm_style.proofs.commands.attributes.SetAttributesCommand.write_ansi.Goals.{then-has+in_ok-write_ansi, else-has}
@@ -10,7 +10,7 @@ use Rattle.crossterm_style.proofs.commands.attributes.SetAttributesCommand.write
 pub loop-attribute-preserved : goal.loop-attribute-preserved
 loop-attribute-preserved g c =
     let took = g.W.Write.write_str_gives in
-    let test = has c.args.self.now.0.0 in
+    let test = has_attribute c.args.self.now.0.0 in
     let items = c.all-attribute-items.result.now in
     let at = c.loop-attribute.attribute-index in
     elim c.if-has.branch [
@@ -30,4 +30,4 @@ returns-clause-ok g c =
     let all = c.all-attribute-items.ensures in
     let text : List ℕ → Type 0 = λ l. WritesInCalls g.W.Write.write_str_gives c.args.f.now l c.loop-attribute.f in
     let end : length all_attributes ≤ at = subst (λ xs. length xs ≤ at) all (omega (arith, c.loop-attribute-test.false)) in
-    inl (subst text (ap (λ xs. flat_map attribute_text (filter (has bits) (take at xs))) all ∙ all_written c.args.colors bits at end) c.loop-attribute.invariant)
+    inl (subst text (ap (λ xs. flat_map attribute_text (filter (has_attribute bits) (take at xs))) all ∙ all_written c.args.colors bits at end) c.loop-attribute.invariant)

@@ -1,6 +1,6 @@
 use Rattle.std.proofs.Common.{refl, sym, ◌∙◌}
 use Rattle.crossterm_types.specs.Seen.{seen}
-use Rattle.crossterm_read.specs.inside.Kinds.{place_of}
+use Rattle.crossterm_read.specs.inside.Kinds.{queue_place}
 use Rattle.crossterm_read.specs.inside.Queues.{queue_of}
 use Rattle.crossterm_read.proofs.Joining.{drop_more, fewer_left, walked_all, walked_found, walked_on}
 use Rattle.crossterm_read.proofs.read.held.queues.Queues.walk.Goals as goal
@@ -14,7 +14,7 @@ pub loop-front-smaller : goal.loop-front-smaller
 loop-front-smaller g c =
     let q = queue_of c.args.self.now in
     let kind = c.in-Some.front.kind in
-    fewer_left q q c.loop-front.at c.after-at.result kind (drop_more (q kind) (place_of c.loop-front.at kind) _ _ c.in-Some.ensures.1.1) (λ k. refl) c.after-at.ensures
+    fewer_left q q c.loop-front.at c.after-at.result kind (drop_more (q kind) (queue_place c.loop-front.at kind) _ _ c.in-Some.ensures.1.1) (λ k. refl) c.after-at.ensures
 
 pub loop-front-preserved : goal.loop-front-preserved
 loop-front-preserved g c =

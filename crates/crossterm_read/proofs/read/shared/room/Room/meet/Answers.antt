@@ -2,7 +2,7 @@ use Rattle.std.proofs.Common.{sym, ap, ◌∙◌, subst}
 use Rattle.crossbeam_queue.specs.Passes.{view}
 use Rattle.crossbeam_queue.specs.Fifo.{Merges}
 use Rattle.crossterm_read.specs.History.{Known}
-use Rattle.crossterm_read.specs.inside.Slot.{Kept, Learnt, taught}
+use Rattle.crossterm_read.specs.inside.Slot.{SlotRule, Learnt, taught}
 use Rattle.crossterm_read.proofs.Moves.{meets, learns}
 use Rattle.crossterm_read.proofs.read.shared.room.Room.meet.Goals as goal
 
@@ -11,7 +11,7 @@ absorb-requires-clause-rule g c =
     let o = c.requires.opened in
     let v = view c.args.one.now in
     let w = view c.args.other in
-    subst (λ (x : Known g.row.S.Denot). Merges (Kept g.S.EventSource.drawn) c.args.one.now.id v c.args.other.id w (taught v w) x) (sym c.requires.left)
+    subst (λ (x : Known g.row.S.Denot). Merges (SlotRule g.S.EventSource.drawn) c.args.one.now.id v c.args.other.id w (taught v w) x) (sym c.requires.left)
     (meets g.S.EventSource.drawn c.args.one.now.id v c.args.other.id w o.0 o.1)
 
 pub learn_as-requires-clause-rule : goal.learn_as-requires-clause-rule
