@@ -59,7 +59,7 @@ def events_types():
         terminal.resize(100, 30)
         terminal.until(b'Resize(100, 30)')
         terminal.place = (7, 13)
-        expect_lines(terminal, b'c', [key("Char('c')"), '\x1b[6nthe cursor stands in column 12, row 6'])
+        expect_lines(terminal, b'c', [key("Char('c')"), '\x1b[6nthe cursor is in column 12, row 6'])
         terminal.out = b''
         terminal.seen = 0
         terminal.until(b'.\r\n', 3)

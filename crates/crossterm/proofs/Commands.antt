@@ -21,7 +21,7 @@ use Rattle.crossterm.specs.declared.command.any.AnyCommand.TheVariants as any
 use Rattle.crossterm.specs.Functions.{IsReadable, functions}
 use Rattle.crossterm.specs.Sequences.{by, clear, cursor_shape, cursor_style, scroll, set_title}
 use Rattle.crossterm.proofs.Clipboards.{copy_formed, quiet_at}
-use Rattle.crossterm.proofs.StyleReadings.{Formed, attribute_formed, attributes_plain, color_formed, colors_formed, style_plain, styled_plain, told_formed}
+use Rattle.crossterm.proofs.StyleReadings.{Formed, attribute_formed, attributes_plain, color_formed, colors_formed, style_plain, styled_plain, tokens_formed}
 
 -- ---- some commands
 
@@ -85,9 +85,9 @@ command_formed colors (any.SetBackgroundColor c) r = color_formed colors (Backgr
 command_formed colors (any.SetUnderlineColor c) r = color_formed colors (UnderlineColor c.0)
 command_formed colors (any.SetColors c) r = colors_formed colors c.0.foreground c.0.background
 command_formed colors (any.SetAttribute c) r = attribute_formed c.0
-command_formed colors (any.SetAttributes c) r = told_formed colors _ (attributes_plain (members c.0.0))
-command_formed colors (any.SetStyle c) r = told_formed colors _ (style_plain c.0)
-command_formed colors (any.PrintStyledContent c) r = told_formed colors _ (styled_plain c.0.style _ (printed_formed (string_bytes c.0.content) (IsUtf8-string_bytes c.0.content) r))
+command_formed colors (any.SetAttributes c) r = tokens_formed colors _ (attributes_plain (members c.0.0))
+command_formed colors (any.SetStyle c) r = tokens_formed colors _ (style_plain c.0)
+command_formed colors (any.PrintStyledContent c) r = tokens_formed colors _ (styled_plain c.0.style _ (printed_formed (string_bytes c.0.content) (IsUtf8-string_bytes c.0.content) r))
 command_formed colors (any.CopyToClipboard c) r = copy_formed c.content.items c.destination.0.items r
 command_formed colors (any.Print c) r = printed_formed (string_bytes c.0) (IsUtf8-string_bytes c.0) r
 command_formed colors c r = known_formed (functions colors c) refl

@@ -9,7 +9,7 @@ use Rattle.crossterm_style.specs.declared.content_style.ContentStyle.{ContentSty
 use Rattle.crossterm_style.specs.Acts.{end_acts, style_acts, styled_acts}
 use Rattle.crossterm_style.specs.Acts.StyleAct.{Prints}
 use Rattle.crossterm_style.specs.Styles.{act_tokens}
-use Rattle.crossterm_style.proofs.Telling.{told_joined}
+use Rattle.crossterm_style.proofs.ActTokens.{tokens_joined}
 
 pub text_styled : (colors : ColorOutput) (s : ContentStyle) (bs : List ℕ) → IsUtf8 bs
     → text_of (act_tokens colors (style_acts s)) ++ (bs ++ text_of (act_tokens colors (end_acts s))) ≡ text_of (act_tokens colors (styled_acts s (chars bs)))
@@ -17,5 +17,5 @@ text_styled colors s bs u =
     let printed = map Char (chars bs) in
     let style = act_tokens colors (style_acts s) in
     let end = act_tokens colors (end_acts s) in
-    sym (ap text_of (told_joined colors (style_acts s) (Prints (chars bs) ∷ end_acts s)) ∙ text_joined style (printed ++ end)
+    sym (ap text_of (tokens_joined colors (style_acts s) (Prints (chars bs) ∷ end_acts s)) ∙ text_joined style (printed ++ end)
     ∙ ap (λ l. text_of style ++ l) (text_joined printed end ∙ ap (λ l. l ++ text_of end) (text_printed bs u)))

@@ -52,9 +52,9 @@ act_formed colors (Prints cs) h = h
 act_formed colors (Colors c) h = color_formed colors c
 act_formed colors (Takes a) h = attribute_formed a
 
-pub told_formed : (colors : ColorOutput) (acts : List StyleAct) → AllByRecursion PrintsPlain acts → Formed (act_tokens colors acts)
-told_formed colors [] h = tt
-told_formed colors (a ∷ acts) h = all_joined IsWellFormed (act_functions colors a) (act_tokens colors acts) (act_formed colors a h.0) (told_formed colors acts h.1)
+pub tokens_formed : (colors : ColorOutput) (acts : List StyleAct) → AllByRecursion PrintsPlain acts → Formed (act_tokens colors acts)
+tokens_formed colors [] h = tt
+tokens_formed colors (a ∷ acts) h = all_joined IsWellFormed (act_functions colors a) (act_tokens colors acts) (act_formed colors a h.0) (tokens_formed colors acts h.1)
 
 there_plain : (place : Color → Colored) (o : Option Color) → AllByRecursion PrintsPlain (where_there place o)
 there_plain place None = tt

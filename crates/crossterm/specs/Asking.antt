@@ -25,16 +25,16 @@ abbrev pub Queries : {X : Type 0} → Option (List ℕ) → Option (List ℕ) �
 Queries old new text no_call called q = (AppendsFront old new text × no_call × IsErr q) ⊎ (Appends old new text × called q)
 
 -- A query in raw mode, which is switched on before it and off after it, unless it is on already.
-pub data InRawMode {D M X : Type 0} (stands : D → M) (answered : D → ModeCall M → D → Type 0) (failed : D → ℕ) (old new : Modes D M) (nothing : Type 0) (queried : Result X Error → Type 0) (result : Result X Error) : Type 0 where
+pub data InRawMode {D M X : Type 0} (current : D → M) (answered : D → ModeCall M → D → Type 0) (failed : D → ℕ) (old new : Modes D M) (nothing : Type 0) (queried : Result X Error → Type 0) (result : Result X Error) : Type 0 where
   -- Raw mode was on: only the query is made.
-  raw_already : IsTrue (is_some old.prior) → new ≡ old → queried result → InRawMode stands answered failed old new nothing queried result
+  raw_already : IsTrue (is_some old.prior) → new ≡ old → queried result → InRawMode current answered failed old new nothing queried result
   -- Raw mode can't be switched on: that is the error, and nothing else is done.
   not_on : (e : Error) → old.prior ≡ None → SwitchesOn answered old (Err e) new → nothing → result ≡ Err e → Refuses (failed old.device) (failed new.device)
-      → InRawMode stands answered failed old new nothing queried result
+      → InRawMode current answered failed old new nothing queried result
   -- Raw mode can't be switched off after the query: that is the error, and raw mode stays on.
   not_off : (e : Error) (raw : Modes D M) (q : Result X Error) → old.prior ≡ None → SwitchesOn answered old (Ok tt) raw → queried q
-      → SwitchesOff answered raw (Err e) new → new.prior ≡ Some (stands old.device) → result ≡ Err e → Refuses (failed old.device) (failed new.device)
-      → InRawMode stands answered failed old new nothing queried result
+      → SwitchesOff answered raw (Err e) new → new.prior ≡ Some (current old.device) → result ≡ Err e → Refuses (failed old.device) (failed new.device)
+      → InRawMode current answered failed old new nothing queried result
   -- Raw mode was switched on, the query made, and the mode is as it was before.
   on_and_off : (raw : Modes D M) → old.prior ≡ None → SwitchesOn answered old (Ok tt) raw → queried result
-      → SwitchesOff answered raw (Ok tt) new → stands new.device ≡ stands old.device → InRawMode stands answered failed old new nothing queried result
+      → SwitchesOff answered raw (Ok tt) new → current new.device ≡ current old.device → InRawMode current answered failed old new nothing queried result

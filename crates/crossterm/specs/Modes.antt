@@ -12,7 +12,7 @@ pub record Modes (D M : Type 0) : Type 0 where
 -- A call of a device of modes, with its result.
 pub data ModeCall (M : Type 0) : Type 0 where
   -- It was asked for its present mode.
-  Tells : Result M Error → ModeCall M
+  Gets : Result M Error → ModeCall M
   -- It was asked to set the raw mode of this mode.
   SetsRaw : M → Result (Unit {0}) Error → ModeCall M
   -- It was asked to set this mode.
@@ -32,16 +32,16 @@ Refuses old new = (old < new) ⊎ (new ≡ 2 ^ 64 - 1)
 pub record SwitchedOn {D M : Type 0} (answered : D → ModeCall M → D → Type 0) (old new : Modes D M) : Type 0 where
   pub mode : M
   pub between : D
-  pub told : answered old.device (Tells (Ok mode)) between
+  pub got : answered old.device (Gets (Ok mode)) between
   pub set : answered between (SetsRaw mode (Ok tt)) new.device
   pub kept : new.prior ≡ Some mode
 
 -- Raw mode wasn't switched on, with this error of the device.
 pub data NotOn {D M : Type 0} (answered : D → ModeCall M → D → Type 0) (old new : Modes D M) (e : Error) : Type 0 where
   -- It couldn't return its mode.
-  untold : answered old.device (Tells (Err e)) new.device → new.prior ≡ old.prior → NotOn answered old new e
+  not_got : answered old.device (Gets (Err e)) new.device → new.prior ≡ old.prior → NotOn answered old new e
   -- It couldn't set the raw mode of the mode that it returned.
-  unset : (mode : M) (between : D) → answered old.device (Tells (Ok mode)) between → answered between (SetsRaw mode (Err e)) new.device → new.prior ≡ old.prior → NotOn answered old new e
+  unset : (mode : M) (between : D) → answered old.device (Gets (Ok mode)) between → answered between (SetsRaw mode (Err e)) new.device → new.prior ≡ old.prior → NotOn answered old new e
 
 -- What switching raw mode on did, by its result.
 abbrev pub SwitchesOn : {D M : Type 0} → (D → ModeCall M → D → Type 0) → Modes D M → Result (Unit {0}) Error → Modes D M → Type 0
@@ -73,6 +73,6 @@ or_error (Some x) e = Ok x
 or_error None e = Err e
 
 -- A size: that of the window, else that of two texts of `tput` if both have one, else the device's error.
-abbrev pub told_size : Result WindowSize Error → List ℕ → List ℕ → Result (ℕ × ℕ) Error
-told_size (Ok size) columns lines = Ok (size.columns, size.rows)
-told_size (Err e) columns lines = or_error (both (size_in columns) (size_in lines)) e
+abbrev pub window_size : Result WindowSize Error → List ℕ → List ℕ → Result (ℕ × ℕ) Error
+window_size (Ok size) columns lines = Ok (size.columns, size.rows)
+window_size (Err e) columns lines = or_error (both (size_in columns) (size_in lines)) e

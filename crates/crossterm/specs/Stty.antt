@@ -3,7 +3,7 @@ use Rattle.std.specs.Prelude.{◌≡◌, ◌≢◌, ◌⊎◌, ℕ, List, [], �
 use Rattle.std.specs.Io.KnownBytes.{Appends, Consumes}
 use Rattle.std.specs.List.{AllByRecursion}
 use Rattle.crossterm_command.specs.Writing.{AppendsFront}
-use Rattle.crossterm.specs.Modes.{ModeCall, Tells, SetsRaw, Sets, Sizes}
+use Rattle.crossterm.specs.Modes.{ModeCall, Gets, SetsRaw, Sets, Sizes}
 use Rattle.crossterm.specs.Sizes.{both, size_in}
 use Rattle.crossterm.specs.declared.terminal.size.WindowSize.{WindowSize}
 use Rattle.crossterm.specs.declared.terminal.sys.stty.SttyMode.{SttyMode}
@@ -76,8 +76,8 @@ set_request mode = codes "set " ++ mode.text.bytes
 -- A call of the device, by what the helper was asked and what was read from it. The present mode isn't asked for. If
 -- another mode is read than the one to be set, that is an error, and the other one is present.
 abbrev pub stty_answered : {R W : Type 0} → (R → Option (List ℕ)) → (W → Option (List ℕ)) → Stty R W → ModeCall SttyMode → Stty R W → Type 0
-stty_answered remaining contents s (Tells (Ok mode)) t = (mode ≡ s.mode) × (t ≡ s)
-stty_answered remaining contents s (Tells (Err e)) t = ⊥
+stty_answered remaining contents s (Gets (Ok mode)) t = (mode ≡ s.mode) × (t ≡ s)
+stty_answered remaining contents s (Gets (Err e)) t = ⊥
 stty_answered remaining contents s (SetsRaw mode (Ok _)) t = AsksMode remaining contents (codes "raw") s t
 stty_answered remaining contents s (SetsRaw mode (Err e)) t = Unanswered remaining contents (codes "raw") s t
 stty_answered remaining contents s (Sets mode (Ok _)) t = AsksMode remaining contents (set_request mode) s t × (t.mode ≡ mode)

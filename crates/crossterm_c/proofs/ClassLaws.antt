@@ -29,7 +29,7 @@ attributes_are cs e k s =
 module _ (cs : Classes) where
   -- What a user brought about, or no event.
   abbrev IsUsers : Option Seen → Type 0
-  IsUsers told = is_of cs (or_resize told) ≡ cs.event
+  IsUsers it = is_of cs (or_resize it) ≡ cs.event
 
   either : (b : Bool) (x y : Option Seen) → IsUsers x → IsUsers y → IsUsers (if b then x else y)
   either true x y p q = p

@@ -103,12 +103,12 @@ is_bare e = no_code e && (no_press e && (no_place e && no_flags e))
 
 -- The event if the condition holds, otherwise `None`.
 abbrev pub only_if : Bool → Option Seen → Option Seen
-only_if is told = if is then told else None
+only_if is it = if is then it else None
 
 -- The event of these numbers, or `None` if they are no event's. Of a paste the caller kept the bytes, and the last
 -- six of them end it.
-abbrev pub told_by : List ℕ → GelvanhEvent → Option Seen
-told_by kept e =
+abbrev pub event_by : List ℕ → GelvanhEvent → Option Seen
+event_by kept e =
     if e.kind == 1 then only_if (is_bare e) (Some seen.FocusGained) else
     if e.kind == 2 then only_if (is_bare e) (Some seen.FocusLost) else
     if e.kind == 3 then only_if (no_place e && no_flags e) (key_by e (code_at e.code e.value) (press_at e.press)) else
@@ -122,9 +122,9 @@ told_by kept e =
 
 -- The event, or a resize to nothing if there is none. No bytes mean a resize, so this is never given for bytes.
 abbrev pub or_resize : Option Seen → Seen
-or_resize (Some told) = told
+or_resize (Some it) = it
 or_resize None = seen.Resize 0 0
 
 -- The event of these numbers, or a resize to nothing if they are no event's.
 abbrev pub event_at : List ℕ → GelvanhEvent → Seen
-event_at kept e = or_resize (told_by kept e)
+event_at kept e = or_resize (event_by kept e)

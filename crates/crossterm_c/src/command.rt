@@ -74,5 +74,5 @@ pub extern "C" fn gelvanh_command(
 ) -> u32
     ensures { IsSomeAnd (outcome_at result) (λ outcome. AnswersTo (command_text (output_of colors) command.now) slice.old slice.new length.new outcome) }
 {
-    write_any(command, output_of(colors), slice).tell(length)
+    write_any(command, output_of(colors), slice).report(length)
 }

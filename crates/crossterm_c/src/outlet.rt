@@ -65,7 +65,7 @@ impl Answer {
     }
 
     /// The outcome's number for the caller, and the length.
-    pub(crate) fn tell(self, length: &mut usize) -> u32
+    pub(crate) fn report(self, length: &mut usize) -> u32
         ensures length { length.new ≡ self.length }
         ensures outcome { outcome_at result ≡ Some self.outcome }
     {

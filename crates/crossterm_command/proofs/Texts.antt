@@ -53,8 +53,8 @@ module _ {W : Type 0} (took : W → List ℕ → W → Type 0) where
   }
 
   -- the texts of tokens in a row
-  pub tells_both : (w : W) (ts : List Token) (v : W) (us : List Token) (u : W) → WritesInCalls took w (text_of ts) v → WritesInCalls took v (text_of us) u → WritesInCalls took w (text_of (ts ++ us)) u
-  tells_both w ts v us u p q = subst (λ l. WritesInCalls took w l u) (sym (text_joined ts us)) (writes_both w (text_of ts) v (text_of us) u p q)
+  pub says_both : (w : W) (ts : List Token) (v : W) (us : List Token) (u : W) → WritesInCalls took w (text_of ts) v → WritesInCalls took v (text_of us) u → WritesInCalls took w (text_of (ts ++ us)) u
+  says_both w ts v us u p q = subst (λ l. WritesInCalls took w l u) (sym (text_joined ts us)) (writes_both w (text_of ts) v (text_of us) u p q)
 
   -- the same if either may say nothing
   pub text_of_both : (w : W) (o : Option (List ℕ)) (v : W) (p : Option (List ℕ)) (u : W) → WritesText took w o v → WritesText took v p u → WritesText took w (option_append o p) u

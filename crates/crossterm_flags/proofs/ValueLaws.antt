@@ -10,6 +10,6 @@ use Rattle.crossterm_flags.specs.Values.{WritesJson}
 use Rattle.crossterm_flags.specs.declared.value.ValueFault.{ValueFault}
 
 -- If a value reads back, so does the result that wrote it.
-pub told_back : {X : Type 0} (reads : Data → Option X) (d : Data) (x : X) (result : Result Value ValueFault) → WritesJson d result → reads d ≡ Some x → IfOk result (λ v. reads (view v) ≡ Some x)
-told_back reads d x (Ok v) told h = ap reads told ∙ h
-told_back reads d x (Err fault) told h = tt
+pub json_back : {X : Type 0} (reads : Data → Option X) (d : Data) (x : X) (result : Result Value ValueFault) → WritesJson d result → reads d ≡ Some x → IfOk result (λ v. reads (view v) ≡ Some x)
+json_back reads d x (Ok v) made h = ap reads made ∙ h
+json_back reads d x (Err fault) made h = tt

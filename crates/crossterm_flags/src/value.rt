@@ -97,10 +97,10 @@ pub fn read_named<T: Named>(value: &Value) -> Option<T>
 /// # Errors
 ///
 /// `Memory` if memory for it was refused.
-pub fn tell_named<T: Named>(alloc: Global, value: T) -> Result<Value, ValueFault>
+pub fn name_to_json<T: Named>(alloc: Global, value: T) -> Result<Value, ValueFault>
     ensures { WritesJson (string (name_in ⟦<T as PartialEq>⟧.eq T.rows value)) result }
 {
-    tell_text(alloc, name_in(T::rows(), value))
+    text_to_json(alloc, name_in(T::rows(), value))
 }
 
 /// A text as JSON.
@@ -108,7 +108,7 @@ pub fn tell_named<T: Named>(alloc: Global, value: T) -> Result<Value, ValueFault
 /// # Errors
 ///
 /// `Memory` if memory for it was refused.
-pub fn tell_text(alloc: Global, text: &str) -> Result<Value, ValueFault>
+pub fn text_to_json(alloc: Global, text: &str) -> Result<Value, ValueFault>
     ensures { WritesJson (string text.now) result }
 {
     match Value::try_from_str(alloc, text) {
@@ -122,7 +122,7 @@ pub fn tell_text(alloc: Global, text: &str) -> Result<Value, ValueFault>
 /// # Errors
 ///
 /// `Memory` if memory for it was refused.
-pub fn tell_member(alloc: Global, name: &str, value: Value) -> Result<Value, ValueFault>
+pub fn member_to_json(alloc: Global, name: &str, value: Value) -> Result<Value, ValueFault>
     ensures { WritesJson (one_member name.now (view value)) result }
 {
     match json!(in alloc; {name: value}) {

@@ -14,15 +14,15 @@ true_nil [] h = refl
 true_nil (b ∷ bs) h = absurd (false≢true h)
 
 -- The test is false of exactly the bytes that end nothing.
-pub record Tells (N : ℕ → Type 0) (test : ℕ → Bool) : Type 0 where
+pub record TestsEnds (N : ℕ → Type 0) (test : ℕ → Bool) : Type 0 where
   pub fails : (b : ℕ) → N b → test b ≡ false
   pub none : (b : ℕ) → test b ≡ false → N b
 
-pub ended : (N : ℕ → Type 0) (test : ℕ → Bool) → Tells N test → (w : List ℕ) (f : ℕ) → AllByRecursion N w → test f ≡ true → ends_at test (w ++ f ∷ []) ≡ true
+pub ended : (N : ℕ → Type 0) (test : ℕ → Bool) → TestsEnds N test → (w : List ℕ) (f : ℕ) → AllByRecursion N w → test f ≡ true → ends_at test (w ++ f ∷ []) ≡ true
 ended N test t [] f h l = rw l
 ended N test t (b ∷ w) f h l = rw (t.fails b h.0) (ended N test t w f h.1 l)
 
-pub not_ended : (N : ℕ → Type 0) (test : ℕ → Bool) → Tells N test → (w : List ℕ) (b : ℕ) → AllByRecursion N w → test b ≡ false → ends_at test (w ++ b ∷ []) ≡ false
+pub not_ended : (N : ℕ → Type 0) (test : ℕ → Bool) → TestsEnds N test → (w : List ℕ) (b : ℕ) → AllByRecursion N w → test b ≡ false → ends_at test (w ++ b ∷ []) ≡ false
 not_ended N test t [] b h l = rw l
 not_ended N test t (c ∷ w) b h l = rw (t.fails c h.0) (not_ended N test t w b h.1 l)
 
@@ -34,7 +34,7 @@ pub record Ends (N : ℕ → Type 0) (test : ℕ → Bool) (bs : List ℕ) : Typ
   pub closed : test last ≡ true
   pub is : bs ≡ before ++ last ∷ []
 
-pub true_ends : (N : ℕ → Type 0) (test : ℕ → Bool) → Tells N test → (bs : List ℕ) → ends_at test bs ≡ true → Ends N test bs
+pub true_ends : (N : ℕ → Type 0) (test : ℕ → Bool) → TestsEnds N test → (bs : List ℕ) → ends_at test bs ≡ true → Ends N test bs
 true_ends N test t [] h = absurd (false≢true h)
 true_ends N test t (b ∷ bs) h = elim (chosen (test b) (is_nil bs) (ends_at test bs) true h) [
   | inl w ↦ record { before = []; last = b; none_before = tt; closed = w.0; is = ap (λ (ys : List ℕ). b ∷ ys) (true_nil bs w.1) }

@@ -11,7 +11,7 @@ use Rattle.crossterm_parse.specs.Recognizer.{is_nil, is_one, is_three, is_final,
 use Rattle.crossterm_parse.specs.Grammar as grammar
 use Rattle.crossterm_parse.specs.Division.{IsPrefixFree}
 use Rattle.crossterm_parse.proofs.PasteLaws.{begins_is, begins_from, paste_true, Pasted, true_paste, not_mark}
-use Rattle.crossterm_parse.proofs.EndLaws.{chosen, true_nil, Tells, ended, Ends, true_ends, Closes, nil_closes, choice_closes, ends_close}
+use Rattle.crossterm_parse.proofs.EndLaws.{chosen, true_nil, TestsEnds, ended, Ends, true_ends, Closes, nil_closes, choice_closes, ends_close}
 
 -- whether a byte is one of some in a row, and what that says
 pub within_true : {low high : ℕ} (b : ℕ) → (low ≤ b) × (b ≤ high) → (nat_le low b && nat_le b high) ≡ true
@@ -26,8 +26,8 @@ within_false b h = grind (arith, nat_tests)
 pub not_within : {low high : ℕ} (b : ℕ) → (nat_le low b && nat_le b high) ≡ false → ¬ ((low ≤ b) × (b ≤ high))
 not_within b h = grind (arith, nat_tests)
 
-pub final_tells : Tells (λ b. ¬ EndsNumbered b) is_final
-final_tells = record { fails = λ b. within_false b; none = λ b. not_within b }
+pub final_tested : TestsEnds (λ b. ¬ EndsNumbered b) is_final
+final_tested = record { fails = λ b. within_false b; none = λ b. not_within b }
 
 one_more : (lead : ℕ) → continuing_after lead ≡ suc (further_after lead)
 one_more lead = go (nat_le lead 0xDF) (nat_le lead 0xEF) where
@@ -119,17 +119,17 @@ not_reply_end b h = none_of b 99 117 h
 pub not_mouse_end : (b : ℕ) → is_mouse_end b ≡ false → EndsNoMouse b
 not_mouse_end b h = none_of b 77 109 h
 
-pub reply_tells : Tells EndsNoReply is_reply_end
-reply_tells = record { fails = no_reply; none = not_reply_end }
+pub reply_tested : TestsEnds EndsNoReply is_reply_end
+reply_tested = record { fails = no_reply; none = not_reply_end }
 
-pub mouse_tells : Tells EndsNoMouse is_mouse_end
-mouse_tells = record { fails = no_mouse_end; none = not_mouse_end }
+pub mouse_tested : TestsEnds EndsNoMouse is_mouse_end
+mouse_tested = record { fails = no_mouse_end; none = not_mouse_end }
 
 pub private_true : (w : List ℕ) (f : ℕ) → HasNoEnd w → EndsReply w f → ends_private (w ++ f ∷ []) ≡ true
 private_true [] f none (inl e) = rw e
 private_true [] f none (inr e) = absurd (e.1 refl)
-private_true (b ∷ w) f none (inl e) = let s : (b == 99) ≡ false = (let n = none.0 in grind (arith, nat_tests)) in rw s (ended EndsNoReply is_reply_end reply_tells w f none.1 (is_one_of f 99 117 (inl e)))
-private_true (b ∷ w) f none (inr e) = let s : (b == 99) ≡ false = (let n = none.0 in grind (arith, nat_tests)) in rw s (ended EndsNoReply is_reply_end reply_tells w f none.1 (is_one_of f 99 117 (inr e.0)))
+private_true (b ∷ w) f none (inl e) = let s : (b == 99) ≡ false = (let n = none.0 in grind (arith, nat_tests)) in rw s (ended EndsNoReply is_reply_end reply_tested w f none.1 (is_one_of f 99 117 (inl e)))
+private_true (b ∷ w) f none (inr e) = let s : (b == 99) ≡ false = (let n = none.0 in grind (arith, nat_tests)) in rw s (ended EndsNoReply is_reply_end reply_tested w f none.1 (is_one_of f 99 117 (inr e.0)))
 
 pub shape_true : (bytes : List ℕ) → Shape bytes → is_shape bytes ≡ true
 shape_true bytes (text c) = as_shape bytes c
@@ -143,9 +143,9 @@ shape_true bytes (after_csi b alone e) = rw e (alone_true b alone)
 shape_true bytes (linux_key b e) = rw e
 shape_true bytes (reply w f none ends e) = rw e (private_true w f none ends)
 shape_true bytes (x10 a b c e) = rw e
-shape_true bytes (mouse w f none ends e) = rw e (ended EndsNoMouse is_mouse_end mouse_tells w f none (is_one_of f 77 109 ends))
+shape_true bytes (mouse w f none ends e) = rw e (ended EndsNoMouse is_mouse_end mouse_tested w f none (is_one_of f 77 109 ends))
 shape_true bytes (numbered d f w is nf l ne e) = rw e (digit_csi d (w ++ f ∷ []) is
-    ∙ rw (not_mark d f w nf (λ (h : d ∷ (w ++ f ∷ []) ≡ paste_mark). ne (e ∙ ap (λ (ys : List ℕ). 27 ∷ 91 ∷ ys) h))) (ended (λ b. ¬ EndsNumbered b) is_final final_tells w f nf (within_true f l)))
+    ∙ rw (not_mark d f w nf (λ (h : d ∷ (w ++ f ∷ []) ≡ paste_mark). ne (e ∙ ap (λ (ys : List ℕ). 27 ∷ 91 ∷ ys) h))) (ended (λ b. ¬ EndsNumbered b) is_final final_tested w f nf (within_true f l)))
 shape_true bytes (paste within first e) = rw e (paste_true within first)
 
 true_one : (bs : List ℕ) → is_one bs ≡ true → (b : ℕ) × (bs ≡ b ∷ [])
@@ -196,7 +196,7 @@ private_shape : (bs : List ℕ) → ends_private bs ≡ true → Shape (27 ∷ 9
 private_shape [] h = absurd (false≢true h)
 private_shape (b ∷ bs) h = elim (chosen (b == 99) (is_nil bs) (ends_reply bs) true h) [
   | inl w ↦ reply [] b tt (inl (eqb-true b 99 w.0)) (ap (λ (ys : List ℕ). 27 ∷ 91 ∷ 63 ∷ b ∷ ys) (true_nil bs w.1))
-  | inr w ↦ let later = true_ends EndsNoReply is_reply_end reply_tells bs w.1 in
+  | inr w ↦ let later = true_ends EndsNoReply is_reply_end reply_tested bs w.1 in
       reply (b ∷ later.before) later.last (let n = w.0 in grind (arith, nat_tests), later.none_before) (ends_later b later.before later.last (one_of later.last 99 117 later.closed))
       (ap (λ (ys : List ℕ). 27 ∷ 91 ∷ 63 ∷ b ∷ ys) later.is)
 ]
@@ -212,7 +212,7 @@ paste_shape b bs h p = paste p.text p.first (ap (λ (ys : List ℕ). 27 ∷ 91 �
 digit_shape : (b : ℕ) (bs : List ℕ) → IsDigit b → ends_digit (b ∷ bs) ≡ true → Shape (27 ∷ 91 ∷ b ∷ bs)
 digit_shape b bs d h = elim (chosen (begins paste_mark (b ∷ bs)) (ends_paste (drop 3 bs)) (ends_numbered bs) true h) [
   | inl v ↦ paste_shape b bs v.0 (true_paste (drop 3 bs) v.1)
-  | inr v ↦ numbered_shape b bs d v.0 (true_ends (λ b. ¬ EndsNumbered b) is_final final_tells bs v.1)
+  | inr v ↦ numbered_shape b bs d v.0 (true_ends (λ b. ¬ EndsNumbered b) is_final final_tested bs v.1)
 ]
 
 linux_shape : (b : ℕ) (bs : List ℕ) (c : ℕ) → b ≡ 91 → bs ≡ c ∷ [] → Shape (27 ∷ 91 ∷ b ∷ bs)
@@ -243,7 +243,7 @@ true_csi (b ∷ bs) h = elim (chosen (b == 91) _ _ true h) [
   | inr w ↦ elim (chosen (b == 77) _ _ true w.1) [
     | inl v ↦ let is : b ≡ 77 = eqb-true b 77 v.0 in rw is (x10_shape bs v.1)
     | inr v ↦ elim (chosen (b == 60) _ _ true v.1) [
-      | inl u ↦ let is : b ≡ 60 = eqb-true b 60 u.0 in rw is (mouse_shape bs (true_ends EndsNoMouse is_mouse_end mouse_tells bs u.1))
+      | inl u ↦ let is : b ≡ 60 = eqb-true b 60 u.0 in rw is (mouse_shape bs (true_ends EndsNoMouse is_mouse_end mouse_tested bs u.1))
       | inr u ↦ elim (chosen (b == 63) _ _ true u.1) [
         | inl t ↦ let is : b ≡ 63 = eqb-true b 63 t.0 in rw is (private_shape bs t.1)
         | inr t ↦ true_other b bs (differs b 91 w.0) (differs b 77 v.0) (differs b 60 u.0) (differs b 63 t.0) t.1

@@ -34,7 +34,7 @@ use Rattle.crossterm_parse.proofs.FieldsLaws.{empty_reads, text_more, numbers_of
 use Rattle.crossterm_parse.proofs.NumberLaws.{tracks_more, tracks_reading}
 use Rattle.crossterm_parse.proofs.PasteLaws.{and_false, third_apart, begins_start}
 use Rattle.crossterm_parse.proofs.EndLaws.{ended, not_ended}
-use Rattle.crossterm_parse.proofs.GrammarLaws.{digit_apart, true_within, not_within, final_tells, is_one_of, reply_tells, mouse_tells, not_reply_end, not_mouse_end, within_true}
+use Rattle.crossterm_parse.proofs.GrammarLaws.{digit_apart, true_within, not_within, final_tested, is_one_of, reply_tested, mouse_tested, not_reply_end, not_mouse_end, within_true}
 use Rattle.crossterm_parse.proofs.Utf8Laws.{utf8_more, utf8_is, utf8_nil, longer}
 use Rattle.crossterm_types.proofs.Lists.{all_push}
 
@@ -206,7 +206,7 @@ number_whole : (d : Parameters) (p : Opening) (bytes : List ℕ) (b : ℕ) (raw 
 number_whole d p bytes b raw pause o l h =
     let none = opens_none p (o.digit ∷ o.more) b o.opens h in
     rw o.is (
-      decided_numbered o.digit (o.more ++ b ∷ []) pause o.is_digit ∙ rw none (ended (λ c. ¬ EndsNumbered c) is_final final_tells o.more b o.no_final l),
+      decided_numbered o.digit (o.more ++ b ∷ []) pause o.is_digit ∙ rw none (ended (λ c. ¬ EndsNumbered c) is_final final_tested o.more b o.no_final l),
       kept_means (numbered_by raw) d (o.digit ∷ o.more) b o.kept ∙ sym (meaning_numbered raw o.digit (o.more ++ b ∷ []) o.is_digit),
       begins_start (o.digit ∷ (o.more ++ b ∷ [])) ∙ none,
     )
@@ -216,7 +216,7 @@ number_more : (d : Parameters) (p : Opening) (bytes : List ℕ) (b : ℕ) (raw p
 number_more d p bytes b raw pause o l =
     let none = opens_none p (o.digit ∷ o.more) b o.opens (λ h. not_tilde b l) in
     rw o.is (
-      decided_numbered o.digit (o.more ++ b ∷ []) pause o.is_digit ∙ rw none (not_ended (λ c. ¬ EndsNumbered c) is_final final_tells o.more b o.no_final l),
+      decided_numbered o.digit (o.more ++ b ∷ []) pause o.is_digit ∙ rw none (not_ended (λ c. ¬ EndsNumbered c) is_final final_tested o.more b o.no_final l),
       record {
         digit = o.digit;
         more = o.more ++ b ∷ [];
@@ -246,14 +246,14 @@ number_right d p bytes b raw pause o = cond_both (is_final b) _ _ (λ (s : ByteS
 -- a report of the mouse
 mouse_whole : (d : Parameters) (bytes : List ℕ) (b : ℕ) (raw pause : Bool) → OpenMouse d bytes → is_mouse_end b ≡ true → IsRight (Whole (sgr_by b (readings_at d))) (bytes ++ b ∷ []) raw pause
 mouse_whole d bytes b raw pause o l = rw o.is (
-  ended EndsNoMouse is_mouse_end mouse_tells o.more b o.no_end l,
+  ended EndsNoMouse is_mouse_end mouse_tested o.more b o.no_end l,
   kept_means sgr_by d o.more b o.kept,
   third_apart 60 (o.more ++ b ∷ []) refl,
 )
 
 mouse_more : (d : Parameters) (bytes : List ℕ) (b : ℕ) (raw pause : Bool) → OpenMouse d bytes → is_mouse_end b ≡ false → IsRight (Open (Sgr (parameters_after d b))) (bytes ++ b ∷ []) raw pause
 mouse_more d bytes b raw pause o l = rw o.is (
-  not_ended EndsNoMouse is_mouse_end mouse_tells o.more b o.no_end l,
+  not_ended EndsNoMouse is_mouse_end mouse_tested o.more b o.no_end l,
   record { more = o.more ++ b ∷ []; is = refl; no_end = all_push EndsNoMouse o.more b o.no_end (not_mouse_end b l); kept = kept_more d o.more b o.kept },
 )
 
@@ -326,13 +326,13 @@ meaning_reply raw first w b =
 reply_right : (n : Number) (bytes : List ℕ) (b : ℕ) (raw pause : Bool) → OpenReply n bytes → IsRight (state_after (Reply n) b raw pause) (bytes ++ b ∷ []) raw pause
 reply_right n bytes b raw pause o =
     let apart : (o.first == 99) ≡ false = (let m = o.no_end.0 in grind (arith, nat_tests)) in
-    let told : flags_reply (reading n) ≡ flags_reply (number (o.first ∷ o.more)) = ap flags_reply (tracks_reading (o.first ∷ o.more) n o.tracks) in
+    let same_flags : flags_reply (reading n) ≡ flags_reply (number (o.first ∷ o.more)) = ap flags_reply (tracks_reading (o.first ∷ o.more) n o.tracks) in
     rw o.is (cond_both (b == 99) _ _ (λ (s : ByteStep). IsRight s (27 ∷ 91 ∷ 63 ∷ o.first ∷ (o.more ++ b ∷ [])) raw pause)
-    (λ t. (decided_reply o.first (o.more ++ b ∷ []) pause apart ∙ ended EndsNoReply is_reply_end reply_tells o.more b o.no_end.1 (is_one_of b 99 117 (inl (eqb-true b 99 t))), sym (meaning_reply raw o.first o.more b ∙ rw t refl), third_apart 63 (o.first ∷ (o.more ++ b ∷ [])) refl))
+    (λ t. (decided_reply o.first (o.more ++ b ∷ []) pause apart ∙ ended EndsNoReply is_reply_end reply_tested o.more b o.no_end.1 (is_one_of b 99 117 (inl (eqb-true b 99 t))), sym (meaning_reply raw o.first o.more b ∙ rw t refl), third_apart 63 (o.first ∷ (o.more ++ b ∷ [])) refl))
     (λ t. cond_both (b == 117) _ _ (λ (s : ByteStep). IsRight s (27 ∷ 91 ∷ 63 ∷ o.first ∷ (o.more ++ b ∷ [])) raw pause)
-    (λ u. (decided_reply o.first (o.more ++ b ∷ []) pause apart ∙ ended EndsNoReply is_reply_end reply_tells o.more b o.no_end.1 (is_one_of b 99 117 (inr (eqb-true b 117 u))), told ∙ sym (meaning_reply raw o.first o.more b ∙ rw t refl), third_apart 63 (o.first ∷ (o.more ++ b ∷ [])) refl))
+    (λ u. (decided_reply o.first (o.more ++ b ∷ []) pause apart ∙ ended EndsNoReply is_reply_end reply_tested o.more b o.no_end.1 (is_one_of b 99 117 (inr (eqb-true b 117 u))), same_flags ∙ sym (meaning_reply raw o.first o.more b ∙ rw t refl), third_apart 63 (o.first ∷ (o.more ++ b ∷ [])) refl))
     (λ u. (
-      decided_reply o.first (o.more ++ b ∷ []) pause apart ∙ not_ended EndsNoReply is_reply_end reply_tells o.more b o.no_end.1 (rw (t, u) refl),
+      decided_reply o.first (o.more ++ b ∷ []) pause apart ∙ not_ended EndsNoReply is_reply_end reply_tested o.more b o.no_end.1 (rw (t, u) refl),
       record {
         first = o.first;
         more = o.more ++ b ∷ [];

@@ -225,8 +225,8 @@ arrived_gave n (Failed kind ∷ zs) = arrived_gave n zs
 -- What is taken and held if these answers came from the beginning on.
 pub accounted : (device_answers : List DeviceAnswer) (answers : List SourceAnswer) (done : List (Seen × ℕ)) (t : EventStore) → Answered device_answers answers → Account (arrived 0 answers) done t
     → IsAccounted device_answers done t.held
-accounted device_answers answers done t told k =
-    let f = answered_front device_answers answers told in
+accounted device_answers answers done t latest k =
+    let f = answered_front device_answers answers latest in
     let numbers = arrived_gave 0 answers in
     record {
       all = f.0;

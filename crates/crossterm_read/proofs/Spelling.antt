@@ -15,7 +15,7 @@ use Rattle.crossterm_parse.proofs.ViewLaws.{paste_left, quiet_first}
 use Rattle.crossterm_read.specs.Answers.{SourceAnswer, Gave, Nothing, Failed}
 use Rattle.crossterm_read.specs.Device.{DeviceAnswer, Bytes, Resized, Woken, Idle, Fault, marked_bytes}
 use Rattle.crossterm_parse.specs.View.{Represents}
-use Rattle.crossterm_read.specs.Scripted.{AnswersWith, ScriptLeft, ScriptTells}
+use Rattle.crossterm_read.specs.Scripted.{AnswersWith, ScriptLeft, ScriptAnswers}
 use Rattle.crossterm_read.specs.Outcomes.{IsAnsweredBy, Outcome, Ended, Single, is_pasting, Produces, Happens, Delivers, DeliversBytes, DeliversAll, Answered}
 use Rattle.crossterm_read.specs.Sources.{Source, at, SourceDrawn, At, EndNoEvent, Takes, GivesFirst, Turn, waited, again, fresh, other, Turns}
 
@@ -320,43 +320,43 @@ module _ (p m : At) (vs : List DeviceAnswer) (x : SourceAnswer) (xs : List Sourc
       }
 
 -- What holds of each state: its undecided bytes are undecided, and what is untaken was left.
-record Stands (p : At) : Type 0 where
+record Represented (p : At) : Type 0 where
   undecided : IsUndecided Whole p.undecided
   left : IsLeft p
 
-gives_stands : (w : List Seen) (mid m : At) (x : SourceAnswer) → Stands mid → GivesFirst w mid x m → Stands m
-gives_stands [] mid m x h g = subst Stands (sym g.1) h
-gives_stands (e ∷ es) mid m x h g = subst Stands (sym g.1) (record { undecided = h.undecided; left = h.left })
+gives_represents : (w : List Seen) (mid m : At) (x : SourceAnswer) → Represented mid → GivesFirst w mid x m → Represented m
+gives_represents [] mid m x h g = subst Represented (sym g.1) h
+gives_represents (e ∷ es) mid m x h g = subst Represented (sym g.1) (record { undecided = h.undecided; left = h.left })
 
-takes_stands : (before bytes : List Marked) (mid : At) → Takes before bytes mid → Stands mid
-takes_stands before bytes mid t = record { undecided = t.division.undecided; left = t.left }
+takes_represents : (before bytes : List Marked) (mid : At) → Takes before bytes mid → Represented mid
+takes_represents before bytes mid t = record { undecided = t.division.undecided; left = t.left }
 
-turn_stands : (p m : At) (us : List DeviceAnswer) (x : SourceAnswer) → Stands p → Turn p us x m → Stands m
-turn_stands p m us x h (waited e w u n ws g) = record {
+turn_represents : (p m : At) (us : List DeviceAnswer) (x : SourceAnswer) → Represented p → Turn p us x m → Represented m
+turn_represents p m us x h (waited e w u n ws g) = record {
   undecided = subst (λ (l : List Marked). IsUndecided Whole l) (sym n) h.undecided;
   left = subst (λ (l : List Marked). m.untaken ≢ [] → ¬ EndNoEvent l (take 1 m.untaken)) (sym n) (subst (λ (l : List Marked). l ≢ [] → ¬ EndNoEvent p.undecided (take 1 l)) (sym u) h.left);
 }
-turn_stands p m us x h (again mid w u ws t g) = gives_stands mid.waiting mid m x (takes_stands p.undecided p.untaken mid t) g
-turn_stands p m us x h (fresh bytes raw mid w u n ws t g) = gives_stands mid.waiting mid m x (takes_stands p.undecided (marked_bytes bytes raw) mid t) g
-turn_stands p m us x h (other w wt u ws a e) = subst Stands (sym e) h
+turn_represents p m us x h (again mid w u ws t g) = gives_represents mid.waiting mid m x (takes_represents p.undecided p.untaken mid t) g
+turn_represents p m us x h (fresh bytes raw mid w u n ws t g) = gives_represents mid.waiting mid m x (takes_represents p.undecided (marked_bytes bytes raw) mid t) g
+turn_represents p m us x h (other w wt u ws a e) = subst Represented (sym e) h
 
-next_turn : (p m : At) (us vs : List DeviceAnswer) (x : SourceAnswer) (xs : List SourceAnswer) → Stands p → Turn p us x m → Next m vs xs → Next p (us ++ vs) (x ∷ xs)
+next_turn : (p m : At) (us vs : List DeviceAnswer) (x : SourceAnswer) (xs : List SourceAnswer) → Represented p → Turn p us x m → Next m vs xs → Next p (us ++ vs) (x ∷ xs)
 next_turn p m us vs x xs h (waited e w u n ws g) next = subst (λ (l : List DeviceAnswer). Next p (l ++ vs) (x ∷ xs)) (sym ws) (next_waited p m vs x xs e w u n g next)
 next_turn p m us vs x xs h (again mid w u ws t g) next = subst (λ (l : List DeviceAnswer). Next p (l ++ vs) (x ∷ xs)) (sym ws) (next_again p m vs x xs mid w u h.left t g next)
 next_turn p m us vs x xs h (fresh bytes raw mid w u n ws t g) next = subst (λ (l : List DeviceAnswer). Next p (l ++ vs) (x ∷ xs)) (sym ws) (next_fresh p m vs x xs bytes raw mid w u h.undecided n t g next)
 next_turn p m us vs x xs h (other w wt u ws a e) next = subst (λ (l : List DeviceAnswer). Next p (l ++ vs) (x ∷ xs)) (sym ws) (next_other p m vs x xs w wt u h.undecided a e next)
 
-next_none : (p : At) → Stands p → Next p [] []
+next_none : (p : At) → Represented p → Next p [] []
 next_none p h ps r d = spell_none p.waiting p.untaken (current p.waiting ps) r
     (λ w u.
     let none = undivided p.undecided ps r h.undecided (subst (λ (l : List Marked). Divides Whole (p.undecided ++ l) ps r) u d) in
     ap (λ (l : List Seen). l ++ filter_map meaning_of ps) w ∙ ap (λ (l : List (List Marked)). filter_map meaning_of l) none.0)
     (λ u e. opens p.undecided p.untaken ps r u (h.left u) d (nil_right p.waiting (filter_map meaning_of ps) e))
 
-next_all : (p q : At) (ws : List DeviceAnswer) (xs : List SourceAnswer) → Stands p → Turns p ws xs q → Next p ws xs
+next_all : (p q : At) (ws : List DeviceAnswer) (xs : List SourceAnswer) → Represented p → Turns p ws xs q → Next p ws xs
 next_all p q ws [] h t = subst (λ (l : List DeviceAnswer). Next p l []) (sym t.0) (next_none p h)
 next_all p q ws (x ∷ xs) h t = subst (λ (l : List DeviceAnswer). Next p l (x ∷ xs)) (sym t.3)
-    (next_turn p t.2 t.0 t.1 x xs h t.4 (next_all t.2 q t.1 xs (turn_stands p t.2 t.0 x h t.4) t.5))
+    (next_turn p t.2 t.0 t.1 x xs h t.4 (next_all t.2 q t.1 xs (turn_represents p t.2 t.0 x h t.4) t.5))
 
 nil_undecided : IsUndecided Whole []
 nil_undecided = laws.nil_undecided Whole nil_not_whole
@@ -379,7 +379,7 @@ answered_of n q device_answers ws left xs t turns =
     }
 
 -- What a source over a script answers from its beginning on follows from the script.
-pub script_answered : (s t : Source ScriptLeft) (xs : List SourceAnswer) → s.parser.waiting ≡ [] → Represents s.parser [] → s.untaken ≡ [] → SourceDrawn ScriptTells s xs t → Answered s.device.left xs
+pub script_answered : (s t : Source ScriptLeft) (xs : List SourceAnswer) → s.parser.waiting ≡ [] → Represents s.parser [] → s.untaken ≡ [] → SourceDrawn ScriptAnswers s xs t → Answered s.device.left xs
 script_answered s t xs w h u d =
     let r = d.2 [] h nil_undecided in
     let same : at s [] ≡ record { waiting = []; untaken = []; undecided = []; room = s.parser.room } = λ i. record { waiting = w i; untaken = u i; undecided = []; room = s.parser.room } in

@@ -100,8 +100,8 @@ lasts timeout now h z = by_limit timeout.limit h z
     by_limit (Some d) h z = h (omega arith)
 
 -- What a clock returns first stays the first until the call's end.
-pub first_of : {C : Type 0} (told : C → ℕ) (began : C → ℕ → C → Type 0) (old now new : C) (start : ℕ) → start ≡ told now → told old ≤ told now → told now ≤ told new → began old (told now) now → KeepsFirst began now new → IsFirst told began old new start
-first_of told began old now new start e later more first keeps = subst (IsFirst told began old new) (sym e) (later, more, keeps old (told now) first)
+pub first_of : {C : Type 0} (latest : C → ℕ) (began : C → ℕ → C → Type 0) (old now new : C) (start : ℕ) → start ≡ latest now → latest old ≤ latest now → latest now ≤ latest new → began old (latest now) now → KeepsFirst began now new → IsFirst latest began old new start
+first_of latest began old now new start e later more first keeps = subst (IsFirst latest began old new) (sym e) (later, more, keeps old (latest now) first)
 
 -- Without a limit a call that goes on at a wake-up doesn't end with nothing.
 pub never_nothing : (f : Seen → Bool) (limit : Option Duration) → limit ≡ None → (past : ℕ) (zs : List SourceAnswer) (s t : EventStore) → NextStep GoesOn (Within limit past) f zs s t (ToTake None) → ⊥

@@ -46,10 +46,10 @@ anything = record { answered = λ _ _ _. ⊤; none = λ _. tt; on = λ _ _ _ _ _
 
 -- How a device answers that hands on the answers of another one inside it.
 abbrev pub answering_within : {D E : Type 0} → (D → E) → Answering E → Answering D
-answering_within inner telling = record {
-  answered = λ s device_answers t. telling.answered (inner s) device_answers (inner t);
-  none = λ s. telling.none (inner s);
-  on = λ s t u. telling.on (inner s) (inner t) (inner u);
+answering_within inner answering = record {
+  answered = λ s device_answers t. answering.answered (inner s) device_answers (inner t);
+  none = λ s. answering.none (inner s);
+  on = λ s t u. answering.on (inner s) (inner t) (inner u);
 }
 
 -- The limit is zero: a device answers without waiting.

@@ -5,7 +5,7 @@ use Rattle.crossterm_read.specs.Answers.{SourceAnswer}
 use Rattle.crossterm_read.specs.Calls.{IsAccounted, empty}
 use Rattle.crossterm_read.specs.History.{Entry, Runs, answers_of, taken_by}
 use Rattle.crossterm_read.specs.Outcomes.{Answered}
-use Rattle.crossterm_read.specs.Scripted.{ScriptLeft, ScriptTells}
+use Rattle.crossterm_read.specs.Scripted.{ScriptLeft, ScriptAnswers}
 use Rattle.crossterm_read.specs.Store.{ReaderState}
 use Rattle.crossterm_read.specs.Sources.{Source, SourceDrawn}
 
@@ -16,11 +16,11 @@ pub record IsNew {D : Type 0} (s : Source D) : Type 0 where
   pub untaken : s.untaken ≡ []
 
 -- What a new source over a script answers follows from the script's answers.
-abbrev pub ScriptsAreTold : Type 0
-ScriptsAreTold = (s t : Source ScriptLeft) (xs : List SourceAnswer) → IsNew s → SourceDrawn ScriptTells s xs t → Answered s.device.left xs
+abbrev pub ScriptsReplay : Type 0
+ScriptsReplay = (s t : Source ScriptLeft) (xs : List SourceAnswer) → IsNew s → SourceDrawn ScriptAnswers s xs t → Answered s.device.left xs
 
 -- In a legal history over a script, each of the first events that happen was taken or is held, once. The reader held
 -- nothing at first.
-abbrev pub HistoriesAreTold : Type 0
-HistoriesAreTold = (o t : ReaderState (Source ScriptLeft)) (log : List Entry) → IsNew o.source → o.store ≡ empty → Runs (SourceDrawn ScriptTells) o log t
+abbrev pub HistoriesOverScripts : Type 0
+HistoriesOverScripts = (o t : ReaderState (Source ScriptLeft)) (log : List Entry) → IsNew o.source → o.store ≡ empty → Runs (SourceDrawn ScriptAnswers) o log t
     → Answered o.source.device.left (answers_of log) × IsAccounted o.source.device.left (taken_by log) t.store.held

@@ -63,11 +63,11 @@ pub record ScriptLeft : Type 0 where
   pub failed : ℕ
 
 -- The first of the answers that were left were given, and the errors among them counted.
-abbrev pub ScriptTells : ScriptLeft → List DeviceAnswer → ScriptLeft → Type 0
-ScriptTells s xs t = AnswersWith s.left xs t.left × (t.failed ≡ s.failed + faults xs)
+abbrev pub ScriptAnswers : ScriptLeft → List DeviceAnswer → ScriptLeft → Type 0
+ScriptAnswers s xs t = AnswersWith s.left xs t.left × (t.failed ≡ s.failed + faults xs)
 
 -- The two laws.
-pub script_none : (s : ScriptLeft) → ScriptTells s [] s
+pub script_none : (s : ScriptLeft) → ScriptAnswers s [] s
 script_none s = (refl, sym (add-zero s.failed))
 
 answers_on : (l m k : List DeviceAnswer) (xs ys : List DeviceAnswer) → AnswersWith l xs m → AnswersWith m ys k → AnswersWith l (xs ++ ys) k
@@ -75,7 +75,7 @@ answers_on l m k [] ys d e = subst (λ (i : List DeviceAnswer). AnswersWith i ys
 answers_on [] m k (x ∷ xs) ys d e = (d.0, answers_on [] m k xs ys d.1 e)
 answers_on (w ∷ l) m k (x ∷ xs) ys d e = (d.0, answers_on l m k xs ys d.1 e)
 
-pub script_on : (s t u : ScriptLeft) (xs ys : List DeviceAnswer) → ScriptTells s xs t → ScriptTells t ys u → ScriptTells s (xs ++ ys) u
+pub script_on : (s t u : ScriptLeft) (xs ys : List DeviceAnswer) → ScriptAnswers s xs t → ScriptAnswers t ys u → ScriptAnswers s (xs ++ ys) u
 script_on s t u xs ys d e = (
   answers_on s.left t.left u.left xs ys d.0 e.0,
   e.1 ∙ ap (λ (n : ℕ). n + faults ys) d.1 ∙ add_assoc s.failed (faults xs) (faults ys) ∙ ap (λ (n : ℕ). s.failed + n) (sym (sum_by-append _ xs ys)),
@@ -83,4 +83,4 @@ script_on s t u xs ys d e = (
 
 -- How a script answers, as a device.
 abbrev pub script_answering : Answering ScriptLeft
-script_answering = record { answered = ScriptTells; none = script_none; on = script_on }
+script_answering = record { answered = ScriptAnswers; none = script_none; on = script_on }

@@ -2,7 +2,7 @@
 ghost use Rattle.crossterm_read.specs.Calls.{CountsTries};
 ghost use Rattle.crossterm_read.specs.OneResult.{OneResult, OneShown};
 ghost use Rattle.crossterm_read.specs.Outcomes.{HappensByDivision};
-ghost use Rattle.crossterm_read.specs.OverScripts.{HistoriesAreTold, ScriptsAreTold};
+ghost use Rattle.crossterm_read.specs.OverScripts.{HistoriesOverScripts, ScriptsReplay};
 
 /// The law of what happens: the events of bytes are those of the only division of all bytes, and resizes take no part in it.
 pub fn one_happening()
@@ -15,14 +15,14 @@ pub fn counts_tries()
 {}
 
 /// The law of scripts: what a new source over a script answers comes of the script's answers.
-pub fn scripts_are_told()
-    ensures { ScriptsAreTold }
+pub fn scripts_replay()
+    ensures { ScriptsReplay }
 {}
 
 /// The law of histories over a script, whichever threads made their calls: what the source answered comes of the script's answers. The
 /// events that were taken and those that are held are, each once, the first ones of all that happens by the script.
-pub fn histories_are_told()
-    ensures { HistoriesAreTold }
+pub fn histories_over_scripts()
+    ensures { HistoriesOverScripts }
 {}
 
 /// The law of results: two runs of the same calls over the same answers have the same replies, and leave the same events. That holds if no

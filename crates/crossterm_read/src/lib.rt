@@ -25,7 +25,7 @@
 //! | two runs of the same calls over the same answers have one result, if neither was refused memory, and no answer's bytes both end an event and leave a paste open | `read::play`, `laws::one_result` |
 //! | a device over a reader returns the reader's next bytes, in order, and the end only at its end, if the reader says what it contains; it reports no size if nothing reports sizes | `Device::answer` of `ReadDevice`, `PolledDevice`, `SocketDevice` |
 //! | an error of the system is returned and counted once, unless it says that nothing came yet, or no more can be counted | `failures::answer_at` |
-//! | threads share one history (the third theorem), over a script too; a look at the open paste is a poll with no try; the keyboard query waits twice, each time with its own limit; each event was taken once or is held; the events that one filter takes have rising numbers | `EventReader::{new, share, poll, read, read_for, poll_by, read_by, position_by, keyboard_by, paste_len, meet, close}`, `laws::histories_are_told` |
+//! | threads share one history (the third theorem), over a script too; a look at the open paste is a poll with no try; the keyboard query waits twice, each time with its own limit; each event was taken once or is held; the events that one filter takes have rising numbers | `EventReader::{new, share, poll, read, read_for, poll_by, read_by, position_by, keyboard_by, paste_len, meet, close}`, `laws::histories_over_scripts` |
 //! | a read with a limit is a read that took an event, or a poll that found none; a shared poll that makes no entry returns `Ok(false)` after its limit; every call puts the reader back | the same |
 //! | an item of a stream is the reply of one read with limit zero in that history, or an error, never `Interrupted`; a pending poll has registered its waker; both passes come back | `EventStream::{new, with_worker, poll_event, poll_next, close}`, `StreamWorker::join` |
 //!
@@ -49,7 +49,7 @@
 //! | `OneResult` | 61 | two runs of the same calls over the same answers | `laws::one_result` |
 //! | `History` | 191 | the one legal history of a reader that threads share | `EventReader`, `Pass` |
 //! | `Entries` | 113 | which call an entry of it is | `EventReader::{poll, read, read_for, poll_by, read_by, position_by, keyboard_by, paste_len}` |
-//! | `OverScripts` | 26 | what a history over a script comes to | `laws::{scripts_are_told, histories_are_told}` |
+//! | `OverScripts` | 26 | what a history over a script comes to | `laws::{scripts_replay, histories_over_scripts}` |
 //! | `Seats` | 19 | what a clause says of a pass | `EventReader::{new, share, meet, close}` |
 //! | `Shared` | 15 | what it says of a share | `EventReader::{new, share}` |
 //! | `Streams` | 41 | what a stream answers, and what its worker does | `EventStream::{poll_event, poll_next}`, `StreamWorker::join` |

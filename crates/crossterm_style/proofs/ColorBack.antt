@@ -16,10 +16,10 @@ use Rattle.crossterm_style.proofs.MarkLaws.{byte_back}
 use Rattle.crossterm_style.proofs.TextLaws.{IsDigit, byte_digits, byte_reads}
 
 -- The text of a colour without numbers is its name.
-pub named_told : (c : Color) → ((n : ℕ) → c ≡ color.AnsiValue n → ⊥) → ((r g b : ℕ) → c ≡ color.Rgb r g b → ⊥) → color_text c ≡ color_name c
-named_told (color.AnsiValue n) f g = absurd (f n refl)
-named_told (color.Rgb r g b) f h = absurd (h r g b refl)
-named_told _ f g = refl
+pub named_json : (c : Color) → ((n : ℕ) → c ≡ color.AnsiValue n → ⊥) → ((r g b : ℕ) → c ≡ color.Rgb r g b → ⊥) → color_text c ≡ color_name c
+named_json (color.AnsiValue n) f g = absurd (f n refl)
+named_json (color.Rgb r g b) f h = absurd (h r g b refl)
+named_json _ f g = refl
 
 by_names : {X : Type 0} (a b c : Bool) (x y z : Option X) → (a ≡ true → ⊥) → (b ≡ true → ⊥) → (c ≡ true → ⊥) → (if a then x else (if b then y else (if c then z else None))) ≡ None
 by_names true b c x y z f g h = absurd (f refl)

@@ -20,7 +20,7 @@ part_found text part false none = (
 )
 
 -- The first name that is there counts.
-pub first_tells : (first second : Option (Bor (List ℕ))) (name : Bor (List ℕ)) (count : ℕ) → option_or first second ≡ Some name → CountsColors name.now count → CountsColorsOf first second count
-first_tells (Some x) second name count e p = let same : name ≡ x = cc in subst (λ y. CountsColors y.now count) same p
-first_tells None (Some x) name count e p = let same : name ≡ x = cc in subst (λ y. CountsColors y.now count) same p
-first_tells None None name count e p = absurd (cc)
+pub first_says : (first second : Option (Bor (List ℕ))) (name : Bor (List ℕ)) (count : ℕ) → option_or first second ≡ Some name → CountsColors name.now count → CountsColorsOf first second count
+first_says (Some x) second name count e p = let same : name ≡ x = cc in subst (λ y. CountsColors y.now count) same p
+first_says None (Some x) name count e p = let same : name ≡ x = cc in subst (λ y. CountsColors y.now count) same p
+first_says None None name count e p = absurd (cc)

@@ -11,7 +11,7 @@ pub mod ReadingLaws
 pub mod SetLaws
 pub mod SetMembers
 pub mod StyledLooks
-pub mod Telling
+pub mod ActTokens
 pub mod TextLaws
 pub mod ColorBack
 pub mod MarkLaws

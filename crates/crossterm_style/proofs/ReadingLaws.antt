@@ -42,23 +42,23 @@ colored_after fs rest n c first p =
 begins_as : (fs rest : List (List ℕ)) (n m : ℕ) → n ≡ m → BeginsWith fs n rest → BeginsWith fs m rest
 begins_as fs rest n m e first = subst (λ k. BeginsWith fs k rest) e first
 
-place_told : (set reset : ℕ) (fs rest : List (List ℕ)) (n : ℕ) (c : Color) → BeginsWith fs n rest → PlaceAfter set reset n rest c
+place_by : (set reset : ℕ) (fs rest : List (List ℕ)) (n : ℕ) (c : Color) → BeginsWith fs n rest → PlaceAfter set reset n rest c
     → (sgr : SgrColor) × ReadsPlace set reset fs sgr × (c ≡ color_of sgr)
-place_told set reset fs rest n c first (inl p) =
+place_by set reset fs rest n c first (inl p) =
     let begins = begins_as fs rest n reset p.0 first in
     (Own, (begins.0, begins.1 ∙ ap (λ l. begins.0 ∷ l) p.1, begins.2), p.2)
-place_told set reset fs rest n c first (inr (e, (Own, p, f))) = absurd p
-place_told set reset fs rest n c first (inr (e, (Indexed k, p, f))) =
+place_by set reset fs rest n c first (inr (e, (Own, p, f))) = absurd p
+place_by set reset fs rest n c first (inr (e, (Indexed k, p, f))) =
     let begins = begins_as fs rest n set e first in
     (Indexed k, (begins.0, rest, begins.1, begins.2, p), f)
-place_told set reset fs rest n c first (inr (e, (Rgb r g b, p, f))) =
+place_by set reset fs rest n c first (inr (e, (Rgb r g b, p, f))) =
     let begins = begins_as fs rest n set e first in
     (Rgb r g b, (begins.0, rest, begins.1, begins.2, p), f)
 
-pub colored_told : (fs rest : List (List ℕ)) (n : ℕ) (c : Colored) → BeginsWith fs n rest → ColoredAfter n rest c → ReadsColored fs c
-colored_told fs rest n (ForegroundColor c) first p = place_told 38 39 fs rest n c first p
-colored_told fs rest n (BackgroundColor c) first p = place_told 48 49 fs rest n c first p
-colored_told fs rest n (UnderlineColor c) first p = place_told 58 59 fs rest n c first p
+pub colored_json : (fs rest : List (List ℕ)) (n : ℕ) (c : Colored) → BeginsWith fs n rest → ColoredAfter n rest c → ReadsColored fs c
+colored_json fs rest n (ForegroundColor c) first p = place_by 38 39 fs rest n c first p
+colored_json fs rest n (BackgroundColor c) first p = place_by 48 49 fs rest n c first p
+colored_json fs rest n (UnderlineColor c) first p = place_by 58 59 fs rest n c first p
 
 -- ---- SGR parameters, by what follows the number
 
@@ -104,7 +104,7 @@ answers_no_ink fs rest n first more none c p = no_colored_by_ink n rest more non
 pub answers_set : (fs rest : List (List ℕ)) (n : ℕ) (sgr : SgrColor) (d : Color) (o : Option Colored) → BeginsWith fs n rest → ReadsInk rest sgr → d ≡ color_of sgr → MatchOption o (SetsNone n) (SetsPlace n d)
     → MatchOption o ((c : Colored) → ReadsColored fs c → ⊥) (ReadsColored fs)
 answers_set fs rest n sgr d None first r e p = λ c q. no_colored_set n rest (sgr_there rest sgr r) p c (colored_after fs rest n c first q)
-answers_set fs rest n sgr d (Some c) first r e p = colored_told fs rest n c first (sets_after n rest d c (sgr, r, e) p)
+answers_set fs rest n sgr d (Some c) first r e p = colored_json fs rest n c first (sets_after n rest d c (sgr, r, e) p)
 
 -- ---- one reading
 

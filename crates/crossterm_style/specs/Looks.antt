@@ -183,7 +183,7 @@ by_parameters (p ∷ ps) (suc taken) s = by_parameters ps taken s
 by_parameters (Number n ∷ ps) zero s =
     elim (color_place n) [
       | None ↦ by_parameters ps zero (by_number n s)
-      | Some place ↦ elim (color_at ps) [ None ↦ s | Some told ↦ by_parameters ps told.1 (put place (Some told.0) s) ]
+      | Some place ↦ elim (color_at ps) [ None ↦ s | Some found ↦ by_parameters ps found.1 (put place (Some found.0) s) ]
     ]
 by_parameters (Kind k ∷ ps) zero s = by_parameters ps zero (by_kind k s)
 by_parameters (Other ∷ ps) zero s = by_parameters ps zero s

@@ -26,7 +26,7 @@
 //! | `Appearance` | 77 | what terminals receive shows as commands paint | `laws::{looks, styled_ends_plain}` |
 //! | `Values` | 179 | colours and attributes as JSON | `to_value` and `from_value` of each |
 //!
-//! Crates above cite the lemmas of `ActLooks`, `Fitting`, `Parameters`, `Telling`, `TextLaws`.
+//! Crates above cite the lemmas of `ActLooks`, `Fitting`, `Parameters`, `ActTokens`, `TextLaws`.
 //!
 //! A function's proof is in `proofs/` at the function's path; if there is no file, the prover found it by itself.
 #![tactic(auto)]

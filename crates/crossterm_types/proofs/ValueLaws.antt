@@ -93,13 +93,13 @@ none_of text a b c d w x y z f g h k =
 -- ---- keys
 
 -- A key without a value is written as its variant.
-pub plain_told : (c : KeyCode) → ((n : ℕ) → c ≡ code.F n → ⊥) → ((n : ℕ) → c ≡ code.Char n → ⊥) → ((k : MediaKeyCode) → c ≡ code.Media k → ⊥) → ((k : ModifierKeyCode) → c ≡ code.Modifier k → ⊥)
+pub plain_json : (c : KeyCode) → ((n : ℕ) → c ≡ code.F n → ⊥) → ((n : ℕ) → c ≡ code.Char n → ⊥) → ((k : MediaKeyCode) → c ≡ code.Media k → ⊥) → ((k : ModifierKeyCode) → c ≡ code.Modifier k → ⊥)
     → code_value c ≡ string (variant plain_keys c)
-plain_told (code.F n) f g h k = absurd (f n refl)
-plain_told (code.Char n) f g h k = absurd (g n refl)
-plain_told (code.Media key) f g h k = absurd (h key refl)
-plain_told (code.Modifier key) f g h k = absurd (k key refl)
-plain_told _ f g h k = refl
+plain_json (code.F n) f g h k = absurd (f n refl)
+plain_json (code.Char n) f g h k = absurd (g n refl)
+plain_json (code.Media key) f g h k = absurd (h key refl)
+plain_json (code.Modifier key) f g h k = absurd (k key refl)
+plain_json _ f g h k = refl
 
 below_back : (b : Bool) (n : ℕ) → b ≡ true → (if b then Some n else None) ≡ Some n
 below_back true n h = refl

@@ -24,7 +24,7 @@ left_over timeout now = option_map (λ limit. as_nanos limit - gone timeout now)
 
 -- Between two states of a clock, this was the first time that it returned.
 abbrev pub IsFirst : {C : Type 0} → (C → ℕ) → (C → ℕ → C → Type 0) → C → C → ℕ → Type 0
-IsFirst told began old new start = (told old ≤ start) × (start ≤ told new) × began old start new
+IsFirst latest began old new start = (latest old ≤ start) × (start ≤ latest new) × began old start new
 
 -- The first time that the clock returned, from any state on, stays the first.
 abbrev pub KeepsFirst : {C : Type 0} → (C → ℕ → C → Type 0) → C → C → Type 0

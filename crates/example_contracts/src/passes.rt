@@ -111,7 +111,7 @@ impl<S: EventSource<A>, A: Allocator + Clone> Client<S, A> {
         limit: Option<Duration>,
         clock: &mut C,
     ) -> io::Result<Option<InternalEvent<A>>>
-        ensures calls { (m : Known S) × (ready : Result Bool Error) × Polls S.drawn S.asked filters.Event limit (IsFirst C.told C.began clock.old clock.new) (C.told clock.new) (knows self.old.pass) m ready
+        ensures calls { (m : Known S) × (ready : Result Bool Error) × Polls S.drawn S.asked filters.Event limit (IsFirst C.latest C.began clock.old clock.new) (C.latest clock.new) (knows self.old.pass) m ready
             × ((knows self.new.pass ≡ m) ⊎ ((said : Said) × Reads S.drawn S.asked filters.Event m (knows self.new.pass) said)) }
     {
         match self

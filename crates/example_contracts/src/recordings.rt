@@ -50,7 +50,7 @@ pub fn read_two<D: Device, W: Write + Drop, C: Clock + Drop, A: Allocator + Clon
 ) -> io::Result<TwoReads<D, W, C, A>>
     ensures ok { IfOk result (λ two. two.reader.source.device.stop ≡ None →
         CallsReplay W.contents D.answering.answered
-        (record { device = device; writer = writer; clock = C.told clock; room = None; stop = None })
+        (record { device = device; writer = writer; clock = C.latest clock; room = None; stop = None })
         two.reader.source.device
         (call.Read tries filters.Event ∷ call.Read tries filters.Event ∷ [])
         (try_said two.first ∷ try_said two.second ∷ [])

@@ -9,19 +9,16 @@ use std::sync::Wait;
 use std::time::Duration;
 
 const HELP: &str =
-    "Keys, mouse, focus and pastes show here; c tells the cursor's place, Esc ends.\r\n";
+    "Keys, mouse, focus and pastes show here; c shows the cursor's place, Esc ends.\r\n";
 
 fn is_quit(key: &KeyEvent) -> bool {
     key.code == KeyCode::Esc || *key == KeyEvent::new(KeyCode::Char('c'), KeyModifiers::CONTROL)
 }
 
 /// Shows where the cursor is.
-fn tell_place(rt: &impl Wait, tty: &mut Tty<'_>) -> io::Result<()> {
+fn report_position(rt: &impl Wait, tty: &mut Tty<'_>) -> io::Result<()> {
     let (column, row) = tty.position(rt)?;
-    write!(
-        tty.out,
-        "the cursor stands in column {column}, row {row}\r\n"
-    )
+    write!(tty.out, "the cursor is in column {column}, row {row}\r\n")
 }
 
 /// Shows one event, and returns whether it is the last one.
@@ -31,7 +28,7 @@ fn show(rt: &impl Wait, tty: &mut Tty<'_>, event: &Event) -> io::Result<bool> {
         return Ok(false);
     };
     if *key == KeyEvent::from(KeyCode::Char('c')) {
-        tell_place(rt, tty)?;
+        report_position(rt, tty)?;
     }
     Ok(is_quit(key))
 }

@@ -58,7 +58,7 @@ struct Player<'a, C> {
     script: Script,
     /// When each answer came, in milliseconds.
     times: Vec<u32>,
-    told: usize,
+    answered: usize,
     speed: Option<u32>,
 }
 
@@ -79,25 +79,25 @@ impl<'a, C: Clock> Player<'a, C> {
             clock,
             script: Script::new(session.acts),
             times,
-            told: 0,
+            answered: 0,
             speed,
         })
     }
 
     /// When the last answer came: 0 before the first one.
     fn time(&self) -> u32 {
-        let last = self.told.min(self.times.len()).checked_sub(1);
+        let last = self.answered.min(self.times.len()).checked_sub(1);
         last.and_then(|at| self.times.get(at).copied()).unwrap_or(0)
     }
 
     /// Whether all was answered, and the end of input too.
     fn is_over(&self) -> bool {
-        self.times.len() < self.told
+        self.times.len() < self.answered
     }
 
     /// Waits until the next answer comes.
     fn wait(&self) {
-        let next = self.times.get(self.told).copied().unwrap_or(0);
+        let next = self.times.get(self.answered).copied().unwrap_or(0);
         let pause = next.saturating_sub(self.time());
         if let Some(speed) = self.speed {
             let millis = pause.checked_div(speed).unwrap_or(0);
@@ -119,7 +119,7 @@ impl<C: Clock> Device for Player<'_, C> {
 
     fn answer(&mut self, buf: &mut [u8], limit: Option<Duration>) -> io::Result<Answer> {
         self.wait();
-        self.told = self.told.saturating_add(1);
+        self.answered = self.answered.saturating_add(1);
         self.script.answer(buf, limit)
     }
 

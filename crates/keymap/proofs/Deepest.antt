@@ -114,8 +114,8 @@ longest_deepest i (cs ∷ bound) ks short =
     ∙ one_longer i cs ks m g (is_front cs ks) refl short.0.0 (λ l. let few = short.0.1 in omega (arith, l, few)))
 
 -- What a table finds is the longest list.
-pub tells_longest : {S : Type 0} (bound : Bound) (places : HashMap (List KeyEvent) Place S) (ks : List KeyEvent) → AreShort bound → HasPlaces bound places
+pub right_longest : {S : Type 0} (bound : Bound) (places : HashMap (List KeyEvent) Place S) (ks : List KeyEvent) → AreShort bound → HasPlaces bound places
     → deepest (λ n. (place_at places (take n ks)).number) (min (length ks) 8) ≡ longest bound ks
-tells_longest bound places ks short tells =
-    deepest_same (λ n. (place_at places (take n ks)).number) (λ n. number_from 0 bound (take n ks)) (min (length ks) 8) (λ n l. ap (λ (p : Place). p.number) (tells (take n ks)))
+right_longest bound places ks short right_places =
+    deepest_same (λ n. (place_at places (take n ks)).number) (λ n. number_from 0 bound (take n ks)) (min (length ks) 8) (λ n l. ap (λ (p : Place). p.number) (right_places (take n ks)))
     ∙ sym (longest_deepest 0 bound ks short)

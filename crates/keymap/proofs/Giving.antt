@@ -5,11 +5,11 @@ use Rattle.crossterm_types.specs.declared.event.key.KeyEvent.{KeyEvent}
 use Rattle.std.specs.List.{AllByRecursion}
 use Rattle.keymap.specs.Bindings.{AreShort, Binding, bound_of}
 use Rattle.keymap.specs.Chords.{Bound, longest, is_begun}
-use Rattle.keymap.specs.Cut.{cut_keys, given, left, told_of, more_of}
+use Rattle.keymap.specs.Cut.{cut_keys, given, left, outcome_of, more_of}
 use Rattle.keymap.specs.Matching.{Matching, IsFed, IsFlushed}
-use Rattle.keymap.specs.Told.{Told}
+use Rattle.keymap.specs.Outcomes.{SeenOutcome}
 use Rattle.keymap.specs.declared.inside.Match.{Match}
-use Rattle.keymap.specs.inside.Giving.{after_first, told_first}
+use Rattle.keymap.specs.inside.Giving.{after_first, first_outcomes}
 use Rattle.keymap.proofs.Cutting.{first, goes_on, begun_short}
 
 -- Of so many keys the first are gone past.
@@ -51,19 +51,19 @@ module _ (bound : Bound) where
   after_is (k ∷ ks) h = rw add-one refl
 
   -- The outcome of the first key comes first.
-  pub told_is : (keys remaining rest : List KeyEvent) (key : KeyEvent) (found : Option Match) (t : Told) → t ≡ told_of key found → found ≡ longest bound remaining → remaining ≡ key ∷ rest → remaining ≡ keys → t ∷ [] ≡ told_first bound keys
-  told_is keys remaining rest key found t e f s r =
-      ap (λ x. x ∷ []) e ∙ ap (λ g. told_of key g ∷ []) (f ∙ ap (longest bound) s) ∙ ap (told_first bound) (sym s ∙ r)
+  pub outcome_is : (keys remaining rest : List KeyEvent) (key : KeyEvent) (found : Option Match) (t : SeenOutcome) → t ≡ outcome_of key found → found ≡ longest bound remaining → remaining ≡ key ∷ rest → remaining ≡ keys → t ∷ [] ≡ first_outcomes bound keys
+  outcome_is keys remaining rest key found t e f s r =
+      ap (λ x. x ∷ []) e ∙ ap (λ g. outcome_of key g ∷ []) (f ∙ ap (longest bound) s) ∙ ap (first_outcomes bound) (sym s ∙ r)
 
   pub fewer : (keys : List KeyEvent) → 0 < length keys → length (after_first bound keys) < length keys
   fewer [] h = absurd (omega arith)
   fewer (k ∷ ks) h = omega (arith, length-drop (more_of (longest bound (k ∷ ks))) ks)
 
-  pub cut_on : (keys : List KeyEvent) → 0 < length keys → cut_keys bound keys ≡ told_first bound keys ++ cut_keys bound (after_first bound keys)
+  pub cut_on : (keys : List KeyEvent) → 0 < length keys → cut_keys bound keys ≡ first_outcomes bound keys ++ cut_keys bound (after_first bound keys)
   cut_on [] h = absurd (omega arith)
   cut_on (k ∷ ks) h = (first bound k ks).is_cut
 
-  pub given_on : (keys : List KeyEvent) → 0 < length keys → is_begun bound keys ≡ false → given bound keys ≡ told_first bound keys ++ given bound (after_first bound keys)
+  pub given_on : (keys : List KeyEvent) → 0 < length keys → is_begun bound keys ≡ false → given bound keys ≡ first_outcomes bound keys ++ given bound (after_first bound keys)
   given_on [] h u = absurd (omega arith)
   given_on (k ∷ ks) h u = (first bound k ks).is_given u
 
@@ -86,14 +86,14 @@ fed m n key same alike short w u = record {
   keymap = same;
   passes = alike;
   few = short;
-  gives = λ keys stands.
+  gives = λ keys represents.
       let bound = bound_of m.keymap in
       let g = goes_on 0 bound keys (key ∷ []) (omega arith) in
       record {
         more = given bound (m.undecided ++ key ∷ []);
         waiting = w;
-        told = g.given ∙ ap (λ v. given bound keys ++ given bound (v ++ key ∷ [])) (sym stands);
-        stands = subst (λ (map : List Binding). n.undecided ≡ left (bound_of map) (keys ++ key ∷ [])) (sym same) (u ∙ ap (λ v. left bound (v ++ key ∷ [])) stands ∙ sym g.kept);
+        grows = g.given ∙ ap (λ v. given bound keys ++ given bound (v ++ key ∷ [])) (sym represents);
+        represents = subst (λ (map : List Binding). n.undecided ≡ left (bound_of map) (keys ++ key ∷ [])) (sym same) (u ∙ ap (λ v. left bound (v ++ key ∷ [])) represents ∙ sym g.kept);
       };
 }
 
@@ -102,13 +102,13 @@ pub flushed : (m n : Matching) → n.keymap ≡ m.keymap → n.passes ≡ m.pass
 flushed m n same alike w u = record {
   keymap = same;
   passes = alike;
-  gives = λ keys stands.
+  gives = λ keys represents.
       let bound = bound_of m.keymap in
       record {
         more = cut_keys bound m.undecided;
         waiting = w;
-        told = rest bound keys ∙ ap (λ v. given bound keys ++ cut_keys bound v) (sym stands);
-        stands = u;
+        grows = rest bound keys ∙ ap (λ v. given bound keys ++ cut_keys bound v) (sym represents);
+        represents = u;
       };
 }
   where

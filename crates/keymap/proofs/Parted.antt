@@ -5,9 +5,9 @@ use Rattle.std.proofs.lemmas.Bool.Decides.{nat_tests}
 use Rattle.crossterm_types.specs.declared.event.key.KeyEvent.{KeyEvent}
 use Rattle.keymap.specs.Bindings.{AreShort}
 use Rattle.keymap.specs.declared.inside.Match.{Match}
-use Rattle.keymap.specs.Told.{Told, Action, Key, Event}
+use Rattle.keymap.specs.Outcomes.{SeenOutcome, Action, Key, Event}
 use Rattle.keymap.specs.Chords.{Bound, is_front, longer_match, longest_from, longest}
-use Rattle.keymap.specs.Cut.{cut_keys, told_of, told_at, more_of, places_after}
+use Rattle.keymap.specs.Cut.{cut_keys, outcome_of, outcome_there, more_of, places_after}
 use Rattle.keymap.specs.Parts.{Part, keys_of_parts, IsLongest, IsUnbound, IsOutcomeOf, AreRight, IsOnlyCut}
 use Rattle.keymap.proofs.Cutting.{first}
 
@@ -150,27 +150,27 @@ some_chords (cs ∷ bound) zero chords s at = (let same : cs ≡ chords = cc in 
 some_chords (cs ∷ bound) (suc i) chords s at = some_chords bound i chords s.1 at
 
 -- The cut begins with the outcome of a part.
-cut_part : (bound : Bound) → AreShort bound → (outcome : Told) (part rest : List KeyEvent) → IsOutcomeOf bound outcome part rest → cut_keys bound (part ++ rest) ≡ outcome ∷ cut_keys bound rest
+cut_part : (bound : Bound) → AreShort bound → (outcome : SeenOutcome) (part rest : List KeyEvent) → IsOutcomeOf bound outcome part rest → cut_keys bound (part ++ rest) ≡ outcome ∷ cut_keys bound rest
 cut_part bound s (Event e) part rest h = absurd h
 cut_part bound s (Action number) [] rest h = absurd (omega (arith, h.counts, some_chords bound number h.chords s h.is_bound))
 cut_part bound s (Action number) (k ∷ ks) rest h =
     let m = longest_is bound (k ∷ (ks ++ rest)) number (suc (length ks)) h (longest bound (k ∷ (ks ++ rest))) (found 0 bound (k ∷ (ks ++ rest))) in
     let one : suc (length ks) - 1 ≡ length ks = omega arith in
-    (first bound k (ks ++ rest)).is_cut ∙ ap (λ m. told_of k m ∷ cut_keys bound (drop (more_of m) (ks ++ rest))) m
+    (first bound k (ks ++ rest)).is_cut ∙ ap (λ m. outcome_of k m ∷ cut_keys bound (drop (more_of m) (ks ++ rest))) m
     ∙ ap (λ n. Action number ∷ cut_keys bound (drop n (ks ++ rest))) one ∙ ap (λ l. Action number ∷ cut_keys bound l) (dropped ks rest)
 cut_part bound s (Key key) part rest h =
     let m = unbound_is bound (key ∷ rest) (subst (λ (l : List KeyEvent). IsUnbound bound (l ++ rest)) h.0 h.1) (longest bound (key ∷ rest)) (found 0 bound (key ∷ rest)) in
-    ap (λ l. cut_keys bound (l ++ rest)) h.0 ∙ (first bound key rest).is_cut ∙ ap (λ m. told_of key m ∷ cut_keys bound (drop (more_of m) rest)) m
+    ap (λ l. cut_keys bound (l ++ rest)) h.0 ∙ (first bound key rest).is_cut ∙ ap (λ m. outcome_of key m ∷ cut_keys bound (drop (more_of m) rest)) m
 
 cut_parts : (bound : Bound) → AreShort bound → (parts : List Part) → AreRight bound parts → map (λ part. part.outcome) parts ≡ cut_keys bound (keys_of_parts parts)
 cut_parts bound s [] r = refl
 cut_parts bound s (part ∷ parts) r = ap (λ l. part.outcome ∷ l) (cut_parts bound s parts r.1) ∙ sym (cut_part bound s part.outcome part.keys (keys_of_parts parts) r.0)
 
 -- The outcome at a place is that of the keys that belong to it.
-stands_there : (bound : Bound) → AreShort bound → (k : KeyEvent) (ks rest : List KeyEvent) (m : Option Match) → Found 0 bound (k ∷ ks) m → more_of m ≤ length ks → take (more_of m) ks ++ rest ≡ ks
-    → IsOutcomeOf bound (told_of k m) (k ∷ take (more_of m) ks) rest
-stands_there bound s k ks rest None h w e = (refl, subst (λ (l : List KeyEvent). IsUnbound bound (k ∷ l)) (sym e) h)
-stands_there bound s k ks rest (Some m) h w e =
+represents_there : (bound : Bound) → AreShort bound → (k : KeyEvent) (ks rest : List KeyEvent) (m : Option Match) → Found 0 bound (k ∷ ks) m → more_of m ≤ length ks → take (more_of m) ks ++ rest ≡ ks
+    → IsOutcomeOf bound (outcome_of k m) (k ∷ take (more_of m) ks) rest
+represents_there bound s k ks rest None h w e = (refl, subst (λ (l : List KeyEvent). IsUnbound bound (k ∷ l)) (sym e) h)
+represents_there bound s k ks rest (Some m) h w e =
     let some = some_chords bound h.place h.longest.chords s h.longest.is_bound in
     let at : h.place ≡ m.number = omega (arith, h.number) in
     let count : m.count ≡ suc (length (take (m.count - 1) ks)) = omega (arith, some, h.longest.counts, taken_length (m.count - 1) ks w) in
@@ -182,7 +182,7 @@ stands_there bound s k ks rest (Some m) h w e =
 record Parted (n : ℕ) (bound : Bound) (ks : List KeyEvent) : Type 0 where
   parts : List Part
   keys_are : keys_of_parts parts ≡ drop n ks
-  outcomes_are : map (told_at bound) (places_after n bound ks) ≡ map (λ part. part.outcome) parts
+  outcomes_are : map (outcome_there bound) (places_after n bound ks) ≡ map (λ part. part.outcome) parts
   right : AreRight bound parts
 
 parted : (n : ℕ) (bound : Bound) → AreShort bound → (ks : List KeyEvent) → n ≤ length ks → Parted n bound ks
@@ -194,12 +194,12 @@ parted zero bound s (k ∷ ks) h =
     let w : more_of m ≤ length ks = (first bound k ks).within in
     let r = parted (more_of m) bound s ks w in
     let e : take (more_of m) ks ++ keys_of_parts r.parts ≡ ks = ap (λ l. take (more_of m) ks ++ l) r.keys_are ∙ halves (more_of m) ks in
-    let part : Part = record { keys = k ∷ take (more_of m) ks; outcome = told_of k m } in
+    let part : Part = record { keys = k ∷ take (more_of m) ks; outcome = outcome_of k m } in
     record {
       parts = part ∷ r.parts;
       keys_are = ap (λ l. k ∷ l) e;
-      outcomes_are = ap (λ l. told_of k m ∷ l) r.outcomes_are;
-      right = (stands_there bound s k ks (keys_of_parts r.parts) m (found 0 bound (k ∷ ks)) w e, r.right);
+      outcomes_are = ap (λ l. outcome_of k m ∷ l) r.outcomes_are;
+      right = (represents_there bound s k ks (keys_of_parts r.parts) m (found 0 bound (k ∷ ks)) w e, r.right);
     }
 
 pub only_cut : (bound : Bound) (keys : List KeyEvent) → AreShort bound → IsOnlyCut bound keys

@@ -13,7 +13,7 @@ use Rattle.crossterm_types.specs.contracts.event.key.normal.KeyEventEq.TheImpl.L
 use Rattle.crossterm_types.specs.declared.event.key.KeyEvent.{KeyEvent}
 use Rattle.keymap.specs.Bindings.{are_same, bound_of}
 use Rattle.keymap.specs.Chords.{Bound, chord, same_chord, is_front, goes_beyond, is_begun}
-use Rattle.keymap.specs.inside.Places.{BindsAt, HasPlaces, TellsOf, are_alike, nowhere, number_from, place_at, with_list}
+use Rattle.keymap.specs.inside.Places.{BindsAt, HasPlaces, HasPlacesOf, are_alike, nowhere, number_from, place_at, with_list}
 use Rattle.keymap.specs.declared.inside.BoundList.{BoundList}
 use Rattle.keymap.specs.declared.inside.Place.{Place}
 use Rattle.keymap.specs.inside.Bindings.{binding}
@@ -175,22 +175,22 @@ bound_at bound chords keys true is none =
 bound_at bound chords keys false is none = sym (number_kept 0 bound chords keys (sym (alike_same chords keys) ∙ is))
 
 -- A table with one more list.
-pub tells_more : {S : Type 0} (bound : Bound) (chords : List KeyEvent) (old new : HashMap (List KeyEvent) Place S) → HasPlaces bound old → list_any (λ other. are_same other chords) bound ≡ false
+pub right_more : {S : Type 0} (bound : Bound) (chords : List KeyEvent) (old new : HashMap (List KeyEvent) Place S) → HasPlaces bound old → list_any (λ other. are_same other chords) bound ≡ false
     → BindsAt chords (length bound) old new → HasPlaces (bound ++ chords ∷ []) new
-tells_more bound chords old new tells free binds keys =
+right_more bound chords old new right_places free binds keys =
     let none = λ (same : are_alike chords keys ≡ true).
-    ap (λ (p : Place). is_some p.number) (sym (tells keys) ∙ sym (place_alike old chords keys same) ∙ tells chords) ∙ has_number 0 bound chords ∙ free in
-    binds keys ∙ ap (λ p. with_list chords (length bound) p keys) (tells keys)
+    ap (λ (p : Place). is_some p.number) (sym (right_places keys) ∙ sym (place_alike old chords keys same) ∙ right_places chords) ∙ has_number 0 bound chords ∙ free in
+    binds keys ∙ ap (λ p. with_list chords (length bound) p keys) (right_places keys)
     ∙ ap (λ n. record { number = n; begun = is_begun bound keys || goes_beyond chords keys }) (bound_at bound chords keys (are_alike chords keys) refl none)
     ∙ ap (λ b. record { number = number_from 0 (bound ++ chords ∷ []) keys; begun = b })
     (sym (list_any-append (λ other. goes_beyond other keys) bound (chords ∷ []) ∙ begun_more (is_begun bound keys) (goes_beyond chords keys)))
 
 -- ---- without a table
-pub tells_some : {S : Type 0} (bound : Bound) (places : Option (HashMap (List KeyEvent) Place S)) (table : HashMap (List KeyEvent) Place S) → places ≡ Some table → TellsOf bound places → HasPlaces bound table
-tells_some bound places table is tells = subst (TellsOf bound) is tells
+pub right_some : {S : Type 0} (bound : Bound) (places : Option (HashMap (List KeyEvent) Place S)) (table : HashMap (List KeyEvent) Place S) → places ≡ Some table → HasPlacesOf bound places → HasPlaces bound table
+right_some bound places table is right_places = subst (HasPlacesOf bound) is right_places
 
-pub tells_none : {S : Type 0} (bound : Bound) (places : Option (HashMap (List KeyEvent) Place S)) → places ≡ None → TellsOf bound places → bound ≡ []
-tells_none bound places is tells = subst (TellsOf bound) is tells
+pub right_none : {S : Type 0} (bound : Bound) (places : Option (HashMap (List KeyEvent) Place S)) → places ≡ None → HasPlacesOf bound places → bound ≡ []
+right_none bound places is right_places = subst (HasPlacesOf bound) is right_places
 
 -- The lists of one more binding.
 pub bound_more : {A : Type 0} (bs : List (BoundList A)) (b : BoundList A) → bound_of (map binding bs) ++ b.chords.items ∷ [] ≡ bound_of (map binding (bs ++ b ∷ []))

@@ -6,7 +6,7 @@ use Rattle.std.proofs.lemmas.List.{length-map}
 use Rattle.crossterm_types.specs.declared.event.key.KeyEvent.{KeyEvent}
 use Rattle.keymap.specs.Bindings.{Binding}
 use Rattle.keymap.specs.Matching.{room_made, with_room}
-use Rattle.keymap.specs.Told.{outcome_seen}
+use Rattle.keymap.specs.Outcomes.{outcome_seen}
 use Rattle.keymap.specs.declared.outcome.Outcome.{Outcome}
 use Rattle.keymap.specs.inside.Room.{room_in, matcher_of}
 

@@ -6,7 +6,7 @@ use Rattle.keymap.specs.Bindings.{Binding, bound_of}
 use Rattle.keymap.specs.Cut.{cut_keys}
 use Rattle.keymap.specs.Matching.{Matching, TakesOutcome}
 use Rattle.keymap.specs.Taking.{IsFollowed}
-use Rattle.keymap.specs.Told.{Told, Event}
+use Rattle.keymap.specs.Outcomes.{SeenOutcome, Event}
 use Rattle.keymap.specs.inside.Giving.{TakesFirstOf}
 use Rattle.keymap.proofs.Giving.{flushed}
 
@@ -19,7 +19,7 @@ followed m n x same alike w u =
       follows = λ i. record { keymap = same i; passes = alike i; undecided = u i; waiting = w i };
     }
 
-pub takes : (keymap : List Binding) (passes : Bool) (keys : List KeyEvent) (old new : List Told) (o : Option Told) → TakesFirstOf old o new
+pub takes : (keymap : List Binding) (passes : Bool) (keys : List KeyEvent) (old new : List SeenOutcome) (o : Option SeenOutcome) → TakesFirstOf old o new
     → TakesOutcome (record { keymap = keymap; passes = passes; undecided = keys; waiting = old }) o (record { keymap = keymap; passes = passes; undecided = keys; waiting = new })
 takes keymap passes keys old new None t = (t.0, λ i. record { keymap = keymap; passes = passes; undecided = keys; waiting = (t.1 ∙ sym t.0) i })
 takes keymap passes keys old new (Some x) t = (t, refl)

@@ -1,5 +1,5 @@
 pub mod Chords
-pub mod Told
+pub mod Outcomes
 pub mod Cut
 pub mod Bindings
 pub mod Matching

@@ -3,7 +3,7 @@ use Rattle.std.specs.Prelude.{◌≡◌, ◌<◌, ◌+◌, ℕ, Bool, if◌then�
 use Rattle.crossterm_types.specs.declared.event.key.KeyEvent.{KeyEvent}
 use Rattle.keymap.specs.Bindings.{Binding, bound_of}
 use Rattle.keymap.specs.Cut.{cut_keys, given, left}
-use Rattle.keymap.specs.Told.{Told}
+use Rattle.keymap.specs.Outcomes.{SeenOutcome}
 
 -- What a matcher matches with, and what it has read.
 pub record Matching : Type 0 where
@@ -14,47 +14,47 @@ pub record Matching : Type 0 where
   -- The keys that are undecided.
   pub undecided : List KeyEvent
   -- The outcomes that wait to be taken.
-  pub waiting : List Told
+  pub waiting : List SeenOutcome
 
 -- The matcher keeps exactly those of the keys that are left from the first undecided place on.
-abbrev pub StandsFor : Matching → List KeyEvent → Type 0
-StandsFor m keys = m.undecided ≡ left (bound_of m.keymap) keys
+abbrev pub MatcherRepresents : Matching → List KeyEvent → Type 0
+MatcherRepresents m keys = m.undecided ≡ left (bound_of m.keymap) keys
 
 -- A matcher that had been fed these keys was fed one more.
 pub record GivesOn (m : Matching) (keys : List KeyEvent) (key : KeyEvent) (n : Matching) : Type 0 where
-  pub more : List Told
+  pub more : List SeenOutcome
   -- New outcomes wait, behind those before.
   pub waiting : n.waiting ≡ m.waiting ++ more
   -- The new outcomes are what is given of all keys and wasn't given of the former ones.
-  pub told : given (bound_of m.keymap) (keys ++ key ∷ []) ≡ given (bound_of m.keymap) keys ++ more
+  pub grows : given (bound_of m.keymap) (keys ++ key ∷ []) ≡ given (bound_of m.keymap) keys ++ more
   -- The matcher keeps the undecided ones of all keys.
-  pub stands : StandsFor n (keys ++ key ∷ [])
+  pub represents : MatcherRepresents n (keys ++ key ∷ [])
 
 -- The matcher was fed one more key, whatever keys it had been fed. Fewer than eight keys are undecided then.
 pub record IsFed (m : Matching) (key : KeyEvent) (n : Matching) : Type 0 where
   pub keymap : n.keymap ≡ m.keymap
   pub passes : n.passes ≡ m.passes
-  pub gives : (keys : List KeyEvent) → StandsFor m keys → GivesOn m keys key n
+  pub gives : (keys : List KeyEvent) → MatcherRepresents m keys → GivesOn m keys key n
   pub few : length n.undecided < 8
 
 -- A matcher that had been fed these keys was flushed.
 pub record GivesAll (m : Matching) (keys : List KeyEvent) (n : Matching) : Type 0 where
-  pub more : List Told
+  pub more : List SeenOutcome
   -- New outcomes wait, behind those before.
   pub waiting : n.waiting ≡ m.waiting ++ more
   -- The new outcomes are what the cut of the keys has and wasn't given before.
-  pub told : cut_keys (bound_of m.keymap) keys ≡ given (bound_of m.keymap) keys ++ more
+  pub grows : cut_keys (bound_of m.keymap) keys ≡ given (bound_of m.keymap) keys ++ more
   -- The matcher keeps no keys.
-  pub stands : StandsFor n []
+  pub represents : MatcherRepresents n []
 
 -- The matcher was flushed, whatever keys it had been fed.
 pub record IsFlushed (m n : Matching) : Type 0 where
   pub keymap : n.keymap ≡ m.keymap
   pub passes : n.passes ≡ m.passes
-  pub gives : (keys : List KeyEvent) → StandsFor m keys → GivesAll m keys n
+  pub gives : (keys : List KeyEvent) → MatcherRepresents m keys → GivesAll m keys n
 
 -- The first outcome that waits is taken, or none if none waits, and nothing else changes.
-abbrev pub TakesOutcome : Matching → Option Told → Matching → Type 0
+abbrev pub TakesOutcome : Matching → Option SeenOutcome → Matching → Type 0
 TakesOutcome m None n = (m.waiting ≡ []) × (n ≡ m)
 TakesOutcome m (Some x) n = (m.waiting ≡ x ∷ n.waiting) × (n ≡ record m { waiting = n.waiting })
 

@@ -4,12 +4,12 @@ use Rattle.std.specs.List.{flat_map, slice_get}
 use Rattle.crossterm_types.specs.declared.event.key.KeyEvent.{KeyEvent}
 use Rattle.keymap.specs.Chords.{Bound, is_front}
 use Rattle.keymap.specs.Cut.{cut_keys}
-use Rattle.keymap.specs.Told.{Told, Action, Key, Event}
+use Rattle.keymap.specs.Outcomes.{SeenOutcome, Action, Key, Event}
 
 -- Some keys side by side, and their outcome.
 pub record Part : Type 0 where
   pub keys : List KeyEvent
-  pub outcome : Told
+  pub outcome : SeenOutcome
 
 -- The keys of all parts, in order.
 abbrev pub keys_of_parts : List Part → List KeyEvent
@@ -32,7 +32,7 @@ IsUnbound bound keys = (i : ℕ) (chords : List KeyEvent) → slice_get bound i 
 -- Whether an outcome is the right one for a part of the keys and the keys that follow.
 -- An action is right if its list is the longest that all the keys begin with, and as long as the part.
 -- A key is right if it is the part, and all the keys begin with no bound list. An event is never right.
-abbrev pub IsOutcomeOf : Bound → Told → List KeyEvent → List KeyEvent → Type 0
+abbrev pub IsOutcomeOf : Bound → SeenOutcome → List KeyEvent → List KeyEvent → Type 0
 IsOutcomeOf bound (Action number) part rest = IsLongest bound (part ++ rest) number (length part)
 IsOutcomeOf bound (Key key) part rest = (part ≡ key ∷ []) × IsUnbound bound (part ++ rest)
 IsOutcomeOf bound (Event _) part rest = ⊥
@@ -43,7 +43,7 @@ AreRight bound [] = Unit {0}
 AreRight bound (part ∷ parts) = IsOutcomeOf bound part.outcome part.keys (keys_of_parts parts) × AreRight bound parts
 
 -- The keys are cut into these outcomes: they are joined parts, each with its right outcome.
-pub record IsCutInto (bound : Bound) (keys : List KeyEvent) (outcomes : List Told) : Type 0 where
+pub record IsCutInto (bound : Bound) (keys : List KeyEvent) (outcomes : List SeenOutcome) : Type 0 where
   pub parts : List Part
   pub keys_are : keys ≡ keys_of_parts parts
   pub outcomes_are : outcomes ≡ map (λ part. part.outcome) parts
@@ -52,4 +52,4 @@ pub record IsCutInto (bound : Bound) (keys : List KeyEvent) (outcomes : List Tol
 -- The keys are cut into their cut, and into nothing else.
 pub record IsOnlyCut (bound : Bound) (keys : List KeyEvent) : Type 0 where
   pub is_cut : IsCutInto bound keys (cut_keys bound keys)
-  pub is_only : (outcomes : List Told) → IsCutInto bound keys outcomes → outcomes ≡ cut_keys bound keys
+  pub is_only : (outcomes : List SeenOutcome) → IsCutInto bound keys outcomes → outcomes ≡ cut_keys bound keys

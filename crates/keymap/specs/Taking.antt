@@ -8,7 +8,7 @@ use Rattle.crossterm_types.specs.declared.event.key.KeyEvent.{KeyEvent}
 use Rattle.crossterm_types.specs.declared.event.key.KeyEventKind.{KeyEventKind}
 use Rattle.crossterm_types.specs.declared.event.key.KeyEventKind.TheVariants.{Press, Repeat, Release}
 use Rattle.keymap.specs.Matching.{Matching, IsFed, IsFlushed}
-use Rattle.keymap.specs.Told.{Event}
+use Rattle.keymap.specs.Outcomes.{Event}
 use Rattle.keymap.specs.declared.inside.Way.{Way}
 use Rattle.keymap.specs.declared.inside.Way.TheVariants.{Feed, Pass, Follow}
 

@@ -5,7 +5,7 @@ use Rattle.keymap.specs.Bindings.{bound_of}
 use Rattle.keymap.specs.Matching.{Matching, IsFlushed, TakesOutcome}
 use Rattle.keymap.specs.Runs.{MatcherCall, Fed, Flushed, outcomes}
 use Rattle.keymap.specs.Taking.{TakesEvent, way_of}
-use Rattle.keymap.specs.Told.{Told, Action, Key, Event}
+use Rattle.keymap.specs.Outcomes.{SeenOutcome, Action, Key, Event}
 use Rattle.keymap.specs.declared.inside.Way.{Way}
 use Rattle.keymap.specs.declared.inside.Way.TheVariants.{Feed, Pass, Follow}
 
@@ -16,7 +16,7 @@ pub data StepPart : Type 0 where
   -- No event came, and the matcher was flushed.
   Rested : StepPart
   -- An outcome was given.
-  Gave : Told → StepPart
+  Gave : SeenOutcome → StepPart
 
 -- A turn changes a matcher into another.
 abbrev pub TakesTurn : Matching → StepPart → Matching → Type 0
@@ -30,7 +30,7 @@ TakesTurns m [] n = n ≡ m
 TakesTurns m (turn ∷ turns) n = (u : Matching) × TakesTurn m turn u × TakesTurns u turns n
 
 -- The outcomes that were given.
-abbrev pub given_outcomes : List StepPart → List Told
+abbrev pub given_outcomes : List StepPart → List SeenOutcome
 given_outcomes [] = []
 given_outcomes (Came x ∷ turns) = given_outcomes turns
 given_outcomes (Rested ∷ turns) = given_outcomes turns
@@ -63,21 +63,21 @@ unfed passes (Rested ∷ turns) = unfed passes turns
 unfed passes (Gave x ∷ turns) = unfed passes turns
 
 -- The outcomes that are actions or keys, in order.
-abbrev pub of_keys : List Told → List Told
+abbrev pub of_keys : List SeenOutcome → List SeenOutcome
 of_keys [] = []
 of_keys (Action number ∷ outcomes) = Action number ∷ of_keys outcomes
 of_keys (Key key ∷ outcomes) = Key key ∷ of_keys outcomes
 of_keys (Event x ∷ outcomes) = of_keys outcomes
 
 -- The outcomes that are other events, in order.
-abbrev pub events : List Told → List Seen
+abbrev pub events : List SeenOutcome → List Seen
 events [] = []
 events (Action number ∷ outcomes) = events outcomes
 events (Key key ∷ outcomes) = events outcomes
 events (Event x ∷ outcomes) = x ∷ events outcomes
 
 -- What is known of the outcomes that were given, followed by those that wait.
-pub record AreTold (m : Matching) (turns : List StepPart) (n : Matching) : Type 0 where
+pub record AreReported (m : Matching) (turns : List StepPart) (n : Matching) : Type 0 where
   -- The actions and keys among them are all outcomes of the keys that were fed and the flushes.
   pub keys : of_keys (given_outcomes turns ++ n.waiting) ≡ outcomes (bound_of m.keymap) [] (key_calls m.passes turns)
   -- The events among them are those that weren't fed, each once, in the order in which they came.
@@ -85,5 +85,5 @@ pub record AreTold (m : Matching) (turns : List StepPart) (n : Matching) : Type 
 
 -- Over any turns of a new matcher, the outcomes given and waiting are those of the fed keys, and the events that
 -- weren't fed.
-abbrev pub TurnsAreTold : Type 0
-TurnsAreTold = (m n : Matching) (turns : List StepPart) → m.undecided ≡ [] → m.waiting ≡ [] → TakesTurns m turns n → AreTold m turns n
+abbrev pub TurnsGiveOutcomes : Type 0
+TurnsGiveOutcomes = (m n : Matching) (turns : List StepPart) → m.undecided ≡ [] → m.waiting ≡ [] → TakesTurns m turns n → AreReported m turns n

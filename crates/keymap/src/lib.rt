@@ -30,7 +30,7 @@
 //!
 //! | Definitions | Of | Contract |
 //! |---|---|---|
-//! | `Told` | outcomes as contracts see them | |
+//! | `Outcomes` | outcomes as contracts see them | |
 //! | `Chords` | chords, and which bound lists some keys begin with | |
 //! | `Cut` | the cut of keys by bound lists, and what of it is given | |
 //! | `Parts` | what makes a cut the only one | `laws::unique_cut` |

@@ -4,10 +4,10 @@ ghost use Rattle.std.specs.Option.{option_map};
 ghost use Rattle.std.specs.VecDeque.{deque_len, deque_capacity};
 ghost use Rattle.keymap.specs.Bindings.{bound_of, AreShort};
 ghost use Rattle.keymap.specs.Chords.{longest};
-ghost use Rattle.keymap.specs.Cut.{cut_keys, given, left, told_of, more_of};
-ghost use Rattle.keymap.specs.Matching.{IsFed, IsFlushed, StandsFor, TakesOutcome, outcome_capacity, with_room};
-ghost use Rattle.keymap.specs.Told.{outcome_seen};
-ghost use Rattle.keymap.specs.inside.Giving.{after_first, told_first};
+ghost use Rattle.keymap.specs.Cut.{cut_keys, given, left, outcome_of, more_of};
+ghost use Rattle.keymap.specs.Matching.{IsFed, IsFlushed, MatcherRepresents, TakesOutcome, outcome_capacity, with_room};
+ghost use Rattle.keymap.specs.Outcomes.{outcome_seen};
+ghost use Rattle.keymap.specs.inside.Giving.{after_first, first_outcomes};
 ghost use Rattle.keymap.specs.declared.fault.KeymapFault.TheVariants.{Memory};
 
 use crate::bindings::Keymap;
@@ -70,7 +70,7 @@ fn first_of(keys: &[KeyEvent]) -> KeyEvent
 
 // The outcome of a place, whether a list is matched there or not.
 fn outcome_of<A: Allocator>(key: KeyEvent, found: Option<Match>) -> Outcome<A>
-    ensures { outcome_seen result ≡ told_of key found }
+    ensures { outcome_seen result ≡ outcome_of key found }
 {
     match found {
         Some(found) => Outcome::Action(found.number),
@@ -96,7 +96,7 @@ fn give_first<A: Allocator>(
 )
     requires some { 0 < length keys.old }
     requires room { deque_len waiting.old < deque_capacity waiting.old }
-    ensures waiting { map outcome_seen waiting.new.items ≡ map outcome_seen waiting.old.items ++ told_first (bound_of keymap.now) keys.old }
+    ensures waiting { map outcome_seen waiting.new.items ≡ map outcome_seen waiting.old.items ++ first_outcomes (bound_of keymap.now) keys.old }
     ensures keys { keys.new ≡ after_first (bound_of keymap.now) keys.old }
     ensures fewer { length keys.new < length keys.old }
     ensures len { deque_len waiting.new ≡ deque_len waiting.old + 1 }

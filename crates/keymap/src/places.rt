@@ -95,7 +95,7 @@ pub(crate) fn make_room<A: Allocator + Clone>(
     alloc: &A,
     count: usize,
 ) -> Result<(), AllocError>
-    ensures tells { (bound : Bound) → spec.TellsOf bound places.old → spec.TellsOf bound places.new }
+    ensures right_places { (bound : Bound) → spec.HasPlacesOf bound places.old → spec.HasPlacesOf bound places.new }
     ensures ok { OnOk result (spec.HasRoom count places.new) }
 {
     let mut table = match places.take() {
@@ -116,7 +116,7 @@ pub(crate) fn bind_in<A: Allocator + Clone>(
     requires few { length chords.now ≤ 8 }
     requires room { spec.HasRoom (length chords.now + 1) places.old }
     ensures { (bound : Bound) → number ≡ length bound → list_any (λ other. are_same other chords.now) bound ≡ false
-        → spec.TellsOf bound places.old → spec.TellsOf (bound ++ chords.now ∷ []) places.new }
+        → spec.HasPlacesOf bound places.old → spec.HasPlacesOf (bound ++ chords.now ∷ []) places.new }
 {
     if let Some(mut table) = places.take() {
         bind_at(&mut table, chords, number);

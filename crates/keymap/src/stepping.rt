@@ -43,8 +43,8 @@ impl<A: Allocator + Clone> Matcher<A> {
     ) -> io::Result<Option<Outcome<A>>>
         requires { IsPassOf reader.now pass.old }
         ensures pass { IsPassOf reader.now pass.new }
-        ensures step { Steps S.drawn S.asked limit (IsFirst C.told C.began clock.old clock.new) (C.told clock.new) self.old (knows pass.old) self.new (knows pass.new) (step_answer result) }
-        ensures later { C.told clock.old ≤ C.told clock.new }
+        ensures step { Steps S.drawn S.asked limit (IsFirst C.latest C.began clock.old clock.new) (C.latest clock.new) self.old (knows pass.old) self.new (knows pass.new) (step_answer result) }
+        ensures later { C.latest clock.old ≤ C.latest clock.new }
         ensures first { KeepsFirst C.began clock.old clock.new }
     {
         match pop(&mut self.waiting) {

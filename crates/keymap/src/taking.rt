@@ -6,8 +6,8 @@ ghost use Rattle.crossterm_types.specs.Seen.{seen_event};
 ghost use Rattle.keymap.specs.Matching.{IsFed, IsFlushed};
 ghost use Rattle.keymap.specs.Taking as spec;
 ghost use Rattle.keymap.specs.Taking.{IsFollowed, IsPassed, TakesEvent};
-ghost use Rattle.keymap.specs.Told as Told;
-ghost use Rattle.keymap.specs.Told.{outcome_seen};
+ghost use Rattle.keymap.specs.Outcomes as SeenOutcome;
+ghost use Rattle.keymap.specs.Outcomes.{outcome_seen};
 ghost use Rattle.keymap.specs.inside.Giving.{TakesFirstOf, state_of};
 
 use crate::bindings::Keymap;
@@ -59,7 +59,7 @@ fn way_of<A: Allocator>(passes: bool, event: &Event<A>) -> Way
 // An event joins the outcomes that wait.
 fn pass_on<A: Allocator>(waiting: &mut VecDeque<Outcome<A>, A>, event: Event<A>)
     requires { deque_len waiting.old < deque_capacity waiting.old }
-    ensures event { map outcome_seen waiting.new.items ≡ map outcome_seen waiting.old.items ++ Told.Event (seen_event event) ∷ [] }
+    ensures event { map outcome_seen waiting.new.items ≡ map outcome_seen waiting.old.items ++ SeenOutcome.Event (seen_event event) ∷ [] }
     ensures capacity { deque_capacity waiting.new ≡ deque_capacity waiting.old }
 {
     waiting.push_back_reserved(Outcome::Event(event));

@@ -60,10 +60,10 @@ start-far room d front part e h le =
     let split : d.before ≡ reverse part ++ reverse front = sym (reverse-reverse d.before) ∙ ap reverse e ∙ reverse-append front part in
     let P : List ℕ → Type 0 = λ t. length (furthest (room - 1) 0 t d.after (record { place = record { before = t; after = d.after }; column = 0 })).place.before ≤ length (reverse front) in
     let Q : List ℕ → Type 0 = λ t. IsSettled (record { before = reverse front; after = t }) in
-    let stands : IsSettled (record { before = reverse front; after = reverse (reverse part) ++ d.after }) =
+    let settled : IsSettled (record { before = reverse front; after = reverse (reverse part) ++ d.after }) =
     subst Q (ap (λ t. t ++ d.after) (sym (reverse-reverse part))) h in
     let far = furthest-far (room - 1) 0 (reverse part) (reverse front) d.after
-    (record { place = record { before = reverse part ++ reverse front; after = d.after }; column = 0 }) (λ _. refl) stands (omega (arith, le, columns-reverse part)) in
+    (record { place = record { before = reverse part ++ reverse front; after = d.after }; column = 0 }) (λ _. refl) settled (omega (arith, le, columns-reverse part)) in
     let all : P d.before = subst P (sym split) far in
     omega (arith, all, length-reverse front)
 

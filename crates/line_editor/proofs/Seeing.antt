@@ -139,7 +139,7 @@ last_seen-IsSettled room used before (c ∷ after) best h =
     ]
 
 pub keeps_clusters : (room : ℕ) (d : Split) → KeepsClusters room d
-keeps_clusters room d stands =
+keeps_clusters room d settled =
     let begin = furthest-Holds (room - 1) d d.before d.after [] 0 (record { place = d; column = 0 }) (IsFrom-none d) refl
     ([], IsFrom-none d, refl, omega arith) in
     let s = start room d in
@@ -152,8 +152,8 @@ keeps_clusters room d stands =
     let ahead : q.before ≡ reverse (reverse p.before ++ seen_text room d) =
     all.before ∙ ap (λ t. reverse t ++ p.before) (sym part)
     ∙ sym (reverse-append (reverse p.before) (seen_text room d) ∙ ap (λ t. reverse (seen_text room d) ++ t) (reverse-reverse p.before)) in
-    let starts = furthest-IsSettled (room - 1) 0 d.before d.after (record { place = d; column = 0 }) stands in
-    let stops = last_seen-IsSettled room s.column d.before d.after d stands in
+    let starts = furthest-IsSettled (room - 1) 0 d.before d.after (record { place = d; column = 0 }) settled in
+    let stops = last_seen-IsSettled room s.column d.before d.after d settled in
     let P : List ℕ → Type 0 = λ t. is_between t (seen_text room d ++ q.after) ≡ true in
     let Q : List ℕ → Type 0 = λ t. is_between p.before t ≡ true in
     let R : List ℕ → Type 0 = λ t. is_between t q.after ≡ true in

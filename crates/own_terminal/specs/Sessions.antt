@@ -12,8 +12,8 @@ use Rattle.crossterm.specs.Modes.{ModeCall, Modes, SwitchesOff}
 -- Raw mode ends, if it is on: the device was asked to set the mode from before, and answered `r`.
 -- If this succeeded, the device has that mode. If raw mode is off, nothing is done.
 abbrev pub EndsRaw : {D M : Type 0} → (D → M) → (D → ModeCall M → D → Type 0) → Modes D M → Result (Unit {0}) Error → Modes D M → Type 0
-EndsRaw stands answered old r new =
-    ((old.prior ≡ None) × IsOk r × (new ≡ old)) ⊎ (IsTrue (is_some old.prior) × SwitchesOff answered old r new × OnOk r (Some (stands new.device) ≡ old.prior))
+EndsRaw current answered old r new =
+    ((old.prior ≡ None) × IsOk r × (new ≡ old)) ⊎ (IsTrue (is_some old.prior) × SwitchesOff answered old r new × OnOk r (Some (current new.device) ≡ old.prior))
 
 -- The only pass of a reader over this source. Nothing was read yet.
 abbrev pub BeginsAt : {S : Type 0} → S → Known S → Type 0

@@ -71,8 +71,8 @@ impl<S: EventSource<Global>> Events<S> {
         limit: Duration,
         clock: &mut C,
     ) -> io::Result<Option<Event>>
-        ensures call { ReadsFor S.drawn S.asked filters.Event (Some limit) (IsFirst C.told C.began clock.old clock.new) (C.told clock.new) (knows self.old.pass) (knows self.new.pass) result }
-        ensures later { C.told clock.old ≤ C.told clock.new }
+        ensures call { ReadsFor S.drawn S.asked filters.Event (Some limit) (IsFirst C.latest C.began clock.old clock.new) (C.latest clock.new) (knows self.old.pass) (knows self.new.pass) result }
+        ensures later { C.latest clock.old ≤ C.latest clock.new }
         ensures first { KeepsFirst C.began clock.old clock.new }
         ensures reader { self.new.reader ≡ self.old.reader }
     {
@@ -97,8 +97,8 @@ impl<S: EventSource<Global>> Events<S> {
         limit: Duration,
         clock: &mut C,
     ) -> io::Result<bool>
-        ensures call { Polls S.drawn S.asked filters.Event (Some limit) (IsFirst C.told C.began clock.old clock.new) (C.told clock.new) (knows self.old.pass) (knows self.new.pass) result }
-        ensures later { C.told clock.old ≤ C.told clock.new }
+        ensures call { Polls S.drawn S.asked filters.Event (Some limit) (IsFirst C.latest C.began clock.old clock.new) (C.latest clock.new) (knows self.old.pass) (knows self.new.pass) result }
+        ensures later { C.latest clock.old ≤ C.latest clock.new }
         ensures first { KeepsFirst C.began clock.old clock.new }
         ensures reader { self.new.reader ≡ self.old.reader }
     {

@@ -299,8 +299,8 @@ impl<S: EventSource<Global>, D: ModeDevice, W: Write + Drop, C: Clock + Drop> Se
     /// }
     /// ```
     pub fn read_within<R: Wait>(&mut self, rt: &R, limit: Duration) -> io::Result<Option<Event>>
-        ensures call { ReadsFor S.drawn S.asked filters.Event (Some limit) (IsFirst C.told C.began self.old.clock self.new.clock) (C.told self.new.clock) (knows self.old.pass) (knows self.new.pass) result }
-        ensures later { C.told self.old.clock ≤ C.told self.new.clock }
+        ensures call { ReadsFor S.drawn S.asked filters.Event (Some limit) (IsFirst C.latest C.began self.old.clock self.new.clock) (C.latest self.new.clock) (knows self.old.pass) (knows self.new.pass) result }
+        ensures later { C.latest self.old.clock ≤ C.latest self.new.clock }
         ensures first { KeepsFirst C.began self.old.clock self.new.clock }
         ensures others { (self.new.out ≡ self.old.out) × (self.new.term ≡ self.old.term) × (self.new.features ≡ self.old.features) }
     {
@@ -320,8 +320,8 @@ impl<S: EventSource<Global>, D: ModeDevice, W: Write + Drop, C: Clock + Drop> Se
     /// }
     /// ```
     pub fn poll<R: Wait>(&mut self, rt: &R, limit: Duration) -> io::Result<bool>
-        ensures call { Polls S.drawn S.asked filters.Event (Some limit) (IsFirst C.told C.began self.old.clock self.new.clock) (C.told self.new.clock) (knows self.old.pass) (knows self.new.pass) result }
-        ensures later { C.told self.old.clock ≤ C.told self.new.clock }
+        ensures call { Polls S.drawn S.asked filters.Event (Some limit) (IsFirst C.latest C.began self.old.clock self.new.clock) (C.latest self.new.clock) (knows self.old.pass) (knows self.new.pass) result }
+        ensures later { C.latest self.old.clock ≤ C.latest self.new.clock }
         ensures first { KeepsFirst C.began self.old.clock self.new.clock }
         ensures others { (self.new.out ≡ self.old.out) × (self.new.term ≡ self.old.term) × (self.new.features ≡ self.old.features) }
     {
@@ -334,9 +334,9 @@ impl<S: EventSource<Global>, D: ModeDevice, W: Write + Drop, C: Clock + Drop> Se
     ///
     /// `Other` if no answer came in time; else those of `read` and of the writer.
     pub fn position<R: Wait>(&mut self, rt: &R) -> io::Result<(u16, u16)>
-        ensures query { InRawMode D.stands D.answered D.failed self.old.term self.new.term ((W.contents self.new.out ≡ W.contents self.old.out) × (knows self.new.pass ≡ knows self.old.pass))
+        ensures query { InRawMode D.current D.answered D.failed self.old.term self.new.term ((W.contents self.new.out ≡ W.contents self.old.out) × (knows self.new.pass ≡ knows self.old.pass))
             (Queries (W.contents self.old.out) (W.contents self.new.out) position_query (knows self.new.pass ≡ knows self.old.pass)
-            (λ r. InTwoSeconds (λ limit. AsksPosition S.drawn S.asked limit (IsFirst C.told C.began self.old.clock self.new.clock) (C.told self.new.clock) (knows self.old.pass) (knows self.new.pass) r))) result }
+            (λ r. InTwoSeconds (λ limit. AsksPosition S.drawn S.asked limit (IsFirst C.latest C.began self.old.clock self.new.clock) (C.latest self.new.clock) (knows self.old.pass) (knows self.new.pass) r))) result }
         ensures others { self.new.features ≡ self.old.features }
     {
         cursor::position(
@@ -356,9 +356,9 @@ impl<S: EventSource<Global>, D: ModeDevice, W: Write + Drop, C: Clock + Drop> Se
     /// `Other` if no answer came in time; else those of `read` and of the writer.
     pub fn supports_keyboard_enhancement<R: Wait>(&mut self, rt: &R) -> io::Result<bool>
         ensures query { (flags : Result (Option KeyboardEnhancementFlags) Error) × (result_map_both is_some (λ e. e) flags ≡ result)
-            × InRawMode D.stands D.answered D.failed self.old.term self.new.term ((W.contents self.new.out ≡ W.contents self.old.out) × (knows self.new.pass ≡ knows self.old.pass))
+            × InRawMode D.current D.answered D.failed self.old.term self.new.term ((W.contents self.new.out ≡ W.contents self.old.out) × (knows self.new.pass ≡ knows self.old.pass))
             (Queries (W.contents self.old.out) (W.contents self.new.out) keyboard_query (knows self.new.pass ≡ knows self.old.pass)
-            (λ r. InTwoSeconds (λ limit. AsksKeyboard S.drawn S.asked limit (IsFirst C.told C.began self.old.clock self.new.clock) (C.told self.new.clock) (knows self.old.pass) (knows self.new.pass) r))) flags }
+            (λ r. InTwoSeconds (λ limit. AsksKeyboard S.drawn S.asked limit (IsFirst C.latest C.began self.old.clock self.new.clock) (C.latest self.new.clock) (knows self.old.pass) (knows self.new.pass) r))) flags }
         ensures others { self.new.features ≡ self.old.features }
     {
         supports_keyboard_enhancement(
@@ -377,8 +377,8 @@ impl<S: EventSource<Global>, D: ModeDevice, W: Write + Drop, C: Clock + Drop> Se
     ///
     /// The helper's: `Other` if it doesn't know the size.
     pub fn size(&mut self) -> io::Result<(u16, u16)>
-        ensures asked { (told : Result WindowSize Error) × D.answered self.old.term.device (Sizes told) self.new.term.device
-            × (result ≡ result_map_both (λ size. (size.columns, size.rows)) (λ e. e) told) }
+        ensures asked { (got : Result WindowSize Error) × D.answered self.old.term.device (Sizes got) self.new.term.device
+            × (result ≡ result_map_both (λ size. (size.columns, size.rows)) (λ e. e) got) }
         ensures mode { self.new.term.prior ≡ self.old.term.prior }
         ensures others { (self.new.out ≡ self.old.out) × (self.new.pass ≡ self.old.pass) × (self.new.features ≡ self.old.features) }
     {
@@ -395,7 +395,7 @@ impl<S: EventSource<Global>, D: ModeDevice, W: Write + Drop, C: Clock + Drop> Se
     /// The helper's. Then raw mode counts as off. If the helper's answer alone was lost, the terminal may be in raw mode all the same.
     pub fn enable_raw_mode(&mut self) -> io::Result<()>
         ensures already { IsTrue (is_some self.old.term.prior) → IsOk result × (self.new.term ≡ self.old.term) }
-        ensures ok { OnOk result (self.old.term.prior ≡ None → self.new.term.prior ≡ Some (D.stands self.old.term.device)) }
+        ensures ok { OnOk result (self.old.term.prior ≡ None → self.new.term.prior ≡ Some (D.current self.old.term.device)) }
         ensures asked { self.old.term.prior ≡ None → SwitchesOn D.answered self.old.term result self.new.term }
         ensures refused { OnErr result (self.new.term.prior ≡ None) }
         ensures others { (self.new.out ≡ self.old.out) × (self.new.pass ≡ self.old.pass) × (self.new.features ≡ self.old.features) }
@@ -410,7 +410,7 @@ impl<S: EventSource<Global>, D: ModeDevice, W: Write + Drop, C: Clock + Drop> Se
     /// The helper's. Then raw mode counts as on, as before.
     pub fn disable_raw_mode(&mut self) -> io::Result<()>
         ensures off { OnOk result (self.new.term.prior ≡ None) }
-        ensures mode { EndsRaw D.stands D.answered self.old.term result self.new.term }
+        ensures mode { EndsRaw D.current D.answered self.old.term result self.new.term }
         ensures refused { OnErr result (self.new.term.prior ≡ self.old.term.prior) }
         ensures others { (self.new.out ≡ self.old.out) × (self.new.pass ≡ self.old.pass) × (self.new.features ≡ self.old.features) }
     {
@@ -476,7 +476,7 @@ impl<S: EventSource<Global>, D: ModeDevice, W: Write + Drop, C: Clock + Drop> Se
         ensures none { self.new.features.items ≡ [] }
         ensures offered { EndsOffered self.old.features.items (W.contents self.old.out) (W.contents self.new.out) }
         ensures ok { OnOk result (Appends (W.contents self.old.out) (W.contents self.new.out) (all_switched_off self.old.features.items)) }
-        ensures mode { (switched : Result (Unit {0}) Error) × EndsRaw D.stands D.answered self.old.term switched self.new.term × OnOk result (IsOk switched) }
+        ensures mode { (switched : Result (Unit {0}) Error) × EndsRaw D.current D.answered self.old.term switched self.new.term × OnOk result (IsOk switched) }
         ensures cooked { OnOk result (self.new.term.prior ≡ None) }
         ensures pass { self.new.pass ≡ self.old.pass }
     {

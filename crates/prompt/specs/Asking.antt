@@ -25,10 +25,10 @@ abbrev pub answer_to : Seen → EditorState → Answer
 answer_to e w = cond (is_too_long (event_text e w) w) Going (answer (task_of e w) w)
 
 -- What contracts see of what was asked for: a line is its text.
-abbrev pub answer_told : {A : Type 0} → Read A → Answer
-answer_told (read.Line text) = Line (chars (string_bytes text))
-answer_told read.Interrupted = Interrupted
-answer_told read.Closed = Closed
+abbrev pub answer_seen : {A : Type 0} → Read A → Answer
+answer_seen (read.Line text) = Line (chars (string_bytes text))
+answer_seen read.Interrupted = Interrupted
+answer_seen read.Closed = Closed
 
 -- A line goes on: a pass read events from `v` on, which the editor took from `w` on, and none of them ended the line.
 pub data GoesOn {S : Type 0} (drawn : S → List SourceAnswer → S → Type 0) (asked : S → List (Option Duration)) (v : Known S) (w : EditorState) : Known S → EditorState → Type 0 where

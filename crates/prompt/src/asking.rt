@@ -6,7 +6,7 @@ ghost use Rattle.crossterm_types.specs.Seen.{seen_event};
 ghost use Rattle.crossterm_read.specs.History.{Known};
 ghost use Rattle.crossterm_read.specs.Seats.{knows};
 ghost use Rattle.line_editor.specs.States.{EditorState};
-ghost use Rattle.prompt.specs.Asking.{LineEnds, StopsAsking, GoesOn, answer_told};
+ghost use Rattle.prompt.specs.Asking.{LineEnds, StopsAsking, GoesOn, answer_seen};
 ghost use Rattle.prompt.specs.Prompts as prompts;
 ghost use Rattle.prompt.specs.inside.Turning.{IsTaken, Leads};
 
@@ -126,7 +126,7 @@ fn begin<S: EventSource<Global>, D: ModeDevice, W: Write + Drop, C: Clock + Drop
     ensures pass { tty.new.pass ≡ tty.old.pass }
     ensures features { tty.new.features ≡ tty.old.features }
     ensures already { IsTrue (is_some tty.old.term.prior) → tty.new.term.prior ≡ tty.old.term.prior }
-    ensures raw { OnOk result (tty.old.term.prior ≡ None → tty.new.term.prior ≡ Some (D.stands tty.old.term.device)) }
+    ensures raw { OnOk result (tty.old.term.prior ≡ None → tty.new.term.prior ≡ Some (D.current tty.old.term.device)) }
 {
     match tty.enable_raw_mode() {
         Ok(()) => {}
@@ -156,7 +156,7 @@ fn go_on<
     prompt: &str,
     mut columns: u16,
 ) -> io::Result<Read<A>>
-    ensures line { IfOk result (λ read. LineEnds S.drawn S.asked (knows tty.old.pass) editor.old (answer_told read) (knows tty.new.pass) editor.new) }
+    ensures line { IfOk result (λ read. LineEnds S.drawn S.asked (knows tty.old.pass) editor.old (answer_seen read) (knows tty.new.pass) editor.new) }
     ensures err { IfErr result (λ error. StopsAsking S.drawn S.asked (knows tty.old.pass) editor.old (error_kind error) (knows tty.new.pass) editor.new) }
     ensures features { tty.new.features ≡ tty.old.features }
     ensures mode { tty.new.term.prior ≡ tty.old.term.prior }
@@ -207,13 +207,13 @@ pub fn read_line<
     editor: &mut Editor<A>,
     prompt: &str,
 ) -> io::Result<Read<A>>
-    ensures line { IfOk result (λ read. LineEnds S.drawn S.asked (knows tty.old.pass) editor.old (answer_told read) (knows tty.new.pass) editor.new) }
+    ensures line { IfOk result (λ read. LineEnds S.drawn S.asked (knows tty.old.pass) editor.old (answer_seen read) (knows tty.new.pass) editor.new) }
     ensures err { IfErr result (λ error. StopsAsking S.drawn S.asked (knows tty.old.pass) editor.old (error_kind error) (knows tty.new.pass) editor.new) }
     ensures refused { prompts.has_control (chars prompt.now) ≡ true → IsErrAnd result (λ error. error_kind error ≡ InvalidInput) × (tty.new ≡ tty.old) × (editor.new ≡ editor.old) }
     ensures allowed { OnOk result (prompts.has_control (chars prompt.now) ≡ false) }
     ensures features { tty.new.features ≡ tty.old.features }
     ensures already { IsTrue (is_some tty.old.term.prior) → tty.new.term.prior ≡ tty.old.term.prior }
-    ensures raw { OnOk result (tty.old.term.prior ≡ None → tty.new.term.prior ≡ Some (D.stands tty.old.term.device)) }
+    ensures raw { OnOk result (tty.old.term.prior ≡ None → tty.new.term.prior ≡ Some (D.current tty.old.term.device)) }
 {
     if has_control(prompt) {
         return Err(io::Error::from(ErrorKind::InvalidInput));

@@ -3,7 +3,7 @@ use Rattle.std.proofs.Common.{◌≡◌, ◌≢◌, ◌≤◌, ℕ, zero, suc, B
 use Rattle.crossterm_read.specs.Device.{Bytes, Resized, Woken, Idle, Fault}
 use Rattle.crossterm_read.specs.Scripted.{cut_within, device_answers, piece_answers}
 use Rattle.crossterm_read.specs.declared.source.script.Act.TheVariants as act
-use Rattle.recorder.specs.Replaying.{AnswersAsTold, RecordsLines}
+use Rattle.recorder.specs.Replaying.{AnswersAsRecorded, RecordsLines}
 
 take_whole : (n : ℕ) (xs : List ℕ) → length xs ≤ n → take n xs ≡ xs
 take_whole zero [] l = refl
@@ -28,14 +28,14 @@ one_piece (b ∷ bs) raw f l =
     ∙ ap (λ r. map (λ buffer. Bytes buffer raw) ((b ∷ bs) ∷ cut_within (length bs) r)) (drop_whole 1024 (b ∷ bs) l)
     ∙ ap (λ r. map (λ buffer. Bytes buffer raw) ((b ∷ bs) ∷ r)) (cut_nothing (length bs))
 
-pub answers_as_told : (A : Type 0) → AnswersAsTold A
-answers_as_told A [] h = refl
-answers_as_told A (act.Piece bytes raw ∷ acts) h =
-    ap (λ ws. ws ++ device_answers acts) (one_piece bytes.items raw h.0.0 h.0.1) ∙ ap (λ ws. Bytes bytes.items raw ∷ ws) (answers_as_told A acts h.1)
-answers_as_told A (act.Resize columns rows ∷ acts) h = ap (λ ws. Resized columns rows ∷ ws) (answers_as_told A acts h.1)
-answers_as_told A (act.Woken ∷ acts) h = ap (λ ws. Woken ∷ ws) (answers_as_told A acts h.1)
-answers_as_told A (act.Idle ∷ acts) h = ap (λ ws. Idle ∷ ws) (answers_as_told A acts h.1)
-answers_as_told A (act.Fault kind ∷ acts) h = ap (λ ws. Fault kind ∷ ws) (answers_as_told A acts h.1)
+pub answers_as_recorded : (A : Type 0) → AnswersAsRecorded A
+answers_as_recorded A [] h = refl
+answers_as_recorded A (act.Piece bytes raw ∷ acts) h =
+    ap (λ ws. ws ++ device_answers acts) (one_piece bytes.items raw h.0.0 h.0.1) ∙ ap (λ ws. Bytes bytes.items raw ∷ ws) (answers_as_recorded A acts h.1)
+answers_as_recorded A (act.Resize columns rows ∷ acts) h = ap (λ ws. Resized columns rows ∷ ws) (answers_as_recorded A acts h.1)
+answers_as_recorded A (act.Woken ∷ acts) h = ap (λ ws. Woken ∷ ws) (answers_as_recorded A acts h.1)
+answers_as_recorded A (act.Idle ∷ acts) h = ap (λ ws. Idle ∷ ws) (answers_as_recorded A acts h.1)
+answers_as_recorded A (act.Fault kind ∷ acts) h = ap (λ ws. Fault kind ∷ ws) (answers_as_recorded A acts h.1)
 
 pub records_lines : RecordsLines
 records_lines [] h = tt

@@ -105,14 +105,14 @@ value_after n (d ∷ ds) = value_after (n * 10 + (d - 48)) ds
 abbrev AreDigits : List ℕ → Type 0
 AreDigits ds = AllByRecursion (IsInRange 48 57) ds
 
-tells : IsDigitsTest AreDigits
-tells = record { empty = tt; parts = λ c cs p. p; more = λ c cs k p. (k, p) }
+digits_test : IsDigitsTest AreDigits
+digits_test = record { empty = tt; parts = λ c cs p. p; more = λ c cs k p. (k, p) }
 
 folds : FoldsDigits value_after
 folds = record { empty = λ n. refl; more = λ n c cs k. refl }
 
 model : IsNumeralModel AreDigits (value_after 0)
-model = numerals_by_fold AreDigits tells value_after folds
+model = numerals_by_fold AreDigits digits_test value_after folds
 
 small : (limit n : ℕ) → limit ≤ 4294967296 → n < limit → n < 2 ^ 64
 small limit n m l = omega (arith, m, l)

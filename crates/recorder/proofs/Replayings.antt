@@ -9,8 +9,8 @@ use Rattle.crossterm_read.specs.History as history
 use Rattle.crossterm_read.specs.OneResult.{OneResult}
 use Rattle.crossterm_read.specs.Outcomes.{IsAnsweredBy}
 use Rattle.crossterm_read.specs.Replies.{shown}
-use Rattle.crossterm_read.specs.OverScripts.{HistoriesAreTold, ScriptsAreTold}
-use Rattle.crossterm_read.specs.Scripted.{AnswersWith, ScriptLeft, ScriptTells, faults}
+use Rattle.crossterm_read.specs.OverScripts.{HistoriesOverScripts, ScriptsReplay}
+use Rattle.crossterm_read.specs.Scripted.{AnswersWith, ScriptLeft, ScriptAnswers, faults}
 use Rattle.crossterm_read.specs.Store.{ReaderState}
 use Rattle.crossterm_read.specs.Sources.{At, DrawnFor, Source, SourceDrawn, Turn, Turns, source_on, waited, again, fresh, other}
 use Rattle.recorder.specs.Lines.{entry_answers, times_of}
@@ -111,8 +111,8 @@ are_entries contents answered s t ws r = entries_fit r.entries (millis s.clock) 
     (subst (λ (l : List DeviceAnswer). AllByRecursion IsWritable l) (sym r.says) (writable ws r.are_answers))
 
 -- The law of scripts is that of the reader's crate.
-pub replays : {D W : Type 0} (told : ScriptsAreTold) (contents : W → Option (List ℕ)) (answered : D → List DeviceAnswer → D → Type 0) → Replays contents answered
-replays told contents answered s t xs new before after d =
+pub replays : {D W : Type 0} (scripts : ScriptsReplay) (contents : W → Option (List ℕ)) (answered : D → List DeviceAnswer → D → Type 0) → Replays contents answered
+replays scripts contents answered s t xs new before after d =
     let ws : List DeviceAnswer = d.0 in
     let es : List (ℕ × DeviceAnswer) = d.1.entries in
     record {
@@ -123,7 +123,7 @@ replays told contents answered s t xs new before after d =
       written = (subst (λ (f : Option Stop). WritesEntries contents None s.device.room s.device.writer es f t.device.room t.device.writer) after
           (subst (λ (f : Option Stop). WritesEntries contents f s.device.room s.device.writer es t.device.stop t.device.room t.device.writer) before d.1.written)).0;
       reads = all_read_back es (are_entries contents answered s.device t.device ws d.1);
-      replays = λ ends. told
+      replays = λ ends. scripts
           (record { parser = s.parser; untaken = s.untaken; device = record { left = recorded ws; failed = 0 } })
           (record { parser = t.parser; untaken = t.untaken; device = record { left = []; failed = 0 + faults (plain_all ws) } })
           xs
@@ -136,9 +136,9 @@ replays told contents answered s t xs new before after d =
           );
     }
 
-pub plays_alike : {D W : Type 0} (told : ScriptsAreTold) (one : OneResult) (contents : W → Option (List ℕ)) (answered : D → List DeviceAnswer → D → Type 0) → PlaysAlike contents answered
-plays_alike told one contents answered s t calls drawn replies last new before after d run =
-    let r : Replayed contents answered s.device (all_answers drawn) t.device = replays told contents answered s t (all_answers drawn) new before after d in (
+pub plays_alike : {D W : Type 0} (scripts : ScriptsReplay) (one : OneResult) (contents : W → Option (List ℕ)) (answered : D → List DeviceAnswer → D → Type 0) → PlaysAlike contents answered
+plays_alike scripts one contents answered s t calls drawn replies last new before after d run =
+    let r : Replayed contents answered s.device (all_answers drawn) t.device = replays scripts contents answered s t (all_answers drawn) new before after d in (
       r,
       λ ends.
           let plays : Plays (recorded r.given) calls (map shown replies) (map (λ h. h.0) last.held) =
@@ -163,7 +163,7 @@ over l n s = record { store = s.store; room = s.room; source = scripted l n s.so
 
 -- What a source over a device answered it answers over a script of the same answers.
 scripted_drawn : {D : Type 0} (s t : Source D) (ws : List DeviceAnswer) (xs : List SourceAnswer) (l k : List DeviceAnswer) (n : ℕ)
-    → DrawnFor s ws xs t → AnswersWith l (plain_all ws) k → SourceDrawn ScriptTells (scripted l n s) xs (scripted k (n + faults (plain_all ws)) t)
+    → DrawnFor s ws xs t → AnswersWith l (plain_all ws) k → SourceDrawn ScriptAnswers (scripted l n s) xs (scripted k (n + faults (plain_all ws)) t)
 scripted_drawn s t ws xs l k n d a = (
   plain_all ws,
   (a, refl),
@@ -188,23 +188,23 @@ drawn_on s t u us vs xs ys d e =
     subst (λ (ws : List DeviceAnswer). DrawnFor s ws (xs ++ ys) u) r.1 r.2
 
 -- A history over a recorder: what its device answered in all of it, and the same history over a script that answers so.
-record Told {D W : Type 0} (contents : W → Option (List ℕ)) (answered : D → List DeviceAnswer → D → Type 0)
+record Noted {D W : Type 0} (contents : W → Option (List ℕ)) (answered : D → List DeviceAnswer → D → Type 0)
     (o t : ReaderState (Source (Recording D W))) (log : List Entry) : Type 0 where
   given : List DeviceAnswer
   records : Records contents answered o.source.device given t.source.device
   drawn : DrawnFor o.source given (history.answers_of log) t.source
-  runs : (l k : List DeviceAnswer) (n : ℕ) → AnswersWith l (plain_all given) k → (m : ℕ) × Runs (SourceDrawn ScriptTells) (over l n o) log (over k m t)
+  runs : (l k : List DeviceAnswer) (n : ℕ) → AnswersWith l (plain_all given) k → (m : ℕ) × Runs (SourceDrawn ScriptAnswers) (over l n o) log (over k m t)
 
-told_runs : {D W : Type 0} (contents : W → Option (List ℕ)) (answering : Answering D) (o t : ReaderState (Source (Recording D W))) (log : List Entry)
-    → Runs (SourceDrawn (Records contents answering.answered)) o log t → Told contents answering.answered o t log
-told_runs contents answering o t [] h = record {
+noted_runs : {D W : Type 0} (contents : W → Option (List ℕ)) (answering : Answering D) (o t : ReaderState (Source (Recording D W))) (log : List Entry)
+    → Runs (SourceDrawn (Records contents answering.answered)) o log t → Noted contents answering.answered o t log
+noted_runs contents answering o t [] h = record {
   given = [];
   records = subst (λ (y : ReaderState _). Records contents answering.answered o.source.device [] y.source.device) h ((recorder_answering contents answering).none o.source.device);
   drawn = subst (λ (y : ReaderState _). DrawnFor o.source [] [] y.source) h (λ before represents undecided. (before, represents, undecided, (refl, refl)));
   runs = λ l k n a. (n, ap (over l n) h ∙ ap (λ (left : List DeviceAnswer). over left n t) a);
 }
-told_runs contents answering o t (e ∷ log) h =
-    let r = told_runs contents answering h.0 t log h.2 in
+noted_runs contents answering o t (e ∷ log) h =
+    let r = noted_runs contents answering h.0 t log h.2 in
     let first = h.1.0 in record {
       given = first.0 ++ r.given;
       records = (recorder_answering contents answering).on o.source.device h.0.source.device t.source.device first.0 r.given first.1 r.records;
@@ -215,12 +215,12 @@ told_runs contents answering o t (e ∷ log) h =
           (later.0, (over c.0 (n + faults (plain_all first.0)) h.0, (scripted_drawn o.source h.0.source first.0 e.answers l c.0 n first.2 c.1, h.1.1, h.1.2), later.1));
     }
 
-pub histories_replay : {D W : Type 0} (told : ScriptsAreTold) (histories : HistoriesAreTold) (contents : W → Option (List ℕ)) (answering : Answering D) → HistoriesReplay contents answering.answered
+pub histories_replay : {D W : Type 0} (scripts : ScriptsReplay) (histories : HistoriesOverScripts) (contents : W → Option (List ℕ)) (answering : Answering D) → HistoriesReplay contents answering.answered
 unfolding replays
-histories_replay told histories contents answering o t log new nothing before after runs =
-    let r = told_runs contents answering o t log runs in
+histories_replay scripts histories contents answering o t log new nothing before after runs =
+    let r = noted_runs contents answering o t log runs in
     let xs = history.answers_of log in (
-      replays told contents answering.answered o.source t.source xs new before after (r.given, r.records, r.drawn),
+      replays scripts contents answering.answered o.source t.source xs new before after (r.given, r.records, r.drawn),
       λ ends.
           let script = r.runs (recorded r.given) [] 0 (all_given r.given ends) in
           (histories (over (recorded r.given) 0 o) (over [] script.0 t) log (record { waiting = new.waiting; represents = new.represents; untaken = new.untaken }) nothing script.1).1,

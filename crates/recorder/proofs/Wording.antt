@@ -30,9 +30,9 @@ alone_words w (word ∷ words) f = refl
 
 -- ---- lines
 
-pub told_on : {A : Type 0} → (acts : List (Act A)) (a : Act A) → map act_answer (acts ++ a ∷ []) ≡ map act_answer acts ++ act_answer a ∷ []
-told_on [] a = refl
-told_on (x ∷ acts) a = ap (λ l. act_answer x ∷ l) (told_on acts a)
+pub noted_on : {A : Type 0} → (acts : List (Act A)) (a : Act A) → map act_answer (acts ++ a ∷ []) ≡ map act_answer acts ++ act_answer a ∷ []
+noted_on [] a = refl
+noted_on (x ∷ acts) a = ap (λ l. act_answer x ∷ l) (noted_on acts a)
 
 pub next_line : (s t : Session) (n : ℕ) (rest first after : List ℕ) → parts 10 rest ≡ first ∷ parts 10 after → read_next s first ≡ Ok t
     → read_after s n (parts 10 rest) ≡ read_after t (n + 1) (parts 10 after)

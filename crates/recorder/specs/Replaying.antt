@@ -70,8 +70,8 @@ IsLine Idle = Unit {0}
 IsLine (Fault kind) = Unit {0}
 
 -- A script of acts that a recording can have answers exactly what they describe, one answer for each act.
-abbrev pub AnswersAsTold : (A : Type 0) → Type 0
-AnswersAsTold A = (acts : List (Act A)) → AllByRecursion IsLine (map act_answer acts) → device_answers acts ≡ map act_answer acts
+abbrev pub AnswersAsRecorded : (A : Type 0) → Type 0
+AnswersAsRecorded A = (acts : List (Act A)) → AllByRecursion IsLine (map act_answer acts) → device_answers acts ≡ map act_answer acts
 
 -- What is recorded of a device's answers is always such an answer (`IsLine`).
 abbrev pub RecordsLines : Type 0

@@ -1,10 +1,10 @@
 //! What holds of all recordings.
 ghost use Rattle.recorder.specs.Reads.{EntriesReadBack, LinesReadBack};
-ghost use Rattle.recorder.specs.Replaying.{AnswersAsTold, HistoriesReplay, PlaysAlike, RecordsLines, Replays};
+ghost use Rattle.recorder.specs.Replaying.{AnswersAsRecorded, HistoriesReplay, PlaysAlike, RecordsLines, Replays};
 ghost use Rattle.recorder.specs.Stopping.{CutsKeep, FailuresTear, FrontsHappen, FrontsRead, OneList};
 
 use crossterm_parse::laws::unique_division;
-use crossterm_read::laws::{histories_are_told, one_result, scripts_are_told};
+use crossterm_read::laws::{histories_over_scripts, one_result, scripts_replay};
 use crossterm_read::source::Device;
 use std::alloc::Allocator;
 use std::io::Write;
@@ -24,7 +24,7 @@ pub fn replays<D: Device, W: Write>()
     ensures replays { Replays W.contents D.answering.answered }
     ensures plays { PlaysAlike W.contents D.answering.answered }
 {
-    scripts_are_told();
+    scripts_replay();
     one_result();
 }
 
@@ -34,8 +34,8 @@ pub fn replays<D: Device, W: Write>()
 pub fn histories_replay<D: Device, W: Write>()
     ensures { HistoriesReplay W.contents D.answering.answered }
 {
-    scripts_are_told();
-    histories_are_told();
+    scripts_replay();
+    histories_over_scripts();
 }
 
 /// The law of events: what was recorded has one list of events, and a front of it has a front of these events.
@@ -55,7 +55,7 @@ pub fn stops<D: Device, W: Write>()
 {}
 
 /// The law of acts: those of a recording answer what they say, one answer an act, so that a script of them answers what was recorded.
-pub fn answers_as_told<A: Allocator>()
-    ensures told { AnswersAsTold A }
+pub fn answers_as_recorded<A: Allocator>()
+    ensures recorded { AnswersAsRecorded A }
     ensures lines { RecordsLines }
 {}

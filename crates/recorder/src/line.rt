@@ -3,7 +3,7 @@ ghost use Rattle.std.specs.Prelude.{◌≡◌, ◌<◌, ℕ, List, [], ◌∷◌
 ghost use Rattle.hex.specs.Hex.{encode_lower, lower_digits};
 ghost use Rattle.crossterm_read.specs.Device.{Bytes, Resized, Fault};
 ghost use Rattle.recorder.specs.Lines as spec;
-ghost use Rattle.recorder.specs.inside.Said.{told_answer};
+ghost use Rattle.recorder.specs.inside.Said.{noted_answer};
 
 use crate::kinds::kind_name;
 use crossterm_read::source::Act;
@@ -13,7 +13,7 @@ use std::io::{ErrorKind, Write};
 
 /// What a line says.
 #[derive(Clone, Copy)]
-pub(crate) enum Told<'a> {
+pub(crate) enum Noted<'a> {
     Bytes { bytes: &'a [u8], raw: bool },
     Resized(u16, u16),
     Woken,
@@ -90,25 +90,25 @@ fn push_fault<A: Allocator>(out: &mut Vec<u8, A>, kind: ErrorKind) -> Result<(),
 }
 
 // Appends the line of an answer, without its end.
-fn push_line<A: Allocator>(out: &mut Vec<u8, A>, told: Told<'_>) -> Result<(), AllocError>
-    ensures ok { OnOk result (out.new.items ≡ out.old.items ++ spec.line (told_answer told.entry)) }
+fn push_line<A: Allocator>(out: &mut Vec<u8, A>, noted: Noted<'_>) -> Result<(), AllocError>
+    ensures ok { OnOk result (out.new.items ≡ out.old.items ++ spec.line (noted_answer noted.entry)) }
     ensures keeps { take (length out.old.items) out.new.items ≡ out.old.items }
 {
-    match told {
-        Told::Bytes { bytes, raw } => push_bytes(out, bytes, raw),
-        Told::Resized(columns, rows) => push_size(out, columns, rows),
-        Told::Woken => push_word(out, "wake"),
-        Told::Idle => push_word(out, "idle"),
-        Told::Fault(kind) => push_fault(out, kind),
+    match noted {
+        Noted::Bytes { bytes, raw } => push_bytes(out, bytes, raw),
+        Noted::Resized(columns, rows) => push_size(out, columns, rows),
+        Noted::Woken => push_word(out, "wake"),
+        Noted::Idle => push_word(out, "idle"),
+        Noted::Fault(kind) => push_fault(out, kind),
     }
 }
 
 // Appends the line of an answer and its end.
-fn push_told<A: Allocator>(out: &mut Vec<u8, A>, told: Told<'_>) -> Result<(), AllocError>
-    ensures ok { OnOk result (out.new.items ≡ out.old.items ++ spec.lines (told_answer told.entry ∷ [])) }
+fn push_noted<A: Allocator>(out: &mut Vec<u8, A>, noted: Noted<'_>) -> Result<(), AllocError>
+    ensures ok { OnOk result (out.new.items ≡ out.old.items ++ spec.lines (noted_answer noted.entry ∷ [])) }
     ensures keeps { take (length out.old.items) out.new.items ≡ out.old.items }
 {
-    push_line(out, told)?;
+    push_line(out, noted)?;
     out.push(b'\n')?;
     Ok(())
 }
@@ -127,28 +127,28 @@ fn push_stamp<A: Allocator>(out: &mut Vec<u8, A>, time: u32) -> Result<(), Alloc
 pub(crate) fn push_entry<A: Allocator>(
     out: &mut Vec<u8, A>,
     time: u32,
-    told: Told<'_>,
+    noted: Noted<'_>,
 ) -> Result<(), AllocError>
-    ensures { OnOk result (out.new.items ≡ out.old.items ++ spec.text ((time, told_answer told.entry) ∷ [])) }
+    ensures { OnOk result (out.new.items ≡ out.old.items ++ spec.text ((time, noted_answer noted.entry) ∷ [])) }
 {
     push_stamp(out, time)?;
-    push_told(out, told)?;
+    push_noted(out, noted)?;
     Ok(())
 }
 
 // What an act says in one line.
-fn said<A: Allocator>(act: &Act<A>) -> Told<'_>
-    ensures { told_answer result ≡ spec.act_answer act.now }
+fn said<A: Allocator>(act: &Act<A>) -> Noted<'_>
+    ensures { noted_answer result ≡ spec.act_answer act.now }
 {
     match act {
-        Act::Piece { bytes, raw } => Told::Bytes {
+        Act::Piece { bytes, raw } => Noted::Bytes {
             bytes: bytes.as_slice(),
             raw: *raw,
         },
-        Act::Resize(columns, rows) => Told::Resized(*columns, *rows),
-        Act::Woken => Told::Woken,
-        Act::Idle => Told::Idle,
-        Act::Fault(kind) => Told::Fault(*kind),
+        Act::Resize(columns, rows) => Noted::Resized(*columns, *rows),
+        Act::Woken => Noted::Woken,
+        Act::Idle => Noted::Idle,
+        Act::Fault(kind) => Noted::Fault(*kind),
     }
 }
 
@@ -170,7 +170,7 @@ pub fn write_act<A: Allocator, B: Allocator>(
     ensures err { OnErr result (out.new.items ≡ out.old.items) }
 {
     let count = out.len();
-    match push_told(out, said(act)) {
+    match push_noted(out, said(act)) {
         Ok(()) => Ok(()),
         Err(refused) => {
             out.truncate(count);

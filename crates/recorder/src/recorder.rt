@@ -3,9 +3,9 @@ ghost use Rattle.std.specs.Prelude.{◌≡◌, ◌≤◌, ◌↔◌, ℕ, List, 
 ghost use Rattle.crossterm_read.specs.Device.{CountWithin, device_answer};
 ghost use Rattle.recorder.specs.Answering.{recorder_answering};
 ghost use Rattle.recorder.specs.Recording.{HasRoomFor, IsPossible, Recording, Uses, WritesEntries, millis, recorded};
-ghost use Rattle.recorder.specs.inside.Said.{Notes, said_by, told_answer};
+ghost use Rattle.recorder.specs.inside.Said.{Notes, said_by, noted_answer};
 
-use crate::line::{Told, push_entry};
+use crate::line::{Noted, push_entry};
 use crate::watch::Watch;
 use crossterm_command::write_bytes;
 use crossterm_read::source::{Answer, Device, Waker};
@@ -50,11 +50,11 @@ pub struct Recorder<D, W, C: Clock, A: Allocator = Global> {
 impl<D, W, C: Clock, A: Allocator> Model for Recorder<D, W, C, A> {
     ghost Value = { Recording D W };
 
-    ghost view = { λ r. record { device = r.device; writer = r.writer; clock = C.told r.clock; room = r.room; stop = r.stop } };
+    ghost view = { λ r. record { device = r.device; writer = r.writer; clock = C.latest r.clock; room = r.room; stop = r.stop } };
 }
 
 // The line of an answer, if it has one.
-fn line_of<'a>(answer: &io::Result<Answer>, buf: &'a [u8]) -> Option<Told<'a>>
+fn line_of<'a>(answer: &io::Result<Answer>, buf: &'a [u8]) -> Option<Noted<'a>>
     requires within { IfOk answer.now (λ a. CountWithin a (length buf.now)) }
     requires most { length buf.now ≤ 1024 }
     ensures is_answer { IsPossible (device_answer answer.now buf.now) }
@@ -66,20 +66,20 @@ fn line_of<'a>(answer: &io::Result<Answer>, buf: &'a [u8]) -> Option<Told<'a>>
                 None
             } else {
                 let bytes = &buf[..*count];
-                Some(Told::Bytes { bytes, raw: *raw })
+                Some(Noted::Bytes { bytes, raw: *raw })
             }
         }
-        Ok(Answer::Resize(columns, rows)) => Some(Told::Resized(*columns, *rows)),
-        Ok(Answer::Woken) => Some(Told::Woken),
-        Ok(Answer::Idle) => Some(Told::Idle),
-        Err(e) => Some(Told::Fault(e.kind())),
+        Ok(Answer::Resize(columns, rows)) => Some(Noted::Resized(*columns, *rows)),
+        Ok(Answer::Woken) => Some(Noted::Woken),
+        Ok(Answer::Idle) => Some(Noted::Idle),
+        Err(e) => Some(Noted::Fault(e.kind())),
     }
 }
 
 // The milliseconds that a clock reports.
 fn moment<C: Clock>(clock: &mut C) -> u32
-    ensures time { result ≡ millis (C.told clock.new) }
-    ensures later { millis (C.told clock.old) ≤ millis (C.told clock.new) }
+    ensures time { result ≡ millis (C.latest clock.new) }
+    ensures later { millis (C.latest clock.old) ≤ millis (C.latest clock.new) }
 {
     let time = clock.now().as_millis();
     if time < 4_294_967_295 {
@@ -113,12 +113,12 @@ fn write_entry<W: Write, A: Allocator>(
     line: &mut Vec<u8, A>,
     room: &mut Option<u64>,
     time: u32,
-    told: Told<'_>,
+    noted: Noted<'_>,
 ) -> Option<Stop>
-    ensures { WritesEntries W.contents None room.old writer.old ((time, told_answer told.entry) ∷ []) result room.new writer.new }
+    ensures { WritesEntries W.contents None room.old writer.old ((time, noted_answer noted.entry) ∷ []) result room.new writer.new }
 {
     line.clear();
-    if push_entry(line, time, told).is_err() {
+    if push_entry(line, time, noted).is_err() {
         return Some(Stop::Failed(ErrorKind::OutOfMemory));
     }
     if !take_room(room, line.len()) {
@@ -137,23 +137,23 @@ fn record<W: Write, C: Clock, A: Allocator>(
     line: &mut Vec<u8, A>,
     room: &mut Option<u64>,
     stop: &mut Option<Stop>,
-    told: Option<Told<'_>>,
+    noted: Option<Noted<'_>>,
 )
-    ensures { Notes W.contents (C.told clock.old) stop.old room.old writer.old (said_by told.entry) (C.told clock.new) stop.new room.new writer.new }
+    ensures { Notes W.contents (C.latest clock.old) stop.old room.old writer.old (said_by noted.entry) (C.latest clock.new) stop.new room.new writer.new }
 {
-    let Some(told) = told else {
+    let Some(noted) = noted else {
         return;
     };
     if stop.is_none() {
         let time = moment(clock);
-        *stop = write_entry(writer, line, room, time, told);
+        *stop = write_entry(writer, line, room, time, noted);
     }
 }
 
 impl<D: Device, W: Write + Drop, C: Clock + Drop, A: Allocator> Recorder<D, W, C, A> {
     /// A recorder that has written nothing yet. Times count from the time of its clock.
     pub fn new(alloc: A, device: D, writer: W, clock: C) -> Self
-        ensures { result ≡ record { device = device; writer = writer; clock = C.told clock; room = None; stop = None } }
+        ensures { result ≡ record { device = device; writer = writer; clock = C.latest clock; room = None; stop = None } }
     {
         Recorder {
             device,

@@ -33,18 +33,18 @@ printed_joined (Private b ∷ ts) us = printed_joined ts us
 pub strokes_printed : (colors : ColorOutput) (xs ys : List Stroke) → printed_count (tokens_of colors (xs ++ ys)) ≡ printed_count (tokens_of colors xs) + printed_count (tokens_of colors ys)
 strokes_printed colors xs ys = ap printed_count (flat_map-append (tokens colors) xs ys) ∙ printed_joined (tokens_of colors xs) (tokens_of colors ys)
 
-told_prints : (colors : ColorOutput) (acts : List StyleAct) → AllByRecursion SetsStyle acts → printed_count (act_tokens colors acts) ≡ 0
-told_prints colors [] h = refl
-told_prints colors (Prints cs ∷ acts) h = absurd h.0
-told_prints colors (Colors c ∷ acts) h = told_prints colors acts h.1
-told_prints colors (Takes a ∷ acts) h = told_prints colors acts h.1
+tokens_print : (colors : ColorOutput) (acts : List StyleAct) → AllByRecursion SetsStyle acts → printed_count (act_tokens colors acts) ≡ 0
+tokens_print colors [] h = refl
+tokens_print colors (Prints cs ∷ acts) h = absurd h.0
+tokens_print colors (Colors c ∷ acts) h = tokens_print colors acts h.1
+tokens_print colors (Takes a ∷ acts) h = tokens_print colors acts h.1
 
 style_prints : (colors : ColorOutput) (s : ContentStyle) (ss : List Stroke) → printed_count (tokens_of colors (stroke.Style s ∷ ss)) ≡ printed_count (tokens_of colors ss)
 style_prints colors s ss =
-    printed_joined (tokens colors (stroke.Style s)) (tokens_of colors ss) ∙ ap (λ n. n + printed_count (tokens_of colors ss)) (told_prints colors (style_acts s) (style_sets s)) ∙ (omega arith)
+    printed_joined (tokens colors (stroke.Style s)) (tokens_of colors ss) ∙ ap (λ n. n + printed_count (tokens_of colors ss)) (tokens_print colors (style_acts s) (style_sets s)) ∙ (omega arith)
 
 color_prints : (colors : ColorOutput) (change : ContentStyle) → printed_count (color_tokens colors change) ≡ 0
-color_prints Enabled change = told_prints Enabled (style_acts change) (style_sets change)
+color_prints Enabled change = tokens_print Enabled (style_acts change) (style_sets change)
 color_prints Disabled change = refl
 
 colors_print : (colors : ColorOutput) (change : ContentStyle) (ss : List Stroke) → printed_count (tokens_of colors (stroke.Colors change ∷ ss)) ≡ printed_count (tokens_of colors ss)

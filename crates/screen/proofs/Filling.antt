@@ -8,10 +8,10 @@ use Rattle.std.proofs.lemmas.List.{length-replicate}
 use Rattle.std.proofs.lemmas.List.FromFn.{get_or-map-range_with_len, length-map-range_with_len}
 use Rattle.crossterm_style.specs.declared.content_style.ContentStyle.{ContentStyle}
 use Rattle.screen.specs.Buffers.{fill_cells, pair_cell}
-use Rattle.screen.specs.Cells.{AreLaidOut, ArePaired, Cell, IsPrinted, Stands, is_covered, is_wide}
+use Rattle.screen.specs.Cells.{AreLaidOut, ArePaired, Cell, IsPrinted, IsPlaced, is_covered, is_wide}
 use Rattle.screen.specs.Grids.{is_last, takes_two}
 use Rattle.screen.specs.Overwriting.{covered}
-use Rattle.screen.proofs.Fitting.{printed_stands, printed_there, same_laid_out, space_printed}
+use Rattle.screen.proofs.Fitting.{printed_placed, printed_there, same_laid_out, space_printed}
 use Rattle.screen.proofs.Squares.{space_is_narrow, zero_takes_no_two}
 use Rattle.screen.proofs.Taking.{kept}
 
@@ -38,10 +38,10 @@ odd_next column = grind (arith, nat_tests)
 abbrev pair_by : Bool → Bool → ℕ → ContentStyle → Cell
 pair_by odd last c s = cond odd (covered s) (cond last (record { symbol = 32; style = s }) (record { symbol = c; style = s }))
 
-pair_stands : (odd last : Bool) (c : ℕ) (s : ContentStyle) → IsPrinted c → Stands (pair_by odd last c s)
-pair_stands true last c s p = inl refl
-pair_stands false true c s p = printed_stands (record { symbol = 32; style = s }) space_printed
-pair_stands false false c s p = printed_stands (record { symbol = c; style = s }) p
+pair_placed : (odd last : Bool) (c : ℕ) (s : ContentStyle) → IsPrinted c → IsPlaced (pair_by odd last c s)
+pair_placed true last c s p = inl refl
+pair_placed false true c s p = printed_placed (record { symbol = 32; style = s }) space_printed
+pair_placed false false c s p = printed_placed (record { symbol = c; style = s }) p
 
 pair_covered : (odd last : Bool) (c : ℕ) (s : ContentStyle) → IsPrinted c → is_covered (pair_by odd last c s) ≡ odd
 pair_covered true last c s p = refl
@@ -96,13 +96,13 @@ some_laid_out w h c s some p two =
     let nothing : 0 ≡ 0 * w + 0 = omega arith in
     let start : 0 % w ≡ 0 = ap (λ n. n % w) nothing ∙ mod-mul-add 0 w 0 some in
     record {
-      stand = λ k d lt. subst Stands (sym (is k d lt)) (pair_stands (is_odd (k % w)) (k % w + 1 == w) c s p);
+      placed = λ k d lt. subst IsPlaced (sym (is k d lt)) (pair_placed (is_odd (k % w)) (k % w + 1 == w) c s p);
       paired = subst (λ f. ArePaired f cells) (ap is_odd start) (pairs w h 0 (w * h) c s some (omega arith) p two);
       rows = λ k d lt e. stay_by (k % w + 1 == w) k w c s some refl (ap is_wide (sym (is k d lt)) ∙ e);
     }
 
 none_laid_out : (w : ℕ) (cells : List Cell) → length cells ≡ 0 → AreLaidOut w cells
-none_laid_out w [] e = record { stand = λ k d lt. absurd (omega (arith, lt)); paired = refl; rows = λ k d lt e. absurd (omega (arith, lt)) }
+none_laid_out w [] e = record { placed = λ k d lt. absurd (omega (arith, lt)); paired = refl; rows = λ k d lt e. absurd (omega (arith, lt)) }
 none_laid_out w (c ∷ cells) e = absurd (omega (arith, e))
 
 pairs_laid_out : (w h c : ℕ) (s : ContentStyle) → IsPrinted c → takes_two c ≡ true → AreLaidOut w (map (at w c s) (range_with_len 0 (w * h)))

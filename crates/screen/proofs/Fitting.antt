@@ -4,7 +4,7 @@ use Rattle.std.proofs.lemmas.Bool.Decides.{nat_tests}
 use Rattle.std.proofs.lemmas.List.{get_or-replicate, length-replicate}
 use Rattle.std.proofs.lemmas.List.Elements.{All-replicate}
 use Rattle.unicode_width.specs.Width.{char_width}
-use Rattle.screen.specs.Cells.{AreLaidOut, ArePaired, Cell, IsPrinted, Stands, StayInRows, blank, is_wide}
+use Rattle.screen.specs.Cells.{AreLaidOut, ArePaired, Cell, IsPrinted, IsPlaced, StayInRows, blank, is_wide}
 use Rattle.screen.specs.Grids.{takes_one}
 use Rattle.screen.proofs.Squares.{space_is_narrow, zero_takes_no_two}
 
@@ -31,8 +31,8 @@ printed_there c p =
       | false ↦ λ e. e
     ] refl
 
-pub printed_stands : (c : Cell) → IsPrinted c.symbol → Stands c
-printed_stands c p = inr (printed_there c.symbol p, p)
+pub printed_placed : (c : Cell) → IsPrinted c.symbol → IsPlaced c
+printed_placed c p = inr (printed_there c.symbol p, p)
 
 -- ---- cells that are all the same
 
@@ -46,7 +46,7 @@ same_stay n c w width k d lt e =
     let no : false ≡ true = sym w ∙ same in cc
 
 pub same_laid_out : (n : ℕ) (c : Cell) → IsPrinted c.symbol → is_wide c ≡ false → (width : ℕ) → AreLaidOut width (replicate n c)
-same_laid_out n c p w width = record { stand = All-replicate Stands n c (printed_stands c p); paired = same_paired n c p w; rows = same_stay n c w width }
+same_laid_out n c p w width = record { placed = All-replicate IsPlaced n c (printed_placed c p); paired = same_paired n c p w; rows = same_stay n c w width }
 
 pub blank_laid_out : (n : ℕ) (xs : List Cell) → xs ≡ replicate n blank → (width : ℕ) → AreLaidOut width xs
 blank_laid_out n xs e width = subst (AreLaidOut width) (sym e) (same_laid_out n blank space_printed space_is_narrow width)

@@ -3,7 +3,7 @@ use Rattle.std.proofs.Common.{◌≡◌, ℕ, zero, suc, ◌+◌, ◌<◌, ◌�
 use Rattle.std.specs.List.{All}
 use Rattle.std.proofs.lemmas.List.{length-take-le, take-append-drop}
 use Rattle.std.proofs.lemmas.List.Elements.{All-append, All-drop, All-take}
-use Rattle.screen.specs.Cells.{AreLaidOut, ArePaired, Cell, Stands, StayInRows, is_covered, is_wide}
+use Rattle.screen.specs.Cells.{AreLaidOut, ArePaired, Cell, IsPlaced, StayInRows, is_covered, is_wide}
 use Rattle.screen.specs.Grids.{is_last}
 use Rattle.screen.specs.Overwriting.{begun, emptied, ended, overwritten, without_first, without_second}
 use Rattle.screen.proofs.Fitting.{space_printed}
@@ -11,28 +11,28 @@ use Rattle.screen.proofs.Halves.{begun_there, begun_wide, ended_covered, ended_l
 
 -- ---- each cell
 
-cell_stands : (b : Bool) (c : Cell) → Stands c → Stands (cond b (emptied c) c)
-cell_stands true c h = inr (refl, space_printed)
-cell_stands false c h = h
+cell_placed : (b : Bool) (c : Cell) → IsPlaced c → IsPlaced (cond b (emptied c) c)
+cell_placed true c h = inr (refl, space_printed)
+cell_placed false c h = h
 
-pub all_cons : (c : Cell) (cells : List Cell) → Stands c → All Stands cells → All Stands (c ∷ cells)
+pub all_cons : (c : Cell) (cells : List Cell) → IsPlaced c → All IsPlaced cells → All IsPlaced (c ∷ cells)
 all_cons c cells h all zero d lt = h
 all_cons c cells h all (suc k) d lt = all k d (omega (arith, lt))
 
-pub all_rest : (c : Cell) (cells : List Cell) → All Stands (c ∷ cells) → All Stands cells
+pub all_rest : (c : Cell) (cells : List Cell) → All IsPlaced (c ∷ cells) → All IsPlaced cells
 all_rest c cells all k d lt = all (suc k) d (omega (arith, lt))
 
-pub all_first : (c : Cell) (cells : List Cell) → All Stands (c ∷ cells) → Stands c
+pub all_first : (c : Cell) (cells : List Cell) → All IsPlaced (c ∷ cells) → IsPlaced c
 all_first c cells all = all zero c (omega arith)
 
-ended_stand : (xs : List Cell) → All Stands xs → All Stands (ended xs)
-ended_stand [] all = all
-ended_stand (x ∷ []) all = all_cons (without_second x) [] (cell_stands (is_wide x) x (all_first x [] all)) (all_rest x [] all)
-ended_stand (x ∷ y ∷ xs) all = all_cons x (ended (y ∷ xs)) (all_first x (y ∷ xs) all) (ended_stand (y ∷ xs) (all_rest x (y ∷ xs) all))
+ended_placed : (xs : List Cell) → All IsPlaced xs → All IsPlaced (ended xs)
+ended_placed [] all = all
+ended_placed (x ∷ []) all = all_cons (without_second x) [] (cell_placed (is_wide x) x (all_first x [] all)) (all_rest x [] all)
+ended_placed (x ∷ y ∷ xs) all = all_cons x (ended (y ∷ xs)) (all_first x (y ∷ xs) all) (ended_placed (y ∷ xs) (all_rest x (y ∷ xs) all))
 
-begun_stand : (xs : List Cell) → All Stands xs → All Stands (begun xs)
-begun_stand [] all = all
-begun_stand (x ∷ xs) all = all_cons (without_first x) xs (cell_stands (is_covered x) x (all_first x xs all)) (all_rest x xs all)
+begun_placed : (xs : List Cell) → All IsPlaced xs → All IsPlaced (begun xs)
+begun_placed [] all = all
+begun_placed (x ∷ xs) all = all_cons (without_first x) xs (cell_placed (is_covered x) x (all_first x xs all)) (all_rest x xs all)
 
 -- ---- pairs
 
@@ -112,9 +112,9 @@ from_rows width cells s k d lt w = let none : k ≡ 0 + k = omega arith in ap (i
 
 -- Cells that are overwritten stay laid out.
 pub overwritten_laid_out : (width at : ℕ) (cells others : List Cell) → at + length others ≤ length cells → AreLaidOut width cells
-    → All Stands others → ArePaired false others → StayFrom width at others → AreLaidOut width (overwritten cells at others)
-overwritten_laid_out width at cells [] le laid stand paired rows = laid
-overwritten_laid_out width at cells (x ∷ xs) le laid stand paired rows =
+    → All IsPlaced others → ArePaired false others → StayFrom width at others → AreLaidOut width (overwritten cells at others)
+overwritten_laid_out width at cells [] le laid placed paired rows = laid
+overwritten_laid_out width at cells (x ∷ xs) le laid placed paired rows =
     let others = x ∷ xs in
     let n = at + length others in
     let front = take at cells in
@@ -127,8 +127,8 @@ overwritten_laid_out width at cells (x ∷ xs) le laid stand paired rows =
     let start : at ≡ 0 + length (ended front) = omega (arith, long) in
     let behind : 0 + n ≡ at + length others = omega arith in
     record {
-      stand = All-append Stands (ended front) (others ++ begun back) (ended_stand front (All-take Stands at cells laid.stand))
-          (All-append Stands others (begun back) stand (begun_stand back (All-drop Stands n cells laid.stand)));
+      placed = All-append IsPlaced (ended front) (others ++ begun back) (ended_placed front (All-take IsPlaced at cells laid.placed))
+          (All-append IsPlaced others (begun back) placed (begun_placed back (All-drop IsPlaced n cells laid.placed)));
       paired = front_paired front (drop at cells) (others ++ begun back) split
           (paired_joined false others (begun back) paired (back_paired false n cells laid.paired));
       rows = from_rows width _ (stay_joined width 0 (ended front) (others ++ begun back) (stay_ended width 0 front (stay_front width 0 front (drop at cells) stay_split))

@@ -32,7 +32,7 @@ use Rattle.screen.specs.declared.settings.Setting.TheVariants as setting
 use Rattle.screen.specs.declared.strokes.Stroke.{Stroke}
 use Rattle.screen.specs.declared.strokes.Stroke.TheVariants as stroke
 use Rattle.screen.specs.Cells.{Cell, is_wide, last_place, look}
-use Rattle.screen.specs.Grids.{Grid, is_last, is_width, move_cursor, parameter_number, overwritten, place, place_told, print_at, print_one, print_two, right_of, run, step, takes_one, takes_two}
+use Rattle.screen.specs.Grids.{Grid, is_last, is_width, move_cursor, parameter_number, overwritten, place, place_by, print_at, print_one, print_two, right_of, run, step, takes_one, takes_two}
 use Rattle.screen.specs.Grids.Square.{Whole, First, Second}
 use Rattle.screen.specs.inside.Settings.{HasByteColors, Sets}
 use Rattle.screen.specs.inside.Strokes.{cell_strokes, color_tokens, move_strokes, style_strokes, tokens, tokens_of}
@@ -94,8 +94,8 @@ pub moved : (row column : ℕ) (g : Grid) → row < g.height → column < g.widt
     → run (move_to column row) g ≡ Some (record g { cursor = Some (row * g.width + column) })
 moved row column g r c rs cs =
     let parts = place_parts (row + 1) (column + 1) (omega (arith, rs)) (omega (arith, cs)) in
-    let act_tokens : place_told (slice_split (λ b. b == 59) (decimal (row + 1) ++ (codes ";" ++ decimal (column + 1)))) g ≡ Some (row * g.width + column) =
-    ap (λ p. place_told p g) parts ∙ ap (λ n. place n (parameter_number (decimal (column + 1))) g) (number_read (row + 1) (omega (arith, rs)))
+    let act_tokens : place_by (slice_split (λ b. b == 59) (decimal (row + 1) ++ (codes ";" ++ decimal (column + 1)))) g ≡ Some (row * g.width + column) =
+    ap (λ p. place_by p g) parts ∙ ap (λ n. place n (parameter_number (decimal (column + 1))) g) (number_read (row + 1) (omega (arith, rs)))
     ∙ ap (λ n. place (Some (row + 1)) n g) (number_read (column + 1) (omega (arith, cs))) ∙ place_read row column g r c in
     ap (λ o. elim (move_cursor o g) [ None ↦ None | Some h ↦ Some h ]) act_tokens
 
@@ -106,11 +106,11 @@ abbrev pub SetsStyle : StyleAct → Type 0
 SetsStyle (Prints cs) = ⊥
 SetsStyle a = Unit {0}
 
-style_told : (colors : ColorOutput) (acts : List StyleAct) → AllByRecursion SetsStyle acts → (g : Grid) → run (act_tokens colors acts) g ≡ Some (record g { style = style_after (act_tokens colors acts) g.style })
-style_told colors [] h g = refl
-style_told colors (Prints cs ∷ acts) h g = absurd h.0
-style_told colors (Colors c ∷ acts) h g = style_told colors acts h.1 _
-style_told colors (Takes a ∷ acts) h g = style_told colors acts h.1 _
+style_tokens : (colors : ColorOutput) (acts : List StyleAct) → AllByRecursion SetsStyle acts → (g : Grid) → run (act_tokens colors acts) g ≡ Some (record g { style = style_after (act_tokens colors acts) g.style })
+style_tokens colors [] h g = refl
+style_tokens colors (Prints cs ∷ acts) h g = absurd h.0
+style_tokens colors (Colors c ∷ acts) h g = style_tokens colors acts h.1 _
+style_tokens colors (Takes a ∷ acts) h g = style_tokens colors acts h.1 _
 
 color_sets : (at : Color → Colored) (o : Option Color) → AllByRecursion SetsStyle (where_there at o)
 color_sets at None = tt
@@ -128,7 +128,7 @@ style_sets s =
 
 from_plain : (colors : ColorOutput) (s : ContentStyle) (g : Grid) → AllByRecursion FitsAct (style_acts s) → g.style ≡ plain → run (act_tokens colors (style_acts s)) g ≡ Some (record g { style = look colors s })
 from_plain colors s g fits is_plain =
-    style_told colors (style_acts s) (style_sets s) g ∙ ap (λ p. Some (record g { style = style_after (act_tokens colors (style_acts s)) p })) is_plain
+    style_tokens colors (style_acts s) (style_sets s) g ∙ ap (λ p. Some (record g { style = style_after (act_tokens colors (style_acts s)) p })) is_plain
     ∙ ap (λ p. Some (record g { style = p })) ((acts_show colors (style_acts s) plain fits).1)
 
 -- A style that is set from any.
@@ -139,7 +139,7 @@ styled colors s g fits =
 -- What colours make of any style.
 colors_run : (colors : ColorOutput) (change : ContentStyle) (g : Grid) → AllByRecursion FitsAct (style_acts change) → run (color_tokens colors change) g ≡ Some (record g { style = recolored_by colors change g.style })
 colors_run Enabled change g fits =
-    style_told Enabled (style_acts change) (style_sets change) g ∙ ap (λ p. Some (record g { style = p })) ((acts_show Enabled (style_acts change) g.style fits).1)
+    style_tokens Enabled (style_acts change) (style_sets change) g ∙ ap (λ p. Some (record g { style = p })) ((acts_show Enabled (style_acts change) g.style fits).1)
 colors_run Disabled change g fits = refl
 
 no_acts : style_acts no_style ≡ []

@@ -10,7 +10,7 @@ use Rattle.screen.specs.declared.settings.Setting.{Setting}
 use Rattle.screen.specs.declared.settings.Setting.TheVariants as setting
 use Rattle.screen.specs.declared.strokes.Stroke.{Stroke}
 use Rattle.screen.specs.declared.strokes.Stroke.TheVariants as stroke
-use Rattle.screen.specs.Cells.{ArePaired, Cell, IsPrinted, Stands, blank, is_covered, is_wide, last_place, look, cell_look}
+use Rattle.screen.specs.Cells.{ArePaired, Cell, IsPrinted, IsPlaced, blank, is_covered, is_wide, last_place, look, cell_look}
 use Rattle.screen.specs.Drawings.{DifferAt, printed_count}
 use Rattle.screen.specs.Updates.{HasToBePrinted}
 use Rattle.screen.specs.Grids.{Grid, Square, begun, blank_square, is_last, overwritten, right_of, run}
@@ -154,9 +154,9 @@ paints known k width height before after cursor style strokes b c there how row 
       },
     )
 
-pub stands_printed : (c : Cell) → is_covered c ≡ false → Stands c → IsPrinted c.symbol
-stands_printed c e (inl f) = let no : true ≡ false = sym f ∙ e in cc
-stands_printed c e (inr p) = p.1
+pub placed_printed : (c : Cell) → is_covered c ≡ false → IsPlaced c → IsPrinted c.symbol
+placed_printed c e (inl f) = let no : true ≡ false = sym f ∙ e in cc
+placed_printed c e (inr p) = p.1
 
 pub keeps_counted : (before after : List Cell) (k : ℕ) (strokes : List Stroke) (b c : Cell) → k < length before → k < length after → get_or before k b ≡ b → get_or after k c ≡ c → (HasToBePrinted b c → ⊥)
     → Counts before after k strokes → Counts before after (k + 1) strokes

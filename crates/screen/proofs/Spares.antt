@@ -49,17 +49,17 @@ none_of kind (x ∷ xs) a = ap (λ b. cond b (how_many kind xs + 1) (how_many ki
 -- ---- the tokens of a style
 
 -- What holds of each SGR holds of each token of a style.
-told_all : (P : Token → Type 0) → ((text : List ℕ) → P (Csi text [] 0x6D)) → (colors : ColorOutput) (acts : List StyleAct) → AllByRecursion SetsStyle acts → AllByRecursion P (act_tokens colors acts)
-told_all P p colors [] h = tt
-told_all P p colors (Prints cs ∷ acts) h = absurd h.0
-told_all P p colors (Colors c ∷ acts) h = (p _, told_all P p colors acts h.1)
-told_all P p colors (Takes a ∷ acts) h = (p _, told_all P p colors acts h.1)
+tokens_all : (P : Token → Type 0) → ((text : List ℕ) → P (Csi text [] 0x6D)) → (colors : ColorOutput) (acts : List StyleAct) → AllByRecursion SetsStyle acts → AllByRecursion P (act_tokens colors acts)
+tokens_all P p colors [] h = tt
+tokens_all P p colors (Prints cs ∷ acts) h = absurd h.0
+tokens_all P p colors (Colors c ∷ acts) h = (p _, tokens_all P p colors acts h.1)
+tokens_all P p colors (Takes a ∷ acts) h = (p _, tokens_all P p colors acts h.1)
 
 style_all : (P : Token → Type 0) → ((text : List ℕ) → P (Csi text [] 0x6D)) → (colors : ColorOutput) (s : ContentStyle) → AllByRecursion P (tokens colors (stroke.Style s))
-style_all P p colors s = (p _, told_all P p colors (style_acts s) (style_sets s))
+style_all P p colors s = (p _, tokens_all P p colors (style_acts s) (style_sets s))
 
 color_all : (P : Token → Type 0) → ((text : List ℕ) → P (Csi text [] 0x6D)) → (colors : ColorOutput) (change : ContentStyle) → AllByRecursion P (color_tokens colors change)
-color_all P p Enabled change = told_all P p Enabled (style_acts change) (style_sets change)
+color_all P p Enabled change = tokens_all P p Enabled (style_acts change) (style_sets change)
 color_all P p Disabled change = tt
 
 -- ---- strokes for tokens
@@ -148,11 +148,11 @@ all_of kind (x ∷ xs) =
       | false ↦ omega (arith, more)
     ]
 
-told_length : (colors : ColorOutput) (acts : List StyleAct) → AllByRecursion SetsStyle acts → length (act_tokens colors acts) ≡ length acts
-told_length colors [] h = refl
-told_length colors (Prints cs ∷ acts) h = absurd h.0
-told_length colors (Colors c ∷ acts) h = ap (λ n. suc n) (told_length colors acts h.1)
-told_length colors (Takes a ∷ acts) h = ap (λ n. suc n) (told_length colors acts h.1)
+tokens_length : (colors : ColorOutput) (acts : List StyleAct) → AllByRecursion SetsStyle acts → length (act_tokens colors acts) ≡ length acts
+tokens_length colors [] h = refl
+tokens_length colors (Prints cs ∷ acts) h = absurd h.0
+tokens_length colors (Colors c ∷ acts) h = ap (λ n. suc n) (tokens_length colors acts h.1)
+tokens_length colors (Takes a ∷ acts) h = ap (λ n. suc n) (tokens_length colors acts h.1)
 
 few_members : (bits : ℕ) → length (members bits) ≤ 28
 unfolding members
@@ -183,7 +183,7 @@ few_acts s =
     )
 
 color_length : (colors : ColorOutput) (change : ContentStyle) → length (color_tokens colors change) ≤ 31
-color_length Enabled change = omega (arith, told_length Enabled (style_acts change) (style_sets change), few_acts change)
+color_length Enabled change = omega (arith, tokens_length Enabled (style_acts change) (style_sets change), few_acts change)
 color_length Disabled change = omega arith
 
 style_each : (colors : ColorOutput) (s : Stroke) → how_many is_style (tokens colors s) ≤ longest_style * how_many is_style_stroke (s ∷ [])
@@ -191,7 +191,7 @@ style_each colors stroke.Begin = omega arith
 style_each colors stroke.End = omega arith
 style_each colors stroke.Erase = omega arith
 style_each colors (stroke.Move column row) = omega arith
-style_each colors (stroke.Style s) = omega (arith, all_of is_style (act_tokens colors (style_acts s)), told_length colors (style_acts s) (style_sets s), few_acts s)
+style_each colors (stroke.Style s) = omega (arith, all_of is_style (act_tokens colors (style_acts s)), tokens_length colors (style_acts s) (style_sets s), few_acts s)
 style_each colors (stroke.Colors change) = omega (arith, all_of is_style (color_tokens colors change), color_length colors change)
 style_each colors (stroke.Print c) = omega arith
 style_each colors stroke.Show = omega arith

@@ -8,7 +8,7 @@ use Rattle.std.proofs.lemmas.List.{drop_all, drop_more, length-drop, length-take
 use Rattle.crossterm_style.specs.declared.content_style.ContentStyle.{ContentStyle}
 use Rattle.screen.specs.declared.rects.Rect.{Rect}
 use Rattle.screen.specs.Areas.{begins_in, span_has, styled, styled_from}
-use Rattle.screen.specs.Cells.{AreLaidOut, ArePaired, Cell, Stands, is_covered, is_wide}
+use Rattle.screen.specs.Cells.{AreLaidOut, ArePaired, Cell, IsPlaced, is_covered, is_wide}
 use Rattle.screen.specs.Grids.{is_last}
 use Rattle.screen.proofs.Laying.{StayFrom, all_cons, all_first, all_rest, from_rows, rows_from}
 use Rattle.screen.proofs.Taking.{kept}
@@ -109,15 +109,15 @@ styled_end false w h r s old cells at e whole le before =
 
 -- ---- cells stay laid out
 
-stand_by : (b : Bool) (s : ContentStyle) (c : Cell) → Stands c → Stands (cond b (record c { style = s }) c)
-stand_by true s c h = h
-stand_by false s c h = h
+placed_by : (b : Bool) (s : ContentStyle) (c : Cell) → IsPlaced c → IsPlaced (cond b (record c { style = s }) c)
+placed_by true s c h = h
+placed_by false s c h = h
 
-styled_stand : (w : ℕ) (r : Rect) (s : ContentStyle) (at : ℕ) (cells : List Cell) → All Stands cells → All Stands (styled_from w r s at cells)
-styled_stand w r s at [] all = all
-styled_stand w r s at (c ∷ cells) all =
-    all_cons (styled r s (at % w) (at / w) c) (styled_from w r s (at + 1) cells) (stand_by (begins_in r (at % w) (at / w) c) s c (all_first c cells all))
-    (styled_stand w r s (at + 1) cells (all_rest c cells all))
+styled_placed : (w : ℕ) (r : Rect) (s : ContentStyle) (at : ℕ) (cells : List Cell) → All IsPlaced cells → All IsPlaced (styled_from w r s at cells)
+styled_placed w r s at [] all = all
+styled_placed w r s at (c ∷ cells) all =
+    all_cons (styled r s (at % w) (at / w) c) (styled_from w r s (at + 1) cells) (placed_by (begins_in r (at % w) (at / w) c) s c (all_first c cells all))
+    (styled_placed w r s (at + 1) cells (all_rest c cells all))
 
 paired_by : (b first : Bool) (s : ContentStyle) (c : Cell) (rest : List Cell) → is_covered c ≡ first → ArePaired (is_wide c) rest → ArePaired first (cond b (record c { style = s }) c ∷ rest)
 paired_by true first s c rest e p = (e, p)
@@ -142,7 +142,7 @@ pub styled_kept : (w h n : ℕ) (r : Rect) (s : ContentStyle) (items old new : L
 styled_kept w h n r s items old new count whole laid is set =
     let now : new ≡ styled_from w r s 0 items = set ∙ ap (styled_from w r s 0) is in
     let there : AreLaidOut w (styled_from w r s 0 items) = record {
-      stand = styled_stand w r s 0 items laid.stand;
+      placed = styled_placed w r s 0 items laid.placed;
       paired = styled_paired w r s false 0 items laid.paired;
       rows = from_rows w (styled_from w r s 0 items) (styled_stay w r s 0 items (rows_from w items laid.rows));
     } in

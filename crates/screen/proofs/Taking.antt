@@ -7,11 +7,11 @@ use Rattle.std.proofs.lemmas.List.{take_at}
 use Rattle.std.proofs.Math.Nat.{mul-le-mul_right}
 use Rattle.std.proofs.lemmas.Nat.{mod-mul-add}
 use Rattle.crossterm_style.specs.declared.content_style.ContentStyle.{ContentStyle}
-use Rattle.screen.specs.Cells.{AreLaidOut, ArePaired, Cell, IsPrinted, Stands}
+use Rattle.screen.specs.Cells.{AreLaidOut, ArePaired, Cell, IsPrinted, IsPlaced}
 use Rattle.screen.specs.Grids.{is_last, takes_two}
 use Rattle.screen.specs.Overwriting.{cells_with, covered, overwritten}
 use Rattle.screen.specs.Texts.{cells_of, columns, text_columns, within}
-use Rattle.screen.proofs.Fitting.{printed_stands, printed_there}
+use Rattle.screen.proofs.Fitting.{printed_placed, printed_there}
 use Rattle.screen.proofs.Halves.{overwritten_length}
 use Rattle.screen.proofs.Laying.{StayFrom, overwritten_laid_out, paired_joined, stay_joined}
 use Rattle.screen.proofs.Squares.{zero_takes_no_two}
@@ -21,12 +21,12 @@ use Rattle.screen.proofs.Squares.{zero_takes_no_two}
 abbrev cells_by : Bool → ContentStyle → ℕ → List Cell
 cells_by two s c = cond two (record { symbol = c; style = s } ∷ covered s ∷ []) (record { symbol = c; style = s } ∷ [])
 
-stand_by : (two : Bool) (s : ContentStyle) (c : ℕ) → IsPrinted c → All Stands (cells_by two s c)
-stand_by true s c p zero d lt = printed_stands (record { symbol = c; style = s }) p
-stand_by true s c p (suc zero) d lt = inl refl
-stand_by true s c p (suc (suc k)) d lt = absurd (omega (arith, lt))
-stand_by false s c p zero d lt = printed_stands (record { symbol = c; style = s }) p
-stand_by false s c p (suc k) d lt = absurd (omega (arith, lt))
+placed_by : (two : Bool) (s : ContentStyle) (c : ℕ) → IsPrinted c → All IsPlaced (cells_by two s c)
+placed_by true s c p zero d lt = printed_placed (record { symbol = c; style = s }) p
+placed_by true s c p (suc zero) d lt = inl refl
+placed_by true s c p (suc (suc k)) d lt = absurd (omega (arith, lt))
+placed_by false s c p zero d lt = printed_placed (record { symbol = c; style = s }) p
+placed_by false s c p (suc k) d lt = absurd (omega (arith, lt))
 
 paired_by : (two : Bool) (s : ContentStyle) (c : ℕ) → takes_two c ≡ two → IsPrinted c → ArePaired false (cells_by two s c)
 paired_by true s c e p = (printed_there c p, (sym e, zero_takes_no_two))
@@ -65,7 +65,7 @@ with_stay s c width row column le =
 pub symbol_laid_out : (s : ContentStyle) (c width row column : ℕ) (cells : List Cell) → column + columns c ≤ width → row * width + column + columns c ≤ length cells
     → IsPrinted c → AreLaidOut width cells → AreLaidOut width (overwritten cells (row * width + column) (cells_with s c))
 symbol_laid_out s c width row column cells room le p laid =
-    overwritten_laid_out width (row * width + column) cells (cells_with s c) (omega (arith, le, with_length s c)) laid (stand_by (takes_two c) s c p) (with_paired s c p) (with_stay s c width row column room)
+    overwritten_laid_out width (row * width + column) cells (cells_with s c) (omega (arith, le, with_length s c)) laid (placed_by (takes_two c) s c p) (with_paired s c p) (with_stay s c width row column room)
 
 -- ---- a text
 
@@ -73,9 +73,9 @@ pub text_length : (s : ContentStyle) (text : List ℕ) → length (cells_of s te
 text_length s [] = refl
 text_length s (c ∷ text) = length-append (cells_with s c) (cells_of s text) ∙ ap (λ n. n + length (cells_of s text)) (with_length s c) ∙ ap (λ n. columns c + n) (text_length s text)
 
-text_stand : (s : ContentStyle) (text : List ℕ) → AllByRecursion IsPrinted text → All Stands (cells_of s text)
-text_stand s [] all = λ k d lt. absurd (omega (arith, lt))
-text_stand s (c ∷ text) all = All-append Stands (cells_with s c) (cells_of s text) (stand_by (takes_two c) s c all.0) (text_stand s text all.1)
+text_placed : (s : ContentStyle) (text : List ℕ) → AllByRecursion IsPrinted text → All IsPlaced (cells_of s text)
+text_placed s [] all = λ k d lt. absurd (omega (arith, lt))
+text_placed s (c ∷ text) all = All-append IsPlaced (cells_with s c) (cells_of s text) (placed_by (takes_two c) s c all.0) (text_placed s text all.1)
 
 pub text_paired : (s : ContentStyle) (text : List ℕ) → AllByRecursion IsPrinted text → ArePaired false (cells_of s text)
 text_paired s [] all = refl
@@ -105,7 +105,7 @@ within_columns (c ∷ text) room = within_by (nat_le (columns c) room) room c te
 pub text_laid_out : (s : ContentStyle) (text : List ℕ) (width row column : ℕ) (cells : List Cell) → column + text_columns text ≤ width → row * width + column + text_columns text ≤ length cells
     → AllByRecursion IsPrinted text → AreLaidOut width cells → AreLaidOut width (overwritten cells (row * width + column) (cells_of s text))
 text_laid_out s text width row column cells room le all laid =
-    overwritten_laid_out width (row * width + column) cells (cells_of s text) (omega (arith, le, text_length s text)) laid (text_stand s text all) (text_paired s text all) (text_stay s text width row column room)
+    overwritten_laid_out width (row * width + column) cells (cells_of s text) (omega (arith, le, text_length s text)) laid (text_placed s text all) (text_paired s text all) (text_stay s text width row column room)
 
 -- ---- all cells of a buffer
 

@@ -13,7 +13,7 @@ use Rattle.crossterm_style.specs.Acts.{style_acts}
 use Rattle.crossterm_style.specs.Styles.{attribute_functions, act_tokens}
 use Rattle.crossterm.specs.Sequences.{clear}
 use Rattle.crossterm.specs.declared.terminal.ClearType.TheVariants.{All}
-use Rattle.crossterm.proofs.StyleReadings.{Formed, attribute_formed, style_plain, told_formed}
+use Rattle.crossterm.proofs.StyleReadings.{Formed, attribute_formed, style_plain, tokens_formed}
 use Rattle.screen.specs.declared.strokes.Stroke.{Stroke}
 use Rattle.screen.specs.declared.strokes.Stroke.TheVariants as stroke
 use Rattle.screen.specs.Grids.{takes_one, takes_two}
@@ -39,7 +39,7 @@ two_formed m n =
     (all_joined IsParameter (codes ";") (decimal n) (parameters_at (codes ";") refl) (decimal_is_parameters n))
 
 colors_formed : (colors : ColorOutput) (change : ContentStyle) → Formed (color_tokens colors change)
-colors_formed Enabled change = told_formed Enabled (style_acts change) (style_plain change)
+colors_formed Enabled change = tokens_formed Enabled (style_acts change) (style_plain change)
 colors_formed Disabled change = tt
 
 stroke_formed : (colors : ColorOutput) (s : Stroke) → IsFitting s → Formed (tokens colors s)
@@ -48,7 +48,7 @@ stroke_formed colors stroke.End f = known_formed (tokens colors stroke.End) refl
 stroke_formed colors stroke.Erase f = known_formed (clear All) refl
 stroke_formed colors (stroke.Move column row) f = control_formed _ "H" (two_formed (row + 1) (column + 1)) refl
 stroke_formed colors (stroke.Style s) f =
-    all_joined IsWellFormed (attribute_functions Reset) (act_tokens colors (style_acts s)) (attribute_formed Reset) (told_formed colors (style_acts s) (style_plain s))
+    all_joined IsWellFormed (attribute_functions Reset) (act_tokens colors (style_acts s)) (attribute_formed Reset) (tokens_formed colors (style_acts s) (style_plain s))
 stroke_formed colors (stroke.Colors change) f = colors_formed colors change
 stroke_formed colors (stroke.Print c) f = ((f.0, printed_plain c f.1), tt)
 stroke_formed colors stroke.Show f = known_formed (tokens colors stroke.Show) refl

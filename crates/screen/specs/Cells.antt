@@ -47,8 +47,8 @@ abbrev pub IsPrinted : ℕ → Type 0
 IsPrinted c = IsScalar c × ((takes_one c ≡ true) ⊎ (takes_two c ≡ true))
 
 -- A cell that is covered, or has a character that takes one cell or two.
-abbrev pub Stands : Cell → Type 0
-Stands c = (is_covered c ≡ true) ⊎ ((is_covered c ≡ false) × IsPrinted c.symbol)
+abbrev pub IsPlaced : Cell → Type 0
+IsPlaced c = (is_covered c ≡ true) ⊎ ((is_covered c ≡ false) × IsPrinted c.symbol)
 
 -- Each wide cell is followed by a covered one, and no other cell is covered. `first` says if the cell before these is
 -- wide.
@@ -62,7 +62,7 @@ StayInRows width cells = (k : ℕ) (d : Cell) → k < length cells → is_wide (
 
 -- Cells in rows of this width. Each character has all of its cells, side by side in one row.
 pub record AreLaidOut (width : ℕ) (cells : List Cell) : Type 0 where
-  pub stand : All Stands cells
+  pub placed : All IsPlaced cells
   pub paired : ArePaired false cells
   pub rows : StayInRows width cells
 

@@ -110,9 +110,9 @@ place (Some row) (Some column) g =
 place row column g = None
 
 -- The place that two parameters give, a row and a column. `None` if there aren't two, or the grid hasn't the place.
-abbrev pub place_told : List (List ℕ) → Grid → Option ℕ
-place_told (row ∷ column ∷ []) g = place (parameter_number row) (parameter_number column) g
-place_told parts g = None
+abbrev pub place_by : List (List ℕ) → Grid → Option ℕ
+place_by (row ∷ column ∷ []) g = place (parameter_number row) (parameter_number column) g
+place_by parts g = None
 
 -- The grid with the cursor at a place, or `None` if there is no place.
 abbrev pub move_cursor : Option ℕ → Grid → Option Grid
@@ -150,7 +150,7 @@ mode text on g =
 -- The grid after CUP, ED, SGR, SM or RM, chosen by the final byte. Other control functions give `None`.
 abbrev pub control_effect : List ℕ → ℕ → Grid → Option Grid
 control_effect text final g =
-    if final == 0x48 then move_cursor (place_told (slice_split (λ b. b == 59) text) g) g else (
+    if final == 0x48 then move_cursor (place_by (slice_split (λ b. b == 59) text) g) g else (
     if final == 0x4A then erase text g else (
     if final == 0x6D then Some (record g { style = sgr text g.style }) else (
     if final == 0x68 then mode text true g else (

@@ -3,7 +3,7 @@ ghost use Rattle.std.specs.Prelude.{◌≡◌, ℕ, ◌+◌, ◌*◌, ◌-◌, �
 ghost use Rattle.std.specs.List.{All};
 ghost use Rattle.screen.specs.Areas.{with_style};
 ghost use Rattle.screen.specs.Buffers.{clipped, column_refusal, filled, filled_with, print_refusal, refusal, with_shown, with_symbol, with_text};
-ghost use Rattle.screen.specs.Cells.{AreLaidOut, ArePaired, IsPrinted, StayInRows, Stands, blank, symbol_fault};
+ghost use Rattle.screen.specs.Cells.{AreLaidOut, ArePaired, IsPrinted, StayInRows, IsPlaced, blank, symbol_fault};
 ghost use Rattle.screen.specs.Texts.{columns, replaced, replacement_fault, text_columns, text_fault, within, without_marks};
 ghost use Rattle.screen.specs.inside.Edits.{edited};
 
@@ -179,7 +179,7 @@ impl<A: Allocator> Buffer<A> {
     pub fn cells(&self) -> &[Cell]
         ensures cells { result.now ≡ self.now.cells }
         ensures count { length self.now.cells ≡ self.now.width * self.now.height }
-        ensures stand { All Stands self.now.cells }
+        ensures placed { All IsPlaced self.now.cells }
         ensures paired { ArePaired false self.now.cells }
         ensures rows { StayInRows self.now.width self.now.cells }
     {

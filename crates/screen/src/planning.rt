@@ -4,7 +4,7 @@ ghost use Rattle.std.specs.Io.KnownBytes.{Appends};
 ghost use Rattle.std.specs.List.{All};
 ghost use Rattle.crossterm_command.specs.Tokens.{text_of};
 ghost use Rattle.crossterm_command.specs.Writing.{AppendsFront};
-ghost use Rattle.screen.specs.Cells.{ArePaired, StayInRows, Stands, last_place};
+ghost use Rattle.screen.specs.Cells.{ArePaired, StayInRows, IsPlaced, last_place};
 ghost use Rattle.screen.specs.Grids.{right_of};
 ghost use Rattle.screen.specs.declared.strokes.Stroke.{Stroke};
 ghost use Rattle.screen.specs.inside.Pens.{PutsStrokes};
@@ -123,7 +123,7 @@ fn scan<W: io::Write>(
 )
     requires before { IsSized is_known size.0 size.1 before.old }
     requires length { length after.now ≡ size.0 * size.1 }
-    requires fits { All Stands after.now }
+    requires fits { All IsPlaced after.now }
     requires before_paired { ArePaired false before.old }
     requires after_paired { ArePaired false after.now }
     requires rows { StayInRows size.0 after.now }
@@ -185,7 +185,7 @@ pub(crate) fn write_frame<W: io::Write>(
 ) -> Result<(), CommandFault>
     requires before { IsSized is_known size.0 size.1 before.old }
     requires length { length after.now ≡ size.0 * size.1 }
-    requires fits { All Stands after.now }
+    requires fits { All IsPlaced after.now }
     requires before_paired { ArePaired false before.old }
     requires after_paired { ArePaired false after.now }
     requires rows { StayInRows size.0 after.now }

@@ -154,7 +154,7 @@ fn fails_and_ends(script: &mut Script) -> bool {
 }
 
 #[test]
-fn acts_are_told_in_order(rt: HostRuntime) -> Result<(), AllocError> {
+fn acts_are_answered_in_order(rt: HostRuntime) -> Result<(), AllocError> {
     let mut script = Script::new(acts_of(rt.alloc(), &ACTS)?);
     for wanted in &ANSWERS {
         expect!(rt; answers(&mut script, *wanted));

@@ -188,8 +188,9 @@ fn queried<'a>(reader: &mut Poor<'a>, block: Block<'a>) -> (bool, bool) {
     for _ in 0..CALLS {
         match reader.keyboard_within(3) {
             Ok(flags) => {
-                let is_told = flags == Some(KeyboardEnhancementFlags::DISAMBIGUATE_ESCAPE_CODES);
-                return (is_told && count_of(reader.held()) == 0, taken.is_none());
+                let is_reported = flags
+                    == Some(KeyboardEnhancementFlags::DISAMBIGUATE_ESCAPE_CODES);
+                return (is_reported && count_of(reader.held()) == 0, taken.is_none());
             }
             Err(error) if error.kind() == ErrorKind::OutOfMemory => taken = None,
             Err(_) => break,
@@ -211,8 +212,8 @@ fn queries(alloc: Global, free: usize) -> Result<(bool, bool), AllocError> {
 fn refused_memory_loses_no_reply(rt: HostRuntime) -> Result<(), AllocError> {
     let mut refusals = 0u32;
     for step in 0..STEPS {
-        let (is_told, is_refused) = queries(rt.alloc(), LEAST + 8 * step)?;
-        expect!(rt; is_told);
+        let (is_reported, is_refused) = queries(rt.alloc(), LEAST + 8 * step)?;
+        expect!(rt; is_reported);
         refusals = refusals.saturating_add(u32::from(is_refused));
     }
     expect!(rt; 0 < refusals && refusals < STEPS as u32);

@@ -172,7 +172,7 @@ fn is_placed(reader: &mut Reader<Script>, tries: u32, want: Option<(u16, u16)>) 
 }
 
 #[test]
-fn places_are_told_within_tries(rt: HostRuntime) -> Result<(), AllocError> {
+fn positions_are_reported_within_tries(rt: HostRuntime) -> Result<(), AllocError> {
     let (place, alloc) = (Some((9, 19)), rt.alloc());
     expect!(rt; is_placed(&mut script_of(alloc, &LETTER_AND_PLACE)?, 2, place));
     expect!(rt; is_placed(&mut script_of(alloc, &LETTER_AND_PLACE)?, 1, None));

@@ -115,17 +115,17 @@ fn is_made(alloc: Global) -> bool {
 }
 
 /// Whether an update that fails after so many bytes is reported, and whether it was called.
-fn is_told(alloc: Global, room: usize, bytes: &[u8], makes: bool) -> bool {
+fn is_reported(alloc: Global, room: usize, bytes: &[u8], makes: bool) -> bool {
     let mut tape = Tape::failing_at(alloc, room);
     let (outcome, called) = update(&mut tape);
     called == makes && failed(outcome) && tape.holds(bytes, 0)
 }
 
 #[test]
-fn updates_stand_between_their_brackets(rt: HostRuntime) {
+fn updates_are_between_their_brackets(rt: HostRuntime) {
     expect!(rt; is_made(rt.alloc()));
-    expect!(rt; is_told(rt.alloc(), 0, b"", false));
-    expect!(rt; is_told(rt.alloc(), 9, b"\x1b[?2026hx", true));
+    expect!(rt; is_reported(rt.alloc(), 0, b"", false));
+    expect!(rt; is_reported(rt.alloc(), 9, b"\x1b[?2026hx", true));
 }
 
 /// Whether a list is written byte by byte.
@@ -204,7 +204,7 @@ fn commands_are_cloned_and_printed(rt: HostRuntime) {
 }
 
 #[test]
-fn commands_are_told_apart_by_their_fields(rt: HostRuntime) {
+fn commands_differ_by_their_fields(rt: HostRuntime) {
     expect!(rt; MoveTo(1, 2) != MoveTo(2, 1));
     expect!(rt; SetCursorStyle::SteadyBar != SetCursorStyle::BlinkingBar);
     expect!(rt; Clear(ClearType::All) != Clear(ClearType::CurrentLine));

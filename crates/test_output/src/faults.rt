@@ -236,8 +236,8 @@ fn update_stops(alloc: Global, fault: ErrorKind) -> bool {
 /// Whether the end of an update comes if its closure met the fault, and the closure's result is returned.
 fn end_comes(alloc: Global, fault: ErrorKind) -> bool {
     let mut w = Witness::new(alloc, 8, fault);
-    let is_told = matches!(update(&mut w), Ok(Some(e)) if e == fault);
-    is_told && w.saw(b"\x1b[?2026h\x1b[?2026l", 1, 2)
+    let is_reported = matches!(update(&mut w), Ok(Some(e)) if e == fault);
+    is_reported && w.saw(b"\x1b[?2026h\x1b[?2026l", 1, 2)
 }
 
 #[test]

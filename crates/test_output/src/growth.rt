@@ -155,12 +155,12 @@ fn is_beginning(heap: &LocalHeap, commands: &[AnyCommand], want: &[u8]) -> Optio
     let mut out: Vec<u8, &LocalHeap> = Vec::new(heap);
     let answer = kind(queue_all(&mut out, ON, commands));
     let count = out.len();
-    let told = if count < want.len() {
+    let expected = if count < want.len() {
         Some(ErrorKind::OutOfMemory)
     } else {
         None
     };
-    if want.starts_with(out.as_slice()) && answer == told {
+    if want.starts_with(out.as_slice()) && answer == expected {
         Some(count)
     } else {
         None

@@ -37,7 +37,7 @@ fn is_denied<T: Drop>(answer: io::Result<T>) -> bool {
 
 /// Raw mode on and off. If it wasn't on, both leave the mode that was set before.
 pub fn raw_and_back<D: ModeDevice>(terminal: &mut Terminal<D>) -> io::Result<()>
-    ensures { OnOk result (terminal.old.prior ≡ None → D.stands terminal.new.device ≡ D.stands terminal.old.device) }
+    ensures { OnOk result (terminal.old.prior ≡ None → D.current terminal.new.device ≡ D.current terminal.old.device) }
 {
     terminal.enable_raw_mode()?;
     terminal.disable_raw_mode()
@@ -71,7 +71,7 @@ struct Plain {
 impl ModeDevice for Plain {
     type Mode = u8;
 
-    ghost stands = { λ s. s.mode };
+    ghost current = { λ s. s.mode };
 
     fn mode(&mut self) -> io::Result<u8> {
         Ok(self.mode)
@@ -139,7 +139,7 @@ fn is_size(size: io::Result<(u16, u16)>, want: (u16, u16)) -> bool {
 }
 
 /// Whether the window's size is returned.
-fn tells_its_window(alloc: Global) -> io::Result<bool> {
+fn has_its_window(alloc: Global) -> io::Result<bool> {
     let calls = AtomicU32::new(0);
     let (mut terminal, _flag) = terminal_of(alloc, &calls, None)?;
     let window = matches!(terminal.window_size(), Ok(size) if size == SIZE);
@@ -147,7 +147,7 @@ fn tells_its_window(alloc: Global) -> io::Result<bool> {
 }
 
 /// Whether both texts of `tput` are used if the window's size isn't reported.
-fn tells_tput(alloc: Global) -> io::Result<bool> {
+fn has_tputs_size(alloc: Global) -> io::Result<bool> {
     let calls = AtomicU32::new(0);
     let (mut terminal, _flag) = terminal_of(alloc, &calls, Some(Call::WindowSize))?;
     let tput = is_size(terminal.size(b"132\n", b"50\n"), (132, 50));
@@ -156,9 +156,9 @@ fn tells_tput(alloc: Global) -> io::Result<bool> {
 }
 
 #[test]
-fn sizes_are_told_by_the_window_or_by_tput(rt: HostRuntime) -> io::Result<()> {
-    expect!(rt; tells_its_window(rt.alloc())?);
-    expect!(rt; tells_tput(rt.alloc())?);
+fn sizes_are_those_of_the_window_or_of_tput(rt: HostRuntime) -> io::Result<()> {
+    expect!(rt; has_its_window(rt.alloc())?);
+    expect!(rt; has_tputs_size(rt.alloc())?);
     Ok(())
 }
 
@@ -175,7 +175,7 @@ static TPUT: [(&[u8], Option<u16>); 8] = [
 ];
 
 #[test]
-fn tput_tells_numbers(rt: HostRuntime) {
+fn tput_writes_numbers(rt: HostRuntime) {
     for (text, want) in TPUT {
         expect!(rt; tput_value(text) == want, "what tput wrote");
     }

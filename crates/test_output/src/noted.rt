@@ -73,7 +73,7 @@ impl Noted<'_> {
 impl ModeDevice for Noted<'_> {
     type Mode = u8;
 
-    ghost stands = { λ s. s.mode };
+    ghost current = { λ s. s.mode };
 
     ghost answered = { numbers_answered (λ s. s.mode) };
 

@@ -305,7 +305,12 @@ fn place_there<R: Wait>(rt: &R, seat: &mut Seat<Source>) -> Answer {
 }
 
 /// Whether one report that waits is taken, and no other, and a query answers the true place then.
-fn is_told_after<R: Wait>(rt: &R, alloc: Global, flag: RawFlag, mut seat: Seat<Source>) -> bool {
+fn is_reported_after<R: Wait>(
+    rt: &R,
+    alloc: Global,
+    flag: RawFlag,
+    mut seat: Seat<Source>,
+) -> bool {
     let stale = place_there(rt, &mut seat) == Answer::At(1, 0);
     let none = place_there(rt, &mut seat) == OTHER;
     let row = (
@@ -319,6 +324,6 @@ fn is_told_after<R: Wait>(rt: &R, alloc: Global, flag: RawFlag, mut seat: Seat<S
 fn reports_from_before_a_query_can_be_taken(rt: HostRuntime) -> io::Result<()> {
     let flag = RawFlag::new(rt.alloc())?;
     let seat = seat_at(&rt, rt.alloc(), &[SHIFT_F3, Idle, REPLIES])?;
-    expect!(rt; is_told_after(&rt, rt.alloc(), flag, seat));
+    expect!(rt; is_reported_after(&rt, rt.alloc(), flag, seat));
     Ok(())
 }

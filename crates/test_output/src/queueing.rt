@@ -141,10 +141,10 @@ fn is_torn(alloc: Global) -> bool {
         kind(execute!(w, ON, Torn)),
     ];
     let is_text = matches!(send_command(w, ON, &Torn), Err(CommandFault::Text));
-    let is_told = answers
+    let is_reported = answers
         .iter()
         .all(|answer| *answer == Some(ErrorKind::Other));
-    is_text && is_told && tape.holds(b"ababababababab", 0)
+    is_text && is_reported && tape.holds(b"ababababababab", 0)
 }
 
 /// Whether it is reported alone if the writer fails first.
@@ -167,7 +167,7 @@ fn who_failed<C: Command>(alloc: Global, room: usize, command: &C) -> &'static s
 }
 
 #[test]
-fn faults_are_told_apart(rt: HostRuntime) {
+fn faults_are_kept_apart(rt: HostRuntime) {
     expect!(rt; is_torn(rt.alloc()));
     expect!(rt; is_torn_after_all(rt.alloc()));
     expect!(rt; who_failed(rt.alloc(), 2, &Pieces(9, 9)) == "writer");

@@ -41,7 +41,7 @@ fn stops(alloc: Global, room: usize, fault: ErrorKind) -> bool {
 }
 
 #[test]
-fn a_helper_that_is_gone_is_told(rt: HostRuntime) {
+fn a_helper_that_is_gone_is_reported(rt: HostRuntime) {
     for fault in [
         ErrorKind::BrokenPipe,
         ErrorKind::WriteZero,
@@ -63,7 +63,7 @@ fn fault(alloc: Global, answers: &[u8]) -> Option<ErrorKind> {
 }
 
 #[test]
-fn refusals_are_told(rt: HostRuntime) {
+fn refusals_are_reported(rt: HostRuntime) {
     let alloc = rt.alloc();
     let rows: [(&[u8], ErrorKind); 9] = [
         (b"", ErrorKind::UnexpectedEof),
@@ -94,7 +94,7 @@ fn mode_after(alloc: Global, answers: &[u8]) -> io::Result<(SttyMode, Option<Err
 }
 
 #[test]
-fn the_mode_that_was_told_last_stands(rt: HostRuntime) {
+fn the_mode_that_was_reported_last_is_current(rt: HostRuntime) {
     let alloc = rt.alloc();
     let rows: [(&[u8], &str, Option<ErrorKind>); 4] = [
         (b"5\n0\n5\n", "5", None),
@@ -103,8 +103,8 @@ fn the_mode_that_was_told_last_stands(rt: HostRuntime) {
         (b"5\n0\n", "0", Some(ErrorKind::UnexpectedEof)),
     ];
     for (answers, mode, kind) in rows {
-        let told = mode_after(alloc, answers);
-        expect!(rt; told.is_ok_and(|told| told.0.text.as_str() == mode && told.1 == kind));
+        let returned = mode_after(alloc, answers);
+        expect!(rt; returned.is_ok_and(|returned| returned.0.text.as_str() == mode && returned.1 == kind));
     }
 }
 

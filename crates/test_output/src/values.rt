@@ -9,7 +9,8 @@ use test_support::expect;
 /// Whether a text represents this, and this is written as that text.
 fn is_carried(alloc: Global, text: &str, cleared: ClearType) -> bool {
     match (Value::try_from_str(alloc, text), cleared.to_value(alloc)) {
-        (Ok(value), Ok(told)) => told == value && ClearType::from_value(&value) == Ok(cleared),
+        (Ok(value), Ok(returned)) => returned == value
+            && ClearType::from_value(&value) == Ok(cleared),
         _ => false,
     }
 }

@@ -9,7 +9,7 @@ use probe_modes::fault::Fault;
 use std::io;
 
 #[test]
-fn a_second_frame_stands_in_the_place_of_the_first(rt: HostRuntime) -> Result<(), Fault> {
+fn a_second_frame_is_in_the_place_of_the_first(rt: HostRuntime) -> Result<(), Fault> {
     let mut screen = Screen::new(rt.alloc());
     screen.run()?;
     screen.run()?;

@@ -148,7 +148,7 @@ pub struct FailsOnce<R> {
     rt: R,
     rings: Arc<AtomicBool>,
     failures: u64,
-    has_told: bool,
+    has_answered: bool,
     turns: u32,
 }
 
@@ -159,7 +159,7 @@ impl<R: Wait + Drop> FailsOnce<R> {
             rt,
             rings: Arc::new(alloc, AtomicBool::new(false))?,
             failures: 0,
-            has_told: false,
+            has_answered: false,
             turns: TURNS,
         })
     }
@@ -180,8 +180,8 @@ impl<R: Wait + Drop> Device for FailsOnce<R> {
             self.failures = 1;
             return Err(io::Error::from(ErrorKind::InvalidData));
         }
-        if !self.has_told {
-            self.has_told = true;
+        if !self.has_answered {
+            self.has_answered = true;
             buf[0] = b'a';
             return Ok(Answer::Bytes {
                 count: 1,

@@ -160,13 +160,13 @@ fn is_written(
         Some(most) => watched.most(most),
         None => watched,
     };
-    let is_told = early.stopped().is_none();
+    let is_reported = early.stopped().is_none();
     let answered = answers(&mut recorder);
     let is_ended = recorder.stopped() == stop && early.stopped() == stop;
     let recorder = recorder.watched(late_share);
     let is_seen = late.stopped() == stop;
     let bytes = recorder.into_writer().bytes;
-    is_told && answered && is_ended && is_seen && bytes.as_slice() == want
+    is_reported && answered && is_ended && is_seen && bytes.as_slice() == want
 }
 
 /// Whether a writer that takes so many bytes has as many, and the recording says so.

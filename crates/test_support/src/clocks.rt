@@ -19,7 +19,7 @@ impl Ticking {
 impl Clock for Ticking {
     ghost use Rattle.std.specs.Prelude.{◌*◌};
 
-    ghost told = { λ clock. clock.millis * 1000000 };
+    ghost latest = { λ clock. clock.millis * 1000000 };
 
     fn now(&mut self) -> Duration {
         self.millis = self.millis.saturating_add(1);

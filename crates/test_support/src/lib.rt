@@ -93,7 +93,7 @@ pub fn script_of(alloc: Global, acts: Vec<Act>) -> Reader<Script> {
 }
 
 /// A reader over a script that reports this text, in one piece.
-pub fn telling(alloc: Global, bytes: &[u8]) -> Result<Reader<Script>, AllocError> {
+pub fn over_bytes(alloc: Global, bytes: &[u8]) -> Result<Reader<Script>, AllocError> {
     let mut acts = Vec::new(alloc);
     acts.push(text(alloc, bytes)?)?;
     Ok(script_of(alloc, acts))

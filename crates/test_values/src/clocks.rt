@@ -41,7 +41,7 @@ fn keeps_going(clock: &mut SystemClock<'_, Faltering>) -> bool {
 }
 
 #[test]
-fn a_clock_that_falters_tells_the_last_moment_again(rt: HostRuntime) {
+fn a_clock_that_falters_returns_the_last_moment_again(rt: HostRuntime) {
     let system = Faltering {
         asked: Cell::new(0),
     };

@@ -61,7 +61,7 @@ static TEXTS: [(Colored, &str); 8] = [
 ];
 
 /// Whether a colour has this text, shows as it and is read from it, and has none if colours are not written.
-fn is_told_by(alloc: Global, colored: Colored, want: &str) -> bool {
+fn is_text_of(alloc: Global, colored: Colored, want: &str) -> bool {
     is_text(colored.text(alloc, ColorOutput::Enabled), want)
         && is_text(colored.text(alloc, ColorOutput::Disabled), "")
         && is_text(format!(in alloc; "{colored}"), want)
@@ -71,7 +71,7 @@ fn is_told_by(alloc: Global, colored: Colored, want: &str) -> bool {
 #[test]
 fn colors_have_texts(rt: HostRuntime) {
     for (colored, want) in &TEXTS {
-        expect!(rt; is_told_by(rt.alloc(), *colored, want), want);
+        expect!(rt; is_text_of(rt.alloc(), *colored, want), want);
     }
 }
 
@@ -134,14 +134,14 @@ static READ: [(&str, Color); 4] = [
 ];
 
 /// Whether a text represents no colour, alone or at its place.
-fn tells_nothing(text: &str) -> bool {
+fn reads_as_nothing(text: &str) -> bool {
     Colored::parse_ansi(text).is_none() && Color::parse_ansi(text).is_none()
 }
 
 #[test]
 fn texts_are_read(rt: HostRuntime) {
     for text in &NOT_READ {
-        expect!(rt; tells_nothing(text), text);
+        expect!(rt; reads_as_nothing(text), text);
     }
     for (text, color) in &READ {
         expect!(rt; Color::parse_ansi(text) == Some(*color), text);

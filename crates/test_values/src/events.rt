@@ -74,8 +74,8 @@ static NONE: [&str; 14] = [
 /// Whether a JSON text represents this event, and the event is written as that JSON.
 fn carries(alloc: Global, text: &str, event: &Event) -> bool {
     match (Value::from_str(alloc, text), event.to_value(alloc)) {
-        (Ok(value), Ok(told)) => {
-            told == value
+        (Ok(value), Ok(made)) => {
+            made == value
                 && match Event::from_value(alloc, &value) {
                     Ok(read) => read == *event,
                     Err(_) => false,
@@ -86,7 +86,7 @@ fn carries(alloc: Global, text: &str, event: &Event) -> bool {
 }
 
 /// Whether a JSON text represents no event.
-fn tells_none(alloc: Global, text: &str) -> bool {
+fn reads_as_none(alloc: Global, text: &str) -> bool {
     match Value::from_str(alloc, text) {
         Ok(value) => matches!(Event::from_value(alloc, &value), Err(ValueFault::Shape)),
         Err(_) => false,
@@ -109,7 +109,7 @@ fn events_are_carried(rt: HostRuntime) {
 #[test]
 fn other_values_are_no_events(rt: HostRuntime) {
     for text in &NONE {
-        expect!(rt; tells_none(rt.alloc(), text), text);
+        expect!(rt; reads_as_none(rt.alloc(), text), text);
     }
 }
 
@@ -130,9 +130,9 @@ fn is_read<T: PartialEq + Drop>(read: Result<T, ValueFault>, value: &T) -> bool 
 
 // Whether what a value is written as reads as that value.
 macro_rules! carried {
-    ($told:expr; $type:ident, $value:expr) => {
-        match $told {
-            Ok(told) => is_read($type::from_value(&told), &$value),
+    ($made:expr; $type:ident, $value:expr) => {
+        match $made {
+            Ok(made) => is_read($type::from_value(&made), &$value),
             Err(_) => false,
         }
     };
@@ -195,9 +195,9 @@ fn is_refused(heap: &LocalHeap, paste: &Value) -> bool {
 fn a_paste_is_refused_memory(rt: HostRuntime) -> Result<(), AllocError> {
     let paste = Event::Paste(String::from_str(rt.alloc(), LONG)?);
     match paste.to_value(rt.alloc()) {
-        Ok(told) => {
+        Ok(made) => {
             let heap = LocalHeap::new(rt.alloc(), 16)?;
-            expect!(rt; is_refused(&heap, &told));
+            expect!(rt; is_refused(&heap, &made));
             Ok(())
         }
         Err(_) => Err(AllocError),

@@ -82,7 +82,7 @@ static NONE: [&str; 17] = [
 ];
 
 /// Whether a text represents a colour.
-fn tells(alloc: Global, text: &str, color: Color) -> bool {
+fn reads_as(alloc: Global, text: &str, color: Color) -> bool {
     match Value::try_from_str(alloc, text) {
         Ok(value) => Color::from_value(alloc, &value) == Ok(color),
         Err(_) => false,
@@ -90,7 +90,7 @@ fn tells(alloc: Global, text: &str, color: Color) -> bool {
 }
 
 /// Whether a text represents no colour.
-fn tells_none(alloc: Global, text: &str) -> bool {
+fn reads_as_none(alloc: Global, text: &str) -> bool {
     match Value::try_from_str(alloc, text) {
         Ok(value) => Color::from_value(alloc, &value) == Err(ValueFault::Shape),
         Err(_) => false,
@@ -108,25 +108,25 @@ fn is_carried(alloc: Global, color: Color) -> bool {
 #[test]
 fn colors_are_carried(rt: HostRuntime) {
     for (name, color) in &NAMED {
-        expect!(rt; tells(rt.alloc(), name, *color) && is_carried(rt.alloc(), *color), name);
+        expect!(rt; reads_as(rt.alloc(), name, *color) && is_carried(rt.alloc(), *color), name);
     }
     for (text, color) in &READ {
-        expect!(rt; tells(rt.alloc(), text, *color) && is_carried(rt.alloc(), *color), text);
+        expect!(rt; reads_as(rt.alloc(), text, *color) && is_carried(rt.alloc(), *color), text);
     }
 }
 
 #[test]
 fn other_texts_are_no_colors(rt: HostRuntime) {
     for text in &NONE {
-        expect!(rt; tells_none(rt.alloc(), text), text);
+        expect!(rt; reads_as_none(rt.alloc(), text), text);
     }
 }
 
 /// Whether a JSON text represents this, and this is written as that JSON.
 fn is_place(alloc: Global, text: &str, colored: Colored) -> bool {
     match (Value::from_str(alloc, text), colored.to_value(alloc)) {
-        (Ok(value), Ok(told)) => {
-            told == value && Colored::from_value(alloc, &value) == Ok(colored)
+        (Ok(value), Ok(made)) => {
+            made == value && Colored::from_value(alloc, &value) == Ok(colored)
         }
         _ => false,
     }
@@ -135,7 +135,7 @@ fn is_place(alloc: Global, text: &str, colored: Colored) -> bool {
 /// The same of an attribute.
 fn is_attribute(alloc: Global, text: &str, attribute: Attribute) -> bool {
     match (Value::from_str(alloc, text), attribute.to_value(alloc)) {
-        (Ok(value), Ok(told)) => told == value && Attribute::from_value(&value) == Ok(attribute),
+        (Ok(value), Ok(made)) => made == value && Attribute::from_value(&value) == Ok(attribute),
         _ => false,
     }
 }

@@ -240,7 +240,7 @@ const MOVED: MouseEvent = MouseEvent {
 };
 
 /// Whether just the tests at these places hold of an event, and it has the parts to go with them.
-fn is_told(event: &Event, places: &[usize]) -> bool {
+fn is_reported(event: &Event, places: &[usize]) -> bool {
     let answers = event_tests(event);
     hold_at(&answers, places) && answers.ends_with(&event_parts(event))
 }
@@ -248,16 +248,16 @@ fn is_told(event: &Event, places: &[usize]) -> bool {
 #[test]
 fn tests_of_key_events(rt: HostRuntime) {
     for (i, key) in KEYS.iter().enumerate() {
-        expect!(rt; is_told(&Event::Key(*key), &[2, 3 + i]));
+        expect!(rt; is_reported(&Event::Key(*key), &[2, 3 + i]));
     }
 }
 
 #[test]
 fn tests_of_other_events(rt: HostRuntime) {
-    expect!(rt; is_told(&Event::FocusGained, &[0]));
-    expect!(rt; is_told(&Event::FocusLost, &[1]));
-    expect!(rt; is_told(&Event::Mouse(MOVED), &[6]));
-    expect!(rt; is_told(&Event::Resize(80, 24), &[8]));
+    expect!(rt; is_reported(&Event::FocusGained, &[0]));
+    expect!(rt; is_reported(&Event::FocusLost, &[1]));
+    expect!(rt; is_reported(&Event::Mouse(MOVED), &[6]));
+    expect!(rt; is_reported(&Event::Resize(80, 24), &[8]));
 }
 
 fn gives_text(event: &Event, text: &str) -> bool {
@@ -267,7 +267,7 @@ fn gives_text(event: &Event, text: &str) -> bool {
 #[test]
 fn tests_of_a_paste(rt: HostRuntime) -> Result<(), AllocError> {
     let pasted = Event::Paste(String::from_str(rt.alloc(), "text")?);
-    expect!(rt; is_told(&pasted, &[7]));
+    expect!(rt; is_reported(&pasted, &[7]));
     expect!(rt; gives_text(&pasted, "text"));
     Ok(())
 }

@@ -7,7 +7,7 @@ ghost use Rattle.crossterm_flags.specs.Variants.{all, reads_variant, variant};
 ghost use Rattle.crossterm.specs.Values.{clears};
 
 use crate::terminal::ClearType;
-use crossterm_flags::value::{Named, read_named, shaped, tell_named};
+use crossterm_flags::value::{Named, name_to_json, read_named, shaped};
 use crossterm_flags::{ValueFault, named_variants, variants};
 use serde_json::Value;
 use std::alloc::Global;
@@ -35,12 +35,12 @@ impl ClearType {
     /// # Errors
     ///
     /// `Memory` if memory for it was refused.
-    #[tactic(auto, using(crate::proofs::ValueLaws::clear_back, crossterm_flags::proofs::ValueLaws::told_back))]
+    #[tactic(auto, using(crate::proofs::ValueLaws::clear_back, crossterm_flags::proofs::ValueLaws::json_back))]
     pub fn to_value(&self, alloc: Global) -> Result<Value, ValueFault>
-        ensures tells { WritesJson (string (variant clears self.now)) result }
+        ensures json { WritesJson (string (variant clears self.now)) result }
         ensures back { IfOk result (λ v. reads_variant clears (view v) ≡ Some self.now) }
     {
-        tell_named(alloc, *self)
+        name_to_json(alloc, *self)
     }
 
     /// What is cleared, whose variant a JSON text is. It takes no memory.

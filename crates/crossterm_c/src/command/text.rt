@@ -24,7 +24,7 @@ pub extern "C" fn gelvanh_print(text: &[u8], slice: &mut [u8], length: &mut usiz
         Ok(text) => put(text, slice),
         Err(_) => Answer::nothing(),
     };
-    answer.tell(length)
+    answer.report(length)
 }
 
 /// Sets the window's title, in UTF-8: the command `SetTitle`. It returns as `gelvanh_print` does.
@@ -36,7 +36,7 @@ pub extern "C" fn gelvanh_set_title(title: &[u8], slice: &mut [u8], length: &mut
         Ok(title) => write_plain(&SetTitle(title), slice),
         Err(_) => Answer::nothing(),
     };
-    answer.tell(length)
+    answer.report(length)
 }
 
 /// Prints a text in the style of a command, if it has one.
@@ -65,7 +65,7 @@ pub extern "C" fn gelvanh_print_styled(
         Ok(text) => print_styled(style, text, output_of(colors), slice),
         Err(_) => Answer::nothing(),
     };
-    answer.tell(length)
+    answer.report(length)
 }
 
 /// Writes the sequence that copies bytes.
@@ -109,5 +109,5 @@ pub extern "C" fn gelvanh_copy_to_clipboard(
         }
         Err(_) => Answer::nothing(),
     };
-    answer.tell(length)
+    answer.report(length)
 }

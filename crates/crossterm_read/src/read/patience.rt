@@ -46,12 +46,12 @@ pub(crate) trait Patience {
         at_wake: AtWake,
         filter: &F,
     ) -> io::Result<Option<Taken<InternalEvent<A>>>>
-        requires begins { begins self.now (C.told clock.old) }
+        requires begins { begins self.now (C.latest clock.old) }
         requires none { first_admitted (F.admits filter.now) reader.old.store.held ≡ None }
-        ensures later { C.told clock.old ≤ C.told clock.new }
+        ensures later { C.latest clock.old ≤ C.latest clock.new }
         ensures first { KeepsFirst C.began clock.old clock.new }
-        ensures asked { Asked S.drawn S.failed at_wake (F.admits filter.now) (lasted self.now (C.told clock.new)) reader.old reader.new result }
-        ensures limits { limits self.now (C.told clock.new) (S.asked reader.old.source) (S.asked reader.new.source) }
+        ensures asked { Asked S.drawn S.failed at_wake (F.admits filter.now) (lasted self.now (C.latest clock.new)) reader.old reader.new result }
+        ensures limits { limits self.now (C.latest clock.new) (S.asked reader.old.source) (S.asked reader.new.source) }
         ensures room { reader_capacity reader.old ≤ reader_capacity reader.new }
         ensures place { IfOk result (λ given. IfSome given (HasPlace reader.new)) }
         ensures rise { S.failed reader.old.source ≤ S.failed reader.new.source }
@@ -146,9 +146,9 @@ impl<S: EventSource<A>, A: Allocator + Clone> InternalEventReader<S, A> {
         filter: &F,
         at_wake: AtWake,
     ) -> Once<A>
-        ensures later { C.told clock.old ≤ C.told clock.new }
+        ensures later { C.latest clock.old ≤ C.latest clock.new }
         ensures first { KeepsFirst C.began clock.old clock.new }
-        ensures asked { AsksInTime timeout.now (C.told clock.new) (S.asked self.old.source) (S.asked self.new.source) }
+        ensures asked { AsksInTime timeout.now (C.latest clock.new) (S.asked self.old.source) (S.asked self.new.source) }
         ensures one { DrawsOne S.drawn S.failed at_wake (F.admits filter.now) self.old self.new result }
         ensures room { reader_capacity self.old ≤ reader_capacity self.new }
         ensures full { IsRefused result → self.old.room ≡ 0 }

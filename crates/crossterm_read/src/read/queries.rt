@@ -74,13 +74,13 @@ impl<S: EventSource<A>, A: Allocator + Clone> InternalEventReader<S, A> {
         clock: &mut C,
         filter: &F,
     ) -> io::Result<Taken<InternalEvent<A>>>
-        requires { P.begins patience.now (C.told clock.old) }
+        requires { P.begins patience.now (C.latest clock.old) }
         ensures step { (zs : List SourceAnswer) × S.drawn self.old.source zs self.new.source
-            × QueryStep (F.admits filter.now) (P.lasted patience.now (C.told clock.new)) zs self.old.store self.new.store (read_reply result)
+            × QueryStep (F.admits filter.now) (P.lasted patience.now (C.latest clock.new)) zs self.old.store self.new.store (read_reply result)
             × IfErr result (λ e. RefusedOnlyWithoutRoom self.old.room zs (error_kind e)) }
         ensures admitted { IfOk result (λ x. F.admits filter.now (seen x.event) ≡ true) }
-        ensures limits { P.limits patience.now (C.told clock.new) (S.asked self.old.source) (S.asked self.new.source) }
-        ensures later { C.told clock.old ≤ C.told clock.new }
+        ensures limits { P.limits patience.now (C.latest clock.new) (S.asked self.old.source) (S.asked self.new.source) }
+        ensures later { C.latest clock.old ≤ C.latest clock.new }
         ensures first { KeepsFirst C.began clock.old clock.new }
         ensures room { reader_capacity self.old ≤ reader_capacity self.new }
         ensures rise { S.failed self.old.source ≤ S.failed self.new.source }
@@ -128,11 +128,11 @@ impl<S: EventSource<A>, A: Allocator + Clone> InternalEventReader<S, A> {
         patience: &P,
         clock: &mut C,
     ) -> Option<Taken<InternalEvent<A>>>
-        requires { P.begins patience.now (C.told clock.old) }
+        requires { P.begins patience.now (C.latest clock.old) }
         ensures step { (flags : Seen × ℕ) → (zs : List SourceAnswer) × S.drawn self.old.source zs self.new.source
-            × AfterReply (P.lasted patience.now (C.told clock.new)) zs false flags self.old.store self.new.store (ToQuery flags (option_map kept result)) }
-        ensures limits { P.limits patience.now (C.told clock.new) (S.asked self.old.source) (S.asked self.new.source) }
-        ensures later { C.told clock.old ≤ C.told clock.new }
+            × AfterReply (P.lasted patience.now (C.latest clock.new)) zs false flags self.old.store self.new.store (ToQuery flags (option_map kept result)) }
+        ensures limits { P.limits patience.now (C.latest clock.new) (S.asked self.old.source) (S.asked self.new.source) }
+        ensures later { C.latest clock.old ≤ C.latest clock.new }
         ensures first { KeepsFirst C.began clock.old clock.new }
         ensures room { reader_capacity self.old ≤ reader_capacity self.new }
         ensures rise { S.failed self.old.source ≤ S.failed self.new.source }
@@ -184,14 +184,14 @@ impl<S: EventSource<A>, A: Allocator + Clone> InternalEventReader<S, A> {
         again: Duration,
         clock: &mut C,
     ) -> io::Result<Taken<Option<KeyboardEnhancementFlags>>>
-        requires { as_nanos timeout.start ≤ C.told clock.old }
-        ensures step { (now : ℕ) × (second : ℕ) × (C.told clock.old ≤ now) × (now ≤ second) × (second ≤ C.told clock.new)
+        requires { as_nanos timeout.start ≤ C.latest clock.old }
+        ensures step { (now : ℕ) × (second : ℕ) × (C.latest clock.old ≤ now) × (now ≤ second) × (second ≤ C.latest clock.new)
             × (zs : List SourceAnswer) × (r : Replied) × S.drawn self.old.source zs self.new.source
-            × KeyboardStep (Within timeout.limit (now - as_nanos timeout.start)) (Within (Some again) (C.told clock.new - second)) zs self.old.store self.new.store r
+            × KeyboardStep (Within timeout.limit (now - as_nanos timeout.start)) (Within (Some again) (C.latest clock.new - second)) zs self.old.store self.new.store r
             × (flags_said result ≡ shown r) × IfErr result (λ e. RefusedOnlyWithoutRoom self.old.room zs (error_kind e)) × ((n : Option ℕ) → last_taken n r ≡ last_said n result)
             × (middle : List (Option Duration)) × AsksLeft timeout now (S.asked self.old.source) middle
-            × ((S.asked self.new.source ≡ middle) ⊎ AsksWithin (Some again) second (C.told clock.new) middle (S.asked self.new.source)) }
-        ensures later { C.told clock.old ≤ C.told clock.new }
+            × ((S.asked self.new.source ≡ middle) ⊎ AsksWithin (Some again) second (C.latest clock.new) middle (S.asked self.new.source)) }
+        ensures later { C.latest clock.old ≤ C.latest clock.new }
         ensures first { KeepsFirst C.began clock.old clock.new }
         ensures room { reader_capacity self.old ≤ reader_capacity self.new }
     {

@@ -232,15 +232,15 @@ impl<S: EventSource<A>, A: Allocator + Clone> InternalEventReader<S, A> {
         at_wake: AtWake,
         filter: &F,
     ) -> io::Result<Option<Taken<InternalEvent<A>>>>
-        requires { P.begins patience.now (C.told clock.old) }
+        requires { P.begins patience.now (C.latest clock.old) }
         ensures step { (zs : List SourceAnswer) × S.drawn self.old.source zs self.new.source
-            × NextStep at_wake (P.lasted patience.now (C.told clock.new)) (F.admits filter.now) zs self.old.store self.new.store (try_reply result)
+            × NextStep at_wake (P.lasted patience.now (C.latest clock.new)) (F.admits filter.now) zs self.old.store self.new.store (try_reply result)
             × IfErr result (λ e. RefusedOnlyWithoutRoom self.old.room zs (error_kind e))
             × IsSteady S.failed self.old.source zs self.new.source }
         ensures held { is_some (first_admitted (F.admits filter.now) self.old.store.held) ≡ true → (reader_capacity self.new ≡ reader_capacity self.old) × (self.new.source ≡ self.old.source) }
         ensures admitted { IfOk result (λ taken. IfSome taken (λ x. F.admits filter.now (seen x.event) ≡ true)) }
-        ensures limits { P.limits patience.now (C.told clock.new) (S.asked self.old.source) (S.asked self.new.source) }
-        ensures later { C.told clock.old ≤ C.told clock.new }
+        ensures limits { P.limits patience.now (C.latest clock.new) (S.asked self.old.source) (S.asked self.new.source) }
+        ensures later { C.latest clock.old ≤ C.latest clock.new }
         ensures first { KeepsFirst C.began clock.old clock.new }
         ensures room { reader_capacity self.old ≤ reader_capacity self.new }
         ensures rise { S.failed self.old.source ≤ S.failed self.new.source }
@@ -260,13 +260,13 @@ impl<S: EventSource<A>, A: Allocator + Clone> InternalEventReader<S, A> {
         clock: &mut C,
         filter: &F,
     ) -> io::Result<bool>
-        requires { P.begins patience.now (C.told clock.old) }
+        requires { P.begins patience.now (C.latest clock.old) }
         ensures step { (zs : List SourceAnswer) × S.drawn self.old.source zs self.new.source
-            × PollStep (P.lasted patience.now (C.told clock.new)) (F.admits filter.now) zs self.old.store self.new.store (poll_reply result)
+            × PollStep (P.lasted patience.now (C.latest clock.new)) (F.admits filter.now) zs self.old.store self.new.store (poll_reply result)
             × IfErr result (λ e. RefusedOnlyWithoutRoom self.old.room zs (error_kind e)) }
         ensures held { is_some (first_admitted (F.admits filter.now) self.old.store.held) ≡ true → self.new ≡ self.old }
-        ensures limits { P.limits patience.now (C.told clock.new) (S.asked self.old.source) (S.asked self.new.source) }
-        ensures later { C.told clock.old ≤ C.told clock.new }
+        ensures limits { P.limits patience.now (C.latest clock.new) (S.asked self.old.source) (S.asked self.new.source) }
+        ensures later { C.latest clock.old ≤ C.latest clock.new }
         ensures first { KeepsFirst C.began clock.old clock.new }
         ensures room { reader_capacity self.old ≤ reader_capacity self.new }
         ensures rise { S.failed self.old.source ≤ S.failed self.new.source }

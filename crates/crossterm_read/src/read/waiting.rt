@@ -51,15 +51,15 @@ impl<S: EventSource<A>, A: Allocator + Clone> InternalEventReader<S, A> {
         filter: &F,
     ) -> io::Result<bool>
         // The limit runs from the call's first moment on, and the device is asked with what is left of it alone.
-        ensures step { (start : ℕ) × IsFirst C.told C.began clock.old clock.new start
-            × AsksWithin limit start (C.told clock.new) (S.asked self.old.source) (S.asked self.new.source)
+        ensures step { (start : ℕ) × IsFirst C.latest C.began clock.old clock.new start
+            × AsksWithin limit start (C.latest clock.new) (S.asked self.old.source) (S.asked self.new.source)
             × (zs : List SourceAnswer) × S.drawn self.old.source zs self.new.source
-            × PollStep (Within limit (C.told clock.new - start)) (F.admits filter.now) zs self.old.store self.new.store (poll_reply result)
+            × PollStep (Within limit (C.latest clock.new - start)) (F.admits filter.now) zs self.old.store self.new.store (poll_reply result)
             × IfErr result (λ e. RefusedOnlyWithoutRoom self.old.room zs (error_kind e)) }
         // If an admitted event is held, nothing changes, so no memory is taken.
         ensures held { is_some (first_admitted (F.admits filter.now) self.old.store.held) ≡ true → self.new ≡ self.old }
         // The clock doesn't go back, and which time was the first stays so.
-        ensures later { C.told clock.old ≤ C.told clock.new }
+        ensures later { C.latest clock.old ≤ C.latest clock.new }
         ensures first { KeepsFirst C.began clock.old clock.new }
         // No room is lost.
         ensures room { reader_capacity self.old ≤ reader_capacity self.new }
@@ -142,13 +142,13 @@ impl<S: EventSource<A>, A: Allocator + Clone> InternalEventReader<S, A> {
         clock: &mut C,
         filter: AnyFilter,
     ) -> io::Result<Option<Taken<InternalEvent<A>>>>
-        requires { P.begins patience.now (C.told clock.old) }
+        requires { P.begins patience.now (C.latest clock.old) }
         ensures step { (zs : List SourceAnswer) × S.drawn self.old.source zs self.new.source
-            × Step (request_within (P.lasted patience.now (C.told clock.new)) filter result) zs self.old.store self.new.store (reply_within result)
+            × Step (request_within (P.lasted patience.now (C.latest clock.new)) filter result) zs self.old.store self.new.store (reply_within result)
             × IfErr result (λ e. RefusedOnlyWithoutRoom self.old.room zs (error_kind e)) }
         ensures admitted { IfOk result (λ taken. IfSome taken (λ x. admitted filter (seen x.event) ≡ true)) }
-        ensures limits { P.limits patience.now (C.told clock.new) (S.asked self.old.source) (S.asked self.new.source) }
-        ensures later { C.told clock.old ≤ C.told clock.new }
+        ensures limits { P.limits patience.now (C.latest clock.new) (S.asked self.old.source) (S.asked self.new.source) }
+        ensures later { C.latest clock.old ≤ C.latest clock.new }
         ensures first { KeepsFirst C.began clock.old clock.new }
         ensures room { reader_capacity self.old ≤ reader_capacity self.new }
         ensures awake { IfErr result (λ e. error_kind e ≢ Interrupted) }

@@ -71,7 +71,7 @@ impl<A: Allocator> Script<A> {
 }
 
 // Fills a buffer with the first bytes, and returns how many.
-fn tell(bytes: &[u8], buf: &mut [u8]) -> usize
+fn fill(bytes: &[u8], buf: &mut [u8]) -> usize
     requires { length buf.now ≡ 1024 }
     ensures count { result ≡ min 1024 (length bytes.now) }
     ensures within { result ≤ length buf.new }
@@ -94,7 +94,7 @@ impl<A: Allocator> Device for Script<A> {
             let act = &self.acts[self.next];
             if let Act::Piece { bytes, raw } = act {
                 if self.at < bytes.len() {
-                    let count = tell(&bytes[self.at..], buf);
+                    let count = fill(&bytes[self.at..], buf);
                     self.at += count;
                     return Ok(Answer::Bytes { count, raw: *raw });
                 }

@@ -8,7 +8,7 @@ ghost use Rattle.crossterm_style.specs.Attributes.{attributes};
 
 use crate::Attribute;
 use crossterm_flags::ValueFault;
-use crossterm_flags::value::{read_named, shaped, tell_named};
+use crossterm_flags::value::{name_to_json, read_named, shaped};
 use serde_json::Value;
 use std::alloc::Global;
 
@@ -18,12 +18,12 @@ impl Attribute {
     /// # Errors
     ///
     /// `Memory` if memory for it was refused.
-    #[tactic(auto, using(crate::proofs::ValueLaws::attribute_back, crossterm_flags::proofs::ValueLaws::told_back))]
+    #[tactic(auto, using(crate::proofs::ValueLaws::attribute_back, crossterm_flags::proofs::ValueLaws::json_back))]
     pub fn to_value(&self, alloc: Global) -> Result<Value, ValueFault>
-        ensures tells { WritesJson (string (variant attributes self.now)) result }
+        ensures json { WritesJson (string (variant attributes self.now)) result }
         ensures back { IfOk result (λ v. reads_variant attributes (view v) ≡ Some self.now) }
     {
-        tell_named(alloc, *self)
+        name_to_json(alloc, *self)
     }
 
     /// The attribute whose variant a JSON text is. It takes no memory.

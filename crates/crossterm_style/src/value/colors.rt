@@ -10,7 +10,7 @@ use crate::types::{color_named, name_of};
 use crate::value::marks::{byte, hex, holds, rgb, without};
 use crate::{Color, Colored};
 use crossterm_flags::ValueFault;
-use crossterm_flags::value::{read_member, shaped, tell_member, tell_text};
+use crossterm_flags::value::{member_to_json, read_member, shaped, text_to_json};
 use serde_json::Value;
 use std::alloc::{AllocError, Allocator, Global};
 
@@ -25,23 +25,23 @@ impl Color {
     /// # Errors
     ///
     /// `Memory` if memory for it was refused.
-    #[tactic(auto, using(crate::proofs::ColorBack::color_back, crossterm_flags::proofs::ValueLaws::told_back))]
+    #[tactic(auto, using(crate::proofs::ColorBack::color_back, crossterm_flags::proofs::ValueLaws::json_back))]
     pub fn to_value(&self, alloc: Global) -> Result<Value, ValueFault>
-        ensures tells { WritesJson (string (color_text self.now)) result }
+        ensures json { WritesJson (string (color_text self.now)) result }
         ensures back { IfOk result (λ v. reads_color (view v) ≡ Some self.now) }
     {
         self.known();
-        self.tell(alloc)
+        self.as_json(alloc)
     }
 
     /// The colour as JSON.
-    fn tell(self, alloc: Global) -> Result<Value, ValueFault>
+    fn as_json(self, alloc: Global) -> Result<Value, ValueFault>
         ensures { WritesJson (string (color_text self)) result }
     {
         match self {
             Color::AnsiValue(n) => Ok(Value::from(format!(in alloc; "ansi_({n})")?)),
             Color::Rgb { r, g, b } => Ok(Value::from(format!(in alloc; "rgb_({r},{g},{b})")?)),
-            named => tell_text(alloc, name_of(named)),
+            named => text_to_json(alloc, name_of(named)),
         }
     }
 
@@ -110,28 +110,28 @@ impl Colored {
     /// # Errors
     ///
     /// `Memory` if memory for it was refused.
-    #[tactic(auto, using(crate::proofs::ColorBack::colored_back, crossterm_flags::proofs::ValueLaws::told_back))]
+    #[tactic(auto, using(crate::proofs::ColorBack::colored_back, crossterm_flags::proofs::ValueLaws::json_back))]
     pub fn to_value(&self, alloc: Global) -> Result<Value, ValueFault>
-        ensures tells { WritesJson (colored_value self.now) result }
+        ensures json { WritesJson (colored_value self.now) result }
         ensures back { IfOk result (λ v. reads_colored (view v) ≡ Some self.now) }
     {
         self.known();
-        self.tell(alloc)
+        self.as_json(alloc)
     }
 
     /// The colour and its place as JSON.
-    fn tell(self, alloc: Global) -> Result<Value, ValueFault>
+    fn as_json(self, alloc: Global) -> Result<Value, ValueFault>
         ensures { WritesJson (colored_value self) result }
     {
         match self {
             Colored::ForegroundColor(color) => {
-                tell_member(alloc, "ForegroundColor", color.to_value(alloc)?)
+                member_to_json(alloc, "ForegroundColor", color.to_value(alloc)?)
             }
             Colored::BackgroundColor(color) => {
-                tell_member(alloc, "BackgroundColor", color.to_value(alloc)?)
+                member_to_json(alloc, "BackgroundColor", color.to_value(alloc)?)
             }
             Colored::UnderlineColor(color) => {
-                tell_member(alloc, "UnderlineColor", color.to_value(alloc)?)
+                member_to_json(alloc, "UnderlineColor", color.to_value(alloc)?)
             }
         }
     }

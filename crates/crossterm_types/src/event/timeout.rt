@@ -9,22 +9,22 @@ use std::time::{Duration, Instant};
 /// Reports the time since some moment, and never goes back.
 pub trait Clock {
     /// What `now` returned last, in nanoseconds; 0 at first.
-    ghost told: { Self → ℕ };
+    ghost latest: { Self → ℕ };
 
     /// Which time `now` returned first, from one state of the clock to another. A clock need not know it.
     ghost began: { Self → ℕ → Self → Type 0 } = { λ _ _ _. ⊤ };
 
     /// The time that it is.
     fn now(&mut self) -> Duration
-        ensures told { as_nanos result ≡ told self.new }
-        ensures later { told self.old ≤ told self.new }
+        ensures latest { as_nanos result ≡ latest self.new }
+        ensures later { latest self.old ≤ latest self.new }
         // From here on this time is the first, and another that was the first stays so.
-        ensures first { began self.old (told self.new) self.new }
+        ensures first { began self.old (latest self.new) self.new }
         ensures again { KeepsFirst began self.old self.new };
 
     /// What `now` returned last, and zero if it wasn't asked yet.
     fn last(&self) -> Duration
-        ensures { as_nanos result ≡ told self.now };
+        ensures { as_nanos result ≡ latest self.now };
 }
 
 /// The system's monotonic clock, from the moment on at which it is asked first.
@@ -70,7 +70,7 @@ impl<'a, C: std::rt::Clock> SystemClock<'a, C> {
 }
 
 impl<C: std::rt::Clock> Clock for SystemClock<'_, C> {
-    ghost told = { λ clock. as_nanos clock.last };
+    ghost latest = { λ clock. as_nanos clock.last };
 
     fn now(&mut self) -> Duration {
         if let Some(gone) = self.gone() {
@@ -95,7 +95,7 @@ impl<C: std::rt::Clock> Clock for SystemClock<'_, C> {
 pub struct Still;
 
 impl Clock for Still {
-    ghost told = { λ _. 0 };
+    ghost latest = { λ _. 0 };
 
     fn now(&mut self) -> Duration {
         Duration::ZERO

@@ -10,7 +10,9 @@ mod variants;
 
 use crate::event::{Event, KeyEvent, MouseEvent};
 use crossterm_flags::ValueFault;
-use crossterm_flags::value::{read_member, read_two, read_word, shaped, tell_member, tell_text};
+use crossterm_flags::value::{
+    member_to_json, read_member, read_two, read_word, shaped, text_to_json,
+};
 use serde_json::{Value, json};
 use std::alloc::{Allocator, Global};
 
@@ -43,28 +45,32 @@ impl<A: Allocator> Event<A> {
     /// # Errors
     ///
     /// `Memory` if memory for it was refused.
-    #[tactic(auto, using(crate::proofs::ValueLaws::event_back, crossterm_flags::proofs::ValueLaws::told_back))]
+    #[tactic(auto, using(crate::proofs::ValueLaws::event_back, crossterm_flags::proofs::ValueLaws::json_back))]
     pub fn to_value(&self, alloc: Global) -> Result<Value, ValueFault>
-        ensures tells { WritesJson (event_value self.now) result }
+        ensures json { WritesJson (event_value self.now) result }
         ensures back { IfOk result (λ v. reads_event (view v) ≡ Some (seen_event self.now)) }
     {
         self.known();
-        self.tell(alloc)
+        self.as_json(alloc)
     }
 
     /// The event as JSON.
-    fn tell(&self, alloc: Global) -> Result<Value, ValueFault>
+    fn as_json(&self, alloc: Global) -> Result<Value, ValueFault>
         ensures { WritesJson (event_value self.now) result }
     {
         match self {
-            Event::FocusGained => tell_text(alloc, "FocusGained"),
-            Event::FocusLost => tell_text(alloc, "FocusLost"),
-            Event::Key(key) => tell_member(alloc, "Key", key.to_value(alloc)?),
-            Event::Mouse(mouse) => tell_member(alloc, "Mouse", mouse.to_value(alloc)?),
-            Event::Paste(text) => tell_member(alloc, "Paste", tell_text(alloc, text.as_str())?),
+            Event::FocusGained => text_to_json(alloc, "FocusGained"),
+            Event::FocusLost => text_to_json(alloc, "FocusLost"),
+            Event::Key(key) => member_to_json(alloc, "Key", key.to_value(alloc)?),
+            Event::Mouse(mouse) => member_to_json(alloc, "Mouse", mouse.to_value(alloc)?),
+            Event::Paste(text) => member_to_json(
+                alloc,
+                "Paste",
+                text_to_json(alloc, text.as_str())?,
+            ),
             Event::Resize(columns, rows) => {
                 let size = json!(in alloc; [(*columns), (*rows)])?;
-                tell_member(alloc, "Resize", size)
+                member_to_json(alloc, "Resize", size)
             }
         }
     }

@@ -95,7 +95,7 @@ impl<D: Device> Telnet<D> {
     }
 
     // Reports the bytes that were kept.
-    fn tell_late(&mut self, buf: &mut [u8]) -> Answer
+    fn answer_late(&mut self, buf: &mut [u8]) -> Answer
         ensures count { CountWithin result (length buf.new) }
         ensures device { self.new.device ≡ self.old.device }
     {
@@ -184,7 +184,7 @@ impl<D: Device> Device for Telnet<D> {
 
     fn answer(&mut self, buf: &mut [u8], limit: Option<Duration>) -> io::Result<Answer> {
         if self.late_count > 0 {
-            return Ok(self.tell_late(buf));
+            return Ok(self.answer_late(buf));
         }
         match self.device.answer(buf, limit) {
             Ok(Answer::Bytes { count, raw }) if count > 0 => {

@@ -82,9 +82,9 @@ impl View {
         let (width, height) = (self.buffer.width(), self.buffer.height());
         let style = ContentStyle::new();
         if width < WIDTH || height <= ROWS {
-            let _told = self.buffer.print(0, height.saturating_sub(1), SMALL, style);
+            let _columns = self.buffer.print(0, height.saturating_sub(1), SMALL, style);
         } else {
-            let _told = self.buffer.print(LEFT, ROWS, HELP, style);
+            let _columns = self.buffer.print(LEFT, ROWS, HELP, style);
         }
     }
 

@@ -145,7 +145,7 @@ impl Cast {
             let Some((time, next)) = next(reader) else {
                 break;
             };
-            self.write_until(reader.source().device().told, out)?;
+            self.write_until(reader.source().device().answered, out)?;
             let mut line = Vec::new(self.alloc);
             super::write_line(time, next, &mut line)?;
             if line.pop().is_some() {

@@ -58,9 +58,9 @@ deepest numbers zero = None
 deepest numbers (suc count) = found_or (numbers (suc count)) (suc count) (deepest numbers count)
 
 -- The table has the right place for any keys. There is no table before a list is bound.
-abbrev pub TellsOf : {S : Type 0} → Bound → Option (HashMap (List KeyEvent) Place S) → Type 0
-TellsOf bound None = bound ≡ []
-TellsOf bound (Some places) = HasPlaces bound places
+abbrev pub HasPlacesOf : {S : Type 0} → Bound → Option (HashMap (List KeyEvent) Place S) → Type 0
+HasPlacesOf bound None = bound ≡ []
+HasPlacesOf bound (Some places) = HasPlaces bound places
 
 -- There is a table, with room for `count` more places.
 abbrev pub HasRoom : {S : Type 0} → ℕ → Option (HashMap (List KeyEvent) Place S) → Type 0

@@ -13,7 +13,7 @@ use Rattle.prompt.specs.declared.asking.Taken.{Taken}
 use Rattle.prompt.specs.declared.asking.Taken.TheVariants as taken
 use Rattle.prompt.specs.declared.asking.Turn.{Turn}
 use Rattle.prompt.specs.declared.asking.Turn.TheVariants as turn
-use Rattle.prompt.specs.Asking.{LineEnds, StopsAsking, GoesOn, answer_to, answer_told, after_event}
+use Rattle.prompt.specs.Asking.{LineEnds, StopsAsking, GoesOn, answer_to, answer_seen, after_event}
 
 -- An editor took an event, which has this outcome.
 abbrev pub TakesAs : Answer → Seen → EditorState → EditorState → Type 0
@@ -23,11 +23,11 @@ TakesAs a e w z = (answer_to e w ≡ a) × (z ≡ after_event e w)
 abbrev pub IsTaken : {A : Type 0} → Taken A → Seen → EditorState → EditorState → Type 0
 IsTaken taken.Going e w z = TakesAs turns.Going e w z
 IsTaken taken.TooLong e w z = TakesAs turns.Going e w z
-IsTaken (taken.Ended read) e w z = TakesAs (answer_told read) e w z
+IsTaken (taken.Ended read) e w z = TakesAs (answer_seen read) e w z
 IsTaken taken.Refused e w z = (is_too_long (event_text e w) w ≡ false) × (z ≡ w)
 
 -- A turn leads on, to the line's end, or to an error.
 abbrev pub Leads : {S A : Type 0} → (S → List SourceAnswer → S → Type 0) → (S → List (Option Duration)) → Known S → EditorState → Turn A → Known S → EditorState → Type 0
 Leads drawn asked v w turn.Going u z = GoesOn drawn asked v w u z
-Leads drawn asked v w (turn.Ended read) u z = LineEnds drawn asked v w (answer_told read) u z
+Leads drawn asked v w (turn.Ended read) u z = LineEnds drawn asked v w (answer_seen read) u z
 Leads drawn asked v w (turn.Failed error) u z = StopsAsking drawn asked v w (error_kind error) u z

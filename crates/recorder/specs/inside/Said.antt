@@ -4,21 +4,21 @@ use Rattle.crossterm_read.specs.Device.{DeviceAnswer, Bytes, Resized, Woken, Idl
 use Rattle.recorder.specs.Lines.{entry_answers, times_of}
 use Rattle.recorder.specs.Recording.{Rises, WritesEntries, millis}
 use Rattle.recorder.specs.declared.recorder.Stop.{Stop}
-use Rattle.recorder.specs.declared.line.Told.{Told}
-use Rattle.recorder.specs.declared.line.Told.TheVariants as told
+use Rattle.recorder.specs.declared.line.Noted.{Noted}
+use Rattle.recorder.specs.declared.line.Noted.TheVariants as noted
 
 -- The answer that a line says.
-abbrev pub told_answer : Told → DeviceAnswer
-told_answer (told.Bytes bytes raw) = Bytes bytes.now raw
-told_answer (told.Resized columns rows) = Resized columns rows
-told_answer told.Woken = Woken
-told_answer told.Idle = Idle
-told_answer (told.Fault kind) = Fault kind
+abbrev pub noted_answer : Noted → DeviceAnswer
+noted_answer (noted.Bytes bytes raw) = Bytes bytes.now raw
+noted_answer (noted.Resized columns rows) = Resized columns rows
+noted_answer noted.Woken = Woken
+noted_answer noted.Idle = Idle
+noted_answer (noted.Fault kind) = Fault kind
 
 -- The answer that the line says, or none if there is no line.
-abbrev pub said_by : Option Told → List DeviceAnswer
+abbrev pub said_by : Option Noted → List DeviceAnswer
 said_by None = []
-said_by (Some t) = told_answer t ∷ []
+said_by (Some t) = noted_answer t ∷ []
 
 -- Answers were written with rising times. The clock, the stop, the room and the writer changed as the recording went
 -- on.

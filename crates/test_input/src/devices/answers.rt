@@ -26,7 +26,7 @@ pub fn wakes_by(waker: io::Result<Waker>) -> bool {
 }
 
 /// Whether these bytes are reported next.
-pub fn tells<D: Device>(device: &mut D, limit: Option<Duration>, want: &[u8]) -> bool {
+pub fn answers<D: Device>(device: &mut D, limit: Option<Duration>, want: &[u8]) -> bool {
     let mut buf = [0u8; 1024];
     match device.answer(&mut buf, limit) {
         Ok(Answer::Bytes { count, .. }) => &buf[..count] == want,
@@ -35,7 +35,7 @@ pub fn tells<D: Device>(device: &mut D, limit: Option<Duration>, want: &[u8]) ->
 }
 
 /// Whether so many bytes are reported next, all of them this one.
-pub fn tells_many<D: Device>(
+pub fn answers_many<D: Device>(
     device: &mut D,
     limit: Option<Duration>,
     byte: u8,

@@ -1,6 +1,6 @@
 //! What the system can't watch.
 
-use crate::devices::answers::{NOW, is_woken, sends, tells, waits_out, wakes_by};
+use crate::devices::answers::{NOW, answers, is_woken, sends, waits_out, wakes_by};
 use crate::devices::ends::{piped_beside, polled};
 use crossterm_read::source::{Device, PolledDevice};
 use std::alloc::Global;
@@ -13,19 +13,19 @@ use test_support::expect;
 const REGULAR: &str = "/proc/self/exe";
 
 /// Whether a device reports the next bytes of a file.
-fn tells_on<D: Device>(device: &mut D, file: &mut File) -> bool {
+fn answers_on<D: Device>(device: &mut D, file: &mut File) -> bool {
     let mut want = [0u8; 1024];
-    file.read_exact(&mut want).is_ok() && tells(device, NOW, &want)
+    file.read_exact(&mut want).is_ok() && answers(device, NOW, &want)
 }
 
 /// Whether a device reports a file's bytes, and a wake-up between two of its buffers.
-fn tells_all<D: Device>(device: &mut D, file: &mut File) -> bool {
+fn answers_all<D: Device>(device: &mut D, file: &mut File) -> bool {
     for _ in 0..20 {
-        if !tells_on(device, file) {
+        if !answers_on(device, file) {
             return false;
         }
     }
-    wakes_by(device.waker()) && is_woken(device, None) && tells_on(device, file)
+    wakes_by(device.waker()) && is_woken(device, None) && answers_on(device, file)
 }
 
 /// A device over a file.
@@ -38,16 +38,16 @@ fn over<R: Net + Files<File = File>>(
 }
 
 /// Whether a device over what is empty reports the end at once, and again.
-fn tells_nothing<D: Device>(device: &mut D) -> bool {
-    tells(device, None, b"") && tells(device, None, b"")
+fn answers_nothing<D: Device>(device: &mut D) -> bool {
+    answers(device, None, b"") && answers(device, None, b"")
 }
 
 #[test]
 fn a_file_is_read_at_once(rt: HostRuntime) -> io::Result<()> {
     // What a read of the file returns is what a device over it reports.
     let mut file = File::open(&rt, REGULAR)?;
-    expect!(rt; tells_all(&mut over(&rt, rt.alloc(), REGULAR)?, &mut file));
-    expect!(rt; tells_nothing(&mut over(&rt, rt.alloc(), "/dev/null")?));
+    expect!(rt; answers_all(&mut over(&rt, rt.alloc(), REGULAR)?, &mut file));
+    expect!(rt; answers_nothing(&mut over(&rt, rt.alloc(), "/dev/null")?));
     Ok(())
 }
 
@@ -56,7 +56,7 @@ fn sizes_may_be_none(rt: HostRuntime) -> io::Result<()> {
     // They end at once, and end nothing else: bytes come, and limits are waited out.
     let sizes = File::open(&rt, "/dev/null")?;
     let (mut device, mut far) = piped_beside(&rt, rt.alloc(), Some(sizes))?;
-    expect!(rt; sends(&mut far, b"a") && tells(&mut device, NOW, b"a"));
+    expect!(rt; sends(&mut far, b"a") && answers(&mut device, NOW, b"a"));
     expect!(rt; waits_out(&rt, &mut device, 30));
     Ok(())
 }

@@ -1,6 +1,6 @@
 //! What comes at once, and what is waited for.
 
-use crate::devices::answers::{NOW, is_idle, long, sends, tells, tells_many, waits_out};
+use crate::devices::answers::{NOW, answers, answers_many, is_idle, long, sends, waits_out};
 use crate::devices::ends::piped;
 use crate::devices::readers::is_key;
 use crate::expect_of_each;
@@ -12,24 +12,24 @@ use std::time::Clock;
 use test_support::expect;
 
 /// Whether bytes are reported once, as they came, and nothing before and after.
-fn tells_what_came<D: Device, W: Write>(device: &mut D, far: &mut W) -> bool {
+fn answers_what_came<D: Device, W: Write>(device: &mut D, far: &mut W) -> bool {
     is_idle(device, NOW)
         && sends(far, b"abc")
-        && tells(device, long(), b"abc")
+        && answers(device, long(), b"abc")
         && is_idle(device, NOW)
         && sends(far, &[b'x'; 1024])
-        && tells_many(device, None, b'x', 1024)
+        && answers_many(device, None, b'x', 1024)
         && is_idle(device, NOW)
         && sends(far, &[b'y'; 1025])
-        && tells_many(device, None, b'y', 1024)
-        && tells_many(device, NOW, b'y', 1)
+        && answers_many(device, None, b'y', 1024)
+        && answers_many(device, NOW, b'y', 1)
         && is_idle(device, NOW)
 }
 
 /// Whether bytes that come one at a time are reported one at a time.
-fn tells_each<D: Device, W: Write>(device: &mut D, far: &mut W) -> bool {
+fn answers_each<D: Device, W: Write>(device: &mut D, far: &mut W) -> bool {
     for byte in 0..200u8 {
-        if !sends(far, &[byte]) || !tells(device, long(), &[byte]) {
+        if !sends(far, &[byte]) || !answers(device, long(), &[byte]) {
             return false;
         }
     }
@@ -40,39 +40,39 @@ fn tells_each<D: Device, W: Write>(device: &mut D, far: &mut W) -> bool {
 fn keeps_limits<D: Device, W: Write, R: Clock>(rt: &R, device: &mut D, far: &mut W) -> bool {
     waits_out(rt, device, 30)
         && sends(far, b"ab")
-        && tells(device, None, b"ab")
+        && answers(device, None, b"ab")
         && waits_out(rt, device, 60)
         && sends(far, &[b'x'; 2048])
-        && tells_many(device, None, b'x', 1024)
-        && tells_many(device, None, b'x', 1024)
+        && answers_many(device, None, b'x', 1024)
+        && answers_many(device, None, b'x', 1024)
         && waits_out(rt, device, 50)
 }
 
 /// Whether what came before the end is reported, and then the end for good, at once.
-fn tells_the_end<D: Device, W: Write + Drop>(device: &mut D, mut far: W) -> bool {
+fn answers_the_end<D: Device, W: Write + Drop>(device: &mut D, mut far: W) -> bool {
     let came = sends(&mut far, b"yz");
     drop(far);
-    came && tells(device, None, b"yz")
-        && tells(device, None, b"")
-        && tells(device, None, b"")
+    came && answers(device, None, b"yz")
+        && answers(device, None, b"")
+        && answers(device, None, b"")
         && device.failures() == 0
 }
 
 /// Whether bytes come at once, limits are waited out, and the end is reported.
-fn waits_and_tells<D: Device, W: Write + Drop, R: Clock>(
+fn waits_and_answers<D: Device, W: Write + Drop, R: Clock>(
     rt: &R,
     device: &mut D,
     mut far: W,
 ) -> bool {
-    let waits = tells_what_came(device, &mut far)
-        && tells_each(device, &mut far)
+    let waits = answers_what_came(device, &mut far)
+        && answers_each(device, &mut far)
         && keeps_limits(rt, device, &mut far);
-    waits && tells_the_end(device, far)
+    waits && answers_the_end(device, far)
 }
 
 #[test]
-fn pipes_connections_and_sockets_are_told(rt: HostRuntime) -> io::Result<()> {
-    expect_of_each!(rt; waits_and_tells);
+fn pipes_connections_and_sockets_are_answered(rt: HostRuntime) -> io::Result<()> {
+    expect_of_each!(rt; waits_and_answers);
     Ok(())
 }
 

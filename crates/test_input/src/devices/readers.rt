@@ -1,6 +1,6 @@
 //! A device over a reader.
 
-use crate::devices::answers::{NOW, fails, is_idle, is_raw, tells, tells_many, wakes_by};
+use crate::devices::answers::{NOW, answers, answers_many, fails, is_idle, is_raw, wakes_by};
 use crate::devices::ends::cooked;
 use crossterm_read::source::{Device, DeviceSource, EventSource, RawFlag, ReadDevice};
 use crossterm_types::event::{Event, InternalEvent, KeyCode};
@@ -9,25 +9,25 @@ use std::io::{self, Cursor, ErrorKind, Read};
 use test_support::expect;
 
 /// Whether a device over a list of bytes reports them, and then the end for good.
-fn tells_a_list(flag: RawFlag) -> bool {
+fn answers_a_list(flag: RawFlag) -> bool {
     let mut device = ReadDevice::new(&b"abc"[..], flag);
-    tells(&mut device, None, b"abc")
-        && tells(&mut device, None, b"")
-        && tells(&mut device, NOW, b"")
+    answers(&mut device, None, b"abc")
+        && answers(&mut device, None, b"")
+        && answers(&mut device, NOW, b"")
 }
 
 /// Whether a buffer at a time is reported.
-fn tells_by_buffers(flag: RawFlag) -> bool {
+fn answers_by_buffers(flag: RawFlag) -> bool {
     let mut device = ReadDevice::new(Cursor::new([7u8; 1025]), flag);
-    tells_many(&mut device, None, 7, 1024)
-        && tells_many(&mut device, None, 7, 1)
-        && tells(&mut device, None, b"")
+    answers_many(&mut device, None, 7, 1024)
+        && answers_many(&mut device, None, 7, 1)
+        && answers(&mut device, None, b"")
 }
 
 #[test]
-fn a_reader_is_told_to_its_end(rt: HostRuntime) -> io::Result<()> {
-    expect!(rt; tells_a_list(cooked(rt.alloc())?));
-    expect!(rt; tells_by_buffers(cooked(rt.alloc())?));
+fn a_reader_is_answered_to_its_end(rt: HostRuntime) -> io::Result<()> {
+    expect!(rt; answers_a_list(cooked(rt.alloc())?));
+    expect!(rt; answers_by_buffers(cooked(rt.alloc())?));
     Ok(())
 }
 
@@ -56,16 +56,16 @@ impl Read for Faulty {
 }
 
 /// Whether an error is a failure if it says more than that nothing came.
-fn tells_faults(flag: RawFlag) -> bool {
+fn answers_faults(flag: RawFlag) -> bool {
     let mut device = ReadDevice::new(Faulty { reads: 0 }, flag);
     let idle = is_idle(&mut device, None) && is_idle(&mut device, None) && device.failures() == 0;
     let fails = fails(&mut device, ErrorKind::Other) && device.failures() == 1;
-    idle && fails && tells(&mut device, None, b"x") && device.failures() == 1
+    idle && fails && answers(&mut device, None, b"x") && device.failures() == 1
 }
 
 #[test]
-fn an_error_is_told_and_counted(rt: HostRuntime) -> io::Result<()> {
-    expect!(rt; tells_faults(cooked(rt.alloc())?));
+fn an_error_is_answered_and_counted(rt: HostRuntime) -> io::Result<()> {
+    expect!(rt; answers_faults(cooked(rt.alloc())?));
     Ok(())
 }
 

@@ -1,7 +1,7 @@
 //! Sizes, in lines of text.
 
 use crate::devices::answers::{
-    NOW, fails, is_idle, is_woken, resizes, sends, tells, waits_out, wakes_by,
+    NOW, answers, fails, is_idle, is_woken, resizes, sends, waits_out, wakes_by,
 };
 use crate::devices::ends::{SizedEnds, piped_beside, polled, sized};
 use crossterm_read::source::Device;
@@ -59,13 +59,13 @@ fn whole_lines_are_sizes(rt: HostRuntime) -> io::Result<()> {
 }
 
 /// Whether a wake-up goes before a size, that before bytes, and each comes.
-fn tells_in_turn(ends: &mut SizedEnds) -> bool {
+fn answers_in_turn(ends: &mut SizedEnds) -> bool {
     let sent = sends(&mut ends.input, b"ab") && sends(&mut ends.sizes, b"24 80\n");
     let device = &mut ends.device;
     sent && wakes_by(device.waker())
         && is_woken(device, None)
         && resizes(device, 80, 24)
-        && tells(device, None, b"ab")
+        && answers(device, None, b"ab")
         && is_idle(device, NOW)
 }
 
@@ -80,14 +80,14 @@ fn outlives_its_sizes<R: Clock>(rt: &R, ends: SizedEnds) -> bool {
     is_idle(&mut device, NOW)
         && waits_out(rt, &mut device, 30)
         && sends(&mut input, b"ab")
-        && tells(&mut device, None, b"ab")
+        && answers(&mut device, None, b"ab")
         && device.failures() == 0
 }
 
 #[test]
 fn sizes_and_bytes_come_in_turn(rt: HostRuntime) -> io::Result<()> {
     let mut ends = sized(&rt, rt.alloc())?;
-    expect!(rt; tells_in_turn(&mut ends));
+    expect!(rt; answers_in_turn(&mut ends));
     expect!(rt; outlives_its_sizes(&rt, ends));
     Ok(())
 }
@@ -105,7 +105,7 @@ fn outlives_a_failure<D: Device, W: Write, R: Clock>(rt: &R, device: &mut D, far
     sends(far, b"ab")
         && fails(device, ErrorKind::Uncategorized)
         && device.failures() == 1
-        && tells(device, None, b"ab")
+        && answers(device, None, b"ab")
         && waits_out(rt, device, 30)
 }
 
@@ -116,7 +116,7 @@ fn fails_again<D: Device>(device: &mut D) -> bool {
 }
 
 #[test]
-fn a_failure_is_told(rt: HostRuntime) -> io::Result<()> {
+fn a_failure_is_answered(rt: HostRuntime) -> io::Result<()> {
     let input = unreadable(&rt, rt.alloc())?;
     expect!(rt; fails_again(&mut polled(&rt, rt.alloc(), input, None)?));
     let sizes = unreadable(&rt, rt.alloc())?;

@@ -1,6 +1,6 @@
 //! Wakers.
 
-use crate::devices::answers::{NOW, is_idle, is_woken, sends, tells_many, waits_out, wakes_by};
+use crate::devices::answers::{NOW, answers_many, is_idle, is_woken, sends, waits_out, wakes_by};
 use crate::devices::ends::piped;
 use crate::expect_of_each;
 use crossterm_read::source::{Device, DeviceSource, EventSource, Waker};
@@ -20,13 +20,13 @@ fn is_woken_once<D: Device, W: Write>(device: &mut D, waker: &Waker, far: &mut W
         && wakes_by(waker.share())
         && wakes_by(device.waker());
     let woken = is_woken(device, None)
-        && tells_many(device, None, b'x', 1024)
-        && tells_many(device, None, b'x', 1024);
+        && answers_many(device, None, b'x', 1024)
+        && answers_many(device, None, b'x', 1024);
     let again = waker.wake().is_ok() && is_woken(device, NOW);
     used && woken
         && again
-        && tells_many(device, None, b'x', 1024)
-        && tells_many(device, None, b'x', 1024)
+        && answers_many(device, None, b'x', 1024)
+        && answers_many(device, None, b'x', 1024)
         && is_idle(device, NOW)
 }
 

@@ -6,7 +6,7 @@ use crossterm_types::event::filter::{AnyFilter, EventFilter};
 use std::io;
 use std::sync::Wait;
 use std::time::Duration;
-use test_support::{Reader, Seat, alone, expect, letter_of, telling, two};
+use test_support::{Reader, Seat, alone, expect, letter_of, over_bytes, two};
 
 type Source = DeviceSource<Script>;
 
@@ -61,7 +61,7 @@ fn is_closed_last<R: Wait>(rt: &R, mut one: Seat<Source>, other: Seat<Source>) -
 
 #[test]
 fn the_last_share_gives_what_was_left(rt: HostRuntime) -> io::Result<()> {
-    let (one, other) = two(&rt, rt.alloc(), telling(rt.alloc(), b"abc")?)?;
+    let (one, other) = two(&rt, rt.alloc(), over_bytes(rt.alloc(), b"abc")?)?;
     expect!(rt; is_closed_last(&rt, one, other));
     Ok(())
 }
@@ -74,7 +74,7 @@ fn is_closed_alone<R: Wait>(rt: &R, mut seat: Seat<Source>) -> bool {
 
 #[test]
 fn a_share_that_is_dropped_is_none(rt: HostRuntime) -> io::Result<()> {
-    let seat = alone(&rt, rt.alloc(), telling(rt.alloc(), b"abc")?)?;
+    let seat = alone(&rt, rt.alloc(), over_bytes(rt.alloc(), b"abc")?)?;
     expect!(rt; is_closed_alone(&rt, seat));
     Ok(())
 }

@@ -14,8 +14,8 @@ use test_support::{Seat, Ticking, alone, expect, letter_in, reader_of};
 
 /// Whether 100 ms have gone, and not many more.
 fn has_gone_on(clock: &Ticking) -> bool {
-    let told = clock.last();
-    told >= Duration::from_millis(100) && told < Duration::from_millis(110)
+    let last = clock.last();
+    last >= Duration::from_millis(100) && last < Duration::from_millis(110)
 }
 
 /// Whether a poll ends when the clock has passed its limit, and leaves what comes later.
@@ -80,7 +80,7 @@ fn is_first(flags: io::Result<Option<KeyboardEnhancementFlags>>) -> bool {
 }
 
 /// Whether a query for the flags gets them, and takes the attributes after them.
-fn is_told<S: EventSource<Global>, R: Wait>(rt: &R, seat: Seat<S>) -> bool {
+fn is_reported<S: EventSource<Global>, R: Wait>(rt: &R, seat: Seat<S>) -> bool {
     let Seat { shared, mut pass } = seat;
     let limit = Duration::from_millis(50);
     let flags = shared.keyboard_by(rt, &mut pass, limit, &mut Ticking::new());
@@ -95,7 +95,7 @@ fn asks_twice_as_long<R: Wait>(rt: &R, alloc: Global) -> bool {
         right: &right,
     };
     match alone(rt, alloc, reader_of(alloc, device)) {
-        Ok(seat) => is_told(rt, seat) && right.load(Ordering::SeqCst) == 4,
+        Ok(seat) => is_reported(rt, seat) && right.load(Ordering::SeqCst) == 4,
         Err(_) => false,
     }
 }

@@ -78,9 +78,9 @@ pub fn position<
 ) -> io::Result<(u16, u16)>
     requires { IsPassOf reader.now pass.old }
     ensures pass { IsPassOf reader.now pass.new }
-    ensures query { InRawMode D.stands D.answered D.failed term.old term.new ((W.contents out.new ≡ W.contents out.old) × (knows pass.new ≡ knows pass.old))
-        (Queries (W.contents out.old) (W.contents out.new) position_query (knows pass.new ≡ knows pass.old) (λ r. InTwoSeconds (λ limit. AsksPosition S.drawn S.asked limit (IsFirst C.told C.began clock.old clock.new) (C.told clock.new) (knows pass.old) (knows pass.new) r))) result }
-    ensures later { C.told clock.old ≤ C.told clock.new }
+    ensures query { InRawMode D.current D.answered D.failed term.old term.new ((W.contents out.new ≡ W.contents out.old) × (knows pass.new ≡ knows pass.old))
+        (Queries (W.contents out.old) (W.contents out.new) position_query (knows pass.new ≡ knows pass.old) (λ r. InTwoSeconds (λ limit. AsksPosition S.drawn S.asked limit (IsFirst C.latest C.began clock.old clock.new) (C.latest clock.new) (knows pass.old) (knows pass.new) r))) result }
+    ensures later { C.latest clock.old ≤ C.latest clock.new }
     ensures first { KeepsFirst C.began clock.old clock.new }
 {
     if term.is_raw_mode_enabled()? {
@@ -117,8 +117,8 @@ fn position_raw<
     requires raw { IsTrue (is_some _term.now.prior) }
     requires pass { IsPassOf reader.now pass.old }
     ensures pass { IsPassOf reader.now pass.new }
-    ensures query { Queries (W.contents out.old) (W.contents out.new) position_query (knows pass.new ≡ knows pass.old) (λ r. InTwoSeconds (λ limit. AsksPosition S.drawn S.asked limit (IsFirst C.told C.began clock.old clock.new) (C.told clock.new) (knows pass.old) (knows pass.new) r)) result }
-    ensures later { C.told clock.old ≤ C.told clock.new }
+    ensures query { Queries (W.contents out.old) (W.contents out.new) position_query (knows pass.new ≡ knows pass.old) (λ r. InTwoSeconds (λ limit. AsksPosition S.drawn S.asked limit (IsFirst C.latest C.began clock.old clock.new) (C.latest clock.new) (knows pass.old) (knows pass.new) r)) result }
+    ensures later { C.latest clock.old ≤ C.latest clock.new }
     ensures first { KeepsFirst C.began clock.old clock.new }
 {
     match send_query(out, csi!("6n")) {

@@ -215,7 +215,7 @@ impl<R: Read + Drop, W: Write + Drop> SttyDevice<R, W> {
 impl<R: Read + Drop, W: Write + Drop> ModeDevice for SttyDevice<R, W> {
     type Mode = SttyMode;
 
-    ghost stands = { λ s. s.mode };
+    ghost current = { λ s. s.mode };
 
     ghost answered = { stty_answered R.remaining W.contents };
 

@@ -9,7 +9,7 @@ ghost use Rattle.crossterm_read.specs.Entries.{AsksKeyboard};
 ghost use Rattle.crossterm_read.specs.Seats.{knows};
 ghost use Rattle.crossterm_read.specs.Shared.{IsPassOf};
 ghost use Rattle.crossterm.specs.Asking.{InRawMode, InTwoSeconds, Queries, keyboard_query};
-ghost use Rattle.crossterm.specs.Modes.{ModeCall, Modes, Refuses, SetsRaw, Sets, Sizes, SwitchesOff, SwitchesOn, Tells, any_call, told_size};
+ghost use Rattle.crossterm.specs.Modes.{ModeCall, Modes, Refuses, SetsRaw, Sets, Sizes, SwitchesOff, SwitchesOn, Gets, any_call, window_size};
 ghost use Rattle.crossterm.specs.declared.terminal.size.WindowSize.{WindowSize};
 
 use crate::csi;
@@ -27,14 +27,14 @@ use std::time::Duration;
 
 /// Switches a terminal's modes, and reports its size: what is here in the place of termios.
 ///
-/// One that never fails, and claims no more of its calls, says which mode is set, by `ghost stands = { λ device. device.mode };`, and
+/// One that never fails, and claims no more of its calls, says which mode is set, by `ghost current = { λ device. device.mode };`, and
 /// writes the calls. One that may fail counts its failures, and says so by `ghost failed = { λ device. device.failures };`.
 pub trait ModeDevice: Drop {
     /// A mode, as it can be set again.
     type Mode: Drop;
 
     /// The mode that is set.
-    ghost stands: { Self → Self.Mode };
+    ghost current: { Self → Self.Mode };
 
     /// From one state to another, it was called so and answered so: nothing, if it doesn't say more.
     ghost answered: { Self → ModeCall Self.Mode → Self → Type 0 } = { any_call };
@@ -48,8 +48,8 @@ pub trait ModeDevice: Drop {
     ///
     /// The device's own, and then its failures have risen, unless no more can be counted.
     fn mode(&mut self) -> io::Result<Self::Mode>
-        ensures mode { IfOk result (λ mode. mode ≡ stands self.old) }
-        ensures asked { answered self.old (Tells result) self.new }
+        ensures mode { IfOk result (λ mode. mode ≡ current self.old) }
+        ensures asked { answered self.old (Gets result) self.new }
         ensures rise { failed self.old ≤ failed self.new }
         ensures err { OnErr result (Refuses (failed self.old) (failed self.new)) };
 
@@ -69,7 +69,7 @@ pub trait ModeDevice: Drop {
     ///
     /// The device's own, and then its failures have risen, unless no more can be counted.
     fn set_mode(&mut self, mode: &Self::Mode) -> io::Result<()>
-        ensures mode { OnOk result (stands self.new ≡ mode.now) }
+        ensures mode { OnOk result (current self.new ≡ mode.now) }
         ensures asked { answered self.old (Sets mode.now result) self.new }
         ensures rise { failed self.old ≤ failed self.new }
         ensures err { OnErr result (Refuses (failed self.old) (failed self.new)) };
@@ -142,7 +142,7 @@ impl<D: ModeDevice, A: Allocator + Clone> Terminal<D, A> {
     /// The device's. Then raw mode counts as off.
     pub fn enable_raw_mode(&mut self) -> io::Result<()>
         ensures already { IsTrue (is_some self.old.prior) → IsOk result × (self.new ≡ self.old) }
-        ensures ok { OnOk result (self.old.prior ≡ None → self.new.prior ≡ Some (D.stands self.old.device)) }
+        ensures ok { OnOk result (self.old.prior ≡ None → self.new.prior ≡ Some (D.current self.old.device)) }
         ensures asked { self.old.prior ≡ None → SwitchesOn D.answered self.old result self.new }
         ensures refused { OnErr result (self.new.prior ≡ None) }
         ensures rise { D.failed self.old.device ≤ D.failed self.new.device }
@@ -173,7 +173,7 @@ impl<D: ModeDevice, A: Allocator + Clone> Terminal<D, A> {
     pub fn disable_raw_mode(&mut self) -> io::Result<()>
         ensures already { self.old.prior ≡ None → IsOk result × (self.new ≡ self.old) }
         ensures prior { OnOk result (self.new.prior ≡ None) }
-        ensures ok { OnOk result (IsTrue (is_some self.old.prior) → Some (D.stands self.new.device) ≡ self.old.prior) }
+        ensures ok { OnOk result (IsTrue (is_some self.old.prior) → Some (D.current self.new.device) ≡ self.old.prior) }
         ensures asked { IsTrue (is_some self.old.prior) → SwitchesOff D.answered self.old result self.new }
         ensures refused { OnErr result (self.new.prior ≡ self.old.prior) }
         ensures rise { D.failed self.old.device ≤ D.failed self.new.device }
@@ -217,7 +217,7 @@ impl<D: ModeDevice, A: Allocator + Clone> Terminal<D, A> {
     /// let (columns, rows) = term.size(b"", b"")?;
     /// ```
     pub fn size(&mut self, columns: &[u8], lines: &[u8]) -> io::Result<(u16, u16)>
-        ensures size { (told : Result WindowSize Error) × D.answered self.old.device (Sizes told) self.new.device × (result ≡ told_size told columns.now lines.now) }
+        ensures size { (got : Result WindowSize Error) × D.answered self.old.device (Sizes got) self.new.device × (result ≡ window_size got columns.now lines.now) }
         ensures prior { self.new.prior ≡ self.old.prior }
         ensures rise { D.failed self.old.device ≤ D.failed self.new.device }
         ensures err { OnErr result (Refuses (D.failed self.old.device) (D.failed self.new.device)) }
@@ -276,9 +276,9 @@ pub fn supports_keyboard_enhancement<
     requires { IsPassOf reader.now pass.old }
     ensures pass { IsPassOf reader.now pass.new }
     ensures query { (flags : Result (Option KeyboardEnhancementFlags) Error) × (result_map_both is_some (λ e. e) flags ≡ result)
-        × InRawMode D.stands D.answered D.failed term.old term.new ((W.contents out.new ≡ W.contents out.old) × (knows pass.new ≡ knows pass.old))
-        (Queries (W.contents out.old) (W.contents out.new) keyboard_query (knows pass.new ≡ knows pass.old) (λ r. InTwoSeconds (λ limit. AsksKeyboard S.drawn S.asked limit (IsFirst C.told C.began clock.old clock.new) (C.told clock.new) (knows pass.old) (knows pass.new) r))) flags }
-    ensures later { C.told clock.old ≤ C.told clock.new }
+        × InRawMode D.current D.answered D.failed term.old term.new ((W.contents out.new ≡ W.contents out.old) × (knows pass.new ≡ knows pass.old))
+        (Queries (W.contents out.old) (W.contents out.new) keyboard_query (knows pass.new ≡ knows pass.old) (λ r. InTwoSeconds (λ limit. AsksKeyboard S.drawn S.asked limit (IsFirst C.latest C.began clock.old clock.new) (C.latest clock.new) (knows pass.old) (knows pass.new) r))) flags }
+    ensures later { C.latest clock.old ≤ C.latest clock.new }
     ensures first { KeepsFirst C.began clock.old clock.new }
 {
     match query_keyboard_enhancement_flags(rt, term, reader, pass, out, clock) {
@@ -315,9 +315,9 @@ pub fn query_keyboard_enhancement_flags<
 ) -> io::Result<Option<KeyboardEnhancementFlags>>
     requires { IsPassOf reader.now pass.old }
     ensures pass { IsPassOf reader.now pass.new }
-    ensures query { InRawMode D.stands D.answered D.failed term.old term.new ((W.contents out.new ≡ W.contents out.old) × (knows pass.new ≡ knows pass.old))
-        (Queries (W.contents out.old) (W.contents out.new) keyboard_query (knows pass.new ≡ knows pass.old) (λ r. InTwoSeconds (λ limit. AsksKeyboard S.drawn S.asked limit (IsFirst C.told C.began clock.old clock.new) (C.told clock.new) (knows pass.old) (knows pass.new) r))) result }
-    ensures later { C.told clock.old ≤ C.told clock.new }
+    ensures query { InRawMode D.current D.answered D.failed term.old term.new ((W.contents out.new ≡ W.contents out.old) × (knows pass.new ≡ knows pass.old))
+        (Queries (W.contents out.old) (W.contents out.new) keyboard_query (knows pass.new ≡ knows pass.old) (λ r. InTwoSeconds (λ limit. AsksKeyboard S.drawn S.asked limit (IsFirst C.latest C.began clock.old clock.new) (C.latest clock.new) (knows pass.old) (knows pass.new) r))) result }
+    ensures later { C.latest clock.old ≤ C.latest clock.new }
     ensures first { KeepsFirst C.began clock.old clock.new }
 {
     if term.is_raw_mode_enabled()? {
@@ -354,8 +354,8 @@ fn flags_raw<
     requires raw { IsTrue (is_some _term.now.prior) }
     requires pass { IsPassOf reader.now pass.old }
     ensures pass { IsPassOf reader.now pass.new }
-    ensures query { Queries (W.contents out.old) (W.contents out.new) keyboard_query (knows pass.new ≡ knows pass.old) (λ r. InTwoSeconds (λ limit. AsksKeyboard S.drawn S.asked limit (IsFirst C.told C.began clock.old clock.new) (C.told clock.new) (knows pass.old) (knows pass.new) r)) result }
-    ensures later { C.told clock.old ≤ C.told clock.new }
+    ensures query { Queries (W.contents out.old) (W.contents out.new) keyboard_query (knows pass.new ≡ knows pass.old) (λ r. InTwoSeconds (λ limit. AsksKeyboard S.drawn S.asked limit (IsFirst C.latest C.began clock.old clock.new) (C.latest clock.new) (knows pass.old) (knows pass.new) r)) result }
+    ensures later { C.latest clock.old ≤ C.latest clock.new }
     ensures first { KeepsFirst C.began clock.old clock.new }
 {
     match send_query(out, csi!("?u", "\x1b[c")) {

@@ -128,10 +128,10 @@ impl<S: EventSource<A>, A: Allocator> Room<S, A> {
         requires seat { queue.IsPassOf self.now.slot seat.old }
         requires opened { (o : ReaderState S) × ((view seat.old).opening ≡ Some o) }
         ensures seat { IsSamePass seat.old seat.new }
-        ensures later { C.told clock.old ≤ C.told clock.new }
+        ensures later { C.latest clock.old ≤ C.latest clock.new }
         ensures first { KeepsFirst C.began clock.old clock.new }
         ensures taken { IfSome result (λ x. Took S.drawn (view seat.old) x.value (view seat.new)) }
-        ensures passed { IfNone result ((view seat.new ≡ view seat.old) × HasElapsed timeout.now (C.told clock.new)) }
+        ensures passed { IfNone result ((view seat.new ≡ view seat.old) × HasElapsed timeout.now (C.latest clock.new)) }
     {
         for _ in rt.forever() {
             let seen = self.puts.notifications();

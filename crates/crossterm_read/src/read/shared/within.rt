@@ -46,8 +46,8 @@ impl<S: EventSource<A>, A: Allocator + Clone> EventReader<S, A> {
     ) -> io::Result<Option<Event<A>>>
         requires { IsPassOf self.now pass.old }
         ensures pass { IsPassOf self.now pass.new }
-        ensures call { ReadsFor S.drawn S.asked filters.Event limit (IsFirst C.told C.began clock.old clock.new) (C.told clock.new) (knows pass.old) (knows pass.new) result }
-        ensures later { C.told clock.old ≤ C.told clock.new }
+        ensures call { ReadsFor S.drawn S.asked filters.Event limit (IsFirst C.latest C.began clock.old clock.new) (C.latest clock.new) (knows pass.old) (knows pass.new) result }
+        ensures later { C.latest clock.old ≤ C.latest clock.new }
         ensures first { KeepsFirst C.began clock.old clock.new }
         // A wake-up is no error.
         ensures awake { IfErr result (λ e. error_kind e ≢ Interrupted) }

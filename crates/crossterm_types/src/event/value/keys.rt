@@ -7,7 +7,8 @@ ghost use Rattle.crossterm_types.specs.Values.{FitsCode, FitsKey, code_value, ho
 use crate::event::{KeyCode, KeyEvent, KeyEventState, KeyModifiers};
 use crossterm_flags::ValueFault;
 use crossterm_flags::value::{
-    read_byte, read_four, read_member, read_named, shaped, tell_member, tell_named, tell_text,
+    member_to_json, name_to_json, read_byte, read_four, read_member, read_named, shaped,
+    text_to_json,
 };
 use serde_json::{Value, json};
 use std::alloc::Global;
@@ -34,28 +35,28 @@ impl KeyCode {
     /// # Errors
     ///
     /// `Memory` if memory for it was refused.
-    #[tactic(auto, using(crate::proofs::ValueLaws::code_back, crossterm_flags::proofs::ValueLaws::told_back))]
+    #[tactic(auto, using(crate::proofs::ValueLaws::code_back, crossterm_flags::proofs::ValueLaws::json_back))]
     pub fn to_value(&self, alloc: Global) -> Result<Value, ValueFault>
-        ensures tells { WritesJson (code_value self.now) result }
+        ensures json { WritesJson (code_value self.now) result }
         ensures back { IfOk result (λ v. reads_code (view v) ≡ Some self.now) }
     {
         self.known();
-        self.tell(alloc)
+        self.as_json(alloc)
     }
 
     /// The key as JSON.
-    fn tell(self, alloc: Global) -> Result<Value, ValueFault>
+    fn as_json(self, alloc: Global) -> Result<Value, ValueFault>
         ensures { WritesJson (code_value self) result }
     {
         match self {
-            KeyCode::F(number) => tell_member(alloc, "F", Value::from(number)),
+            KeyCode::F(number) => member_to_json(alloc, "F", Value::from(number)),
             KeyCode::Char(c) => {
-                let text = tell_text(alloc, c.encode_utf8(&mut [0; 4]))?;
-                tell_member(alloc, "Char", text)
+                let text = text_to_json(alloc, c.encode_utf8(&mut [0; 4]))?;
+                member_to_json(alloc, "Char", text)
             }
-            KeyCode::Media(key) => tell_member(alloc, "Media", key.to_value(alloc)?),
-            KeyCode::Modifier(key) => tell_member(alloc, "Modifier", key.to_value(alloc)?),
-            plain => tell_named(alloc, plain),
+            KeyCode::Media(key) => member_to_json(alloc, "Media", key.to_value(alloc)?),
+            KeyCode::Modifier(key) => member_to_json(alloc, "Modifier", key.to_value(alloc)?),
+            plain => name_to_json(alloc, plain),
         }
     }
 
@@ -110,17 +111,17 @@ impl KeyEvent {
     /// # Errors
     ///
     /// `Memory` if memory for it was refused.
-    #[tactic(auto, using(crate::proofs::ValueLaws::key_back, crossterm_flags::proofs::ValueLaws::told_back))]
+    #[tactic(auto, using(crate::proofs::ValueLaws::key_back, crossterm_flags::proofs::ValueLaws::json_back))]
     pub fn to_value(&self, alloc: Global) -> Result<Value, ValueFault>
-        ensures tells { WritesJson (key_value self.now) result }
+        ensures json { WritesJson (key_value self.now) result }
         ensures back { IfOk result (λ v. reads_key (view v) ≡ Some self.now) }
     {
         self.known();
-        self.tell(alloc)
+        self.as_json(alloc)
     }
 
     /// The key as JSON.
-    fn tell(self, alloc: Global) -> Result<Value, ValueFault>
+    fn as_json(self, alloc: Global) -> Result<Value, ValueFault>
         ensures { WritesJson (key_value self) result }
     {
         let code = self.code.to_value(alloc)?;

@@ -7,7 +7,7 @@ ghost use Rattle.crossterm_types.specs.Values.{FitsMouse, holding_mouse, mouse_k
 use crate::event::{KeyModifiers, MouseEvent, MouseEventKind};
 use crossterm_flags::ValueFault;
 use crossterm_flags::value::{
-    read_byte, read_four, read_member, read_named, read_word, shaped, tell_member, tell_named,
+    member_to_json, name_to_json, read_byte, read_four, read_member, read_named, read_word, shaped,
 };
 use serde_json::{Value, json};
 use std::alloc::Global;
@@ -18,16 +18,16 @@ impl MouseEventKind {
     /// # Errors
     ///
     /// `Memory` if memory for it was refused.
-    #[tactic(auto, using(crate::proofs::ValueLaws::mouse_kind_back, crossterm_flags::proofs::ValueLaws::told_back))]
+    #[tactic(auto, using(crate::proofs::ValueLaws::mouse_kind_back, crossterm_flags::proofs::ValueLaws::json_back))]
     pub fn to_value(&self, alloc: Global) -> Result<Value, ValueFault>
-        ensures tells { WritesJson (mouse_kind_value self.now) result }
+        ensures json { WritesJson (mouse_kind_value self.now) result }
         ensures back { IfOk result (λ v. reads_mouse_kind (view v) ≡ Some self.now) }
     {
         match self {
-            MouseEventKind::Down(button) => tell_member(alloc, "Down", button.to_value(alloc)?),
-            MouseEventKind::Up(button) => tell_member(alloc, "Up", button.to_value(alloc)?),
-            MouseEventKind::Drag(button) => tell_member(alloc, "Drag", button.to_value(alloc)?),
-            plain => tell_named(alloc, *plain),
+            MouseEventKind::Down(button) => member_to_json(alloc, "Down", button.to_value(alloc)?),
+            MouseEventKind::Up(button) => member_to_json(alloc, "Up", button.to_value(alloc)?),
+            MouseEventKind::Drag(button) => member_to_json(alloc, "Drag", button.to_value(alloc)?),
+            plain => name_to_json(alloc, *plain),
         }
     }
 
@@ -79,17 +79,17 @@ impl MouseEvent {
     /// # Errors
     ///
     /// `Memory` if memory for it was refused.
-    #[tactic(auto, using(crate::proofs::ValueLaws::mouse_back, crossterm_flags::proofs::ValueLaws::told_back))]
+    #[tactic(auto, using(crate::proofs::ValueLaws::mouse_back, crossterm_flags::proofs::ValueLaws::json_back))]
     pub fn to_value(&self, alloc: Global) -> Result<Value, ValueFault>
-        ensures tells { WritesJson (mouse_value self.now) result }
+        ensures json { WritesJson (mouse_value self.now) result }
         ensures back { IfOk result (λ v. reads_mouse (view v) ≡ Some self.now) }
     {
         self.known();
-        self.tell(alloc)
+        self.as_json(alloc)
     }
 
     /// The mouse event as JSON.
-    fn tell(self, alloc: Global) -> Result<Value, ValueFault>
+    fn as_json(self, alloc: Global) -> Result<Value, ValueFault>
         ensures { WritesJson (mouse_value self) result }
     {
         let kind = self.kind.to_value(alloc)?;

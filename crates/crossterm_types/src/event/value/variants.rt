@@ -9,7 +9,7 @@ ghost use Rattle.crossterm_types.specs.Variants.{buttons, kinds, media_keys, mod
 use crate::event::{
     KeyCode, KeyEventKind, MediaKeyCode, ModifierKeyCode, MouseButton, MouseEventKind,
 };
-use crossterm_flags::value::{Named, read_named, shaped, tell_named};
+use crossterm_flags::value::{Named, name_to_json, read_named, shaped};
 use crossterm_flags::{ValueFault, named_variants};
 use serde_json::Value;
 use std::alloc::Global;
@@ -28,12 +28,12 @@ impl KeyEventKind {
     /// # Errors
     ///
     /// `Memory` if memory for it was refused.
-    #[tactic(auto, using(crate::proofs::ValueLaws::kind_back, crossterm_flags::proofs::ValueLaws::told_back))]
+    #[tactic(auto, using(crate::proofs::ValueLaws::kind_back, crossterm_flags::proofs::ValueLaws::json_back))]
     pub fn to_value(&self, alloc: Global) -> Result<Value, ValueFault>
-        ensures tells { WritesJson (string (variant kinds self.now)) result }
+        ensures json { WritesJson (string (variant kinds self.now)) result }
         ensures back { IfOk result (λ v. reads_variant kinds (view v) ≡ Some self.now) }
     {
-        tell_named(alloc, *self)
+        name_to_json(alloc, *self)
     }
 
     /// The kind whose variant a JSON text is. It takes no memory.
@@ -65,12 +65,12 @@ impl MediaKeyCode {
     /// # Errors
     ///
     /// `Memory` if memory for it was refused.
-    #[tactic(auto, using(crate::proofs::ValueLaws::media_back, crossterm_flags::proofs::ValueLaws::told_back))]
+    #[tactic(auto, using(crate::proofs::ValueLaws::media_back, crossterm_flags::proofs::ValueLaws::json_back))]
     pub fn to_value(&self, alloc: Global) -> Result<Value, ValueFault>
-        ensures tells { WritesJson (string (variant media_keys self.now)) result }
+        ensures json { WritesJson (string (variant media_keys self.now)) result }
         ensures back { IfOk result (λ v. reads_variant media_keys (view v) ≡ Some self.now) }
     {
-        tell_named(alloc, *self)
+        name_to_json(alloc, *self)
     }
 
     /// The key whose variant a JSON text is. It takes no memory.
@@ -102,12 +102,12 @@ impl ModifierKeyCode {
     /// # Errors
     ///
     /// `Memory` if memory for it was refused.
-    #[tactic(auto, using(crate::proofs::ValueLaws::modifier_back, crossterm_flags::proofs::ValueLaws::told_back))]
+    #[tactic(auto, using(crate::proofs::ValueLaws::modifier_back, crossterm_flags::proofs::ValueLaws::json_back))]
     pub fn to_value(&self, alloc: Global) -> Result<Value, ValueFault>
-        ensures tells { WritesJson (string (variant modifier_keys self.now)) result }
+        ensures json { WritesJson (string (variant modifier_keys self.now)) result }
         ensures back { IfOk result (λ v. reads_variant modifier_keys (view v) ≡ Some self.now) }
     {
-        tell_named(alloc, *self)
+        name_to_json(alloc, *self)
     }
 
     /// The key whose variant a JSON text is. It takes no memory.
@@ -136,12 +136,12 @@ impl MouseButton {
     /// # Errors
     ///
     /// `Memory` if memory for it was refused.
-    #[tactic(auto, using(crate::proofs::ValueLaws::button_back, crossterm_flags::proofs::ValueLaws::told_back))]
+    #[tactic(auto, using(crate::proofs::ValueLaws::button_back, crossterm_flags::proofs::ValueLaws::json_back))]
     pub fn to_value(&self, alloc: Global) -> Result<Value, ValueFault>
-        ensures tells { WritesJson (string (variant buttons self.now)) result }
+        ensures json { WritesJson (string (variant buttons self.now)) result }
         ensures back { IfOk result (λ v. reads_variant buttons (view v) ≡ Some self.now) }
     {
-        tell_named(alloc, *self)
+        name_to_json(alloc, *self)
     }
 
     /// The button whose variant a JSON text is. It takes no memory.

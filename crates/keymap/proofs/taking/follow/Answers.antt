@@ -1,6 +1,6 @@
 use Rattle.std.proofs.Common.{[], ◌∷◌, ◌++◌, refl, ap, ◌∙◌}
 use Rattle.crossterm_types.specs.Seen.{seen_event}
-use Rattle.keymap.specs.Told.{Event}
+use Rattle.keymap.specs.Outcomes.{Event}
 use Rattle.keymap.specs.inside.Giving.{state_of}
 use Rattle.keymap.proofs.Steps.{followed}
 use Rattle.keymap.proofs.taking.follow.Goals as goal

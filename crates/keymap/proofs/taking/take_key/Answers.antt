@@ -1,7 +1,7 @@
 use Rattle.std.proofs.Common.{◌++◌, map, refl, ap, ◌∙◌}
 use Rattle.keymap.specs.Bindings.{bound_of}
 use Rattle.keymap.specs.Cut.{given, left}
-use Rattle.keymap.specs.Told.{outcome_seen}
+use Rattle.keymap.specs.Outcomes.{outcome_seen}
 use Rattle.keymap.specs.inside.Giving.{state_of}
 use Rattle.keymap.proofs.Giving.{fed}
 use Rattle.keymap.proofs.taking.take_key.Goals as goal

@@ -28,17 +28,17 @@ returns-clause-texts g c =
 
 pub returns-clause-reads : goal.returns-clause-reads
 returns-clause-reads g c readable =
-    let told = flat_map (functions c.args.colors) c.args.commands.now in
+    let all_tokens = flat_map (functions c.args.colors) c.args.commands.now in
     let read = commands_read c.args.colors c.args.commands.now readable in
-    (text_of told, returns-clause-texts g c, read, λ us other. one_reading (text_of told) us told other read)
+    (text_of all_tokens, returns-clause-texts g c, read, λ us other. one_reading (text_of all_tokens) us all_tokens other read)
 
 pub returns-clause-shown : goal.returns-clause-shown
 returns-clause-shown g c readable =
-    let told = flat_map (functions c.args.colors) c.args.commands.now in
+    let all_tokens = flat_map (functions c.args.colors) c.args.commands.now in
     let at = c.loop-command.command-index in
     let all : take at c.args.commands.now ≡ c.args.commands.now = take_all at c.args.commands.now (search rules) in
     let fits = subst (λ cs. AllByRecursion FitsAct (flat_map acts cs)) all c.loop-command.invariant.1 in
-    (text_of told, returns-clause-texts g c, told, commands_read c.args.colors c.args.commands.now readable, commands_show c.args.colors c.args.commands.now fits)
+    (text_of all_tokens, returns-clause-texts g c, all_tokens, commands_read c.args.colors c.args.commands.now readable, commands_show c.args.colors c.args.commands.now fits)
 
 pub returns-in-Err-clause-err : goal.returns-in-Err-clause-err
 returns-in-Err-clause-err g c =

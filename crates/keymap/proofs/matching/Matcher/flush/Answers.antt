@@ -2,7 +2,7 @@ use Rattle.std.proofs.Common.{◌≡◌, ◌++◌, map, refl, ap, ◌∙◌, sub
 use Rattle.keymap.specs.Bindings.{bound_of}
 use Rattle.keymap.specs.Cut.{cut_keys}
 use Rattle.keymap.specs.Matching.{MatcherState, IsFlushed, outcome_capacity, with_room}
-use Rattle.keymap.specs.Told.{outcome_seen}
+use Rattle.keymap.specs.Outcomes.{outcome_seen}
 use Rattle.keymap.specs.inside.Giving.{state_of}
 use Rattle.keymap.specs.inside.Room.{matcher_of}
 use Rattle.keymap.proofs.Giving.{flushed}

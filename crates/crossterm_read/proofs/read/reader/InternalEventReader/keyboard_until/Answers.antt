@@ -13,11 +13,11 @@ use Rattle.crossterm_read.proofs.Querying.{last_query}
 use Rattle.crossterm_read.proofs.read.reader.InternalEventReader.keyboard_until.Goals as goal
 
 pub attributes_after-left-requires : goal.attributes_after-left-requires
-attributes_after-left-requires g c = let start = ap as_nanos c.new-timeout.ensures.start ∙ c.now.ensures.told in omega arith
+attributes_after-left-requires g c = let start = ap as_nanos c.new-timeout.ensures.start ∙ c.now.ensures.latest in omega arith
 
 pub returns-in-Some-clause-step : goal.returns-in-Some-clause-step
 returns-in-Some-clause-step g c =
-    let start = ap as_nanos c.new-timeout.ensures.start ∙ c.now.ensures.told in
+    let start = ap as_nanos c.new-timeout.ensures.start ∙ c.now.ensures.latest in
     let second = as_nanos c.new-timeout.result.start in
     let e = c.in-Ok.ensures.step in
     let x = kept c.in-Ok.taken in
@@ -25,12 +25,12 @@ returns-in-Some-clause-step g c =
     let y = option_map kept c.attributes_after-left.result in
     let m = c.query_while.new.self.store in
     let t = c.attributes_after-left.new.self.store in
-    let last = g.C.Clock.told c.attributes_after-left.new.clock in
+    let last = g.C.Clock.latest c.attributes_after-left.new.clock in
     let past = last - second in
     let again = Within (Some c.args.again) past in
     let left : AfterReply again d.0 false x m t (ToQuery x y) = subst (λ (limit : Option Duration). AfterReply (Within limit past) d.0 false x m t (ToQuery x y)) c.new-timeout.ensures.limit d.2 in
     let after : AfterReply again d.0 (is_attributes x.0) x m t (ToQuery x y) = subst (λ (z : Seen). AfterReply again d.0 (is_attributes z) x m t (ToQuery x y)) (sym c.in-Some.ensures) left in (
-      g.C.Clock.told c.query_while.new.clock,
+      g.C.Clock.latest c.query_while.new.clock,
       second,
       c.query_while.ensures.later,
       omega (arith, start, c.now.ensures.later),
@@ -55,7 +55,7 @@ returns-in-Ok-clause-step g c =
     let e = c.in-Ok.ensures.step in
     let x = kept c.in-Ok.taken in
     let m = c.query_while.new.self.store in
-    let between = g.C.Clock.told c.query_while.new.clock in
+    let between = g.C.Clock.latest c.query_while.new.clock in
     let again = Within (Some c.args.again) (between - between) in
     let after : AfterReply again [] (is_attributes x.0) x m m (ToTake (Some x)) = subst (λ (z : Seen). AfterReply again [] (is_attributes z) x m m (ToTake (Some x))) (sym c.in-None.ensures) (refl, refl, refl) in (
       between,
@@ -79,8 +79,8 @@ pub returns-clause-step : goal.returns-clause-step
 returns-clause-step g c =
     let e = c.in-Err.ensures.step in
     let fault = Fault (error_kind c.in-Err.error) in (
-      g.C.Clock.told c.query_while.new.clock,
-      g.C.Clock.told c.query_while.new.clock,
+      g.C.Clock.latest c.query_while.new.clock,
+      g.C.Clock.latest c.query_while.new.clock,
       c.query_while.ensures.later,
       omega arith,
       omega arith,

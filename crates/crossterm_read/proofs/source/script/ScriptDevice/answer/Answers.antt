@@ -16,9 +16,9 @@ returns-then-self-len-clause-answered g c =
     let same = λ (n : ℕ). words_at acts next n c.index-act.result.now (omega arith) c.index-act.ensures ∙ ap (λ (a : Act g.row.A.Denot). device_answers_from (a ∷ drop (next + 1) acts) n) c.in-Piece.is in
     let bytes = c.in-Piece.bytes.items in
     let rest : take (length c.deref.result.now - at) (drop at c.deref.result.now) ≡ drop at bytes = take_rest c.deref.result.now at ∙ ap (λ (l : List ℕ). drop at l) c.deref.ensures.value in (
-      piece_step (drop at c.in-Piece.bytes.items) (drop (at + c.tell-count.result) c.in-Piece.bytes.items) _ c.in-Piece.raw (device_answers (drop (next + 1) acts)) _ _
-          (omega (arith, length-drop at bytes)) (drop_answered bytes at c.tell-count.result (c.tell-count.ensures.count ∙ ap (λ (l : List ℕ). min 1024 (length l)) rest))
-          (c.tell-count.ensures.answered ∙ ap (λ (l : List ℕ). take 1024 l) rest) (sym (same at) ∙ c.loop-self.invariant.left) (sym (same (at + c.tell-count.result))),
+      piece_step (drop at c.in-Piece.bytes.items) (drop (at + c.fill-count.result) c.in-Piece.bytes.items) _ c.in-Piece.raw (device_answers (drop (next + 1) acts)) _ _
+          (omega (arith, length-drop at bytes)) (drop_answered bytes at c.fill-count.result (c.fill-count.ensures.count ∙ ap (λ (l : List ℕ). min 1024 (length l)) rest))
+          (c.fill-count.ensures.answered ∙ ap (λ (l : List ℕ). take 1024 l) rest) (sym (same at) ∙ c.loop-self.invariant.left) (sym (same (at + c.fill-count.result))),
       omega arith,
     )
 

@@ -13,21 +13,21 @@ pub take_within-requires-clause-opened : goal.take_within-requires-clause-opened
 take_within-requires-clause-opened g c = some_there _ c.args.pass.now.sits.opened
 
 pub keyboard_until-taken-requires : goal.keyboard_until-taken-requires
-keyboard_until-taken-requires g c = let start = ap as_nanos c.new-timeout.ensures.start ∙ c.now-start.ensures.told in omega (arith, c.take_within.ensures.later)
+keyboard_until-taken-requires g c = let start = ap as_nanos c.new-timeout.ensures.start ∙ c.now-start.ensures.latest in omega (arith, c.take_within.ensures.later)
 
 pub put-requires-clause-produces : goal.put-requires-clause-produces
 put-requires-clause-produces g c =
     let start = ap as_nanos c.new-timeout.ensures.start in
     let s = c.keyboard_until-taken.ensures.step in
     let first = s.0 - as_nanos c.new-timeout.result.start in
-    let past = g.C.Clock.told c.keyboard_until-taken.new.clock - s.1 in
+    let past = g.C.Clock.latest c.keyboard_until-taken.new.clock - s.1 in
     let again = Within (Some c.args.limit) past in
     let step = subst (λ (limit : Option Duration). KeyboardStep (Within limit first) again s.5 c.deref_mut.result.now.store c.keyboard_until-taken.new.self.store s.6) c.new-timeout.ensures.limit s.8 in
     produces g.S.EventSource.drawn _ _ _ c.deref_mut.result.now c.keyboard_until-taken.new.self (taken_at g.S.EventSource.drawn _ _ _ _ c.deref_mut.ensures.value c.in-Some.ensures.taken) (Keyboard (Within (Some c.args.limit) first) again) s.5 s.6 (
       (
         s.0,
         s.1,
-        omega (arith, start, c.now-start.ensures.told, c.take_within.ensures.later, s.2),
+        omega (arith, start, c.now-start.ensures.latest, c.take_within.ensures.later, s.2),
         s.3,
         s.4,
         record {
@@ -54,7 +54,7 @@ pub returns-clause-call : goal.returns-clause-call
 returns-clause-call g c =
     let x = extends g.S.EventSource.drawn _ (view c.args.pass.now.seat) (view c.take_within.new.seat) (view c.put.new.seat) c.in-Some.reader.value c.keyboard_until-taken.new.self c.requires.1 c.in-Some.ensures.taken c.put.ensures.put in (
       as_nanos c.now-start.result,
-      first_of g.C.Clock.told g.C.Clock.began _ _ _ _ c.now-start.ensures.told c.now-start.ensures.later (omega (arith, c.take_within.ensures.later, c.keyboard_until-taken.ensures.later)) c.now-start.ensures.first
+      first_of g.C.Clock.latest g.C.Clock.began _ _ _ _ c.now-start.ensures.latest c.now-start.ensures.later (omega (arith, c.take_within.ensures.later, c.keyboard_until-taken.ensures.later)) c.now-start.ensures.first
           (λ from start b. c.keyboard_until-taken.ensures.first _ _ (c.take_within.ensures.first _ _ b)),
       inl (x.call.reply, c.flagged.ensures ∙ x.such.1, extends_at g.S.EventSource.drawn _ _ _ _ x x.such.0),
     )

@@ -8,6 +8,6 @@ use Rattle.crossterm_read.proofs.read.shared.reader.EventReader.keyboard_by.Give
 
 abbrev pub ghosts-put : goal.ghosts-put
 ghosts-put g a = record {
-  made = λ found e left. IsKeyboard g.S.EventSource.asked (Some a._about.now.0) (as_nanos a._about.now.1) (g.C.Clock.told a._about.now.2.now) e.reply found e left × (flags_said a._about.now.3.now ≡ shown e.reply)
+  made = λ found e left. IsKeyboard g.S.EventSource.asked (Some a._about.now.0) (as_nanos a._about.now.1) (g.C.Clock.latest a._about.now.2.now) e.reply found e left × (flags_said a._about.now.3.now ≡ shown e.reply)
       × ((n : Option ℕ) → last_taken n e.reply ≡ last_said n a._about.now.3.now);
 }

@@ -14,12 +14,12 @@ pub take_within-requires-clause-opened : goal.take_within-requires-clause-opened
 take_within-requires-clause-opened g c = some_there _ c.args.pass.now.sits.opened
 
 pub poll_while-result-requires : goal.poll_while-result-requires
-poll_while-result-requires g c = let start = ap as_nanos c.new-timeout.ensures.start ∙ c.now-start.ensures.told in omega (arith, c.take_within.ensures.later)
+poll_while-result-requires g c = let start = ap as_nanos c.new-timeout.ensures.start ∙ c.now-start.ensures.latest in omega (arith, c.take_within.ensures.later)
 
 pub put-requires-clause-produces : goal.put-requires-clause-produces
 put-requires-clause-produces g c =
     let start = ap as_nanos c.new-timeout.ensures.start in
-    let past = g.C.Clock.told c.poll_while-result.new.clock - as_nanos c.new-timeout.result.start in
+    let past = g.C.Clock.latest c.poll_while-result.new.clock - as_nanos c.new-timeout.result.start in
     let e = c.poll_while-result.ensures.step in
     let step = subst (λ (limit : Option Duration). PollStep (Within limit past) (admitted c.args.filter) e.0 c.deref_mut.result.now.store c.poll_while-result.new.self.store (poll_reply c.poll_while-result.result)) c.new-timeout.ensures.limit e.2 in
     produces g.S.EventSource.drawn _ _ _ c.deref_mut.result.now c.poll_while-result.new.self (taken_at g.S.EventSource.drawn _ _ _ _ c.deref_mut.ensures.value c.in-Some.ensures.taken) (Poll (Within c.args.limit past) c.args.filter) e.0 (replied (poll_reply c.poll_while-result.result))
@@ -41,7 +41,7 @@ invariant_of-pass-2 g c = record {
 pub returns-clause-call : goal.returns-clause-call
 returns-clause-call g c = (
   as_nanos c.now-start.result,
-  first_of g.C.Clock.told g.C.Clock.began _ _ _ _ c.now-start.ensures.told c.now-start.ensures.later (omega (arith, c.take_within.ensures.later, c.poll_while-result.ensures.later)) c.now-start.ensures.first
+  first_of g.C.Clock.latest g.C.Clock.began _ _ _ _ c.now-start.ensures.latest c.now-start.ensures.later (omega (arith, c.take_within.ensures.later, c.poll_while-result.ensures.later)) c.now-start.ensures.first
       (λ from start b. c.poll_while-result.ensures.first _ _ (c.take_within.ensures.first _ _ b)),
   inl (extends g.S.EventSource.drawn _ (view c.args.pass.now.seat) (view c.take_within.new.seat) (view c.put.new.seat) c.in-Some.reader.value c.poll_while-result.new.self c.requires.1 c.in-Some.ensures.taken c.put.ensures.put),
 )

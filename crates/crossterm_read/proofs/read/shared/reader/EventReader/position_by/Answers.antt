@@ -15,12 +15,12 @@ pub take_within-requires-clause-opened : goal.take_within-requires-clause-opened
 take_within-requires-clause-opened g c = some_there _ c.args.pass.now.sits.opened
 
 pub query_while-taken-requires : goal.query_while-taken-requires
-query_while-taken-requires g c = let start = ap as_nanos c.new-timeout.ensures.start ∙ c.now-start.ensures.told in omega (arith, c.take_within.ensures.later)
+query_while-taken-requires g c = let start = ap as_nanos c.new-timeout.ensures.start ∙ c.now-start.ensures.latest in omega (arith, c.take_within.ensures.later)
 
 pub put-requires-clause-produces : goal.put-requires-clause-produces
 put-requires-clause-produces g c =
     let start = ap as_nanos c.new-timeout.ensures.start in
-    let past = g.C.Clock.told c.query_while-taken.new.clock - as_nanos c.new-timeout.result.start in
+    let past = g.C.Clock.latest c.query_while-taken.new.clock - as_nanos c.new-timeout.result.start in
     let e = c.query_while-taken.ensures.step in
     let step = subst (λ (limit : Option Duration). QueryStep is_cursor_position (Within limit past) e.0 c.deref_mut.result.now.store c.query_while-taken.new.self.store (read_reply c.query_while-taken.result)) c.new-timeout.ensures.limit e.2 in
     produces g.S.EventSource.drawn _ _ _ c.deref_mut.result.now c.query_while-taken.new.self (taken_at g.S.EventSource.drawn _ _ _ _ c.deref_mut.ensures.value c.in-Some.ensures.taken) (Position (Within (Some c.args.limit) past)) e.0 (read_reply c.query_while-taken.result)
@@ -42,7 +42,7 @@ invariant_of-pass-2 g c = record {
 pub returns-clause-call : goal.returns-clause-call
 returns-clause-call g c = (
   as_nanos c.now-start.result,
-  first_of g.C.Clock.told g.C.Clock.began _ _ _ _ c.now-start.ensures.told c.now-start.ensures.later (omega (arith, c.take_within.ensures.later, c.query_while-taken.ensures.later)) c.now-start.ensures.first
+  first_of g.C.Clock.latest g.C.Clock.began _ _ _ _ c.now-start.ensures.latest c.now-start.ensures.later (omega (arith, c.take_within.ensures.later, c.query_while-taken.ensures.later)) c.now-start.ensures.first
       (λ from start b. c.query_while-taken.ensures.first _ _ (c.take_within.ensures.first _ _ b)),
   inl (
     read_reply c.query_while-taken.result,

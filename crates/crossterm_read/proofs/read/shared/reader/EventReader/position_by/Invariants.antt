@@ -6,5 +6,5 @@ use Rattle.crossterm_read.proofs.read.shared.reader.EventReader.position_by.Give
 
 abbrev pub ghosts-put : goal.ghosts-put
 ghosts-put g a = record {
-  made = IsPosition g.S.EventSource.asked (Some a._about.now.0) (as_nanos a._about.now.1) (g.C.Clock.told a._about.now.2.now) (read_reply a._about.now.3.now);
+  made = IsPosition g.S.EventSource.asked (Some a._about.now.0) (as_nanos a._about.now.1) (g.C.Clock.latest a._about.now.2.now) (read_reply a._about.now.3.now);
 }

@@ -16,12 +16,12 @@ pub take_within-requires-clause-opened : goal.take_within-requires-clause-opened
 take_within-requires-clause-opened g c = some_there _ c.args.pass.now.sits.opened
 
 pub read_while-tried-requires : goal.read_while-tried-requires
-read_while-tried-requires g c = let start = ap as_nanos c.new-timeout.ensures.start ∙ c.now-start.ensures.told in omega (arith, c.take_within.ensures.later)
+read_while-tried-requires g c = let start = ap as_nanos c.new-timeout.ensures.start ∙ c.now-start.ensures.latest in omega (arith, c.take_within.ensures.later)
 
 pub put-requires-clause-produces : goal.put-requires-clause-produces
 put-requires-clause-produces g c =
     let start = ap as_nanos c.new-timeout.ensures.start in
-    let past = g.C.Clock.told c.read_while-tried.new.clock - as_nanos c.new-timeout.result.start in
+    let past = g.C.Clock.latest c.read_while-tried.new.clock - as_nanos c.new-timeout.result.start in
     let e = c.read_while-tried.ensures.step in
     let tried = c.read_while-tried.result in
     let step = subst (λ (limit : Option Duration). Step (request_within (Within limit past) filters.Event tried) e.0 c.deref_mut.result.now.store c.read_while-tried.new.self.store (reply_within tried)) c.new-timeout.ensures.limit e.2 in
@@ -43,10 +43,10 @@ invariant_of-pass-2 g c = record {
 
 pub returns-clause-call : goal.returns-clause-call
 returns-clause-call g c =
-    let begun = first_of g.C.Clock.told g.C.Clock.began _ _ _ _ c.now-start.ensures.told c.now-start.ensures.later (omega (arith, c.take_within.ensures.later, c.read_while-tried.ensures.later)) c.now-start.ensures.first
+    let begun = first_of g.C.Clock.latest g.C.Clock.began _ _ _ _ c.now-start.ensures.latest c.now-start.ensures.later (omega (arith, c.take_within.ensures.later, c.read_while-tried.ensures.later)) c.now-start.ensures.first
     (λ from start b. c.read_while-tried.ensures.first _ _ (c.take_within.ensures.first _ _ b)) in
     let entry = extends g.S.EventSource.drawn _ (view c.args.pass.now.seat) (view c.take_within.new.seat) (view c.put.new.seat) c.in-Some.reader.value c.read_while-tried.new.self c.requires.1 c.in-Some.ensures.taken c.put.ensures.put in
-    reads_for g.S.EventSource.drawn g.S.EventSource.asked filters.Event c.args.limit (IsFirst g.C.Clock.told g.C.Clock.began c.args.clock.now c.read_while-tried.new.clock) (as_nanos c.now-start.result) (g.C.Clock.told c.read_while-tried.new.clock) _ _ begun
+    reads_for g.S.EventSource.drawn g.S.EventSource.asked filters.Event c.args.limit (IsFirst g.C.Clock.latest g.C.Clock.began c.args.clock.now c.read_while-tried.new.clock) (as_nanos c.now-start.result) (g.C.Clock.latest c.read_while-tried.new.clock) _ _ begun
     c.read_while-tried.result c.users_tried.result c.users_tried.ensures.reply entry
 
 pub returns-clause-first : goal.returns-clause-first

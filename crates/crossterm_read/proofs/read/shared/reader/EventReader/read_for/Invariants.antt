@@ -5,5 +5,5 @@ use Rattle.crossterm_read.proofs.read.shared.reader.EventReader.read_for.Given a
 
 abbrev pub ghosts-put : goal.ghosts-put
 ghosts-put g a = record {
-  made = IsReadOrPoll g.S.EventSource.asked filters.Event a._about.now.0 (as_nanos a._about.now.1) (g.C.Clock.told a._about.now.2.now) a._about.now.3.now;
+  made = IsReadOrPoll g.S.EventSource.asked filters.Event a._about.now.0 (as_nanos a._about.now.1) (g.C.Clock.latest a._about.now.2.now) a._about.now.3.now;
 }

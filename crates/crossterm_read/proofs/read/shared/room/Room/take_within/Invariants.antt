@@ -7,7 +7,7 @@ abbrev pub invariant-loop : goal.invariant-loop
 invariant-loop g l = record {
   seat : IsSamePass l.fn.seat l.seat;
   same : view l.seat ≡ view l.fn.seat;
-  later : g.C.Clock.told l.fn.clock ≤ g.C.Clock.told l.clock;
+  later : g.C.Clock.latest l.fn.clock ≤ g.C.Clock.latest l.clock;
   first : KeepsFirst g.C.Clock.began l.fn.clock l.clock;
   can : (goal.iterator-loop g).can_next l.iterator';
   ends : (goal.iterator-loop g).is_finite l.iterator';

@@ -1,8 +1,0 @@
-use Rattle.std.proofs.Common.{sym, subst}
-use Rattle.crossterm_flags.specs.Values.{WritesJson}
-use Rattle.crossterm_types.proofs.ValueLaws.{plain_told}
-use Rattle.crossterm_types.proofs.event.key.KeyCode.tell.Goals as goal
-
-pub returns-in_default : goal.returns-in_default
-returns-in_default c =
-    subst (λ d. WritesJson d c.tell_named.result) (sym (plain_told c.args.self c.in_default.not-F c.in_default.not-Char c.in_default.not-Media c.in_default.not-Modifier)) c.tell_named.ensures
