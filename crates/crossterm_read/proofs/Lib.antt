@@ -19,7 +19,7 @@ pub mod Results
 pub mod Rising
 pub mod Runs
 pub mod Scripts
-pub mod Seating
+pub mod Slotting
 pub mod Settled
 pub mod Sharing
 pub mod Storing

@@ -12,7 +12,7 @@ use Rattle.crossterm_read.specs.History.{Entry, Known, Meeting, StartsWith, Runs
 use Rattle.crossterm_read.specs.inside.Numbers.{IsOrderly}
 use Rattle.crossterm_read.specs.inside.Slot.{newcomer, first_pass, one_less, one_more, longer, taught, Agrees, Nobody, Holder, Open, SlotRule, Took, ProducesCall, Put, Learnt}
 use Rattle.crossterm_read.proofs.Histories.{runs_front, runs_snoc}
-use Rattle.crossterm_read.proofs.Seating.{head_same, tail_same, off, some_of, none_not, calls_by-append, calls_by-mine, calls_by-other, below, at_end, some_at, are_snoc, are_more, are_front, none_past, none_more, same_or_not, starts_on, first_there, longer_starts, longer_ours, longer_theirs, longer_whole, longer_calls}
+use Rattle.crossterm_read.proofs.Slotting.{head_same, tail_same, off, some_of, none_not, calls_by-append, calls_by-mine, calls_by-other, below, at_end, some_at, are_snoc, are_more, are_front, none_past, none_more, same_or_not, starts_on, first_there, longer_starts, longer_ours, longer_theirs, longer_whole, longer_calls}
 
 module _ {S : Type 0} (drawn : S → List SourceAnswer → S → Type 0) where
   abbrev All : (ℕ → Known S → Type 0) → List (Known S) → Type 0

@@ -20,7 +20,7 @@ use Rattle.crossterm_read.specs.inside.Slot.{Took, Put, ProducesCall, Learnt, fi
 use Rattle.crossterm_read.proofs.EachOnce.{each_once}
 use Rattle.crossterm_read.proofs.Histories.{runs_room, runs_snoc, not_fewer}
 use Rattle.crossterm_read.proofs.Next.{fault_of}
-use Rattle.crossterm_read.proofs.Seating.{off, some_of, calls_by-append, calls_by-mine, are_snoc}
+use Rattle.crossterm_read.proofs.Slotting.{off, some_of, calls_by-append, calls_by-mine, are_snoc}
 
 -- What is there.
 pub some_there : {A : Type 0} (o : Option A) → is_some o ≡ true → (x : A) × (o ≡ Some x)

@@ -10,7 +10,7 @@ pub mod Queries
 pub mod Reading
 pub mod Replies
 pub mod Scripted
-pub mod Seats
+pub mod PassViews
 pub mod Shared
 pub mod Sources
 pub mod Steps

@@ -8,7 +8,7 @@ use Rattle.crossterm_read.specs.Answers.{SourceAnswer}
 use Rattle.crossterm_read.specs.Entries.{IsPoll, IsTry}
 use Rattle.crossterm_read.specs.History.{Known, Extends}
 use Rattle.crossterm_read.specs.Replies.{Replied, ToTake, event_said, shown}
-use Rattle.crossterm_read.specs.Seats.{knows}
+use Rattle.crossterm_read.specs.PassViews.{knows}
 use Rattle.crossterm_read.specs.declared.read.shared.pass.Pass.{Pass}
 use Rattle.crossterm_read.specs.declared.read.shared.reader.EventReader.{EventReader}
 use Rattle.crossterm_read.specs.declared.stream.worker.StreamWorker.{StreamWorker}

@@ -50,11 +50,11 @@
 //! | `History` | 191 | the one legal history of a reader that threads share | `EventReader`, `Pass` |
 //! | `Entries` | 113 | which call an entry of it is | `EventReader::{poll, read, read_for, poll_by, read_by, position_by, keyboard_by, paste_len}` |
 //! | `OverScripts` | 26 | what a history over a script comes to | `laws::{scripts_replay, histories_over_scripts}` |
-//! | `Seats` | 19 | what a clause says of a pass | `EventReader::{new, share, meet, close}` |
+//! | `PassViews` | 19 | what a clause says of a pass | `EventReader::{new, share, meet, close}` |
 //! | `Shared` | 15 | what it says of a share | `EventReader::{new, share}` |
 //! | `Streams` | 41 | what a stream answers, and what its worker does | `EventStream::{poll_event, poll_next}`, `StreamWorker::join` |
 //!
-//! Crates above cite the lemmas of `Fronts`, `Mapped`, `Seating`.
+//! Crates above cite the lemmas of `Fronts`, `Mapped`, `Slotting`.
 //!
 //! What only proofs and private clauses cite is in `specs/inside/`. A function's proof is in `proofs/` at the function's path; if there is
 //! no file, the prover found it by itself.

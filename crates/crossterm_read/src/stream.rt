@@ -5,7 +5,7 @@ ghost use Rattle.std.specs.IoError.{error_kind};
 ghost use Rattle.std.specs.declared.io.ErrorKind.TheVariants.{Interrupted, OutOfMemory};
 ghost use Rattle.futures.specs.Poll.{IfReady, OnPending};
 ghost use Rattle.futures.specs.Task.{Covers, Keeps};
-ghost use Rattle.crossterm_read.specs.Seats.{knows};
+ghost use Rattle.crossterm_read.specs.PassViews.{knows};
 ghost use Rattle.crossterm_read.specs.Shared.{IsPassOf, IsShareOf};
 ghost use Rattle.crossterm_read.specs.Streams.{GivesItem, GivesNothing, IsWorkerOf, OnlyPolls};
 

@@ -11,7 +11,7 @@ ghost use Rattle.crossterm_types.specs.Timing.{IsFirst};
 ghost use Rattle.crossterm_read.specs.Entries.{Polls, Reads};
 ghost use Rattle.crossterm_read.specs.History.{Known};
 ghost use Rattle.crossterm_read.specs.Replies.{Said, read_said};
-ghost use Rattle.crossterm_read.specs.Seats.{knows};
+ghost use Rattle.crossterm_read.specs.PassViews.{knows};
 ghost use Rattle.crossterm_read.specs.Shared.{IsPassOf};
 ghost use Rattle.example_contracts.specs.Apart.{ReadApart};
 

@@ -1,7 +1,7 @@
 //! A matcher over a reader that threads share.
 ghost use Rattle.std.specs.Prelude.{◌≤◌};
 ghost use Rattle.crossterm_types.specs.Timing.{IsFirst, KeepsFirst};
-ghost use Rattle.crossterm_read.specs.Seats.{knows};
+ghost use Rattle.crossterm_read.specs.PassViews.{knows};
 ghost use Rattle.crossterm_read.specs.Shared.{IsPassOf};
 ghost use Rattle.keymap.specs.Stepping.{Steps, step_answer};
 

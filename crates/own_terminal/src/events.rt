@@ -7,7 +7,7 @@ ghost use Rattle.crossterm_types.specs.declared.event.filter.AnyFilter.TheVarian
 ghost use Rattle.crossterm_types.specs.Timing.{IsFirst, KeepsFirst};
 ghost use Rattle.crossterm_read.specs.Entries.{Polls, Reads, ReadsFor};
 ghost use Rattle.crossterm_read.specs.Replies.{event_said};
-ghost use Rattle.crossterm_read.specs.Seats.{knows};
+ghost use Rattle.crossterm_read.specs.PassViews.{knows};
 ghost use Rattle.crossterm_read.specs.Shared.{IsPassOf, IsShareOf};
 
 use crossterm::event::source::{EventSource, Waker};

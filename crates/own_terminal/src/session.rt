@@ -11,7 +11,7 @@ ghost use Rattle.crossterm_types.specs.Timing.{IsFirst, KeepsFirst};
 ghost use Rattle.crossterm_read.specs.Entries.{AsksKeyboard, AsksPosition, Polls, Reads, ReadsFor};
 ghost use Rattle.crossterm_read.specs.History.{Known};
 ghost use Rattle.crossterm_read.specs.Replies.{event_said};
-ghost use Rattle.crossterm_read.specs.Seats.{knows};
+ghost use Rattle.crossterm_read.specs.PassViews.{knows};
 ghost use Rattle.crossterm_read.specs.Shared.{IsPassOf, IsShareOf};
 ghost use Rattle.crossterm_read.specs.Sources.{Source};
 ghost use Rattle.crossterm_command.specs.Tokens.{text_of};

@@ -4,7 +4,7 @@ ghost use Rattle.std.specs.IoError.{error_kind};
 ghost use Rattle.std.specs.declared.io.ErrorKind.TheVariants.{InvalidInput};
 ghost use Rattle.crossterm_types.specs.Seen.{seen_event};
 ghost use Rattle.crossterm_read.specs.History.{Known};
-ghost use Rattle.crossterm_read.specs.Seats.{knows};
+ghost use Rattle.crossterm_read.specs.PassViews.{knows};
 ghost use Rattle.line_editor.specs.States.{EditorState};
 ghost use Rattle.prompt.specs.Asking.{LineEnds, StopsAsking, GoesOn, answer_seen};
 ghost use Rattle.prompt.specs.Prompts as prompts;

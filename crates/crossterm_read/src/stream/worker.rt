@@ -1,5 +1,5 @@
 //! The worker of a stream, which waits when the stream may not.
-ghost use Rattle.crossterm_read.specs.Seats.{knows};
+ghost use Rattle.crossterm_read.specs.PassViews.{knows};
 ghost use Rattle.crossterm_read.specs.Shared.{IsPassOf};
 ghost use Rattle.crossterm_read.specs.Streams.{OnlyPolls};
 

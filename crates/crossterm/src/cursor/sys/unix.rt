@@ -10,7 +10,7 @@ ghost use Rattle.crossterm_read.specs.Device.{AsksAtOnce};
 ghost use Rattle.crossterm_read.specs.Entries.{AsksPosition};
 ghost use Rattle.crossterm_read.specs.Queries.{QueryStep};
 ghost use Rattle.crossterm_read.specs.Replies.{Replied, position_said, shown};
-ghost use Rattle.crossterm_read.specs.Seats.{knows};
+ghost use Rattle.crossterm_read.specs.PassViews.{knows};
 ghost use Rattle.crossterm_read.specs.Shared.{IsPassOf};
 ghost use Rattle.crossterm_read.specs.Steps.{RefusedOnlyWithoutRoom, UpTo};
 ghost use Rattle.crossterm_read.specs.Store.{reader_capacity};

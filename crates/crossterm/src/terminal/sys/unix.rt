@@ -6,7 +6,7 @@ ghost use Rattle.std.specs.declared.io.Error.{Error};
 ghost use Rattle.crossterm_command.specs.Writing.{AppendsFront};
 ghost use Rattle.crossterm_types.specs.Timing.{IsFirst, KeepsFirst};
 ghost use Rattle.crossterm_read.specs.Entries.{AsksKeyboard};
-ghost use Rattle.crossterm_read.specs.Seats.{knows};
+ghost use Rattle.crossterm_read.specs.PassViews.{knows};
 ghost use Rattle.crossterm_read.specs.Shared.{IsPassOf};
 ghost use Rattle.crossterm.specs.Asking.{InRawMode, InTwoSeconds, Queries, keyboard_query};
 ghost use Rattle.crossterm.specs.Modes.{ModeCall, Modes, Refuses, SetsRaw, Sets, Sizes, SwitchesOff, SwitchesOn, Gets, any_call, window_size};

@@ -9,7 +9,7 @@ ghost use Rattle.crossterm_types.specs.declared.event.filter.AnyFilter.TheVarian
 ghost use Rattle.crossterm_read.specs.Entries.{Polls, Reads};
 ghost use Rattle.crossterm_read.specs.Replies.{event_said, event_seen, read_said, shown};
 ghost use Rattle.crossterm_read.specs.inside.Replies.{last_said, read_reply};
-ghost use Rattle.crossterm_read.specs.Seats.{knows};
+ghost use Rattle.crossterm_read.specs.PassViews.{knows};
 ghost use Rattle.crossterm_read.specs.Shared.{IsPassOf};
 
 use crate::read::held::Taken;
@@ -81,10 +81,10 @@ impl<S: EventSource<A>, A: Allocator + Clone> EventReader<S, A> {
         // A wake-up is no error.
         ensures awake { IfErr result (λ e. error_kind e ≢ Interrupted) }
     {
-        let mut reader = self.room.take(rt, &mut pass.seat);
+        let mut reader = self.slot.take(rt, &mut pass.slot_pass);
         let taken = reader.read_numbered(rt, &filter);
-        self.room
-            .put::<Brand, _, R>(rt, &mut pass.seat, reader, &(filter, &taken));
+        self.slot
+            .put::<Brand, _, R>(rt, &mut pass.slot_pass, reader, &(filter, &taken));
         pass.last = last_after(pass.last, &taken);
         unnumbered(taken)
     }
@@ -114,13 +114,13 @@ impl<S: EventSource<A>, A: Allocator + Clone> EventReader<S, A> {
     {
         let start = clock.now();
         let timeout = PollTimeout::new(limit, start);
-        let Some(mut reader) = self.room.take_within(rt, &mut pass.seat, &timeout, clock) else {
+        let Some(mut reader) = self.slot.take_within(rt, &mut pass.slot_pass, &timeout, clock) else {
             return Ok(false);
         };
         let result = reader.poll_while(&InTime { rt, timeout }, clock, &filter);
-        self.room.put::<Brand, _, R>(
+        self.slot.put::<Brand, _, R>(
             rt,
-            &mut pass.seat,
+            &mut pass.slot_pass,
             reader,
             &(filter, limit, start, &*clock, &result),
         );

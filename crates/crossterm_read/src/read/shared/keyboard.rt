@@ -4,7 +4,7 @@ ghost use Rattle.crossterm_types.specs.Timing.{IsFirst, KeepsFirst};
 ghost use Rattle.crossterm_read.specs.Entries.{AsksKeyboard};
 ghost use Rattle.crossterm_read.specs.Replies.{keyboard_said};
 ghost use Rattle.crossterm_read.specs.inside.Replies.{flags_said};
-ghost use Rattle.crossterm_read.specs.Seats.{knows};
+ghost use Rattle.crossterm_read.specs.PassViews.{knows};
 ghost use Rattle.crossterm_read.specs.Shared.{IsPassOf};
 
 use crate::read::held::Taken;
@@ -57,11 +57,11 @@ impl<S: EventSource<A>, A: Allocator + Clone> EventReader<S, A> {
     {
         let start = clock.now();
         let timeout = PollTimeout::new(Some(limit), start);
-        let Some(mut reader) = self.room.take_within(rt, &mut pass.seat, &timeout, clock) else {
+        let Some(mut reader) = self.slot.take_within(rt, &mut pass.slot_pass, &timeout, clock) else {
             return Err(io::Error::from(io::ErrorKind::Other));
         };
         let taken = reader.keyboard_until(rt, timeout, limit, clock);
-        self.room.put::<Brand, _, R>(rt, &mut pass.seat, reader, &(limit, start, &*clock, &taken));
+        self.slot.put::<Brand, _, R>(rt, &mut pass.slot_pass, reader, &(limit, start, &*clock, &taken));
         pass.last = last_after(pass.last, &taken);
         flagged(taken)
     }

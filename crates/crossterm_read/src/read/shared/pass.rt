@@ -3,7 +3,7 @@ ghost use Rattle.std.specs.Prelude.{◌≡◌, ◌<◌, [], true, None, is_some}
 ghost use Rattle.crossbeam_queue.specs.Passes.{view};
 ghost use Rattle.crossterm_read.specs.History.{Sits, last_from};
 
-use crate::read::shared::rule::Seat;
+use crate::read::shared::rule::SlotPass;
 use std::alloc::{Allocator, Global};
 
 /// What one thread holds of a shared reader, and hands in at each call.
@@ -12,27 +12,27 @@ use std::alloc::{Allocator, Global};
 /// of all calls.
 #[derive(Drop)]
 pub struct Pass<S, A: Allocator = Global> {
-    pub(crate) seat: Seat<S, A>,
+    pub(crate) slot_pass: SlotPass<S, A>,
     pub(crate) last: Option<u64>,
-    pub ghost clear: { seat.me.1 ≡ [] },
-    pub ghost sits: { Sits (view seat) },
-    pub ghost taken: { last ≡ last_from None (view seat).mine },
+    pub ghost clear: { slot_pass.me.1 ≡ [] },
+    pub ghost sits: { Sits (view slot_pass) },
+    pub ghost taken: { last ≡ last_from None (view slot_pass).mine },
 }
 
 impl<S, A: Allocator> Pass<S, A> {
-    // A pass in this seat, which has made no call.
-    pub(crate) fn seated(seat: Seat<S, A>) -> Pass<S, A>
-        requires clear { seat.me.1 ≡ [] }
-        requires sits { Sits (view seat) }
-        requires idle { (view seat).mine ≡ [] }
-        ensures { result.seat ≡ seat }
+    // A pass in this slot_pass, which has made no call.
+    pub(crate) fn in_slot(slot_pass: SlotPass<S, A>) -> Pass<S, A>
+        requires clear { slot_pass.me.1 ≡ [] }
+        requires sits { Sits (view slot_pass) }
+        requires idle { (view slot_pass).mine ≡ [] }
+        ensures { result.slot_pass ≡ slot_pass }
     {
-        Pass { seat, last: None }
+        Pass { slot_pass, last: None }
     }
 
     /// The arrival number of the event that this pass took last: how many events the reader was given before it.
     pub fn last(&self) -> Option<u64>
-        ensures { result ≡ last_from None (view self.now.seat).mine }
+        ensures { result ≡ last_from None (view self.now.slot_pass).mine }
     {
         self.last
     }

@@ -4,7 +4,7 @@ ghost use Rattle.crossterm_parse.specs.Marked.{bytes_of};
 ghost use Rattle.crossterm_parse.specs.View.{Represents, paste_length};
 ghost use Rattle.crossterm_parse.specs.declared.marked.Marked.{Marked};
 ghost use Rattle.crossterm_read.specs.Entries.{Looks};
-ghost use Rattle.crossterm_read.specs.Seats.{knows};
+ghost use Rattle.crossterm_read.specs.PassViews.{knows};
 ghost use Rattle.crossterm_read.specs.Shared.{IsPassOf};
 ghost use Rattle.crossterm_read.specs.Sources.{HasPaste, SourceDrawn};
 
@@ -36,13 +36,13 @@ impl<D: Device, A: Allocator + Clone> EventReader<DeviceSource<D, A>, A> {
         ensures pass { IsPassOf self.now pass.new }
         ensures call { Looks (SourceDrawn D.answering.answered) (λ s. D.asked s.device) HasPaste (knows pass.old) (knows pass.new) result }
     {
-        let Some(mut reader) = self.room.try_take(rt, &mut pass.seat) else {
+        let Some(mut reader) = self.slot.try_take(rt, &mut pass.slot_pass) else {
             return None;
         };
         let polled = reader.poll_within(0, &AnyFilter::Event);
         let count = reader.source().paste_len();
-        self.room
-            .put::<Brand, _, R>(rt, &mut pass.seat, reader, &(&polled, count));
+        self.slot
+            .put::<Brand, _, R>(rt, &mut pass.slot_pass, reader, &(&polled, count));
         Some(count)
     }
 }

@@ -4,12 +4,12 @@ ghost use Rattle.std.specs.IoError.{error_kind};
 ghost use Rattle.std.specs.List.{range_with_len};
 ghost use Rattle.std.specs.declared.io.ErrorKind.TheVariants.{OutOfMemory};
 ghost use Rattle.crossterm_read.specs.History.{Closes, Meets, opened};
-ghost use Rattle.crossterm_read.specs.Seats.{knows, pass_number};
+ghost use Rattle.crossterm_read.specs.PassViews.{knows, pass_number};
 ghost use Rattle.crossterm_read.specs.Shared.{IsPassOf, IsShareOf};
 
 use crate::read::InternalEventReader;
 use crate::read::shared::pass::Pass;
-use crate::read::shared::room::Room;
+use crate::read::shared::slot::Slot;
 use crate::source::{EventSource, Waker};
 use std::alloc::{Allocator, Global};
 use std::io;
@@ -31,7 +31,7 @@ use std::sync::{Arc, Wait};
 /// ```
 #[derive(Drop)]
 pub struct EventReader<S: EventSource<A>, A: Allocator = Global> {
-    pub(crate) room: Arc<Room<S, A>, A>,
+    pub(crate) slot: Arc<Slot<S, A>, A>,
 }
 
 impl<S: EventSource<A>, A: Allocator + Clone> EventReader<S, A> {
@@ -51,10 +51,10 @@ impl<S: EventSource<A>, A: Allocator + Clone> EventReader<S, A> {
         ensures err { IfErr result (λ e. error_kind e ≡ OutOfMemory) }
     {
         let others = passes.saturating_sub(1);
-        let (room, first) = Room::new::<Brand, R>(rt, alloc.clone()?, reader, others)?;
-        let made = room.passes(alloc.clone()?, first, passes)?;
-        let room = Arc::new(alloc, room)?;
-        Ok((EventReader { room }, made))
+        let (slot, first) = Slot::new::<Brand, R>(rt, alloc.clone()?, reader, others)?;
+        let made = slot.passes(alloc.clone()?, first, passes)?;
+        let slot = Arc::new(alloc, slot)?;
+        Ok((EventReader { slot }, made))
     }
 
     /// The same reader, for another thread.
@@ -67,7 +67,7 @@ impl<S: EventSource<A>, A: Allocator + Clone> EventReader<S, A> {
         ensures err { IfErr result (λ e. error_kind e ≡ OutOfMemory) }
     {
         Ok(EventReader {
-            room: Arc::try_clone(&self.room)?,
+            slot: Arc::try_clone(&self.slot)?,
         })
     }
 }
@@ -87,7 +87,7 @@ impl<S: EventSource<A>, A: Allocator> EventReader<S, A> {
     pub fn waker(&self) -> io::Result<Waker>
         ensures err { IfErr result (λ e. error_kind e ≡ OutOfMemory) }
     {
-        self.room.waker.share()
+        self.slot.waker.share()
     }
 
     /// Two passes meet: the one takes in what the other has seen, and the other is gone.
@@ -98,8 +98,8 @@ impl<S: EventSource<A>, A: Allocator> EventReader<S, A> {
         ensures pass { IsPassOf self.now one.new }
         ensures meets { Meets S.drawn (knows one.old) (knows other) (knows one.new) }
     {
-        let Pass { seat, last: _ } = other;
-        self.room.meet::<Brand>(&mut one.seat, seat);
+        let Pass { slot_pass, last: _ } = other;
+        self.slot.meet::<Brand>(&mut one.slot_pass, slot_pass);
     }
 
     /// Takes the reader out for good, if no other share of it is left, and else returns `None`.
@@ -111,7 +111,7 @@ impl<S: EventSource<A>, A: Allocator> EventReader<S, A> {
         ensures closed { IfSome result (λ r. Closes S.drawn (knows pass.old) r (knows pass.new)) }
         ensures shared { IfNone result ((knows pass.new ≡ knows pass.old) × IsPassOf self pass.new) }
     {
-        let room = Arc::into_inner(self.room)?;
-        room.emptied(rt, &mut pass.seat)
+        let slot = Arc::into_inner(self.slot)?;
+        slot.emptied(rt, &mut pass.slot_pass)
     }
 }

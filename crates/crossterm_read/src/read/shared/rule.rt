@@ -107,6 +107,6 @@ impl<S: EventSource<A>, A: Allocator> Lesson<Boxed<S, A>, View<S>> for OneAndThe
     ghost fact = { λ v items. Learnt S.drawn v };
 }
 
-pub type Slot<S, A> = RuledArrayQueue<Boxed<S, A>, View<S>, OneHistory, A>;
+pub type SlotQueue<S, A> = RuledArrayQueue<Boxed<S, A>, View<S>, OneHistory, A>;
 
-pub type Seat<S, A> = Pass<Boxed<S, A>, View<S>>;
+pub type SlotPass<S, A> = Pass<Boxed<S, A>, View<S>>;

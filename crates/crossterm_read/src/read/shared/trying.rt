@@ -8,7 +8,7 @@ ghost use Rattle.crossterm_types.specs.declared.event.filter.AnyFilter.TheVarian
 ghost use Rattle.crossterm_read.specs.Entries as entries;
 ghost use Rattle.crossterm_read.specs.Replies.{event_tried, shown};
 ghost use Rattle.crossterm_read.specs.inside.Replies.{last_tried, try_reply};
-ghost use Rattle.crossterm_read.specs.Seats.{knows};
+ghost use Rattle.crossterm_read.specs.PassViews.{knows};
 ghost use Rattle.crossterm_read.specs.Shared.{IsPassOf};
 
 use crate::read::held::Taken;
@@ -68,13 +68,13 @@ impl<S: EventSource<A>, A: Allocator + Clone> EventReader<S, A> {
         ensures call { entries.Tries S.drawn S.asked filters.Event (knows pass.old) (knows pass.new) (event_tried result) }
         ensures awake { IfErr result (λ e. error_kind e ≢ Interrupted) }
     {
-        let Some(mut reader) = self.room.try_take(rt, &mut pass.seat) else {
+        let Some(mut reader) = self.slot.try_take(rt, &mut pass.slot_pass) else {
             return Ok(None);
         };
         let once = Tries { most: 1 };
         let tried = reader.next(&once, &mut Still, AtWake::GoesOn, &AnyFilter::Event);
-        self.room
-            .put::<Brand, _, R>(rt, &mut pass.seat, reader, &tried);
+        self.slot
+            .put::<Brand, _, R>(rt, &mut pass.slot_pass, reader, &tried);
         pass.last = last_after_try(pass.last, &tried);
         users_tried(tried)
     }

@@ -5,7 +5,7 @@ ghost use Rattle.std.specs.declared.io.ErrorKind.TheVariants.{Interrupted};
 ghost use Rattle.crossterm_types.specs.Timing.{IsFirst, KeepsFirst};
 ghost use Rattle.crossterm_types.specs.declared.event.filter.AnyFilter.TheVariants as filters;
 ghost use Rattle.crossterm_read.specs.Entries.{ReadsFor};
-ghost use Rattle.crossterm_read.specs.Seats.{knows};
+ghost use Rattle.crossterm_read.specs.PassViews.{knows};
 ghost use Rattle.crossterm_read.specs.Shared.{IsPassOf};
 
 use crate::read::patience::InTime;
@@ -54,12 +54,12 @@ impl<S: EventSource<A>, A: Allocator + Clone> EventReader<S, A> {
     {
         let start = clock.now();
         let timeout = PollTimeout::new(limit, start);
-        let Some(mut reader) = self.room.take_within(rt, &mut pass.seat, &timeout, clock) else {
+        let Some(mut reader) = self.slot.take_within(rt, &mut pass.slot_pass, &timeout, clock) else {
             return Ok(None);
         };
         let patience = InTime { rt, timeout };
         let tried = reader.read_while(&patience, clock, AnyFilter::Event);
-        self.room.put::<Brand, _, R>(rt, &mut pass.seat, reader, &(limit, start, &*clock, &tried));
+        self.slot.put::<Brand, _, R>(rt, &mut pass.slot_pass, reader, &(limit, start, &*clock, &tried));
         pass.last = last_after_try(pass.last, &tried);
         users_tried(tried)
     }

@@ -1,4 +1,4 @@
-use Rattle.crossterm_read.specs.Seats.{knows}
+use Rattle.crossterm_read.specs.PassViews.{knows}
 use Rattle.example_contracts.proofs.Apart.{apart}
 use Rattle.example_contracts.proofs.passes.two_reads.Goals as goal
 

@@ -1,7 +1,7 @@
 use Rattle.std.specs.Prelude.{◌≡◌, ℕ}
 use Rattle.std.proofs.Common.{ap, subst}
 use Rattle.crossterm_read.specs.History.{opened}
-use Rattle.crossterm_read.specs.Seats.{knows, pass_number}
+use Rattle.crossterm_read.specs.PassViews.{knows, pass_number}
 use Rattle.crossterm_read.specs.Shared.{IsPassOf}
 use Rattle.own_terminal.proofs.Beginning.{all_only, only_one}
 use Rattle.own_terminal.proofs.session.alone.Goals as goal

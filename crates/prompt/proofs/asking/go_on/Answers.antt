@@ -1,5 +1,5 @@
 use Rattle.std.proofs.Common.{refl}
-use Rattle.crossterm_read.specs.Seats.{knows}
+use Rattle.crossterm_read.specs.PassViews.{knows}
 use Rattle.prompt.specs.Asking.{unread}
 use Rattle.prompt.proofs.asking.go_on.Goals as goal
 

@@ -1,6 +1,6 @@
 -- The line goes on.
 use Rattle.std.proofs.Common.{◌≡◌}
-use Rattle.crossterm_read.specs.Seats.{knows}
+use Rattle.crossterm_read.specs.PassViews.{knows}
 use Rattle.prompt.specs.Asking.{GoesOn}
 use Rattle.prompt.proofs.asking.go_on.Given as goal
 

@@ -1,5 +1,5 @@
 use Rattle.std.proofs.Common.{ap}
-use Rattle.crossterm_read.specs.Seats.{knows}
+use Rattle.crossterm_read.specs.PassViews.{knows}
 use Rattle.prompt.specs.Asking.{stopped, unread}
 use Rattle.prompt.proofs.Turning.{not_yet}
 use Rattle.prompt.proofs.asking.read_line.Goals as goal

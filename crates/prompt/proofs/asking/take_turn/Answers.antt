@@ -1,7 +1,7 @@
 use Rattle.std.proofs.Common.{ap, refl}
 use Rattle.std.specs.IoError.{error_kind}
 use Rattle.crossterm_types.specs.Seen.{seen_event}
-use Rattle.crossterm_read.specs.Seats.{knows}
+use Rattle.crossterm_read.specs.PassViews.{knows}
 use Rattle.prompt.specs.Asking.{broke, stopped}
 use Rattle.prompt.proofs.Turning.{goes_further, refuses}
 use Rattle.prompt.proofs.asking.take_turn.Goals as goal

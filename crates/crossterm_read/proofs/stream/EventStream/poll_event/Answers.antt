@@ -1,4 +1,4 @@
-use Rattle.crossterm_read.specs.Seats.{knows}
+use Rattle.crossterm_read.specs.PassViews.{knows}
 use Rattle.crossterm_read.proofs.Streaming.{event_given, fault_given, nothing_given}
 use Rattle.crossterm_read.proofs.stream.EventStream.poll_event.Goals as goal
 

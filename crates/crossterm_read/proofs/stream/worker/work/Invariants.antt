@@ -1,4 +1,4 @@
-use Rattle.crossterm_read.specs.Seats.{knows}
+use Rattle.crossterm_read.specs.PassViews.{knows}
 use Rattle.crossterm_read.specs.Shared.{IsPassOf}
 use Rattle.crossterm_read.specs.Streams.{OnlyPolls}
 use Rattle.crossterm_read.proofs.stream.worker.work.Given as goal

@@ -1,6 +1,6 @@
 use Rattle.std.proofs.Common.{refl, inl, inr}
 use Rattle.crossterm_read.specs.Replies.{read_said}
-use Rattle.crossterm_read.specs.Seats.{knows}
+use Rattle.crossterm_read.specs.PassViews.{knows}
 use Rattle.example_contracts.proofs.passes.Client.next_within.Goals as goal
 
 pub returns-in-Ok : goal.returns-in-Ok

@@ -3,7 +3,7 @@ use Rattle.std.specs.IoError.{error_kind}
 use Rattle.std.specs.Option.{option_map}
 use Rattle.crossterm_types.specs.Seen.{seen_event}
 use Rattle.crossterm_types.specs.Timing.{IsFirst}
-use Rattle.crossterm_read.specs.Seats.{knows}
+use Rattle.crossterm_read.specs.PassViews.{knows}
 use Rattle.keymap.specs.Matching.{Matching, MatcherState, IsFlushed}
 use Rattle.keymap.specs.Stepping.{Steps, Gave, Failed, waited, idle, unread, came}
 use Rattle.keymap.specs.Taking.{TakesEvent}

@@ -1,4 +1,4 @@
-use Rattle.crossterm_read.specs.Seats.{knows}
+use Rattle.crossterm_read.specs.PassViews.{knows}
 use Rattle.own_terminal.proofs.Beginning.{begins_over}
 use Rattle.own_terminal.proofs.session.Session+DeviceSource+I+D+W+C.over.Goals as goal
 

@@ -4,7 +4,7 @@ use Rattle.std.specs.List.{range_with_len}
 use Rattle.std.proofs.Common.{Global, ap, arith, subst, sym, ◌∙◌}
 use Rattle.crossterm_read.specs.History.{opened}
 use Rattle.crossterm_read.specs.OverScripts.{IsNew}
-use Rattle.crossterm_read.specs.Seats.{knows, pass_number}
+use Rattle.crossterm_read.specs.PassViews.{knows, pass_number}
 use Rattle.crossterm_read.specs.Shared.{IsPassOf, IsShareOf}
 use Rattle.crossterm_read.specs.declared.source.DeviceSource.{DeviceSource}
 use Rattle.own_terminal.specs.declared.events.Events.{Events}
@@ -43,5 +43,5 @@ returns-clause-count g c =
 
 pub returns-clause-shared : goal.returns-clause-shared
 returns-clause-shared g c =
-    all_alike (λ (e : Events (DeviceSource g.row.I.Denot Global)). (arc_value e.reader.room).slot.table.shared.table_id) _ c.pop.new.self.items c.in-Some-pop.field-0
+    all_alike (λ (e : Events (DeviceSource g.row.I.Denot Global)). (arc_value e.reader.slot).queue.table.shared.table_id) _ c.pop.new.self.items c.in-Some-pop.field-0
     (subst (λ made. All (λ e. IsShareOf e.reader c.in_ok-reader.reader) made) c.in-Some-pop.ensures.items c.in_ok-shares.ensures.shared)

@@ -1,7 +1,7 @@
 use Rattle.std.specs.Prelude.{◌∷◌, [], All}
 use Rattle.std.proofs.Common.{ap, subst, sym, ◌∙◌}
 use Rattle.crossterm_read.specs.History.{opened}
-use Rattle.crossterm_read.specs.Seats.{knows}
+use Rattle.crossterm_read.specs.PassViews.{knows}
 use Rattle.crossterm_read.specs.Shared.{IsShareOf}
 use Rattle.own_terminal.proofs.Shares.{all_apart, last_two}
 use Rattle.own_terminal.proofs.session.Session+DeviceSource+I+D+W+C.over_streaming.Goals as goal

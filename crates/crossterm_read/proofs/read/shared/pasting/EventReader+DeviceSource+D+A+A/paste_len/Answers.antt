@@ -22,13 +22,13 @@ put-requires-clause-produces g c =
 
 pub invariant_of-pass-2 : goal.invariant_of-pass-2
 invariant_of-pass-2 g c = record {
-  clear = c.put.ensures.seat.2 ∙ c.try_take.ensures.seat.2 ∙ c.args.pass.now.clear;
+  clear = c.put.ensures.slot_pass.2 ∙ c.try_take.ensures.slot_pass.2 ∙ c.args.pass.now.clear;
   sits = sits_put (SourceDrawn g.D.Device.answering.answered) _ _ _ _ (sits_taken (SourceDrawn g.D.Device.answering.answered) _ _ _ c.args.pass.now.sits c.in-Some.ensures.taken) c.put.ensures.put;
   taken = sym (last_poll c.args.pass.now.last c.poll_within-polled.result)
-      ∙ last_after (SourceDrawn g.D.Device.answering.answered) _ _ (view c.args.pass.now.seat) (view c.try_take.new.seat) (view c.put.new.seat) _ _ c.args.pass.now.last c.in-Some.ensures.taken c.put.ensures.put c.put.ensures.put.0.such.0.reply c.args.pass.now.taken;
+      ∙ last_after (SourceDrawn g.D.Device.answering.answered) _ _ (view c.args.pass.now.slot_pass) (view c.try_take.new.slot_pass) (view c.put.new.slot_pass) _ _ c.args.pass.now.last c.in-Some.ensures.taken c.put.ensures.put c.put.ensures.put.0.such.0.reply c.args.pass.now.taken;
 }
 
 pub returns-clause-call : goal.returns-clause-call
 returns-clause-call g c =
-    let x = extends (SourceDrawn g.D.Device.answering.answered) _ (view c.args.pass.now.seat) (view c.try_take.new.seat) (view c.put.new.seat) c.in-Some.reader.value c.poll_within-polled.new.self c.requires.1 c.in-Some.ensures.taken c.put.ensures.put in
+    let x = extends (SourceDrawn g.D.Device.answering.answered) _ (view c.args.pass.now.slot_pass) (view c.try_take.new.slot_pass) (view c.put.new.slot_pass) c.in-Some.reader.value c.poll_within-polled.new.self c.requires.1 c.in-Some.ensures.taken c.put.ensures.put in
     extends_at (SourceDrawn g.D.Device.answering.answered) _ _ _ _ x ((replied (poll_reply c.poll_within-polled.result), x.such.0), x.such.1)

@@ -44,15 +44,15 @@ put-requires-clause-produces g c =
 pub invariant_of-pass-2 : goal.invariant_of-pass-2
 invariant_of-pass-2 g c =
     let b = c.put.ensures.put in record {
-      clear = c.put.ensures.seat.2 ∙ c.take_within.ensures.seat.2 ∙ c.args.pass.now.clear;
+      clear = c.put.ensures.slot_pass.2 ∙ c.take_within.ensures.slot_pass.2 ∙ c.args.pass.now.clear;
       sits = sits_put g.S.EventSource.drawn _ _ _ _ (sits_taken g.S.EventSource.drawn _ _ _ c.args.pass.now.sits c.in-Some.ensures.taken) b;
       taken = c.last_after-pass.ensures ∙ sym (b.0.such.2 c.args.pass.now.last)
-          ∙ last_after g.S.EventSource.drawn _ b.0.call.reply (view c.args.pass.now.seat) (view c.take_within.new.seat) (view c.put.new.seat) _ _ c.args.pass.now.last c.in-Some.ensures.taken b refl c.args.pass.now.taken;
+          ∙ last_after g.S.EventSource.drawn _ b.0.call.reply (view c.args.pass.now.slot_pass) (view c.take_within.new.slot_pass) (view c.put.new.slot_pass) _ _ c.args.pass.now.last c.in-Some.ensures.taken b refl c.args.pass.now.taken;
     }
 
 pub returns-clause-call : goal.returns-clause-call
 returns-clause-call g c =
-    let x = extends g.S.EventSource.drawn _ (view c.args.pass.now.seat) (view c.take_within.new.seat) (view c.put.new.seat) c.in-Some.reader.value c.keyboard_until-taken.new.self c.requires.1 c.in-Some.ensures.taken c.put.ensures.put in (
+    let x = extends g.S.EventSource.drawn _ (view c.args.pass.now.slot_pass) (view c.take_within.new.slot_pass) (view c.put.new.slot_pass) c.in-Some.reader.value c.keyboard_until-taken.new.self c.requires.1 c.in-Some.ensures.taken c.put.ensures.put in (
       as_nanos c.now-start.result,
       first_of g.C.Clock.latest g.C.Clock.began _ _ _ _ c.now-start.ensures.latest c.now-start.ensures.later (omega (arith, c.take_within.ensures.later, c.keyboard_until-taken.ensures.later)) c.now-start.ensures.first
           (λ from start b. c.keyboard_until-taken.ensures.first _ _ (c.take_within.ensures.first _ _ b)),

@@ -32,10 +32,10 @@ put-requires-clause-produces g c =
 
 pub invariant_of-pass-2 : goal.invariant_of-pass-2
 invariant_of-pass-2 g c = record {
-  clear = c.put.ensures.seat.2 ∙ c.take_within.ensures.seat.2 ∙ c.args.pass.now.clear;
+  clear = c.put.ensures.slot_pass.2 ∙ c.take_within.ensures.slot_pass.2 ∙ c.args.pass.now.clear;
   sits = sits_put g.S.EventSource.drawn _ _ _ _ (sits_taken g.S.EventSource.drawn _ _ _ c.args.pass.now.sits c.in-Some.ensures.taken) c.put.ensures.put;
   taken = sym (last_poll c.args.pass.now.last c.poll_while-result.result)
-      ∙ last_after g.S.EventSource.drawn _ _ (view c.args.pass.now.seat) (view c.take_within.new.seat) (view c.put.new.seat) _ _ c.args.pass.now.last c.in-Some.ensures.taken c.put.ensures.put c.put.ensures.put.0.such.reply c.args.pass.now.taken;
+      ∙ last_after g.S.EventSource.drawn _ _ (view c.args.pass.now.slot_pass) (view c.take_within.new.slot_pass) (view c.put.new.slot_pass) _ _ c.args.pass.now.last c.in-Some.ensures.taken c.put.ensures.put c.put.ensures.put.0.such.reply c.args.pass.now.taken;
 }
 
 pub returns-clause-call : goal.returns-clause-call
@@ -43,7 +43,7 @@ returns-clause-call g c = (
   as_nanos c.now-start.result,
   first_of g.C.Clock.latest g.C.Clock.began _ _ _ _ c.now-start.ensures.latest c.now-start.ensures.later (omega (arith, c.take_within.ensures.later, c.poll_while-result.ensures.later)) c.now-start.ensures.first
       (λ from start b. c.poll_while-result.ensures.first _ _ (c.take_within.ensures.first _ _ b)),
-  inl (extends g.S.EventSource.drawn _ (view c.args.pass.now.seat) (view c.take_within.new.seat) (view c.put.new.seat) c.in-Some.reader.value c.poll_while-result.new.self c.requires.1 c.in-Some.ensures.taken c.put.ensures.put),
+  inl (extends g.S.EventSource.drawn _ (view c.args.pass.now.slot_pass) (view c.take_within.new.slot_pass) (view c.put.new.slot_pass) c.in-Some.reader.value c.poll_while-result.new.self c.requires.1 c.in-Some.ensures.taken c.put.ensures.put),
 )
 
 pub returns-clause-first : goal.returns-clause-first

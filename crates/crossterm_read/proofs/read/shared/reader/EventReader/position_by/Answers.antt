@@ -33,10 +33,10 @@ put-requires-clause-produces g c =
 
 pub invariant_of-pass-2 : goal.invariant_of-pass-2
 invariant_of-pass-2 g c = record {
-  clear = c.put.ensures.seat.2 ∙ c.take_within.ensures.seat.2 ∙ c.args.pass.now.clear;
+  clear = c.put.ensures.slot_pass.2 ∙ c.take_within.ensures.slot_pass.2 ∙ c.args.pass.now.clear;
   sits = sits_put g.S.EventSource.drawn _ _ _ _ (sits_taken g.S.EventSource.drawn _ _ _ c.args.pass.now.sits c.in-Some.ensures.taken) c.put.ensures.put;
   taken = c.last_after-pass.ensures ∙ sym (last_read c.args.pass.now.last c.query_while-taken.result)
-      ∙ last_after g.S.EventSource.drawn _ _ (view c.args.pass.now.seat) (view c.take_within.new.seat) (view c.put.new.seat) _ _ c.args.pass.now.last c.in-Some.ensures.taken c.put.ensures.put c.put.ensures.put.0.such.reply c.args.pass.now.taken;
+      ∙ last_after g.S.EventSource.drawn _ _ (view c.args.pass.now.slot_pass) (view c.take_within.new.slot_pass) (view c.put.new.slot_pass) _ _ c.args.pass.now.last c.in-Some.ensures.taken c.put.ensures.put c.put.ensures.put.0.such.reply c.args.pass.now.taken;
 }
 
 pub returns-clause-call : goal.returns-clause-call
@@ -47,7 +47,7 @@ returns-clause-call g c = (
   inl (
     read_reply c.query_while-taken.result,
     c.placed.ensures,
-    extends g.S.EventSource.drawn _ (view c.args.pass.now.seat) (view c.take_within.new.seat) (view c.put.new.seat) c.in-Some.reader.value c.query_while-taken.new.self c.requires.1 c.in-Some.ensures.taken c.put.ensures.put,
+    extends g.S.EventSource.drawn _ (view c.args.pass.now.slot_pass) (view c.take_within.new.slot_pass) (view c.put.new.slot_pass) c.in-Some.reader.value c.query_while-taken.new.self c.requires.1 c.in-Some.ensures.taken c.put.ensures.put,
   ),
 )
 

@@ -18,17 +18,17 @@ put-requires-clause-produces g c =
 
 pub invariant_of-pass : goal.invariant_of-pass
 invariant_of-pass g c = record {
-  clear = c.put.ensures.seat.2 ∙ c.take-reader.ensures.seat.2 ∙ c.args.pass.now.clear;
+  clear = c.put.ensures.slot_pass.2 ∙ c.take-reader.ensures.slot_pass.2 ∙ c.args.pass.now.clear;
   sits = sits_put g.S.EventSource.drawn _ _ _ _ (sits_taken g.S.EventSource.drawn _ _ _ c.args.pass.now.sits c.take-reader.ensures.taken) c.put.ensures.put;
   taken = c.last_after-pass.ensures ∙ sym (last_read c.args.pass.now.last c.read_numbered-taken.result)
-      ∙ last_after g.S.EventSource.drawn _ _ (view c.args.pass.now.seat) (view c.take-reader.new.seat) (view c.put.new.seat) _ _ c.args.pass.now.last c.take-reader.ensures.taken c.put.ensures.put c.put.ensures.put.0.such.reply c.args.pass.now.taken;
+      ∙ last_after g.S.EventSource.drawn _ _ (view c.args.pass.now.slot_pass) (view c.take-reader.new.slot_pass) (view c.put.new.slot_pass) _ _ c.args.pass.now.last c.take-reader.ensures.taken c.put.ensures.put c.put.ensures.put.0.such.reply c.args.pass.now.taken;
 }
 
 pub returns-clause-call : goal.returns-clause-call
 returns-clause-call g c = (
   read_reply c.read_numbered-taken.result,
   c.unnumbered.ensures.reply,
-  extends g.S.EventSource.drawn _ (view c.args.pass.now.seat) (view c.take-reader.new.seat) (view c.put.new.seat) c.take-reader.result.value c.read_numbered-taken.new.self c.requires.1 c.take-reader.ensures.taken c.put.ensures.put,
+  extends g.S.EventSource.drawn _ (view c.args.pass.now.slot_pass) (view c.take-reader.new.slot_pass) (view c.put.new.slot_pass) c.take-reader.result.value c.read_numbered-taken.new.self c.requires.1 c.take-reader.ensures.taken c.put.ensures.put,
 )
 
 pub returns-clause-admitted : goal.returns-clause-admitted

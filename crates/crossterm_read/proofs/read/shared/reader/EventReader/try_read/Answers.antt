@@ -18,15 +18,15 @@ put-requires-clause-produces g c =
 
 pub invariant_of-pass-2 : goal.invariant_of-pass-2
 invariant_of-pass-2 g c = record {
-  clear = c.put.ensures.seat.2 ∙ c.try_take.ensures.seat.2 ∙ c.args.pass.now.clear;
+  clear = c.put.ensures.slot_pass.2 ∙ c.try_take.ensures.slot_pass.2 ∙ c.args.pass.now.clear;
   sits = sits_put g.S.EventSource.drawn _ _ _ _ (sits_taken g.S.EventSource.drawn _ _ _ c.args.pass.now.sits c.in-Some.ensures.taken) c.put.ensures.put;
   taken = c.last_after_try-pass.ensures ∙ sym (last_try c.args.pass.now.last c.next-tried.result)
-      ∙ last_after g.S.EventSource.drawn _ _ (view c.args.pass.now.seat) (view c.try_take.new.seat) (view c.put.new.seat) _ _ c.args.pass.now.last c.in-Some.ensures.taken c.put.ensures.put c.put.ensures.put.0.such.reply c.args.pass.now.taken;
+      ∙ last_after g.S.EventSource.drawn _ _ (view c.args.pass.now.slot_pass) (view c.try_take.new.slot_pass) (view c.put.new.slot_pass) _ _ c.args.pass.now.last c.in-Some.ensures.taken c.put.ensures.put c.put.ensures.put.0.such.reply c.args.pass.now.taken;
 }
 
 pub returns-clause-call : goal.returns-clause-call
 returns-clause-call g c = inl (
   try_reply c.next-tried.result,
   c.users_tried.ensures.reply,
-  extends g.S.EventSource.drawn _ (view c.args.pass.now.seat) (view c.try_take.new.seat) (view c.put.new.seat) c.in-Some.reader.value c.next-tried.new.self c.requires.1 c.in-Some.ensures.taken c.put.ensures.put,
+  extends g.S.EventSource.drawn _ (view c.args.pass.now.slot_pass) (view c.try_take.new.slot_pass) (view c.put.new.slot_pass) c.in-Some.reader.value c.next-tried.new.self c.requires.1 c.in-Some.ensures.taken c.put.ensures.put,
 )

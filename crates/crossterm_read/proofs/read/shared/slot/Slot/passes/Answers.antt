@@ -5,11 +5,11 @@ use Rattle.std.proofs.lemmas.List.Elements.{All-cons, All-push}
 use Rattle.crossbeam_queue.specs.Passes.{view}
 use Rattle.crossterm_read.specs.Store.{ReaderState}
 use Rattle.crossterm_read.specs.History.{Known, opened}
-use Rattle.crossterm_read.specs.Seats.{IsSeatOf, knows, pass_number}
+use Rattle.crossterm_read.specs.PassViews.{IsInSlot, knows, pass_number}
 use Rattle.crossterm_read.specs.inside.Slot.{first_pass, one_less, one_more}
 use Rattle.crossterm_read.specs.declared.read.shared.pass.Pass.{Pass}
 use Rattle.crossterm_read.proofs.Sharing.{sits_first, range_more, made_knows}
-use Rattle.crossterm_read.proofs.read.shared.room.Room.passes.Goals as goal
+use Rattle.crossterm_read.proofs.read.shared.slot.Slot.passes.Goals as goal
 
 pub another-requires-clause-first : goal.another-requires-clause-first
 another-requires-clause-first g c =
@@ -31,31 +31,31 @@ loop-preserved g c =
     let here : k ≡ 1 + (k - 1) = omega (arith, c.loop.auto.counter) in
     let grown : suc (k - 1) ≡ k + 1 - 1 = omega (arith, c.loop.auto.counter) in
     record {
-      seat = c.another.ensures.seat;
+      slot_pass = c.another.ensures.slot_pass;
       left = λ o is. c.another.ensures.left ∙ ap one_less (left o is);
       numbers = ap (map pass_number) items ∙ map-append pass_number c.loop.made.items (p ∷ []) ∙ ap (λ l. l ++ pass_number p ∷ []) i.numbers ∙ ap (λ (m : ℕ). range_with_len 1 (k - 1) ++ m ∷ []) ((made c.requires.first.0 c.requires.first.1).1 ∙ here)
           ∙ sym (range_more 1 (k - 1)) ∙ ap (range_with_len 1) grown;
       made = λ o is.
-          let P : Pass g.row.S.Denot g.row.A.Denot → Type 0 = λ q. IsSeatOf c.args.self.now.slot q × (knows q ≡ opened o n (pass_number q)) in
+          let P : Pass g.row.S.Denot g.row.A.Denot → Type 0 = λ q. IsInSlot c.args.self.now.slot q × (knows q ≡ opened o n (pass_number q)) in
           subst (λ (l : List (Pass g.row.S.Denot g.row.A.Denot)). All P l) (sym items)
           (All-push P c.loop.made.items p (i.made o is) ((c.another.ensures.table, ap (λ (v : Known g.row.S.Denot). v.has) (made o is).0), (made o is).0));
     }
 
-pub seated-requires-clause-sits : goal.seated-requires-clause-sits
-seated-requires-clause-sits g c =
+pub in_slot-requires-clause-sits : goal.in_slot-requires-clause-sits
+in_slot-requires-clause-sits g c =
     let o = c.requires.first.0 in
     sits_first _ o (c.args.passes - 1) (c.loop.invariant.left o c.requires.first.1 ∙ ap (first_pass o (c.args.passes - 1)) (omega (arith, c.loop-test.false)))
 
-pub seated-requires-clause-idle : goal.seated-requires-clause-idle
-seated-requires-clause-idle g c = let o = c.requires.first.0 in ap (λ (v : Known g.row.S.Denot). v.mine) (c.loop.invariant.left o c.requires.first.1)
+pub in_slot-requires-clause-idle : goal.in_slot-requires-clause-idle
+in_slot-requires-clause-idle g c = let o = c.requires.first.0 in ap (λ (v : Known g.row.S.Denot). v.mine) (c.loop.invariant.left o c.requires.first.1)
 
 pub returns-clause-numbers : goal.returns-clause-numbers
 returns-clause-numbers g c =
     let o = c.requires.first.0 in
     let n = c.args.passes in
-    let p : Pass g.row.S.Denot g.row.A.Denot = c.seated.result in
+    let p : Pass g.row.S.Denot g.row.A.Denot = c.in_slot.result in
     let k = c.loop.counter in
-    let same : knows p ≡ first_pass o (n - 1) (n - k) = ap (λ s. view s) c.seated.ensures ∙ c.loop.invariant.left o c.requires.first.1 in
+    let same : knows p ≡ first_pass o (n - 1) (n - k) = ap (λ s. view s) c.in_slot.ensures ∙ c.loop.invariant.left o c.requires.first.1 in
     let first : pass_number p ≡ 0 = ap (λ (v : Known g.row.S.Denot). v.number) same in
     let all : k - 1 ≡ n - 1 = omega (arith, c.loop-test.false, c.loop.auto.counter-end, c.loop.auto.counter, c.if-passes-eq0.false) in
     let whole : suc (n - 1) ≡ n = omega (arith, c.if-passes-eq0.false) in
@@ -65,9 +65,9 @@ returns-clause-numbers g c =
 pub returns-clause-passes : goal.returns-clause-passes
 returns-clause-passes g c = λ o is.
     let n = c.args.passes in
-    let P : Pass g.row.S.Denot g.row.A.Denot → Type 0 = λ q. IsSeatOf c.args.self.now.slot q × (knows q ≡ opened o n (pass_number q)) in
-    let p : Pass g.row.S.Denot g.row.A.Denot = c.seated.result in
-    let same : knows p ≡ first_pass o (n - 1) 0 = ap (λ s. view s) c.seated.ensures ∙ c.loop.invariant.left o is ∙ ap (first_pass o (n - 1)) (omega (arith, c.loop-test.false)) in
+    let P : Pass g.row.S.Denot g.row.A.Denot → Type 0 = λ q. IsInSlot c.args.self.now.slot q × (knows q ≡ opened o n (pass_number q)) in
+    let p : Pass g.row.S.Denot g.row.A.Denot = c.in_slot.result in
+    let same : knows p ≡ first_pass o (n - 1) 0 = ap (λ s. view s) c.in_slot.ensures ∙ c.loop.invariant.left o is ∙ ap (first_pass o (n - 1)) (omega (arith, c.loop-test.false)) in
     let first : knows p ≡ opened o n (pass_number p) = same ∙ ap (λ (t : ℕ). opened o t 0) (omega (arith, c.if-passes-eq0.false)) ∙ ap (opened o n) (sym (ap (λ (v : Known g.row.S.Denot). v.number) same)) in
     subst (λ (l : List (Pass g.row.S.Denot g.row.A.Denot)). All P l) (sym c.in_ok-insert.ensures.items)
-    (All-cons P p c.loop.made.items ((ap (λ s. s.table_id) c.seated.ensures ∙ c.loop.invariant.seat.0, ap (λ (v : Known g.row.S.Denot). v.has) same), first) (c.loop.invariant.made o is))
+    (All-cons P p c.loop.made.items ((ap (λ s. s.table_id) c.in_slot.ensures ∙ c.loop.invariant.slot_pass.0, ap (λ (v : Known g.row.S.Denot). v.has) same), first) (c.loop.invariant.made o is))

@@ -8,12 +8,12 @@ use Rattle.crossterm_read.specs.declared.read.shared.pass.Pass.{Pass}
 module _ {S A : Type 0} where
   -- What the pass knows.
   abbrev pub knows : Pass S A → Known S
-  knows p = view p.seat
+  knows p = view p.slot_pass
 
   -- The number of the pass.
   abbrev pub pass_number : Pass S A → ℕ
   pass_number p = (knows p).number
 
 -- The pass belongs to this slot, and it doesn't have the reader.
-abbrev pub IsSeatOf : {S A T V Q : Type 0} → Slotted T V Q A → Pass S A → Type 0
-IsSeatOf slot p = (p.seat.table_id ≡ slot.table.shared.table_id) × ((knows p).has ≡ false)
+abbrev pub IsInSlot : {S A T V Q : Type 0} → Slotted T V Q A → Pass S A → Type 0
+IsInSlot slot p = (p.slot_pass.table_id ≡ slot.table.shared.table_id) × ((knows p).has ≡ false)

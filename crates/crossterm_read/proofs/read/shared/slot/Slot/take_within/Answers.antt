@@ -4,7 +4,7 @@ use Rattle.crossterm_read.specs.History.{Known}
 use Rattle.crossterm_read.specs.inside.Slot.{Took}
 use Rattle.crossterm_read.proofs.Moves.{takes_as}
 use Rattle.crossterm_read.proofs.Sharing.{taken_at}
-use Rattle.crossterm_read.proofs.read.shared.room.Room.take_within.Goals as goal
+use Rattle.crossterm_read.proofs.read.shared.slot.Slot.take_within.Goals as goal
 
 pub pop_as-requires-clause-rule : goal.pop_as-requires-clause-rule
 pop_as-requires-clause-rule g c = let same = c.loop.invariant.same in let o = c.requires.opened in takes_as g.S.EventSource.drawn _ _ o.0 (ap (λ v. v.opening) same ∙ o.1)

@@ -4,7 +4,7 @@ use Rattle.crossbeam_queue.specs.Fifo.{Merges}
 use Rattle.crossterm_read.specs.History.{Known}
 use Rattle.crossterm_read.specs.inside.Slot.{SlotRule, Learnt, taught}
 use Rattle.crossterm_read.proofs.Moves.{meets, learns}
-use Rattle.crossterm_read.proofs.read.shared.room.Room.meet.Goals as goal
+use Rattle.crossterm_read.proofs.read.shared.slot.Slot.meet.Goals as goal
 
 pub absorb-requires-clause-rule : goal.absorb-requires-clause-rule
 absorb-requires-clause-rule g c =
