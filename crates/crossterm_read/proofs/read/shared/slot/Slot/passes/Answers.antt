@@ -36,7 +36,7 @@ loop-preserved g c =
       numbers = ap (map pass_number) items ∙ map-append pass_number c.loop.made.items (p ∷ []) ∙ ap (λ l. l ++ pass_number p ∷ []) i.numbers ∙ ap (λ (m : ℕ). range_with_len 1 (k - 1) ++ m ∷ []) ((made c.requires.first.0 c.requires.first.1).1 ∙ here)
           ∙ sym (range_more 1 (k - 1)) ∙ ap (range_with_len 1) grown;
       made = λ o is.
-          let P : Pass g.row.S.Denot g.row.A.Denot → Type 0 = λ q. IsInSlot c.args.self.now.slot q × (knows q ≡ opened o n (pass_number q)) in
+          let P : Pass g.row.S.Denot g.row.A.Denot → Type 0 = λ q. IsInSlot c.args.self.now.queue q × (knows q ≡ opened o n (pass_number q)) in
           subst (λ (l : List (Pass g.row.S.Denot g.row.A.Denot)). All P l) (sym items)
           (All-push P c.loop.made.items p (i.made o is) ((c.another.ensures.table, ap (λ (v : Known g.row.S.Denot). v.has) (made o is).0), (made o is).0));
     }
@@ -65,7 +65,7 @@ returns-clause-numbers g c =
 pub returns-clause-passes : goal.returns-clause-passes
 returns-clause-passes g c = λ o is.
     let n = c.args.passes in
-    let P : Pass g.row.S.Denot g.row.A.Denot → Type 0 = λ q. IsInSlot c.args.self.now.slot q × (knows q ≡ opened o n (pass_number q)) in
+    let P : Pass g.row.S.Denot g.row.A.Denot → Type 0 = λ q. IsInSlot c.args.self.now.queue q × (knows q ≡ opened o n (pass_number q)) in
     let p : Pass g.row.S.Denot g.row.A.Denot = c.in_slot.result in
     let same : knows p ≡ first_pass o (n - 1) 0 = ap (λ s. view s) c.in_slot.ensures ∙ c.loop.invariant.left o is ∙ ap (first_pass o (n - 1)) (omega (arith, c.loop-test.false)) in
     let first : knows p ≡ opened o n (pass_number p) = same ∙ ap (λ (t : ℕ). opened o t 0) (omega (arith, c.if-passes-eq0.false)) ∙ ap (opened o n) (sym (ap (λ (v : Known g.row.S.Denot). v.number) same)) in

@@ -10,8 +10,8 @@ use Rattle.crossterm_read.proofs.read.shared.slot.Slot.passes.Given as goal
 
 abbrev pub invariant-loop : goal.invariant-loop
 invariant-loop g l = record {
-  slot_pass : queue.IsPassOf l.self.slot l.first;
+  slot_pass : queue.IsPassOf l.self.queue l.first;
   left : (o : ReaderState g.row.S.Denot) → view l.fn.first ≡ first_pass o (l.passes - 1) (l.passes - 1) → view l.first ≡ first_pass o (l.passes - 1) (l.passes - l.counter);
   numbers : map pass_number l.made.items ≡ range_with_len 1 (l.counter - 1);
-  made : (o : ReaderState g.row.S.Denot) → view l.fn.first ≡ first_pass o (l.passes - 1) (l.passes - 1) → All (λ p. IsInSlot l.self.slot p × (knows p ≡ opened o l.passes (pass_number p))) l.made.items;
+  made : (o : ReaderState g.row.S.Denot) → view l.fn.first ≡ first_pass o (l.passes - 1) (l.passes - 1) → All (λ p. IsInSlot l.self.queue p × (knows p ≡ opened o l.passes (pass_number p))) l.made.items;
 }
