@@ -10,7 +10,7 @@ pub mod GrammarLaws
 pub mod MachineLaws
 pub mod NumberLaws
 pub mod PasteLaws
-pub mod PlainLaws
+pub mod WholeLaws
 pub mod QueueLaws
 pub mod RunLaws
 pub mod TakingLaws

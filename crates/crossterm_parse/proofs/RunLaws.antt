@@ -18,12 +18,12 @@ use Rattle.crossterm_types.specs.Seen.{Seen}
 use Rattle.memchr.specs.Find.{Nowhere, Passes, is_byte}
 use Rattle.crossterm_parse.specs.Marked.{Marked, bytes_of, marked}
 use Rattle.crossterm_parse.specs.View.{ParserView, Represents, AdvancesOver}
-use Rattle.crossterm_parse.specs.inside.Plain.{EndsFrom}
+use Rattle.crossterm_parse.specs.inside.InFront.{EndsFrom}
 use Rattle.crossterm_parse.specs.declared.fields.Fields.{Fields}
 use Rattle.crossterm_parse.specs.declared.numbered.Parameters.{Parameters}
 use Rattle.crossterm_parse.specs.declared.utf8.Validity.{Validity}
 use Rattle.crossterm_parse.specs.declared.utf8.Validity.TheVariants.{Sound}
-use Rattle.crossterm_parse.specs.declared.plain.PlainSequence.{PlainSequence}
+use Rattle.crossterm_parse.specs.declared.whole.WholeSequence.{WholeSequence}
 use Rattle.crossterm_parse.specs.declared.paste.Met.TheVariants as met
 use Rattle.crossterm_parse.specs.declared.paste.Opening.TheVariants as opening
 use Rattle.crossterm_parse.specs.declared.state.State.{State}
@@ -288,7 +288,7 @@ some_bytes [] b = omega arith
 some_bytes (c ∷ bs) b = omega arith
 
 -- ESC, and a whole sequence behind it
-pub sequence_on : (raw : Bool) (s : State) (bs : List ℕ) (it : PlainSequence) (w : List Seen) → s ≡ Ground → 0 < length bs → slice_index bs 0 ≡ 27
+pub sequence_on : (raw : Bool) (s : State) (bs : List ℕ) (it : WholeSequence) (w : List Seen) → s ≡ Ground → 0 < length bs → slice_index bs 0 ≡ 27
     → EndsFrom Escape (take (length bs - 1) (drop 1 bs)) raw it
     → PutsOn raw (bare s w) (bare s (w ++ map seen_meaning (option_to_list it.meaning))) (take (1 + it.count) bs)
 sequence_on raw s bs it w ground some escape ends =

@@ -1,3 +1,3 @@
 pub mod Blocks
-pub mod Plain
+pub mod InFront
 pub mod Queue

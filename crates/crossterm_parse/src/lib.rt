@@ -78,7 +78,7 @@ pub mod numbered;
 pub mod outlet;
 pub mod parse;
 pub mod paste;
-mod plain;
+mod whole;
 pub mod readings;
 pub mod state;
 pub mod steps;

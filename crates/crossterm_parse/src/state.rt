@@ -320,7 +320,7 @@ impl State {
 
     /// A byte after `ESC [`: the mode and a pause change nothing.
     #[inline(always)]
-    fn introduce(&mut self, byte: u8) -> bool
+    pub(crate) fn introduce(&mut self, byte: u8) -> bool
         requires { self.old ≡ State.Csi }
         ensures reads { ReadsOneByte self.old self.new byte result }
         ensures outside { is_paste self.new ≡ false }

@@ -8,7 +8,7 @@ ghost use Rattle.crossterm_parse.specs.declared.state.State.TheVariants.{Ground}
 
 use crate::meaning::byte_key;
 use crate::parse::Parser;
-use crate::plain::meaning_in;
+use crate::whole::meaning_in;
 use crossterm_types::event::{Event, InternalEvent, KeyEvent};
 use std::alloc::Allocator;
 

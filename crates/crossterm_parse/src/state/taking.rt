@@ -11,7 +11,7 @@ ghost use Rattle.crossterm_parse.specs.View.{AdvancesOver};
 use crate::character::character_in;
 use crate::meaning::{Meaning, byte_key};
 use crate::outlet::Outlet;
-use crate::plain::sequence_in;
+use crate::whole::sequence_in;
 use crate::state::State;
 use crate::steps::Steps;
 use std::sync::ledger::Ledger;

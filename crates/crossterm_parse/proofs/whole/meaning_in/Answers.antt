@@ -8,7 +8,7 @@ use Rattle.crossterm_parse.specs.declared.meaning.Meaning.TheVariants.{Key}
 use Rattle.crossterm_parse.specs.declared.state.State.TheVariants.{Ground}
 use Rattle.crossterm_parse.proofs.RunLaws.{all_on, sequence_on}
 use Rattle.crossterm_parse.proofs.TakingLaws.{one_character}
-use Rattle.crossterm_parse.proofs.plain.meaning_in.Goals as goal
+use Rattle.crossterm_parse.proofs.whole.meaning_in.Goals as goal
 
 pub returns-in_ok-meaning-in-27 : goal.returns-in_ok-meaning-in-27
 returns-in_ok-meaning-in-27 c =

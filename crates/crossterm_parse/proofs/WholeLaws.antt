@@ -11,7 +11,7 @@ use Rattle.crossterm_parse.specs.Numbered.{numbered_by, sgr_by}
 use Rattle.crossterm_parse.specs.Transitions.{Opens, empty_parameters, number_ends, opens_after, opens_with, parameters_after, readings_at, state_after, fields_after, number_after, Open, Whole, utf8_after}
 use Rattle.crossterm_parse.specs.States.{is_paste}
 use Rattle.crossterm_parse.specs.Recognizer.{is_final, is_mouse_end}
-use Rattle.crossterm_parse.specs.inside.Plain.{AreNumbers, EndsFrom, IsNumber, in_first, in_kind, in_second, in_third, last_through, number_through, kept_of}
+use Rattle.crossterm_parse.specs.inside.InFront.{AreNumbers, EndsFrom, IsNumber, in_first, in_kind, in_second, in_third, last_through, number_through, kept_of}
 use Rattle.crossterm_parse.specs.declared.fields.Fields.{Fields}
 use Rattle.crossterm_parse.specs.declared.meaning.Meaning.{Meaning}
 use Rattle.crossterm_parse.specs.declared.number.Number.{Number}
@@ -19,8 +19,8 @@ use Rattle.crossterm_parse.specs.declared.number.Number.TheVariants.{Empty, Valu
 use Rattle.crossterm_parse.specs.declared.numbered.Parameters.{Parameters}
 use Rattle.crossterm_parse.specs.declared.paste.Opening.{Opening}
 use Rattle.crossterm_parse.specs.declared.paste.Opening.TheVariants as opening
-use Rattle.crossterm_parse.specs.declared.plain.PlainNumber.{PlainNumber}
-use Rattle.crossterm_parse.specs.declared.plain.PlainSequence.{PlainSequence}
+use Rattle.crossterm_parse.specs.declared.whole.WholeNumber.{WholeNumber}
+use Rattle.crossterm_parse.specs.declared.whole.WholeSequence.{WholeSequence}
 use Rattle.crossterm_parse.specs.declared.readings.Readings.{Readings}
 use Rattle.crossterm_parse.specs.declared.state.State.{State}
 use Rattle.crossterm_parse.specs.declared.state.State.TheVariants.{Csi, Numbered, Sgr}
@@ -120,7 +120,7 @@ digits_open state on at reads (b ∷ bs) n l all =
     )
 
 -- a number whole
-number_open : (state : Parameters → State) → GoesOn state → (at : Number → Fields) → ReadsDigits at → (bs : List ℕ) (n : PlainNumber) (l : ℕ) → (i : IsNumber bs n)
+number_open : (state : Parameters → State) → GoesOn state → (at : Number → Fields) → ReadsDigits at → (bs : List ℕ) (n : WholeNumber) (l : ℕ) → (i : IsNumber bs n)
     → Opens (state (kept_of (at Empty) l)) (state (kept_of (at (Value n.value)) n.digit)) i.text
 number_open state on at reads bs n l i =
     let value = i.value in
@@ -129,7 +129,7 @@ number_open state on at reads bs n l i =
     (subst (λ (m : Number). Opens (state (kept_of (at Empty) l)) (state (kept_of (at m) (last_through l i.text))) i.text) value (digits_open state on at reads i.text Empty l i.digits))
 
 -- a number, and `;` or `:` behind it
-pub number_opens : (state : Parameters → State) → GoesOn state → (at : Number → Fields) → ReadsDigits at → (bs : List ℕ) (n : PlainNumber) (l e : ℕ) (next : Fields) → IsNumber bs n
+pub number_opens : (state : Parameters → State) → GoesOn state → (at : Number → Fields) → ReadsDigits at → (bs : List ℕ) (n : WholeNumber) (l e : ℕ) (next : Fields) → IsNumber bs n
     → n.end ≡ e → 48 ≤ e → e ≤ 59 → parameters_after (kept_of (at (Value n.value)) n.digit) e ≡ kept_of next e
     → Opens (state (kept_of (at Empty) l)) (state (kept_of next e)) (take n.count bs)
 number_opens state on at reads bs n l e next i end low high after =
@@ -140,7 +140,7 @@ number_opens state on at reads bs n l e next i end low high after =
     (number_open state on at reads bs n l i) (λ raw pause. goes.0 raw pause ∙ ap (λ (p : Parameters). Open (state p)) after) (on (kept_of next e) 48 (omega arith) (omega arith)).1)
 
 -- a number with which the sequence is whole
-pub number_ends_it : (state : Parameters → State) → GoesOn state → (at : Number → Fields) → ReadsDigits at → (bs : List ℕ) (n : PlainNumber) (l : ℕ) (raw : Bool) (m : Option Meaning) → IsNumber bs n
+pub number_ends_it : (state : Parameters → State) → GoesOn state → (at : Number → Fields) → ReadsDigits at → (bs : List ℕ) (n : WholeNumber) (l : ℕ) (raw : Bool) (m : Option Meaning) → IsNumber bs n
     → ((pause : Bool) → state_after (state (kept_of (at (Value n.value)) n.digit)) n.end raw pause ≡ Whole m)
     → EndsFrom (state (kept_of (at Empty) l)) bs raw (record { meaning = m; count = n.count })
 number_ends_it state on at reads bs n l raw m i whole = record {
@@ -161,7 +161,7 @@ joined bs i n text e within rest is = (
   take-add i n bs ∙ ap (λ (cs : List ℕ). take i bs ++ take n cs) (sym (take_rest bs i)) ∙ ap (λ (cs : List ℕ). take i bs ++ cs) is ∙ sym (append_assoc (take i bs) text (e ∷ [])),
 )
 
-pub ends_after : (s t : State) (bs : List ℕ) (i : ℕ) (raw : Bool) (it : PlainSequence) → i ≤ length bs → Opens s t (take i bs) → EndsFrom t (take (length bs - i) (drop i bs)) raw it
+pub ends_after : (s t : State) (bs : List ℕ) (i : ℕ) (raw : Bool) (it : WholeSequence) → i ≤ length bs → Opens s t (take i bs) → EndsFrom t (take (length bs - i) (drop i bs)) raw it
     → EndsFrom s bs raw (record { meaning = it.meaning; count = i + it.count })
 ends_after s t bs i raw it within opens ends =
     let front = joined bs i it.count ends.text ends.last within ends.within ends.is in
@@ -178,7 +178,7 @@ ends_after s t bs i raw it within opens ends =
 first_byte : (bs : List ℕ) → 0 < length bs → take 1 bs ≡ slice_index bs 0 ∷ []
 first_byte bs some = ap (λ (cs : List ℕ). take 1 cs) (drop_more bs 0 0 some)
 
-pub ends_behind : (s t : State) (bs : List ℕ) (raw : Bool) (it : PlainSequence) → 0 < length bs
+pub ends_behind : (s t : State) (bs : List ℕ) (raw : Bool) (it : WholeSequence) → 0 < length bs
     → ((raw pause : Bool) → state_after s (slice_index bs 0) raw pause ≡ Open t) → is_paste t ≡ false → EndsFrom t (take (length bs - 1) (drop 1 bs)) raw it
     → EndsFrom s bs raw (record { meaning = it.meaning; count = 1 + it.count })
 ends_behind s t bs raw it some opens outside ends =
@@ -286,7 +286,7 @@ first_opens (b ∷ bs) v d all value last = (
   λ is. opens_200 b bs v is value,
 )
 
-pub first_field : (bs : List ℕ) (n : PlainNumber) → IsNumber bs n → n.end ≡ 59 → Opens Csi (opened (kept_of (in_second n.value Empty) 59)) (take n.count bs)
+pub first_field : (bs : List ℕ) (n : WholeNumber) → IsNumber bs n → n.end ≡ 59 → Opens Csi (opened (kept_of (in_second n.value Empty) 59)) (take n.count bs)
 first_field bs n i end =
     let first = first_opens i.text n.value n.digit i.digits i.value i.last in
     let is : take n.count bs ≡ i.text ++ 59 ∷ [] = i.is ∙ ap (λ (b : ℕ). i.text ++ b ∷ []) end in
@@ -295,7 +295,7 @@ first_field bs n i end =
     (λ raw pause. number_on (kept_of (in_first (Value n.value)) n.digit) first.0 59 (omega arith) (omega arith) raw pause
     ∙ ap (λ (o : Opening). Open (Numbered (kept_of (in_second n.value Empty) 59) o)) (opens_not first.0)) refl)
 
-pub one_number : (bs : List ℕ) (n : PlainNumber) (r : Readings) → IsNumber bs n → n.value ≢ 200 → r ≡ readings_at (kept_of (in_first (Value n.value)) n.digit)
+pub one_number : (bs : List ℕ) (n : WholeNumber) (r : Readings) → IsNumber bs n → n.value ≢ 200 → r ≡ readings_at (kept_of (in_first (Value n.value)) n.digit)
     → AreNumbers bs r n.end n.count
 one_number bs n r i apart reads =
     let first = first_opens i.text n.value n.digit i.digits i.value i.last in
@@ -311,7 +311,7 @@ one_number bs n r i apart reads =
     }
 
 -- the last one of several
-pub last_number : (at : Number → Fields) → ReadsDigits at → (bs : List ℕ) (i l : ℕ) (n : PlainNumber) (r : Readings) → i ≤ length bs → Opens Csi (opened (kept_of (at Empty) l)) (take i bs)
+pub last_number : (at : Number → Fields) → ReadsDigits at → (bs : List ℕ) (i l : ℕ) (n : WholeNumber) (r : Readings) → i ≤ length bs → Opens Csi (opened (kept_of (at Empty) l)) (take i bs)
     → IsNumber (take (length bs - i) (drop i bs)) n → r ≡ readings_at (kept_of (at (Value n.value)) n.digit) → AreNumbers bs r n.end (i + n.count)
 last_number at reads bs i l n r within opens number are =
     let behind = take (length bs - i) (drop i bs) in

@@ -3,9 +3,9 @@ use Rattle.std.proofs.lemmas.Bool.Decides.{nat_tests}
 use Rattle.crossterm_parse.specs.Transitions.{empty_parameters, state_after, Open, Whole}
 use Rattle.crossterm_parse.specs.declared.meaning.Meaning.{Meaning}
 use Rattle.crossterm_parse.specs.declared.state.State.TheVariants.{Csi, Sgr}
-use Rattle.crossterm_parse.proofs.PlainLaws.{ends_at_once, ends_behind}
+use Rattle.crossterm_parse.proofs.WholeLaws.{ends_at_once, ends_behind}
 use Rattle.crossterm_parse.proofs.TakingLaws.{rest_size}
-use Rattle.crossterm_parse.proofs.plain.control_in.Goals as goal
+use Rattle.crossterm_parse.proofs.whole.control_in.Goals as goal
 
 pub overflow_add-result : goal.overflow_add-result
 overflow_add-result c =

@@ -3,9 +3,9 @@ use Rattle.crossterm_parse.specs.Meaning.{after_ss3}
 use Rattle.crossterm_parse.specs.Transitions.{state_after, Whole}
 use Rattle.crossterm_parse.specs.declared.meaning.Meaning.{Meaning}
 use Rattle.crossterm_parse.specs.declared.state.State.TheVariants.{Escape, Ss3, Csi}
-use Rattle.crossterm_parse.proofs.PlainLaws.{ends_at_once, ends_behind}
+use Rattle.crossterm_parse.proofs.WholeLaws.{ends_at_once, ends_behind}
 use Rattle.crossterm_parse.proofs.TakingLaws.{rest_at, rest_size}
-use Rattle.crossterm_parse.proofs.plain.sequence_in.Goals as goal
+use Rattle.crossterm_parse.proofs.whole.sequence_in.Goals as goal
 
 pub returns-in-79 : goal.returns-in-79
 returns-in-79 c =

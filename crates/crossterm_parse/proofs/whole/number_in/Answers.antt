@@ -2,10 +2,10 @@ use Rattle.std.proofs.Common.{◌≡◌, ◌≤◌, ◌+◌, ◌*◌, ◌-◌, �
 use Rattle.std.proofs.lemmas.List.{take_more}
 use Rattle.std.proofs.lemmas.Bool.Decides.{nat_tests}
 use Rattle.crossterm_parse.specs.Bytes.{is_digit}
-use Rattle.crossterm_parse.specs.inside.Plain.{last_through, number_through}
+use Rattle.crossterm_parse.specs.inside.InFront.{last_through, number_through}
 use Rattle.crossterm_parse.specs.declared.number.Number.TheVariants.{Empty, Value}
-use Rattle.crossterm_parse.proofs.PlainLaws.{Digits, digits_more, last_more, value_more}
-use Rattle.crossterm_parse.proofs.plain.number_in.Goals as goal
+use Rattle.crossterm_parse.proofs.WholeLaws.{Digits, digits_more, last_more, value_more}
+use Rattle.crossterm_parse.proofs.whole.number_in.Goals as goal
 
 pub loop-i-init : goal.loop-i-init
 loop-i-init c = record { digits = tt; none = λ e. refl; some = λ h. absurd (omega (arith, h)); last = refl; small = omega arith }

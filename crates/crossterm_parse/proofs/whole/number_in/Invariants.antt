@@ -1,8 +1,8 @@
 use Rattle.std.proofs.Common.{◌≡◌, ◌<◌, take}
 use Rattle.crossterm_parse.specs.declared.number.Number.TheVariants.{Empty, Value}
-use Rattle.crossterm_parse.specs.inside.Plain.{last_through, number_through}
-use Rattle.crossterm_parse.proofs.PlainLaws.{Digits}
-use Rattle.crossterm_parse.proofs.plain.number_in.Given as goal
+use Rattle.crossterm_parse.specs.inside.InFront.{last_through, number_through}
+use Rattle.crossterm_parse.proofs.WholeLaws.{Digits}
+use Rattle.crossterm_parse.proofs.whole.number_in.Given as goal
 
 -- the bytes before this one are digits, and were read
 abbrev pub invariant-loop-i : goal.invariant-loop-i

@@ -1,11 +1,11 @@
 use Rattle.std.proofs.Common.{rules, ◌+◌, ◌-◌, arith, refl, take, drop, length}
-use Rattle.crossterm_parse.specs.inside.Plain.{in_kind, in_second, kept_of}
+use Rattle.crossterm_parse.specs.inside.InFront.{in_kind, in_second, kept_of}
 use Rattle.crossterm_parse.specs.declared.number.Number.TheVariants.{Empty}
 use Rattle.crossterm_parse.specs.declared.state.State.TheVariants.{Csi}
-use Rattle.crossterm_parse.proofs.PlainLaws.{first_field, last_number, number_goes_on, number_opens, one_number, opened, reads_kind, reads_second}
+use Rattle.crossterm_parse.proofs.WholeLaws.{first_field, last_number, number_goes_on, number_opens, one_number, opened, reads_kind, reads_second}
 use Rattle.crossterm_parse.proofs.RunLaws.{opens_on}
 use Rattle.crossterm_parse.proofs.TakingLaws.{rest_size}
-use Rattle.crossterm_parse.proofs.plain.numbered_in.Goals as goal
+use Rattle.crossterm_parse.proofs.whole.numbered_in.Goals as goal
 
 pub returns-then-first-ne59 : goal.returns-then-first-ne59
 returns-then-first-ne59 c = c.ended.ensures c.args.bytes.now (one_number c.args.bytes.now c.in_ok-first.first c.one.result c.in_ok-first.ensures (search rules) c.one.ensures)

@@ -1,11 +1,11 @@
-//! Plain sequences: those of `ESC O`, of `ESC [` and a final byte, and of plain numbers, each of six digits at most.
+//! Plain sequences that are whole: those of `ESC O`, of `ESC [` and a final byte, and of plain numbers, each of six digits at most.
 //!
-//! One that is whole is read at once, with its numbers in registers: nearly all keys and reports of the mouse come so. What isn't plain is
-//! read byte by byte into a `State`, with the same meaning.
+//! One is read at once, with its numbers in registers: nearly all keys and reports of the mouse come so. What isn't plain, or isn't whole yet,
+//! is read byte by byte into a `State`, with the same meaning.
 ghost use Rattle.std.specs.Prelude.{◌≡◌, ◌<◌, ℕ, Bool, List, length, IfSome, IsTrue};
 ghost use Rattle.crossterm_parse.specs.Bytes.{is_digit};
 ghost use Rattle.crossterm_parse.specs.Transitions.{empty_parameters, readings_at, state_after, Whole};
-ghost use Rattle.crossterm_parse.specs.inside.Plain.{AreNumbers, EndsFrom, IsNumber, in_first, in_kind, in_second, in_third, kept_of};
+ghost use Rattle.crossterm_parse.specs.inside.InFront.{AreNumbers, EndsFrom, IsNumber, in_first, in_kind, in_second, in_third, kept_of};
 ghost use Rattle.crossterm_parse.specs.Meaning.{after_csi};
 ghost use Rattle.crossterm_parse.specs.Putting.{GivesInFront};
 ghost use Rattle.crossterm_parse.specs.declared.number.Number.TheVariants.{Value};
@@ -15,10 +15,11 @@ use crate::character::character_in;
 use crate::meaning::{Meaning, meaning_after_csi, meaning_after_ss3, typed_key};
 use crate::numbered::{is_final_byte, is_mouse_final};
 use crate::readings::Readings;
+use crate::state::State;
 
 /// A number in front, and the byte behind it.
 #[derive(Clone, Copy)]
-pub struct PlainNumber {
+pub struct WholeNumber {
     pub value: u32,
     /// Its last digit.
     pub digit: u8,
@@ -30,7 +31,7 @@ pub struct PlainNumber {
 
 /// A sequence in front that is whole.
 #[derive(Clone, Copy)]
-pub struct PlainSequence {
+pub struct WholeSequence {
     pub meaning: Option<Meaning>,
     /// How many bytes it has.
     pub count: usize,
@@ -48,7 +49,7 @@ fn is_digit(byte: u8) -> bool
 
 /// The number in front, if it has six digits at most and a byte behind it.
 #[inline(always)]
-fn number_in(bytes: &[u8]) -> Option<PlainNumber>
+fn number_in(bytes: &[u8]) -> Option<WholeNumber>
     ensures { IfSome result (λ it. IsNumber bytes.now it) }
 {
     let mut value = 0;
@@ -58,7 +59,7 @@ fn number_in(bytes: &[u8]) -> Option<PlainNumber>
             digit = *byte;
             value = value * 10 + u32::from(digit - b'0');
         } else if i > 0 {
-            return Some(PlainNumber {
+            return Some(WholeNumber {
                 value,
                 digit,
                 end: *byte,
@@ -73,7 +74,7 @@ fn number_in(bytes: &[u8]) -> Option<PlainNumber>
 
 /// What is read of one number.
 #[inline(always)]
-fn one(first: PlainNumber) -> Readings
+fn one(first: WholeNumber) -> Readings
     ensures { result ≡ readings_at (kept_of (in_first (Value first.value)) first.digit) }
 {
     Readings {
@@ -91,7 +92,7 @@ fn one(first: PlainNumber) -> Readings
 
 /// What is read of a number, and of a second one behind `;`.
 #[inline(always)]
-fn two(first: PlainNumber, second: PlainNumber) -> Readings
+fn two(first: WholeNumber, second: WholeNumber) -> Readings
     ensures { result ≡ readings_at (kept_of (in_second first.value (Value second.value)) second.digit) }
 {
     Readings {
@@ -104,7 +105,7 @@ fn two(first: PlainNumber, second: PlainNumber) -> Readings
 
 /// What is read of a number, of a second one behind `;`, and of its kind behind `:`.
 #[inline(always)]
-fn with_kind(first: PlainNumber, mask: PlainNumber, kind: PlainNumber) -> Readings
+fn with_kind(first: WholeNumber, mask: WholeNumber, kind: WholeNumber) -> Readings
     ensures { result ≡ readings_at (kept_of (in_kind first.value mask.value (Value kind.value)) kind.digit) }
 {
     Readings {
@@ -117,7 +118,7 @@ fn with_kind(first: PlainNumber, mask: PlainNumber, kind: PlainNumber) -> Readin
 
 /// What is read of three numbers with `;` between them.
 #[inline(always)]
-fn three(first: PlainNumber, second: PlainNumber, third: PlainNumber) -> Readings
+fn three(first: WholeNumber, second: WholeNumber, third: WholeNumber) -> Readings
     ensures { result ≡ readings_at (kept_of (in_third first.value second.value (Value third.value)) third.digit) }
 {
     Readings {
@@ -129,7 +130,7 @@ fn three(first: PlainNumber, second: PlainNumber, third: PlainNumber) -> Reading
 
 /// The report of the mouse in front, behind `ESC [ <`.
 #[inline(always)]
-fn report_in(bytes: &[u8]) -> Option<PlainSequence>
+fn report_in(bytes: &[u8]) -> Option<WholeSequence>
     ensures { IfSome result (λ it. (raw : Bool) → EndsFrom (Sgr empty_parameters) bytes.now raw it) }
 {
     let code = number_in(bytes)?;
@@ -145,7 +146,7 @@ fn report_in(bytes: &[u8]) -> Option<PlainSequence>
     if !is_mouse_final(row.end) {
         return None;
     }
-    Some(PlainSequence {
+    Some(WholeSequence {
         meaning: three(code, column, row).sgr(row.end),
         count: place + row.count,
     })
@@ -153,13 +154,13 @@ fn report_in(bytes: &[u8]) -> Option<PlainSequence>
 
 /// The sequence of numbers behind `ESC [`, if the byte behind them is a final byte.
 #[inline(always)]
-fn ended(readings: Readings, end: u8, count: usize, raw: bool) -> Option<PlainSequence>
+fn ended(readings: Readings, end: u8, count: usize, raw: bool) -> Option<WholeSequence>
     ensures { (bytes : List ℕ) → AreNumbers bytes readings end count → IfSome result (λ it. EndsFrom Csi bytes raw it) }
 {
     if !is_final_byte(end) {
         return None;
     }
-    Some(PlainSequence {
+    Some(WholeSequence {
         meaning: readings.meaning(end, raw),
         count,
     })
@@ -167,7 +168,7 @@ fn ended(readings: Readings, end: u8, count: usize, raw: bool) -> Option<PlainSe
 
 /// The numbered sequence in front, behind `ESC [`: of a number, of two with `;` between them, or of three with `:` before the third one.
 #[inline(always)]
-fn numbered_in(bytes: &[u8], raw: bool) -> Option<PlainSequence>
+fn numbered_in(bytes: &[u8], raw: bool) -> Option<WholeSequence>
     ensures { IfSome result (λ it. EndsFrom Csi bytes.now raw it) }
 {
     let first = number_in(bytes)?;
@@ -196,12 +197,12 @@ fn numbered_in(bytes: &[u8], raw: bool) -> Option<PlainSequence>
 fn is_whole(byte: u8) -> bool
     ensures { IsTrue result → (raw pause : Bool) → state_after Csi byte raw pause ≡ Whole (after_csi byte) }
 {
-    !matches!(byte, b'0'..=b'9' | b'<' | b'[' | b'M' | b'?')
+    !State::Csi.introduce(byte)
 }
 
 /// The sequence in front, behind `ESC [`.
 #[inline(always)]
-fn control_in(bytes: &[u8], raw: bool) -> Option<PlainSequence>
+fn control_in(bytes: &[u8], raw: bool) -> Option<WholeSequence>
     ensures { IfSome result (λ it. EndsFrom Csi bytes.now raw it) }
 {
     if bytes.is_empty() {
@@ -210,13 +211,13 @@ fn control_in(bytes: &[u8], raw: bool) -> Option<PlainSequence>
     match bytes[0] {
         b'0'..=b'9' => numbered_in(bytes, raw),
         b'<' => match report_in(&bytes[1..]) {
-            Some(report) => Some(PlainSequence {
+            Some(report) => Some(WholeSequence {
                 meaning: report.meaning,
                 count: 1 + report.count,
             }),
             None => None,
         },
-        last if is_whole(last) => Some(PlainSequence {
+        last if is_whole(last) => Some(WholeSequence {
             meaning: meaning_after_csi(last),
             count: 1,
         }),
@@ -226,19 +227,19 @@ fn control_in(bytes: &[u8], raw: bool) -> Option<PlainSequence>
 
 /// The sequence in front, behind ESC.
 #[inline(always)]
-pub fn sequence_in(bytes: &[u8], raw: bool) -> Option<PlainSequence>
+pub fn sequence_in(bytes: &[u8], raw: bool) -> Option<WholeSequence>
     ensures { IfSome result (λ it. EndsFrom Escape bytes.now raw it) }
 {
     if bytes.len() < 2 {
         return None;
     }
     match bytes[0] {
-        b'O' => Some(PlainSequence {
+        b'O' => Some(WholeSequence {
             meaning: meaning_after_ss3(bytes[1]),
             count: 2,
         }),
         b'[' => match control_in(&bytes[1..], raw) {
-            Some(sequence) => Some(PlainSequence {
+            Some(sequence) => Some(WholeSequence {
                 meaning: sequence.meaning,
                 count: 1 + sequence.count,
             }),

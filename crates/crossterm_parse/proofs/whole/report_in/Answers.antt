@@ -2,14 +2,14 @@ use Rattle.std.proofs.Common.{rules, ◌≡◌, ◌+◌, ◌-◌, arith, refl, a
 use Rattle.crossterm_parse.specs.Numbered.{sgr_by}
 use Rattle.crossterm_parse.specs.Transitions.{empty_parameters}
 use Rattle.crossterm_parse.specs.Recognizer.{is_mouse_end}
-use Rattle.crossterm_parse.specs.inside.Plain.{in_first, in_second, in_third, kept_of}
+use Rattle.crossterm_parse.specs.inside.InFront.{in_first, in_second, in_third, kept_of}
 use Rattle.crossterm_parse.specs.declared.number.Number.TheVariants.{Empty, Value}
 use Rattle.crossterm_parse.specs.declared.readings.Readings.{Readings}
 use Rattle.crossterm_parse.specs.declared.state.State.TheVariants.{Sgr}
-use Rattle.crossterm_parse.proofs.PlainLaws.{ends_after, number_ends_it, number_opens, reads_first, reads_second, reads_third, report_goes_on, report_whole}
+use Rattle.crossterm_parse.proofs.WholeLaws.{ends_after, number_ends_it, number_opens, reads_first, reads_second, reads_third, report_goes_on, report_whole}
 use Rattle.crossterm_parse.proofs.RunLaws.{opens_on}
 use Rattle.crossterm_parse.proofs.TakingLaws.{rest_size}
-use Rattle.crossterm_parse.proofs.plain.report_in.Goals as goal
+use Rattle.crossterm_parse.proofs.whole.report_in.Goals as goal
 
 pub returns : goal.returns
 returns c raw =

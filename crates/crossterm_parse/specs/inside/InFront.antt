@@ -12,8 +12,8 @@ use Rattle.crossterm_parse.specs.declared.number.Number.TheVariants.{Empty, Valu
 use Rattle.crossterm_parse.specs.declared.numbered.Parameters.{Parameters}
 use Rattle.crossterm_parse.specs.declared.paste.Opening.{Opening}
 use Rattle.crossterm_parse.specs.declared.paste.Opening.TheVariants as opening
-use Rattle.crossterm_parse.specs.declared.plain.PlainNumber.{PlainNumber}
-use Rattle.crossterm_parse.specs.declared.plain.PlainSequence.{PlainSequence}
+use Rattle.crossterm_parse.specs.declared.whole.WholeNumber.{WholeNumber}
+use Rattle.crossterm_parse.specs.declared.whole.WholeSequence.{WholeSequence}
 use Rattle.crossterm_parse.specs.declared.readings.Readings.{Readings}
 use Rattle.crossterm_parse.specs.declared.state.State.{State}
 use Rattle.crossterm_parse.specs.declared.state.State.TheVariants.{Csi, Numbered}
@@ -52,7 +52,7 @@ abbrev pub kept_of : Fields → ℕ → Parameters
 kept_of fields last = record { fields = fields; last = last; validity = Sound }
 
 -- The bytes begin with digits, which are this number, and the byte behind them.
-pub record IsNumber (bytes : List ℕ) (n : PlainNumber) : Type 0 where
+pub record IsNumber (bytes : List ℕ) (n : WholeNumber) : Type 0 where
   pub within : n.count ≤ length bytes
   pub text : List ℕ
   pub is : take n.count bytes ≡ text ++ n.end ∷ []
@@ -72,7 +72,7 @@ pub record AreNumbers (bytes : List ℕ) (readings : Readings) (end count : ℕ)
   pub reads : readings ≡ readings_at parameters
 
 -- From this state on the bytes begin with those of a sequence that is whole with the last one, and means this.
-pub record EndsFrom (old : State) (bytes : List ℕ) (raw : Bool) (it : PlainSequence) : Type 0 where
+pub record EndsFrom (old : State) (bytes : List ℕ) (raw : Bool) (it : WholeSequence) : Type 0 where
   pub within : it.count ≤ length bytes
   pub state : State
   pub text : List ℕ
