@@ -197,7 +197,8 @@ fn numbered_in(bytes: &[u8], raw: bool) -> Option<WholeSequence>
 fn is_whole(byte: u8) -> bool
     ensures { IsTrue result → (raw pause : Bool) → state_after Csi byte raw pause ≡ Whole (after_csi byte) }
 {
-    !State::Csi.introduce(byte)
+    let mut state = State::Csi;
+    !state.introduce(byte)
 }
 
 /// The sequence in front, behind `ESC [`.
