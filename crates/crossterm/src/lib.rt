@@ -16,7 +16,7 @@
 //! | `SttyDevice` asks its helper by the lines of its table; a mode that it read for a request is the one that it keeps | `SttyDevice::new`, `ModeDevice` |
 //! | a query fails before it asks; or it writes exactly its text, makes one call of the shared reader, and leaves raw mode as it was, or returns the error of the switch back | `cursor::position`, `terminal::{query_keyboard_enhancement_flags, supports_keyboard_enhancement}` |
 //!
-//! What to believe, in the order in which it reads (`specs/`), and where it is proved:
+//! What to believe, in the order in which it reads (`specs/`), and the contracts that it is proved by:
 //!
 //! | Definitions | Lines | Of | Contract |
 //! |---|---|---|---|

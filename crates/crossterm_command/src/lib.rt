@@ -11,7 +11,7 @@
 //! | on Ok exactly the command's text was written; on an Err of a kind other than `Other`, a prefix of it | `QueueableCommand::queue`, `ExecutableCommand::execute`, `queue_command`, `execute_command` |
 //! | an error of the writer, of the command and of the flush are distinguished, and the last leaves the whole text; bytes read back in one way at most | `write_command`, `send_command`, `write_text`; `laws::one_reading` |
 //!
-//! What to believe, in the order in which it reads (`specs/`), and where it is proved:
+//! What to believe, in the order in which it reads (`specs/`), and the contracts that it is proved by:
 //!
 //! | Definitions | Lines | Of | Contract |
 //! |---|---|---|---|

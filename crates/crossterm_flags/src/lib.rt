@@ -14,7 +14,7 @@
 //! | each operation of the three flag types is its definition on sets of bits; `iter` gives each named constant that is contained, then the bits without a name | each method; `FlagIter::next` |
 //! | `KeyModifiers` displays exactly the names of its bits; the JSON value of a set is its bits as a number, and any number below 256 reads as a set | `Display`; `to_value`, `from_value` |
 //!
-//! What to believe, in the order in which it reads (`specs/`), and where it is proved:
+//! What to believe, in the order in which it reads (`specs/`), and the contracts that it is proved by:
 //!
 //! | Definitions | Lines | Of | Contract |
 //! |---|---|---|---|

@@ -32,7 +32,7 @@
 //! | at most two steps for each byte, and at least one | `laws::{two_steps_a_byte, a_step_a_byte}` |
 //! | the length of the open paste, whose text is kept | `Parser::paste_len` |
 //!
-//! What to believe, in the order in which it reads (`specs/`), and where it is proved:
+//! What to believe, in the order in which it reads (`specs/`), and the contracts that it is proved by:
 //!
 //! | Definitions | Lines | Of | Contract |
 //! |---|---|---|---|

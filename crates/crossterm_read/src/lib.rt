@@ -29,7 +29,7 @@
 //! | a read with a limit is a read that took an event, or a poll that found none; a shared poll that makes no entry returns `Ok(false)` after its limit; every call puts the reader back | the same |
 //! | an item of a stream is the reply of one read with limit zero in that history, or an error, never `Interrupted`; a pending poll has registered its waker; both passes come back | `EventStream::{new, with_worker, poll_event, poll_next, close}`, `StreamWorker::join` |
 //!
-//! What to believe, in the order in which it reads (`specs/`), and where it is proved:
+//! What to believe, in the order in which it reads (`specs/`), and the contracts that it is proved by:
 //!
 //! | Definitions | Lines | Of | Contract |
 //! |---|---|---|---|

@@ -13,7 +13,7 @@
 //! | keys display exactly their names; each predicate and accessor is its table, in both directions | `Display`; each method |
 //! | the JSON value of an event reads back as that event, field by field; any other value is the error `Shape` | `to_value`, `from_value` |
 //!
-//! What to believe, in the order in which it reads (`specs/`), and where it is proved:
+//! What to believe, in the order in which it reads (`specs/`), and the contracts that it is proved by:
 //!
 //! | Definitions | Lines | Of | Contract |
 //! |---|---|---|---|
