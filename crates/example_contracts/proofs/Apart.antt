@@ -10,7 +10,7 @@ use Rattle.crossterm_read.specs.Calls.{taken}
 use Rattle.crossterm_read.specs.History.{Entry, Known, Differ, Extends, Meets, Sits, StartsWith, all_events, are_of, calls_by, taken_by}
 use Rattle.crossterm_read.specs.Replies.{Replied, Said, ToPoll, ToTake, ToQuery, Fault, shown}
 use Rattle.crossterm_read.specs.Store.{ReaderState}
-use Rattle.crossterm_read.proofs.Seating.{some_of, none_not, same_or_not}
+use Rattle.crossterm_read.proofs.Slotting.{some_of, none_not, same_or_not}
 use Rattle.example_contracts.specs.Apart.{ReadApart}
 
 there : (xs ys : List Entry) (e : Entry) → slice_get (xs ++ e ∷ ys) (length xs) ≡ Some e

@@ -11,9 +11,9 @@ ghost use Rattle.crossterm_parse.specs.View.{AdvancesOver};
 use crate::character::character_in;
 use crate::meaning::{Meaning, byte_key};
 use crate::outlet::Outlet;
-use crate::whole::sequence_in;
 use crate::state::State;
 use crate::steps::Steps;
+use crate::whole::sequence_in;
 use std::sync::ledger::Ledger;
 
 /// For how many typed characters an outlet has room, which is made for one at least.

@@ -114,7 +114,10 @@ impl<S: EventSource<A>, A: Allocator + Clone> EventReader<S, A> {
     {
         let start = clock.now();
         let timeout = PollTimeout::new(limit, start);
-        let Some(mut reader) = self.slot.take_within(rt, &mut pass.slot_pass, &timeout, clock) else {
+        let Some(mut reader) = self
+            .slot
+            .take_within(rt, &mut pass.slot_pass, &timeout, clock)
+        else {
             return Ok(false);
         };
         let result = reader.poll_while(&InTime { rt, timeout }, clock, &filter);

@@ -27,7 +27,10 @@ impl<S, A: Allocator> Pass<S, A> {
         requires idle { (view slot_pass).mine ≡ [] }
         ensures { result.slot_pass ≡ slot_pass }
     {
-        Pass { slot_pass, last: None }
+        Pass {
+            slot_pass,
+            last: None,
+        }
     }
 
     /// The arrival number of the event that this pass took last: how many events the reader was given before it.

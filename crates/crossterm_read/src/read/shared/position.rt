@@ -61,11 +61,19 @@ impl<S: EventSource<A>, A: Allocator + Clone> EventReader<S, A> {
     {
         let start = clock.now();
         let timeout = PollTimeout::new(Some(limit), start);
-        let Some(mut reader) = self.slot.take_within(rt, &mut pass.slot_pass, &timeout, clock) else {
+        let Some(mut reader) = self
+            .slot
+            .take_within(rt, &mut pass.slot_pass, &timeout, clock)
+        else {
             return Err(io::Error::from(io::ErrorKind::Other));
         };
         let taken = reader.query_while(&InTime { rt, timeout }, clock, &CursorPositionFilter);
-        self.slot.put::<Brand, _, R>(rt, &mut pass.slot_pass, reader, &(limit, start, &*clock, &taken));
+        self.slot.put::<Brand, _, R>(
+            rt,
+            &mut pass.slot_pass,
+            reader,
+            &(limit, start, &*clock, &taken),
+        );
         pass.last = last_after(pass.last, &taken);
         placed(taken)
     }

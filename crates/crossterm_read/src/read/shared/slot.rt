@@ -223,7 +223,10 @@ impl<S: EventSource<A>, A: Allocator> Slot<S, A> {
         ensures slot_pass { IsSamePass slot_pass.old slot_pass.new }
         ensures put { Put S.drawn M.made (view slot_pass.old) reader.value (view slot_pass.new) }
     {
-        match self.queue.push_as::<Puts<M>, R>(rt, slot_pass, Boxed { reader }) {
+        match self
+            .queue
+            .push_as::<Puts<M>, R>(rt, slot_pass, Boxed { reader })
+        {
             Ok(()) => self.puts.notify_one(),
             Err(_) => unreachable!(),
         }

@@ -54,12 +54,20 @@ impl<S: EventSource<A>, A: Allocator + Clone> EventReader<S, A> {
     {
         let start = clock.now();
         let timeout = PollTimeout::new(limit, start);
-        let Some(mut reader) = self.slot.take_within(rt, &mut pass.slot_pass, &timeout, clock) else {
+        let Some(mut reader) = self
+            .slot
+            .take_within(rt, &mut pass.slot_pass, &timeout, clock)
+        else {
             return Ok(None);
         };
         let patience = InTime { rt, timeout };
         let tried = reader.read_while(&patience, clock, AnyFilter::Event);
-        self.slot.put::<Brand, _, R>(rt, &mut pass.slot_pass, reader, &(limit, start, &*clock, &tried));
+        self.slot.put::<Brand, _, R>(
+            rt,
+            &mut pass.slot_pass,
+            reader,
+            &(limit, start, &*clock, &tried),
+        );
         pass.last = last_after_try(pass.last, &tried);
         users_tried(tried)
     }
