@@ -100,7 +100,7 @@ fn give_first<A: Allocator>(
     ensures keys { keys.new ≡ after_first (bound_of keymap.now) keys.old }
     ensures fewer { length keys.new < length keys.old }
     ensures len { deque_len waiting.new ≡ deque_len waiting.old + 1 }
-    ensures outcome_capacity { deque_capacity waiting.new ≡ deque_capacity waiting.old }
+    ensures capacity { deque_capacity waiting.new ≡ deque_capacity waiting.old }
 {
     let remaining = keys.as_slice();
     let key = first_of(remaining);
@@ -119,7 +119,7 @@ pub(crate) fn give_decided<A: Allocator>(
     ensures waiting { map outcome_seen waiting.new.items ≡ map outcome_seen waiting.old.items ++ given (bound_of keymap.now) keys.old }
     ensures keys { keys.new ≡ left (bound_of keymap.now) keys.old }
     ensures short { length keys.new < 8 }
-    ensures outcome_capacity { deque_capacity waiting.new ≡ deque_capacity waiting.old }
+    ensures capacity { deque_capacity waiting.new ≡ deque_capacity waiting.old }
 {
     while !keys.is_empty() {
         if keymap.is_begun(keys.as_slice()) {
@@ -139,7 +139,7 @@ pub(crate) fn give_all<A: Allocator>(
     ensures waiting { map outcome_seen waiting.new.items ≡ map outcome_seen waiting.old.items ++ cut_keys (bound_of keymap.now) keys.old }
     ensures keys { keys.new ≡ [] }
     ensures room { deque_len waiting.new ≤ deque_len waiting.old + length keys.old }
-    ensures outcome_capacity { deque_capacity waiting.new ≡ deque_capacity waiting.old }
+    ensures capacity { deque_capacity waiting.new ≡ deque_capacity waiting.old }
 {
     while !keys.is_empty() {
         give_first(keymap, keys, waiting);

@@ -504,7 +504,7 @@ impl<A: Allocator + Clone> Editor<A> {
     /// The line's text. The line is remembered, and let go.
     fn accepted_text(&mut self) -> Result<String<A>, AllocError>
         ensures text { IfOk result (λ text. chars (string_bytes text) ≡ line_text self.old.line) }
-        ensures shown_part { IfOk result (λ text. AreShown (chars (string_bytes text))) }
+        ensures shown { IfOk result (λ text. AreShown (chars (string_bytes text))) }
         ensures ok { OnOk result (self.new ≡ accepted self.old) }
         ensures err { OnErr result (self.new ≡ self.old) }
     {
@@ -526,7 +526,7 @@ impl<A: Allocator + Clone> Editor<A> {
     /// ```
     pub fn accept(&mut self) -> Result<String<A>, EditFault>
         ensures text { IfOk result (λ text. chars (string_bytes text) ≡ line_text self.old.line) }
-        ensures shown_part { IfOk result (λ text. AreShown (chars (string_bytes text))) }
+        ensures shown { IfOk result (λ text. AreShown (chars (string_bytes text))) }
         ensures ok { OnOk result (self.new ≡ accepted self.old) }
         ensures err { OnErr result (self.new ≡ self.old) }
         ensures fault { IfErr result (λ fault. fault ≡ Memory) }

@@ -108,7 +108,7 @@ fn reach(text: &str, at: usize, target: Target) -> (usize, usize)
 fn meeting(text: &str, at: usize) -> usize
     requires { IsCharBoundary text.now at }
     ensures boundary { IsCharBoundary text.now result }
-    ensures target_place { split_at text.now result ≡ meeting (chars_before text.now at) (chars_from text.now at) }
+    ensures place { split_at text.now result ≡ meeting (chars_before text.now at) (chars_from text.now at) }
 {
     if at < text.len() {
         return at;

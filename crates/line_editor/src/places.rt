@@ -211,7 +211,7 @@ pub(crate) fn place_of(text: &str, at: usize, target: Target) -> usize
     ensures boundary { IsCharBoundary text.now result }
     ensures back { IsBack target → result ≤ at }
     ensures on { IsForward target → at ≤ result }
-    ensures target_place { split_at text.now result ≡ target_place target (split_at text.now at) }
+    ensures place { split_at text.now result ≡ target_place target (split_at text.now at) }
 {
     match target {
         Target::Back(stop) => {

@@ -37,7 +37,7 @@ pub(crate) fn shown_len(text: &str) -> usize
 /// A text's characters that come into a line.
 pub(crate) fn shown<A: Allocator>(alloc: A, text: &str) -> Result<String<A>, AllocError>
     ensures text { IfOk result (λ new. chars (string_bytes new) ≡ shown_part (chars text.now)) }
-    ensures shown_part { IfOk result (λ new. AreShown (chars (string_bytes new))) }
+    ensures shown { IfOk result (λ new. AreShown (chars (string_bytes new))) }
 {
     let mut new = String::new(alloc);
     let mut rest = text;
