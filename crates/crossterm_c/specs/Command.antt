@@ -194,16 +194,16 @@ copied content places = Osc (codes "52;" ++ (places ++ (codes ";" ++ encode_of s
 -- `Written`: the text is at the front of the slice, the rest of it is unchanged, and `n` is the text's length.
 -- `TooSmall`: the slice is shorter than the text and unchanged, and `n` is the text's length.
 -- `Failed`: `n` is 0, and the slice may have any bytes. `NamesNothing` isn't answered.
-abbrev pub AnswersText : List ℕ → List ℕ → List ℕ → ℕ → Outcome → Type 0
-AnswersText text old new n Written = (n ≡ length text) × (take n new ≡ text) × (drop n new ≡ drop n old)
-AnswersText text old new n TooSmall = (n ≡ length text) × (length old < n) × (new ≡ old)
-AnswersText text old new n NamesNothing = ⊥
-AnswersText text old new n Failed = n ≡ 0
+abbrev pub AnswersSlice : List ℕ → List ℕ → List ℕ → ℕ → Outcome → Type 0
+AnswersSlice text old new n Written = (n ≡ length text) × (take n new ≡ text) × (drop n new ≡ drop n old)
+AnswersSlice text old new n TooSmall = (n ≡ length text) × (length old < n) × (new ≡ old)
+AnswersSlice text old new n NamesNothing = ⊥
+AnswersSlice text old new n Failed = n ≡ 0
 
 -- What a call answers if the numbers may name nothing. Exactly then it answers `NamesNothing`, nothing was written,
 -- and `n` is 0.
 abbrev pub AnswersTo : Option (List ℕ) → List ℕ → List ℕ → ℕ → Outcome → Type 0
-AnswersTo (Some text) old new n outcome = AnswersText text old new n outcome
+AnswersTo (Some text) old new n outcome = AnswersSlice text old new n outcome
 AnswersTo None old new n outcome = (outcome ≡ NamesNothing) × (n ≡ 0) × (new ≡ old)
 
 -- What a call answers if a text has to be UTF-8. A text that isn't UTF-8 names nothing.

@@ -1,7 +1,7 @@
 //! Commands into a caller's slice.
 ghost use Rattle.std.specs.Prelude.{◌≡◌, ◌≤◌, ◌+◌, ℕ, List, length, IfSome, IfNone, IfOk, OnOk, Some, None};
 ghost use Rattle.std.specs.Fmt.{WritesText};
-ghost use Rattle.crossterm_c.specs.Command.{AnswersText, HasNotFailed, outcome_at};
+ghost use Rattle.crossterm_c.specs.Command.{AnswersSlice, HasNotFailed, outcome_at};
 ghost use Rattle.crossterm_c.specs.Outlet.{Puts};
 
 use arrayvec::ArrayString;
@@ -121,7 +121,7 @@ fn fill<C: Command>(command: &C, colors: ColorOutput, slice: &mut [u8]) -> Resul
 
 /// Writes a text.
 pub(crate) fn put(text: &str, slice: &mut [u8]) -> Answer
-    ensures text { AnswersText text.now slice.old slice.new result.length result.outcome }
+    ensures text { AnswersSlice text.now slice.old slice.new result.length result.outcome }
     ensures runs { HasNotFailed result.outcome }
 {
     let length = text.len();
@@ -141,7 +141,7 @@ pub(crate) fn put(text: &str, slice: &mut [u8]) -> Answer
 /// Writes a command whose text is long.
 #[inline(never)]
 fn write_long<C: Command>(command: &C, colors: ColorOutput, slice: &mut [u8]) -> Answer
-    ensures { IfSome (C.text command.now colors) (λ text. AnswersText text slice.old slice.new result.length result.outcome) }
+    ensures { IfSome (C.text command.now colors) (λ text. AnswersSlice text slice.old slice.new result.length result.outcome) }
 {
     let Ok(length) = fill(command, colors, &mut []) else {
         return Answer::failed();
@@ -164,7 +164,7 @@ fn write_long<C: Command>(command: &C, colors: ColorOutput, slice: &mut [u8]) ->
 /// Writes a command: at once if its text is short.
 #[inline(always)]
 pub(crate) fn write<C: Command>(command: &C, colors: ColorOutput, slice: &mut [u8]) -> Answer
-    ensures { IfSome (C.text command.now colors) (λ text. AnswersText text slice.old slice.new result.length result.outcome) }
+    ensures { IfSome (C.text command.now colors) (λ text. AnswersSlice text slice.old slice.new result.length result.outcome) }
 {
     let mut short = ArrayString::<48>::new();
     match command.write_ansi(&mut short, colors) {
@@ -176,7 +176,7 @@ pub(crate) fn write<C: Command>(command: &C, colors: ColorOutput, slice: &mut [u
 /// Writes a command whose text has no colours.
 #[inline(always)]
 pub(crate) fn write_plain<C: Command>(command: &C, slice: &mut [u8]) -> Answer
-    ensures { IfSome (C.text command.now ColorOutput.Enabled) (λ text. AnswersText text slice.old slice.new result.length result.outcome) }
+    ensures { IfSome (C.text command.now ColorOutput.Enabled) (λ text. AnswersSlice text slice.old slice.new result.length result.outcome) }
 {
     write(command, ColorOutput::Enabled, slice)
 }

@@ -18,7 +18,7 @@ use Rattle.hex.specs.Hex.{IsBytes, encode_lower, encode_with, lower_digits}
 use Rattle.hex.proofs.HexLemmas.{decode_of-encode_lower}
 use Rattle.crossterm_read.specs.Device.{DeviceAnswer, Bytes, Resized, Woken, Idle, Fault}
 use Rattle.recorder.specs.Lines.{entry_answers, entry, line, lines, stamp, text, times_of}
-use Rattle.recorder.specs.Reads.{EntriesReadBack, IsEntry, IsWritable, LinesReadBack, Session, is_comment, last_time, nothing, read_number, limited_after, only, or_else, pair, parts, read_after, read_hex, read_hex, read_line, read_next, read_then, read_time, read_numbers, read_pair, time_after, with_act, zeros}
+use Rattle.recorder.specs.Reads.{EntriesReadBack, IsEntry, IsWritable, LinesReadBack, Session, is_comment, last_time, nothing, read_number, limited_after, only, or_else, pair, parts, read_after, read_hex_bytes, read_hex, read_line, read_next, read_then, read_time, read_numbers, read_pair, time_after, with_act, zeros}
 use Rattle.recorder.proofs.Cutting.{parts_there}
 use Rattle.crossterm_types.proofs.Lists.{all_append}
 
@@ -252,10 +252,10 @@ fault_lacks kind.Uncategorized = refl
 
 bytes_back : (bytes : List ℕ) (raw : Bool) → IsBytes bytes → read_line (line (Bytes bytes raw)) ≡ Ok (Bytes bytes raw)
 bytes_back bytes true h =
-    ap (λ words. read_hex true (only words)) (one_part 32 (encode_lower bytes) (above_without 32 (omega arith) (encode_lower bytes) (hex_above bytes h)))
+    ap (λ words. read_hex_bytes true (only words)) (one_part 32 (encode_lower bytes) (above_without 32 (omega arith) (encode_lower bytes) (hex_above bytes h)))
     ∙ ap (read_hex true) (decode_of-encode_lower bytes h)
 bytes_back bytes false h =
-    ap (λ words. read_hex false (only words)) (one_part 32 (encode_lower bytes) (above_without 32 (omega arith) (encode_lower bytes) (hex_above bytes h)))
+    ap (λ words. read_hex_bytes false (only words)) (one_part 32 (encode_lower bytes) (above_without 32 (omega arith) (encode_lower bytes) (hex_above bytes h)))
     ∙ ap (read_hex false) (decode_of-encode_lower bytes h)
 
 size_back : (columns rows : ℕ) → columns < 65536 → rows < 65536 → read_line (line (Resized columns rows)) ≡ Ok (Resized columns rows)

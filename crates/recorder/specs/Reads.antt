@@ -42,13 +42,13 @@ read_hex raw (Ok bytes) = Ok (Bytes bytes raw)
 read_hex raw (Err e) = Err Argument
 
 -- The answer of bytes in hexadecimal digits, or the fault `Argument` if there are no valid digits.
-abbrev pub read_hex : Bool → Option (List ℕ) → Result DeviceAnswer Wrong
-read_hex raw (Some digits) = read_hex raw (decode_of digits)
-read_hex raw None = Err Argument
+abbrev pub read_hex_bytes : Bool → Option (List ℕ) → Result DeviceAnswer Wrong
+read_hex_bytes raw (Some digits) = read_hex raw (decode_of digits)
+read_hex_bytes raw None = Err Argument
 
 -- The answer of bytes, whose hexadecimal digits are the only word. Other words are the fault `Argument`.
 abbrev pub read_bytes : Bool → List (List ℕ) → Result DeviceAnswer Wrong
-read_bytes raw words = read_hex raw (only words)
+read_bytes raw words = read_hex_bytes raw (only words)
 
 -- The answer of a new size, or the fault `Argument` if a number is missing.
 abbrev pub read_numbers : Option ℕ → Option ℕ → Result DeviceAnswer Wrong

@@ -1,7 +1,7 @@
 //! Commands of style.
 ghost use Rattle.std.specs.Prelude.{◌≡◌, IfSome, None};
 ghost use Rattle.std.specs.Option.{MatchOption};
-ghost use Rattle.crossterm_c.specs.Command.{AnswersText, AnswersTo, colors_at, style_at, style_text};
+ghost use Rattle.crossterm_c.specs.Command.{AnswersSlice, AnswersTo, colors_at, style_at, style_text};
 
 use super::GelvanhCommand;
 use crate::color::{attribute_of, attributes_of, color_of, there_of};
@@ -48,7 +48,7 @@ fn write_some<C: Command + Drop>(
     slice: &mut [u8],
 ) -> Answer
     ensures { MatchOption command (AnswersTo None slice.old slice.new result.length result.outcome)
-        (λ c. IfSome (C.text c colors) (λ text. AnswersText text slice.old slice.new result.length result.outcome)) }
+        (λ c. IfSome (C.text c colors) (λ text. AnswersSlice text slice.old slice.new result.length result.outcome)) }
 {
     match command {
         Some(command) => write(&command, colors, slice),
