@@ -20,7 +20,7 @@ pub struct Pass<S, A: Allocator = Global> {
 }
 
 impl<S, A: Allocator> Pass<S, A> {
-    // A pass in this slot_pass, which has made no call.
+    // A pass of the reader over this one of the slot, which has made no call.
     pub(crate) fn in_slot(slot_pass: SlotPass<S, A>) -> Pass<S, A>
         requires clear { slot_pass.me.1 ≡ [] }
         requires sits { Sits (view slot_pass) }

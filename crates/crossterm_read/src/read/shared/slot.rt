@@ -1,4 +1,4 @@
-//! The slot that holds a shared reader, and the room in which callers wait for it.
+//! The slot that holds a shared reader: callers take it out, wait for it, and put it back.
 ghost use Rattle.std.specs.Prelude.{◌≡◌, ◌≤◌, ◌<◌, ◌-◌, ℕ, suc, All, map, Option, Some, None, IfSome, IfNone, IfOk, IfErr};
 ghost use Rattle.std.specs.IoError.{error_kind};
 ghost use Rattle.std.specs.List.{range_with_len};
@@ -67,7 +67,7 @@ impl<S: EventSource<A>, A: Allocator + Clone> Slot<S, A> {
 }
 
 impl<S: EventSource<A>, A: Allocator> Slot<S, A> {
-    // So many passes, of which the first one takes this slot_pass.
+    // So many passes of the reader. The first one is over this pass of the slot.
     pub(crate) fn passes(
         &self,
         alloc: A,
