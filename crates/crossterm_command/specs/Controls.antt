@@ -17,11 +17,11 @@ letter text = first_of (codes text)
 abbrev pub control : List ℕ → String → List Token
 control parameters final = Csi parameters [] (letter final) ∷ []
 
--- Sets a private mode of the terminal: `ESC [ ? mode h`.
+-- Sets a private mode of the terminal, as `ESC [ ?25h` sets mode 25.
 abbrev pub set : String → List Token
 set mode = control (codes "?" ++ codes mode) "h"
 
--- Resets a private mode of the terminal: `ESC [ ? mode l`.
+-- Resets a private mode of the terminal, as `ESC [ ?25l` resets mode 25.
 abbrev pub reset : String → List Token
 reset mode = control (codes "?" ++ codes mode) "l"
 
