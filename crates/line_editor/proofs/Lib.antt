@@ -18,3 +18,4 @@ pub mod Held
 pub mod Bounding
 pub mod Reloading
 pub mod Browsing
+pub mod Inserting

@@ -186,16 +186,18 @@ impl<A: Allocator + Clone> Editor<A> {
         Ok(())
     }
 
-    /// The same for a line with a character more, which is undone with those typed just before.
-    fn change_on(&mut self, line: Line<A>) -> Result<(), AllocError>
-        ensures ok { OnOk result (self.new ≡ after_typing line self.old) }
+    /// Types a text. The line isn't copied if a character was typed just before.
+    fn type_text(&mut self, text: &str) -> Result<(), AllocError>
+        requires { AreShown (chars text.now) }
+        ensures ok { OnOk result (self.new ≡ after_typing (inserted (chars text.now) self.old.line) self.old) }
         ensures err { OnErr result (self.new ≡ self.old) }
     {
         if self.typing {
-            self.line = line;
+            self.line.insert(text)?;
             self.undone.clear();
             return Ok(());
         }
+        let line = self.line.inserted(text)?;
         self.change(line)?;
         self.typing = true;
         Ok(())
@@ -210,8 +212,7 @@ impl<A: Allocator + Clone> Editor<A> {
             return Ok(());
         }
         let mut utf8 = [0u8; 4];
-        let line = self.line.inserted(c.encode_utf8(&mut utf8))?;
-        self.change_on(line)
+        self.type_text(c.encode_utf8(&mut utf8))
     }
 
     /// Brings the cursor to a target.

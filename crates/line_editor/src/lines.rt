@@ -1,5 +1,5 @@
 //! A line of text with a cursor.
-ghost use Rattle.std.specs.Prelude.{◌≡◌, ℕ, ◌-◌, ◌<◌, ◌≤◌, List, [], ◌∷◌, ◌++◌, IfOk, MatchBool, take, drop, length, reverse};
+ghost use Rattle.std.specs.Prelude.{◌≡◌, ℕ, ◌-◌, ◌<◌, ◌≤◌, List, [], ◌∷◌, ◌++◌, IfOk, MatchBool, OnErr, OnOk, take, drop, length, reverse};
 ghost use Rattle.std.specs.String.{string_bytes};
 ghost use Rattle.std.specs.Str.{chars, IsCharBoundary};
 ghost use Rattle.unicode_segmentation.specs.Segments.{chars_before, chars_from};
@@ -194,6 +194,24 @@ impl<A: Allocator> Line<A> {
 }
 
 impl<A: Allocator> Line<A> {
+    /// Inserts a text at the cursor. The line isn't copied.
+    ///
+    /// # Errors
+    ///
+    /// `AllocError` if memory was refused. Then nothing has changed.
+    pub(crate) fn insert(&mut self, text: &str) -> Result<(), AllocError>
+        requires { AreShown (chars text.now) }
+        ensures ok { OnOk result (self.new ≡ inserted (chars text.now) self.old) }
+        ensures err { OnErr result (self.new ≡ self.old) }
+    {
+        let whole = self.text.as_str();
+        let behind = whole.len() - self.at;
+        self.text.insert_str(self.at, text)?;
+        let whole = self.text.as_str();
+        self.at = ahead(whole, whole.len() - behind, Stop::Cluster);
+        Ok(())
+    }
+
     /// Whether there are two clusters to transpose: something is before the place at which they meet.
     pub(crate) fn has_two(&self) -> bool
         ensures { MatchBool result ((c : ℕ) × (before : List ℕ) × ((meeting self.now.before self.now.after).before ≡ c ∷ before))
