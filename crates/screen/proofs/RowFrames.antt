@@ -1,5 +1,5 @@
 -- A frame in a row.
-use Rattle.std.proofs.Common.{◌≡◌, ◌&&◌, ◌^◌, Result, Ok, Err, OnOk, inl, inr, nat_le, Option, Some, None, codes, flat_map, ℕ, zero, suc, ◌+◌, ◌-◌, ◌*◌, ◌%◌, ◌<◌, ◌≤◌, Bool, true, false, cond, List, [], ◌∷◌, ◌++◌, refl, sym, ap, ◌∙◌, subst, arith, length, map, take, drop, replicate, append_assoc, append-nil}
+use Rattle.std.proofs.Common.{◌≡◌, ◌&&◌, ◌^◌, Result, Ok, Err, OnOk, inl, inr, nat_le, Option, Some, None, codes, flat_map, ℕ, zero, suc, ◌+◌, ◌-◌, ◌*◌, ◌%◌, ◌<◌, Bool, true, false, cond, List, [], ◌∷◌, ◌++◌, refl, sym, ap, ◌∙◌, subst, arith, length, map, take, drop, replicate, append_assoc, append-nil}
 use Rattle.std.specs.Bool.{⊤}
 use Rattle.std.specs.List.{AllByRecursion}
 use Rattle.std.proofs.lemmas.Fmt.{decimal_digit}
@@ -19,11 +19,11 @@ use Rattle.screen.specs.declared.faults.DrawFault.TheVariants.{Size, Cursor, Com
 use Rattle.screen.specs.declared.strokes.Stroke.{Stroke}
 use Rattle.screen.specs.declared.strokes.Stroke.TheVariants as stroke
 use Rattle.screen.specs.Buffers.{Picture}
-use Rattle.screen.specs.Cells.{Cell, cell_look}
+use Rattle.screen.specs.Cells.{cell_look}
 use Rattle.screen.specs.Drawings.{CursorFits, HasCursor, IsFrame, IsSameSize, MayShow, Shows, ShowsDrawn, forgotten, knows_cells}
-use Rattle.screen.specs.Grids.{Grid, Square, begun, blank_square, move_cursor, overwritten, parameter_number, place_after, place_beside, run}
+use Rattle.screen.specs.Grids.{Grid, Square, begun, blank_square, move_cursor, overwritten, place_after, place_beside, run}
 use Rattle.screen.specs.Screens.{Drawn, View}
-use Rattle.screen.specs.Strips.{ColumnFits, HasColumn, IsOneRow, IsRowFrame, LiesIn, RowNotDrawn, ShowsLast, ShowsRow, StripView, TurnsRow, as_screen, in_first_row, in_row, row_cells, second_parameter, without_row}
+use Rattle.screen.specs.Strips.{ColumnFits, HasColumn, IsOneRow, IsRowFrame, LiesIn, RowNotDrawn, ShowsLast, ShowsRow, StripView, TurnsRow, as_screen, in_first_row, in_row, second_parameter}
 use Rattle.screen.specs.inside.Scans.{NotWritten}
 use Rattle.screen.specs.inside.Strokes.{AreFitting, IsFitting, color_tokens, first_strokes, tokens, tokens_of, written, written_of}
 use Rattle.screen.proofs.Rows.{Embeds, IsFollowing, Simulates, overwritten_within, row_start, tokens_in_row}

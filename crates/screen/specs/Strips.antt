@@ -1,5 +1,5 @@
 -- A strip: a frame in the row of a terminal in which the cursor is. Nothing else of the terminal changes.
-use Rattle.std.specs.Prelude.{◌≡◌, ⊤, IfSome, ℕ, ◌+◌, ◌*◌, ◌-◌, ◌<◌, ◌==◌, Bool, true, false, List, [], ◌∷◌, ◌++◌, Option, Some, None, codes, flat_map, if◌then◌else◌, length, map, replicate}
+use Rattle.std.specs.Prelude.{◌≡◌, ⊤, IfSome, ℕ, ◌+◌, ◌*◌, ◌-◌, ◌<◌, ◌==◌, true, false, List, [], ◌∷◌, ◌++◌, Option, Some, None, codes, flat_map, if◌then◌else◌, length, map, replicate}
 use Rattle.std.specs.List.{slice_split}
 use Rattle.std.specs.Option.{option_map}
 use Rattle.crossterm_command.specs.Tokens.{Token, text_of}

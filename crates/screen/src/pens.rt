@@ -64,7 +64,7 @@ fn take(pen: &mut Pen, stroke: &Stroke)
 {
     let written = Written {
         in_row: pen.in_row,
-        stroke: *stroke,
+        stroke,
     };
     match pen.fault {
         Some(_) => {}

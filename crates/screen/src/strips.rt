@@ -15,8 +15,8 @@ use std::marker::Model;
 /// What the row shows in which the cursor is, as far as it is known, for a program that draws in one row and doesn't know which row it is.
 ///
 /// A frame moves the cursor within its row alone (CHA: ECMA-48, 8.3.9), and erases to the end of the row (EL: ECMA-48, 8.3.41). So the cells
-/// above and below stay as they are, and the cursor stays in the row. The promise is for terminals with more columns than the strip has: a strip
-/// never writes a terminal's last column. A program that moves the cursor to another row calls `forget`.
+/// above and below stay as they are, and the cursor stays in the row. The promise is for terminals with more columns than the strip has, so that
+/// no character is printed in a terminal's last column. A program that moves the cursor to another row calls `forget`.
 ///
 /// ```
 /// let mut buffer = Buffer::new(alloc, 40, 1)?;

@@ -55,14 +55,14 @@ impl Command for Stroke {
 }
 
 /// A stroke in the cursor's row: a move goes to a column of it, and only its cells become blank.
-#[derive(Clone, Copy, Debug)]
-struct RowStroke(Stroke);
+#[derive(Clone, Copy)]
+struct RowStroke<'a>(&'a Stroke);
 
-impl Command for RowStroke {
-    ghost text = { λ stroke colors. Some (text_of (row_tokens colors stroke.0)) };
+impl<'a> Command for RowStroke<'a> {
+    ghost text = { λ stroke colors. Some (text_of (row_tokens colors stroke.0.now)) };
 
     fn write_ansi<W: fmt::Write>(&self, f: &mut W, colors: ColorOutput) -> fmt::Result {
-        match &self.0 {
+        match self.0 {
             Stroke::Erase => {
                 (MoveToColumn(0), Clear(ClearType::UntilNewLine)).write_ansi(f, colors)
             }
@@ -73,14 +73,14 @@ impl Command for RowStroke {
 }
 
 /// A stroke on the whole screen, or in the cursor's row.
-#[derive(Clone, Copy, Debug)]
-pub(crate) struct Written {
+#[derive(Clone, Copy)]
+pub(crate) struct Written<'a> {
     pub(crate) in_row: bool,
-    pub(crate) stroke: Stroke,
+    pub(crate) stroke: &'a Stroke,
 }
 
-impl Command for Written {
-    ghost text = { λ w colors. Some (text_of (written w.in_row colors w.stroke)) };
+impl<'a> Command for Written<'a> {
+    ghost text = { λ w colors. Some (text_of (written w.in_row colors w.stroke.now)) };
 
     fn write_ansi<W: fmt::Write>(&self, f: &mut W, colors: ColorOutput) -> fmt::Result {
         if self.in_row {
