@@ -1,8 +1,8 @@
 -- The end of a frame, and frames as in the screen's contracts.
 use Rattle.std.proofs.Common.{◌≡◌, ℕ, ◌+◌, ◌*◌, ◌<◌, ◌^◌, List, [], ◌∷◌, ◌++◌, Option, Some, None, IfSome, Bool, true, false, refl, sym, ap, ◌∙◌, subst, arith, if◌then◌else◌, length, map, option_map, replicate}
+use Rattle.std.specs.List.{AllByRecursion}
 use Rattle.crossterm_command.specs.declared.color_output.ColorOutput.{ColorOutput}
 use Rattle.crossterm_command.specs.declared.color_output.ColorOutput.TheVariants.{Enabled, Disabled}
-use Rattle.crossterm_command.proofs.Readings.{all_joined}
 use Rattle.crossterm_style.specs.Looks.{plain}
 use Rattle.crossterm_style.specs.Styles.{no_style}
 use Rattle.screen.specs.declared.strokes.Stroke.{Stroke}
@@ -17,6 +17,7 @@ use Rattle.screen.specs.inside.Scans.{IsPairedIf, Planned, StartsFrom, Visited, 
 use Rattle.screen.specs.inside.Strokes.{AreFitting, IsFitting, last_strokes, tokens, tokens_of}
 use Rattle.screen.proofs.Counts.{last_prints, strokes_printed}
 use Rattle.screen.proofs.Runs.{moved, plain_set, run_then, runs_then}
+use Rattle.screen.proofs.Scans.{fitting_more}
 use Rattle.screen.proofs.Spares.{sparing, updated}
 use Rattle.screen.proofs.Squares.{blanks_paired}
 
@@ -67,12 +68,13 @@ planned known width height before after cursor strokes ws hs inside visited = re
   sparing = sparing known width before after cursor strokes visited.spares;
 }
 
-last_fitting : (cursor : Option (ℕ × ℕ)) → AreFitting (last_strokes cursor)
-last_fitting None = (tt, (tt, (tt, tt)))
-last_fitting (Some place) = (tt, (tt, (tt, (tt, tt))))
+last_fitting : (width height : ℕ) (cursor : Option (ℕ × ℕ)) → width < 2 ^ 32 → height < 2 ^ 32 → IsInside width height cursor → AllByRecursion IsFitting (last_strokes cursor)
+last_fitting width height None ws hs inside = (tt, (tt, (tt, tt)))
+last_fitting width height (Some place) ws hs inside = (tt, ((omega (arith, inside.0, ws), omega (arith, inside.1, hs)), (tt, (tt, tt))))
 
-pub fitting : (strokes : List Stroke) (cursor : Option (ℕ × ℕ)) → AreFitting strokes → AreFitting (strokes ++ last_strokes cursor)
-fitting strokes cursor all = all_joined IsFitting strokes (last_strokes cursor) all (last_fitting cursor)
+pub fitting : (known : Bool) (width height : ℕ) (strokes : List Stroke) (cursor : Option (ℕ × ℕ)) → width < 2 ^ 32 → height < 2 ^ 32 → IsInside width height cursor
+    → AreFitting known strokes → AreFitting known (strokes ++ last_strokes cursor)
+fitting known width height strokes cursor ws hs inside all = fitting_more known strokes (last_strokes cursor) all (last_fitting width height cursor ws hs inside)
 
 -- ---- a screen's frame
 
@@ -97,7 +99,7 @@ begun : (width height : ℕ) (drawn : Option ColorOutput) (shown : List Cell) (r
 begun width height None shown room colors before e = e
 begun width height (Some c) shown room colors before e = e
 
-knows : (width height : ℕ) (drawn : Option ColorOutput) (shown : List Cell) (room : ℕ) (colors : ColorOutput) → is_known drawn colors ≡ knows_cells (view_of width height drawn shown room).drawn colors
+pub knows : (width height : ℕ) (drawn : Option ColorOutput) (shown : List Cell) (room : ℕ) (colors : ColorOutput) → is_known drawn colors ≡ knows_cells (view_of width height drawn shown room).drawn colors
 knows width height None shown room colors = refl
 knows width height (Some c) shown room colors = refl
 
@@ -130,6 +132,12 @@ frame_of s width height drawn shown prepared before after room colors p cursor k
     let cells : Planned (is_known drawn colors) width height before p.cells cursor strokes =
     subst (λ l. Planned (is_known drawn colors) width height before l cursor strokes) a (subst (λ y. Planned y width height before after cursor strokes) k plan) in
     subst (λ v. IsFrame v colors p cursor (tokens_of colors strokes)) view (framed width height drawn shown before room colors p cursor strokes w h sure cells)
+
+-- What fits behind the beginning of a frame, by what is known of the screen.
+pub fitting_by : (width height : ℕ) (drawn : Option ColorOutput) (shown : List Cell) (room : ℕ) (s : View) (colors : ColorOutput) (known : Bool) (strokes : List Stroke)
+    → view_of width height drawn shown room ≡ s → known ≡ is_known drawn colors → AreFitting known strokes → AreFitting (knows_cells s.drawn colors) strokes
+fitting_by width height drawn shown room s colors known strokes view k fit =
+    subst (λ b. AreFitting b strokes) (k ∙ knows width height drawn shown room colors ∙ ap (λ v. knows_cells v.drawn colors) view) fit
 
 -- Cells that a frame begins with are paired.
 pub prepared_paired : (drawn : Option ColorOutput) (colors : ColorOutput) (shown now : List Cell) (n : ℕ) → now ≡ (if is_known drawn colors then shown else replicate n blank) → IsPairedIf drawn shown → ArePaired false now

@@ -17,3 +17,5 @@ pub mod Spares
 pub mod Skips
 pub mod Frames
 pub mod Written
+pub mod Rows
+pub mod RowFrames

@@ -1,5 +1,5 @@
 -- Strokes that are put behind others.
-use Rattle.std.proofs.Common.{◌≡◌, ℕ, List, [], ◌∷◌, ◌++◌, Option, Some, None, refl, sym, ap, ◌∙◌, subst, append_assoc, append-nil}
+use Rattle.std.proofs.Common.{◌≡◌, ℕ, Bool, List, [], ◌∷◌, ◌++◌, Option, Some, None, refl, sym, ap, ◌∙◌, subst, append_assoc, append-nil}
 use Rattle.std.specs.Io.KnownBytes.{Appends}
 use Rattle.std.proofs.KnownBytes.{Appends-nil, Appends-trans}
 use Rattle.std.proofs.lemmas.List.Concat.{flat_map-append}
@@ -12,7 +12,7 @@ use Rattle.crossterm_command.proofs.Rows.{front_of_first, front_of_second}
 use Rattle.screen.specs.declared.pens.Pen.{Pen}
 use Rattle.screen.specs.declared.strokes.Stroke.{Stroke}
 use Rattle.screen.specs.inside.Pens.{Breaks, Ends, PassesOn, PutsStrokes}
-use Rattle.screen.specs.inside.Strokes.{tokens, tokens_of}
+use Rattle.screen.specs.inside.Strokes.{written, written_of}
 
 -- ---- texts
 
@@ -58,45 +58,52 @@ passes_front u v None None text a b c n o p q =
 
 -- ---- strokes
 
-texts_joined : (colors : ColorOutput) (xs ys : List Stroke) → text_of (tokens_of colors (xs ++ ys)) ≡ text_of (tokens_of colors xs) ++ text_of (tokens_of colors ys)
-texts_joined colors xs ys = ap text_of (flat_map-append (tokens colors) xs ys) ∙ text_joined (tokens_of colors xs) (tokens_of colors ys)
+texts_joined : (in_row : Bool) (colors : ColorOutput) (xs ys : List Stroke)
+    → text_of (written_of in_row colors (xs ++ ys)) ≡ text_of (written_of in_row colors xs) ++ text_of (written_of in_row colors ys)
+texts_joined in_row colors xs ys = ap text_of (flat_map-append (written in_row colors) xs ys) ∙ text_joined (written_of in_row colors xs) (written_of in_row colors ys)
 
 pub puts_none : (a : Known) (p : Pen) → PutsStrokes [] a p a p
-puts_none a p = (refl, passes_none p.waiting.bytes p.fault a)
+puts_none a p = (refl, refl, passes_none p.waiting.bytes p.fault a)
 
 pub puts_both : (xs ys : List Stroke) (a b c : Known) (p q r : Pen) → PutsStrokes xs a p b q → PutsStrokes ys b q c r → PutsStrokes (xs ++ ys) a p c r
 puts_both xs ys a b c p q r s t =
     let colors = p.colors in
-    let later : PassesOn q.waiting.bytes q.fault (text_of (tokens_of colors ys)) b c r.waiting.bytes r.fault =
-    subst (λ k. PassesOn q.waiting.bytes q.fault (text_of (tokens_of k ys)) b c r.waiting.bytes r.fault) s.0 t.1 in (
+    let in_row = p.in_row in
+    let later : PassesOn q.waiting.bytes q.fault (text_of (written_of in_row colors ys)) b c r.waiting.bytes r.fault =
+    subst (λ i. PassesOn q.waiting.bytes q.fault (text_of (written_of i colors ys)) b c r.waiting.bytes r.fault) s.1
+    (subst (λ k. PassesOn q.waiting.bytes q.fault (text_of (written_of q.in_row k ys)) b c r.waiting.bytes r.fault) s.0 t.2) in (
       t.0 ∙ s.0,
-      subst (λ l. PassesOn p.waiting.bytes p.fault l a c r.waiting.bytes r.fault) (sym (texts_joined colors xs ys))
-          (passes_both p.waiting.bytes q.waiting.bytes r.waiting.bytes p.fault q.fault r.fault (text_of (tokens_of colors xs)) (text_of (tokens_of colors ys)) a b c s.1 later),
+      t.1 ∙ s.1,
+      subst (λ l. PassesOn p.waiting.bytes p.fault l a c r.waiting.bytes r.fault) (sym (texts_joined in_row colors xs ys))
+          (passes_both p.waiting.bytes q.waiting.bytes r.waiting.bytes p.fault q.fault r.fault (text_of (written_of in_row colors xs)) (text_of (written_of in_row colors ys)) a b c s.2 later),
     )
 
 -- Strokes that a new pen put, and the last of which were written.
-pub puts_whole : (colors : ColorOutput) (strokes : List Stroke) (a b c : Known) (p q : Pen) → p.colors ≡ colors → p.waiting.bytes ≡ [] → p.fault ≡ None → PutsStrokes strokes a p b q
-    → Ends q.waiting.bytes q.fault b c → Appends a c (text_of (tokens_of colors strokes))
-puts_whole colors strokes a b c p q e n o s t =
-    subst (λ k. Appends a c (text_of (tokens_of k strokes))) e
-    (passes_whole p.waiting.bytes q.waiting.bytes p.fault q.fault (text_of (tokens_of p.colors strokes)) a b c n o s.1 t)
+pub puts_whole : (in_row : Bool) (colors : ColorOutput) (strokes : List Stroke) (a b c : Known) (p q : Pen) → p.in_row ≡ in_row → p.colors ≡ colors → p.waiting.bytes ≡ [] → p.fault ≡ None → PutsStrokes strokes a p b q
+    → Ends q.waiting.bytes q.fault b c → Appends a c (text_of (written_of in_row colors strokes))
+puts_whole in_row colors strokes a b c p q i e n o s t =
+    subst (λ j. Appends a c (text_of (written_of j colors strokes))) i
+    (subst (λ k. Appends a c (text_of (written_of p.in_row k strokes))) e
+    (passes_whole p.waiting.bytes q.waiting.bytes p.fault q.fault (text_of (written_of p.in_row p.colors strokes)) a b c n o s.2 t))
 
 -- Strokes that a new pen put before a fault.
-pub puts_front : (colors : ColorOutput) (strokes : List Stroke) (a b c : Known) (p q : Pen) → p.colors ≡ colors → p.waiting.bytes ≡ [] → p.fault ≡ None → PutsStrokes strokes a p b q
-    → Breaks q.waiting.bytes q.fault b c → AppendsFront a c (text_of (tokens_of colors strokes))
-puts_front colors strokes a b c p q e n o s t =
-    subst (λ k. AppendsFront a c (text_of (tokens_of k strokes))) e
-    (passes_front p.waiting.bytes q.waiting.bytes p.fault q.fault (text_of (tokens_of p.colors strokes)) a b c n o s.1 t)
+pub puts_front : (in_row : Bool) (colors : ColorOutput) (strokes : List Stroke) (a b c : Known) (p q : Pen) → p.in_row ≡ in_row → p.colors ≡ colors → p.waiting.bytes ≡ [] → p.fault ≡ None → PutsStrokes strokes a p b q
+    → Breaks q.waiting.bytes q.fault b c → AppendsFront a c (text_of (written_of in_row colors strokes))
+puts_front in_row colors strokes a b c p q i e n o s t =
+    subst (λ j. AppendsFront a c (text_of (written_of j colors strokes))) i
+    (subst (λ k. AppendsFront a c (text_of (written_of p.in_row k strokes))) e
+    (passes_front p.waiting.bytes q.waiting.bytes p.fault q.fault (text_of (written_of p.in_row p.colors strokes)) a b c n o s.2 t))
 
 -- A stroke's text waits behind the others.
-pub waits : (s : Stroke) (p q : Pen) (a : Known) → p.fault ≡ None → q.colors ≡ p.colors → q.fault ≡ None → q.waiting.bytes ≡ p.waiting.bytes ++ text_of (tokens p.colors s) → PutsStrokes (s ∷ []) a p a q
-waits s p q a f c g w = (c, steps p.fault q.fault f g)
+pub waits : (s : Stroke) (p q : Pen) (a : Known) → p.fault ≡ None → q.colors ≡ p.colors → q.in_row ≡ p.in_row → q.fault ≡ None → q.waiting.bytes ≡ p.waiting.bytes ++ text_of (written p.in_row p.colors s)
+    → PutsStrokes (s ∷ []) a p a q
+waits s p q a f c i g w = (c, i, steps p.fault q.fault f g)
   where
     text : List ℕ
-    text = text_of (tokens_of p.colors (s ∷ []))
+    text = text_of (written_of p.in_row p.colors (s ∷ []))
 
-    same : text ≡ text_of (tokens p.colors s)
-    same = ap text_of (append-nil (tokens p.colors s))
+    same : text ≡ text_of (written p.in_row p.colors s)
+    same = ap text_of (append-nil (written p.in_row p.colors s))
 
     steps : (f g : Option CommandFault) → f ≡ None → g ≡ None → PassesOn p.waiting.bytes f text a a q.waiting.bytes g
     steps None None d h = ([], ap (λ l. p.waiting.bytes ++ l) same ∙ sym w, Appends-nil a)

@@ -78,7 +78,7 @@ number_read n h =
     let value : digits_value 10 (decimal n) ≡ n = (decimal_is_IsNumeral n h).1 in
     rw (digits_pass (decimal n) (decimal_digits n h), value) refl
 
-le_true : (m n : ℕ) → m ≤ n → nat_le m n ≡ true
+pub le_true : (m n : ℕ) → m ≤ n → nat_le m n ≡ true
 le_true m n h = grind (arith, nat_tests)
 
 place_read : (row column : ℕ) (g : Grid) → row < g.height → column < g.width → place (Some (row + 1)) (Some (column + 1)) g ≡ Some (row * g.width + column)
@@ -87,7 +87,7 @@ place_read row column g r c =
     let b : column + 1 - 1 ≡ column = omega arith in
     rw (le_true 1 (row + 1) (omega arith), le_true (row + 1) g.height (omega (arith, r)), le_true 1 (column + 1) (omega arith), le_true (column + 1) g.width (omega (arith, c)), a, b) refl
 
-place_parts : (row column : ℕ) → row < 2 ^ 64 → column < 2 ^ 64 → slice_split (λ b. b == 59) (decimal row ++ (codes ";" ++ decimal column)) ≡ decimal row ∷ decimal column ∷ []
+pub place_parts : (row column : ℕ) → row < 2 ^ 64 → column < 2 ^ 64 → slice_split (λ b. b == 59) (decimal row ++ (codes ";" ++ decimal column)) ≡ decimal row ∷ decimal column ∷ []
 place_parts row column r c = next_field (decimal row) (decimal column) (decimal_digits row r) ∙ ap (λ l. decimal row ∷ l) (one_field (decimal column) (decimal_digits column c))
 
 pub moved : (row column : ℕ) (g : Grid) → row < g.height → column < g.width → row < 2 ^ 32 → column < 2 ^ 32

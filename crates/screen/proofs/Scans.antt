@@ -1,5 +1,6 @@
 -- The way over the cells.
 use Rattle.std.proofs.Common.{◌≡◌, ℕ, ◌+◌, ◌-◌, ◌*◌, ◌<◌, ◌≤◌, ◌^◌, List, [], ◌∷◌, ◌++◌, Option, Some, None, Bool, true, false, refl, sym, ap, ◌∙◌, subst, arith, map, replicate, length, take, drop, get_or, append_assoc, append-nil, inl, inr}
+use Rattle.std.specs.List.{AllByRecursion}
 use Rattle.std.proofs.lemmas.List.{drop_all, length-append, length-drop, length-map, length-replicate, length-take-le, take_all}
 use Rattle.crossterm_command.specs.declared.color_output.ColorOutput.{ColorOutput}
 use Rattle.crossterm_command.proofs.Readings.{all_joined}
@@ -50,9 +51,8 @@ starts false width height before after w b a =
 pub starts_counted : (known : Bool) (before after : List Cell) → Counts before after 0 (first_strokes known)
 starts_counted known before after = λ colors. first_prints colors known
 
-pub starts_fitting : (known : Bool) → AreFitting (first_strokes known)
-starts_fitting true = (tt, tt)
-starts_fitting false = (tt, (tt, (tt, tt)))
+pub starts_fitting : (known : Bool) → AreFitting known (first_strokes known)
+starts_fitting known = ([], sym (append-nil (first_strokes known)), tt)
 
 -- ---- a cell
 
@@ -169,16 +169,25 @@ paints_counted before after k strokes b c there how row column lb la eb ec e cou
     strokes_printed colors strokes (cell_strokes there how column row c) ∙ ap (λ n. printed_count (tokens_of colors strokes) + n) (cell_prints colors there how column row c) in
     subst (DifferAt (take (k + 1) before) (take (k + 1) after)) (sym one) (other_at before after k (printed_count (tokens_of colors strokes)) b c lb la eb ec e (counts colors))
 
-cell_fitting : (there : Bool) (how : Setting) (column row : ℕ) (c : Cell) → IsPrinted c.symbol → AreFitting (cell_strokes there how column row c)
-cell_fitting true setting.Kept column row c f = (f, tt)
-cell_fitting true (setting.Colors change) column row c f = (tt, (f, tt))
-cell_fitting true (setting.Whole s) column row c f = (tt, (f, tt))
-cell_fitting false setting.Kept column row c f = (tt, (f, tt))
-cell_fitting false (setting.Colors change) column row c f = (tt, (tt, (f, tt)))
-cell_fitting false (setting.Whole s) column row c f = (tt, (tt, (f, tt)))
+cell_fitting : (there : Bool) (how : Setting) (column row : ℕ) (c : Cell) → column < 2 ^ 32 → row < 2 ^ 32 → IsPrinted c.symbol → AllByRecursion IsFitting (cell_strokes there how column row c)
+cell_fitting true setting.Kept column row c k r f = (f, tt)
+cell_fitting true (setting.Colors change) column row c k r f = (tt, (f, tt))
+cell_fitting true (setting.Whole s) column row c k r f = (tt, (f, tt))
+cell_fitting false setting.Kept column row c k r f = ((k, r), (f, tt))
+cell_fitting false (setting.Colors change) column row c k r f = ((k, r), (tt, (f, tt)))
+cell_fitting false (setting.Whole s) column row c k r f = ((k, r), (tt, (f, tt)))
 
-pub paints_fitting : (strokes : List Stroke) (there : Bool) (how : Setting) (column row : ℕ) (c : Cell) → IsPrinted c.symbol → AreFitting strokes → AreFitting (strokes ++ cell_strokes there how column row c)
-paints_fitting strokes there how column row c f all = all_joined IsFitting strokes (cell_strokes there how column row c) all (cell_fitting there how column row c f)
+-- Strokes that fit are followed by others that do.
+pub fitting_more : (known : Bool) (strokes more : List Stroke) → AreFitting known strokes → AllByRecursion IsFitting more → AreFitting known (strokes ++ more)
+fitting_more known strokes more a b = (
+  a.0 ++ more,
+  ap (λ l. l ++ more) a.1 ∙ append_assoc (first_strokes known) a.0 more,
+  all_joined IsFitting a.0 more a.2 b,
+)
+
+pub paints_fitting : (known : Bool) (strokes : List Stroke) (there : Bool) (how : Setting) (column row : ℕ) (c : Cell) → column < 2 ^ 32 → row < 2 ^ 32 → IsPrinted c.symbol
+    → AreFitting known strokes → AreFitting known (strokes ++ cell_strokes there how column row c)
+paints_fitting known strokes there how column row c k r f all = fitting_more known strokes (cell_strokes there how column row c) all (cell_fitting there how column row c k r f)
 
 -- ---- the end
 

@@ -55,10 +55,10 @@ tokens_all P p colors (Prints cs ∷ acts) h = absurd h.0
 tokens_all P p colors (Colors c ∷ acts) h = (p _, tokens_all P p colors acts h.1)
 tokens_all P p colors (Takes a ∷ acts) h = (p _, tokens_all P p colors acts h.1)
 
-style_all : (P : Token → Type 0) → ((text : List ℕ) → P (Csi text [] 0x6D)) → (colors : ColorOutput) (s : ContentStyle) → AllByRecursion P (tokens colors (stroke.Style s))
+pub style_all : (P : Token → Type 0) → ((text : List ℕ) → P (Csi text [] 0x6D)) → (colors : ColorOutput) (s : ContentStyle) → AllByRecursion P (tokens colors (stroke.Style s))
 style_all P p colors s = (p _, tokens_all P p colors (style_acts s) (style_sets s))
 
-color_all : (P : Token → Type 0) → ((text : List ℕ) → P (Csi text [] 0x6D)) → (colors : ColorOutput) (change : ContentStyle) → AllByRecursion P (color_tokens colors change)
+pub color_all : (P : Token → Type 0) → ((text : List ℕ) → P (Csi text [] 0x6D)) → (colors : ColorOutput) (change : ContentStyle) → AllByRecursion P (color_tokens colors change)
 color_all P p Enabled change = tokens_all P p Enabled (style_acts change) (style_sets change)
 color_all P p Disabled change = tt
 

@@ -206,7 +206,7 @@ blanks_paired (suc n) = (refl, subst (λ b. ArePaired b (replicate n blank)) (sy
 
 -- ---- how many cells there are
 
-begun_length : (xs : List Square) → length (begun xs) ≡ length xs
+pub begun_length : (xs : List Square) → length (begun xs) ≡ length xs
 begun_length [] = refl
 begun_length (x ∷ xs) = refl
 

@@ -1,5 +1,6 @@
 -- Strokes that are written read as their tokens.
-use Rattle.std.proofs.Common.{◌≡◌, ℕ, ◌+◌, true, false, List, [], ◌∷◌, ◌++◌, ◌⊎◌, inl, inr, refl, sym, ap, ◌∙◌, codes}
+use Rattle.std.proofs.Common.{◌≡◌, ℕ, ◌+◌, Bool, true, false, List, [], ◌∷◌, ◌++◌, ◌⊎◌, inl, inr, refl, sym, ap, ◌∙◌, subst, codes}
+use Rattle.std.specs.Bool.{⊤}
 use Rattle.std.specs.Fmt.{decimal}
 use Rattle.std.specs.List.{AllByRecursion}
 use Rattle.unicode_width.specs.Width.{char_width}
@@ -11,13 +12,14 @@ use Rattle.crossterm_style.specs.declared.types.attribute.Attribute.TheVariants.
 use Rattle.crossterm_style.specs.declared.content_style.ContentStyle.{ContentStyle}
 use Rattle.crossterm_style.specs.Acts.{style_acts}
 use Rattle.crossterm_style.specs.Styles.{attribute_functions, act_tokens}
-use Rattle.crossterm.specs.Sequences.{clear}
-use Rattle.crossterm.specs.declared.terminal.ClearType.TheVariants.{All}
+use Rattle.crossterm.specs.Sequences.{by, clear}
+use Rattle.crossterm.specs.declared.terminal.ClearType.TheVariants.{All, UntilNewLine}
 use Rattle.crossterm.proofs.StyleReadings.{Formed, attribute_formed, style_plain, tokens_formed}
 use Rattle.screen.specs.declared.strokes.Stroke.{Stroke}
 use Rattle.screen.specs.declared.strokes.Stroke.TheVariants as stroke
 use Rattle.screen.specs.Grids.{takes_one, takes_two}
-use Rattle.screen.specs.inside.Strokes.{AreFitting, IsFitting, color_tokens, tokens, tokens_of}
+use Rattle.screen.specs.Cells.{IsPrinted}
+use Rattle.screen.specs.inside.Strokes.{AreFitting, IsFitting, color_tokens, first_strokes, row_tokens, tokens, written, written_of}
 
 -- A character that is printed isn't ESC.
 escape_takes_no_cell : takes_one 0x1B ≡ false
@@ -42,7 +44,12 @@ colors_formed : (colors : ColorOutput) (change : ContentStyle) → Formed (color
 colors_formed Enabled change = tokens_formed Enabled (style_acts change) (style_plain change)
 colors_formed Disabled change = tt
 
-stroke_formed : (colors : ColorOutput) (s : Stroke) → IsFitting s → Formed (tokens colors s)
+-- A stroke whose character, if it prints one, takes one cell or two.
+abbrev IsRead : Stroke → Type 0
+IsRead (stroke.Print c) = IsPrinted c
+IsRead s = ⊤
+
+stroke_formed : (colors : ColorOutput) (s : Stroke) → IsRead s → Formed (tokens colors s)
 stroke_formed colors stroke.Begin f = known_formed (tokens colors stroke.Begin) refl
 stroke_formed colors stroke.End f = known_formed (tokens colors stroke.End) refl
 stroke_formed colors stroke.Erase f = known_formed (clear All) refl
@@ -54,10 +61,50 @@ stroke_formed colors (stroke.Print c) f = ((f.0, printed_plain c f.1), tt)
 stroke_formed colors stroke.Show f = known_formed (tokens colors stroke.Show) refl
 stroke_formed colors stroke.Hide f = known_formed (tokens colors stroke.Hide) refl
 
-strokes_formed : (colors : ColorOutput) (strokes : List Stroke) → AreFitting strokes → Formed (tokens_of colors strokes)
-strokes_formed colors [] f = tt
-strokes_formed colors (s ∷ strokes) f = all_joined IsWellFormed (tokens colors s) (tokens_of colors strokes) (stroke_formed colors s f.0) (strokes_formed colors strokes f.1)
+row_formed : (colors : ColorOutput) (s : Stroke) → IsRead s → Formed (row_tokens colors s)
+row_formed colors stroke.Begin f = stroke_formed colors stroke.Begin f
+row_formed colors stroke.End f = stroke_formed colors stroke.End f
+row_formed colors stroke.Erase f =
+    all_joined IsWellFormed (by 1 "G") (clear UntilNewLine) (control_formed (decimal 1) "G" (decimal_is_parameters 1) refl) (known_formed (clear UntilNewLine) refl)
+row_formed colors (stroke.Move column row) f = control_formed (decimal (column + 1)) "G" (decimal_is_parameters (column + 1)) refl
+row_formed colors (stroke.Style s) f = stroke_formed colors (stroke.Style s) f
+row_formed colors (stroke.Colors change) f = stroke_formed colors (stroke.Colors change) f
+row_formed colors (stroke.Print c) f = stroke_formed colors (stroke.Print c) f
+row_formed colors stroke.Show f = stroke_formed colors stroke.Show f
+row_formed colors stroke.Hide f = stroke_formed colors stroke.Hide f
+
+written_formed : (in_row : Bool) (colors : ColorOutput) (s : Stroke) → IsRead s → Formed (written in_row colors s)
+written_formed true colors s f = row_formed colors s f
+written_formed false colors s f = stroke_formed colors s f
+
+strokes_formed : (in_row : Bool) (colors : ColorOutput) (strokes : List Stroke) → AllByRecursion IsRead strokes → Formed (written_of in_row colors strokes)
+strokes_formed in_row colors [] f = tt
+strokes_formed in_row colors (s ∷ strokes) f =
+    all_joined IsWellFormed (written in_row colors s) (written_of in_row colors strokes) (written_formed in_row colors s f.0) (strokes_formed in_row colors strokes f.1)
+
+first_read : (known : Bool) → AllByRecursion IsRead (first_strokes known)
+first_read true = (tt, tt)
+first_read false = (tt, (tt, (tt, tt)))
+
+fitting_read : (s : Stroke) → IsFitting s → IsRead s
+fitting_read stroke.Begin f = tt
+fitting_read stroke.End f = tt
+fitting_read stroke.Erase f = tt
+fitting_read (stroke.Move column row) f = tt
+fitting_read (stroke.Style s) f = tt
+fitting_read (stroke.Colors change) f = tt
+fitting_read (stroke.Print c) f = f
+fitting_read stroke.Show f = tt
+fitting_read stroke.Hide f = tt
+
+later_read : (strokes : List Stroke) → AllByRecursion IsFitting strokes → AllByRecursion IsRead strokes
+later_read [] f = tt
+later_read (s ∷ strokes) f = (fitting_read s f.0, later_read strokes f.1)
 
 -- Their text reads as their tokens.
-pub strokes_read : (colors : ColorOutput) (strokes : List Stroke) → AreFitting strokes → ReadsAs (text_of (tokens_of colors strokes)) (tokens_of colors strokes)
-strokes_read colors strokes f = (strokes_formed colors strokes f, refl)
+pub strokes_read : (in_row : Bool) (colors : ColorOutput) (known : Bool) (strokes : List Stroke) → AreFitting known strokes → ReadsAs (text_of (written_of in_row colors strokes)) (written_of in_row colors strokes)
+strokes_read in_row colors known strokes f = (
+  subst (λ l. Formed (written_of in_row colors l)) (sym f.1)
+      (strokes_formed in_row colors (first_strokes known ++ f.0) (all_joined IsRead (first_strokes known) f.0 (first_read known) (later_read f.0 f.2))),
+  refl,
+)

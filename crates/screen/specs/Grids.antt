@@ -1,6 +1,6 @@
 -- A terminal's screen as a grid of cells, and what it does at each token that it reads. If terminals differ, nothing
 -- is claimed.
-use Rattle.std.specs.Prelude.{ℕ, ◌+◌, ◌-◌, ◌*◌, ◌%◌, ◌==◌, ◌&&◌, not, nat_le, Bool, true, false, List, [], ◌∷◌, ◌++◌, Option, Some, None, bytes_eq, codes, if◌then◌else◌, drop, is_none, length, map, take}
+use Rattle.std.specs.Prelude.{ℕ, ◌+◌, ◌-◌, ◌*◌, ◌%◌, ◌==◌, ◌&&◌, ◌||◌, not, nat_le, Bool, true, false, List, [], ◌∷◌, ◌++◌, Option, Some, None, bytes_eq, codes, if◌then◌else◌, drop, is_none, length, map, replicate, take}
 use Rattle.std.specs.List.{list_all, slice_split}
 use Rattle.std.specs.Str.Parse.{digits_value}
 use Rattle.unicode_width.specs.Width.{char_width}
@@ -119,6 +119,16 @@ abbrev pub move_cursor : Option ℕ → Grid → Option Grid
 move_cursor None g = None
 move_cursor (Some at) g = Some (record g { cursor = Some at })
 
+-- The place of a column, counted from 1, in the row that begins at `start`. `None` if the row hasn't it.
+abbrev pub place_after : ℕ → Option ℕ → Grid → Option ℕ
+place_after start (Some column) g = if nat_le 1 column && nat_le column g.width then Some (start + (column - 1)) else None
+place_after start None g = None
+
+-- The place of a column in the cursor's row, or `None` if the cursor's place isn't known or the row hasn't the column.
+abbrev pub place_beside : Option ℕ → Option ℕ → Grid → Option ℕ
+place_beside (Some at) column g = place_after (at - at % g.width) column g
+place_beside None column g = None
+
 -- ---- other control functions
 
 -- Whether a style has no colour and no attribute.
@@ -137,6 +147,16 @@ blank_square = Whole 32 plain
 abbrev pub erase : List ℕ → Grid → Option Grid
 erase text g = if bytes_eq text (codes "2") && is_plain g.style then Some (record g { cells = map (λ c. blank_square) g.cells }) else None
 
+-- The grid with blank cells from a place to the end of its row, or `None` if there is no place.
+abbrev pub erase_from : Option ℕ → Grid → Option Grid
+erase_from (Some at) g = Some (record g { cells = overwritten g.cells at (replicate (g.width - at % g.width) blank_square) })
+erase_from None g = None
+
+-- EL with no parameter or 0 makes the cells from the cursor to the end of its row blank if the plain style is set.
+-- Otherwise `None`.
+abbrev pub erase_right : List ℕ → Grid → Option Grid
+erase_right text g = if (bytes_eq text (codes "") || bytes_eq text (codes "0")) && is_plain g.style then erase_from g.cursor g else None
+
 -- DECTCEM (`?25`) shows or hides the cursor, and synchronized output (`?2026`) changes nothing. Other modes give
 -- `None`.
 abbrev pub mode : List ℕ → Bool → Grid → Option Grid
@@ -147,7 +167,7 @@ mode text on g =
 
 -- ---- tokens
 
--- The grid after CUP, ED, SGR, SM or RM, chosen by the final byte. Other control functions give `None`.
+-- The grid after CUP, ED, SGR, SM, RM, CHA or EL, chosen by the final byte. Other control functions give `None`.
 abbrev pub control_effect : List ℕ → ℕ → Grid → Option Grid
 control_effect text final g =
     if final == 0x48 then move_cursor (place_by (slice_split (λ b. b == 59) text) g) g else (
@@ -155,7 +175,9 @@ control_effect text final g =
     if final == 0x6D then Some (record g { style = sgr text g.style }) else (
     if final == 0x68 then mode text true g else (
     if final == 0x6C then mode text false g else (
-    None)))))
+    if final == 0x47 then move_cursor (place_beside g.cursor (parameter_number text) g) g else (
+    if final == 0x4B then erase_right text g else (
+    None)))))))
 
 -- The grid after a token, or `None` if it isn't known.
 abbrev pub step : Token → Grid → Option Grid

@@ -11,4 +11,5 @@ pub mod Scrolls
 pub mod Updates
 pub mod Drawings
 pub mod Screens
+pub mod Strips
 pub mod inside

@@ -15,6 +15,10 @@
 //! that shows the new buffer cell for cell. Its cursor is at the place that was asked for. At the beginning, after `resize`,
 //! `forget` and an error nothing is known of the cells, and the same holds for every grid of the size.
 //!
+//! A `Strip` is one row of a terminal, the one in which the cursor is. Its frames say columns alone, so that a line editor draws without asking
+//! which row it is. The promise is for terminals with more columns than the strip has: from each grid whose row shows what was drawn last, what
+//! `draw` writes leads to one whose row shows the buffer, and is blank behind it. All other cells stay.
+//!
 //! A character of a buffer takes one column or two. One of two columns has two cells: its own, and behind it a covered one with the character 0
 //! and the same style. Both are in one row. What is written over one of the two leaves a space in the other, in the style that it had.
 //! Control characters and those of no column or of more than two are refused by name (`CellFault`). `Buffer::print_replacing` replaces them, and
@@ -38,6 +42,8 @@
 //! | a frame is one synchronized update; it has at most one move for each run of characters side by side, one setting of the style for each run of characters in one style, and a handful at its ends | `Screen::draw` |
 //! | a screen has as much memory after a frame as before; screens and buffers give none back, and a size that they have memory for isn't refused | `Screen::{draw, new, resize}`, `Buffer::{new, resize, fill, set, print, print_replacing, print_without_marks, print_in, border, set_style, fill_area}` |
 //! | a wrong size or place writes nothing and changes nothing; at any other error a beginning of the frame was written and nothing else, and nothing is known of the cells | `Screen::draw` |
+//! | a frame of a strip turns the cursor's row into the buffer's, wherever it is, and nothing else; it is a frame of a screen of one row with CHA for CUP, and CHA and EL for ED, and is refused as such a frame | `Strip::draw` |
+//! | a strip has as much memory after a frame as before; it gives none back, and a width that it has memory for isn't refused | `Strip::{new, resize, draw}` |
 //! | a character that doesn't take one column or two is refused by name, `set` refuses one of two in a row's last column too, and a refusal changes nothing | `Buffer::{fill, set, print, print_replacing, print_without_marks, print_in, border}` |
 //! | a cell has the character and the style that it was made of, each colour and attribute of it | `Cell::{new, symbol, style}` |
 //! | no half of a character of two columns is alone: what loses its other half is a space in the style that it had | `Buffer::{cells, fill, set, print, print_replacing, print_without_marks, print_in, border, set_style, fill_area}` |
@@ -57,7 +63,7 @@
 //!
 //! | Definitions | Lines | Of | Contract |
 //! |---|---|---|---|
-//! | `Grids` | 169 | a terminal as a grid of cells, and what each token does to it | |
+//! | `Grids` | 191 | a terminal as a grid of cells, and what each token does to it | |
 //! | `Cells` | 77 | what a cell is and how it looks, which cells are paired, and which characters fit | `Cell::{new, blank, symbol, style}`, `Buffer::{cells, fill, set}` |
 //! | `Overwriting` | 44 | the cells that a character takes, and what becomes of the halves beside them | `Buffer::{set, print, print_replacing, print_without_marks}` |
 //! | `Texts` | 53 | the cells of a text's characters, what has room, and what is replaced in it or left out | `Buffer::{print, print_replacing, print_without_marks}` |
@@ -70,6 +76,7 @@
 //! | `Screens` | 18 | a screen, and what it drew last | `Screen` |
 //! | `Updates` | 125 | which characters have to be printed, and how few moves and styles do it | `Screen::draw` |
 //! | `Drawings` | 137 | what a frame does to each grid, how many characters it prints, and what is refused | `Screen::draw`, `From<DrawFault>` of `io::Error` |
+//! | `Strips` | 130 | a strip, how it lies in a grid, what a frame does to its row and with which tokens, and what is refused | `Strip` |
 //!
 //! `specs/inside/` says the same of a frame's parts, and no public clause cites it.
 //!
@@ -91,6 +98,7 @@ mod planning;
 mod rects;
 mod screens;
 mod settings;
+mod strips;
 mod strokes;
 mod texts;
 
@@ -102,3 +110,4 @@ pub use faults::{CellFault, DrawFault};
 pub use lists::ListState;
 pub use rects::Rect;
 pub use screens::Screen;
+pub use strips::Strip;

@@ -2,7 +2,7 @@
 ghost use Rattle.std.specs.Prelude.{◌≡◌, ◌∷◌, [], List, None, OnErr, OnOk, Option, ℕ};
 ghost use Rattle.screen.specs.inside.Pens.{Breaks, Ends, PutsStrokes};
 
-use crate::strokes::Stroke;
+use crate::strokes::{Stroke, Written};
 use arrayvec::ArrayString;
 use crossterm_command::{ColorOutput, Command, CommandFault, write_text};
 use std::io;
@@ -10,23 +10,26 @@ use std::io;
 /// More than the longest stroke, which is a style: a reset of 4 bytes, three colours of 19, and 28 attributes of 6.
 const LONGEST: usize = 512;
 
-/// A text that waits to be written, and the first fault. Nothing is written after that.
+/// A text that waits to be written, and the first fault. Nothing is written after that. `in_row` is whether all stays in the cursor's row.
 #[derive(Drop)]
 pub(crate) struct Pen {
     colors: ColorOutput,
+    in_row: bool,
     waiting: ArrayString<4096>,
     fault: Option<CommandFault>,
 }
 
 impl Pen {
     /// A pen of nothing.
-    pub(crate) fn new(colors: ColorOutput) -> Pen
+    pub(crate) fn new(colors: ColorOutput, in_row: bool) -> Pen
         ensures colors { result.colors ≡ colors }
+        ensures in_row { result.in_row ≡ in_row }
         ensures waiting { result.waiting.bytes ≡ [] }
         ensures fault { result.fault ≡ None }
     {
         Pen {
             colors,
+            in_row,
             waiting: ArrayString::new(),
             fault: None,
         }
@@ -59,9 +62,13 @@ fn make_room<W: io::Write>(writer: &mut W, pen: &mut Pen)
 fn take(pen: &mut Pen, stroke: &Stroke)
     ensures { (known : Option (List ℕ)) → PutsStrokes (stroke.now ∷ []) known pen.old known pen.new }
 {
+    let written = Written {
+        in_row: pen.in_row,
+        stroke,
+    };
     match pen.fault {
         Some(_) => {}
-        None => match stroke.write_ansi(&mut pen.waiting, pen.colors) {
+        None => match written.write_ansi(&mut pen.waiting, pen.colors) {
             Ok(()) => {}
             Err(_) => pen.fault = Some(CommandFault::Text),
         },

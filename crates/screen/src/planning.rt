@@ -9,7 +9,7 @@ ghost use Rattle.screen.specs.Grids.{right_of};
 ghost use Rattle.screen.specs.declared.strokes.Stroke.{Stroke};
 ghost use Rattle.screen.specs.inside.Pens.{PutsStrokes};
 ghost use Rattle.screen.specs.inside.Scans.{IsSized, Planned, Visited};
-ghost use Rattle.screen.specs.inside.Strokes.{AreFitting, cell_strokes, cursor_strokes, first_strokes, last_strokes, move_strokes, style_strokes, tokens_of};
+ghost use Rattle.screen.specs.inside.Strokes.{AreFitting, cell_strokes, cursor_strokes, first_strokes, last_strokes, move_strokes, style_strokes, written_of};
 
 use crate::cells::{Cell, is_covered, is_wide};
 use crate::differences::next_difference;
@@ -127,7 +127,7 @@ fn scan<W: io::Write>(
     requires before_paired { ArePaired false before.old }
     requires after_paired { ArePaired false after.now }
     requires rows { StayInRows size.0 after.now }
-    ensures strokes { (strokes : List Stroke) × Visited is_known size.0 size.1 before.old after.now strokes × AreFitting strokes
+    ensures strokes { (strokes : List Stroke) × Visited is_known size.0 size.1 before.old after.now strokes × AreFitting is_known strokes
         × PutsStrokes strokes (W.contents writer.old) pen.old (W.contents writer.new) pen.new }
     ensures shown { before.new ≡ after.now }
 {
@@ -173,10 +173,11 @@ fn put_last<W: io::Write>(writer: &mut W, pen: &mut Pen, cursor: Option<(u16, u1
     put(writer, pen, Stroke::End);
 }
 
-/// Writes the strokes that turn cells that are shown, or any if they aren't known, into others.
+/// Writes the strokes that turn cells that are shown, or any if they aren't known, into others, on the whole screen or in the cursor's row.
 pub(crate) fn write_frame<W: io::Write>(
     writer: &mut W,
     colors: ColorOutput,
+    in_row: bool,
     is_known: bool,
     size: (u16, u16),
     before: &mut [Cell],
@@ -190,13 +191,13 @@ pub(crate) fn write_frame<W: io::Write>(
     requires after_paired { ArePaired false after.now }
     requires rows { StayInRows size.0 after.now }
     requires cursor { IfSome cursor (λ place. (place.0 < size.0) × (place.1 < size.1)) }
-    ensures ok { OnOk result ((strokes : List Stroke) × Planned is_known size.0 size.1 before.old after.now cursor strokes × AreFitting strokes
-        × Appends (W.contents writer.old) (W.contents writer.new) (text_of (tokens_of colors strokes))) }
-    ensures err { OnErr result ((strokes : List Stroke) × Planned is_known size.0 size.1 before.old after.now cursor strokes
-        × AppendsFront (W.contents writer.old) (W.contents writer.new) (text_of (tokens_of colors strokes))) }
+    ensures ok { OnOk result ((strokes : List Stroke) × Planned is_known size.0 size.1 before.old after.now cursor strokes × AreFitting is_known strokes
+        × Appends (W.contents writer.old) (W.contents writer.new) (text_of (written_of in_row colors strokes))) }
+    ensures err { OnErr result ((strokes : List Stroke) × Planned is_known size.0 size.1 before.old after.now cursor strokes × AreFitting is_known strokes
+        × AppendsFront (W.contents writer.old) (W.contents writer.new) (text_of (written_of in_row colors strokes))) }
     ensures shown { before.new ≡ after.now }
 {
-    let mut pen = Pen::new(colors);
+    let mut pen = Pen::new(colors, in_row);
     scan(writer, &mut pen, is_known, size, before, after);
     put_last(writer, &mut pen, cursor);
     match finish(writer, &mut pen) {

@@ -4,8 +4,10 @@ ghost use Rattle.std.specs.Option.{option_map};
 ghost use Rattle.crossterm.specs.Functions.{AppendsReading};
 ghost use Rattle.crossterm_command.specs.Tokens.{Token};
 ghost use Rattle.screen.specs.Cells.{ArePaired, blank};
-ghost use Rattle.screen.specs.Drawings.{CursorFits, IsFrame, IsSameSize, NotDrawn, forgotten, with_drawn};
-ghost use Rattle.screen.specs.inside.Scans.{IsPairedIf, is_known};
+ghost use Rattle.screen.specs.Drawings.{CursorFits, IsFrame, IsSameSize, NotDrawn, forgotten, knows_cells, with_drawn};
+ghost use Rattle.screen.specs.declared.strokes.Stroke.{Stroke};
+ghost use Rattle.screen.specs.inside.Scans.{IsPairedIf, NotWritten, is_known};
+ghost use Rattle.screen.specs.inside.Strokes.{AreFitting, tokens_of, written_of};
 
 use crate::buffers::{Buffer, count_of};
 use crate::cells::Cell;
@@ -192,6 +194,25 @@ impl<A: Allocator> Screen<A> {
         ensures err { IfErr result (λ fault. NotDrawn fault self.old self.new colors buffer.now cursor
             (W.contents writer.old) (W.contents writer.new)) }
     {
+        self.draw_by(writer, false, colors, buffer, cursor)
+    }
+
+    /// The same, on the whole screen or in the cursor's row.
+    pub(crate) fn draw_by<W: Write, B: Allocator>(
+        &mut self,
+        writer: &mut W,
+        in_row: bool,
+        colors: ColorOutput,
+        buffer: &Buffer<B>,
+        cursor: Option<(u16, u16)>,
+    ) -> Result<(), DrawFault>
+        ensures frame { OnOk result ((strokes : List Stroke) × AppendsReading (W.contents writer.old) (W.contents writer.new) (written_of in_row colors strokes)
+            × AreFitting (knows_cells self.old.drawn colors) strokes × IsFrame self.old colors buffer.now cursor (tokens_of colors strokes)) }
+        ensures accepted { OnOk result (IsSameSize self.old buffer.now × CursorFits self.old cursor) }
+        ensures drawn { OnOk result (self.new ≡ with_drawn self.old colors buffer.now.cells) }
+        ensures err { IfErr result (λ fault. NotWritten in_row fault self.old self.new colors buffer.now cursor
+            (W.contents writer.old) (W.contents writer.new)) }
+    {
         if buffer.width() != self.width || buffer.height() != self.height {
             return Err(DrawFault::Size);
         }
@@ -205,6 +226,7 @@ impl<A: Allocator> Screen<A> {
         match write_frame(
             writer,
             colors,
+            in_row,
             is_known,
             size,
             &mut self.shown,

@@ -1,9 +1,9 @@
 //! Strokes: what a frame is written by.
 ghost use Rattle.std.specs.Prelude.{Some};
 ghost use Rattle.crossterm_command.specs.Tokens.{text_of};
-ghost use Rattle.screen.specs.inside.Strokes.{tokens};
+ghost use Rattle.screen.specs.inside.Strokes.{row_tokens, tokens, written};
 
-use crossterm::cursor::{Hide, MoveTo, Show};
+use crossterm::cursor::{Hide, MoveTo, MoveToColumn, Show};
 use crossterm::style::{Attribute, Print, SetAttribute, SetStyle};
 use crossterm::terminal::{BeginSynchronizedUpdate, Clear, ClearType, EndSynchronizedUpdate};
 use crossterm_command::{ColorOutput, Command};
@@ -50,6 +50,43 @@ impl Command for Stroke {
             Stroke::Print(symbol) => Print(*symbol).write_ansi(f, colors),
             Stroke::Show => Show.write_ansi(f, colors),
             Stroke::Hide => Hide.write_ansi(f, colors),
+        }
+    }
+}
+
+/// A stroke in the cursor's row: a move goes to a column of it, and only its cells become blank.
+#[derive(Clone, Copy)]
+struct RowStroke<'a>(&'a Stroke);
+
+impl<'a> Command for RowStroke<'a> {
+    ghost text = { λ stroke colors. Some (text_of (row_tokens colors stroke.0.now)) };
+
+    fn write_ansi<W: fmt::Write>(&self, f: &mut W, colors: ColorOutput) -> fmt::Result {
+        match self.0 {
+            Stroke::Erase => {
+                (MoveToColumn(0), Clear(ClearType::UntilNewLine)).write_ansi(f, colors)
+            }
+            Stroke::Move(column, _) => MoveToColumn(*column).write_ansi(f, colors),
+            other => other.write_ansi(f, colors),
+        }
+    }
+}
+
+/// A stroke on the whole screen, or in the cursor's row.
+#[derive(Clone, Copy)]
+pub(crate) struct Written<'a> {
+    pub(crate) in_row: bool,
+    pub(crate) stroke: &'a Stroke,
+}
+
+impl<'a> Command for Written<'a> {
+    ghost text = { λ w colors. Some (text_of (written w.in_row colors w.stroke.now)) };
+
+    fn write_ansi<W: fmt::Write>(&self, f: &mut W, colors: ColorOutput) -> fmt::Result {
+        if self.in_row {
+            RowStroke(self.stroke).write_ansi(f, colors)
+        } else {
+            self.stroke.write_ansi(f, colors)
         }
     }
 }

@@ -10,4 +10,5 @@ mod random;
 mod refused;
 mod rows;
 mod sizes;
+mod strips;
 mod wide;

@@ -6,7 +6,7 @@ use Rattle.crossterm_command.specs.Writing.{AppendsFront}
 use Rattle.crossterm_command.specs.declared.fault.CommandFault.{CommandFault}
 use Rattle.screen.specs.declared.pens.Pen.{Pen}
 use Rattle.screen.specs.declared.strokes.Stroke.{Stroke}
-use Rattle.screen.specs.inside.Strokes.{tokens_of}
+use Rattle.screen.specs.inside.Strokes.{written_of}
 
 -- A text is appended to bytes that wait, some of which may be written now. Nothing is written after the first fault,
 -- and at it a prefix.
@@ -16,10 +16,11 @@ PassesOn waiting None text old new later (Some e) = AppendsFront old new (waitin
 PassesOn waiting (Some e) text old new later None = ⊥
 PassesOn waiting (Some e) text old new later (Some f) = new ≡ old
 
--- The strokes' text is appended to the pen's waiting bytes, some of which may be written now, and its colours stay.
+-- The strokes' text is appended to the pen's waiting bytes, some of which may be written now. The pen writes as before.
 abbrev pub PutsStrokes : List Stroke → Option (List ℕ) → Pen → Option (List ℕ) → Pen → Type 0
 PutsStrokes strokes old pen new next =
-    (next.colors ≡ pen.colors) × PassesOn pen.waiting.bytes pen.fault (text_of (tokens_of pen.colors strokes)) old new next.waiting.bytes next.fault
+    (next.colors ≡ pen.colors) × (next.in_row ≡ pen.in_row)
+    × PassesOn pen.waiting.bytes pen.fault (text_of (written_of pen.in_row pen.colors strokes)) old new next.waiting.bytes next.fault
 
 -- The last bytes were written, and there was no fault before.
 abbrev pub Ends : List ℕ → Option CommandFault → Option (List ℕ) → Option (List ℕ) → Type 0

@@ -1,16 +1,22 @@
 -- The way of a frame over the cells.
 use Rattle.std.specs.List.{AllByRecursion}
 use Rattle.std.specs.Prelude.{⊤, ◌≡◌, ◌↔◌, ◌≤◌, ℕ, ◌+◌, ◌*◌, Bool, true, false, List, [], ◌∷◌, ◌++◌, Option, Some, None, drop, length, map, replicate, take, if◌then◌else◌}
+use Rattle.crossterm_command.specs.Tokens.{text_of}
+use Rattle.crossterm_command.specs.Writing.{AppendsFront}
 use Rattle.crossterm_command.specs.declared.color_output.ColorOutput.{ColorOutput}
 use Rattle.crossterm_style.specs.declared.content_style.ContentStyle.{ContentStyle}
+use Rattle.screen.specs.declared.faults.DrawFault.{DrawFault}
+use Rattle.screen.specs.declared.faults.DrawFault.TheVariants.{Command}
 use Rattle.screen.specs.declared.strokes.Stroke.{Stroke}
 use Rattle.screen.specs.declared.strokes.Stroke.TheVariants.{Begin}
 use Rattle.screen.specs.Cells.{ArePaired, Cell, blank, is_covered, look, cell_look}
-use Rattle.screen.specs.Drawings.{DifferAt, HasSize, Shows, ShowsCells, printed_count, same_output}
+use Rattle.screen.specs.Buffers.{Picture}
+use Rattle.screen.specs.Drawings.{CursorFits, DifferAt, HasSize, IsFrame, IsSameSize, NotDrawn, Shows, ShowsCells, forgotten, knows_cells, printed_count, same_output}
 use Rattle.screen.specs.Grids.{Grid, Square, begun, run}
+use Rattle.screen.specs.Screens.{View}
 use Rattle.screen.specs.Grids.Square.{Second}
 use Rattle.screen.specs.Updates.{ArePrinted, HasSameStyle, IsBeside, IsOneUpdate, IsSparing, Placed, HasRuns, end_others, end_styles, how_many}
-use Rattle.screen.specs.inside.Strokes.{IsInner, is_move_stroke, is_other_stroke, is_style_stroke, tokens_of}
+use Rattle.screen.specs.inside.Strokes.{AreFitting, IsInner, is_move_stroke, is_other_stroke, is_style_stroke, tokens_of, written_of}
 
 -- Whether cells were drawn, and colours are written as they were.
 abbrev pub is_known : Option ColorOutput → ColorOutput → Bool
@@ -99,3 +105,12 @@ pub record Planned (known : Bool) (width height : ℕ) (before after : List Cell
   pub count : (colors : ColorOutput) → DifferAt before after (printed_count (tokens_of colors strokes))
   pub update : (colors : ColorOutput) → IsOneUpdate (tokens_of colors strokes)
   pub sparing : (colors : ColorOutput) → IsSparing known width before after cursor (tokens_of colors strokes)
+
+-- Why strokes weren't written. It is as in `NotDrawn`, but after a fault of a command a prefix of the strokes' own text was
+-- written.
+abbrev pub NotWritten : Bool → DrawFault → View → View → ColorOutput → Picture → Option (ℕ × ℕ) → Option (List ℕ) → Option (List ℕ) → Type 0
+NotWritten in_row (Command fault) s t colors p cursor old new =
+    IsSameSize s p × CursorFits s cursor × (t ≡ forgotten s)
+    × (strokes : List Stroke) × AreFitting (knows_cells s.drawn colors) strokes × IsFrame s colors p cursor (tokens_of colors strokes)
+    × AppendsFront old new (text_of (written_of in_row colors strokes))
+NotWritten in_row fault s t colors p cursor old new = NotDrawn fault s t colors p cursor old new

@@ -1,5 +1,5 @@
 -- The tokens that strokes are written as.
-use Rattle.std.specs.Prelude.{⊤, ℕ, Bool, true, false, List, [], ◌∷◌, ◌++◌, Option, Some, None, if◌then◌else◌, flat_map}
+use Rattle.std.specs.Prelude.{◌≡◌, ⊤, ℕ, ◌+◌, ◌<◌, ◌^◌, Bool, true, false, List, [], ◌∷◌, ◌++◌, Option, Some, None, if◌then◌else◌, flat_map}
 use Rattle.std.specs.List.{AllByRecursion}
 use Rattle.crossterm_command.specs.Controls.{reset, set}
 use Rattle.crossterm_command.specs.Tokens.{Token}
@@ -10,8 +10,8 @@ use Rattle.crossterm_style.specs.declared.content_style.ContentStyle.{ContentSty
 use Rattle.crossterm_style.specs.declared.types.attribute.Attribute.TheVariants.{Reset}
 use Rattle.crossterm_style.specs.Acts.{style_acts}
 use Rattle.crossterm_style.specs.Styles.{attribute_functions, no_style, act_tokens}
-use Rattle.crossterm.specs.Sequences.{clear, move_to}
-use Rattle.crossterm.specs.declared.terminal.ClearType.TheVariants.{All}
+use Rattle.crossterm.specs.Sequences.{by, clear, move_to}
+use Rattle.crossterm.specs.declared.terminal.ClearType.TheVariants.{All, UntilNewLine}
 use Rattle.screen.specs.declared.settings.Setting.{Setting}
 use Rattle.screen.specs.declared.settings.Setting.TheVariants as setting
 use Rattle.screen.specs.declared.strokes.Stroke.{Stroke}
@@ -39,14 +39,27 @@ tokens colors stroke.Hide = reset "25"
 abbrev pub tokens_of : ColorOutput → List Stroke → List Token
 tokens_of colors strokes = flat_map (tokens colors) strokes
 
--- A printed character takes one cell or two.
+-- The tokens of a stroke in the cursor's row: CHA for CUP, CHA and EL for ED, and the same for other strokes.
+abbrev pub row_tokens : ColorOutput → Stroke → List Token
+row_tokens colors stroke.Erase = by 1 "G" ++ clear UntilNewLine
+row_tokens colors (stroke.Move column row) = by (column + 1) "G"
+row_tokens colors s = tokens colors s
+
+-- The tokens of a stroke, in the cursor's row or on the whole screen.
+abbrev pub written : Bool → ColorOutput → Stroke → List Token
+written in_row colors s = if in_row then row_tokens colors s else tokens colors s
+
+-- The tokens of strokes, one after another, in the cursor's row or on the whole screen.
+abbrev pub written_of : Bool → ColorOutput → List Stroke → List Token
+written_of in_row colors strokes = flat_map (written in_row colors) strokes
+
+-- A stroke behind those that begin a frame doesn't erase, moves by numbers below 2^32, and prints characters of one cell
+-- or two.
 abbrev pub IsFitting : Stroke → Type 0
+IsFitting stroke.Erase = ⊥
+IsFitting (stroke.Move column row) = (column < 2 ^ 32) × (row < 2 ^ 32)
 IsFitting (stroke.Print c) = IsPrinted c
 IsFitting s = ⊤
-
--- Each printed character takes one cell or two.
-abbrev pub AreFitting : List Stroke → Type 0
-AreFitting strokes = AllByRecursion IsFitting strokes
 
 -- ---- kinds of strokes
 
@@ -105,3 +118,7 @@ cursor_strokes (Some place) = stroke.Move place.0 place.1 ∷ stroke.Show ∷ []
 -- The strokes that end a frame: the empty style, the cursor, and the end of the update.
 abbrev pub last_strokes : Option (ℕ × ℕ) → List Stroke
 last_strokes cursor = stroke.Style no_style ∷ (cursor_strokes cursor ++ (stroke.End ∷ []))
+
+-- The strokes begin as a frame does, and the others fit behind them.
+abbrev pub AreFitting : Bool → List Stroke → Type 0
+AreFitting known strokes = (later : List Stroke) × (strokes ≡ first_strokes known ++ later) × AllByRecursion IsFitting later

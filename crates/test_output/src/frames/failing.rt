@@ -9,9 +9,9 @@ use test_support::expect;
 
 /// Takes one byte a call, and fails after so many.
 #[derive(Drop)]
-struct Short {
-    bytes: Vec<u8>,
-    room: usize,
+pub struct Short {
+    pub bytes: Vec<u8>,
+    pub room: usize,
 }
 
 impl Write for Short {
@@ -48,7 +48,7 @@ fn sheet(alloc: Global, width: u16, symbol: char, style: u32) -> Result<Sheet, A
 }
 
 /// The kind of the writer's own error. Another fault is shown by a kind that no writer here fails with.
-fn own_kind(fault: DrawFault) -> ErrorKind {
+pub fn own_kind(fault: DrawFault) -> ErrorKind {
     match fault {
         DrawFault::Command(CommandFault::Writer(error)) => error.kind(),
         _ => ErrorKind::InvalidData,

@@ -61,14 +61,14 @@ loop-at-preserved g c =
     let high : h < 2 ^ 32 = omega arith in
     let pb = c.requires.before_paired in
     let pa = c.requires.after_paired in
-    let inv : (strokes : List Stroke) × Stage known w h before after strokes c.loop-at.cursor c.loop-at.style k × AreFitting strokes × PutsStrokes strokes old c.args.pen.now (held c.loop-at.writer) c.loop-at.pen
+    let inv : (strokes : List Stroke) × Stage known w h before after strokes c.loop-at.cursor c.loop-at.style k × AreFitting known strokes × PutsStrokes strokes old c.args.pen.now (held c.loop-at.writer) c.loop-at.pen
     × AreCopied before after c.loop-at.before k × (k ≤ length after) × (k < length after → get_or c.loop-at.before k blank ≢ get_or after k blank) = c.loop-at.invariant in
     let strokes = inv.0 in
     let stage = inv.1 in
     let copied = inv.4 in
     let differ : b ≢ cell = λ e. inv.6 la (copied.rest k (omega arith) ∙ e ∙ sym ec ∙ get_or_default after k cell blank la) in
     let j = c.if-not-is_covered in
-    let visited : (more : List Stroke) × Stage known w h before after more j.cursor j.style (k + 1) × AreFitting more × PutsStrokes more old c.args.pen.now (held j.writer) j.pen =
+    let visited : (more : List Stroke) × Stage known w h before after more j.cursor j.style (k + 1) × AreFitting known more × PutsStrokes more old c.args.pen.now (held j.writer) j.pen =
     elim c.if-not-is_covered.branch [
       | then-not-is_covered p ↦
           let place = p.place_of-place.result in
@@ -94,7 +94,7 @@ loop-at-preserved g c =
           puts_both strokes more old (held c.loop-at.writer) (held p.paint.new.writer) c.args.pen.now c.loop-at.pen p.paint.new.pen inv.3 p.paint.ensures in (
             strokes ++ more,
             subst (λ o. Stage known w h before after (strokes ++ more) o j.style (k + 1)) (sym cursor) (subst (λ o. Stage known w h before after (strokes ++ more) next o (k + 1)) (sym set_now) painted),
-            paints_fitting strokes there how place.0 place.1 cell fits inv.2,
+            paints_fitting known strokes there how place.0 place.1 cell (omega (arith, p.place_of-place.ensures.column, wide)) (omega (arith, p.place_of-place.ensures.row, high)) fits inv.2,
             subst (λ n. PutsStrokes (strokes ++ more) old c.args.pen.now (held n) j.pen) (sym p.writer-is) (subst (λ n. PutsStrokes (strokes ++ more) old c.args.pen.now (held p.paint.new.writer) n) (sym p.pen-is) put),
           )
       | else-not-is_covered q ↦
@@ -137,7 +137,7 @@ returns-clause-strokes g c =
     let lb : length before ≡ w * h = within_length known w h before c.requires.before in
     let la : length after ≡ w * h = c.requires.length in
     let long : w * h ≤ k = omega (arith, la, c.loop-at-test.false) in
-    let inv : (strokes : List Stroke) × Stage known w h before after strokes c.loop-at.cursor c.loop-at.style k × AreFitting strokes × PutsStrokes strokes (held c.args.writer.now) c.args.pen.now (held c.loop-at.writer) c.loop-at.pen
+    let inv : (strokes : List Stroke) × Stage known w h before after strokes c.loop-at.cursor c.loop-at.style k × AreFitting known strokes × PutsStrokes strokes (held c.args.writer.now) c.args.pen.now (held c.loop-at.writer) c.loop-at.pen
     × AreCopied before after c.loop-at.before k × (k ≤ length after) × (k < length after → get_or c.loop-at.before k blank ≢ get_or after k blank) = c.loop-at.invariant in
     let few = spares_all known w k before after c.loop-at.cursor c.loop-at.style inv.0 (omega (arith, lb, long)) (omega (arith, la, long)) inv.1.sparing in
     (inv.0, ends known k w h before after c.loop-at.cursor c.loop-at.style inv.0 lb la long inv.1.reached inv.1.counted few, inv.2, inv.3)

@@ -11,7 +11,7 @@ abbrev pub invariant-loop-at : goal.invariant-loop-at
 invariant-loop-at g l =
     (strokes : List Stroke)
     × Stage l.fn.is_known l.width l.height l.fn.before l.fn.after strokes l.cursor l.style l.at
-    × AreFitting strokes
+    × AreFitting l.fn.is_known strokes
     × PutsStrokes strokes (g.W.Write.contents l.fn.writer) l.fn.pen (g.W.Write.contents l.writer) l.pen
     × AreCopied l.fn.before l.fn.after l.before l.at
     × (l.at ≤ length l.fn.after)

@@ -17,13 +17,13 @@ returns-in-Ok-clause-ok g c =
     let h = c.args.size.1 in
     let wide : w < 2 ^ 32 = omega arith in
     let high : h < 2 ^ 32 = omega arith in
-    let scanned : (strokes : List Stroke) × Visited c.args.is_known w h c.args.before.now c.args.after.now strokes × AreFitting strokes × PutsStrokes strokes old c.new-pen.result painted c.scan.new.pen = c.scan.ensures.strokes in
+    let scanned : (strokes : List Stroke) × Visited c.args.is_known w h c.args.before.now c.args.after.now strokes × AreFitting c.args.is_known strokes × PutsStrokes strokes old c.new-pen.result painted c.scan.new.pen = c.scan.ensures.strokes in
     let last = last_strokes c.args.cursor in
     let all = puts_both scanned.0 last old painted ended c.new-pen.result c.scan.new.pen c.put_last.new.pen scanned.3 c.put_last.ensures in (
       scanned.0 ++ last,
       planned c.args.is_known w h c.args.before.now c.args.after.now c.args.cursor scanned.0 wide high c.requires.cursor scanned.1,
-      fitting scanned.0 c.args.cursor scanned.2,
-      puts_whole c.args.colors (scanned.0 ++ last) old ended (held c.finish.new.writer) c.new-pen.result c.put_last.new.pen c.new-pen.ensures.colors c.new-pen.ensures.waiting c.new-pen.ensures.fault all c.in-Ok.ensures.ok,
+      fitting c.args.is_known w h scanned.0 c.args.cursor wide high c.requires.cursor scanned.2,
+      puts_whole c.args.in_row c.args.colors (scanned.0 ++ last) old ended (held c.finish.new.writer) c.new-pen.result c.put_last.new.pen c.new-pen.ensures.in_row c.new-pen.ensures.colors c.new-pen.ensures.waiting c.new-pen.ensures.fault all c.in-Ok.ensures.ok,
     )
 
 pub returns-in-Err-clause-err : goal.returns-in-Err-clause-err
@@ -36,10 +36,11 @@ returns-in-Err-clause-err g c =
     let h = c.args.size.1 in
     let wide : w < 2 ^ 32 = omega arith in
     let high : h < 2 ^ 32 = omega arith in
-    let scanned : (strokes : List Stroke) × Visited c.args.is_known w h c.args.before.now c.args.after.now strokes × AreFitting strokes × PutsStrokes strokes old c.new-pen.result painted c.scan.new.pen = c.scan.ensures.strokes in
+    let scanned : (strokes : List Stroke) × Visited c.args.is_known w h c.args.before.now c.args.after.now strokes × AreFitting c.args.is_known strokes × PutsStrokes strokes old c.new-pen.result painted c.scan.new.pen = c.scan.ensures.strokes in
     let last = last_strokes c.args.cursor in
     let all = puts_both scanned.0 last old painted ended c.new-pen.result c.scan.new.pen c.put_last.new.pen scanned.3 c.put_last.ensures in (
       scanned.0 ++ last,
       planned c.args.is_known w h c.args.before.now c.args.after.now c.args.cursor scanned.0 wide high c.requires.cursor scanned.1,
-      puts_front c.args.colors (scanned.0 ++ last) old ended (held c.finish.new.writer) c.new-pen.result c.put_last.new.pen c.new-pen.ensures.colors c.new-pen.ensures.waiting c.new-pen.ensures.fault all c.in-Err.ensures.err,
+      fitting c.args.is_known w h scanned.0 c.args.cursor wide high c.requires.cursor scanned.2,
+      puts_front c.args.in_row c.args.colors (scanned.0 ++ last) old ended (held c.finish.new.writer) c.new-pen.result c.put_last.new.pen c.new-pen.ensures.in_row c.new-pen.ensures.colors c.new-pen.ensures.waiting c.new-pen.ensures.fault all c.in-Err.ensures.err,
     )

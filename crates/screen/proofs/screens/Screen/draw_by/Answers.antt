@@ -8,10 +8,10 @@ use Rattle.screen.specs.Cells.{blank}
 use Rattle.screen.specs.Screens.{View}
 use Rattle.screen.specs.Drawings.{CursorFits, forgotten}
 use Rattle.screen.specs.inside.Scans.{Planned, is_known}
-use Rattle.screen.specs.inside.Strokes.{AreFitting, tokens_of}
-use Rattle.screen.proofs.Frames.{frame_of, view_of}
+use Rattle.screen.specs.inside.Strokes.{AreFitting, written_of}
+use Rattle.screen.proofs.Frames.{fitting_by, frame_of, view_of}
 use Rattle.screen.proofs.Written.{strokes_read}
-use Rattle.screen.proofs.screens.Screen.draw.Goals as goal
+use Rattle.screen.proofs.screens.Screen.draw_by.Goals as goal
 
 -- A screen of which nothing is known, by its room.
 same_room : (width height m n : ℕ) → m ≡ n → ◌≡◌ {A = View} (record { width = width; height = height; drawn = None; room = m }) (record { width = width; height = height; drawn = None; room = n })
@@ -26,6 +26,7 @@ returns-in-Ok-clause-frame g c =
     let shown = c.self.inside.shown.items in
     let room = vec_capacity c.self.inside.shown in
     let colors = c.args.colors in
+    let in_row = c.args.in_row in
     let p = c.args.buffer.now in
     let known = c.prepare-is_known.result in
     let prepared = c.prepare-is_known.new.cells.items in
@@ -39,12 +40,13 @@ returns-in-Ok-clause-frame g c =
     let prep : prepared ≡ (if is_known drawn colors then shown else replicate (length shown) blank) = search rules in
     let begins : before ≡ prepared = search rules in
     let len : length shown ≡ w * h = c.self.invariant.0 in
-    let written : (strokes : List Stroke) × Planned known w h before after c.args.cursor strokes × AreFitting strokes × Appends (held c.args.writer.now) (held c.write_frame.new.writer) (text_of (tokens_of colors strokes)) =
+    let written : (strokes : List Stroke) × Planned known w h before after c.args.cursor strokes × AreFitting known strokes × Appends (held c.args.writer.now) (held c.write_frame.new.writer) (text_of (written_of in_row colors strokes)) =
     c.in-Ok.ensures.ok in
-    let ts = tokens_of colors written.0 in
-    let read = strokes_read colors written.0 written.2 in (
-      ts,
+    let ts = written_of in_row colors written.0 in
+    let read = strokes_read in_row colors known written.0 written.2 in (
+      written.0,
       (text_of ts, written.3, read, λ us other. one_reading (text_of ts) us ts other read),
+      fitting_by w h drawn shown room c.args.self.now colors known written.0 view knows written.2,
       frame_of c.args.self.now w h drawn shown prepared before after room colors p c.args.cursor known written.0 view pw ph cells knows prep begins len written.1,
     )
 
@@ -57,6 +59,7 @@ returns-in-Err-clause-err g c =
     let shown = c.self.inside.shown.items in
     let room = vec_capacity c.self.inside.shown in
     let colors = c.args.colors in
+    let in_row = c.args.in_row in
     let p = c.args.buffer.now in
     let known = c.prepare-is_known.result in
     let prepared = c.prepare-is_known.new.cells.items in
@@ -71,12 +74,13 @@ returns-in-Err-clause-err g c =
     let begins : before ≡ prepared = search rules in
     let len : length shown ≡ w * h = c.self.invariant.0 in
     let fits : CursorFits (view_of w h drawn shown room) c.args.cursor = search rules in
-    let written : (strokes : List Stroke) × Planned known w h before after c.args.cursor strokes × AppendsFront (held c.args.writer.now) (held c.write_frame.new.writer) (text_of (tokens_of colors strokes)) =
+    let written : (strokes : List Stroke) × Planned known w h before after c.args.cursor strokes × AreFitting known strokes × AppendsFront (held c.args.writer.now) (held c.write_frame.new.writer) (text_of (written_of in_row colors strokes)) =
     c.in-Err.ensures.err in (
       (pw ∙ ap (λ s. s.width) view, ph ∙ ap (λ s. s.height) view),
       subst (λ s. CursorFits s c.args.cursor) view fits,
       same_room w h (vec_capacity c.prepare-is_known.new.cells) room c.prepare-is_known.ensures.room ∙ ap forgotten view,
-      tokens_of colors written.0,
+      written.0,
+      fitting_by w h drawn shown room c.args.self.now colors known written.0 view knows written.2,
       frame_of c.args.self.now w h drawn shown prepared before after room colors p c.args.cursor known written.0 view pw ph cells knows prep begins len written.1,
-      written.2,
+      written.3,
     )

@@ -1,0 +1,143 @@
+//! Strips: the row in which the cursor is, and how it is made to show a buffer of one row.
+ghost use Rattle.std.specs.Prelude.{◌≡◌, ◌*◌, ◌≤◌, OnOk, OnErr, IsOk, IfOk, IfErr, List, None};
+ghost use Rattle.crossterm.specs.Functions.{AppendsReading};
+ghost use Rattle.crossterm_command.specs.Tokens.{Token};
+ghost use Rattle.screen.specs.Strips.{ColumnFits, IsOneRow, IsRowFrame, RowNotDrawn, in_first_row, with_row, without_row};
+
+use crate::buffers::Buffer;
+use crate::faults::DrawFault;
+use crate::screens::Screen;
+use crossterm_command::ColorOutput;
+use std::alloc::{AllocError, Allocator, Global};
+use std::io::Write;
+use std::marker::Model;
+
+/// What the row shows in which the cursor is, as far as it is known, for a program that draws in one row and doesn't know which row it is.
+///
+/// A frame moves the cursor within its row alone (CHA: ECMA-48, 8.3.9), and erases to the end of the row (EL: ECMA-48, 8.3.41). So the cells
+/// above and below stay as they are, and the cursor stays in the row. The promise is for terminals with more columns than the strip has, so that
+/// no character is printed in a terminal's last column. A program that moves the cursor to another row calls `forget`.
+///
+/// ```
+/// let mut buffer = Buffer::new(alloc, 40, 1)?;
+/// let mut strip = Strip::new(alloc, 40)?;
+/// buffer.set(0, 0, '>', ContentStyle::new())?;
+/// strip.draw(w, ColorOutput::Enabled, &buffer, Some(2))?;
+/// ```
+#[derive(Drop)]
+pub struct Strip<A: Allocator = Global> {
+    screen: Screen<A>,
+}
+
+impl<A: Allocator> Model for Strip<A> {
+    ghost use Rattle.std.specs.Prelude.{◌≡◌};
+    ghost use Rattle.screen.specs.Strips.{StripView};
+
+    ghost Value = { StripView };
+
+    ghost view = { λ s. record { width = s.screen.width; drawn = s.screen.drawn; room = s.screen.room } };
+
+    ghost invariant = { λ s. s.screen.height ≡ 1 };
+}
+
+/// The place of a column in the only row.
+fn in_first_row(cursor: Option<u16>) -> Option<(u16, u16)>
+    ensures { result ≡ in_first_row cursor }
+{
+    match cursor {
+        None => None,
+        Some(column) => Some((column, 0)),
+    }
+}
+
+impl<A: Allocator> Strip<A> {
+    /// A strip of so many columns. Nothing is known of the row yet.
+    ///
+    /// ```
+    /// let mut strip = Strip::new(alloc, columns - 1)?;
+    /// ```
+    ///
+    /// # Errors
+    ///
+    /// `AllocError` if memory was refused.
+    pub fn new(alloc: A, width: u16) -> Result<Strip<A>, AllocError>
+        ensures new { IfOk result (λ strip. strip ≡ record { width = width; drawn = None; room = strip.room }) }
+        ensures room { IfOk result (λ strip. width ≤ strip.room) }
+    {
+        let screen = Screen::new(alloc, width, 1)?;
+        Ok(Strip { screen })
+    }
+
+    /// How many columns there are.
+    ///
+    /// ```
+    /// let mut buffer = Buffer::new(alloc, strip.width(), 1)?;
+    /// ```
+    pub fn width(&self) -> u16
+        ensures { result ≡ self.now.width }
+    {
+        self.screen.width()
+    }
+
+    /// Forgets what the row shows, as after the cursor went to another row: the next frame writes all.
+    ///
+    /// ```
+    /// queue!(w, Print("\r\n"))?;
+    /// strip.forget();
+    /// ```
+    pub fn forget(&mut self)
+        ensures { self.new ≡ without_row self.old }
+    {
+        self.screen.forget();
+    }
+
+    /// Takes another width, after which nothing is known of the row. No memory is given back, so no width is refused that it had before.
+    ///
+    /// ```
+    /// strip.resize(columns - 1)?;
+    /// ```
+    ///
+    /// # Errors
+    ///
+    /// `AllocError` if memory was refused for more cells than there is memory for. Then nothing has changed.
+    pub fn resize(&mut self, width: u16) -> Result<(), AllocError>
+        ensures ok { OnOk result (self.new ≡ record { width = width; drawn = None; room = self.new.room }) }
+        ensures err { OnErr result (self.new ≡ record self.old { room = self.new.room }) }
+        ensures fits { width ≤ self.old.room → IsOk result }
+        ensures holds { OnOk result (width ≤ self.new.room) }
+        ensures room { self.old.room ≤ self.new.room }
+    {
+        self.screen.resize(width, 1)
+    }
+
+    /// Writes what makes the cursor's row show the buffer, with the cursor in a column from 0, or hidden. Behind the strip the row is blank. The
+    /// strip has as much memory afterwards as before.
+    ///
+    /// # Errors
+    ///
+    /// `Size` if the buffer hasn't the strip's width and one row, and `Cursor` if the column is outside. Then nothing was written, nothing
+    /// changed, and what the row shows is known as before. `Command` if the writer failed: a beginning of the frame was written, and nothing
+    /// else. Then nothing is known of the row, and the next frame writes all.
+    ///
+    /// ```
+    /// strip.draw(&mut tty.out, ColorOutput::Enabled, &buffer, Some(column))?;
+    /// tty.out.flush()?;
+    /// ```
+    pub fn draw<W: Write, B: Allocator>(
+        &mut self,
+        writer: &mut W,
+        colors: ColorOutput,
+        buffer: &Buffer<B>,
+        cursor: Option<u16>,
+    ) -> Result<(), DrawFault>
+        ensures frame { OnOk result ((ts : List Token) × AppendsReading (W.contents writer.old) (W.contents writer.new) ts
+            × IsRowFrame self.old colors buffer.now cursor ts) }
+        ensures accepted { OnOk result (IsOneRow self.old buffer.now × ColumnFits self.old cursor) }
+        ensures drawn { OnOk result (self.new ≡ with_row self.old colors buffer.now.cells) }
+        ensures err { IfErr result (λ fault. RowNotDrawn fault self.old self.new colors buffer.now cursor
+            (W.contents writer.old) (W.contents writer.new)) }
+    {
+        let place = in_first_row(cursor);
+        self.screen.draw_by(writer, true, colors, buffer, place)
+    }
+}
