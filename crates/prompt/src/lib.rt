@@ -51,9 +51,13 @@
 
 mod asking;
 mod drawing;
+mod helpers;
 pub mod laws;
 mod prompts;
 mod read;
+mod words;
 
-pub use asking::read_line;
+pub use asking::{Prompt, read_line};
+pub use helpers::Helper;
 pub use read::Read;
+pub use words::Words;

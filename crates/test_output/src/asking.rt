@@ -1,5 +1,8 @@
 //! Lines that are asked for, over scripted keys and writers that fail.
 
+mod helped;
+mod resized;
+
 use crate::noted::{Call, Noted, terminal_by};
 use crate::witness::Witness;
 use crossterm::event::source::{Act, DeviceSource, RawFlag, Script};
