@@ -91,11 +91,7 @@ fn name_fault<W: Write>(out: &mut W, done: &str, file: &str, error: io::Error) -
 ///
 /// Those of the file, which are printed with its name, those of the terminal and its writer, but for the end of input, and `OutOfMemory` if
 /// memory was refused.
-pub fn run<R: AllocGlobal + Files + Wait>(
-    rt: &R,
-    tty: &mut Tty<'_>,
-    file: &str,
-) -> io::Result<()> {
+pub fn run<R: AllocGlobal + Files + Wait>(rt: &R, tty: &mut Tty<'_>, file: &str) -> io::Result<()> {
     let mut editor = Editor::new(tty.alloc, Limits::default())?;
     if let Err(error) = load(rt, &mut editor, file) {
         return name_fault(&mut tty.out, "read", file, error);

@@ -36,8 +36,8 @@ answer_seen read.Closed = Closed
 abbrev pub AsksPlace : {S : Type 0} → (S → List SourceAnswer → S → Type 0) → (S → List (Option Duration)) → Known S → Known S → Type 0
 AsksPlace drawn asked v w = (start : ℕ) × (after : ℕ) × (result : Result (ℕ × ℕ) Error) × InTwoSeconds (λ limit. AsksPosition drawn asked limit (λ n. n ≡ start) after v w result)
 
--- A line goes on: a pass read events from `v` on, the editor took from `w` on what it is given for each, and none of
--- them ended the line.
+-- A line goes on: a pass read events from `v` on, and the editor took what it is given for each from `w` on. None ended
+-- the line.
 pub data GoesOn {S : Type 0} (drawn : S → List SourceAnswer → S → Type 0) (asked : S → List (Option Duration)) (given : EditorState → Seen → Seen) (v : Known S) (w : EditorState) : Known S → EditorState → Type 0 where
   -- Nothing was read.
   unread : GoesOn drawn asked given v w v w

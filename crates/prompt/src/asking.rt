@@ -16,9 +16,9 @@ use crate::drawing::{Row, draw, erase, leave_row, ring, rows_above};
 use crate::helpers::Helper;
 use crate::prompts::has_control;
 use crate::read::Read;
-use crossterm::event::{Event, KeyCode, KeyEventKind};
 use crossterm::event::source::EventSource;
 use crossterm::event::timeout::Clock;
+use crossterm::event::{Event, KeyCode, KeyEventKind};
 use crossterm::terminal::ModeDevice;
 use line_editor::{EditFault, Editor, Outcome};
 use own_terminal::Session;
@@ -85,7 +85,7 @@ impl<'a, H> Prompt<'a, H> {
     /// let prompt = Prompt::new("> ").with_helper(&helper);
     /// ```
     pub fn with_helper<G>(self, helper: &'a G) -> Prompt<'a, G>
-        ensures text { result.text.now ≡ self.text.now }
+        ensures text { result.text.now ≡ self.entry.text.now }
         ensures helper { result.helper.now ≡ helper.now }
     {
         Prompt {
@@ -102,8 +102,8 @@ impl<'a, H> Prompt<'a, H> {
     /// let prompt = Prompt::new("> ").without_questions();
     /// ```
     pub fn without_questions(self) -> Prompt<'a, H>
-        ensures text { result.text.now ≡ self.text.now }
-        ensures helper { result.helper.now ≡ self.helper.now }
+        ensures text { result.text.now ≡ self.entry.text.now }
+        ensures helper { result.helper.now ≡ self.entry.helper.now }
     {
         Prompt {
             text: self.text,
@@ -157,8 +157,10 @@ fn take_text<A: Allocator + Clone>(editor: &mut Editor<A>, text: &str) -> Taken<
 {
     match editor.paste(text) {
         Ok(()) => Taken::Going,
-        Err(EditFault::TooLong) => Taken::TooLong,
-        Err(EditFault::Memory) => Taken::Refused,
+        Err(fault) => match fault {
+            EditFault::TooLong => Taken::TooLong,
+            EditFault::Memory => Taken::Refused,
+        },
     }
 }
 
@@ -276,9 +278,8 @@ fn show_after<
 {
     match event {
         Event::Resize(..) => show_anew(rt, tty, editor, prompt, row),
-        Event::FocusGained | Event::FocusLost | Event::Key(_) | Event::Mouse(_) | Event::Paste(_) => {
-            show(&mut tty.out, editor, prompt, row)
-        }
+        Event::FocusGained | Event::FocusLost | Event::Key(_) | Event::Mouse(_) | Event::Paste(_) =>
+            { show(&mut tty.out, editor, prompt, row) }
     }
 }
 
@@ -353,11 +354,7 @@ fn begin<
     C: Clock + Drop,
     A: Allocator,
     H: Helper,
->(
-    tty: &mut Session<S, D, W, C>,
-    editor: &Editor<A>,
-    prompt: &Prompt<'_, H>,
-) -> io::Result<Row>
+>(tty: &mut Session<S, D, W, C>, editor: &Editor<A>, prompt: &Prompt<'_, H>) -> io::Result<Row>
     ensures pass { tty.new.pass ≡ tty.old.pass }
     ensures features { tty.new.features ≡ tty.old.features }
     ensures already { IsTrue (is_some tty.old.term.prior) → tty.new.term.prior ≡ tty.old.term.prior }
@@ -450,12 +447,7 @@ impl<H: Helper> Prompt<'_, H> {
         C: Clock + Drop,
         A: Allocator + Clone,
         R: Wait,
-    >(
-        &self,
-        rt: &R,
-        tty: &mut Session<S, D, W, C>,
-        editor: &mut Editor<A>,
-    ) -> io::Result<Read<A>>
+    >(&self, rt: &R, tty: &mut Session<S, D, W, C>, editor: &mut Editor<A>) -> io::Result<Read<A>>
         ensures line { IfOk result (λ read. LineEnds S.drawn S.asked (given_by (H.completes self.now.helper.now)) (knows tty.old.pass) editor.old (answer_seen read) (knows tty.new.pass) editor.new) }
         ensures err { IfErr result (λ error. StopsAsking S.drawn S.asked (given_by (H.completes self.now.helper.now)) (knows tty.old.pass) editor.old (error_kind error) (knows tty.new.pass) editor.new) }
         ensures refused { prompts.has_control (chars self.now.text.now) ≡ true → IsErrAnd result (λ error. error_kind error ≡ InvalidInput) × (tty.new ≡ tty.old) × (editor.new ≡ editor.old) }

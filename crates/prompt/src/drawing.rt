@@ -36,7 +36,11 @@ pub(crate) fn draw<W: Write, A: Allocator>(
     let (text, column) = line.seen(row.columns.saturating_sub(taken));
     let column = taken.saturating_add(u16::try_from(column).unwrap_or(u16::MAX));
     let is_at_end = line.after().is_empty();
-    let room = if is_at_end { row.columns.saturating_sub(column) } else { 0 };
+    let room = if is_at_end {
+        row.columns.saturating_sub(column)
+    } else {
+        0
+    };
     let hint = shown_hint(hint, room);
     row.has_hint = !hint.is_empty();
     queue!(out, COLORS, MoveToColumn(0), DisableLineWrap)?;
@@ -111,7 +115,12 @@ pub(crate) fn erase<W: Write>(out: &mut W, rows: u16) -> io::Result<()> {
     if rows > 0 {
         queue!(out, COLORS, MoveUp(rows))?;
     }
-    queue!(out, COLORS, MoveToColumn(0), Clear(ClearType::FromCursorDown))
+    queue!(
+        out,
+        COLORS,
+        MoveToColumn(0),
+        Clear(ClearType::FromCursorDown)
+    )
 }
 
 /// Rings the bell.

@@ -1,7 +1,7 @@
 //! A helper that completes names.
-ghost use Rattle.std.specs.Prelude.{◌≡◌, map};
+ghost use Rattle.std.specs.Prelude.{◌≡◌};
 ghost use Rattle.std.specs.Option.{option_copied};
-ghost use Rattle.prompt.specs.Words.{first_rest, rest_of};
+ghost use Rattle.prompt.specs.Words.{first_rest, rest_among, rest_of};
 
 use crate::helpers::Helper;
 
@@ -39,13 +39,10 @@ impl<'a> Words<'a> {
         Words { names }
     }
 
-    /// What the first name that begins with a text and goes on has behind it. An empty text has none.
-    fn first_rest(&self, text: &str) -> Option<&str>
-        ensures { option_copied result ≡ first_rest text.now (map (λ name. name.now) self.now.names.now) }
+    /// What the first name that begins with a text and goes on has behind it.
+    fn rest_among(&self, text: &str) -> Option<&str>
+        ensures { option_copied result ≡ rest_among text.now self.now.names.now }
     {
-        if text.is_empty() {
-            return None;
-        }
         for name in self.names {
             let rest = rest_of(name, text);
             if !rest.is_empty() {
@@ -54,13 +51,22 @@ impl<'a> Words<'a> {
         }
         None
     }
+
+    /// The same, but an empty text has none.
+    fn first_rest(&self, text: &str) -> Option<&str>
+        ensures { option_copied result ≡ first_rest text.now self.now.names.now }
+    {
+        if text.is_empty() {
+            return None;
+        }
+        self.rest_among(text)
+    }
 }
 
 impl Helper for Words<'_> {
-    ghost use Rattle.std.specs.Prelude.{map};
     ghost use Rattle.prompt.specs.Words.{first_rest};
 
-    ghost completes = { λ words before after. first_rest before (map (λ name. name.now) words.names.now) };
+    ghost completes = { λ words before after. first_rest before words.names.now };
 
     fn complete(&self, before: &str, _after: &str) -> Option<&str> {
         self.first_rest(before)

@@ -233,7 +233,7 @@ fn a_resize_asks_for_the_size_anew(rt: HostRuntime) -> io::Result<()> {
         [
             text(alloc, b"a")?,
             Act::Resize(40, 10),
-            text(alloc, b"b\r")?,
+            text(alloc, b"\x1b[1;2Rb\r")?,
         ],
     )?;
     let calls = [("", Comes::Line("ab"))];

@@ -37,7 +37,8 @@ const X50: &str = "xxxxxxxxxxxxxxxxxxxxxxxxxxxxxxxxxxxxxxxxxxxxxxxxxx";
 const PASTED: &[u8] = b"\x1b[200~xxxxxxxxxxxxxxxxxxxxxxxxxxxxxxxxxxxxxxxxxxxxxxxxxx\x1b[201~";
 
 /// The empty line, and the whole text.
-const DRAWN: &[u8] = b"\x1b[1G\x1b[?7l\x1b[K\x1b[?7h\x1b[1G\x1b[1G\x1b[?7l\x1b[Kxxxxxxxxxxxxxxxxxxxxxxxxxxxxxxxxxxxxxxxxxxxxxxxxxx\x1b[?7h\x1b[51G";
+const DRAWN: &[u8] =
+    b"\x1b[1G\x1b[?7l\x1b[K\x1b[?7h\x1b[1G\x1b[1G\x1b[?7l\x1b[Kxxxxxxxxxxxxxxxxxxxxxxxxxxxxxxxxxxxxxxxxxxxxxxxxxx\x1b[?7h\x1b[51G";
 
 const ENDED: Comes = Comes::Line(X50);
 
