@@ -8,8 +8,8 @@ use Rattle.prompt.specs.Completing.{completed, given_by, is_tab}
 
 -- An event that isn't Tab stays as it is.
 pub not_tab : (c : Option (List ℕ)) (e : Seen) → is_tab e ≡ false → completed c e ≡ e
-not_tab None e no = refl
-not_tab (Some text) e no = ap (λ b. cond b (Paste text) e) no
+not_tab None e other = refl
+not_tab (Some text) e other = ap (λ b. cond b (Paste text) e) other
 
 module _ (completes : List ℕ → List ℕ → Option (List ℕ)) (w : EditorState) (e : Seen) where
   -- What comes of what helps the texts before and behind the cursor.
@@ -23,7 +23,7 @@ module _ (completes : List ℕ → List ℕ → Option (List ℕ)) (w : EditorSt
   -- Tab is a paste of the text that completes the line.
   pub given_text : (before after text : List ℕ) → IsUtf8 before → IsUtf8 after → reverse (chars before) ≡ w.line.before → chars after ≡ w.line.after
       → Some text ≡ completes before after → is_tab e ≡ true → given_by completes w e ≡ Paste text
-  given_text before after text u v b a is yes = by_texts before after u v b a ∙ ap (λ c. completed c e) (sym is) ∙ ap (λ t. cond t (Paste text) e) yes
+  given_text before after text u v b a is tab = by_texts before after u v b a ∙ ap (λ c. completed c e) (sym is) ∙ ap (λ t. cond t (Paste text) e) tab
 
   -- Without one it stays as it is.
   pub given_itself : (before after : List ℕ) → IsUtf8 before → IsUtf8 after → reverse (chars before) ≡ w.line.before → chars after ≡ w.line.after
@@ -32,4 +32,4 @@ module _ (completes : List ℕ → List ℕ → Option (List ℕ)) (w : EditorSt
 
   -- So does any other event.
   pub given_other : is_tab e ≡ false → given_by completes w e ≡ e
-  given_other no = not_tab (completes (encode_utf8_all (reverse w.line.before)) (encode_utf8_all w.line.after)) e no
+  given_other other = not_tab (completes (encode_utf8_all (reverse w.line.before)) (encode_utf8_all w.line.after)) e other

@@ -1,6 +1,5 @@
 -- What comes of one more event, and of a question.
-use Rattle.std.specs.Prelude.{◌⊎◌, inl, inr}
-use Rattle.std.proofs.Common.{◌≡◌, ℕ, false, List, Option, Some, None, Result, refl, sym, subst}
+use Rattle.std.proofs.Common.{◌≡◌, ◌⊎◌, inl, inr, ℕ, false, List, Option, Some, None, Result, refl, sym, subst}
 use Rattle.std.specs.declared.io.Error.{Error}
 use Rattle.std.specs.declared.io.ErrorKind.{ErrorKind}
 use Rattle.std.specs.declared.io.ErrorKind.TheVariants.{OutOfMemory}
@@ -20,9 +19,9 @@ use Rattle.prompt.specs.Asking.{AsksPlace, GoesOn, StopsAsking, unread, further,
 use Rattle.prompt.specs.inside.Turning.{MayAsk, TakesAs}
 
 module _ {S : Type 0} (drawn : S → List SourceAnswer → S → Type 0) (asked : S → List (Option Duration)) where
-  -- A pass that didn't change.
-  pub not_asked : (p q : Known S) → q ≡ p → MayAsk drawn asked p q
-  not_asked p q same = inr same
+  -- A question after which nothing else was asked, of a pass that was as it is here.
+  pub asked_since : (p q r : Known S) → q ≡ p → MayAsk drawn asked q r → MayAsk drawn asked p r
+  asked_since p q r same may = subst (λ (x : Known S). MayAsk drawn asked x r) same may
 
   asks_place : (begins : ℕ → Type 0) (after : ℕ) (p q : Known S) (r : Result (ℕ × ℕ) Error) → InTwoSeconds (λ limit. AsksPosition drawn asked limit begins after p q r)
       → AsksPlace drawn asked p q
