@@ -1,11 +1,16 @@
-"""How `edit` does in a terminal."""
+"""How `edit` and `shell` do in a terminal."""
 import os
 import re
 import select
+import tempfile
 import time
 
 from debug_lines import rows_in
 from pseudo import WITH, Terminal, Wrong, equal, program, tmux
+
+# How a line's row begins as it is drawn, and what erases the rows below before, after a resize.
+DRAWN = b'\x1b[1G\x1b[?7l\x1b[K'
+ERASED = b'\x1b[1G\x1b[J'
 
 
 def edit_keeps_the_order():
@@ -17,7 +22,7 @@ def edit_keeps_the_order():
         terminal.send(b'ab')
         time.sleep(0.1)
         terminal.send(b'\x1b[3;3Rcd')
-        terminal.until(b'\x1b[6n\r\n\x1b[1G\x1b[J> ')
+        terminal.until(b'\x1b[6n\r\n' + DRAWN + b'> \x1b[?7h\x1b[3G')
         terminal.send(b'\x1b[D\x1b[D\x1b[DX\x1b[HY\x1b[FZ\x7f\x1b[D\x1b[3~' + '\u00e9\u6f22'.encode())
         terminal.send(b'\r')
         terminal.until('7: YaXbc\u00e9\u6f22'.encode())
@@ -27,10 +32,10 @@ def edit_keeps_the_order():
         terminal.resize(40, 24)
         terminal.until(b'\x1b[6n', times=2)
         terminal.send(b'\x1b[6;7R')
-        terminal.until(b'\x1b[6n\x1b[1G\x1b[J> \x1b[3G\x1b[?7l\x1b[K\x1b[38;5;10mnext')
+        terminal.until(b'\x1b[6n' + ERASED + DRAWN + b'> next')
         terminal.send(b'!\r')
         terminal.until(b'5: next!')
-        terminal.send(b'\x1b')
+        terminal.send(b'\x03')
         equal('status', terminal.end(), 0)
         equal('questions for the place', terminal.out.count(b'\x1b[6n'), 2)
         equal('mode after the end', terminal.mode(), before)
@@ -109,8 +114,8 @@ def edit_without_answers():
         terminal.send(b'more')
         terminal.until(b'more')
         terminal.resize(40, 24)
-        terminal.until(b'\x1b[1G\x1b[J> \x1b[3G\x1b[?7l\x1b[K\x1b[38;5;10mmore', limit=1)
-        terminal.send(b'\x04')
+        terminal.until(ERASED + DRAWN + b'> more', limit=1)
+        terminal.send(b'\x03')
         equal('status', terminal.end(), 0)
         equal('questions for the place', terminal.out.count(b'\x1b[6n'), 1)
         equal('mode after the end', terminal.mode(), before)
@@ -123,13 +128,13 @@ def edit_after_a_resize():
     """A window of other widths: by the cursor's place then, the terminal has wrapped the line anew, or cut it, or it isn't known."""
     terminal = Terminal(f'{WITH} {program("edit")}')
     text = b'x' * 90
-    shown = lambda columns: b'\x1b[1G\x1b[J> \x1b[3G\x1b[?7l\x1b[K\x1b[38;5;10m' + text[: columns - 4] + b'\x1b[0m'
+    shown = lambda columns: ERASED + DRAWN + b'> ' + text[: columns - 3] + b'\x1b[?7h'
     try:
         terminal.until(b'\x1b[K')
         terminal.send(text)
-        terminal.until(b'x' * 76 + b'\x1b[0m\x1b[?7h\x1b[79G')
+        terminal.until(b'> ' + b'x' * 77 + b'\x1b[?7h\x1b[80G')
         # The window's columns, the cursor's column in it, and what moves up to the line's first row.
-        for columns, column, up in ((60, 19, b'\x1b[1A'), (50, 50, b''), (20, 9, b'\x1b[2A'), (39, 19, b''), (12, 1, b''), (100, 11, b'')):
+        for columns, column, up in ((60, 20, b'\x1b[1A'), (50, 50, b''), (20, 10, b'\x1b[2A'), (39, 20, b''), (12, 1, b''), (100, 12, b'')):
             terminal.place = (5, column)
             from_ = len(terminal.out)
             terminal.resize(columns, 24)
@@ -162,7 +167,7 @@ def edit_in_tmux():
             run('send-keys', '-l', '-t', 't', text)
             for columns in (200, 100, 60, 150, 41, 190):
                 run('resize-window', '-t', 't', '-x', str(columns))
-                want = [*before, '> ' + last_of(text, columns - 4)]
+                want = [*before, '> ' + last_of(text, columns - 3)]
                 end = time.time() + 5
                 while rows_in(run, '-S', '-') != want and time.time() < end:
                     time.sleep(0.05)
@@ -172,5 +177,61 @@ def edit_in_tmux():
             equal('after Ctrl-D', rows_in(run, '-S', '-'), [*want, f'{len(text)}: {text}', '>', 'ended 0'])
 
 
-TRIES = [edit_keeps_the_order, edit_loses_no_key_between_lines, edit_pastes_many_lines, edit_without_answers, edit_after_a_resize]
+def shell_in(path):
+    terminal = Terminal(f'{WITH} {program("shell")} {path}')
+    terminal.until(b'$ ')
+    return terminal
+
+
+def shell_completes_and_remembers():
+    """Tab completes a command's name, its hint is no part of the line, and the history comes back after a restart."""
+    with tempfile.TemporaryDirectory() as room:
+        path = os.path.join(room, 'history')
+        terminal = shell_in(path)
+        try:
+            # A hint is dim, behind the cursor, and erased as the row is left.
+            terminal.send(b'ec')
+            terminal.until(DRAWN + b'$ ec\x1b[2mho\x1b[22m\x1b[?7h\x1b[5G')
+            terminal.send(b'\r')
+            terminal.until(b'\x1b[5G\x1b[K\r\nec is no command: ')
+            terminal.send(b'ec\t')
+            terminal.until(DRAWN + b'$ echo\x1b[?7h\x1b[7G')
+            terminal.send(b' some words\r')
+            terminal.until(b'\r\nsome words\r\n')
+            # Nothing completes this, and undo takes a completion back.
+            terminal.send(b'x\t\x7fhe\t\x1f')
+            terminal.until(DRAWN + b'$ help\x1b[?7h\x1b[7G' + DRAWN + b'$ he\x1b[2mlp\x1b[22m\x1b[?7h\x1b[5G')
+            terminal.send(b'\x15q\t\r')
+            equal('status', terminal.end(), 0)
+        finally:
+            terminal.close()
+        with open(path, 'rb') as file:
+            equal('history', file.read(), b'ec\necho some words\nquit\n')
+        terminal = shell_in(path)
+        try:
+            terminal.send(b'\x1b[A\x1b[A')
+            terminal.until(DRAWN + b'$ echo some words\x1b[?7h\x1b[18G')
+            terminal.send(b'\r')
+            terminal.until(b'\r\nsome words\r\n')
+            terminal.send(b'history\r')
+            terminal.until(b'\r\nec\r\necho some words\r\nquit\r\necho some words\r\nhistory\r\n')
+            terminal.send(b'\x04')
+            equal('status', terminal.end(), 0)
+            terminal.none_left()
+        finally:
+            terminal.close()
+        with open(path, 'wb') as file:
+            file.write(b'\xff\n')
+        terminal = Terminal(f'{WITH} {program("shell")} {path}')
+        try:
+            terminal.until(f"shell: {path} can't be read: ".encode())
+            equal('status', terminal.end(), 1)
+        finally:
+            terminal.close()
+
+
+TRIES = [
+    edit_keeps_the_order, edit_loses_no_key_between_lines, edit_pastes_many_lines, edit_without_answers, edit_after_a_resize,
+    shell_completes_and_remembers,
+]
 IN_TMUX = [edit_in_tmux]

@@ -252,14 +252,22 @@ def paste_isnt_run(command, shell=('sh', '-i'), size=1 << 20, begun=b'begun', mi
     raise Wrong('this machine is too busy for a paste')
 
 
-def esc(terminal, limit=20):
-    """Ends a program by Esc, if it hasn't ended by itself."""
+def end_by(terminal, key, limit=20):
+    """Ends a program by a key, if it hasn't ended by itself."""
     end = time.time() + 4
     while b'all over' not in terminal.out:
         terminal.read(0.1)
         if time.time() > end:
-            terminal.send(b'\x1b')
+            terminal.send(key)
             terminal.until(b'all over', limit)
+
+
+def esc(terminal):
+    end_by(terminal, b'\x1b')
+
+
+def ctrl_c(terminal):
+    end_by(terminal, b'\x03')
 
 
 @contextlib.contextmanager

@@ -1,12 +1,12 @@
 //! Runs one of the `example_modes` by its name, as `example table`.
 //!
-//! `browse`, `clock`, `edit`, `events`, `keys`, `paint`, `record` and `stream` run in a terminal:
+//! `browse`, `clock`, `edit`, `events`, `keys`, `paint`, `record`, `shell` and `stream` run in a terminal:
 //! `terminal/with_terminal crates/example/out/example browse`.
 #![tactic(auto)]
 
 use example_modes::{
-    browse, clock, edit, events, frames, keylog, keys, own_command, paint, record, replay, stream,
-    table,
+    browse, clock, edit, events, frames, keylog, keys, own_command, paint, record, replay, shell,
+    stream, table,
 };
 use own_terminal::Tty;
 use std::env;
@@ -17,7 +17,7 @@ use std::sync::Wait;
 const USAGE: &str = "usage: example NAME
 by itself: frames, keylog, own_command, table, paint serve PORT, paint serve PORT SECONDS
   replay FILE, replay FILE --speed N, replay FILE --probe, replay FILE --cast; each with --front after FILE if the recording was cut
-by terminal/with_terminal: browse, clock, edit, events, keys, keys FILE, paint, record FILE, record FILE --over, stream";
+by terminal/with_terminal: browse, clock, edit, events, keys, keys FILE, paint, record FILE, record FILE --over, shell FILE, stream";
 
 /// Runs an example on standard input and output. If there is none of the name, standard error lists them.
 fn run_plain(rt: &HostRuntime, name: &str, words: &[String]) -> io::Result<()> {
@@ -51,6 +51,7 @@ fn run_in_terminal<R: AllocGlobal + Files + Wait>(
         "edit" => edit::run(rt, tty),
         "events" => events::run(rt, tty),
         "paint" => paint::run(rt, tty),
+        "shell" => shell::run(rt, tty, file.unwrap_or("history")),
         _ => keys::run(rt, tty, file),
     }
 }
@@ -102,7 +103,7 @@ fn main(rt: HostRuntime) -> io::Result<()> {
             tty.leave()
         }
         ("paint", [word, ..]) if word.as_str() == "serve" => run_plain(&rt, "paint", words),
-        (name @ ("browse" | "edit" | "events" | "keys" | "paint"), [file @ .., _]) => {
+        (name @ ("browse" | "edit" | "events" | "keys" | "paint" | "shell"), [file @ .., _]) => {
             let mut tty = own_terminal::start(&rt, rt.stdin(), rt.stdout())?;
             run_in_terminal(&rt, &mut tty, name, file.first().map(|file| file.as_str()))?;
             tty.leave()

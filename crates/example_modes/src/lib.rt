@@ -7,6 +7,7 @@
 //! |---|---|
 //! | `events` | each event as it comes, and the cursor's place |
 //! | `edit` | a line editor |
+//! | `shell` | five commands, with completion, hints and a history in a file |
 //! | `keys` | key bindings, by default or from a file |
 //! | `browse` | a full-screen list, by keys and mouse |
 //! | `clock` | two threads: one reads, the other draws the time |
@@ -38,5 +39,6 @@ pub mod own_command;
 pub mod paint;
 pub mod record;
 pub mod replay;
+pub mod shell;
 pub mod stream;
 pub mod table;

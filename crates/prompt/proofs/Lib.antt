@@ -1,3 +1,5 @@
 pub mod Turning
 pub mod Controls
+pub mod Completing
+pub mod Naming
 pub mod Lines

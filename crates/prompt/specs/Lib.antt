@@ -1,4 +1,6 @@
 pub mod Prompts
+pub mod Words
+pub mod Completing
 pub mod Asking
 pub mod Lines
 pub mod inside

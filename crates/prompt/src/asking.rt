@@ -2,24 +2,28 @@
 ghost use Rattle.std.specs.Prelude.{◌≡◌, ◌⊎◌, chars, true, false, IfErr, IfOk, IsErrAnd, IsOk, IsTrue, None, OnErr, OnOk, Some, is_some};
 ghost use Rattle.std.specs.IoError.{error_kind};
 ghost use Rattle.std.specs.declared.io.ErrorKind.TheVariants.{InvalidInput};
-ghost use Rattle.crossterm_types.specs.Seen.{seen_event};
+ghost use Rattle.crossterm_types.specs.Seen.{Paste, seen_event};
 ghost use Rattle.crossterm_read.specs.History.{Known};
 ghost use Rattle.crossterm_read.specs.PassViews.{knows};
 ghost use Rattle.line_editor.specs.States.{EditorState};
 ghost use Rattle.prompt.specs.Asking.{LineEnds, StopsAsking, GoesOn, answer_seen};
+ghost use Rattle.prompt.specs.Completing as completing;
+ghost use Rattle.prompt.specs.Completing.{as_read, given_by};
 ghost use Rattle.prompt.specs.Prompts as prompts;
-ghost use Rattle.prompt.specs.inside.Turning.{IsTaken, Leads};
+ghost use Rattle.prompt.specs.inside.Turning.{IsTaken, Leads, MayAsk};
 
-use crate::drawing::{draw, leave_row, ring};
+use crate::drawing::{Row, draw, erase, leave_row, ring, rows_above};
+use crate::helpers::Helper;
 use crate::prompts::has_control;
 use crate::read::Read;
-use crossterm::event::Event;
 use crossterm::event::source::EventSource;
 use crossterm::event::timeout::Clock;
+use crossterm::event::{Event, KeyCode, KeyEventKind};
 use crossterm::terminal::ModeDevice;
 use line_editor::{EditFault, Editor, Outcome};
 use own_terminal::Session;
 use std::alloc::{Allocator, Global};
+use std::cell::Cell;
 use std::io::{self, ErrorKind, Write};
 use std::sync::Wait;
 
@@ -40,8 +44,101 @@ enum Turn<A: Allocator> {
     Failed(io::Error),
 }
 
-/// Gives an event to an editor.
-fn take<A: Allocator + Clone, B: Allocator>(editor: &mut Editor<A>, event: &Event<B>) -> Taken<A>
+/// A prompt, with what helps to write its lines.
+///
+/// ```
+/// let prompt = Prompt::new("> ").with_helper(&helper);
+/// let read = prompt.read_line(rt, &mut tty, &mut editor)?;
+/// ```
+#[derive(Drop)]
+pub struct Prompt<'a, H = ()> {
+    text: &'a str,
+    helper: &'a H,
+    // Whether the terminal is asked for the cursor's place.
+    asks: bool,
+    // The window's columns, or 0 if they aren't known.
+    columns: Cell<u16>,
+}
+
+impl<'a> Prompt<'a, ()> {
+    /// A prompt of this text, without a helper.
+    ///
+    /// ```
+    /// let prompt = Prompt::new("Name: ");
+    /// ```
+    pub fn new(text: &'a str) -> Prompt<'a, ()>
+        ensures { result.text.now ≡ text.now }
+    {
+        Prompt {
+            text,
+            helper: &(),
+            asks: true,
+            columns: Cell::new(0),
+        }
+    }
+}
+
+impl<'a, H> Prompt<'a, H> {
+    /// The same prompt with this helper.
+    ///
+    /// ```
+    /// let prompt = Prompt::new("> ").with_helper(&helper);
+    /// ```
+    pub fn with_helper<G>(self, helper: &'a G) -> Prompt<'a, G>
+        ensures text { result.text.now ≡ self.entry.text.now }
+        ensures helper { result.helper.now ≡ helper.now }
+    {
+        Prompt {
+            text: self.text,
+            helper,
+            asks: self.asks,
+            columns: Cell::new(0),
+        }
+    }
+
+    /// The same prompt, which doesn't ask the terminal for the cursor's place after a resize.
+    ///
+    /// ```
+    /// let prompt = Prompt::new("> ").without_questions();
+    /// ```
+    pub fn without_questions(self) -> Prompt<'a, H>
+        ensures text { result.text.now ≡ self.entry.text.now }
+        ensures helper { result.helper.now ≡ self.entry.helper.now }
+    {
+        Prompt {
+            text: self.text,
+            helper: self.helper,
+            asks: false,
+            columns: Cell::new(0),
+        }
+    }
+}
+
+/// Whether an event is Tab without a modifier, pressed or held.
+fn is_tab<B: Allocator>(event: &Event<B>) -> bool
+    ensures { result ≡ completing.is_tab (seen_event event.now) }
+{
+    match event {
+        Event::Key(key) => match key.code {
+            KeyCode::Tab => match key.kind {
+                KeyEventKind::Press | KeyEventKind::Repeat => key.modifiers.bits() == 0,
+                KeyEventKind::Release => false,
+            },
+            _ => false,
+        },
+        Event::FocusGained
+        | Event::FocusLost
+        | Event::Mouse(_)
+        | Event::Paste(_)
+        | Event::Resize(..) => false,
+    }
+}
+
+/// Gives an event to an editor as it is.
+fn take_event<A: Allocator + Clone, B: Allocator>(
+    editor: &mut Editor<A>,
+    event: &Event<B>,
+) -> Taken<A>
     ensures { IsTaken result (seen_event event.now) editor.old editor.new }
 {
     match editor.turn(event) {
@@ -54,27 +151,136 @@ fn take<A: Allocator + Clone, B: Allocator>(editor: &mut Editor<A>, event: &Even
     }
 }
 
-/// Shows the line once more. If the event is a resize, it asks for the window's columns before.
-fn show<S: EventSource<Global>, D: ModeDevice, W: Write + Drop, C: Clock + Drop, A: Allocator>(
+/// Pastes a text into an editor's line.
+fn take_text<A: Allocator + Clone>(editor: &mut Editor<A>, text: &str) -> Taken<A>
+    ensures { IsTaken result (Paste text.now) editor.old editor.new }
+{
+    match editor.paste(text) {
+        Ok(()) => Taken::Going,
+        Err(fault) => match fault {
+            EditFault::TooLong => Taken::TooLong,
+            EditFault::Memory => Taken::Refused,
+        },
+    }
+}
+
+/// Gives an editor an event, or at Tab the text that completes its line.
+fn take<A: Allocator + Clone, B: Allocator, H: Helper>(
+    editor: &mut Editor<A>,
+    helper: &H,
+    event: &Event<B>,
+) -> Taken<A>
+    ensures { IsTaken result (given_by (H.completes helper.now) editor.old (seen_event event.now)) editor.old editor.new }
+{
+    if !is_tab(event) {
+        return take_event(editor, event);
+    }
+    match helper.complete(editor.line().before(), editor.line().after()) {
+        Some(text) => take_text(editor, text),
+        None => take_event(editor, event),
+    }
+}
+
+/// Shows the line in the cursor's row.
+fn show<W: Write, A: Allocator, H: Helper>(
+    out: &mut W,
+    editor: &Editor<A>,
+    prompt: &Prompt<'_, H>,
+    row: &mut Row,
+) -> io::Result<()> {
+    let line = editor.line();
+    draw(out, prompt.text, line, prompt.helper.hint(line.text()), row)
+}
+
+/// The cursor's column, if the terminal is asked and answers. One that doesn't is asked no more.
+fn ask<S: EventSource<Global>, D: ModeDevice, W: Write + Drop, C: Clock + Drop, R: Wait>(
+    rt: &R,
+    tty: &mut Session<S, D, W, C>,
+    row: &mut Row,
+) -> io::Result<Option<u16>>
+    ensures asked { MayAsk S.drawn S.asked (knows tty.old.pass) (knows tty.new.pass) }
+    ensures features { tty.new.features ≡ tty.old.features }
+    ensures mode { IsTrue (is_some tty.old.term.prior) → tty.new.term.prior ≡ tty.old.term.prior }
+{
+    if !row.is_asked {
+        return Ok(None);
+    }
+    match tty.position(rt) {
+        Ok((column, _)) => Ok(Some(column)),
+        Err(error) => {
+            if error.kind() == ErrorKind::Other {
+                row.is_asked = false;
+                Ok(None)
+            } else {
+                Err(error)
+            }
+        }
+    }
+}
+
+/// Begins a line anew in a window of another size, where it began before.
+fn show_anew<
+    S: EventSource<Global>,
+    D: ModeDevice,
+    W: Write + Drop,
+    C: Clock + Drop,
+    A: Allocator,
+    H: Helper,
+    R: Wait,
+>(
+    rt: &R,
     tty: &mut Session<S, D, W, C>,
     editor: &Editor<A>,
-    prompt: &str,
-    event: &Event,
-    columns: &mut u16,
+    prompt: &Prompt<'_, H>,
+    row: &mut Row,
 ) -> io::Result<()>
-    ensures pass { tty.new.pass ≡ tty.old.pass }
+    ensures asked { MayAsk S.drawn S.asked (knows tty.old.pass) (knows tty.new.pass) }
     ensures features { tty.new.features ≡ tty.old.features }
-    ensures mode { tty.new.term.prior ≡ tty.old.term.prior }
+    ensures mode { IsTrue (is_some tty.old.term.prior) → tty.new.term.prior ≡ tty.old.term.prior }
+{
+    let drawn = row.columns;
+    match tty.size() {
+        Ok((columns, _)) => row.columns = columns,
+        Err(error) => return Err(error),
+    }
+    prompt.columns.set(row.columns);
+    let rows = match ask(rt, tty, row) {
+        Ok(Some(column)) => rows_above(prompt.text, editor.line(), drawn, row.columns, column),
+        Ok(None) => 0,
+        Err(error) => return Err(error),
+    };
+    match erase(&mut tty.out, rows) {
+        Ok(()) => show(&mut tty.out, editor, prompt, row),
+        Err(error) => Err(error),
+    }
+}
+
+/// Shows the line once more after an event.
+fn show_after<
+    S: EventSource<Global>,
+    D: ModeDevice,
+    W: Write + Drop,
+    C: Clock + Drop,
+    A: Allocator,
+    H: Helper,
+    R: Wait,
+>(
+    rt: &R,
+    tty: &mut Session<S, D, W, C>,
+    editor: &Editor<A>,
+    prompt: &Prompt<'_, H>,
+    event: &Event,
+    row: &mut Row,
+) -> io::Result<()>
+    ensures asked { MayAsk S.drawn S.asked (knows tty.old.pass) (knows tty.new.pass) }
+    ensures features { tty.new.features ≡ tty.old.features }
+    ensures mode { IsTrue (is_some tty.old.term.prior) → tty.new.term.prior ≡ tty.old.term.prior }
 {
     match event {
-        Event::Resize(..) => match tty.size() {
-            Ok((now, _)) => *columns = now,
-            Err(error) => return Err(error),
-        },
+        Event::Resize(..) => show_anew(rt, tty, editor, prompt, row),
         Event::FocusGained | Event::FocusLost | Event::Key(_) | Event::Mouse(_) | Event::Paste(_) =>
-            {}
+            { show(&mut tty.out, editor, prompt, row) }
     }
-    draw(&mut tty.out, prompt, editor.line(), *columns)
 }
 
 /// Reads an event and gives it to the editor.
@@ -84,24 +290,26 @@ fn take_turn<
     W: Write + Drop,
     C: Clock + Drop,
     A: Allocator + Clone,
+    H: Helper,
     R: Wait,
 >(
     rt: &R,
     tty: &mut Session<S, D, W, C>,
     editor: &mut Editor<A>,
-    prompt: &str,
-    columns: &mut u16,
+    prompt: &Prompt<'_, H>,
+    row: &mut Row,
 ) -> Turn<A>
-    ensures leads { (v : Known S) (w : EditorState) → GoesOn S.drawn S.asked v w (knows tty.old.pass) editor.old → Leads S.drawn S.asked v w result (knows tty.new.pass) editor.new }
+    ensures leads { (v : Known S) (w : EditorState) → GoesOn S.drawn S.asked (given_by (H.completes prompt.now.helper.now)) v w (knows tty.old.pass) editor.old
+        → Leads S.drawn S.asked (given_by (H.completes prompt.now.helper.now)) v w result (knows tty.new.pass) editor.new }
     ensures features { tty.new.features ≡ tty.old.features }
-    ensures mode { tty.new.term.prior ≡ tty.old.term.prior }
+    ensures mode { IsTrue (is_some tty.old.term.prior) → tty.new.term.prior ≡ tty.old.term.prior }
 {
     let event = match tty.read(rt) {
         Ok(event) => event,
         Err(error) => return Turn::Failed(error),
     };
-    match take(editor, &event) {
-        Taken::Going => match show(tty, editor, prompt, &event, columns) {
+    match take(editor, prompt.helper, &event) {
+        Taken::Going => match show_after(rt, tty, editor, prompt, &event, row) {
             Ok(()) => Turn::Going,
             Err(error) => Turn::Failed(error),
         },
@@ -110,19 +318,43 @@ fn take_turn<
             Err(error) => Turn::Failed(error),
         },
         Taken::Ended(read) => {
-            leave_row(&mut tty.out);
+            leave_row(&mut tty.out, *row);
             Turn::Ended(read)
         }
         Taken::Refused => Turn::Failed(io::Error::from(ErrorKind::OutOfMemory)),
     }
 }
 
-/// Switches raw mode on, shows the line, and returns the window's columns.
-fn begin<S: EventSource<Global>, D: ModeDevice, W: Write + Drop, C: Clock + Drop, A: Allocator>(
+/// The window's columns, for which the window is asked if the prompt doesn't know them.
+fn columns_for<S: EventSource<Global>, D: ModeDevice, W: Write + Drop, C: Clock + Drop, H>(
     tty: &mut Session<S, D, W, C>,
-    editor: &Editor<A>,
-    prompt: &str,
+    prompt: &Prompt<'_, H>,
 ) -> io::Result<u16>
+    ensures others { (tty.new.out ≡ tty.old.out) × (tty.new.pass ≡ tty.old.pass) × (tty.new.features ≡ tty.old.features) }
+    ensures mode { tty.new.term.prior ≡ tty.old.term.prior }
+{
+    let known = prompt.columns.get();
+    if known > 0 {
+        return Ok(known);
+    }
+    match tty.size() {
+        Ok((columns, _)) => {
+            prompt.columns.set(columns);
+            Ok(columns)
+        }
+        Err(error) => Err(error),
+    }
+}
+
+/// Switches raw mode on, and shows the line.
+fn begin<
+    S: EventSource<Global>,
+    D: ModeDevice,
+    W: Write + Drop,
+    C: Clock + Drop,
+    A: Allocator,
+    H: Helper,
+>(tty: &mut Session<S, D, W, C>, editor: &Editor<A>, prompt: &Prompt<'_, H>) -> io::Result<Row>
     ensures pass { tty.new.pass ≡ tty.old.pass }
     ensures features { tty.new.features ≡ tty.old.features }
     ensures already { IsTrue (is_some tty.old.term.prior) → tty.new.term.prior ≡ tty.old.term.prior }
@@ -132,11 +364,17 @@ fn begin<S: EventSource<Global>, D: ModeDevice, W: Write + Drop, C: Clock + Drop
         Ok(()) => {}
         Err(error) => return Err(error),
     }
-    match tty.size() {
-        Ok((columns, _)) => match draw(&mut tty.out, prompt, editor.line(), columns) {
-            Ok(()) => Ok(columns),
-            Err(error) => Err(error),
-        },
+    let columns = match columns_for(tty, prompt) {
+        Ok(columns) => columns,
+        Err(error) => return Err(error),
+    };
+    let mut row = Row {
+        columns,
+        is_asked: prompt.asks,
+        has_hint: false,
+    };
+    match show(&mut tty.out, editor, prompt, &mut row) {
+        Ok(()) => Ok(row),
         Err(error) => Err(error),
     }
 }
@@ -148,21 +386,22 @@ fn go_on<
     W: Write + Drop,
     C: Clock + Drop,
     A: Allocator + Clone,
+    H: Helper,
     R: Wait,
 >(
     rt: &R,
     tty: &mut Session<S, D, W, C>,
     editor: &mut Editor<A>,
-    prompt: &str,
-    mut columns: u16,
+    prompt: &Prompt<'_, H>,
+    mut row: Row,
 ) -> io::Result<Read<A>>
-    ensures line { IfOk result (λ read. LineEnds S.drawn S.asked (knows tty.old.pass) editor.old (answer_seen read) (knows tty.new.pass) editor.new) }
-    ensures err { IfErr result (λ error. StopsAsking S.drawn S.asked (knows tty.old.pass) editor.old (error_kind error) (knows tty.new.pass) editor.new) }
+    ensures line { IfOk result (λ read. LineEnds S.drawn S.asked (given_by (H.completes prompt.now.helper.now)) (knows tty.old.pass) editor.old (answer_seen read) (knows tty.new.pass) editor.new) }
+    ensures err { IfErr result (λ error. StopsAsking S.drawn S.asked (given_by (H.completes prompt.now.helper.now)) (knows tty.old.pass) editor.old (error_kind error) (knows tty.new.pass) editor.new) }
     ensures features { tty.new.features ≡ tty.old.features }
-    ensures mode { tty.new.term.prior ≡ tty.old.term.prior }
+    ensures mode { IsTrue (is_some tty.old.term.prior) → tty.new.term.prior ≡ tty.old.term.prior }
 {
     for _ in rt.forever() {
-        match take_turn(rt, tty, editor, prompt, &mut columns) {
+        match take_turn(rt, tty, editor, prompt, &mut row) {
             Turn::Going => {}
             Turn::Ended(read) => return Ok(read),
             Turn::Failed(error) => return Err(error),
@@ -171,22 +410,67 @@ fn go_on<
     unreachable!()
 }
 
-/// Asks for a line in the cursor's row, after a prompt, until Enter, Ctrl-C, or Ctrl-D in an empty line.
-///
-/// Raw mode is switched on if it isn't, and stays on, so that no key between two lines is lost. Each event is given to the editor, and what is
-/// seen of its line is shown anew. A text that is too long for the line rings the bell, and the line goes on. Then the cursor goes to the
-/// start of the next row.
-///
-/// The editor may hold an unfinished line, and then that line goes on. In a window that is too narrow for both, the prompt is left out. If
-/// `Feature::BracketedPaste` is on, a paste is one event; else an Enter in a paste accepts the line.
+impl<H: Helper> Prompt<'_, H> {
+    /// Asks for a line in the cursor's row, after the prompt, until Enter, Ctrl-C, or Ctrl-D in an empty line.
+    ///
+    /// Raw mode is switched on if it isn't, and stays on, so that no key between two lines is lost. Each event is given to the editor, and what
+    /// is seen of its line is shown anew. A text that is too long for the line rings the bell, and the line goes on. Then the cursor goes to
+    /// the start of the next row.
+    ///
+    /// At Tab without a modifier the helper's text is pasted, if it has one for the line. Its hint is shown behind the line.
+    ///
+    /// The editor may hold an unfinished line, and then that line goes on. In a window that is too narrow for both, the prompt is left out. If
+    /// `Feature::BracketedPaste` is on, a paste is one event; else an Enter in a paste accepts the line.
+    ///
+    /// The window's size is asked for in the prompt's first call and after a resize. So a program that reads events by itself takes a new
+    /// prompt after an `Event::Resize`. After one the terminal is also asked for the cursor's place, since it may have wrapped the row. If it
+    /// doesn't answer within two seconds, it isn't asked again in this call.
+    ///
+    /// # Errors
+    ///
+    /// `InvalidInput` if the prompt has a control character: then nothing was done. Else those of `Session::{enable_raw_mode, size, read,
+    /// position}` and of the writer, and `OutOfMemory` if the editor was refused memory. The editor has taken all events that were read, but
+    /// one for which memory was refused. So the next call goes on with its line. The cursor stays in the row.
+    ///
+    /// An accepted line is returned also if the writer then fails to leave the row. The next write shows that error.
+    ///
+    /// ```
+    /// let prompt = Prompt::new("Name: ");
+    /// if let Read::Line(name) = prompt.read_line(rt, &mut tty, &mut editor)? {
+    ///     write!(tty.out, "Hello {name}\r\n")?;
+    /// }
+    /// ```
+    pub fn read_line<
+        S: EventSource<Global>,
+        D: ModeDevice,
+        W: Write + Drop,
+        C: Clock + Drop,
+        A: Allocator + Clone,
+        R: Wait,
+    >(&self, rt: &R, tty: &mut Session<S, D, W, C>, editor: &mut Editor<A>) -> io::Result<Read<A>>
+        ensures line { IfOk result (λ read. LineEnds S.drawn S.asked (given_by (H.completes self.now.helper.now)) (knows tty.old.pass) editor.old (answer_seen read) (knows tty.new.pass) editor.new) }
+        ensures err { IfErr result (λ error. StopsAsking S.drawn S.asked (given_by (H.completes self.now.helper.now)) (knows tty.old.pass) editor.old (error_kind error) (knows tty.new.pass) editor.new) }
+        ensures refused { prompts.has_control (chars self.now.text.now) ≡ true → IsErrAnd result (λ error. error_kind error ≡ InvalidInput) × (tty.new ≡ tty.old) × (editor.new ≡ editor.old) }
+        ensures allowed { OnOk result (prompts.has_control (chars self.now.text.now) ≡ false) }
+        ensures features { tty.new.features ≡ tty.old.features }
+        ensures already { IsTrue (is_some tty.old.term.prior) → tty.new.term.prior ≡ tty.old.term.prior }
+        ensures raw { OnOk result (tty.old.term.prior ≡ None → tty.new.term.prior ≡ Some (D.current tty.old.term.device)) }
+    {
+        if has_control(self.text) {
+            return Err(io::Error::from(ErrorKind::InvalidInput));
+        }
+        match begin(tty, editor, self) {
+            Ok(row) => go_on(rt, tty, editor, self, row),
+            Err(error) => Err(error),
+        }
+    }
+}
+
+/// Asks for a line as `Prompt::read_line` does, after a prompt of this text without a helper.
 ///
 /// # Errors
 ///
-/// `InvalidInput` if the prompt has a control character: then nothing was done. Else those of `Session::{enable_raw_mode, size, read}` and of
-/// the writer, and `OutOfMemory` if the editor was refused memory. The editor has taken all events that were read, but one for which memory
-/// was refused. So the next call goes on with its line. The cursor stays in the row.
-///
-/// An accepted line is returned also if the writer then fails to leave the row. The next write shows that error.
+/// Those of `Prompt::read_line`.
 ///
 /// ```
 /// let mut editor = Editor::new(alloc, Limits::default())?;
@@ -207,19 +491,14 @@ pub fn read_line<
     editor: &mut Editor<A>,
     prompt: &str,
 ) -> io::Result<Read<A>>
-    ensures line { IfOk result (λ read. LineEnds S.drawn S.asked (knows tty.old.pass) editor.old (answer_seen read) (knows tty.new.pass) editor.new) }
-    ensures err { IfErr result (λ error. StopsAsking S.drawn S.asked (knows tty.old.pass) editor.old (error_kind error) (knows tty.new.pass) editor.new) }
+    ensures line { IfOk result (λ read. LineEnds S.drawn S.asked as_read (knows tty.old.pass) editor.old (answer_seen read) (knows tty.new.pass) editor.new) }
+    ensures err { IfErr result (λ error. StopsAsking S.drawn S.asked as_read (knows tty.old.pass) editor.old (error_kind error) (knows tty.new.pass) editor.new) }
     ensures refused { prompts.has_control (chars prompt.now) ≡ true → IsErrAnd result (λ error. error_kind error ≡ InvalidInput) × (tty.new ≡ tty.old) × (editor.new ≡ editor.old) }
     ensures allowed { OnOk result (prompts.has_control (chars prompt.now) ≡ false) }
     ensures features { tty.new.features ≡ tty.old.features }
     ensures already { IsTrue (is_some tty.old.term.prior) → tty.new.term.prior ≡ tty.old.term.prior }
     ensures raw { OnOk result (tty.old.term.prior ≡ None → tty.new.term.prior ≡ Some (D.current tty.old.term.device)) }
 {
-    if has_control(prompt) {
-        return Err(io::Error::from(ErrorKind::InvalidInput));
-    }
-    match begin(tty, editor, prompt) {
-        Ok(columns) => go_on(rt, tty, editor, prompt, columns),
-        Err(error) => Err(error),
-    }
+    let prompt = Prompt::new(prompt);
+    prompt.read_line(rt, tty, editor)
 }

@@ -10,5 +10,5 @@ use std::alloc::Global;
 
 /// The lines of several calls are those that come out of the events that were read for them, but for those whose texts are too long.
 pub fn gives_lines<S: EventSource<Global>>()
-    ensures { (v u : Known S) (w z : EditorState) (events : List Seen) (lines : List (List ℕ)) → Calls S.drawn S.asked v w u z events lines → GivesLines events w lines z }
+    ensures { (v u : Known S) (w z : EditorState) (given : EditorState → Seen → Seen) (events : List Seen) (lines : List (List ℕ)) → Calls S.drawn S.asked given v w u z events lines → GivesLines given events w lines z }
 {}

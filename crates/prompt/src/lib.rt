@@ -17,31 +17,38 @@
 //! }
 //! ```
 //!
-//! The line takes one row, and is seen through it as `Line::seen` says. The cursor's place isn't asked for: if a window becomes narrower and wraps
-//! the row anew, what was wrapped stays above.
+//! A `Prompt` has more: a `Helper` completes the line at Tab, and shows a hint behind it. `Words` is one that completes names.
 //!
-//! It is built on `own_terminal` and `line_editor`, by their public contracts, and on the crate `unicode_width` for the columns of a prompt.
+//! The line takes one row, and is seen through it as `Line::seen` says. After a resize the terminal is asked for the cursor's place, since a
+//! narrower window may have wrapped the row. One that doesn't answer isn't asked again in that call; then what was wrapped stays above.
+//!
+//! It is built on `own_terminal` and `line_editor`, by their public contracts, and on the crate `unicode_width` for columns.
 //!
 //! What is proved, beyond safety:
 //!
 //! | Proved | By the contract of |
 //! |---|---|
 //! | each event that was read is given to the editor, once and in order; the line goes on until one is answered otherwise, and what is returned is the answer to that one | `read_line` |
-//! | a text that is too long changes nothing, and the line goes on | `read_line` |
-//! | an error leaves the editor with all events that were read, but one for which memory was refused, whose text has room; a fault of the read is the one that is returned | `read_line` |
-//! | no error comes once a line has ended, so that no accepted line is lost by one | `read_line` |
-//! | a prompt with a control character is refused, and nothing was done; with one no line is returned | `read_line` |
-//! | raw mode is on after a line, and stays on; the session's features stay as they are | `read_line` |
+//! | the same of a prompt with a helper: Tab without a modifier is a paste of the text that completes the line, if there is one, and any other event is itself | `Prompt::read_line` |
+//! | a question for the cursor's place takes no event from the editor, and changes no line | `Prompt::read_line`, `read_line` |
+//! | a text that is too long changes nothing, and the line goes on | `Prompt::read_line`, `read_line` |
+//! | an error leaves the editor with all events that were read, but one for which memory was refused, whose text has room; a fault of the read is the one that is returned | `Prompt::read_line`, `read_line` |
+//! | no error comes once a line has ended, so that no accepted line is lost by one | `Prompt::read_line`, `read_line` |
+//! | a prompt with a control character is refused, and nothing was done; with one no line is returned | `Prompt::read_line`, `read_line` |
+//! | raw mode is on after a line, and stays on; the session's features stay as they are | `Prompt::read_line`, `read_line` |
 //! | the lines of several calls are those of all events that were read for them, but for those whose texts are too long | `laws::gives_lines` |
+//! | names complete a text by the rest of the first that begins with it and goes on | `Helper::complete` of `Words` |
 //!
-//! What is drawn is only tested, and so is the bell.
+//! What is drawn is only tested, hints too, and so is the bell. So is when the terminal is asked for the cursor's place.
 //!
 //! What to believe, in the order in which it reads (`specs/`), and the contracts that it is proved by:
 //!
 //! | Definitions | Of | Contract |
 //! |---|---|---|
-//! | `Prompts` | which prompts are refused | `read_line` |
-//! | `Asking` | what comes of asking for a line, event by event | `read_line` |
+//! | `Prompts` | which prompts are refused | `Prompt::read_line`, `read_line` |
+//! | `Words` | how names complete a text | `Helper::complete` of `Words` |
+//! | `Completing` | what an editor is given for an event | `Prompt::read_line` |
+//! | `Asking` | what comes of asking for a line, event by event | `Prompt::read_line`, `read_line` |
 //! | `Lines` | the events and the lines of several calls | `laws::gives_lines` |
 //!
 //! `specs/inside/` says the same of a part, and no public clause cites it.
@@ -51,9 +58,13 @@
 
 mod asking;
 mod drawing;
+mod helpers;
 pub mod laws;
 mod prompts;
 mod read;
+mod words;
 
-pub use asking::read_line;
+pub use asking::{Prompt, read_line};
+pub use helpers::Helper;
 pub use read::Read;
+pub use words::Words;

@@ -41,3 +41,12 @@ pub(crate) fn shown(prompt: &str, columns: u16) -> (&str, u16) {
         (prompt, taken)
     }
 }
+
+/// What is shown of a hint in so many columns: all of it, or nothing if it has no room or has a control character.
+pub(crate) fn shown_hint(hint: &str, room: u16) -> &str {
+    if columns_of(hint) > room || has_control(hint) {
+        ""
+    } else {
+        hint
+    }
+}

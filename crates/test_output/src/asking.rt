@@ -1,5 +1,8 @@
 //! Lines that are asked for, over scripted keys and writers that fail.
 
+mod helped;
+mod resized;
+
 use crate::noted::{Call, Noted, terminal_by};
 use crate::witness::Witness;
 use crossterm::event::source::{Act, DeviceSource, RawFlag, Script};
@@ -230,7 +233,7 @@ fn a_resize_asks_for_the_size_anew(rt: HostRuntime) -> io::Result<()> {
         [
             text(alloc, b"a")?,
             Act::Resize(40, 10),
-            text(alloc, b"b\r")?,
+            text(alloc, b"\x1b[1;2Rb\r")?,
         ],
     )?;
     let calls = [("", Comes::Line("ab"))];

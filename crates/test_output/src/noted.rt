@@ -45,13 +45,15 @@ pub const SIZE: WindowSize = WindowSize {
 };
 
 /// A device whose modes are numbers: the one that it has at first is 7, and the raw mode of a mode is 100 more. It notes its calls, as the
-/// digits of a number, and refuses one of them.
+/// digits of a number, and refuses one of them. Its window may have another width from the second time on that it is asked for.
 #[derive(Drop)]
 pub struct Noted<'a> {
     calls: &'a AtomicU32,
     refused: Option<Call>,
     mode: u8,
     failures: u64,
+    columns: u16,
+    later: u16,
 }
 
 impl Noted<'_> {
@@ -98,7 +100,9 @@ impl ModeDevice for Noted<'_> {
 
     fn window_size(&mut self) -> io::Result<WindowSize> {
         self.note(Call::WindowSize)?;
-        Ok(SIZE)
+        let columns = self.columns;
+        self.columns = self.later;
+        Ok(WindowSize { columns, ..SIZE })
     }
 
     fn failures(&self) -> u64 {
@@ -113,6 +117,21 @@ pub fn terminal_by(flag: RawFlag, calls: &AtomicU32, refused: Option<Call>) -> T
         refused,
         mode: 7,
         failures: 0,
+        columns: SIZE.columns,
+        later: SIZE.columns,
+    };
+    Terminal::new(device, flag)
+}
+
+/// A terminal whose window has these columns from the second time on that it is asked for.
+pub fn narrowing_by(flag: RawFlag, calls: &AtomicU32, later: u16) -> Terminal<Noted<'_>> {
+    let device = Noted {
+        calls,
+        refused: None,
+        mode: 7,
+        failures: 0,
+        columns: SIZE.columns,
+        later,
     };
     Terminal::new(device, flag)
 }

@@ -36,6 +36,14 @@ impl Witness {
         self.bytes.as_slice() == bytes
     }
 
+    /// Whether it took these bytes, and then those.
+    pub fn has_both(&self, bytes: &[u8], then: &[u8]) -> bool {
+        match self.bytes.as_slice().strip_prefix(bytes) {
+            Some(rest) => rest == then,
+            None => false,
+        }
+    }
+
     /// Whether it took these bytes, was flushed so often in its whole life, and was called so often after it failed.
     pub fn saw(&self, bytes: &[u8], flushes: u32, later: u32) -> bool {
         self.has(bytes) && self.flushes == flushes && self.later == later

@@ -1,5 +1,5 @@
 -- What happens at one event.
-use Rattle.std.specs.Prelude.{◌≡◌, false, List, Option}
+use Rattle.std.specs.Prelude.{◌≡◌, ◌⊎◌, false, List, Option}
 use Rattle.std.specs.IoError.{error_kind}
 use Rattle.std.specs.declared.time.Duration.{Duration}
 use Rattle.crossterm_types.specs.Seen.{Seen}
@@ -13,7 +13,7 @@ use Rattle.prompt.specs.declared.asking.Taken.{Taken}
 use Rattle.prompt.specs.declared.asking.Taken.TheVariants as taken
 use Rattle.prompt.specs.declared.asking.Turn.{Turn}
 use Rattle.prompt.specs.declared.asking.Turn.TheVariants as turn
-use Rattle.prompt.specs.Asking.{LineEnds, StopsAsking, GoesOn, answer_to, answer_seen, after_event}
+use Rattle.prompt.specs.Asking.{AsksPlace, LineEnds, StopsAsking, GoesOn, answer_to, answer_seen, after_event}
 
 -- An editor took an event, which has this outcome.
 abbrev pub TakesAs : Answer → Seen → EditorState → EditorState → Type 0
@@ -27,7 +27,11 @@ IsTaken (taken.Ended read) e w z = TakesAs (answer_seen read) e w z
 IsTaken taken.Refused e w z = (is_too_long (event_text e w) w ≡ false) × (z ≡ w)
 
 -- A turn leads on, to the line's end, or to an error.
-abbrev pub Leads : {S A : Type 0} → (S → List SourceAnswer → S → Type 0) → (S → List (Option Duration)) → Known S → EditorState → Turn A → Known S → EditorState → Type 0
-Leads drawn asked v w turn.Going u z = GoesOn drawn asked v w u z
-Leads drawn asked v w (turn.Ended read) u z = LineEnds drawn asked v w (answer_seen read) u z
-Leads drawn asked v w (turn.Failed error) u z = StopsAsking drawn asked v w (error_kind error) u z
+abbrev pub Leads : {S A : Type 0} → (S → List SourceAnswer → S → Type 0) → (S → List (Option Duration)) → (EditorState → Seen → Seen) → Known S → EditorState → Turn A → Known S → EditorState → Type 0
+Leads drawn asked given v w turn.Going u z = GoesOn drawn asked given v w u z
+Leads drawn asked given v w (turn.Ended read) u z = LineEnds drawn asked given v w (answer_seen read) u z
+Leads drawn asked given v w (turn.Failed error) u z = StopsAsking drawn asked given v w (error_kind error) u z
+
+-- A pass asked the terminal for the cursor's place, or it is as it was.
+abbrev pub MayAsk : {S : Type 0} → (S → List SourceAnswer → S → Type 0) → (S → List (Option Duration)) → Known S → Known S → Type 0
+MayAsk drawn asked v w = AsksPlace drawn asked v w ⊎ (w ≡ v)

@@ -1,35 +1,42 @@
-use Rattle.std.proofs.Common.{ap, refl}
 use Rattle.std.specs.IoError.{error_kind}
 use Rattle.crossterm_types.specs.Seen.{seen_event}
 use Rattle.crossterm_read.specs.PassViews.{knows}
 use Rattle.prompt.specs.Asking.{broke, stopped}
-use Rattle.prompt.proofs.Turning.{goes_further, refuses}
+use Rattle.prompt.specs.Completing.{given_by}
+use Rattle.prompt.proofs.Turning.{goes_further, goes_on_asked, refuses}
 use Rattle.prompt.proofs.asking.take_turn.Goals as goal
 
 pub returns-in-Err-clause-leads : goal.returns-in-Err-clause-leads
 returns-in-Err-clause-leads g c v w goes = broke (knows c.args.tty.now.pass) goes c.in-Err.ensures.call
 
-pub returns-in-Ok-show-clause-leads : goal.returns-in-Ok-show-clause-leads
-returns-in-Ok-show-clause-leads g c v w goes =
-    goes_further g.S.EventSource.drawn g.S.EventSource.asked v w (knows c.args.tty.now.pass) (knows c.read.new.self.pass) (knows c.show.new.tty.pass) c.args.editor.now c.take.new.editor (seen_event c.in-Ok.event)
-    goes c.in-Ok.ensures.call c.in-Going.ensures (ap knows c.show.ensures.pass)
+pub returns-in-Ok-show_after-clause-leads : goal.returns-in-Ok-show_after-clause-leads
+returns-in-Ok-show_after-clause-leads g c v w goes =
+    let given = given_by (g.H.Helper.completes c.args.prompt.now.helper.now) in
+    goes_on_asked g.S.EventSource.drawn g.S.EventSource.asked given v w (knows c.read.new.self.pass) (knows c.show_after.new.tty.pass) c.take.new.editor
+    (goes_further g.S.EventSource.drawn g.S.EventSource.asked given v w (knows c.args.tty.now.pass) (knows c.read.new.self.pass) c.args.editor.now c.take.new.editor (seen_event c.in-Ok.event)
+    goes c.in-Ok.ensures.call c.in-Going.ensures) c.show_after.ensures.asked
 
 pub returns-in-Going-clause-leads : goal.returns-in-Going-clause-leads
 returns-in-Going-clause-leads g c v w goes =
-    stopped (goes_further g.S.EventSource.drawn g.S.EventSource.asked v w (knows c.args.tty.now.pass) (knows c.read.new.self.pass) (knows c.show.new.tty.pass) c.args.editor.now c.take.new.editor (seen_event c.in-Ok.event)
-    goes c.in-Ok.ensures.call c.in-Going.ensures (ap knows c.show.ensures.pass))
+    let given = given_by (g.H.Helper.completes c.args.prompt.now.helper.now) in
+    stopped (goes_on_asked g.S.EventSource.drawn g.S.EventSource.asked given v w (knows c.read.new.self.pass) (knows c.show_after.new.tty.pass) c.take.new.editor
+    (goes_further g.S.EventSource.drawn g.S.EventSource.asked given v w (knows c.args.tty.now.pass) (knows c.read.new.self.pass) c.args.editor.now c.take.new.editor (seen_event c.in-Ok.event)
+    goes c.in-Ok.ensures.call c.in-Going.ensures) c.show_after.ensures.asked)
 
 pub returns-in-Ok-ring-clause-leads : goal.returns-in-Ok-ring-clause-leads
 returns-in-Ok-ring-clause-leads g c v w goes =
-    goes_further g.S.EventSource.drawn g.S.EventSource.asked v w (knows c.args.tty.now.pass) (knows c.read.new.self.pass) (knows c.read.new.self.pass) c.args.editor.now c.take.new.editor (seen_event c.in-Ok.event)
-    goes c.in-Ok.ensures.call c.in-TooLong.ensures refl
+    let given = given_by (g.H.Helper.completes c.args.prompt.now.helper.now) in
+    goes_further g.S.EventSource.drawn g.S.EventSource.asked given v w (knows c.args.tty.now.pass) (knows c.read.new.self.pass) c.args.editor.now c.take.new.editor (seen_event c.in-Ok.event)
+    goes c.in-Ok.ensures.call c.in-TooLong.ensures
 
 pub returns-in-TooLong-clause-leads : goal.returns-in-TooLong-clause-leads
 returns-in-TooLong-clause-leads g c v w goes =
-    stopped (goes_further g.S.EventSource.drawn g.S.EventSource.asked v w (knows c.args.tty.now.pass) (knows c.read.new.self.pass) (knows c.read.new.self.pass) c.args.editor.now c.take.new.editor (seen_event c.in-Ok.event)
-    goes c.in-Ok.ensures.call c.in-TooLong.ensures refl)
+    let given = given_by (g.H.Helper.completes c.args.prompt.now.helper.now) in
+    stopped (goes_further g.S.EventSource.drawn g.S.EventSource.asked given v w (knows c.args.tty.now.pass) (knows c.read.new.self.pass) c.args.editor.now c.take.new.editor (seen_event c.in-Ok.event)
+    goes c.in-Ok.ensures.call c.in-TooLong.ensures)
 
 pub returns-clause-leads : goal.returns-clause-leads
 returns-clause-leads g c v w goes =
-    refuses g.S.EventSource.drawn g.S.EventSource.asked v w (knows c.args.tty.now.pass) (knows c.read.new.self.pass) c.args.editor.now c.take.new.editor (seen_event c.in-Ok.event) (error_kind c.from.result)
+    let given = given_by (g.H.Helper.completes c.args.prompt.now.helper.now) in
+    refuses g.S.EventSource.drawn g.S.EventSource.asked given v w (knows c.args.tty.now.pass) (knows c.read.new.self.pass) c.args.editor.now c.take.new.editor (seen_event c.in-Ok.event) (error_kind c.from.result)
     goes c.in-Ok.ensures.call c.in-Refused.ensures.0 c.in-Refused.ensures.1 c.from.ensures

@@ -1,0 +1,152 @@
+//! Lines that are asked for while the window changes, over a scripted terminal that is asked for the cursor's place.
+
+use super::{Comes, came};
+use crate::noted::narrowing_by;
+use crate::witness::Witness;
+use crossterm::event::source::{Act, RawFlag, Script};
+use line_editor::{Editor, Limits};
+use own_terminal::Session;
+use prompt::Prompt;
+use std::alloc::Global;
+use std::io::{self, ErrorKind};
+use std::sync::Wait;
+use std::sync::atomic::AtomicU32;
+use test_support::{Still, expect, text};
+
+/// What a terminal reports after a resize.
+#[derive(Clone, Copy)]
+enum After {
+    Text(&'static [u8]),
+    /// Nothing, until somebody wakes the reader. Then a line's end is typed, at another resize.
+    Nothing,
+    /// A fault of the device. Then a line's end is typed.
+    Fault,
+}
+
+/// What comes of a resize from 80 to 40 columns behind a pasted text of 50 columns.
+struct Row {
+    after: After,
+    asks: bool,
+    comes: &'static [Comes],
+    /// What is written behind what is drawn of the whole text.
+    written: &'static [u8],
+}
+
+const X50: &str = "xxxxxxxxxxxxxxxxxxxxxxxxxxxxxxxxxxxxxxxxxxxxxxxxxx";
+
+const PASTED: &[u8] = b"\x1b[200~xxxxxxxxxxxxxxxxxxxxxxxxxxxxxxxxxxxxxxxxxxxxxxxxxx\x1b[201~";
+
+/// The empty line, and the whole text.
+const DRAWN: &[u8] =
+    b"\x1b[1G\x1b[?7l\x1b[K\x1b[?7h\x1b[1G\x1b[1G\x1b[?7l\x1b[Kxxxxxxxxxxxxxxxxxxxxxxxxxxxxxxxxxxxxxxxxxxxxxxxxxx\x1b[?7h\x1b[51G";
+
+const ENDED: Comes = Comes::Line(X50);
+
+const ROWS: &[Row] = &[
+    // The row was wrapped to two, and the cursor is in the second: it goes up.
+    Row {
+        after: After::Text(b"\x1b[2;11R\r"),
+        asks: true,
+        comes: &[ENDED],
+        written: b"\x1b[6n\x1b[1A\x1b[1G\x1b[J\x1b[1G\x1b[?7l\x1b[Kxxxxxxxxxxxxxxxxxxxxxxxxxxxxxxxxxxxxxxx\x1b[?7h\x1b[40G\r\n",
+    },
+    // It was cut.
+    Row {
+        after: After::Text(b"\x1b[1;40R\r"),
+        asks: true,
+        comes: &[ENDED],
+        written: b"\x1b[6n\x1b[1G\x1b[J\x1b[1G\x1b[?7l\x1b[Kxxxxxxxxxxxxxxxxxxxxxxxxxxxxxxxxxxxxxxx\x1b[?7h\x1b[40G\r\n",
+    },
+    // What is typed before the answer stays in order.
+    Row {
+        after: After::Text(b"\x7f\x1b[2;11R\x7f\x03"),
+        asks: true,
+        comes: &[Comes::Interrupted],
+        written: b"\x1b[6n\x1b[1A\x1b[1G\x1b[J\x1b[1G\x1b[?7l\x1b[Kxxxxxxxxxxxxxxxxxxxxxxxxxxxxxxxxxxxxxxx\x1b[?7h\x1b[40G\x1b[1G\x1b[?7l\x1b[Kxxxxxxxxxxxxxxxxxxxxxxxxxxxxxxxxxxxxxxx\x1b[?7h\x1b[40G\x1b[1G\x1b[?7l\x1b[Kxxxxxxxxxxxxxxxxxxxxxxxxxxxxxxxxxxxxxxx\x1b[?7h\x1b[40G\r\n",
+    },
+    // A terminal that doesn't answer isn't asked at the next resize.
+    Row {
+        after: After::Nothing,
+        asks: true,
+        comes: &[ENDED],
+        written: b"\x1b[6n\x1b[1G\x1b[J\x1b[1G\x1b[?7l\x1b[Kxxxxxxxxxxxxxxxxxxxxxxxxxxxxxxxxxxxxxxx\x1b[?7h\x1b[40G\x1b[1G\x1b[J\x1b[1G\x1b[?7l\x1b[Kxxxxxxxxxxxxxxxxxxxxxxxxxxxxxxxxxxxxxxx\x1b[?7h\x1b[40G\r\n",
+    },
+    // Nor is one that isn't to be asked.
+    Row {
+        after: After::Text(b"\r"),
+        asks: false,
+        comes: &[ENDED],
+        written: b"\x1b[1G\x1b[J\x1b[1G\x1b[?7l\x1b[Kxxxxxxxxxxxxxxxxxxxxxxxxxxxxxxxxxxxxxxx\x1b[?7h\x1b[40G\r\n",
+    },
+    // A question that fails ends the call, and the next one goes on with the line, in 40 columns.
+    Row {
+        after: After::Fault,
+        asks: true,
+        comes: &[Comes::Fault(ErrorKind::TimedOut), ENDED],
+        written: b"\x1b[6n\x1b[1G\x1b[?7l\x1b[Kxxxxxxxxxxxxxxxxxxxxxxxxxxxxxxxxxxxxxxx\x1b[?7h\x1b[40G\r\n",
+    },
+];
+
+/// The script of a row.
+fn acts_of(alloc: Global, after: After) -> io::Result<Vec<Act>> {
+    let mut acts = Vec::from_array(alloc, [text(alloc, PASTED)?, Act::Resize(40, 10)])?;
+    match after {
+        After::Text(bytes) => acts.push(text(alloc, bytes)?)?,
+        After::Nothing => {
+            acts.push(Act::Woken)?;
+            acts.push(Act::Resize(40, 11))?;
+            acts.push(text(alloc, b"\r")?)?;
+        }
+        After::Fault => {
+            acts.push(Act::Fault(ErrorKind::TimedOut))?;
+            acts.push(text(alloc, b"\r")?)?;
+        }
+    }
+    Ok(acts)
+}
+
+/// Whether this comes of the calls of a row, with a writer that takes so many bytes before it fails.
+fn is_so<R: Wait>(
+    rt: &R,
+    alloc: Global,
+    row: &Row,
+    room: usize,
+    comes: &[Comes],
+) -> io::Result<bool> {
+    let calls = AtomicU32::new(0);
+    let term = narrowing_by(RawFlag::new(alloc)?, &calls, 40);
+    let out = Witness::new(alloc, room, ErrorKind::BrokenPipe);
+    let script = Script::new(acts_of(alloc, row.after)?);
+    let mut tty = Session::over(rt, alloc, script, term, out, Still)?;
+    let mut editor = Editor::new(alloc, Limits::default())?;
+    let mut prompt = Prompt::new("");
+    if !row.asks {
+        prompt = prompt.without_questions();
+    }
+    for it in comes {
+        if !came(prompt.read_line(rt, &mut tty, &mut editor), *it) {
+            return Ok(false);
+        }
+    }
+    Ok(room < usize::MAX || tty.out.has_both(DRAWN, row.written))
+}
+
+#[test]
+fn a_resize_leaves_nothing_behind(rt: HostRuntime) -> io::Result<()> {
+    for row in ROWS {
+        expect!(rt; is_so(&rt, rt.alloc(), row, usize::MAX, row.comes)?);
+    }
+    Ok(())
+}
+
+#[test]
+fn no_line_is_lost_by_a_question_that_cannot_be_written(rt: HostRuntime) -> io::Result<()> {
+    // It fails once, at each place in turn, as it is erased and drawn too.
+    for row in &ROWS[1..2] {
+        for room in 0..DRAWN.len() + row.written.len() - 2 {
+            let comes = [Comes::Fault(ErrorKind::BrokenPipe), ENDED];
+            expect!(rt; is_so(&rt, rt.alloc(), row, room, &comes)?);
+        }
+    }
+    Ok(())
+}
