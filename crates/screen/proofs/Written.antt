@@ -19,7 +19,7 @@ use Rattle.screen.specs.declared.strokes.Stroke.{Stroke}
 use Rattle.screen.specs.declared.strokes.Stroke.TheVariants as stroke
 use Rattle.screen.specs.Grids.{takes_one, takes_two}
 use Rattle.screen.specs.Cells.{IsPrinted}
-use Rattle.screen.specs.inside.Strokes.{AreFitting, IsFitting, color_tokens, first_strokes, row_tokens, tokens, written, written_of}
+use Rattle.screen.specs.inside.Strokes.{AreFitting, IsFitting, color_tokens, first_strokes, tokens, written, written_of}
 
 -- A character that is printed isn't ESC.
 escape_takes_no_cell : takes_one 0x1B ≡ false
@@ -61,7 +61,7 @@ stroke_formed colors (stroke.Print c) f = ((f.0, printed_plain c f.1), tt)
 stroke_formed colors stroke.Show f = known_formed (tokens colors stroke.Show) refl
 stroke_formed colors stroke.Hide f = known_formed (tokens colors stroke.Hide) refl
 
-row_formed : (colors : ColorOutput) (s : Stroke) → IsRead s → Formed (row_tokens colors s)
+row_formed : (colors : ColorOutput) (s : Stroke) → IsRead s → Formed (written true colors s)
 row_formed colors stroke.Begin f = stroke_formed colors stroke.Begin f
 row_formed colors stroke.End f = stroke_formed colors stroke.End f
 row_formed colors stroke.Erase f =

@@ -1,7 +1,7 @@
 //! Strokes: what a frame is written by.
-ghost use Rattle.std.specs.Prelude.{Some};
+ghost use Rattle.std.specs.Prelude.{◌≡◌, Some};
 ghost use Rattle.crossterm_command.specs.Tokens.{text_of};
-ghost use Rattle.screen.specs.inside.Strokes.{row_tokens, tokens, written};
+ghost use Rattle.screen.specs.inside.Strokes.{replaced, row_tokens, tokens, written};
 
 use crossterm::cursor::{Hide, MoveTo, MoveToColumn, Show};
 use crossterm::style::{Attribute, Print, SetAttribute, SetStyle};
@@ -54,21 +54,40 @@ impl Command for Stroke {
     }
 }
 
-/// A stroke in the cursor's row: a move goes to a column of it, and only its cells become blank.
+/// What is asked in the cursor's row in place of a stroke.
 #[derive(Clone, Copy)]
-struct RowStroke<'a>(&'a Stroke);
+pub(crate) enum RowStroke {
+    /// All cells of the row become blank.
+    Erase,
+    /// Moves the cursor to a column.
+    Move(u16),
+}
 
-impl<'a> Command for RowStroke<'a> {
-    ghost text = { λ stroke colors. Some (text_of (row_tokens colors stroke.0.now)) };
+impl Command for RowStroke {
+    ghost text = { λ stroke _. Some (text_of (row_tokens stroke)) };
 
     fn write_ansi<W: fmt::Write>(&self, f: &mut W, colors: ColorOutput) -> fmt::Result {
-        match self.0 {
-            Stroke::Erase => {
+        match self {
+            RowStroke::Erase => {
                 (MoveToColumn(0), Clear(ClearType::UntilNewLine)).write_ansi(f, colors)
             }
-            Stroke::Move(column, _) => MoveToColumn(*column).write_ansi(f, colors),
-            other => other.write_ansi(f, colors),
+            RowStroke::Move(column) => MoveToColumn(*column).write_ansi(f, colors),
         }
+    }
+}
+
+/// What replaces a stroke, if all is to stay in the cursor's row and the stroke doesn't.
+fn replaced(in_row: bool, stroke: &Stroke) -> Option<RowStroke>
+    ensures { result ≡ replaced in_row stroke.now }
+{
+    if in_row {
+        match stroke {
+            Stroke::Erase => Some(RowStroke::Erase),
+            Stroke::Move(column, _) => Some(RowStroke::Move(*column)),
+            _ => None,
+        }
+    } else {
+        None
     }
 }
 
@@ -83,10 +102,9 @@ impl<'a> Command for Written<'a> {
     ghost text = { λ w colors. Some (text_of (written w.in_row colors w.stroke.now)) };
 
     fn write_ansi<W: fmt::Write>(&self, f: &mut W, colors: ColorOutput) -> fmt::Result {
-        if self.in_row {
-            RowStroke(self.stroke).write_ansi(f, colors)
-        } else {
-            self.stroke.write_ansi(f, colors)
+        match replaced(self.in_row, self.stroke) {
+            Some(other) => other.write_ansi(f, colors),
+            None => self.stroke.write_ansi(f, colors),
         }
     }
 }

@@ -14,6 +14,8 @@ use Rattle.crossterm.specs.Sequences.{by, clear, move_to}
 use Rattle.crossterm.specs.declared.terminal.ClearType.TheVariants.{All, UntilNewLine}
 use Rattle.screen.specs.declared.settings.Setting.{Setting}
 use Rattle.screen.specs.declared.settings.Setting.TheVariants as setting
+use Rattle.screen.specs.declared.strokes.RowStroke.{RowStroke}
+use Rattle.screen.specs.declared.strokes.RowStroke.TheVariants as row
 use Rattle.screen.specs.declared.strokes.Stroke.{Stroke}
 use Rattle.screen.specs.declared.strokes.Stroke.TheVariants as stroke
 use Rattle.screen.specs.Cells.{Cell, IsPrinted}
@@ -39,15 +41,29 @@ tokens colors stroke.Hide = reset "25"
 abbrev pub tokens_of : ColorOutput → List Stroke → List Token
 tokens_of colors strokes = flat_map (tokens colors) strokes
 
--- The tokens of a stroke in the cursor's row: CHA for CUP, CHA and EL for ED, and the same for other strokes.
-abbrev pub row_tokens : ColorOutput → Stroke → List Token
-row_tokens colors stroke.Erase = by 1 "G" ++ clear UntilNewLine
-row_tokens colors (stroke.Move column row) = by (column + 1) "G"
-row_tokens colors s = tokens colors s
+-- What replaces a stroke in the cursor's row, or `None` if it stays: a move to a column, and an erasure of the row.
+abbrev pub row_stroke : Stroke → Option RowStroke
+row_stroke stroke.Erase = Some row.Erase
+row_stroke (stroke.Move column r) = Some (row.Move column)
+row_stroke s = None
+
+-- The same, or `None` on the whole screen.
+abbrev pub replaced : Bool → Stroke → Option RowStroke
+replaced in_row s = if in_row then row_stroke s else None
+
+-- The tokens in the cursor's row: CHA for a move, and CHA with EL for an erasure.
+abbrev pub row_tokens : RowStroke → List Token
+row_tokens row.Erase = by 1 "G" ++ clear UntilNewLine
+row_tokens (row.Move column) = by (column + 1) "G"
+
+-- The tokens of what replaces a stroke, or of the stroke if it stays.
+abbrev pub tokens_by : ColorOutput → Stroke → Option RowStroke → List Token
+tokens_by colors s None = tokens colors s
+tokens_by colors s (Some other) = row_tokens other
 
 -- The tokens of a stroke, in the cursor's row or on the whole screen.
 abbrev pub written : Bool → ColorOutput → Stroke → List Token
-written in_row colors s = if in_row then row_tokens colors s else tokens colors s
+written in_row colors s = tokens_by colors s (replaced in_row s)
 
 -- The tokens of strokes, one after another, in the cursor's row or on the whole screen.
 abbrev pub written_of : Bool → ColorOutput → List Stroke → List Token
