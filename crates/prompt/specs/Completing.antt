@@ -3,7 +3,7 @@ use Rattle.std.specs.Prelude.{ℕ, ◌==◌, Bool, false, cond, List, encode_utf
 use Rattle.crossterm_types.specs.declared.event.key.KeyCode.{KeyCode}
 use Rattle.crossterm_types.specs.declared.event.key.KeyCode.TheVariants as key
 use Rattle.crossterm_types.specs.declared.event.key.KeyEventKind.{KeyEventKind}
-use Rattle.crossterm_types.specs.declared.event.key.KeyEventKind.TheVariants.{Press, Repeat, Release}
+use Rattle.crossterm_types.specs.declared.event.key.KeyEventKind.TheVariants.{Press, Repeat}
 use Rattle.crossterm_types.specs.Seen.{Seen, Key, Paste}
 use Rattle.line_editor.specs.States.{EditorState}
 

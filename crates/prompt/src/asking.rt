@@ -47,7 +47,8 @@ enum Turn<A: Allocator> {
 /// A prompt, with what helps to write its lines.
 ///
 /// ```
-/// let prompt = Prompt::new("> ").with_helper(&helper);
+/// let words = Words::new(&["help", "quit"]);
+/// let prompt = Prompt::new("> ").with_helper(&words);
 /// let read = prompt.read_line(rt, &mut tty, &mut editor)?;
 /// ```
 #[derive(Drop)]
@@ -82,7 +83,8 @@ impl<'a, H> Prompt<'a, H> {
     /// The same prompt with this helper.
     ///
     /// ```
-    /// let prompt = Prompt::new("> ").with_helper(&helper);
+    /// let words = Words::new(&["help", "quit"]);
+    /// let prompt = Prompt::new("> ").with_helper(&words);
     /// ```
     pub fn with_helper<G>(self, helper: &'a G) -> Prompt<'a, G>
         ensures text { result.text.now ≡ self.entry.text.now }

@@ -2,7 +2,7 @@ use Rattle.std.proofs.Common.{ap, subst, sym, ◌∙◌}
 use Rattle.crossterm_types.specs.Seen.{Seen, seen_event}
 use Rattle.line_editor.specs.Splits.{Split}
 use Rattle.prompt.specs.inside.Turning.{IsTaken}
-use Rattle.prompt.proofs.Completing.{given_itself, given_other, given_text}
+use Rattle.prompt.proofs.Completing.{given_itself, given_text}
 use Rattle.prompt.proofs.asking.take.Goals as goal
 
 pub returns-in-Some : goal.returns-in-Some
