@@ -82,7 +82,7 @@ impl<A: Allocator> Strip<A> {
     /// Forgets what the row shows, as after the cursor went to another row: the next frame writes all.
     ///
     /// ```
-    /// queue!(w, Print("\r\n"))?;
+    /// queue!(w, colors, Print("\r\n"))?;
     /// strip.forget();
     /// ```
     pub fn forget(&mut self)
