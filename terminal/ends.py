@@ -252,7 +252,7 @@ def paste_isnt_run(command, shell=('sh', '-i'), size=1 << 20, begun=b'begun', mi
     raise Wrong('this machine is too busy for a paste')
 
 
-def end_by(terminal, key, limit=20):
+def end_by_key(terminal, key, limit=20):
     """Ends a program by a key, if it hasn't ended by itself."""
     end = time.time() + 4
     while b'all over' not in terminal.out:
@@ -263,11 +263,11 @@ def end_by(terminal, key, limit=20):
 
 
 def esc(terminal):
-    end_by(terminal, b'\x1b')
+    end_by_key(terminal, b'\x1b')
 
 
 def ctrl_c(terminal):
-    end_by(terminal, b'\x03')
+    end_by_key(terminal, b'\x03')
 
 
 @contextlib.contextmanager
