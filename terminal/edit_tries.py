@@ -8,9 +8,14 @@ import time
 from debug_lines import rows_in
 from pseudo import WITH, Terminal, Wrong, equal, program, tmux
 
-# How a line's row begins as it is drawn, and what erases the rows below before, after a resize.
-DRAWN = b'\x1b[1G\x1b[?7l\x1b[K'
+# How a line's first frame begins, and what erases the rows below before it, after a resize. Later ones have what changed.
+FIRST = b'\x1b[?2026h\x1b[0m\x1b[1G\x1b[K'
 ERASED = b'\x1b[1G\x1b[J'
+
+
+def ended(column):
+    """How a frame ends with the cursor in a column from 1."""
+    return b'\x1b[0m\x1b[%dG\x1b[?25h\x1b[?2026l' % column
 
 
 def edit_keeps_the_order():
@@ -22,17 +27,17 @@ def edit_keeps_the_order():
         terminal.send(b'ab')
         time.sleep(0.1)
         terminal.send(b'\x1b[3;3Rcd')
-        terminal.until(b'\x1b[6n\r\n' + DRAWN + b'> \x1b[?7h\x1b[3G')
+        terminal.until(b'\x1b[6n\r\n' + FIRST + b'\x1b[1G\x1b[0m>' + ended(3))
         terminal.send(b'\x1b[D\x1b[D\x1b[DX\x1b[HY\x1b[FZ\x7f\x1b[D\x1b[3~' + '\u00e9\u6f22'.encode())
         terminal.send(b'\r')
         terminal.until('7: YaXbc\u00e9\u6f22'.encode())
         terminal.send(b'next')
-        terminal.until(b'next')
+        terminal.until(b'\x1b[6G\x1b[0mt' + ended(7))
         # A new size: the terminal is asked again.
         terminal.resize(40, 24)
         terminal.until(b'\x1b[6n', times=2)
         terminal.send(b'\x1b[6;7R')
-        terminal.until(b'\x1b[6n' + ERASED + DRAWN + b'> next')
+        terminal.until(b'\x1b[6n' + ERASED + FIRST + b'\x1b[1G\x1b[0m>\x1b[3Gnext' + ended(7))
         terminal.send(b'!\r')
         terminal.until(b'5: next!')
         terminal.send(b'\x03')
@@ -112,9 +117,9 @@ def edit_without_answers():
             terminal.until(b'%d: %s\r\n' % (len(word), word))
             equal(f'{word!r} within a second', time.time() - start < 1, True)
         terminal.send(b'more')
-        terminal.until(b'more')
+        terminal.until(b'\x1b[6G\x1b[0me' + ended(7))
         terminal.resize(40, 24)
-        terminal.until(ERASED + DRAWN + b'> more', limit=1)
+        terminal.until(ERASED + FIRST + b'\x1b[1G\x1b[0m>\x1b[3Gmore' + ended(7), limit=1)
         terminal.send(b'\x03')
         equal('status', terminal.end(), 0)
         equal('questions for the place', terminal.out.count(b'\x1b[6n'), 1)
@@ -128,13 +133,14 @@ def edit_after_a_resize():
     """A window of other widths: by the cursor's place then, the terminal has wrapped the line anew, or cut it, or it isn't known."""
     terminal = Terminal(f'{WITH} {program("edit")}')
     text = b'x' * 90
-    shown = lambda columns: ERASED + DRAWN + b'> ' + text[: columns - 3] + b'\x1b[?7h'
+    shown = lambda columns: ERASED + FIRST + b'\x1b[1G\x1b[0m>\x1b[3G' + text[: columns - 4] + b'\x1b[0m'
     try:
         terminal.until(b'\x1b[K')
         terminal.send(text)
-        terminal.until(b'> ' + b'x' * 77 + b'\x1b[?7h\x1b[80G')
+        # The last 14 scroll a text that looks the same.
+        terminal.until(b'\x1b[78G\x1b[0mx' + ended(79) + (b'\x1b[?2026h' + ended(79)) * 14)
         # The window's columns, the cursor's column in it, and what moves up to the line's first row.
-        for columns, column, up in ((60, 20, b'\x1b[1A'), (50, 50, b''), (20, 10, b'\x1b[2A'), (39, 20, b''), (12, 1, b''), (100, 12, b'')):
+        for columns, column, up in ((60, 19, b'\x1b[1A'), (50, 50, b''), (20, 9, b'\x1b[2A'), (39, 19, b''), (12, 1, b''), (100, 11, b'')):
             terminal.place = (5, column)
             from_ = len(terminal.out)
             terminal.resize(columns, 24)
@@ -167,7 +173,7 @@ def edit_in_tmux():
             run('send-keys', '-l', '-t', 't', text)
             for columns in (200, 100, 60, 150, 41, 190):
                 run('resize-window', '-t', 't', '-x', str(columns))
-                want = [*before, '> ' + last_of(text, columns - 3)]
+                want = [*before, '> ' + last_of(text, columns - 4)]
                 end = time.time() + 5
                 while rows_in(run, '-S', '-') != want and time.time() < end:
                     time.sleep(0.05)
@@ -177,9 +183,28 @@ def edit_in_tmux():
             equal('after Ctrl-D', rows_in(run, '-S', '-'), [*want, f'{len(text)}: {text}', '>', 'ended 0'])
 
 
+def edit_shows_marks_in_tmux():
+    """An accent of its own is shown, a joiner is replaced, and the cursor is where tmux has what is before it."""
+    with tmux('edit') as run:
+        def shows(row, column):
+            end = time.time() + 5
+            want = ([row], b'%d\n' % column)
+            while (is_ := (rows_in(run), run('display-message', '-p', '-t', 't', '#{cursor_x}'))) != want and time.time() < end:
+                time.sleep(0.05)
+            equal(f'row of {row!r}', is_, want)
+
+        run('send-keys', '-l', '-t', 't', 'e\u0301b\U0001f468\u200d\U0001f469y')
+        shows('> e\u0301b\U0001f468\ufffd\U0001f469y', 10)
+        # Before the letter, and before both emoji at once.
+        run('send-keys', '-t', 't', 'Left', 'Left')
+        shows('> e\u0301b\U0001f468\ufffd\U0001f469y', 4)
+        run('send-keys', '-l', '-t', 't', 'c')
+        shows('> e\u0301bc\U0001f468\ufffd\U0001f469y', 5)
+
+
 def shell_in(path):
     terminal = Terminal(f'{WITH} {program("shell")} {path}')
-    terminal.until(b'$ ')
+    terminal.until(b'$' + ended(3))
     return terminal
 
 
@@ -191,16 +216,16 @@ def shell_completes_and_remembers():
         try:
             # A hint is dim, behind the cursor, and erased as the row is left.
             terminal.send(b'ec')
-            terminal.until(DRAWN + b'$ ec\x1b[2mho\x1b[22m\x1b[?7h\x1b[5G')
+            terminal.until(b'\x1b[3G\x1b[0me\x1b[0m\x1b[2mcho' + ended(4) + b'\x1b[?2026h\x1b[4G\x1b[0mc' + ended(5))
             terminal.send(b'\r')
-            terminal.until(b'\x1b[5G\x1b[K\r\nec is no command: ')
+            terminal.until(ended(5) + b'\x1b[K\r\nec is no command: ')
             terminal.send(b'ec\t')
-            terminal.until(DRAWN + b'$ echo\x1b[?7h\x1b[7G')
+            terminal.until(b'\x1b[5G\x1b[0mho' + ended(7))
             terminal.send(b' some words\r')
             terminal.until(b'\r\nsome words\r\n')
             # Nothing completes this, and undo takes a completion back.
             terminal.send(b'x\t\x7fhe\t\x1f')
-            terminal.until(DRAWN + b'$ help\x1b[?7h\x1b[7G' + DRAWN + b'$ he\x1b[2mlp\x1b[22m\x1b[?7h\x1b[5G')
+            terminal.until(b'\x1b[5G\x1b[0mlp' + ended(7) + b'\x1b[?2026h\x1b[5G\x1b[0m\x1b[2mlp' + ended(5))
             terminal.send(b'\x15q\t\r')
             equal('status', terminal.end(), 0)
         finally:
@@ -210,7 +235,7 @@ def shell_completes_and_remembers():
         terminal = shell_in(path)
         try:
             terminal.send(b'\x1b[A\x1b[A')
-            terminal.until(DRAWN + b'$ echo some words\x1b[?7h\x1b[18G')
+            terminal.until(b'\x1b[3G\x1b[0mecho\x1b[8Gsome\x1b[13Gwords' + ended(18))
             terminal.send(b'\r')
             terminal.until(b'\r\nsome words\r\n')
             terminal.send(b'history\r')
@@ -234,4 +259,4 @@ TRIES = [
     edit_keeps_the_order, edit_loses_no_key_between_lines, edit_pastes_many_lines, edit_without_answers, edit_after_a_resize,
     shell_completes_and_remembers,
 ]
-IN_TMUX = [edit_in_tmux]
+IN_TMUX = [edit_in_tmux, edit_shows_marks_in_tmux]

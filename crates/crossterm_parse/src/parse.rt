@@ -221,6 +221,7 @@ impl<A: Allocator + Clone> Parser<A> {
     }
 
     /// The first event not yet given, or `None` if there is none. This takes no memory.
+    #[inline(always)]
     pub fn next(&mut self) -> Option<InternalEvent<A>>
         ensures none { IfNone result ((self.old.waiting ≡ []) × (self.new.waiting ≡ [])) }
         ensures some { IfSome result (λ event. self.old.waiting ≡ seen event ∷ self.new.waiting) }

@@ -171,9 +171,8 @@ where
 impl<S: EventSource<A>, R: Wait + Drop, A: Allocator + Clone> EventStream<S, R, A> {
     /// The next event of the user, or a fault.
     ///
-    /// A fault that the worker met is returned first, once. Else the task's waker is registered, in the place of an older one, and the
-    /// reader is asked once, with limit zero. If nothing came, or another has the reader, the worker has a task from then on, and the poll
-    /// is pending.
+    /// A fault that the worker met is returned first, once. Else the reader is asked once, with limit zero. If nothing came, or another has the
+    /// reader, the task's waker is registered, in the place of an older one. From then on the worker has a task, and the poll is pending.
     pub fn poll_event(&mut self, cx: &mut Context<'_>) -> Poll<io::Result<Event<A>>>
         ensures item { IfReady result (GivesItem S.drawn S.asked (knows self.old.pass) (knows self.new.pass)) }
         ensures nothing { OnPending result (GivesNothing S.drawn S.asked (knows self.old.pass) (knows self.new.pass)) }
@@ -185,13 +184,13 @@ impl<S: EventSource<A>, R: Wait + Drop, A: Allocator + Clone> EventStream<S, R, 
         ensures registered { OnPending result (Covers cx.new (λ s. s ≡ (arc_value self.new.hub).source.id)) }
         ensures kept { Keeps cx.old cx.new }
     {
-        if let Some(fault) = self.hub.register(&self.rt, cx) {
+        if let Some(fault) = self.hub.take_fault(&self.rt) {
             return Poll::Ready(Err(fault));
         }
         match self.reader.try_read(&self.rt, &mut self.pass) {
             Ok(Some(event)) => Poll::Ready(Ok(event)),
             Ok(None) => {
-                self.hub.give_task(&self.rt);
+                self.hub.give_task(&self.rt, cx);
                 Poll::Pending
             }
             Err(fault) => Poll::Ready(Err(fault)),

@@ -3,3 +3,4 @@ pub mod Controls
 pub mod Completing
 pub mod Naming
 pub mod Lines
+pub mod Columns

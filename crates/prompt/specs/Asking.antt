@@ -60,7 +60,7 @@ pub record LineEnds {S : Type 0} (drawn : S → List SourceAnswer → S → Type
 -- Asking stops with an error of this kind. The editor took all events that were read, but not one for which memory
 -- was refused.
 pub data StopsAsking {S : Type 0} (drawn : S → List SourceAnswer → S → Type 0) (asked : S → List (Option Duration)) (given : EditorState → Seen → Seen) (v : Known S) (w : EditorState) (kind : ErrorKind) (u : Known S) (z : EditorState) : Type 0 where
-  -- The prompt was refused, or the writer, the device of modes or a question failed: the line went on up to there.
+  -- The prompt or memory was refused, or the writer, the device of modes or a question failed: the line went on so far.
   stopped : GoesOn drawn asked given v w u z → StopsAsking drawn asked given v w kind u z
   -- The next read failed with this error.
   broke : (p : Known S) → GoesOn drawn asked given v w p z → Reads drawn asked filters.Event p u (Faulted kind) → StopsAsking drawn asked given v w kind u z

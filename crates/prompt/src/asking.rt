@@ -1,5 +1,5 @@
 //! Asks for a line, an event at a time.
-ghost use Rattle.std.specs.Prelude.{◌≡◌, ◌⊎◌, chars, true, false, IfErr, IfOk, IsErrAnd, IsOk, IsTrue, None, OnErr, OnOk, Some, is_some};
+ghost use Rattle.std.specs.Prelude.{◌≡◌, ◌<◌, ◌⊎◌, chars, true, false, IfErr, IfOk, IsErrAnd, IsOk, IsTrue, None, OnErr, OnOk, Some, is_some};
 ghost use Rattle.std.specs.IoError.{error_kind};
 ghost use Rattle.std.specs.declared.io.ErrorKind.TheVariants.{InvalidInput};
 ghost use Rattle.crossterm_types.specs.Seen.{Paste, seen_event};
@@ -10,9 +10,10 @@ ghost use Rattle.prompt.specs.Asking.{LineEnds, StopsAsking, GoesOn, answer_seen
 ghost use Rattle.prompt.specs.Completing as completing;
 ghost use Rattle.prompt.specs.Completing.{as_read, given_by};
 ghost use Rattle.prompt.specs.Prompts as prompts;
+ghost use Rattle.prompt.specs.inside.Drawing.{IsDrawn};
 ghost use Rattle.prompt.specs.inside.Turning.{IsTaken, Leads, MayAsk};
 
-use crate::drawing::{Row, draw, erase, leave_row, ring, rows_above};
+use crate::drawing::{Row, erase, ring};
 use crate::helpers::Helper;
 use crate::prompts::has_control;
 use crate::read::Read;
@@ -189,9 +190,12 @@ fn show<W: Write, A: Allocator, H: Helper>(
     editor: &Editor<A>,
     prompt: &Prompt<'_, H>,
     row: &mut Row,
-) -> io::Result<()> {
+) -> io::Result<()>
+    ensures { OnOk result (0 < row.old.strip.width
+        → IsDrawn row.new.buffer row.new.column row.old.strip row.new.strip (W.contents out.old) (W.contents out.new)) }
+{
     let line = editor.line();
-    draw(out, prompt.text, line, prompt.helper.hint(line.text()), row)
+    row.draw(out, prompt.text, line, prompt.helper.hint(line.text()))
 }
 
 /// The cursor's column, if the terminal is asked and answers. One that doesn't is asked no more.
@@ -240,17 +244,17 @@ fn show_anew<
     ensures features { tty.new.features ≡ tty.old.features }
     ensures mode { IsTrue (is_some tty.old.term.prior) → tty.new.term.prior ≡ tty.old.term.prior }
 {
-    let drawn = row.columns;
-    match tty.size() {
-        Ok((columns, _)) => row.columns = columns,
+    let columns = match tty.size() {
+        Ok((columns, _)) => columns,
         Err(error) => return Err(error),
-    }
-    prompt.columns.set(row.columns);
+    };
+    prompt.columns.set(columns);
     let rows = match ask(rt, tty, row) {
-        Ok(Some(column)) => rows_above(prompt.text, editor.line(), drawn, row.columns, column),
+        Ok(Some(column)) => row.rows_above(columns, column),
         Ok(None) => 0,
         Err(error) => return Err(error),
     };
+    row.resize(columns)?;
     match erase(&mut tty.out, rows) {
         Ok(()) => show(&mut tty.out, editor, prompt, row),
         Err(error) => Err(error),
@@ -320,7 +324,7 @@ fn take_turn<
             Err(error) => Turn::Failed(error),
         },
         Taken::Ended(read) => {
-            leave_row(&mut tty.out, *row);
+            row.leave(&mut tty.out);
             Turn::Ended(read)
         }
         Taken::Refused => Turn::Failed(io::Error::from(ErrorKind::OutOfMemory)),
@@ -370,11 +374,7 @@ fn begin<
         Ok(columns) => columns,
         Err(error) => return Err(error),
     };
-    let mut row = Row {
-        columns,
-        is_asked: prompt.asks,
-        has_hint: false,
-    };
+    let mut row = Row::new(tty.alloc, columns, prompt.asks)?;
     match show(&mut tty.out, editor, prompt, &mut row) {
         Ok(()) => Ok(row),
         Err(error) => Err(error),
@@ -431,7 +431,7 @@ impl<H: Helper> Prompt<'_, H> {
     /// # Errors
     ///
     /// `InvalidInput` if the prompt has a control character: then nothing was done. Else those of `Session::{enable_raw_mode, size, read,
-    /// position}` and of the writer, and `OutOfMemory` if the editor was refused memory. The editor has taken all events that were read, but
+    /// position}` and of the writer, and `OutOfMemory` if memory was refused. The editor has taken all events that were read, but
     /// one for which memory was refused. So the next call goes on with its line. The cursor stays in the row.
     ///
     /// An accepted line is returned also if the writer then fails to leave the row. The next write shows that error.

@@ -1,113 +1,222 @@
 //! How a line is shown in the cursor's row.
+ghost use Rattle.std.specs.Prelude.{◌≡◌, ◌-◌, ◌<◌, IfOk, OnOk, chars};
+ghost use Rattle.std.specs.Io.KnownBytes.{Keeps};
+ghost use Rattle.prompt.specs.inside.Drawing.{IsCursor, IsDrawn, IsUnknown, column_behind, inside};
 
-use crate::prompts::{shown, shown_hint};
+use crate::prompts::{parted, shown, shown_hint};
 use crossterm::cursor::{MoveToColumn, MoveUp};
-use crossterm::style::{Attribute, ColorOutput, Print, SetAttribute};
-use crossterm::terminal::{Clear, ClearType, DisableLineWrap, EnableLineWrap};
+use crossterm::style::{Attribute, Attributes, ColorOutput, ContentStyle, Print};
+use crossterm::terminal::{Clear, ClearType};
 use crossterm::{QueueableCommand, execute, queue};
 use line_editor::Line;
-use std::alloc::Allocator;
+use screen::{Buffer, CellFault, Strip};
+use std::alloc::{AllocError, Allocator, Global};
 use std::io::{self, Write};
 use unicode_width::UnicodeWidthChar;
 
 const COLORS: ColorOutput = ColorOutput::Enabled;
 
+/// What is shown for a character that no cell can hold.
+const REPLACEMENT: char = '\u{FFFD}';
+
 /// The row in which a line is shown.
-#[derive(Clone, Copy)]
+#[derive(Drop)]
 pub(crate) struct Row {
-    /// The window's columns.
-    pub(crate) columns: u16,
+    strip: Strip,
+    buffer: Buffer,
+    // The cursor's column, as it was drawn last.
+    column: u16,
+    // Whether a hint is shown behind the line.
+    has_hint: bool,
     /// Whether the terminal is asked for the cursor's place.
     pub(crate) is_asked: bool,
-    /// Whether a hint is shown behind the line.
-    pub(crate) has_hint: bool,
 }
 
-/// Shows a prompt and a line in the cursor's row, and a hint behind the line if the cursor is at its end. What was there is erased first,
-/// since the line may take the last column.
-pub(crate) fn draw<W: Write, A: Allocator>(
-    out: &mut W,
-    prompt: &str,
-    line: &Line<A>,
-    hint: &str,
-    row: &mut Row,
-) -> io::Result<()> {
-    let (prompt, taken) = shown(prompt, row.columns);
-    let (text, column) = line.seen(row.columns.saturating_sub(taken));
-    let column = taken.saturating_add(u16::try_from(column).unwrap_or(u16::MAX));
-    let is_at_end = line.after().is_empty();
-    let room = if is_at_end {
-        row.columns.saturating_sub(column)
-    } else {
-        0
-    };
-    let hint = shown_hint(hint, room);
-    row.has_hint = !hint.is_empty();
-    queue!(out, COLORS, MoveToColumn(0), DisableLineWrap)?;
-    queue!(out, COLORS, Clear(ClearType::UntilNewLine))?;
-    queue!(out, COLORS, Print(prompt), Print(text))?;
-    if row.has_hint {
-        queue!(out, COLORS, SetAttribute(Attribute::Dim), Print(hint))?;
-        queue!(out, COLORS, SetAttribute(Attribute::NormalIntensity))?;
+/// The columns that are drawn in a window: all but the last, so that no terminal wraps the row.
+fn drawn_columns(columns: u16) -> u16
+    ensures { result ≡ columns - 1 }
+{
+    columns.saturating_sub(1)
+}
+
+/// A column, or the last one of so many if it is behind that.
+fn inside(width: u16, column: u16) -> u16
+    ensures { result ≡ inside width column }
+{
+    let last = width.saturating_sub(1);
+    if column <= last { column } else { last }
+}
+
+/// Whether a text had room from a column to another: it took as many columns as were counted, or one more is left than the cursor's.
+fn had_room(width: u16, from: u16, to: u16, count: usize) -> bool {
+    to < width.saturating_sub(1) || usize::from(to.saturating_sub(from)) == count
+}
+
+/// The style of a hint.
+fn dim() -> ContentStyle {
+    ContentStyle {
+        attributes: Attributes::none().with(Attribute::Dim),
+        ..ContentStyle::new()
     }
-    queue!(out, COLORS, EnableLineWrap)?;
-    execute!(out, COLORS, MoveToColumn(column))
 }
 
-/// A place in rows of so many columns, and how many more columns of a text come before it.
-#[derive(Clone, Copy)]
-struct Place {
-    rows: u16,
-    column: u16,
-    left: u16,
-}
+impl Row {
+    /// The cursor's row in a window of so many columns. Nothing is known of it yet.
+    pub(crate) fn new(alloc: Global, columns: u16, is_asked: bool) -> Result<Row, AllocError>
+        ensures { IfOk result (λ row. IsUnknown columns row.strip) }
+    {
+        let width = drawn_columns(columns);
+        let strip = Strip::new(alloc, width)?;
+        let buffer = Buffer::new(alloc, width, 1)?;
+        Ok(Row {
+            strip,
+            buffer,
+            column: 0,
+            has_hint: false,
+            is_asked,
+        })
+    }
 
-/// The place behind a text, or behind so much of it as comes before the place that is looked for, if the text is wrapped to so many columns.
-fn wrapped(from: Place, text: &str, columns: u16) -> Place {
-    let mut place = from;
-    for c in text.chars() {
-        if place.left == 0 {
-            break;
-        }
-        let width = u16::try_from(c.width().unwrap_or(0)).unwrap_or(0);
-        place.left = place.left.saturating_sub(width);
-        let column = place.column.saturating_add(width);
-        if column <= columns {
-            place.column = column;
+    /// Takes the columns of another window. Nothing is known of the row then.
+    pub(crate) fn resize(&mut self, columns: u16) -> Result<(), AllocError>
+        ensures { OnOk result (IsUnknown columns self.new.strip) }
+    {
+        let width = drawn_columns(columns);
+        self.strip.resize(width)?;
+        self.buffer.resize(width, 1)?;
+        Ok(())
+    }
+
+    /// Prints a text from a column on, and returns the column behind it.
+    fn print(&mut self, column: u16, text: &str, style: ContentStyle) -> Result<u16, CellFault>
+        ensures strip { self.new.strip ≡ self.old.strip }
+        ensures width { self.new.buffer.width ≡ self.old.buffer.width }
+        ensures behind { IfOk result (λ end. end ≡ column_behind self.old.buffer.width column (chars text.now)) }
+    {
+        let used = self
+            .buffer
+            .print_replacing(column, 0, text, REPLACEMENT, style)?;
+        Ok(column.saturating_add(used))
+    }
+
+    /// Prints a prompt, what is seen of a line in so many columns with the prompt, and a hint behind the line if the cursor is at its end.
+    /// The cursor is behind what was printed before it. Returns whether all of that has room: a character of no column that is replaced takes
+    /// one that the line doesn't count.
+    fn fill<A: Allocator>(
+        &mut self,
+        prompt: &str,
+        line: &Line<A>,
+        hint: &str,
+        columns: u16,
+    ) -> Result<bool, CellFault>
+        ensures strip { self.new.strip ≡ self.old.strip }
+        ensures width { OnOk result (self.new.buffer.width ≡ self.old.buffer.width) }
+        ensures cursor { OnOk result (IsCursor self.old.buffer.width prompt.now line.now self.new.column) }
+    {
+        let width = self.buffer.width();
+        self.buffer.fill(' ', ContentStyle::new())?;
+        let start = self.print(0, shown(prompt, width), ContentStyle::new())?;
+        let (text, count) = line.seen(columns.saturating_sub(start));
+        let (before, after) = parted(text, count, line.after());
+        let cursor = self.print(start, before, ContentStyle::new())?;
+        let end = self.print(cursor, after, ContentStyle::new())?;
+        let room = if line.after().is_empty() {
+            width.saturating_sub(end)
         } else {
-            place.rows = place.rows.saturating_add(1);
-            place.column = width;
+            0
+        };
+        let hint = shown_hint(hint, room);
+        self.print(end, hint, dim())?;
+        self.has_hint = !hint.is_empty();
+        self.column = inside(width, cursor);
+        Ok(had_room(width, start, cursor, count))
+    }
+
+    /// Prints all that is shown, with as much of the line as has room.
+    fn fit<A: Allocator>(
+        &mut self,
+        prompt: &str,
+        line: &Line<A>,
+        hint: &str,
+    ) -> Result<(), CellFault>
+        ensures strip { self.new.strip ≡ self.old.strip }
+        ensures cursor { OnOk result (IsCursor self.old.buffer.width prompt.now line.now self.new.column) }
+    {
+        let width = self.strip.width();
+        if self.fill(prompt, line, hint, width)? {
+            return Ok(());
+        }
+        for columns in (0..width).rev() {
+            if self.fill(prompt, line, hint, columns)? {
+                break;
+            }
+        }
+        Ok(())
+    }
+
+    /// Shows a prompt, a line and a hint: what changed of them is written. In a window of one column there is no room for any.
+    pub(crate) fn draw<W: Write, A: Allocator>(
+        &mut self,
+        out: &mut W,
+        prompt: &str,
+        line: &Line<A>,
+        hint: &str,
+    ) -> io::Result<()>
+        ensures drawn { OnOk result (0 < self.old.strip.width
+            → IsDrawn self.new.buffer self.new.column self.old.strip self.new.strip (W.contents out.old) (W.contents out.new)) }
+        ensures cursor { OnOk result (0 < self.old.strip.width → IsCursor self.old.buffer.width prompt.now line.now self.new.column) }
+        ensures narrow { self.old.strip.width ≡ 0 → Keeps (W.contents out.old) (W.contents out.new) }
+    {
+        if self.strip.width() == 0 {
+            return out.flush();
+        }
+        self.fit(prompt, line, hint)?;
+        match self
+            .strip
+            .draw(out, COLORS, &self.buffer, Some(self.column))
+        {
+            Ok(()) => out.flush(),
+            Err(fault) => Err(io::Error::from(fault)),
         }
     }
-    place
+
+    /// How many rows above the cursor's this one begins, if the cursor is now in this column of a window of so many columns.
+    ///
+    /// Some terminals wrap a row anew if the window becomes narrower, others cut it. In the last column the cursor may be by either.
+    pub(crate) fn rows_above(&self, columns: u16, column: u16) -> u16 {
+        let (rows, wrapped) = wrapped(&self.buffer, self.column, columns);
+        let is_last = column >= columns.saturating_sub(1);
+        if wrapped == column && !is_last {
+            rows
+        } else {
+            0
+        }
+    }
+
+    /// Brings the cursor to the start of the next row, and erases a hint before. A fault is left to the next write.
+    pub(crate) fn leave<W: Write>(&self, out: &mut W) {
+        if self.has_hint {
+            let _ = queue!(out, COLORS, Clear(ClearType::UntilNewLine));
+        }
+        let _ = execute!(out, COLORS, Print("\r\n"));
+    }
 }
 
-/// How many rows above the cursor's a line begins, if it was drawn in a row of so many columns, and the cursor is now in this column of a
-/// window of other columns.
-///
-/// Some terminals wrap a row anew if the window becomes narrower, others cut it. In the last column the cursor may be by either.
-pub(crate) fn rows_above<A: Allocator>(
-    prompt: &str,
-    line: &Line<A>,
-    drawn: u16,
-    columns: u16,
-    column: u16,
-) -> u16 {
-    let (prompt, taken) = shown(prompt, drawn);
-    let (text, before) = line.seen(drawn.saturating_sub(taken));
-    let left = taken.saturating_add(u16::try_from(before).unwrap_or(u16::MAX));
-    let start = Place {
-        rows: 0,
-        column: 0,
-        left,
-    };
-    let end = wrapped(wrapped(start, prompt, columns), text, columns);
-    let is_last = column >= columns.saturating_sub(1);
-    if end.column == column && !is_last {
-        end.rows
-    } else {
-        0
+/// The row and the column behind so many cells, if they are wrapped to so many columns.
+fn wrapped(buffer: &Buffer, count: u16, columns: u16) -> (u16, u16) {
+    let mut row = 0u16;
+    let mut column = 0u16;
+    for cell in buffer.cells().iter().take(usize::from(count)) {
+        // The second cell of a character has none.
+        let width = cell.symbol().width().unwrap_or(0);
+        let width = u16::try_from(width).unwrap_or(0);
+        column = column.saturating_add(width);
+        if column > columns {
+            row = row.saturating_add(1);
+            column = width;
+        }
     }
+    (row, column)
 }
 
 /// Brings the cursor so many rows up, and erases from there on.
@@ -126,12 +235,4 @@ pub(crate) fn erase<W: Write>(out: &mut W, rows: u16) -> io::Result<()> {
 /// Rings the bell.
 pub(crate) fn ring<W: Write>(out: &mut W) -> io::Result<()> {
     execute!(out, COLORS, Print("\x07"))
-}
-
-/// Brings the cursor to the start of the next row, and erases a hint before. A fault is left to the next write.
-pub(crate) fn leave_row<W: Write>(out: &mut W, row: Row) {
-    if row.has_hint {
-        let _ = queue!(out, COLORS, Clear(ClearType::UntilNewLine));
-    }
-    let _ = execute!(out, COLORS, Print("\r\n"));
 }

@@ -19,10 +19,13 @@
 //!
 //! A `Prompt` has more: a `Helper` completes the line at Tab, and shows a hint behind it. `Words` is one that completes names.
 //!
-//! The line takes one row, and is seen through it as `Line::seen` says. After a resize the terminal is asked for the cursor's place, since a
-//! narrower window may have wrapped the row. One that doesn't answer isn't asked again in that call; then what was wrapped stays above.
+//! The line takes one row, and is seen through it as `Line::seen` says, in all columns of the window but the last. A key writes what it changes
+//! of the row. A character that no cell of `screen` can hold, as a joiner of emoji, is shown as U+FFFD.
 //!
-//! It is built on `own_terminal` and `line_editor`, by their public contracts, and on the crate `unicode_width` for columns.
+//! After a resize the terminal is asked for the cursor's place, since a narrower window may have wrapped the row. One that doesn't answer isn't
+//! asked again in that call; then what was wrapped stays above.
+//!
+//! It is built on `own_terminal`, `line_editor` and `screen`, by their public contracts, and on the crate `unicode_width` for columns.
 //!
 //! What is proved, beyond safety:
 //!
@@ -39,7 +42,8 @@
 //! | the lines of several calls are those of all events that were read for them, but for those whose texts are too long | `laws::gives_lines` |
 //! | names complete a text by the rest of the first that begins with it and goes on | `Helper::complete` of `Words` |
 //!
-//! What is drawn is only tested, hints too, and so is the bell. So is when the terminal is asked for the cursor's place.
+//! The row is drawn by `screen::Strip::draw`, so each frame makes it show some cells, and changes nothing else. The cursor is behind what was
+//! printed before it. Which cells are shown is only tested, hints too, and so is the bell. So is when the terminal is asked for the cursor's place.
 //!
 //! What to believe, in the order in which it reads (`specs/`), and the contracts that it is proved by:
 //!

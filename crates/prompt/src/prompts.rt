@@ -1,6 +1,7 @@
 //! A prompt, and what is shown of it.
-ghost use Rattle.std.specs.Prelude.{◌≡◌, chars};
+ghost use Rattle.std.specs.Prelude.{◌≡◌, ◌⊎◌, [], IfSome, chars};
 ghost use Rattle.prompt.specs.Prompts.{has_control};
+ghost use Rattle.prompt.specs.inside.Drawing.{IsParted};
 
 use unicode_width::UnicodeWidthChar;
 
@@ -16,14 +17,16 @@ pub(crate) fn has_control(text: &str) -> bool
     false
 }
 
-/// The columns that a text takes.
-fn columns_of(text: &str) -> u16 {
+/// The columns that a character takes.
+fn columns_of(c: char) -> usize {
+    c.width().unwrap_or(0)
+}
+
+/// The columns that a text takes at most: a character of no column may be replaced by one of one.
+fn most_columns(text: &str) -> u16 {
     let mut columns = 0u16;
     for c in text.chars() {
-        let width = match c.width() {
-            None => 0,
-            Some(width) => u16::try_from(width).unwrap_or(u16::MAX),
-        };
+        let width = u16::try_from(columns_of(c).max(1)).unwrap_or(u16::MAX);
         columns = columns.saturating_add(width);
     }
     columns
@@ -32,21 +35,54 @@ fn columns_of(text: &str) -> u16 {
 /// The columns that a prompt leaves to the line at least.
 const ROOM: u16 = 8;
 
-/// What is shown of a prompt in a row of so many columns, and the columns that it takes: all of it, or nothing if too few are left.
-pub(crate) fn shown(prompt: &str, columns: u16) -> (&str, u16) {
-    let taken = columns_of(prompt);
-    if columns.saturating_sub(taken) < ROOM {
-        ("", 0)
+/// What is shown of a prompt in a row of so many columns: all of it, or nothing if too few are left.
+pub(crate) fn shown(prompt: &str, columns: u16) -> &str
+    ensures { (result.now ≡ []) ⊎ (result.now ≡ prompt.now) }
+{
+    if columns.saturating_sub(most_columns(prompt)) < ROOM {
+        ""
     } else {
-        (prompt, taken)
+        prompt
     }
 }
 
 /// What is shown of a hint in so many columns: all of it, or nothing if it has no room or has a control character.
 pub(crate) fn shown_hint(hint: &str, room: u16) -> &str {
-    if columns_of(hint) > room || has_control(hint) {
+    if most_columns(hint) > room || has_control(hint) {
         ""
     } else {
         hint
     }
+}
+
+/// The parts of a text at a place, if another text begins with the second one.
+fn split_if<'a>(text: &'a str, place: usize, after: &str) -> Option<(&'a str, &'a str)>
+    ensures { IfSome result (λ parts. IsParted text.now parts.0.now parts.1.now after.now) }
+{
+    match text.split_at_checked(place) {
+        None => None,
+        Some((front, rest)) => {
+            if after.starts_with(rest) {
+                Some((front, rest))
+            } else {
+                None
+            }
+        }
+    }
+}
+
+/// Parts what is seen of a line at the cursor, which is in this column of it. The line goes on with the text `after` from there.
+pub(crate) fn parted<'a>(text: &'a str, column: usize, after: &str) -> (&'a str, &'a str)
+    ensures { IsParted text.now result.0.now result.1.now after.now }
+{
+    let mut used = 0usize;
+    for (place, c) in text.char_indices() {
+        if used >= column {
+            if let Some(parts) = split_if(text, place, after) {
+                return parts;
+            }
+        }
+        used = used.saturating_add(columns_of(c));
+    }
+    (text, "")
 }

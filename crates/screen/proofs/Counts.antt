@@ -1,5 +1,5 @@
 -- How many characters strokes print.
-use Rattle.std.proofs.Common.{◌≡◌, inl, inr, ℕ, ◌+◌, ◌<◌, Bool, true, false, List, [], ◌∷◌, ◌++◌, Option, Some, None, refl, sym, ap, ◌∙◌, subst, arith, length, take, get_or}
+use Rattle.std.proofs.Common.{◌≡◌, inl, inr, ℕ, ◌+◌, ◌<◌, Bool, true, false, List, [], ◌∷◌, ◌++◌, Option, Some, None, refl, sym, ap, ◌∙◌, subst, arith, append-nil, length, map, take, get_or}
 use Rattle.std.specs.List.{AllByRecursion}
 use Rattle.std.proofs.lemmas.List.{take_more}
 use Rattle.std.proofs.lemmas.List.Concat.{flat_map-append}
@@ -16,7 +16,7 @@ use Rattle.screen.specs.declared.settings.Setting.{Setting}
 use Rattle.screen.specs.declared.settings.Setting.TheVariants as setting
 use Rattle.screen.specs.declared.strokes.Stroke.{Stroke}
 use Rattle.screen.specs.declared.strokes.Stroke.TheVariants as stroke
-use Rattle.screen.specs.Drawings.{DifferAt, printed_count}
+use Rattle.screen.specs.Drawings.{DifferAt, characters_of, printed_count}
 use Rattle.screen.specs.Updates.{HasToBePrinted}
 use Rattle.screen.specs.inside.Strokes.{cell_strokes, color_tokens, cursor_strokes, first_strokes, last_strokes, tokens, tokens_of}
 use Rattle.screen.proofs.Runs.{SetsStyle, style_sets}
@@ -51,13 +51,20 @@ colors_print : (colors : ColorOutput) (change : ContentStyle) (ss : List Stroke)
 colors_print colors change ss =
     printed_joined (color_tokens colors change) (tokens_of colors ss) ∙ ap (λ n. n + printed_count (tokens_of colors ss)) (color_prints colors change) ∙ (omega arith)
 
-pub cell_prints : (colors : ColorOutput) (there : Bool) (how : Setting) (column row : ℕ) (c : Cell) → printed_count (tokens_of colors (cell_strokes there how column row c)) ≡ 1
-cell_prints colors true setting.Kept column row c = refl
-cell_prints colors true (setting.Colors change) column row c = colors_print colors change (stroke.Print c.symbol ∷ [])
-cell_prints colors true (setting.Whole s) column row c = style_prints colors s (stroke.Print c.symbol ∷ [])
-cell_prints colors false setting.Kept column row c = refl
-cell_prints colors false (setting.Colors change) column row c = colors_print colors change (stroke.Print c.symbol ∷ [])
-cell_prints colors false (setting.Whole s) column row c = style_prints colors s (stroke.Print c.symbol ∷ [])
+marks_printed : (marks : List ℕ) → printed_count (map Char marks) ≡ length marks
+marks_printed [] = refl
+marks_printed (m ∷ marks) = ap (λ n. n + 1) (marks_printed marks) ∙ (omega arith)
+
+cell_printed : (colors : ColorOutput) (c : Cell) → printed_count (tokens_of colors (stroke.Print c.symbol c.marks ∷ [])) ≡ characters_of c
+cell_printed colors c = ap printed_count (append-nil (tokens colors (stroke.Print c.symbol c.marks))) ∙ ap (λ n. n + 1) (marks_printed c.marks)
+
+pub cell_prints : (colors : ColorOutput) (there : Bool) (how : Setting) (column row : ℕ) (c : Cell) → printed_count (tokens_of colors (cell_strokes there how column row c)) ≡ characters_of c
+cell_prints colors true setting.Kept column row c = cell_printed colors c
+cell_prints colors true (setting.Colors change) column row c = colors_print colors change (stroke.Print c.symbol c.marks ∷ []) ∙ cell_printed colors c
+cell_prints colors true (setting.Whole s) column row c = style_prints colors s (stroke.Print c.symbol c.marks ∷ []) ∙ cell_printed colors c
+cell_prints colors false setting.Kept column row c = cell_printed colors c
+cell_prints colors false (setting.Colors change) column row c = colors_print colors change (stroke.Print c.symbol c.marks ∷ []) ∙ cell_printed colors c
+cell_prints colors false (setting.Whole s) column row c = style_prints colors s (stroke.Print c.symbol c.marks ∷ []) ∙ cell_printed colors c
 
 pub last_prints : (colors : ColorOutput) (cursor : Option (ℕ × ℕ)) → printed_count (tokens_of colors (last_strokes cursor)) ≡ 0
 last_prints colors None = style_prints colors no_style (cursor_strokes None ++ (stroke.End ∷ []))
@@ -78,13 +85,13 @@ differ_same (a ∷ xs) (b ∷ ys) x y n e d = elim d [
   | inr q ↦ inr (q.0, q.1, q.2, differ_same xs ys x y q.1 e q.3)
 ]
 
-differ_more : (xs ys : List Cell) (x y : Cell) (n : ℕ) → HasToBePrinted x y → DifferAt xs ys n → DifferAt (xs ++ x ∷ []) (ys ++ y ∷ []) (n + 1)
+differ_more : (xs ys : List Cell) (x y : Cell) (n : ℕ) → HasToBePrinted x y → DifferAt xs ys n → DifferAt (xs ++ x ∷ []) (ys ++ y ∷ []) (n + characters_of y)
 differ_more [] [] x y n e d = inr (e, n, refl, d)
 differ_more [] (b ∷ ys) x y n e d = absurd d
 differ_more (a ∷ xs) [] x y n e d = absurd d
 differ_more (a ∷ xs) (b ∷ ys) x y n e d = elim d [
   | inl p ↦ inl (p.0, differ_more xs ys x y n e p.1)
-  | inr q ↦ inr (q.0, q.1 + 1, ap (λ k. k + 1) q.2, differ_more xs ys x y q.1 e q.3)
+  | inr q ↦ inr (q.0, q.1 + characters_of y, ap (λ k. k + characters_of y) q.2 ∙ (omega arith), differ_more xs ys x y q.1 e q.3)
 ]
 
 grown : (xs : List Cell) (k : ℕ) (x : Cell) → k < length xs → get_or xs k x ≡ x → take (k + 1) xs ≡ take k xs ++ x ∷ []
@@ -99,7 +106,7 @@ same_at before after k n b c lb la eb ec e d =
 
 -- One place more for which a character is printed.
 pub other_at : (before after : List Cell) (k n : ℕ) (b c : Cell) → k < length before → k < length after → get_or before k b ≡ b → get_or after k c ≡ c → HasToBePrinted b c
-    → DifferAt (take k before) (take k after) n → DifferAt (take (k + 1) before) (take (k + 1) after) (n + 1)
+    → DifferAt (take k before) (take k after) n → DifferAt (take (k + 1) before) (take (k + 1) after) (n + characters_of c)
 other_at before after k n b c lb la eb ec e d =
-    subst (λ l. DifferAt l (take (k + 1) after) (n + 1)) (sym (grown before k b lb eb))
-    (subst (λ l. DifferAt (take k before ++ b ∷ []) l (n + 1)) (sym (grown after k c la ec)) (differ_more (take k before) (take k after) b c n e d))
+    subst (λ l. DifferAt l (take (k + 1) after) (n + characters_of c)) (sym (grown before k b lb eb))
+    (subst (λ l. DifferAt (take k before ++ b ∷ []) l (n + characters_of c)) (sym (grown after k c la ec)) (differ_more (take k before) (take k after) b c n e d))

@@ -11,7 +11,7 @@ use Rattle.screen.specs.Buffers.{fill_cells, pair_cell}
 use Rattle.screen.specs.Cells.{AreLaidOut, ArePaired, Cell, IsPrinted, IsPlaced, is_covered, is_wide}
 use Rattle.screen.specs.Grids.{is_last, takes_two}
 use Rattle.screen.specs.Overwriting.{covered}
-use Rattle.screen.proofs.Fitting.{printed_placed, printed_there, same_laid_out, space_printed}
+use Rattle.screen.proofs.Fitting.{held_alone, held_placed, printed_there, same_laid_out, space_printed}
 use Rattle.screen.proofs.Squares.{space_is_narrow, zero_takes_no_two}
 use Rattle.screen.proofs.Taking.{kept}
 
@@ -36,12 +36,12 @@ odd_next column = grind (arith, nat_tests)
 -- ---- a cell
 
 abbrev pair_by : Bool → Bool → ℕ → ContentStyle → Cell
-pair_by odd last c s = cond odd (covered s) (cond last (record { symbol = 32; style = s }) (record { symbol = c; style = s }))
+pair_by odd last c s = cond odd (covered s) (cond last (record { symbol = 32; marks = []; style = s }) (record { symbol = c; marks = []; style = s }))
 
 pair_placed : (odd last : Bool) (c : ℕ) (s : ContentStyle) → IsPrinted c → IsPlaced (pair_by odd last c s)
 pair_placed true last c s p = inl refl
-pair_placed false true c s p = printed_placed (record { symbol = 32; style = s }) space_printed
-pair_placed false false c s p = printed_placed (record { symbol = c; style = s }) p
+pair_placed false true c s p = held_placed (record { symbol = 32; marks = []; style = s }) (held_alone 32 space_printed)
+pair_placed false false c s p = held_placed (record { symbol = c; marks = []; style = s }) (held_alone c p)
 
 pair_covered : (odd last : Bool) (c : ℕ) (s : ContentStyle) → IsPrinted c → is_covered (pair_by odd last c s) ≡ odd
 pair_covered true last c s p = refl
@@ -109,15 +109,15 @@ pairs_laid_out : (w h c : ℕ) (s : ContentStyle) → IsPrinted c → takes_two 
 pairs_laid_out zero h c s p two = none_laid_out zero _ (length-map-range_with_len (at zero c s) 0 (zero * h) ∙ omega arith)
 pairs_laid_out (suc w) h c s p two = some_laid_out (suc w) h c s (omega arith) p two
 
-laid_by : (two : Bool) (w h c : ℕ) (s : ContentStyle) → IsPrinted c → takes_two c ≡ two → AreLaidOut w (cond two (map (at w c s) (range_with_len 0 (w * h))) (replicate (w * h) (record { symbol = c; style = s })))
+laid_by : (two : Bool) (w h c : ℕ) (s : ContentStyle) → IsPrinted c → takes_two c ≡ two → AreLaidOut w (cond two (map (at w c s) (range_with_len 0 (w * h))) (replicate (w * h) (record { symbol = c; marks = []; style = s })))
 laid_by true w h c s p e = pairs_laid_out w h c s p e
-laid_by false w h c s p e = same_laid_out (w * h) (record { symbol = c; style = s }) p e w
+laid_by false w h c s p e = same_laid_out (w * h) (record { symbol = c; marks = []; style = s }) (held_alone c p) e w
 
 -- Rows that are filled with a character are laid out.
 pub filled_laid_out : (w h c : ℕ) (s : ContentStyle) → IsPrinted c → AreLaidOut w (fill_cells w (w * h) c s)
 filled_laid_out w h c s p = laid_by (takes_two c) w h c s p refl
 
-length_by : (two : Bool) (w n c : ℕ) (s : ContentStyle) → length (cond two (map (at w c s) (range_with_len 0 n)) (replicate n (record { symbol = c; style = s }))) ≡ n
+length_by : (two : Bool) (w n c : ℕ) (s : ContentStyle) → length (cond two (map (at w c s) (range_with_len 0 n)) (replicate n (record { symbol = c; marks = []; style = s }))) ≡ n
 length_by true w n c s = length-map-range_with_len (at w c s) 0 n
 length_by false w n c s = length-replicate n _
 

@@ -32,10 +32,10 @@ Pointed cursor g h = (h.width ≡ g.width) × (h.height ≡ g.height) × (h.cell
 finishes : (colors : ColorOutput) (width height : ℕ) (cursor : Option (ℕ × ℕ)) (g : Grid) → width < 2 ^ 32 → height < 2 ^ 32 → HasSize width height g → IsInside width height cursor
     → (h : Grid) × (run (tokens_of colors (last_strokes cursor)) g ≡ Some h) × Pointed cursor g h
 finishes colors width height None g ws hs size inside =
-    let g1 : Grid = record g { style = plain } in
+    let g1 : Grid = record g { style = plain; printed = None } in
     (record g1 { visible = false }, run_then (tokens colors (stroke.Style no_style)) (tokens_of colors (stroke.Hide ∷ stroke.End ∷ [])) g g1 (plain_set colors g), (refl, refl, refl, refl, refl))
 finishes colors width height (Some place) g ws hs size inside =
-    let g1 : Grid = record g { style = plain } in
+    let g1 : Grid = record g { style = plain; printed = None } in
     let g2 : Grid = record g1 { cursor = Some (place.1 * g.width + place.0) } in
     let goes : run (tokens_of colors (stroke.Move place.0 place.1 ∷ stroke.Show ∷ stroke.End ∷ [])) g1 ≡ Some (record g2 { visible = true }) =
     run_then (tokens colors (stroke.Move place.0 place.1)) (tokens_of colors (stroke.Show ∷ stroke.End ∷ [])) g1 g2

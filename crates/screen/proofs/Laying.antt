@@ -6,13 +6,13 @@ use Rattle.std.proofs.lemmas.List.Elements.{All-append, All-drop, All-take}
 use Rattle.screen.specs.Cells.{AreLaidOut, ArePaired, Cell, IsPlaced, StayInRows, is_covered, is_wide}
 use Rattle.screen.specs.Grids.{is_last}
 use Rattle.screen.specs.Overwriting.{begun, emptied, ended, overwritten, without_first, without_second}
-use Rattle.screen.proofs.Fitting.{space_printed}
+use Rattle.screen.proofs.Fitting.{held_alone, space_printed}
 use Rattle.screen.proofs.Halves.{begun_there, begun_wide, ended_covered, ended_length, ended_narrow}
 
 -- ---- each cell
 
 cell_placed : (b : Bool) (c : Cell) → IsPlaced c → IsPlaced (cond b (emptied c) c)
-cell_placed true c h = inr (refl, space_printed)
+cell_placed true c h = inr (refl, held_alone 32 space_printed)
 cell_placed false c h = h
 
 pub all_cons : (c : Cell) (cells : List Cell) → IsPlaced c → All IsPlaced cells → All IsPlaced (c ∷ cells)

@@ -1,3 +1,5 @@
+pub mod Marking
+pub mod Parting
 pub mod Squares
 pub mod Fitting
 pub mod Halves

@@ -28,7 +28,7 @@ use Rattle.screen.specs.inside.Scans.{NotWritten}
 use Rattle.screen.specs.inside.Strokes.{AreFitting, IsFitting, color_tokens, first_strokes, tokens, tokens_of, written, written_of}
 use Rattle.screen.proofs.Rows.{Embeds, IsFollowing, Simulates, overwritten_within, row_start, tokens_in_row}
 use Rattle.screen.proofs.Runs.{le_true, place_parts, plain_set, run_then, runs_then}
-use Rattle.screen.proofs.Spares.{color_all, style_all}
+use Rattle.screen.proofs.Spares.{chars_all, color_all, style_all}
 
 -- ---- blank cells
 
@@ -52,9 +52,9 @@ all_overwritten row others e =
 
 pub erased_row : (width : ℕ) (above row below : List Square) (g : Grid) → LiesIn width above row below g
     → run (Csi (codes "1") [] 0x47 ∷ Csi [] [] 0x4B ∷ []) (record g { style = plain })
-    ≡ Some (record g { cells = above ++ (replicate g.width blank_square ++ below); cursor = Some (length above + 0); style = plain })
+    ≡ Some (record g { cells = above ++ (replicate g.width blank_square ++ below); cursor = Some (length above + 0); style = plain; printed = None })
 erased_row width above row below g lies =
-    let g1 : Grid = record g { style = plain } in
+    let g1 : Grid = record g { style = plain; printed = None } in
     let g2 : Grid = record g1 { cursor = Some (length above + 0) } in
     let column = lies.cursor.0 in
     let fits : (nat_le 1 1 && nat_le 1 g.width) ≡ true = le_true 1 g.width (omega (arith, lies.narrower)) in
@@ -79,7 +79,7 @@ erased_row width above row below g lies =
 
 -- A screen of the strip's columns that shows what the row shows.
 abbrev pub alone : ℕ → List Square → Grid → Grid
-alone width row g = record { width = width; height = 1; cells = take width row; cursor = None; visible = g.visible; style = g.style }
+alone width row g = record { width = width; height = 1; cells = take width row; cursor = None; visible = g.visible; style = g.style; printed = None }
 
 alone_length : (width : ℕ) (above row below : List Square) (g : Grid) → LiesIn width above row below g → length (take width row) ≡ width
 alone_length width above row below g lies = length-take-le width row (omega (arith, lies.whole, lies.narrower))
@@ -120,12 +120,13 @@ known_embeds width above row below g d lies shows =
       within = lies.cursor.1;
       cursor = lies.cursor.2;
       place = λ c y. cc;
+      mark = λ c y. cc;
     }
 
 -- After the erasure both are blank.
 pub erased_embeds : (width : ℕ) (above row below : List Square) (g : Grid) → LiesIn width above row below g
     → Embeds above (replicate (g.width - width) blank_square ++ below) (record (alone width row g) { cells = map (λ c. blank_square) (take width row); style = plain })
-    (record g { cells = above ++ (replicate g.width blank_square ++ below); cursor = Some (length above + 0); style = plain })
+    (record g { cells = above ++ (replicate g.width blank_square ++ below); cursor = Some (length above + 0); style = plain; printed = None })
 erased_embeds width above row below g lies =
     let front = take width row in
     let blanks = replicate (g.width - width) blank_square in
@@ -144,6 +145,7 @@ erased_embeds width above row below g lies =
       within = omega (arith, lies.narrower);
       cursor = refl;
       place = λ c y. cc;
+      mark = λ c y. cc;
     }
 
 -- ---- the frame
@@ -209,7 +211,7 @@ following_each colors stroke.Erase f = absurd f
 following_each colors (stroke.Move column row) f = (inl refl, tt)
 following_each colors (stroke.Style s) f = style_all IsFollowing (λ text. inr (inl refl)) colors s
 following_each colors (stroke.Colors change) f = color_all IsFollowing (λ text. inr (inl refl)) colors change
-following_each colors (stroke.Print c) f = (tt, tt)
+following_each colors (stroke.Print c marks) f = (tt, chars_all IsFollowing (λ m. tt) marks)
 following_each colors stroke.Show f = (inr (inr (inl refl)), tt)
 following_each colors stroke.Hide f = (inr (inr (inr refl)), tt)
 
@@ -234,7 +236,7 @@ row_each colors stroke.Erase f = ap (λ digits. Csi digits [] 0x47 ∷ Csi [] []
 row_each colors (stroke.Move column row) f = ap (λ parts. Csi (second_parameter parts) [] 0x47 ∷ []) (sym (place_parts (row + 1) (column + 1) (omega (arith, f.1)) (omega (arith, f.0))))
 row_each colors (stroke.Style s) f = sym (kept_in_row (tokens colors (stroke.Style s)) (style_all (λ t. in_row t ≡ t ∷ []) (λ text. refl) colors s))
 row_each colors (stroke.Colors change) f = sym (kept_in_row (color_tokens colors change) (color_all (λ t. in_row t ≡ t ∷ []) (λ text. refl) colors change))
-row_each colors (stroke.Print c) f = refl
+row_each colors (stroke.Print c marks) f = sym (kept_in_row (tokens colors (stroke.Print c marks)) (refl, chars_all (λ t. in_row t ≡ t ∷ []) (λ m. refl) marks))
 row_each colors stroke.Show f = refl
 row_each colors stroke.Hide f = refl
 
@@ -251,7 +253,7 @@ numbers_each stroke.Erase f = tt
 numbers_each (stroke.Move column row) f = f
 numbers_each (stroke.Style s) f = tt
 numbers_each (stroke.Colors change) f = tt
-numbers_each (stroke.Print c) f = tt
+numbers_each (stroke.Print c marks) f = tt
 numbers_each stroke.Show f = tt
 numbers_each stroke.Hide f = tt
 
@@ -286,13 +288,13 @@ turns_known s colors p cursor strokes same k fit frame above row below g lies sh
 
 -- The first strokes of a frame of unknown cells, in a row.
 erased_first : (colors : ColorOutput) (width : ℕ) (above row below : List Square) (g : Grid) → LiesIn width above row below g
-    → run (flat_map in_row (tokens_of colors (first_strokes false))) g ≡ Some (record g { cells = above ++ (replicate g.width blank_square ++ below); cursor = Some (length above + 0); style = plain })
+    → run (flat_map in_row (tokens_of colors (first_strokes false))) g ≡ Some (record g { cells = above ++ (replicate g.width blank_square ++ below); cursor = Some (length above + 0); style = plain; printed = None })
 erased_first colors width above row below g lies =
     let styles = tokens colors (stroke.Style no_style) in
     let erase : List Token = Csi (codes "1") [] 0x47 ∷ Csi [] [] 0x4B ∷ [] in
     let kept : flat_map in_row styles ≡ styles = kept_in_row styles (style_all (λ t. in_row t ≡ t ∷ []) (λ text. refl) colors no_style) in
     let parts : flat_map in_row (styles ++ clear All) ≡ styles ++ erase = flat_map-append in_row styles (clear All) ∙ ap (λ l. l ++ erase) kept in
-    ap (λ l. run l g) parts ∙ run_then styles erase g (record g { style = plain }) (plain_set colors g) ∙ erased_row width above row below g lies
+    ap (λ l. run l g) parts ∙ run_then styles erase g (record g { style = plain; printed = None }) (plain_set colors g) ∙ erased_row width above row below g lies
 
 turns_unknown : (s : StripView) (colors : ColorOutput) (p : Picture) (cursor : Option ℕ) (strokes : List Stroke) → p.width ≡ s.width → AreFitting false strokes
     → IsFrame (as_screen s) colors p (in_first_row cursor) (tokens_of colors strokes) → TurnsRow s colors p cursor (flat_map in_row (tokens_of colors strokes))
@@ -301,7 +303,7 @@ turns_unknown s colors p cursor strokes same fit frame above row below g lies sh
     let first = first_strokes false in
     let small = alone s.width row g in
     let small1 : Grid = record small { cells = map (λ c. blank_square) (take s.width row); style = plain } in
-    let big1 : Grid = record g { cells = above ++ (replicate g.width blank_square ++ below); cursor = Some (length above + 0); style = plain } in
+    let big1 : Grid = record g { cells = above ++ (replicate g.width blank_square ++ below); cursor = Some (length above + 0); style = plain; printed = None } in
     let (h0, ran, shown) = frame.turns small (alone_shows s above row below g lies shows) in
     let erased : run (tokens_of colors first) small ≡ Some small1 =
     run_then (tokens colors (stroke.Style no_style)) (tokens_of colors (stroke.Erase ∷ [])) small (record small { style = plain }) (plain_set colors small) in

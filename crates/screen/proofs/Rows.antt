@@ -1,5 +1,6 @@
 -- Tokens in a row of a larger grid.
-use Rattle.std.proofs.Common.{◌≡◌, ◌≢◌, ◌==◌, ◌&&◌, not, nat_le, ◌⊎◌, inl, inr, Option, Some, None, bytes_eq, codes, flat_map, ℕ, zero, suc, ◌+◌, ◌-◌, ◌*◌, ◌%◌, ◌<◌, ◌≤◌, Bool, true, false, cond, List, [], ◌∷◌, ◌++◌, refl, sym, ap, ◌∙◌, subst, arith, length, take, drop, append_assoc}
+use Rattle.std.proofs.Common.{◌≡◌, ◌≢◌, ◌==◌, ◌&&◌, not, nat_le, ◌⊎◌, inl, inr, Option, Some, None, bytes_eq, codes, flat_map, ℕ, zero, suc, ◌+◌, ◌-◌, ◌*◌, ◌%◌, ◌<◌, ◌≤◌, Bool, true, false, cond, List, [], ◌∷◌, ◌++◌, refl, sym, ap, ◌∙◌, subst, arith, get_or, length, take, drop, append_assoc}
+use Rattle.std.proofs.lemmas.Bool.{and_parts}
 use Rattle.std.proofs.lemmas.Bool.Decides.{nat_tests}
 use Rattle.std.proofs.lemmas.List.{length-append, length-drop, length-take-le, take-append-le}
 use Rattle.std.proofs.lemmas.Nat.{mod-mul-add}
@@ -10,10 +11,11 @@ use Rattle.std.specs.List.{AllByRecursion, slice_split}
 use Rattle.crossterm_command.specs.Tokens.{Token}
 use Rattle.crossterm_command.specs.Tokens.Token.{Char, Csi, Osc, Private}
 use Rattle.crossterm_style.specs.Looks.{Style, sgr}
-use Rattle.screen.specs.Grids.{Grid, Square, begun, ended, is_last, mode, move_cursor, overwritten, parameter_number, place, place_after, place_beside, place_by, print_at, print_one, print_two, right_of, run, step, takes_one, takes_two}
-use Rattle.screen.specs.Grids.Square.{Whole, First, Second}
+use Rattle.screen.specs.Grids.{Grid, Square, begun, ended, is_last, last_shown, mark_at, first_marked, mode, move_cursor, overwritten, parameter_number, place, place_after, place_beside, place_by, print_at, print_one, print_two, right_of, run, step, takes_one, takes_two}
+use Rattle.screen.specs.Grids.Square.{Unknown, Whole, First, Second}
+use Rattle.screen.specs.Marks.{is_joined, is_mark_of, takes_none}
 use Rattle.screen.specs.Strips.{in_row, second_parameter}
-use Rattle.screen.proofs.Runs.{le_true, run_then}
+use Rattle.screen.proofs.Runs.{ended_length, le_true, run_then}
 use Rattle.screen.proofs.Squares.{begun_length}
 
 ended_behind : (above xs : List Square) → ended above ≡ above → ended (above ++ xs) ≡ above ++ ended xs
@@ -63,6 +65,7 @@ pub record Embeds (above rest : List Square) (small big : Grid) : Type 0 where
   pub within : column < big.width
   pub cursor : big.cursor ≡ Some (length above + column)
   pub place : (c : ℕ) → small.cursor ≡ Some c → (c < small.width) × (c ≡ column)
+  pub mark : (c : ℕ) → small.printed ≡ Some c → (c < small.width) × (big.printed ≡ Some (length above + c))
 
 -- If the one grid is known, the other one is too, and has it in its row.
 abbrev pub Simulates : List Square → List Square → Grid → Option Grid → Option Grid → Type 0
@@ -70,11 +73,6 @@ Simulates above rest big None o = ⊤
 Simulates above rest big (Some small) o = (h : Grid) × (o ≡ Some h) × Embeds above rest small h × (h.width ≡ big.width) × (h.height ≡ big.height)
 
 -- ---- a character
-
-ended_length : (xs : List Square) → length (ended xs) ≡ length xs
-ended_length [] = refl
-ended_length (x ∷ []) = refl
-ended_length (x ∷ y ∷ xs) = ap (λ n. suc n) (ended_length (y ∷ xs))
 
 overwritten_length : (xs others : List Square) (k : ℕ) → k + length others ≤ length xs → length (overwritten xs k others) ≡ length xs
 overwritten_length xs others k le =
@@ -115,9 +113,10 @@ next_alone width last c lt e =
     ] refl e
 
 put_in_row : (above rest others : List Square) (small big : Grid) (at last : ℕ) → ended above ≡ above → begun rest ≡ rest → (e : Embeds above rest small big) → at ≡ e.column
-    → last + 1 ≡ at + length others → last < small.width
-    → Embeds above rest (record small { cells = overwritten small.cells at others; cursor = right_of small.width last }) (record big { cells = overwritten big.cells (length above + at) others; cursor = right_of big.width (length above + last) })
-put_in_row above rest others small big at last left right e is ends lt =
+    → last + 1 ≡ at + length others → last < small.width → at < small.width
+    → Embeds above rest (record small { cells = overwritten small.cells at others; cursor = right_of small.width last; printed = Some at })
+    (record big { cells = overwritten big.cells (length above + at) others; cursor = right_of big.width (length above + last); printed = Some (length above + at) })
+put_in_row above rest others small big at last left right e is ends lt room =
     let fits : at + length others ≤ length small.cells = omega (arith, e.long, ends, lt) in
     let narrow : last + 1 < big.width = omega (arith, lt, e.narrower) in
     let place : length above + last ≡ e.rows.0 * big.width + last = ap (λ n. n + last) e.rows.1 in
@@ -133,6 +132,7 @@ put_in_row above rest others small big at last left right e is ends lt =
       within = narrow;
       cursor = next_in e.rows.0 big.width (length above + last) last place narrow ∙ ap Some (omega arith);
       place = λ c y. next_alone small.width last c lt y;
+      mark = λ c y. let same : at ≡ c = cc in (subst (λ n. n < small.width) same room, ap (λ n. Some (length above + n)) same);
     }
 
 printed_in_row : (above rest : List Square) (c : ℕ) (small big : Grid) (at : ℕ) → ended above ≡ above → begun rest ≡ rest → (e : Embeds above rest small big) → at < small.width → at ≡ e.column
@@ -158,24 +158,24 @@ printed_in_row above rest c small big at left right e lt is =
   where
     one : Embeds above rest (print_one at c small) (print_one (length above + at) c big)
     one =
-        subst (λ s. Embeds above rest (print_one at c small) (record big { cells = overwritten big.cells (length above + at) (Whole c s ∷ []); cursor = right_of big.width (length above + at) })) (sym e.style)
-        (put_in_row above rest (Whole c small.style ∷ []) small big at at left right e is (omega arith) lt)
+        subst (λ s. Embeds above rest (print_one at c small) (record big { cells = overwritten big.cells (length above + at) (Whole (c ∷ []) s ∷ []); cursor = right_of big.width (length above + at); printed = Some (length above + at) })) (sym e.style)
+        (put_in_row above rest (Whole (c ∷ []) small.style ∷ []) small big at at left right e is (omega arith) lt lt)
 
     two : at + 1 < small.width → Embeds above rest (print_two at c small) (print_two (length above + at) c big)
     two more =
         let place : length above + (at + 1) ≡ length above + at + 1 = omega arith in
-        subst (λ s. Embeds above rest (print_two at c small) (record big { cells = overwritten big.cells (length above + at) (First c s ∷ Second ∷ []); cursor = right_of big.width (length above + at + 1) })) (sym e.style)
-        (subst (λ n. Embeds above rest (print_two at c small) (record big { cells = overwritten big.cells (length above + at) (First c small.style ∷ Second ∷ []); cursor = right_of big.width n })) place
-        (put_in_row above rest (First c small.style ∷ Second ∷ []) small big at (at + 1) left right e is (omega arith) more))
+        subst (λ s. Embeds above rest (print_two at c small) (record big { cells = overwritten big.cells (length above + at) (First (c ∷ []) s ∷ Second ∷ []); cursor = right_of big.width (length above + at + 1); printed = Some (length above + at) })) (sym e.style)
+        (subst (λ n. Embeds above rest (print_two at c small) (record big { cells = overwritten big.cells (length above + at) (First (c ∷ []) small.style ∷ Second ∷ []); cursor = right_of big.width n; printed = Some (length above + at) })) place
+        (put_in_row above rest (First (c ∷ []) small.style ∷ Second ∷ []) small big at (at + 1) left right e is (omega arith) more lt))
 
     inside : is_last small.width at ≡ false → is_last big.width (length above + at) ≡ false
     inside y = not_last e.rows.0 big.width (length above + at) at (ap (λ n. n + at) e.rows.1) (omega (arith, stays small.width at lt y, e.narrower))
 
-char_in_row : (above rest : List Square) (c : ℕ) (small big : Grid) → ended above ≡ above → begun rest ≡ rest → Embeds above rest small big
-    → Simulates above rest big (step (Char c) small) (run (Char c ∷ []) big)
-char_in_row above rest c small big left right e = by_place small.cursor refl
+column_printed : (above rest : List Square) (c : ℕ) (small big : Grid) → ended above ≡ above → begun rest ≡ rest → Embeds above rest small big
+    → Simulates above rest big (print_at small.cursor c small) (elim (print_at big.cursor c big) [ None ↦ None | Some h ↦ Some h ])
+column_printed above rest c small big left right e = by_place small.cursor refl
   where
-    by_place : (o : Option ℕ) → small.cursor ≡ o → Simulates above rest big (print_at o c small) (run (Char c ∷ []) big)
+    by_place : (o : Option ℕ) → small.cursor ≡ o → Simulates above rest big (print_at o c small) (elim (print_at big.cursor c big) [ None ↦ None | Some h ↦ Some h ])
     by_place None w = tt
     by_place (Some at) w =
         let known : (at < small.width) × (at ≡ e.column) = e.place at w in
@@ -183,15 +183,95 @@ char_in_row above rest c small big left right e = by_place small.cursor refl
         subst (λ o. Simulates above rest big (print_at (Some at) c small) (elim (print_at o c big) [ None ↦ None | Some h ↦ Some h ])) (sym there)
         (printed_in_row above rest c small big at left right e known.0 known.1)
 
+-- ---- a mark
+
+shown_front : (row rest : List Square) (k : ℕ) → k < length row → get_or (row ++ rest) k Unknown ≡ get_or row k Unknown
+shown_front [] rest k lt = absurd (omega (arith, lt))
+shown_front (x ∷ row) rest zero lt = refl
+shown_front (x ∷ row) rest (suc k) lt = shown_front row rest k (omega (arith, lt))
+
+marked_front : (row rest : List Square) (k c : ℕ) → k < length row → take k (row ++ rest) ++ first_marked c (drop k (row ++ rest)) ≡ (take k row ++ first_marked c (drop k row)) ++ rest
+marked_front [] rest k c lt = absurd (omega (arith, lt))
+marked_front (x ∷ row) rest zero c lt = refl
+marked_front (x ∷ row) rest (suc k) c lt = ap (λ l. x ∷ l) (marked_front row rest k c (omega (arith, lt)))
+
+-- The cell at a place of the row is the one that far behind the cells above.
+shown_within : (above row rest : List Square) (k : ℕ) → k < length row → get_or (above ++ (row ++ rest)) (length above + k) Unknown ≡ get_or row k Unknown
+shown_within [] row rest k lt = ap (λ n. get_or (row ++ rest) n Unknown) (omega arith) ∙ shown_front row rest k lt
+shown_within (y ∷ above) row rest k lt =
+    let more : suc (length above) + k ≡ suc (length above + k) = omega arith in
+    ap (λ n. get_or (y ∷ (above ++ (row ++ rest))) n Unknown) more ∙ shown_within above row rest k lt
+
+-- So is a cell that gets a mark.
+marked_within : (above row rest : List Square) (k c : ℕ) → k < length row
+    → take (length above + k) (above ++ (row ++ rest)) ++ first_marked c (drop (length above + k) (above ++ (row ++ rest))) ≡ above ++ ((take k row ++ first_marked c (drop k row)) ++ rest)
+marked_within [] row rest k c lt = ap (λ n. take n (row ++ rest) ++ first_marked c (drop n (row ++ rest))) (omega arith) ∙ marked_front row rest k c lt
+marked_within (y ∷ above) row rest k c lt =
+    let more : suc (length above) + k ≡ suc (length above + k) = omega arith in
+    ap (λ n. take n (y ∷ (above ++ (row ++ rest))) ++ first_marked c (drop n (y ∷ (above ++ (row ++ rest))))) more ∙ ap (λ l. y ∷ l) (marked_within above row rest k c lt)
+
+marked_length : (row : List Square) (k c : ℕ) → length (take k row ++ first_marked c (drop k row)) ≡ length row
+marked_length [] zero c = refl
+marked_length [] (suc k) c = refl
+marked_length (x ∷ row) zero c = refl
+marked_length (x ∷ row) (suc k) c = ap (λ n. suc n) (marked_length row k c)
+
+marked_in_row : (above rest : List Square) (c : ℕ) (small big : Grid) (at : ℕ) → Embeds above rest small big → small.printed ≡ Some at
+    → Simulates above rest big (mark_at (Some at) c small) (elim (mark_at big.printed c big) [ None ↦ None | Some h ↦ Some h ])
+marked_in_row above rest c small big at e w =
+    let known : (at < small.width) × (big.printed ≡ Some (length above + at)) = e.mark at w in
+    let lt : at < length small.cells = omega (arith, known.0, e.long) in
+    let shown : get_or big.cells (length above + at) Unknown ≡ get_or small.cells at Unknown =
+    ap (λ l. get_or l (length above + at) Unknown) e.cells ∙ shown_within above small.cells rest at lt in
+    let h : Grid = record small { cells = take at small.cells ++ first_marked c (drop at small.cells) } in
+    let b : Grid = record big { cells = take (length above + at) big.cells ++ first_marked c (drop (length above + at) big.cells) } in
+    let both : Embeds above rest h b = record {
+      cells = ap (λ l. take (length above + at) l ++ first_marked c (drop (length above + at) l)) e.cells ∙ marked_within above small.cells rest at c lt;
+      long = marked_length small.cells at c ∙ e.long;
+      one = e.one;
+      narrower = e.narrower;
+      rows = e.rows;
+      style = e.style;
+      visible = e.visible;
+      column = e.column;
+      within = e.within;
+      cursor = e.cursor;
+      place = e.place;
+      mark = e.mark;
+    } in
+    subst (λ o. Simulates above rest big (mark_at (Some at) c small) (elim (mark_at o c big) [ None ↦ None | Some h ↦ Some h ])) (sym known.1)
+    (subst (λ x. Simulates above rest big (mark_at (Some at) c small) (elim (cond (is_mark_of (last_shown x) c) (Some b) None) [ None ↦ None | Some h ↦ Some h ])) (sym shown)
+    (elim (is_mark_of (last_shown (get_or small.cells at Unknown)) c) as (λ m. Simulates above rest big (cond m (Some h) None) (elim (cond m (Some b) None) [ None ↦ None | Some h ↦ Some h ])) [
+      | true ↦ (b, refl, both, refl, refl)
+      | false ↦ tt
+    ]))
+
+mark_in_row : (above rest : List Square) (c : ℕ) (small big : Grid) → Embeds above rest small big
+    → Simulates above rest big (mark_at small.printed c small) (elim (mark_at big.printed c big) [ None ↦ None | Some h ↦ Some h ])
+mark_in_row above rest c small big e = by_place small.printed refl
+  where
+    by_place : (o : Option ℕ) → small.printed ≡ o → Simulates above rest big (mark_at o c small) (elim (mark_at big.printed c big) [ None ↦ None | Some h ↦ Some h ])
+    by_place None w = tt
+    by_place (Some at) w = marked_in_row above rest c small big at e w
+
+char_in_row : (above rest : List Square) (c : ℕ) (small big : Grid) → ended above ≡ above → begun rest ≡ rest → Embeds above rest small big
+    → Simulates above rest big (step (Char c) small) (run (Char c ∷ []) big)
+char_in_row above rest c small big left right e =
+    elim (is_joined c) as (λ j. Simulates above rest big (cond j None (cond (takes_none c) (mark_at small.printed c small) (print_at small.cursor c small)))
+    (elim (cond j None (cond (takes_none c) (mark_at big.printed c big) (print_at big.cursor c big))) [ None ↦ None | Some h ↦ Some h ])) [
+      | true ↦ tt
+      | false ↦
+          elim (takes_none c) as (λ n. Simulates above rest big (cond n (mark_at small.printed c small) (print_at small.cursor c small))
+          (elim (cond n (mark_at big.printed c big) (print_at big.cursor c big)) [ None ↦ None | Some h ↦ Some h ])) [
+            | true ↦ mark_in_row above rest c small big e
+            | false ↦ column_printed above rest c small big left right e
+          ]
+    ]
+
 -- ---- a move
 
 le_fact : (m n : ℕ) → nat_le m n ≡ true → m ≤ n
 le_fact m n h = grind (arith, nat_tests)
-
-both : (a b : Bool) → (a && b) ≡ true → (a ≡ true) × (b ≡ true)
-both true true e = (refl, refl)
-both true false e = cc
-both false b e = cc
 
 pub row_start : (above : List Square) (n width column : ℕ) → length above ≡ n * width → column < width → length above + column - (length above + column) % width ≡ length above
 row_start above n width column rows lt =
@@ -213,6 +293,7 @@ cursor_in_row above rest small big at column e lt place = record {
   within = lt;
   cursor = refl;
   place = place;
+  mark = e.mark;
 }
 
 placed_in_row : (above rest : List Square) (row column : Option ℕ) (small big : Grid) → Embeds above rest small big
@@ -225,9 +306,9 @@ placed_in_row above rest (Some row) (Some column) small big e =
     → Simulates above rest big (move_cursor (cond b (Some ((row - 1) * small.width + (column - 1))) None) small) (elim (move_cursor (place_beside big.cursor (Some column) big) big) [ None ↦ None | Some h ↦ Some h ])) [
       | true ↦ λ y.
           let tests : ((nat_le 1 row && nat_le row small.height) ≡ true) × ((nat_le 1 column && nat_le column small.width) ≡ true) =
-          both (nat_le 1 row && nat_le row small.height) (nat_le 1 column && nat_le column small.width) y in
-          let rows : (nat_le 1 row ≡ true) × (nat_le row small.height ≡ true) = both (nat_le 1 row) (nat_le row small.height) tests.0 in
-          let columns : (nat_le 1 column ≡ true) × (nat_le column small.width ≡ true) = both (nat_le 1 column) (nat_le column small.width) tests.1 in
+          and_parts (nat_le 1 row && nat_le row small.height) (nat_le 1 column && nat_le column small.width) y in
+          let rows : (nat_le 1 row ≡ true) × (nat_le row small.height ≡ true) = and_parts (nat_le 1 row) (nat_le row small.height) tests.0 in
+          let columns : (nat_le 1 column ≡ true) × (nat_le column small.width ≡ true) = and_parts (nat_le 1 column) (nat_le column small.width) tests.1 in
           let low : row ≤ small.height = le_fact row small.height rows.1 in
           let first : row - 1 ≡ 0 = omega (arith, e.one, low) in
           let none : (row - 1) * small.width ≡ 0 = ap (λ k. k * small.width) first ∙ (omega arith) in
@@ -270,6 +351,7 @@ restyled above rest small big s t e same = record {
   within = e.within;
   cursor = e.cursor;
   place = e.place;
+  mark = e.mark;
 }
 
 seen : (above rest : List Square) (small big : Grid) (on : Bool) → Embeds above rest small big → Embeds above rest (record small { visible = on }) (record big { visible = on })
@@ -285,6 +367,7 @@ seen above rest small big on e = record {
   within = e.within;
   cursor = e.cursor;
   place = e.place;
+  mark = e.mark;
 }
 
 mode_in_row : (above rest : List Square) (text : List ℕ) (on : Bool) (small big : Grid) → Embeds above rest small big
@@ -308,17 +391,42 @@ IsFollowing (Char c) = ⊤
 IsFollowing (Csi text [] final) = (final ≡ 0x48) ⊎ ((final ≡ 0x6D) ⊎ ((final ≡ 0x68) ⊎ (final ≡ 0x6C)))
 IsFollowing t = ⊥
 
+-- After a control function no mark goes to the character before it.
+ended_marks : (above rest : List Square) (small big : Grid) → Embeds above rest small big → Embeds above rest (record small { printed = None }) (record big { printed = None })
+ended_marks above rest small big e = record {
+  cells = e.cells;
+  long = e.long;
+  one = e.one;
+  narrower = e.narrower;
+  rows = e.rows;
+  style = e.style;
+  visible = e.visible;
+  column = e.column;
+  within = e.within;
+  cursor = e.cursor;
+  place = e.place;
+  mark = λ c y. cc;
+}
+
 token_in_row : (above rest : List Square) (t : Token) (small big : Grid) → ended above ≡ above → begun rest ≡ rest → IsFollowing t → Embeds above rest small big → Simulates above rest big (step t small) (run (in_row t) big)
 token_in_row above rest (Char c) small big left right f e = char_in_row above rest c small big left right e
 token_in_row above rest (Csi text [] final) small big left right (inl f) e =
-    subst (λ k. Simulates above rest big (step (Csi text [] k) small) (run (in_row (Csi text [] k)) big)) (sym f) (moved_in_row above rest (slice_split (λ b. b == 59) text) small big e)
-token_in_row above rest (Csi text [] final) small big left right (inr (inl f)) e =
     subst (λ k. Simulates above rest big (step (Csi text [] k) small) (run (in_row (Csi text [] k)) big)) (sym f)
-    (record big { style = sgr text big.style }, refl, restyled above rest small big (sgr text small.style) (sgr text big.style) e (ap (sgr text) e.style), refl, refl)
+    (moved_in_row above rest (slice_split (λ b. b == 59) text) (record small { printed = None }) (record big { printed = None }) (ended_marks above rest small big e))
+token_in_row above rest (Csi text [] final) small big left right (inr (inl f)) e =
+    subst (λ k. Simulates above rest big (step (Csi text [] k) small) (run (in_row (Csi text [] k)) big)) (sym f) (
+      record big { style = sgr text big.style; printed = None },
+      refl,
+      restyled above rest (record small { printed = None }) (record big { printed = None }) (sgr text small.style) (sgr text big.style) (ended_marks above rest small big e) (ap (sgr text) e.style),
+      refl,
+      refl,
+    )
 token_in_row above rest (Csi text [] final) small big left right (inr (inr (inl f))) e =
-    subst (λ k. Simulates above rest big (step (Csi text [] k) small) (run (in_row (Csi text [] k)) big)) (sym f) (mode_in_row above rest text true small big e)
+    subst (λ k. Simulates above rest big (step (Csi text [] k) small) (run (in_row (Csi text [] k)) big)) (sym f)
+    (mode_in_row above rest text true (record small { printed = None }) (record big { printed = None }) (ended_marks above rest small big e))
 token_in_row above rest (Csi text [] final) small big left right (inr (inr (inr f))) e =
-    subst (λ k. Simulates above rest big (step (Csi text [] k) small) (run (in_row (Csi text [] k)) big)) (sym f) (mode_in_row above rest text false small big e)
+    subst (λ k. Simulates above rest big (step (Csi text [] k) small) (run (in_row (Csi text [] k)) big)) (sym f)
+    (mode_in_row above rest text false (record small { printed = None }) (record big { printed = None }) (ended_marks above rest small big e))
 token_in_row above rest (Csi text (i ∷ more) final) small big left right f e = absurd f
 token_in_row above rest (Osc text end) small big left right f e = absurd f
 token_in_row above rest (Private b) small big left right f e = absurd f

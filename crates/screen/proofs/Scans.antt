@@ -11,8 +11,8 @@ use Rattle.screen.specs.declared.settings.Setting.{Setting}
 use Rattle.screen.specs.declared.settings.Setting.TheVariants as setting
 use Rattle.screen.specs.declared.strokes.Stroke.{Stroke}
 use Rattle.screen.specs.declared.strokes.Stroke.TheVariants as stroke
-use Rattle.screen.specs.Cells.{ArePaired, Cell, IsPrinted, IsPlaced, blank, is_covered, is_wide, last_place, look, cell_look}
-use Rattle.screen.specs.Drawings.{DifferAt, printed_count}
+use Rattle.screen.specs.Cells.{ArePaired, Cell, FitsCell, IsPlaced, blank, is_covered, is_wide, last_place, look, cell_look, shown_text}
+use Rattle.screen.specs.Drawings.{DifferAt, characters_of, printed_count}
 use Rattle.screen.specs.Updates.{HasToBePrinted}
 use Rattle.screen.specs.Grids.{Grid, Square, begun, blank_square, is_last, overwritten, right_of, run}
 use Rattle.screen.specs.Grids.Square.{Whole}
@@ -28,7 +28,7 @@ use Rattle.screen.proofs.Squares.{At, at_place, blank_seen, grown, opened, paire
 erased_cells : (colors : ColorOutput) (xs : List Square) → map (λ c. blank_square) xs ≡ map (cell_look colors) (replicate (length xs) blank)
 erased_cells colors [] = refl
 erased_cells colors (x ∷ xs) =
-    let square : blank_square ≡ cell_look colors blank = ap (λ s. Whole 32 s) (sym (looks_plain colors)) ∙ sym (blank_seen colors) in
+    let square : blank_square ≡ cell_look colors blank = ap (λ s. Whole (32 ∷ []) s) (sym (looks_plain colors)) ∙ sym (blank_seen colors) in
     ap (λ l. blank_square ∷ l) (erased_cells colors xs) ∙ ap (λ q. q ∷ map (cell_look colors) (replicate (length xs) blank)) square
 
 pub within_length : (known : Bool) (width height : ℕ) (before : List Cell) → IsSized known width height before → length before ≡ width * height
@@ -38,10 +38,10 @@ within_length false width height before w = ap length w ∙ length-replicate (wi
 pub starts : (known : Bool) (width height : ℕ) (before after : List Cell) → IsSized known width height before
     → ArePaired false before → ArePaired false after → ReachesPlace known width height before after 0 None None (first_strokes known)
 starts true width height before after w b a =
-    (λ colors g s. (g, refl, record { size = s.0; cells = s.1 ∙ sym (rest_same colors false after before a b); place = λ n y. cc; set = λ t y. cc }))
+    (λ colors g s. (record g { printed = None }, refl, record { size = s.0; cells = s.1 ∙ sym (rest_same colors false after before a b); place = λ n y. cc; set = λ t y. cc }))
 starts false width height before after w b a =
     (λ colors g s.
-    let g1 : Grid = record g { style = plain } in
+    let g1 : Grid = record g { style = plain; printed = None } in
     let h : Grid = record g1 { cells = map (λ c. blank_square) g.cells } in
     let ran : run (tokens_of colors (first_strokes false)) g ≡ Some h =
     run_then (tokens colors (stroke.Style no_style)) (tokens_of colors (stroke.Erase ∷ [])) g g1 (plain_set colors g) in
@@ -126,18 +126,19 @@ stage_length colors before after k same le =
 pub paints : (known : Bool) (k width height : ℕ) (before after : List Cell) (cursor : Option ℕ) (style : Option ContentStyle) (strokes : List Stroke) (b c : Cell) (there : Bool) (how : Setting) (row column : ℕ)
     → k < length before → k < length after → length before ≡ width * height → length after ≡ width * height → get_or before k b ≡ b → get_or after k c ≡ c
     → row < height → column < width → height < 2 ^ 32 → width < 2 ^ 32 → row * width + column ≡ k
-    → Sets style c.style how → HasByteColors how → IsPrinted c.symbol → is_covered c ≡ false → (is_wide c ≡ true → is_last width k ≡ false) → ArePaired false before → ArePaired false after
+    → Sets style c.style how → HasByteColors how → FitsCell (shown_text c) → is_covered c ≡ false → (is_wide c ≡ true → is_last width k ≡ false) → ArePaired false before → ArePaired false after
     → (there ≡ true → cursor ≡ Some k)
     → ReachesPlace known width height before after k cursor style strokes
     → ReachesPlace known width height before after (k + 1) (right_of width (last_place k c)) (Some c.style) (strokes ++ cell_strokes there how column row c)
-paints known k width height before after cursor style strokes b c there how row column lb la bl al eb ec r q hs ws at is fits takes cv room pb pa is_there reached colors g s =
+paints known k width height before after cursor style strokes b c there how row column lb la bl al eb ec r q hs ws at is fits held cv room pb pa is_there reached colors g s =
     let (h, ran, scanned) = reached colors g s in
     let (wide, high, all) = scanned.size in
     let place : row * h.width + column ≡ k = ap (λ w. row * w + column) wide ∙ at in
+    let behind : row * h.width + column ≤ length h.cells = omega (arith, place, all, lb, bl) in
     let stays : is_wide c ≡ true → is_last h.width (row * h.width + column) ≡ false = λ w. ap (λ n. is_last h.width n) place ∙ ap (λ n. is_last n k) wide ∙ room w in
     let runs : run (tokens_of colors (strokes ++ cell_strokes there how column row c)) g ≡ Some (painted colors h k c) =
     runs_then colors strokes (cell_strokes there how column row c) g h ran
-    ∙ cell_painted colors there style how row column c h (subst (λ n. row < n) (sym high) r) (subst (λ n. column < n) (sym wide) q) (omega (arith, r, hs)) (omega (arith, q, ws)) is fits takes.1 stays
+    ∙ cell_painted colors there style how row column c h (subst (λ n. row < n) (sym high) r) (subst (λ n. column < n) (sym wide) q) (omega (arith, r, hs)) (omega (arith, q, ws)) behind is fits held stays
     (λ y. scanned.place k (is_there y) ∙ ap Some (sym place)) scanned.set
     ∙ ap (λ n. Some (painted colors h n c)) place in
     let cells : overwritten h.cells k (squares colors c) ≡ stage colors before after (k + 1) =
@@ -154,9 +155,9 @@ paints known k width height before after cursor style strokes b c there how row 
       },
     )
 
-pub placed_printed : (c : Cell) → is_covered c ≡ false → IsPlaced c → IsPrinted c.symbol
-placed_printed c e (inl f) = let no : true ≡ false = sym f ∙ e in cc
-placed_printed c e (inr p) = p.1
+pub placed_held : (c : Cell) → is_covered c ≡ false → IsPlaced c → FitsCell (shown_text c)
+placed_held c e (inl f) = let no : true ≡ false = sym f ∙ e in cc
+placed_held c e (inr p) = p.1
 
 pub keeps_counted : (before after : List Cell) (k : ℕ) (strokes : List Stroke) (b c : Cell) → k < length before → k < length after → get_or before k b ≡ b → get_or after k c ≡ c → (HasToBePrinted b c → ⊥)
     → Counts before after k strokes → Counts before after (k + 1) strokes
@@ -165,11 +166,11 @@ keeps_counted before after k strokes b c lb la eb ec e counts colors = same_at b
 pub paints_counted : (before after : List Cell) (k : ℕ) (strokes : List Stroke) (b c : Cell) (there : Bool) (how : Setting) (row column : ℕ) → k < length before → k < length after → get_or before k b ≡ b → get_or after k c ≡ c → HasToBePrinted b c
     → Counts before after k strokes → Counts before after (k + 1) (strokes ++ cell_strokes there how column row c)
 paints_counted before after k strokes b c there how row column lb la eb ec e counts colors =
-    let one : printed_count (tokens_of colors (strokes ++ cell_strokes there how column row c)) ≡ printed_count (tokens_of colors strokes) + 1 =
+    let one : printed_count (tokens_of colors (strokes ++ cell_strokes there how column row c)) ≡ printed_count (tokens_of colors strokes) + characters_of c =
     strokes_printed colors strokes (cell_strokes there how column row c) ∙ ap (λ n. printed_count (tokens_of colors strokes) + n) (cell_prints colors there how column row c) in
     subst (DifferAt (take (k + 1) before) (take (k + 1) after)) (sym one) (other_at before after k (printed_count (tokens_of colors strokes)) b c lb la eb ec e (counts colors))
 
-cell_fitting : (there : Bool) (how : Setting) (column row : ℕ) (c : Cell) → column < 2 ^ 32 → row < 2 ^ 32 → IsPrinted c.symbol → AllByRecursion IsFitting (cell_strokes there how column row c)
+cell_fitting : (there : Bool) (how : Setting) (column row : ℕ) (c : Cell) → column < 2 ^ 32 → row < 2 ^ 32 → FitsCell (shown_text c) → AllByRecursion IsFitting (cell_strokes there how column row c)
 cell_fitting true setting.Kept column row c k r f = (f, tt)
 cell_fitting true (setting.Colors change) column row c k r f = (tt, (f, tt))
 cell_fitting true (setting.Whole s) column row c k r f = (tt, (f, tt))
@@ -185,7 +186,7 @@ fitting_more known strokes more a b = (
   all_joined IsFitting a.0 more a.2 b,
 )
 
-pub paints_fitting : (known : Bool) (strokes : List Stroke) (there : Bool) (how : Setting) (column row : ℕ) (c : Cell) → column < 2 ^ 32 → row < 2 ^ 32 → IsPrinted c.symbol
+pub paints_fitting : (known : Bool) (strokes : List Stroke) (there : Bool) (how : Setting) (column row : ℕ) (c : Cell) → column < 2 ^ 32 → row < 2 ^ 32 → FitsCell (shown_text c)
     → AreFitting known strokes → AreFitting known (strokes ++ cell_strokes there how column row c)
 paints_fitting known strokes there how column row c k r f all = fitting_more known strokes (cell_strokes there how column row c) all (cell_fitting there how column row c k r f)
 

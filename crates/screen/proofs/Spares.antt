@@ -5,7 +5,7 @@ use Rattle.std.proofs.lemmas.List.{length-append, length-map, length-take-le, ta
 use Rattle.std.proofs.lemmas.List.Sums.{count_by-le-length, length-filter}
 use Rattle.std.proofs.lemmas.List.Concat.{flat_map-append}
 use Rattle.crossterm_command.specs.Tokens.{Token}
-use Rattle.crossterm_command.specs.Tokens.Token.{Csi}
+use Rattle.crossterm_command.specs.Tokens.Token.{Char, Csi}
 use Rattle.crossterm_command.specs.declared.color_output.ColorOutput.{ColorOutput}
 use Rattle.crossterm_command.specs.declared.color_output.ColorOutput.TheVariants.{Enabled, Disabled}
 use Rattle.crossterm_command.proofs.Readings.{all_joined}
@@ -62,6 +62,11 @@ pub color_all : (P : Token → Type 0) → ((text : List ℕ) → P (Csi text []
 color_all P p Enabled change = tokens_all P p Enabled (style_acts change) (style_sets change)
 color_all P p Disabled change = tt
 
+-- Characters, if each is so.
+pub chars_all : (P : Token → Type 0) → ((c : ℕ) → P (Char c)) → (text : List ℕ) → AllByRecursion P (map Char text)
+chars_all P p [] = tt
+chars_all P p (c ∷ text) = (p c, chars_all P p text)
+
 -- ---- strokes for tokens
 
 of_strokes : (kind : Token → Bool) (sort : Stroke → Bool) → ((colors : ColorOutput) (s : Stroke) → how_many kind (tokens colors s) ≡ how_many sort (s ∷ []))
@@ -78,7 +83,7 @@ moves_each colors stroke.Erase = refl
 moves_each colors (stroke.Move column row) = refl
 moves_each colors (stroke.Style s) = none_of is_move (tokens colors (stroke.Style s)) (style_all (λ t. is_move t ≡ false) (λ text. refl) colors s)
 moves_each colors (stroke.Colors change) = none_of is_move (color_tokens colors change) (color_all (λ t. is_move t ≡ false) (λ text. refl) colors change)
-moves_each colors (stroke.Print c) = refl
+moves_each colors (stroke.Print c marks) = none_of is_move (tokens colors (stroke.Print c marks)) (refl, chars_all (λ t. is_move t ≡ false) (λ m. refl) marks)
 moves_each colors stroke.Show = refl
 moves_each colors stroke.Hide = refl
 
@@ -89,7 +94,7 @@ others_each colors stroke.Erase = refl
 others_each colors (stroke.Move column row) = refl
 others_each colors (stroke.Style s) = none_of is_other (tokens colors (stroke.Style s)) (style_all (λ t. is_other t ≡ false) (λ text. refl) colors s)
 others_each colors (stroke.Colors change) = none_of is_other (color_tokens colors change) (color_all (λ t. is_other t ≡ false) (λ text. refl) colors change)
-others_each colors (stroke.Print c) = refl
+others_each colors (stroke.Print c marks) = none_of is_other (tokens colors (stroke.Print c marks)) (refl, chars_all (λ t. is_other t ≡ false) (λ m. refl) marks)
 others_each colors stroke.Show = refl
 others_each colors stroke.Hide = refl
 
@@ -120,6 +125,11 @@ one_change (t ∷ u ∷ ts) a =
       | false ↦ one_change (u ∷ ts) a.1
     ])
 
+-- Characters set no style.
+no_changes : (text : List ℕ) → changes (map Char text) ≡ 0
+no_changes [] = refl
+no_changes (c ∷ text) = no_changes text
+
 changes_each : (colors : ColorOutput) (s : Stroke) → changes (tokens colors s) ≤ how_many is_style_stroke (s ∷ [])
 changes_each colors stroke.Begin = omega arith
 changes_each colors stroke.End = omega arith
@@ -127,7 +137,7 @@ changes_each colors stroke.Erase = omega arith
 changes_each colors (stroke.Move column row) = omega arith
 changes_each colors (stroke.Style s) = one_change (tokens colors (stroke.Style s)) (style_all (λ t. is_style t ≡ true) (λ text. refl) colors s)
 changes_each colors (stroke.Colors change) = one_change (color_tokens colors change) (color_all (λ t. is_style t ≡ true) (λ text. refl) colors change)
-changes_each colors (stroke.Print c) = omega arith
+changes_each colors (stroke.Print c marks) = omega (arith, no_changes marks)
 changes_each colors stroke.Show = omega arith
 changes_each colors stroke.Hide = omega arith
 
@@ -193,7 +203,7 @@ style_each colors stroke.Erase = omega arith
 style_each colors (stroke.Move column row) = omega arith
 style_each colors (stroke.Style s) = omega (arith, all_of is_style (act_tokens colors (style_acts s)), tokens_length colors (style_acts s) (style_sets s), few_acts s)
 style_each colors (stroke.Colors change) = omega (arith, all_of is_style (color_tokens colors change), color_length colors change)
-style_each colors (stroke.Print c) = omega arith
+style_each colors (stroke.Print c marks) = omega (arith, none_of is_style (tokens colors (stroke.Print c marks)) (refl, chars_all (λ t. is_style t ≡ false) (λ m. refl) marks))
 style_each colors stroke.Show = omega arith
 style_each colors stroke.Hide = omega arith
 
@@ -223,7 +233,7 @@ inner_each colors stroke.Erase i = (between _ refl, tt)
 inner_each colors (stroke.Move column row) i = (between _ refl, tt)
 inner_each colors (stroke.Style s) i = style_all IsBetween (λ text. between _ refl) colors s
 inner_each colors (stroke.Colors change) i = color_all IsBetween (λ text. between _ refl) colors change
-inner_each colors (stroke.Print c) i = (between _ refl, tt)
+inner_each colors (stroke.Print c marks) i = (between _ refl, chars_all IsBetween (λ m. between _ refl) marks)
 inner_each colors stroke.Show i = (between _ refl, tt)
 inner_each colors stroke.Hide i = (between _ refl, tt)
 

@@ -7,7 +7,7 @@ use Rattle.unicode_width.specs.Width.{char_width}
 use Rattle.crossterm_command.specs.declared.color_output.ColorOutput.{ColorOutput}
 use Rattle.crossterm_style.specs.Looks.{Style}
 use Rattle.crossterm_style.specs.Styles.{no_style}
-use Rattle.screen.specs.Cells.{ArePaired, Cell, blank, is_covered, is_wide, look, cell_look}
+use Rattle.screen.specs.Cells.{ArePaired, Cell, blank, is_covered, is_wide, look, cell_look, shown_text}
 use Rattle.screen.specs.Grids.{Square, begun, ended, overwritten, takes_two, without_first, without_second}
 use Rattle.screen.specs.Grids.Square.{Whole, First, Second}
 use Rattle.screen.specs.inside.Scans.{begins_covered, rest_from}
@@ -23,40 +23,40 @@ covered_is_narrow c e =
     let z : c.symbol ≡ 0 = grind (arith, nat_tests) in
     ap takes_two z ∙ zero_takes_no_two
 
-kept_end : (covered wide : Bool) (c : ℕ) (s : Style) → wide ≡ false
+kept_end : (covered wide : Bool) (c : List ℕ) (s : Style) → wide ≡ false
     → without_second (cond covered Second (cond wide (First c s) (Whole c s))) ≡ cond covered Second (cond wide (First c s) (Whole c s))
 kept_end true wide c s e = refl
 kept_end false true c s e = cc
 kept_end false false c s e = refl
 
-kept_start : (covered wide : Bool) (c : ℕ) (s : Style) → covered ≡ false
+kept_start : (covered wide : Bool) (c : List ℕ) (s : Style) → covered ≡ false
     → without_first (cond covered Second (cond wide (First c s) (Whole c s))) ≡ cond covered Second (cond wide (First c s) (Whole c s))
 kept_start true wide c s e = cc
 kept_start false true c s e = refl
 kept_start false false c s e = refl
 
 not_first : (colors : ColorOutput) (c : Cell) → is_wide c ≡ false → without_second (cell_look colors c) ≡ cell_look colors c
-not_first colors c e = kept_end (is_covered c) (is_wide c) c.symbol (look colors c.style) e
+not_first colors c e = kept_end (is_covered c) (is_wide c) (shown_text c) (look colors c.style) e
 
 not_second : (colors : ColorOutput) (c : Cell) → is_covered c ≡ false → without_first (cell_look colors c) ≡ cell_look colors c
-not_second colors c e = kept_start (is_covered c) (is_wide c) c.symbol (look colors c.style) e
+not_second colors c e = kept_start (is_covered c) (is_wide c) (shown_text c) (look colors c.style) e
 
 pub seen_covered : (colors : ColorOutput) (c : Cell) → is_covered c ≡ true → cell_look colors c ≡ Second
-seen_covered colors c e = ap (λ b. cond b Second (cond (is_wide c) (First c.symbol (look colors c.style)) (Whole c.symbol (look colors c.style)))) e
+seen_covered colors c e = ap (λ b. cond b Second (cond (is_wide c) (First (shown_text c) (look colors c.style)) (Whole (shown_text c) (look colors c.style)))) e
 
 -- The cells that a character takes.
 abbrev pub squares : ColorOutput → Cell → List Square
-squares colors c = cond (is_wide c) (First c.symbol (look colors c.style) ∷ Second ∷ []) (Whole c.symbol (look colors c.style) ∷ [])
+squares colors c = cond (is_wide c) (First (shown_text c) (look colors c.style) ∷ Second ∷ []) (Whole (shown_text c) (look colors c.style) ∷ [])
 
-pub seen_whole : (colors : ColorOutput) (c : Cell) → is_covered c ≡ false → is_wide c ≡ false → cell_look colors c ≡ Whole c.symbol (look colors c.style)
+pub seen_whole : (colors : ColorOutput) (c : Cell) → is_covered c ≡ false → is_wide c ≡ false → cell_look colors c ≡ Whole (shown_text c) (look colors c.style)
 seen_whole colors c e w =
-    ap (λ b. cond b Second (cond (is_wide c) (First c.symbol (look colors c.style)) (Whole c.symbol (look colors c.style)))) e
-    ∙ ap (λ b. cond b (First c.symbol (look colors c.style)) (Whole c.symbol (look colors c.style))) w
+    ap (λ b. cond b Second (cond (is_wide c) (First (shown_text c) (look colors c.style)) (Whole (shown_text c) (look colors c.style)))) e
+    ∙ ap (λ b. cond b (First (shown_text c) (look colors c.style)) (Whole (shown_text c) (look colors c.style))) w
 
-pub seen_first : (colors : ColorOutput) (c : Cell) → is_covered c ≡ false → is_wide c ≡ true → cell_look colors c ≡ First c.symbol (look colors c.style)
+pub seen_first : (colors : ColorOutput) (c : Cell) → is_covered c ≡ false → is_wide c ≡ true → cell_look colors c ≡ First (shown_text c) (look colors c.style)
 seen_first colors c e w =
-    ap (λ b. cond b Second (cond (is_wide c) (First c.symbol (look colors c.style)) (Whole c.symbol (look colors c.style)))) e
-    ∙ ap (λ b. cond b (First c.symbol (look colors c.style)) (Whole c.symbol (look colors c.style))) w
+    ap (λ b. cond b Second (cond (is_wide c) (First (shown_text c) (look colors c.style)) (Whole (shown_text c) (look colors c.style)))) e
+    ∙ ap (λ b. cond b (First (shown_text c) (look colors c.style)) (Whole (shown_text c) (look colors c.style))) w
 
 -- ---- pairs
 
@@ -125,13 +125,13 @@ overwritten_behind cells front back others k e long whole =
 painted_by : (colors : ColorOutput) (first : Bool) (c : Cell) (front old : List Square) → is_covered c ≡ false → is_wide c ≡ first
     → front ++ (squares colors c ++ begun (drop (length (squares colors c)) (begun old))) ≡ front ++ (cell_look colors c ∷ behind first (drop 1 old))
 painted_by colors false c front old e w =
-    let one = Whole c.symbol (look colors c.style) in
-    ap (λ b. front ++ (cond b (First c.symbol (look colors c.style) ∷ Second ∷ []) (one ∷ []) ++ begun (drop (length (cond b (First c.symbol (look colors c.style) ∷ Second ∷ []) (one ∷ []))) (begun old)))) w
+    let one = Whole (shown_text c) (look colors c.style) in
+    ap (λ b. front ++ (cond b (First (shown_text c) (look colors c.style) ∷ Second ∷ []) (one ∷ []) ++ begun (drop (length (cond b (First (shown_text c) (look colors c.style) ∷ Second ∷ []) (one ∷ []))) (begun old)))) w
     ∙ ap (λ l. front ++ (one ∷ begun l)) (begun_drop old)
     ∙ ap (λ x. front ++ (x ∷ begun (drop 1 old))) (sym (seen_whole colors c e w))
 painted_by colors true c front old e w =
-    let two = First c.symbol (look colors c.style) in
-    ap (λ b. front ++ (cond b (two ∷ Second ∷ []) (Whole c.symbol (look colors c.style) ∷ []) ++ begun (drop (length (cond b (two ∷ Second ∷ []) (Whole c.symbol (look colors c.style) ∷ []))) (begun old)))) w
+    let two = First (shown_text c) (look colors c.style) in
+    ap (λ b. front ++ (cond b (two ∷ Second ∷ []) (Whole (shown_text c) (look colors c.style) ∷ []) ++ begun (drop (length (cond b (two ∷ Second ∷ []) (Whole (shown_text c) (look colors c.style) ∷ []))) (begun old)))) w
     ∙ ap (λ l. front ++ (two ∷ Second ∷ begun l)) (begun_drop_two old)
     ∙ ap (λ x. front ++ (x ∷ Second ∷ begun (drop 1 (drop 1 old)))) (sym (seen_first colors c e w))
 
@@ -197,7 +197,7 @@ pub space_is_narrow : takes_two 32 ≡ false
 unfolding char_width
 space_is_narrow = refl
 
-pub blank_seen : (colors : ColorOutput) → cell_look colors blank ≡ Whole 32 (look colors no_style)
+pub blank_seen : (colors : ColorOutput) → cell_look colors blank ≡ Whole (32 ∷ []) (look colors no_style)
 blank_seen colors = seen_whole colors blank refl space_is_narrow
 
 pub blanks_paired : (n : ℕ) → ArePaired false (replicate n blank)

@@ -1,10 +1,12 @@
 -- Strokes that are written read as their tokens.
-use Rattle.std.proofs.Common.{◌≡◌, ℕ, ◌+◌, Bool, true, false, List, [], ◌∷◌, ◌++◌, ◌⊎◌, inl, inr, refl, sym, ap, ◌∙◌, subst, codes}
+use Rattle.std.proofs.Common.{◌≡◌, ℕ, ◌+◌, Bool, true, false, List, [], ◌∷◌, ◌++◌, ◌⊎◌, inl, inr, refl, sym, ap, ◌∙◌, subst, arith, codes, map}
+use Rattle.std.specs.Prelude.{encode_utf8, encode_utf8_all}
 use Rattle.std.specs.Bool.{⊤}
 use Rattle.std.specs.Fmt.{decimal}
 use Rattle.std.specs.List.{AllByRecursion}
 use Rattle.unicode_width.specs.Width.{char_width}
 use Rattle.crossterm_command.specs.Tokens.{IsParameter, IsPlain, IsWellFormed, ReadsAs, text_of}
+use Rattle.crossterm_command.specs.Tokens.Token.{Char}
 use Rattle.crossterm_command.specs.declared.color_output.ColorOutput.{ColorOutput}
 use Rattle.crossterm_command.specs.declared.color_output.ColorOutput.TheVariants.{Enabled, Disabled}
 use Rattle.crossterm_command.proofs.Readings.{all_joined, control_formed, decimal_is_parameters, known_formed, parameters_at}
@@ -18,8 +20,15 @@ use Rattle.crossterm.proofs.StyleReadings.{Formed, attribute_formed, style_plain
 use Rattle.screen.specs.declared.strokes.Stroke.{Stroke}
 use Rattle.screen.specs.declared.strokes.Stroke.TheVariants as stroke
 use Rattle.screen.specs.Grids.{takes_one, takes_two}
-use Rattle.screen.specs.Cells.{IsPrinted}
+use Rattle.screen.specs.Cells.{FitsCell}
+use Rattle.screen.specs.Marks.{AreMarks, is_mark_of}
+use Rattle.screen.proofs.Marking.{mark_is_high}
 use Rattle.screen.specs.inside.Strokes.{AreFitting, IsFitting, color_tokens, first_strokes, tokens, written, written_of}
+
+-- The text of characters, one after another.
+pub characters_text : (text : List ℕ) → encode_utf8_all text ≡ text_of (map Char text)
+characters_text [] = refl
+characters_text (c ∷ text) = ap (λ l. encode_utf8 c ++ l) (characters_text text)
 
 -- A character that is printed isn't ESC.
 escape_takes_no_cell : takes_one 0x1B ≡ false
@@ -29,6 +38,14 @@ escape_takes_no_cell = refl
 escape_takes_no_two : takes_two 0x1B ≡ false
 unfolding char_width
 escape_takes_no_two = refl
+
+-- Nor is a mark.
+mark_plain : (last c : ℕ) → is_mark_of last c ≡ true → IsPlain c
+mark_plain last c m e = omega (arith, mark_is_high last c m, e)
+
+marks_formed : (last : ℕ) (marks : List ℕ) → AreMarks last marks → Formed (map Char marks)
+marks_formed last [] a = tt
+marks_formed last (m ∷ marks) a = ((a.0, mark_plain last m a.1), marks_formed m marks a.2)
 
 printed_plain : (c : ℕ) → (takes_one c ≡ true) ⊎ (takes_two c ≡ true) → IsPlain c
 printed_plain c (inl f) e = let no : true ≡ false = sym f ∙ ap takes_one e ∙ escape_takes_no_cell in cc
@@ -44,9 +61,9 @@ colors_formed : (colors : ColorOutput) (change : ContentStyle) → Formed (color
 colors_formed Enabled change = tokens_formed Enabled (style_acts change) (style_plain change)
 colors_formed Disabled change = tt
 
--- A stroke whose character, if it prints one, takes one cell or two.
+-- A stroke that prints what a cell can hold, if it prints anything.
 abbrev IsRead : Stroke → Type 0
-IsRead (stroke.Print c) = IsPrinted c
+IsRead (stroke.Print c marks) = FitsCell (c ∷ marks)
 IsRead s = ⊤
 
 stroke_formed : (colors : ColorOutput) (s : Stroke) → IsRead s → Formed (tokens colors s)
@@ -57,7 +74,7 @@ stroke_formed colors (stroke.Move column row) f = control_formed _ "H" (two_form
 stroke_formed colors (stroke.Style s) f =
     all_joined IsWellFormed (attribute_functions Reset) (act_tokens colors (style_acts s)) (attribute_formed Reset) (tokens_formed colors (style_acts s) (style_plain s))
 stroke_formed colors (stroke.Colors change) f = colors_formed colors change
-stroke_formed colors (stroke.Print c) f = ((f.0, printed_plain c f.1), tt)
+stroke_formed colors (stroke.Print c marks) f = ((f.0.0, printed_plain c f.0.2), marks_formed c marks f.1)
 stroke_formed colors stroke.Show f = known_formed (tokens colors stroke.Show) refl
 stroke_formed colors stroke.Hide f = known_formed (tokens colors stroke.Hide) refl
 
@@ -69,7 +86,7 @@ row_formed colors stroke.Erase f =
 row_formed colors (stroke.Move column row) f = control_formed (decimal (column + 1)) "G" (decimal_is_parameters (column + 1)) refl
 row_formed colors (stroke.Style s) f = stroke_formed colors (stroke.Style s) f
 row_formed colors (stroke.Colors change) f = stroke_formed colors (stroke.Colors change) f
-row_formed colors (stroke.Print c) f = stroke_formed colors (stroke.Print c) f
+row_formed colors (stroke.Print c marks) f = stroke_formed colors (stroke.Print c marks) f
 row_formed colors stroke.Show f = stroke_formed colors stroke.Show f
 row_formed colors stroke.Hide f = stroke_formed colors stroke.Hide f
 
@@ -93,7 +110,7 @@ fitting_read stroke.Erase f = tt
 fitting_read (stroke.Move column row) f = tt
 fitting_read (stroke.Style s) f = tt
 fitting_read (stroke.Colors change) f = tt
-fitting_read (stroke.Print c) f = f
+fitting_read (stroke.Print c marks) f = f
 fitting_read stroke.Show f = tt
 fitting_read stroke.Hide f = tt
 

@@ -19,7 +19,7 @@ abbrev pub refusal_in : Picture → Rect → ℕ → Option CellFault → Option
 refusal_in p r row other = if nat_lt row r.height && nat_lt (r.y + row) p.height then other else Some Outside
 
 -- The longest prefix of a text that fits into the columns that the rectangle and the picture have in common.
-abbrev pub clipped_in : Picture → Rect → List ℕ → List ℕ
+abbrev pub clipped_in : Picture → Rect → List (List ℕ) → List (List ℕ)
 clipped_in p r text = within (common_columns p r) text
 
 -- How many of the columns `room` come before a text of `used` columns. If `Center`, it is half of the free ones,
@@ -31,9 +31,9 @@ indent Right room used = room - used
 
 -- The column of the picture in which a clipped text begins if it is aligned in the columns that the picture has of
 -- the rectangle.
-abbrev pub column_in : Picture → Rect → Alignment → List ℕ → ℕ
+abbrev pub column_in : Picture → Rect → Alignment → List (List ℕ) → ℕ
 column_in p r alignment text = r.x + indent alignment (common_columns p r) (text_columns (clipped_in p r text))
 
 -- The picture with a text in a row of a rectangle, clipped to the rectangle and aligned in it.
-abbrev pub with_text_in : Picture → Rect → ℕ → Alignment → List ℕ → ContentStyle → Picture
+abbrev pub with_text_in : Picture → Rect → ℕ → Alignment → List (List ℕ) → ContentStyle → Picture
 with_text_in p r row alignment text s = with_text p (column_in p r alignment text) (r.y + row) (clipped_in p r text) s

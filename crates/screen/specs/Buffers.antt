@@ -1,5 +1,5 @@
 -- Pictures: the cells of a buffer.
-use Rattle.std.specs.Prelude.{ℕ, Bool, ◌+◌, ◌-◌, ◌*◌, ◌%◌, ◌&&◌, ◌==◌, nat_lt, List, Option, Some, None, if◌then◌else◌, map, replicate}
+use Rattle.std.specs.Prelude.{ℕ, Bool, ◌+◌, ◌-◌, ◌*◌, ◌%◌, ◌&&◌, ◌==◌, nat_lt, List, [], ◌∷◌, Option, Some, None, if◌then◌else◌, map, replicate}
 use Rattle.std.specs.List.{range_with_len}
 use Rattle.crossterm_style.specs.declared.content_style.ContentStyle.{ContentStyle}
 use Rattle.screen.specs.declared.faults.CellFault.{CellFault}
@@ -40,7 +40,7 @@ refusal p column row symbol = if has_place p column row then column_refusal p.wi
 
 -- The picture after the cells of a character overwrite those from a column of a row on.
 abbrev pub with_symbol : Picture → ℕ → ℕ → ℕ → ContentStyle → Picture
-with_symbol p column row symbol s = record p { cells = overwritten p.cells (row * p.width + column) (cells_with s symbol) }
+with_symbol p column row symbol s = record p { cells = overwritten p.cells (row * p.width + column) (cells_with s (symbol ∷ [])) }
 
 -- ---- one character everywhere
 
@@ -49,14 +49,14 @@ with_symbol p column row symbol s = record p { cells = overwritten p.cells (row 
 abbrev pub pair_cell : ℕ → ℕ → ContentStyle → ℕ → Cell
 pair_cell width symbol s column =
     if column % 2 == 1 then covered s else (
-    if column + 1 == width then record { symbol = 32; style = s } else (
-    record { symbol = symbol; style = s }))
+    if column + 1 == width then record { symbol = 32; marks = []; style = s } else (
+    record { symbol = symbol; marks = []; style = s }))
 
 -- The first `count` cells of rows of this width, each row filled with the character.
 abbrev pub fill_cells : ℕ → ℕ → ℕ → ContentStyle → List Cell
 fill_cells width count symbol s =
     if takes_two symbol then map (λ k. pair_cell width symbol s (k % width)) (range_with_len 0 count)
-    else replicate count (record { symbol = symbol; style = s })
+    else replicate count (record { symbol = symbol; marks = []; style = s })
 
 -- The picture with each row filled with a character.
 abbrev pub filled_with : Picture → ℕ → ContentStyle → Picture
@@ -69,13 +69,13 @@ abbrev pub print_refusal : Picture → ℕ → Option CellFault → Option CellF
 print_refusal p row other = if nat_lt row p.height then other else Some Outside
 
 -- The longest prefix of a text that fits into a row from a column on.
-abbrev pub clipped : Picture → ℕ → List ℕ → List ℕ
+abbrev pub clipped : Picture → ℕ → List (List ℕ) → List (List ℕ)
 clipped p column text = within (p.width - column) text
 
 -- The picture after the cells of a text overwrite those from a column of a row on. The text isn't clipped.
-abbrev pub with_shown : Picture → ℕ → ℕ → List ℕ → ContentStyle → Picture
+abbrev pub with_shown : Picture → ℕ → ℕ → List (List ℕ) → ContentStyle → Picture
 with_shown p column row text s = record p { cells = overwritten p.cells (row * p.width + column) (cells_of s text) }
 
 -- The picture after a text, clipped to the row, overwrites the cells from a column on.
-abbrev pub with_text : Picture → ℕ → ℕ → List ℕ → ContentStyle → Picture
+abbrev pub with_text : Picture → ℕ → ℕ → List (List ℕ) → ContentStyle → Picture
 with_text p column row text s = with_shown p column row (clipped p column text) s

@@ -58,11 +58,15 @@ printed_count [] = 0
 printed_count (Char c ∷ ts) = printed_count ts + 1
 printed_count (t ∷ ts) = printed_count ts
 
--- The lists have the same length, and a character has to be printed for exactly `n` of the cells.
+-- How many characters a cell that isn't covered is printed by: its own, and each of its marks.
+abbrev pub characters_of : Cell → ℕ
+characters_of c = length c.marks + 1
+
+-- The lists have the same length, and the cells that have to be printed have exactly `n` characters.
 abbrev pub DifferAt : List Cell → List Cell → ℕ → Type 0
 DifferAt [] [] n = n ≡ 0
 DifferAt (a ∷ before) (b ∷ after) n =
-    ((HasToBePrinted a b → ⊥) × DifferAt before after n) ⊎ (HasToBePrinted a b × (m : ℕ) × (n ≡ m + 1) × DifferAt before after m)
+    ((HasToBePrinted a b → ⊥) × DifferAt before after n) ⊎ (HasToBePrinted a b × (m : ℕ) × (n ≡ m + characters_of b) × DifferAt before after m)
 DifferAt before after n = ⊥
 
 -- Whether both write colours, or neither does.
@@ -96,7 +100,7 @@ cells_before s colors = cells_drawn s s.drawn colors
 pub record IsFrame (s : View) (colors : ColorOutput) (p : Picture) (cursor : Option (ℕ × ℕ)) (ts : List Token) : Type 0 where
   -- The tokens lead from each grid that the terminal may show to one that shows the picture.
   pub turns : TurnsInto s colors p cursor ts
-  -- The tokens print as many characters as there are cells that have to be printed.
+  -- The tokens print the characters of the cells that have to be printed, and no others.
   pub count : DifferAt (cells_before s colors) p.cells (printed_count ts)
   -- The tokens are one synchronized update.
   pub update : IsOneUpdate ts

@@ -1,21 +1,22 @@
 -- A terminal's screen as a grid of cells, and what it does at each token that it reads. If terminals differ, nothing
 -- is claimed.
-use Rattle.std.specs.Prelude.{ℕ, ◌+◌, ◌-◌, ◌*◌, ◌%◌, ◌==◌, ◌&&◌, ◌||◌, not, nat_le, Bool, true, false, List, [], ◌∷◌, ◌++◌, Option, Some, None, bytes_eq, codes, if◌then◌else◌, drop, is_none, length, map, replicate, take}
+use Rattle.std.specs.Prelude.{ℕ, ◌+◌, ◌-◌, ◌*◌, ◌%◌, ◌==◌, ◌&&◌, ◌||◌, not, nat_le, Bool, true, false, List, [], ◌∷◌, ◌++◌, Option, Some, None, bytes_eq, codes, if◌then◌else◌, drop, get_or, is_none, length, map, replicate, take}
 use Rattle.std.specs.List.{list_all, slice_split}
 use Rattle.std.specs.Str.Parse.{digits_value}
 use Rattle.unicode_width.specs.Width.{char_width}
 use Rattle.crossterm_command.specs.Tokens.{Token}
 use Rattle.crossterm_command.specs.Tokens.Token.{Char, Csi}
 use Rattle.crossterm_style.specs.Looks.{Style, is_decimal, plain, sgr}
+use Rattle.screen.specs.Marks.{is_joined, is_mark_of, is_width, takes_none}
 
 -- What a cell of the screen shows.
 pub data Square : Type 0 where
   -- What the cell shows isn't known.
   Unknown : Square
-  -- A character that takes one cell, in its style.
-  Whole : ℕ → Style → Square
-  -- The first cell of a character that takes two, in its style.
-  First : ℕ → Style → Square
+  -- A character that takes one cell, and its marks, in its style.
+  Whole : List ℕ → Style → Square
+  -- The first cell of a character that takes two, and its marks, in its style.
+  First : List ℕ → Style → Square
   -- The second cell of such a character.
   Second : Square
 
@@ -30,13 +31,10 @@ pub record Grid : Type 0 where
   pub visible : Bool
   -- The style that the next character gets.
   pub style : Style
+  -- The place of the character that the next mark is added to. `None` unless nothing but its marks was read since it.
+  pub printed : Option ℕ
 
 -- ---- characters
-
--- Whether a character has a width and it is `n`.
-abbrev pub is_width : ℕ → Option ℕ → Bool
-is_width n None = false
-is_width n (Some width) = width == n
 
 -- Whether a character takes one cell.
 abbrev pub takes_one : ℕ → Bool
@@ -82,11 +80,11 @@ right_of width at = if is_last width at then None else Some (at + 1)
 
 -- The grid with a character of one cell at a place, and the cursor to the right of it.
 abbrev pub print_one : ℕ → ℕ → Grid → Grid
-print_one at c g = record g { cells = overwritten g.cells at (Whole c g.style ∷ []); cursor = right_of g.width at }
+print_one at c g = record g { cells = overwritten g.cells at (Whole (c ∷ []) g.style ∷ []); cursor = right_of g.width at; printed = Some at }
 
 -- The grid with a character of two cells from a place on, and the cursor to the right of both.
 abbrev pub print_two : ℕ → ℕ → Grid → Grid
-print_two at c g = record g { cells = overwritten g.cells at (First c g.style ∷ Second ∷ []); cursor = right_of g.width (at + 1) }
+print_two at c g = record g { cells = overwritten g.cells at (First (c ∷ []) g.style ∷ Second ∷ []); cursor = right_of g.width (at + 1); printed = Some at }
 
 -- The grid after a character is printed at the cursor. `None` if the cursor's place or the result isn't known, as for
 -- a wide character in a row's last cell.
@@ -96,6 +94,40 @@ print_at (Some at) c g =
     if takes_one c then Some (print_one at c g) else (
     if takes_two c && not (is_last g.width at) then Some (print_two at c g) else (
     None))
+
+-- The last character of a text, or 0 if it is empty.
+abbrev pub last_character : List ℕ → ℕ
+last_character [] = 0
+last_character (c ∷ []) = c
+last_character (c ∷ d ∷ text) = last_character (d ∷ text)
+
+-- The last character that a cell shows, or 0 if it isn't known or is in the cell before.
+abbrev pub last_shown : Square → ℕ
+last_shown (Whole text s) = last_character text
+last_shown (First text s) = last_character text
+last_shown x = 0
+
+-- A cell whose character has one more mark.
+abbrev pub with_mark : ℕ → Square → Square
+with_mark c (Whole text s) = Whole (text ++ c ∷ []) s
+with_mark c (First text s) = First (text ++ c ∷ []) s
+with_mark c x = x
+
+-- The cells with one more mark in the first of them.
+abbrev pub first_marked : ℕ → List Square → List Square
+first_marked c [] = []
+first_marked c (x ∷ cells) = with_mark c x ∷ cells
+
+-- The grid after a character of no column is read. It is added to the character that was printed last if it is a mark
+-- of what that cell shows. Otherwise `None`.
+abbrev pub mark_at : Option ℕ → ℕ → Grid → Option Grid
+mark_at None c g = None
+mark_at (Some at) c g =
+    if is_mark_of (last_shown (get_or g.cells at Unknown)) c then Some (record g { cells = take at g.cells ++ first_marked c (drop at g.cells) }) else None
+
+-- The grid after a character. `None` if some terminals join it with its neighbours.
+abbrev pub char_effect : ℕ → Grid → Option Grid
+char_effect c g = if is_joined c then None else (if takes_none c then mark_at g.printed c g else print_at g.cursor c g)
 
 -- ---- places
 
@@ -140,7 +172,7 @@ is_plain s =
 
 -- A space in the plain style.
 abbrev pub blank_square : Square
-blank_square = Whole 32 plain
+blank_square = Whole (32 ∷ []) plain
 
 -- ED with the parameter 2 makes every cell blank if the plain style is set. Other parameters and other styles give
 -- `None`.
@@ -181,8 +213,8 @@ control_effect text final g =
 
 -- The grid after a token, or `None` if it isn't known.
 abbrev pub step : Token → Grid → Option Grid
-step (Char c) g = print_at g.cursor c g
-step (Csi text [] final) g = control_effect text final g
+step (Char c) g = char_effect c g
+step (Csi text [] final) g = control_effect text final (record g { printed = None })
 step t g = None
 
 -- The grid after tokens, one after another, or `None` if it isn't known.

@@ -1,3 +1,5 @@
+pub mod Marks
+pub mod Parts
 pub mod Grids
 pub mod Cells
 pub mod Overwriting

@@ -7,7 +7,7 @@ use Rattle.screen.specs.Grids.{takes_two}
 
 -- A space in the style of a cell.
 abbrev pub emptied : Cell → Cell
-emptied c = record c { symbol = 32 }
+emptied c = record c { symbol = 32; marks = [] }
 
 -- A cell whose right neighbour is overwritten: a wide one becomes a space, any other stays.
 abbrev pub without_second : Cell → Cell
@@ -37,8 +37,10 @@ overwritten cells at (c ∷ others) = ended (take at cells) ++ ((c ∷ others) +
 
 -- The second cell of a wide character: the character 0 in its style.
 abbrev pub covered : ContentStyle → Cell
-covered s = record { symbol = 0; style = s }
+covered s = record { symbol = 0; marks = []; style = s }
 
--- The cells that a character takes in a style: one, or one and a covered one.
-abbrev pub cells_with : ContentStyle → ℕ → List Cell
-cells_with s c = if takes_two c then (record { symbol = c; style = s } ∷ covered s ∷ []) else (record { symbol = c; style = s } ∷ [])
+-- The cells that a character with its marks takes in a style: one, or one and a covered one.
+abbrev pub cells_with : ContentStyle → List ℕ → List Cell
+cells_with s [] = []
+cells_with s (c ∷ marks) =
+    if takes_two c then (record { symbol = c; marks = marks; style = s } ∷ covered s ∷ []) else (record { symbol = c; marks = marks; style = s } ∷ [])

@@ -5,3 +5,5 @@ pub mod Strokes
 pub mod Scans
 pub mod Pens
 pub mod Packed
+pub mod Marked
+pub mod FirstParts

@@ -1,12 +1,13 @@
 //! Texts in rectangles.
 ghost use Rattle.std.specs.Prelude.{◌≡◌, ◌+◌, ◌-◌, ◌<◌, ◌≤◌, OnOk, IfOk, IfErr, Option, None, Some, chars};
 ghost use Rattle.screen.specs.Alignments.{clipped_in, indent, refusal_in, common_columns, with_text_in};
+ghost use Rattle.screen.specs.Parts.{text_parts};
 ghost use Rattle.screen.specs.Texts.{text_columns, text_fault, within};
 
 use crate::buffers::Buffer;
 use crate::faults::CellFault;
 use crate::rects::Rect;
-use crate::texts::{columns_within, text_fault};
+use crate::texts::{Editing, columns_within, text_fault};
 use crossterm_style::ContentStyle;
 use std::alloc::Allocator;
 
@@ -72,7 +73,7 @@ impl<A: Allocator> Buffer<A> {
     /// # Errors
     ///
     /// `Outside` if the rectangle or the buffer has no such row, and else that of the first character which no cell can hold, shown or not:
-    /// `Control`, `NoWidth`, `Wide`. Then nothing changes.
+    /// `Control`, `NoWidth`, `Wide`, `Joined`, `ManyMarks`. Then nothing changes.
     pub fn print_in(
         &mut self,
         rect: Rect,
@@ -81,10 +82,10 @@ impl<A: Allocator> Buffer<A> {
         text: &str,
         style: ContentStyle,
     ) -> Result<u16, CellFault>
-        ensures used { IfOk result (λ used. used ≡ text_columns (clipped_in self.old rect (chars text.now))) }
-        ensures ok { OnOk result ((refusal_in self.old rect row (text_fault (chars text.now)) ≡ None)
-            × (self.new ≡ with_text_in self.old rect row alignment (chars text.now) style)) }
-        ensures err { IfErr result (λ fault. (refusal_in self.old rect row (text_fault (chars text.now)) ≡ Some fault)
+        ensures used { IfOk result (λ used. used ≡ text_columns (clipped_in self.old rect (text_parts (chars text.now)))) }
+        ensures ok { OnOk result ((refusal_in self.old rect row (text_fault (text_parts (chars text.now))) ≡ None)
+            × (self.new ≡ with_text_in self.old rect row alignment (text_parts (chars text.now)) style)) }
+        ensures err { IfErr result (λ fault. (refusal_in self.old rect row (text_fault (text_parts (chars text.now))) ≡ Some fault)
             × (self.new ≡ self.old)) }
     {
         if let Some(fault) = self.fault_in(&rect, row, text_fault(text)) {
@@ -93,6 +94,6 @@ impl<A: Allocator> Buffer<A> {
         let room = self.room_in(&rect);
         let before = indent(alignment, room, columns_within(text, room));
         let place = (rect.x + before, rect.y + row);
-        Ok(self.print_at(place, room - before, text, None, &style))
+        Ok(self.print_at(place, room - before, text, Editing::Whole, &style))
     }
 }

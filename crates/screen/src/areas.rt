@@ -41,7 +41,7 @@ fn styled(area: &Rect, style: &PackedStyle, column: usize, row: usize, cell: &Ce
     if !begins_in(area, column, row, cell) {
         return *cell;
     }
-    Cell::of(cell.symbol(), *style)
+    Cell::of(cell.symbol(), cell.marks(), *style)
 }
 
 /// The row behind the last one that a rectangle has of so many.

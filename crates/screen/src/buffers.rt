@@ -1,18 +1,19 @@
 //! Buffers: the cells that a program wants to show.
-ghost use Rattle.std.specs.Prelude.{◌≡◌, ℕ, ◌+◌, ◌*◌, ◌-◌, ◌<◌, ◌≤◌, false, OnOk, OnErr, IsOk, IfOk, IfErr, IfSome, None, Some, chars, length, replicate, vec_capacity};
+ghost use Rattle.std.specs.Prelude.{◌≡◌, [], ℕ, ◌+◌, ◌*◌, ◌-◌, ◌<◌, ◌≤◌, false, OnOk, OnErr, IsOk, IfOk, IfErr, IfSome, None, Some, chars, length, replicate, vec_capacity};
 ghost use Rattle.std.specs.List.{All};
 ghost use Rattle.screen.specs.Areas.{with_style};
 ghost use Rattle.screen.specs.Buffers.{clipped, column_refusal, filled, filled_with, print_refusal, refusal, with_shown, with_symbol, with_text};
 ghost use Rattle.screen.specs.Cells.{AreLaidOut, ArePaired, IsPrinted, StayInRows, IsPlaced, blank, symbol_fault};
 ghost use Rattle.screen.specs.Texts.{columns, replaced, replacement_fault, text_columns, text_fault, within, without_marks};
-ghost use Rattle.screen.specs.inside.Edits.{edited};
+ghost use Rattle.screen.specs.inside.Edits.{IsEditing, edited};
+ghost use Rattle.screen.specs.Parts.{text_parts};
 
 use crate::areas::style_cells;
 use crate::cells::{Cell, symbol_fault, takes_two};
 use crate::faults::CellFault;
 use crate::overwriting::{fill, fill_rows, overwrite};
 use crate::rects::Rect;
-use crate::texts::{fault_without_marks, replacement_fault, text_fault, write_text};
+use crate::texts::{Editing, fault_without_marks, replacement_fault, text_fault, write_text};
 use crossterm_style::ContentStyle;
 use std::alloc::{AllocError, Allocator, Global};
 use std::marker::Model;
@@ -190,7 +191,7 @@ impl<A: Allocator> Buffer<A> {
     ///
     /// # Errors
     ///
-    /// Those of the character: `Control`, `NoWidth`, `Wide`. Then nothing changes.
+    /// Those of the character: `Control`, `NoWidth`, `Wide`, `Joined`. Then nothing changes.
     pub fn fill(&mut self, symbol: char, style: ContentStyle) -> Result<(), CellFault>
         ensures ok { OnOk result ((symbol_fault symbol ≡ None) × (self.new ≡ filled_with self.old symbol style)) }
         ensures err { IfErr result (λ fault. (symbol_fault symbol ≡ Some fault) × (self.new ≡ self.old)) }
@@ -222,7 +223,7 @@ impl<A: Allocator> Buffer<A> {
     ///
     /// # Errors
     ///
-    /// `Outside`, and else those of the character: `Control`, `NoWidth`, `Wide`. Else `LastColumn` if it takes two columns and the place is
+    /// `Outside`, and else those of the character: `Control`, `NoWidth`, `Wide`, `Joined`. Else `LastColumn` if it takes two columns and the place is
     /// a row's last one. Then nothing changes.
     pub fn set(
         &mut self,
@@ -249,6 +250,7 @@ impl<A: Allocator> Buffer<A> {
         requires row { row < self.old.height }
         requires room { column + columns cell.symbol ≤ self.old.width }
         requires printed { IsPrinted cell.symbol }
+        requires alone { cell.marks ≡ [] }
         ensures { self.new ≡ with_symbol self.old column row cell.symbol cell.style }
     {
         let at = place_at(self.width, column, row);
@@ -272,32 +274,32 @@ impl<A: Allocator> Buffer<A> {
         self.width.saturating_sub(column)
     }
 
-    /// Prints into so many columns of a row. In the place of each character that no cell can hold is another one, or none.
+    /// Prints into so many columns of a row.
     pub(crate) fn print_at(
         &mut self,
         place: (u16, u16),
         room: u16,
         text: &str,
-        replacement: Option<char>,
+        how: Editing,
         style: &ContentStyle,
     ) -> u16
         requires row { place.1 < self.old.height }
         requires room { 0 < room → place.0 + room ≤ self.old.width }
-        requires replacement { IfSome replacement IsPrinted }
-        ensures used { result ≡ text_columns (within room (edited replacement (chars text.now))) }
-        ensures picture { self.new ≡ with_shown self.old place.0 place.1 (within room (edited replacement (chars text.now))) style.now }
+        requires how { IsEditing how }
+        ensures used { result ≡ text_columns (within room (edited how (text_parts (chars text.now)))) }
+        ensures picture { self.new ≡ with_shown self.old place.0 place.1 (within room (edited how (text_parts (chars text.now)))) style.now }
     {
         if room == 0 {
             return 0;
         }
         let at = place_at(self.width, place.0, place.1);
-        let used = write_text(&mut self.cells, at, room as usize, text, replacement, style);
+        let used = write_text(&mut self.cells, at, room as usize, text, how, style);
         used as u16
     }
 
-    /// Prints a text into a row, from a column on, and returns how many columns were printed. The first character that has no room in the row
-    /// is left out, and so are all behind it. A column behind the last one leaves out all. A character that loses one of its two columns
-    /// leaves a space in the other one, as in `set`.
+    /// Prints a text into a row, from a column on, and returns how many columns were printed. A character's marks, as accents of their own,
+    /// are in its cell. The first character that has no room in the row is left out, and so are all behind it. A column behind the last one
+    /// leaves out all. A character that loses one of its two columns leaves a space in the other one, as in `set`.
     ///
     /// ```
     /// let used = buffer.print(0, 2, "name", ContentStyle::new())?;
@@ -307,8 +309,8 @@ impl<A: Allocator> Buffer<A> {
     /// # Errors
     ///
     /// `Outside` if there is no such row, and else that of the first character which no cell can hold, shown or not: `Control`, `NoWidth`,
-    /// `Wide`. Then nothing changes. `print_replacing` takes any text.
-    #[tactic(auto, using(crate::proofs::Prints::edits_none))]
+    /// `Wide`, `Joined`, and `ManyMarks` if it has more than three. Then nothing changes. `print_replacing` takes any text.
+    #[tactic(auto, using(crate::proofs::Prints::edits_whole))]
     pub fn print(
         &mut self,
         column: u16,
@@ -316,21 +318,22 @@ impl<A: Allocator> Buffer<A> {
         text: &str,
         style: ContentStyle,
     ) -> Result<u16, CellFault>
-        ensures used { IfOk result (λ used. used ≡ text_columns (clipped self.old column (chars text.now))) }
-        ensures ok { OnOk result ((print_refusal self.old row (text_fault (chars text.now)) ≡ None)
-            × (self.new ≡ with_text self.old column row (chars text.now) style)) }
-        ensures err { IfErr result (λ fault. (print_refusal self.old row (text_fault (chars text.now)) ≡ Some fault) × (self.new ≡ self.old)) }
+        ensures used { IfOk result (λ used. used ≡ text_columns (clipped self.old column (text_parts (chars text.now)))) }
+        ensures ok { OnOk result ((print_refusal self.old row (text_fault (text_parts (chars text.now))) ≡ None)
+            × (self.new ≡ with_text self.old column row (text_parts (chars text.now)) style)) }
+        ensures err { IfErr result (λ fault. (print_refusal self.old row (text_fault (text_parts (chars text.now))) ≡ Some fault) × (self.new ≡ self.old)) }
     {
         if let Some(fault) = self.print_fault(row, text_fault(text)) {
             return Err(fault);
         }
         let room = self.columns_from(column);
         // Nothing in it is to be replaced.
-        Ok(self.print_at((column, row), room, text, None, &style))
+        Ok(self.print_at((column, row), room, text, Editing::Whole, &style))
     }
 
-    /// Prints any text into a row as `print` does, and returns how many columns were printed. Each character that no cell can hold is replaced by
-    /// another one, which takes one column: control characters, those of no column, and those of more than two.
+    /// Prints any text into a row as `print` does, and returns how many columns were printed. Each character that no cell can hold is replaced,
+    /// with its marks, by another one, which takes one column: control characters, those of no column or more than two, those that terminals join
+    /// with others, and those with more than three marks.
     ///
     /// ```
     /// let used = buffer.print_replacing(0, 2, "a\tb", '?', ContentStyle::new())?;
@@ -340,8 +343,8 @@ impl<A: Allocator> Buffer<A> {
     /// # Errors
     ///
     /// `Outside` if there is no such row, and else that of the character that is to replace others, needed or not: `Control`, `NoWidth`,
-    /// and `Wide` if it takes more than one column. Then nothing changes.
-    #[tactic(auto, using(crate::proofs::Prints::edits_some))]
+    /// `Joined`, and `Wide` if it takes more than one column. Then nothing changes.
+    #[tactic(auto, using(crate::proofs::Prints::edits_replacing))]
     pub fn print_replacing(
         &mut self,
         column: u16,
@@ -350,16 +353,17 @@ impl<A: Allocator> Buffer<A> {
         replacement: char,
         style: ContentStyle,
     ) -> Result<u16, CellFault>
-        ensures used { IfOk result (λ used. used ≡ text_columns (clipped self.old column (replaced replacement (chars text.now)))) }
+        ensures used { IfOk result (λ used. used ≡ text_columns (clipped self.old column (replaced replacement (text_parts (chars text.now))))) }
         ensures ok { OnOk result ((print_refusal self.old row (replacement_fault replacement) ≡ None)
-            × (self.new ≡ with_text self.old column row (replaced replacement (chars text.now)) style)) }
+            × (self.new ≡ with_text self.old column row (replaced replacement (text_parts (chars text.now))) style)) }
         ensures err { IfErr result (λ fault. (print_refusal self.old row (replacement_fault replacement) ≡ Some fault) × (self.new ≡ self.old)) }
     {
         if let Some(fault) = self.print_fault(row, replacement_fault(replacement)) {
             return Err(fault);
         }
         let room = self.columns_from(column);
-        Ok(self.print_at((column, row), room, text, Some(replacement), &style))
+        let how = Editing::Replacing(replacement);
+        Ok(self.print_at((column, row), room, text, how, &style))
     }
 
     /// Prints a text into a row as `print` does, without its characters of no column, and returns how many columns were printed.
@@ -372,7 +376,7 @@ impl<A: Allocator> Buffer<A> {
     /// # Errors
     ///
     /// `Outside` if there is no such row, and else that of the first other character which no cell can hold, shown or not: `Control`,
-    /// `Wide`. Then nothing changes.
+    /// `Wide`, `Joined`. Then nothing changes.
     #[tactic(auto, using(crate::proofs::Prints::edits_marks))]
     pub fn print_without_marks(
         &mut self,
@@ -391,6 +395,6 @@ impl<A: Allocator> Buffer<A> {
             return Err(fault);
         }
         let room = self.columns_from(column);
-        Ok(self.print_at((column, row), room, text, None, &style))
+        Ok(self.print_at((column, row), room, text, Editing::WithoutMarks, &style))
     }
 }

@@ -1,17 +1,16 @@
 //! Cells, and whether two are the same.
-ghost use Rattle.std.specs.Prelude.{◌≡◌, ◌↔◌, IsTrue, false};
+ghost use Rattle.std.specs.Prelude.{◌≡◌, ◌↔◌, [], IsTrue, None, false};
 ghost use Rattle.screen.specs.Cells.{IsPrinted, blank, is_covered, is_wide, symbol_fault};
 ghost use Rattle.screen.specs.Grids.{takes_two};
-ghost use Rattle.screen.specs.Texts.{is_mark};
-ghost use Rattle.std.specs.Prelude.{None};
 
 use crate::faults::CellFault;
+use crate::marks::{Marks, is_joined, is_same_marks};
 use crate::packed::{PackedStyle, is_same_style};
 use crossterm_style::ContentStyle;
 use std::marker::Model;
 use unicode_width::UnicodeWidthChar;
 
-/// A character in its style, in 20 bytes.
+/// A character with its marks, three at most, in its style. It has 32 bytes.
 ///
 /// ```
 /// let cell = Cell::new('x', ContentStyle::new());
@@ -19,6 +18,7 @@ use unicode_width::UnicodeWidthChar;
 #[derive(Clone, Copy, PartialEq, Eq, Debug)]
 pub struct Cell {
     symbol: char,
+    marks: Marks,
     style: PackedStyle,
 }
 
@@ -27,24 +27,28 @@ impl Model for Cell {
 
     ghost Value = { CellValue };
 
-    ghost view = { λ c. record { symbol = c.symbol; style = c.style } };
+    ghost view = { λ c. record { symbol = c.symbol; marks = c.marks; style = c.style } };
 
-    ghost inverse = { λ c. record { symbol = c.symbol; style = c.style } };
+    ghost inverse = { λ c. record { symbol = c.symbol; marks = c.marks; style = c.style } };
 }
 
 impl Cell {
-    /// A character in a style.
+    /// A character in a style, without marks.
     pub fn new(symbol: char, style: ContentStyle) -> Cell
-        ensures { result ≡ record { symbol = symbol; style = style } }
+        ensures { result ≡ record { symbol = symbol; marks = []; style = style } }
     {
-        Cell::of(symbol, PackedStyle::new(&style))
+        Cell::of(symbol, Marks::none(), PackedStyle::new(&style))
     }
 
-    /// The same of a packed style.
-    pub(crate) fn of(symbol: char, style: PackedStyle) -> Cell
-        ensures { result ≡ record { symbol = symbol; style = style } }
+    /// A character and its marks in a packed style.
+    pub(crate) fn of(symbol: char, marks: Marks, style: PackedStyle) -> Cell
+        ensures { result ≡ record { symbol = symbol; marks = marks; style = style } }
     {
-        Cell { symbol, style }
+        Cell {
+            symbol,
+            marks,
+            style,
+        }
     }
 
     /// A space in the empty style.
@@ -63,6 +67,17 @@ impl Cell {
         ensures { result ≡ self.now.symbol }
     {
         self.symbol
+    }
+
+    /// The marks on it: characters of no column, such as accents that aren't part of the character.
+    ///
+    /// ```
+    /// let has_accent = !cell.marks().is_empty();
+    /// ```
+    pub fn marks(&self) -> Marks
+        ensures { result ≡ self.now.marks }
+    {
+        self.marks
     }
 
     /// Its style.
@@ -84,11 +99,14 @@ impl Cell {
     }
 }
 
-/// Why cells can't hold a character, if they can't: by its width (`unicode_width`).
+/// Why cells can't hold a character, if they can't: by its width (`unicode_width`), and if terminals join it with others.
 pub(crate) fn symbol_fault(symbol: char) -> Option<CellFault>
     ensures value { result ≡ symbol_fault symbol }
     ensures printed { result ≡ None → IsPrinted symbol }
 {
+    if is_joined(symbol) {
+        return Some(CellFault::Joined);
+    }
     match symbol.width() {
         None => Some(CellFault::Control),
         Some(width) => {
@@ -113,22 +131,14 @@ pub(crate) fn takes_two(symbol: char) -> bool
     }
 }
 
-/// Whether a character takes no column.
-pub(crate) fn is_mark(symbol: char) -> bool
-    ensures { result ≡ is_mark symbol }
-{
-    match symbol.width() {
-        None => false,
-        Some(width) => width == 0,
-    }
-}
-
 /// Whether two cells are the same.
 pub(crate) fn is_same(left: &Cell, right: &Cell) -> bool
     ensures { IsTrue result ↔ (left.now ≡ right.now) }
 {
     // With `&`, as in `is_same_style`.
-    (left.symbol == right.symbol) & is_same_style(&left.style, &right.style)
+    (left.symbol == right.symbol)
+        & is_same_marks(&left.marks, &right.marks)
+        & is_same_style(&left.style, &right.style)
 }
 
 /// Whether a cell is the second one of a character that takes two.

@@ -18,9 +18,15 @@ pub enum CellFault {
     /// It is a control character, which would do something else than show.
     #[error("a control character")]
     Control,
-    /// It takes no column, as a combining mark. `Buffer::print_without_marks` leaves such characters out.
+    /// It takes no column, and isn't a mark of a character before it. `Buffer::print_without_marks` leaves such characters out.
     #[error("a character of width 0")]
     NoWidth,
+    /// Some terminals join it with its neighbours: a joiner, a selector of text or emoji, a letter of a flag, a skin tone or a tag.
+    #[error("a character that terminals join with others")]
+    Joined,
+    /// A character has more than three marks.
+    #[error("more than three marks")]
+    ManyMarks,
     /// It takes more than two columns. If it is to replace others, it takes more than one.
     #[error("a character of too many columns")]
     Wide,

@@ -21,8 +21,14 @@
 //!
 //! A character of a buffer takes one column or two. One of two columns has two cells: its own, and behind it a covered one with the character 0
 //! and the same style. Both are in one row. What is written over one of the two leaves a space in the other, in the style that it had.
-//! Control characters and those of no column or of more than two are refused by name (`CellFault`). `Buffer::print_replacing` replaces them, and
-//! `Buffer::print_without_marks` leaves out those of no column.
+//!
+//! A cell also holds up to three marks: characters of no column that UAX 29 keeps with the one before, such as accents, vowel signs, points and
+//! the vowels and finals of Hangul. A terminal adds a mark to the character that it printed last, if nothing came between.
+//!
+//! What no cell can hold is refused by name (`CellFault`): control characters, those of more than two columns, those of no column that aren't
+//! marks of a character before them, a character with more marks, and those that some terminals join with their neighbours (joiners, selectors
+//! of text and emoji, letters of flags, skin tones, tags). `Buffer::print_replacing` replaces it, and `Buffer::print_without_marks` leaves out
+//! all characters of no column.
 //!
 //! A `Rect` is some columns and rows: `Buffer::print_in` aligns a text in one, `Buffer::border` draws lines round it, and `Buffer::set_style` and
 //! `Buffer::fill_area` change all of it. A `ListState` says which entries of a list are in sight.
@@ -30,7 +36,7 @@
 //! If a frame broke off within a control sequence, the next one begins with ESC, which ends such a sequence at a terminal. The definitions
 //! speak of whole sequences and don't say so.
 //!
-//! A `Cell` has 20 bytes. A frame compares cells by words, and copies those that changed.
+//! A `Cell` has 32 bytes. A frame compares cells by words, and copies those that changed.
 //!
 //! `new` and `resize` take memory. `draw` needs none: it gathers a frame in 4,096 bytes on the stack, and gives them to the writer as they fill.
 //!
@@ -38,17 +44,17 @@
 //!
 //! | Proved | By the contract of |
 //! |---|---|
-//! | a frame shows the buffer (the fourth theorem): it leads from each grid that shows the last one to a grid that shows this one, with the cursor at the place that was asked for, and prints one character for each cell that differs and no other | `Screen::draw` |
+//! | a frame shows the buffer (the fourth theorem): it leads from each grid that shows the last one to a grid that shows this one, with the cursor at the place that was asked for, and prints the characters of each cell that differs, marks included, and no others | `Screen::draw` |
 //! | a frame is one synchronized update; it has at most one move for each run of characters side by side, one setting of the style for each run of characters in one style, and a handful at its ends | `Screen::draw` |
 //! | a screen has as much memory after a frame as before; screens and buffers give none back, and a size that they have memory for isn't refused | `Screen::{draw, new, resize}`, `Buffer::{new, resize, fill, set, print, print_replacing, print_without_marks, print_in, border, set_style, fill_area}` |
 //! | a wrong size or place writes nothing and changes nothing; at any other error a beginning of the frame was written and nothing else, and nothing is known of the cells | `Screen::draw` |
 //! | a frame of a strip turns the cursor's row into the buffer's, wherever it is, and nothing else; it is a frame of a screen of one row with CHA for CUP, and CHA and EL for ED, and is refused as such a frame | `Strip::draw` |
 //! | a strip has as much memory after a frame as before; it gives none back, and a width that it has memory for isn't refused | `Strip::{new, resize, draw}` |
-//! | a character that doesn't take one column or two is refused by name, `set` refuses one of two in a row's last column too, and a refusal changes nothing | `Buffer::{fill, set, print, print_replacing, print_without_marks, print_in, border}` |
-//! | a cell has the character and the style that it was made of, each colour and attribute of it | `Cell::{new, symbol, style}` |
+//! | a character that no cell can hold is refused by name, `set` refuses one of two in a row's last column too, and a refusal changes nothing | `Buffer::{fill, set, print, print_replacing, print_without_marks, print_in, border}` |
+//! | a cell has the character and the style that it was made of, each colour and attribute of it, and its marks in their order | `Cell::{new, symbol, marks, style}`, `Marks::{len, is_empty, get, fmt}` |
 //! | no half of a character of two columns is alone: what loses its other half is a space in the style that it had | `Buffer::{cells, fill, set, print, print_replacing, print_without_marks, print_in, border, set_style, fill_area}` |
-//! | of a text as many characters are printed as have room in the row, and the number of the columns that they took is returned | `Buffer::{print, print_replacing, print_without_marks}` |
-//! | of any text, each character that no cell can hold is replaced by a given one | `Buffer::print_replacing` |
+//! | of a text as many characters are printed, each with its marks, as have room in the row, and the number of the columns that they took is returned | `Buffer::{print, print_replacing, print_without_marks}` |
+//! | of any text, each character that no cell can hold is replaced, with its marks, by a given one | `Buffer::print_replacing` |
 //! | of a text, the characters of no column are left out, and the others are printed or refused as in `print` | `Buffer::print_without_marks` |
 //! | a text in a row of a rectangle is aligned by the columns that it takes, and has as many characters as have room in the columns that the buffer has of it | `Buffer::print_in` |
 //! | a border is four corners and the lines between them, and what isn't under them stays, but for halves; it is refused if the rectangle isn't within the buffer, has fewer than two columns or rows, or a character of it doesn't take one column | `Buffer::border` |
@@ -63,10 +69,12 @@
 //!
 //! | Definitions | Lines | Of | Contract |
 //! |---|---|---|---|
-//! | `Grids` | 191 | a terminal as a grid of cells, and what each token does to it | |
-//! | `Cells` | 77 | what a cell is and how it looks, which cells are paired, and which characters fit | `Cell::{new, blank, symbol, style}`, `Buffer::{cells, fill, set}` |
-//! | `Overwriting` | 44 | the cells that a character takes, and what becomes of the halves beside them | `Buffer::{set, print, print_replacing, print_without_marks}` |
-//! | `Texts` | 53 | the cells of a text's characters, what has room, and what is replaced in it or left out | `Buffer::{print, print_replacing, print_without_marks}` |
+//! | `Marks` | 44 | which characters are marks of the one before them, and which ones terminals join with others | `Marks` |
+//! | `Parts` | 14 | the parts of a text: each is a character with its marks | `Buffer::{print, print_replacing, print_in}` |
+//! | `Grids` | 223 | a terminal as a grid of cells, and what each token does to it | |
+//! | `Cells` | 89 | what a cell is and how it looks, which cells are paired, and which characters fit | `Cell::{new, blank, symbol, style}`, `Buffer::{cells, fill, set}` |
+//! | `Overwriting` | 46 | the cells that a character takes, and what becomes of the halves beside them | `Buffer::{set, print, print_replacing, print_without_marks}` |
+//! | `Texts` | 62 | the cells of a text's parts, what has room, and what is replaced in it or left out | `Buffer::{print, print_replacing, print_without_marks}` |
 //! | `Buffers` | 81 | the pictures that buffers hold | `Buffer` |
 //! | `Rects` | 41 | a rectangle's columns and rows, what two have in common, what is left without a margin, and two parts | `Rect` |
 //! | `Alignments` | 39 | how many columns of a rectangle a buffer has, and the one that a text begins in | `Buffer::print_in` |
@@ -75,7 +83,7 @@
 //! | `Scrolls` | 54 | which entries of a list are in sight, and how far it scrolls | `ListState` |
 //! | `Screens` | 18 | a screen, and what it drew last | `Screen` |
 //! | `Updates` | 125 | which characters have to be printed, and how few moves and styles do it | `Screen::draw` |
-//! | `Drawings` | 137 | what a frame does to each grid, how many characters it prints, and what is refused | `Screen::draw`, `From<DrawFault>` of `io::Error` |
+//! | `Drawings` | 141 | what a frame does to each grid, how many characters it prints, and what is refused | `Screen::draw`, `From<DrawFault>` of `io::Error` |
 //! | `Strips` | 130 | a strip, how it lies in a grid, what a frame does to its row and with which tokens, and what is refused | `Strip` |
 //!
 //! `specs/inside/` says the same of a frame's parts, and no public clause cites it.
@@ -91,8 +99,10 @@ mod cells;
 mod differences;
 mod faults;
 mod lists;
+mod marks;
 mod overwriting;
 mod packed;
+mod parts;
 mod pens;
 mod planning;
 mod rects;
@@ -108,6 +118,7 @@ pub use buffers::Buffer;
 pub use cells::Cell;
 pub use faults::{CellFault, DrawFault};
 pub use lists::ListState;
+pub use marks::Marks;
 pub use rects::Rect;
 pub use screens::Screen;
 pub use strips::Strip;

@@ -1,25 +1,27 @@
 //! Cells that are overwritten.
-ghost use Rattle.std.specs.Prelude.{◌≡◌, ◌+◌, ◌%◌, ◌++◌, ◌<◌, ◌≤◌, drop, length, map, replicate, take};
+ghost use Rattle.std.specs.Prelude.{◌≡◌, ◌+◌, ◌%◌, ◌++◌, ◌<◌, ◌≤◌, [], drop, length, map, replicate, take};
 ghost use Rattle.std.specs.List.{range_with_len};
 ghost use Rattle.screen.specs.Buffers.{fill_cells, pair_cell};
+ghost use Rattle.screen.specs.Cells.{shown_text};
 ghost use Rattle.screen.specs.Overwriting.{begun, cells_with, covered, emptied, ended, overwritten};
 ghost use Rattle.screen.specs.Texts.{columns};
 
 use crate::cells::{Cell, is_covered, is_wide};
+use crate::marks::Marks;
 use crate::packed::PackedStyle;
 
 /// A space in a cell's own style.
 fn emptied(cell: &Cell) -> Cell
     ensures { result ≡ emptied cell.now }
 {
-    Cell::of(' ', cell.packed_style())
+    Cell::of(' ', Marks::none(), cell.packed_style())
 }
 
 /// The second cell of a character that takes two.
 fn covered(style: PackedStyle) -> Cell
     ensures { result ≡ covered style }
 {
-    Cell::of('\0', style)
+    Cell::of('\0', Marks::none(), style)
 }
 
 /// Before a place, a character that is to lose its second cell leaves a space in its first one.
@@ -61,7 +63,7 @@ pub(crate) fn columns(cell: &Cell) -> usize
 /// Overwrites cells by those that a character takes.
 pub(crate) fn overwrite(cells: &mut [Cell], at: usize, cell: Cell)
     requires { at + columns cell.symbol ≤ length cells.old }
-    ensures { cells.new ≡ overwritten cells.old at (cells_with cell.style cell.symbol) }
+    ensures { cells.new ≡ overwritten cells.old at (cells_with cell.style (shown_text cell)) }
 {
     let behind = at + columns(&cell);
     end_before(cells, at);
@@ -81,6 +83,7 @@ pub(crate) fn fill(cells: &mut [Cell], cell: Cell)
 
 /// What is in a column of a row that is filled with a character of two columns.
 fn pair_cell(width: u16, cell: &Cell, column: usize) -> Cell
+    requires { cell.now.marks ≡ [] }
     ensures { result ≡ pair_cell width cell.now.symbol cell.now.style column }
 {
     if column % 2 == 1 {
@@ -94,7 +97,8 @@ fn pair_cell(width: u16, cell: &Cell, column: usize) -> Cell
 
 /// Fills rows of a width with a character of two columns.
 fn fill_pairs(cells: &mut [Cell], width: u16, cell: &Cell)
-    requires { 0 < length cells.old → 0 < width }
+    requires width { 0 < length cells.old → 0 < width }
+    requires alone { cell.now.marks ≡ [] }
     ensures { cells.new ≡ map (λ k. pair_cell width cell.now.symbol cell.now.style (k % width)) (range_with_len 0 (length cells.old)) }
 {
     for at in 0..cells.len() {
@@ -104,7 +108,8 @@ fn fill_pairs(cells: &mut [Cell], width: u16, cell: &Cell)
 
 /// Fills rows of a width with a character.
 pub(crate) fn fill_rows(cells: &mut [Cell], width: u16, cell: Cell)
-    requires { 0 < length cells.old → 0 < width }
+    requires width { 0 < length cells.old → 0 < width }
+    requires alone { cell.marks ≡ [] }
     ensures { cells.new ≡ fill_cells width (length cells.old) cell.symbol cell.style }
 {
     if is_wide(&cell) {

@@ -65,7 +65,7 @@ fn paint<W: io::Write>(
 {
     put_move(writer, pen, there, place);
     put_style(writer, pen, setting);
-    put(writer, pen, Stroke::Print(cell.symbol()));
+    put(writer, pen, Stroke::Print(cell.symbol(), cell.marks()));
 }
 
 /// Whether the cursor is known to be at a place.

@@ -1,8 +1,11 @@
 //! Strokes: what a frame is written by.
-ghost use Rattle.std.specs.Prelude.{◌≡◌, Some};
+ghost use Rattle.std.specs.Prelude.{◌≡◌, ◌⊎◌, ◌∷◌, OnOk, Some, map};
+ghost use Rattle.std.specs.Fmt.{WritesInCalls};
 ghost use Rattle.crossterm_command.specs.Tokens.{text_of};
+ghost use Rattle.crossterm_command.specs.Tokens.Token.{Char};
 ghost use Rattle.screen.specs.inside.Strokes.{replaced, row_tokens, tokens, written};
 
+use crate::marks::Marks;
 use crossterm::cursor::{Hide, MoveTo, MoveToColumn, Show};
 use crossterm::style::{Attribute, Print, SetAttribute, SetStyle};
 use crossterm::terminal::{BeginSynchronizedUpdate, Clear, ClearType, EndSynchronizedUpdate};
@@ -24,11 +27,20 @@ pub(crate) enum Stroke {
     Style(ContentStyle),
     /// Sets the colours that are there, if colours are written.
     Colors(ContentStyle),
-    /// Prints a character.
-    Print(char),
+    /// Prints a character and its marks.
+    Print(char, Marks),
     /// Shows the cursor.
     Show,
     Hide,
+}
+
+/// Writes a character and its marks. Apart from the other strokes, of which most are characters without marks.
+#[inline(never)]
+fn write_marked<W: fmt::Write>(f: &mut W, symbol: char, marks: Marks) -> fmt::Result
+    ensures { OnOk result (WritesInCalls W.write_str_gives f.old (text_of (Char symbol ∷ map Char marks)) f.new
+        ⊎ W.write_str_gives f.old (text_of (Char symbol ∷ map Char marks)) f.new) }
+{
+    (Print(symbol), Print(marks)).write_ansi(f, ColorOutput::Enabled)
 }
 
 impl Command for Stroke {
@@ -47,7 +59,13 @@ impl Command for Stroke {
                 ColorOutput::Enabled => SetStyle(*change).write_ansi(f, colors),
                 ColorOutput::Disabled => Ok(()),
             },
-            Stroke::Print(symbol) => Print(*symbol).write_ansi(f, colors),
+            Stroke::Print(symbol, marks) => {
+                if marks.is_empty() {
+                    Print(*symbol).write_ansi(f, colors)
+                } else {
+                    write_marked(f, *symbol, *marks)
+                }
+            }
             Stroke::Show => Show.write_ansi(f, colors),
             Stroke::Hide => Hide.write_ansi(f, colors),
         }

@@ -1,25 +1,58 @@
 //! Texts in cells.
-ghost use Rattle.std.specs.Prelude.{◌≡◌, ◌+◌, ◌≤◌, IfSome, None, chars, length};
+ghost use Rattle.std.specs.Prelude.{◌≡◌, ◌+◌, ◌≤◌, ◌∷◌, ℕ, List, IfSome, None, chars, false, length};
 ghost use Rattle.std.specs.List.{AllByRecursion};
-ghost use Rattle.screen.specs.Cells.{IsPrinted};
+ghost use Rattle.std.specs.Option.{option_map};
+ghost use Rattle.screen.specs.Cells.{FitsCell, IsPrinted};
 ghost use Rattle.screen.specs.Overwriting.{overwritten};
-ghost use Rattle.screen.specs.Texts.{cells_of, columns, replacement_fault, text_columns, text_fault, within, without_marks};
-ghost use Rattle.screen.specs.inside.Edits.{edit, edited, fault_unless_mark};
+ghost use Rattle.screen.specs.Parts.{text_parts};
+ghost use Rattle.screen.specs.Texts.{cells_of, columns, part_fault, replacement_fault, text_columns, text_fault, within, without_marks};
+ghost use Rattle.screen.specs.inside.Edits.{IsEditing, edit, edited, fault_unless_mark};
+ghost use Rattle.screen.specs.inside.FirstParts.{IsPart};
 
-use crate::cells::{Cell, is_mark, symbol_fault, takes_two};
+use crate::cells::{Cell, symbol_fault, takes_two};
 use crate::faults::CellFault;
+use crate::marks::{Marks, takes_none};
 use crate::overwriting::{columns, overwrite};
 use crate::packed::PackedStyle;
+use crate::parts::{Part, first_part};
 use crossterm_style::ContentStyle;
 
-/// Why cells can't hold a text, if they can't: its first character that they can't hold.
-pub(crate) fn text_fault(text: &str) -> Option<CellFault>
-    ensures { result ≡ text_fault (chars text.now) }
+/// What is written of the parts of a text that no cell can hold.
+#[derive(Clone, Copy)]
+pub(crate) enum Editing {
+    /// Nothing.
+    Whole,
+    /// This character in place of each, which takes one column.
+    Replacing(char),
+    /// Nothing, and of all others their characters alone.
+    WithoutMarks,
+}
+
+/// Why cells can't hold a part, if they can't.
+fn part_fault(part: &Part) -> Option<CellFault>
+    ensures value { (p : List ℕ) → IsPart part.now p → result ≡ part_fault p }
+    ensures printed { result ≡ None → IsPrinted part.now.symbol }
+    ensures short { result ≡ None → part.now.is_long ≡ false }
 {
-    for symbol in text.chars() {
-        if let Some(fault) = symbol_fault(symbol) {
+    if let Some(fault) = symbol_fault(part.symbol) {
+        return Some(fault);
+    }
+    if part.is_long {
+        return Some(CellFault::ManyMarks);
+    }
+    None
+}
+
+/// Why cells can't hold a text, if they can't: the fault of its first character, with its marks, that they can't hold.
+pub(crate) fn text_fault(text: &str) -> Option<CellFault>
+    ensures { result ≡ text_fault (text_parts (chars text.now)) }
+{
+    let mut rest = text;
+    while let Some((part, back)) = first_part(rest) {
+        if let Some(fault) = part_fault(&part) {
             return Some(fault);
         }
+        rest = back;
     }
     None
 }
@@ -28,7 +61,7 @@ pub(crate) fn text_fault(text: &str) -> Option<CellFault>
 fn fault_unless_mark(symbol: char) -> Option<CellFault>
     ensures { result ≡ fault_unless_mark symbol }
 {
-    if is_mark(symbol) {
+    if takes_none(symbol) {
         return None;
     }
     symbol_fault(symbol)
@@ -56,16 +89,18 @@ fn width(symbol: char) -> u16
 
 /// How many of so many columns a text takes. Its first character that has no room is left out, and so are all behind it.
 pub(crate) fn columns_within(text: &str, room: u16) -> u16
-    ensures value { result ≡ text_columns (within room (chars text.now)) }
+    ensures value { result ≡ text_columns (within room (text_parts (chars text.now))) }
     ensures few { result ≤ room }
 {
     let mut used = 0;
-    for symbol in text.chars() {
-        let taken = width(symbol);
+    let mut rest = text;
+    while let Some((part, back)) = first_part(rest) {
+        let taken = width(part.symbol);
         if taken > room - used {
             return used;
         }
         used += taken;
+        rest = back;
     }
     used
 }
@@ -87,43 +122,54 @@ pub(crate) fn replacement_fault(symbol: char) -> Option<CellFault>
     }
 }
 
-/// A character, or another one if no cell can hold it. There may be no other.
-fn edit(symbol: char, replacement: Option<char>) -> Option<char>
-    requires { IfSome replacement IsPrinted }
-    ensures value { result ≡ edit replacement symbol }
-    ensures printed { IfSome result IsPrinted }
+/// What is written of a part: a character and its marks, if anything.
+fn edit(part: &Part, how: Editing) -> Option<(char, Marks)>
+    requires how { IsEditing how }
+    ensures value { (p : List ℕ) → IsPart part.now p → edit how p ≡ option_map (λ shown. shown.0 ∷ shown.1) result }
+    ensures held { (p : List ℕ) → IsPart part.now p → IfSome result (λ shown. FitsCell (shown.0 ∷ shown.1)) }
 {
-    match symbol_fault(symbol) {
-        None => Some(symbol),
-        Some(_) => replacement,
+    match how {
+        Editing::Whole => match part_fault(part) {
+            None => Some((part.symbol, part.marks)),
+            Some(_) => None,
+        },
+        Editing::Replacing(replacement) => match part_fault(part) {
+            None => Some((part.symbol, part.marks)),
+            Some(_) => Some((replacement, Marks::none())),
+        },
+        Editing::WithoutMarks => match symbol_fault(part.symbol) {
+            None => Some((part.symbol, Marks::none())),
+            Some(_) => None,
+        },
     }
 }
 
-/// Overwrites so many cells at most, from a place on, by those of a text's characters, and returns how many. In the place of each that no
-/// cell can hold is another one, or none.
+/// Overwrites so many cells at most, from a place on, by those of a text, and returns how many.
 pub(crate) fn write_text(
     cells: &mut [Cell],
     at: usize,
     room: usize,
     text: &str,
-    replacement: Option<char>,
+    how: Editing,
     style: &ContentStyle,
 ) -> usize
     requires room { at + room ≤ length cells.old }
-    requires replacement { IfSome replacement IsPrinted }
-    ensures count { result ≡ text_columns (within room (edited replacement (chars text.now))) }
+    requires how { IsEditing how }
+    ensures count { result ≡ text_columns (within room (edited how (text_parts (chars text.now)))) }
     ensures few { result ≤ room }
-    ensures cells { cells.new ≡ overwritten cells.old at (cells_of style.now (within room (edited replacement (chars text.now)))) }
-    ensures printed { AllByRecursion IsPrinted (within room (edited replacement (chars text.now))) }
+    ensures cells { cells.new ≡ overwritten cells.old at (cells_of style.now (within room (edited how (text_parts (chars text.now))))) }
+    ensures held { AllByRecursion FitsCell (within room (edited how (text_parts (chars text.now)))) }
 {
     let style = PackedStyle::new(style);
     let mut count = 0;
-    for symbol in text.chars() {
-        let shown = match edit(symbol, replacement) {
+    let mut rest = text;
+    while let Some((part, back)) = first_part(rest) {
+        rest = back;
+        let (symbol, marks) = match edit(&part, how) {
             None => continue,
             Some(shown) => shown,
         };
-        let cell = Cell::of(shown, style);
+        let cell = Cell::of(symbol, marks, style);
         let taken = columns(&cell);
         if taken > room - count {
             return count;

@@ -4,6 +4,7 @@ mod areas;
 mod cells;
 mod failing;
 mod growth;
+mod marks;
 mod paper;
 mod prints;
 mod random;

@@ -121,6 +121,7 @@ impl<A: Allocator + Clone> Queue<A> {
     }
 
     /// The first event, which is taken out.
+    #[inline(always)]
     pub(super) fn next(&mut self) -> Option<InternalEvent<A>>
         ensures none { IfNone result ((self.old.waiting ≡ []) × (self.new.waiting ≡ [])) }
         ensures some { IfSome result (λ event. self.old.waiting ≡ seen event ∷ self.new.waiting) }
@@ -129,6 +130,9 @@ impl<A: Allocator + Clone> Queue<A> {
     {
         if let Some(c) = self.typed.next() {
             return Some(InternalEvent::Event(Event::Key(typed_key(c))));
+        }
+        if self.events.is_empty() {
+            return None;
         }
         self.events.pop_front()
     }

@@ -3,6 +3,7 @@
 mod boxed;
 mod calls;
 mod keyboard;
+mod known;
 mod pass;
 mod pasting;
 mod position;
@@ -10,7 +11,6 @@ mod reader;
 mod rule;
 mod slot;
 mod trying;
-mod view;
 mod within;
 
 pub use pass::Pass;

@@ -1,11 +1,12 @@
 //! What a stream and its worker share.
-ghost use Rattle.std.specs.Prelude.{◌≡◌, ◌≢◌, IfNone, IfSome};
+ghost use Rattle.std.specs.Prelude.{◌≡◌, ◌≢◌, IfSome};
 ghost use Rattle.std.specs.IoError.{error_kind};
 ghost use Rattle.std.specs.declared.io.ErrorKind.TheVariants.{Interrupted};
 ghost use Rattle.futures.specs.Task.{Covers, Keeps};
 
 use futures::task::{Context, Poll, Source, Waker};
 use std::io;
+use std::sync::atomic::{AtomicBool, Ordering};
 use std::sync::{Condvar, Mutex, Wait};
 use std::time::Duration;
 
@@ -33,6 +34,8 @@ struct State {
 #[derive(Drop)]
 pub struct Hub {
     pub(crate) source: Source,
+    // Whether a fault is kept: who finds none takes no lock.
+    has_fault: AtomicBool,
     state: Mutex<State>,
     // A task was given, or the stream is over: the worker waits for it.
     changed: Condvar,
@@ -45,6 +48,7 @@ impl Hub {
     pub(crate) fn new() -> Hub {
         Hub {
             source: Source::new(),
+            has_fault: AtomicBool::new(false),
             state: Mutex::new(State {
                 newest: None,
                 fault: None,
@@ -57,29 +61,45 @@ impl Hub {
         }
     }
 
-    // The fault that the worker kept, which is then gone. If there is none, the waker is registered as the newest.
-    pub(crate) fn register<R: Wait>(&self, rt: &R, cx: &mut Context<'_>) -> Option<io::Error>
-        ensures registered { IfNone result (Covers cx.new (λ s. s ≡ self.now.source.id)) }
-        ensures kept { Keeps cx.old cx.new }
+    // The fault that the worker kept, which is then gone.
+    #[inline(always)]
+    pub(crate) fn take_fault<R: Wait>(&self, rt: &R) -> Option<io::Error>
         ensures awake { IfSome result (λ e. error_kind e ≢ Interrupted) }
     {
-        let mut guard = self.state.lock(rt);
-        let state = &mut *guard;
-        if let Some(Fault { error }) = state.fault.take() {
-            return Some(error);
+        if self.has_fault.load(Ordering::SeqCst) {
+            return self.kept_fault(rt);
         }
-        let _pending: Poll<()> = cx.register(&self.source, &mut state.newest);
         None
     }
 
-    // Gives the worker a task, if none runs. If a fault came since the waker was registered, the waker was woken, and the fault is to be
-    // taken first.
-    pub(crate) fn give_task<R: Wait>(&self, rt: &R) {
+    // The same, without a faster way if there is none.
+    #[inline(never)]
+    fn kept_fault<R: Wait>(&self, rt: &R) -> Option<io::Error>
+        ensures awake { IfSome result (λ e. error_kind e ≢ Interrupted) }
+    {
         let mut state = self.state.lock(rt);
-        if state.fault.is_none() {
-            state.has_task = true;
-            self.changed.notify_one();
+        self.has_fault.store(false, Ordering::SeqCst);
+        match state.fault.take() {
+            Some(Fault { error }) => Some(error),
+            None => None,
         }
+    }
+
+    // Registers the waker as the newest, and gives the worker a task, if none runs. The worker polls after that, so no wake-up is lost. If a
+    // fault is kept, it is to be taken first: then the task is woken at once.
+    pub(crate) fn give_task<R: Wait>(&self, rt: &R, cx: &mut Context<'_>)
+        ensures registered { Covers cx.new (λ s. s ≡ self.now.source.id) }
+        ensures kept { Keeps cx.old cx.new }
+    {
+        let mut guard = self.state.lock(rt);
+        let state = &mut *guard;
+        let _pending: Poll<()> = cx.register(&self.source, &mut state.newest);
+        if state.fault.is_some() {
+            wake(state.newest.take());
+            return;
+        }
+        state.has_task = true;
+        self.changed.notify_one();
     }
 
     // Waits for a task: false if the stream is over.
@@ -96,6 +116,7 @@ impl Hub {
     {
         let mut state = self.state.lock(rt);
         state.has_task = false;
+        self.has_fault.store(fault.is_some(), Ordering::SeqCst);
         state.fault = match fault {
             Some(error) => Some(Fault { error }),
             None => None,

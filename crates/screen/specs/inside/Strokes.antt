@@ -1,5 +1,5 @@
 -- The tokens that strokes are written as.
-use Rattle.std.specs.Prelude.{◌≡◌, ⊤, ℕ, ◌+◌, ◌<◌, ◌^◌, Bool, true, false, List, [], ◌∷◌, ◌++◌, Option, Some, None, if◌then◌else◌, flat_map}
+use Rattle.std.specs.Prelude.{◌≡◌, ⊤, ℕ, ◌+◌, ◌<◌, ◌^◌, Bool, true, false, List, [], ◌∷◌, ◌++◌, Option, Some, None, if◌then◌else◌, flat_map, map}
 use Rattle.std.specs.List.{AllByRecursion}
 use Rattle.crossterm_command.specs.Controls.{reset, set}
 use Rattle.crossterm_command.specs.Tokens.{Token}
@@ -18,7 +18,7 @@ use Rattle.screen.specs.declared.strokes.RowStroke.{RowStroke}
 use Rattle.screen.specs.declared.strokes.RowStroke.TheVariants as row
 use Rattle.screen.specs.declared.strokes.Stroke.{Stroke}
 use Rattle.screen.specs.declared.strokes.Stroke.TheVariants as stroke
-use Rattle.screen.specs.Cells.{Cell, IsPrinted}
+use Rattle.screen.specs.Cells.{Cell, FitsCell}
 
 -- The tokens that set colours, or none if colours aren't written.
 abbrev pub color_tokens : ColorOutput → ContentStyle → List Token
@@ -33,7 +33,7 @@ tokens colors stroke.Erase = clear All
 tokens colors (stroke.Move column row) = move_to column row
 tokens colors (stroke.Style s) = attribute_functions Reset ++ act_tokens colors (style_acts s)
 tokens colors (stroke.Colors change) = color_tokens colors change
-tokens colors (stroke.Print c) = Char c ∷ []
+tokens colors (stroke.Print c marks) = Char c ∷ map Char marks
 tokens colors stroke.Show = set "25"
 tokens colors stroke.Hide = reset "25"
 
@@ -69,12 +69,11 @@ written in_row colors s = tokens_by colors s (replaced in_row s)
 abbrev pub written_of : Bool → ColorOutput → List Stroke → List Token
 written_of in_row colors strokes = flat_map (written in_row colors) strokes
 
--- A stroke behind those that begin a frame doesn't erase, moves by numbers below 2^32, and prints characters of one cell
--- or two.
+-- A stroke behind those that begin a frame doesn't erase, moves by numbers below 2^32, and prints what a cell can hold.
 abbrev pub IsFitting : Stroke → Type 0
 IsFitting stroke.Erase = ⊥
 IsFitting (stroke.Move column row) = (column < 2 ^ 32) × (row < 2 ^ 32)
-IsFitting (stroke.Print c) = IsPrinted c
+IsFitting (stroke.Print c marks) = FitsCell (c ∷ marks)
 IsFitting s = ⊤
 
 -- ---- kinds of strokes
@@ -95,7 +94,7 @@ abbrev pub is_other_stroke : Stroke → Bool
 is_other_stroke (stroke.Move column row) = false
 is_other_stroke (stroke.Style s) = false
 is_other_stroke (stroke.Colors change) = false
-is_other_stroke (stroke.Print c) = false
+is_other_stroke (stroke.Print c marks) = false
 is_other_stroke s = true
 
 -- The stroke neither begins an update nor ends one.
@@ -118,7 +117,7 @@ style_strokes (setting.Whole s) = stroke.Style s ∷ []
 
 -- The strokes that paint a cell: a move unless the cursor is there, the style, and the character.
 abbrev pub cell_strokes : Bool → Setting → ℕ → ℕ → Cell → List Stroke
-cell_strokes there how column row c = move_strokes there column row ++ (style_strokes how ++ (stroke.Print c.symbol ∷ []))
+cell_strokes there how column row c = move_strokes there column row ++ (style_strokes how ++ (stroke.Print c.symbol c.marks ∷ []))
 
 -- ---- the beginning and the end of a frame
 

@@ -1,6 +1,6 @@
 //! Lines that a helper completes, over scripted keys.
 
-use super::{Comes, begun, came, typed};
+use super::{Comes, EMPTY, NEXT, begun, came, is_written, typed};
 use crate::witness::Witness;
 use line_editor::{Editor, Limits};
 use prompt::{Prompt, Words};
@@ -10,7 +10,7 @@ use std::sync::Wait;
 use std::sync::atomic::AtomicU32;
 use test_support::expect;
 
-/// The rest of the last one has 80 columns, of which a line leaves 79.
+/// The rest of the last one has 80 columns, of which a line leaves 78.
 const NAMES: [&str; 5] = [
     "echo",
     "echoes",
@@ -25,8 +25,8 @@ struct Row {
     /// The bytes that a line has at most.
     most: usize,
     comes: Comes,
-    /// All that is written.
-    written: &'static [u8],
+    /// All that is written, a frame after the other.
+    written: &'static [&'static str],
 }
 
 const ROWS: &[Row] = &[
@@ -35,62 +35,114 @@ const ROWS: &[Row] = &[
         typed: b"ec\t\r",
         most: 9,
         comes: Comes::Line("echo"),
-        written: b"\x1b[1G\x1b[?7l\x1b[K\x1b[?7h\x1b[1G\x1b[1G\x1b[?7l\x1b[Ke\x1b[2mcho\x1b[22m\x1b[?7h\x1b[2G\x1b[1G\x1b[?7l\x1b[Kec\x1b[2mho\x1b[22m\x1b[?7h\x1b[3G\x1b[1G\x1b[?7l\x1b[Kecho\x1b[2mes\x1b[22m\x1b[?7h\x1b[5G\x1b[K\r\n",
+        written: &[
+            EMPTY,
+            "\x1b[?2026h\x1b[1G\x1b[0me\x1b[0m\x1b[2mcho\x1b[0m\x1b[2G\x1b[?25h\x1b[?2026l",
+            "\x1b[?2026h\x1b[2G\x1b[0mc\x1b[0m\x1b[3G\x1b[?25h\x1b[?2026l",
+            "\x1b[?2026h\x1b[3G\x1b[0mho\x1b[0m\x1b[2mes\x1b[0m\x1b[5G\x1b[?25h\x1b[?2026l",
+            "\x1b[K\r\n",
+        ],
     },
     // If no name begins so, Tab does nothing.
     Row {
         typed: b"x\t\r",
         most: 9,
         comes: Comes::Line("x"),
-        written: b"\x1b[1G\x1b[?7l\x1b[K\x1b[?7h\x1b[1G\x1b[1G\x1b[?7l\x1b[Kx\x1b[?7h\x1b[2G\x1b[1G\x1b[?7l\x1b[Kx\x1b[?7h\x1b[2G\r\n",
+        written: &[
+            EMPTY,
+            "\x1b[?2026h\x1b[1G\x1b[0mx\x1b[0m\x1b[2G\x1b[?25h\x1b[?2026l",
+            "\x1b[?2026h\x1b[0m\x1b[2G\x1b[?25h\x1b[?2026l",
+            NEXT,
+        ],
     },
     // Nor with Control, as kitty reports it, nor as it is let go.
     Row {
         typed: b"ec\x1b[9;5u\x1b[9;1:3u\r",
         most: 9,
         comes: Comes::Line("ec"),
-        written: b"\x1b[1G\x1b[?7l\x1b[K\x1b[?7h\x1b[1G\x1b[1G\x1b[?7l\x1b[Ke\x1b[2mcho\x1b[22m\x1b[?7h\x1b[2G\x1b[1G\x1b[?7l\x1b[Kec\x1b[2mho\x1b[22m\x1b[?7h\x1b[3G\x1b[1G\x1b[?7l\x1b[Kec\x1b[2mho\x1b[22m\x1b[?7h\x1b[3G\x1b[1G\x1b[?7l\x1b[Kec\x1b[2mho\x1b[22m\x1b[?7h\x1b[3G\x1b[K\r\n",
+        written: &[
+            EMPTY,
+            "\x1b[?2026h\x1b[1G\x1b[0me\x1b[0m\x1b[2mcho\x1b[0m\x1b[2G\x1b[?25h\x1b[?2026l",
+            "\x1b[?2026h\x1b[2G\x1b[0mc\x1b[0m\x1b[3G\x1b[?25h\x1b[?2026l",
+            "\x1b[?2026h\x1b[0m\x1b[3G\x1b[?25h\x1b[?2026l",
+            "\x1b[?2026h\x1b[0m\x1b[3G\x1b[?25h\x1b[?2026l",
+            "\x1b[K\r\n",
+        ],
     },
     // A rest that has no room rings the bell.
     Row {
         typed: b"ec\t\r",
         most: 3,
         comes: Comes::Line("ec"),
-        written: b"\x1b[1G\x1b[?7l\x1b[K\x1b[?7h\x1b[1G\x1b[1G\x1b[?7l\x1b[Ke\x1b[2mcho\x1b[22m\x1b[?7h\x1b[2G\x1b[1G\x1b[?7l\x1b[Kec\x1b[2mho\x1b[22m\x1b[?7h\x1b[3G\x07\x1b[K\r\n",
+        written: &[
+            EMPTY,
+            "\x1b[?2026h\x1b[1G\x1b[0me\x1b[0m\x1b[2mcho\x1b[0m\x1b[2G\x1b[?25h\x1b[?2026l",
+            "\x1b[?2026h\x1b[2G\x1b[0mc\x1b[0m\x1b[3G\x1b[?25h\x1b[?2026l",
+            "\x07",
+            "\x1b[K\r\n",
+        ],
     },
     // Undo takes a completion back.
     Row {
         typed: b"ec\t\x1f\r",
         most: 9,
         comes: Comes::Line("ec"),
-        written: b"\x1b[1G\x1b[?7l\x1b[K\x1b[?7h\x1b[1G\x1b[1G\x1b[?7l\x1b[Ke\x1b[2mcho\x1b[22m\x1b[?7h\x1b[2G\x1b[1G\x1b[?7l\x1b[Kec\x1b[2mho\x1b[22m\x1b[?7h\x1b[3G\x1b[1G\x1b[?7l\x1b[Kecho\x1b[2mes\x1b[22m\x1b[?7h\x1b[5G\x1b[1G\x1b[?7l\x1b[Kec\x1b[2mho\x1b[22m\x1b[?7h\x1b[3G\x1b[K\r\n",
+        written: &[
+            EMPTY,
+            "\x1b[?2026h\x1b[1G\x1b[0me\x1b[0m\x1b[2mcho\x1b[0m\x1b[2G\x1b[?25h\x1b[?2026l",
+            "\x1b[?2026h\x1b[2G\x1b[0mc\x1b[0m\x1b[3G\x1b[?25h\x1b[?2026l",
+            "\x1b[?2026h\x1b[3G\x1b[0mho\x1b[0m\x1b[2mes\x1b[0m\x1b[5G\x1b[?25h\x1b[?2026l",
+            "\x1b[?2026h\x1b[3G\x1b[0m\x1b[2mho\x1b[0m  \x1b[0m\x1b[3G\x1b[?25h\x1b[?2026l",
+            "\x1b[K\r\n",
+        ],
     },
     // What is behind the cursor stays there, and while something is, there is no hint.
     Row {
         typed: b"o\x01ec\t\r",
         most: 9,
         comes: Comes::Line("echoo"),
-        written: b"\x1b[1G\x1b[?7l\x1b[K\x1b[?7h\x1b[1G\x1b[1G\x1b[?7l\x1b[Ko\x1b[?7h\x1b[2G\x1b[1G\x1b[?7l\x1b[Ko\x1b[?7h\x1b[1G\x1b[1G\x1b[?7l\x1b[Keo\x1b[?7h\x1b[2G\x1b[1G\x1b[?7l\x1b[Keco\x1b[?7h\x1b[3G\x1b[1G\x1b[?7l\x1b[Kechoo\x1b[?7h\x1b[5G\r\n",
+        written: &[
+            EMPTY,
+            "\x1b[?2026h\x1b[1G\x1b[0mo\x1b[0m\x1b[2G\x1b[?25h\x1b[?2026l",
+            "\x1b[?2026h\x1b[0m\x1b[1G\x1b[?25h\x1b[?2026l",
+            "\x1b[?2026h\x1b[1G\x1b[0meo\x1b[0m\x1b[2G\x1b[?25h\x1b[?2026l",
+            "\x1b[?2026h\x1b[2G\x1b[0mco\x1b[0m\x1b[3G\x1b[?25h\x1b[?2026l",
+            "\x1b[?2026h\x1b[3G\x1b[0mhoo\x1b[0m\x1b[5G\x1b[?25h\x1b[?2026l",
+            NEXT,
+        ],
     },
     // A wide name, a hint that is erased by Ctrl-C, and one that has no room.
     Row {
         typed: b"\xe6\xbc\xa2\x03",
         most: 9,
         comes: Comes::Interrupted,
-        written: b"\x1b[1G\x1b[?7l\x1b[K\x1b[?7h\x1b[1G\x1b[1G\x1b[?7l\x1b[K\xe6\xbc\xa2\x1b[2m\xe5\xad\x97\x1b[22m\x1b[?7h\x1b[3G\x1b[K\r\n",
+        written: &[
+            EMPTY,
+            "\x1b[?2026h\x1b[1G\x1b[0m\u{6f22}\x1b[0m\x1b[2m\u{5b57}\x1b[0m\x1b[3G\x1b[?25h\x1b[?2026l",
+            "\x1b[K\r\n",
+        ],
     },
     Row {
         typed: b"n\r",
         most: 9,
         comes: Comes::Line("n"),
-        written: b"\x1b[1G\x1b[?7l\x1b[K\x1b[?7h\x1b[1G\x1b[1G\x1b[?7l\x1b[Kn\x1b[?7h\x1b[2G\r\n",
+        written: &[
+            EMPTY,
+            "\x1b[?2026h\x1b[1G\x1b[0mn\x1b[0m\x1b[2G\x1b[?25h\x1b[?2026l",
+            NEXT,
+        ],
     },
     // A control character is neither shown nor written.
     Row {
         typed: b"c\t\r",
         most: 9,
         comes: Comes::Line("c[2J"),
-        written: b"\x1b[1G\x1b[?7l\x1b[K\x1b[?7h\x1b[1G\x1b[1G\x1b[?7l\x1b[Kc\x1b[?7h\x1b[2G\x1b[1G\x1b[?7l\x1b[Kc[2J\x1b[?7h\x1b[5G\r\n",
+        written: &[
+            EMPTY,
+            "\x1b[?2026h\x1b[1G\x1b[0mc\x1b[0m\x1b[2G\x1b[?25h\x1b[?2026l",
+            "\x1b[?2026h\x1b[2G\x1b[0m[2J\x1b[0m\x1b[5G\x1b[?25h\x1b[?2026l",
+            NEXT,
+        ],
     },
 ];
 
@@ -107,7 +159,7 @@ fn is_so<R: Wait>(rt: &R, alloc: Global, row: &Row) -> io::Result<bool> {
     let words = Words::new(&NAMES);
     let prompt = Prompt::new("").with_helper(&words);
     let made = prompt.read_line(rt, &mut tty, &mut editor);
-    Ok(came(made, row.comes) && tty.out.as_slice() == row.written)
+    Ok(came(made, row.comes) && is_written(&tty.out, row.written))
 }
 
 #[test]
@@ -118,8 +170,8 @@ fn tab_completes_a_name(rt: HostRuntime) -> io::Result<()> {
     Ok(())
 }
 
-/// What is written as a name is completed and accepted: four drawings, the hint's end, and the next row.
-const COMPLETED: usize = ROWS[0].written.len();
+/// How many bytes are written as a name is completed and accepted: four frames, the hint's end, and the next row.
+const COMPLETED: usize = 41 + 50 + 39 + 50 + 5;
 
 /// Whether a line comes whole, in this call or the next, from a writer that fails after so many bytes.
 fn comes_whole<R: Wait>(rt: &R, alloc: Global, room: usize) -> io::Result<bool> {

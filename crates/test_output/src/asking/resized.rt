@@ -23,8 +23,9 @@ enum After {
     Fault,
 }
 
-/// What comes of a resize from 80 to 40 columns behind a pasted text of 50 columns.
+/// What comes of a resize from 80 columns to others, behind a pasted text of 50 columns.
 struct Row {
+    columns: u16,
     after: After,
     asks: bool,
     comes: &'static [Comes],
@@ -38,52 +39,95 @@ const PASTED: &[u8] = b"\x1b[200~xxxxxxxxxxxxxxxxxxxxxxxxxxxxxxxxxxxxxxxxxxxxxxx
 
 /// The empty line, and the whole text.
 const DRAWN: &[u8] =
-    b"\x1b[1G\x1b[?7l\x1b[K\x1b[?7h\x1b[1G\x1b[1G\x1b[?7l\x1b[Kxxxxxxxxxxxxxxxxxxxxxxxxxxxxxxxxxxxxxxxxxxxxxxxxxx\x1b[?7h\x1b[51G";
+    b"\x1b[?2026h\x1b[0m\x1b[1G\x1b[K\x1b[0m\x1b[1G\x1b[?25h\x1b[?2026l\x1b[?2026h\x1b[1G\x1b[0mxxxxxxxxxxxxxxxxxxxxxxxxxxxxxxxxxxxxxxxxxxxxxxxxxx\x1b[0m\x1b[51G\x1b[?25h\x1b[?2026l";
 
 const ENDED: Comes = Comes::Line(X50);
 
 const ROWS: &[Row] = &[
     // The row was wrapped to two, and the cursor is in the second: it goes up.
     Row {
+        columns: 40,
         after: After::Text(b"\x1b[2;11R\r"),
         asks: true,
         comes: &[ENDED],
-        written: b"\x1b[6n\x1b[1A\x1b[1G\x1b[J\x1b[1G\x1b[?7l\x1b[Kxxxxxxxxxxxxxxxxxxxxxxxxxxxxxxxxxxxxxxx\x1b[?7h\x1b[40G\r\n",
+        written: b"\x1b[6n\x1b[1A\x1b[1G\x1b[J\x1b[?2026h\x1b[0m\x1b[1G\x1b[K\x1b[1G\x1b[0mxxxxxxxxxxxxxxxxxxxxxxxxxxxxxxxxxxxxxx\x1b[0m\x1b[39G\x1b[?25h\x1b[?2026l\r\n",
     },
     // It was cut.
     Row {
+        columns: 40,
         after: After::Text(b"\x1b[1;40R\r"),
         asks: true,
         comes: &[ENDED],
-        written: b"\x1b[6n\x1b[1G\x1b[J\x1b[1G\x1b[?7l\x1b[Kxxxxxxxxxxxxxxxxxxxxxxxxxxxxxxxxxxxxxxx\x1b[?7h\x1b[40G\r\n",
+        written: b"\x1b[6n\x1b[1G\x1b[J\x1b[?2026h\x1b[0m\x1b[1G\x1b[K\x1b[1G\x1b[0mxxxxxxxxxxxxxxxxxxxxxxxxxxxxxxxxxxxxxx\x1b[0m\x1b[39G\x1b[?25h\x1b[?2026l\r\n",
     },
     // What is typed before the answer stays in order.
     Row {
+        columns: 40,
         after: After::Text(b"\x7f\x1b[2;11R\x7f\x03"),
         asks: true,
         comes: &[Comes::Interrupted],
-        written: b"\x1b[6n\x1b[1A\x1b[1G\x1b[J\x1b[1G\x1b[?7l\x1b[Kxxxxxxxxxxxxxxxxxxxxxxxxxxxxxxxxxxxxxxx\x1b[?7h\x1b[40G\x1b[1G\x1b[?7l\x1b[Kxxxxxxxxxxxxxxxxxxxxxxxxxxxxxxxxxxxxxxx\x1b[?7h\x1b[40G\x1b[1G\x1b[?7l\x1b[Kxxxxxxxxxxxxxxxxxxxxxxxxxxxxxxxxxxxxxxx\x1b[?7h\x1b[40G\r\n",
+        written: b"\x1b[6n\x1b[1A\x1b[1G\x1b[J\x1b[?2026h\x1b[0m\x1b[1G\x1b[K\x1b[1G\x1b[0mxxxxxxxxxxxxxxxxxxxxxxxxxxxxxxxxxxxxxx\x1b[0m\x1b[39G\x1b[?25h\x1b[?2026l\x1b[?2026h\x1b[0m\x1b[39G\x1b[?25h\x1b[?2026l\x1b[?2026h\x1b[0m\x1b[39G\x1b[?25h\x1b[?2026l\r\n",
     },
     // A terminal that doesn't answer isn't asked at the next resize.
     Row {
+        columns: 40,
         after: After::Nothing,
         asks: true,
         comes: &[ENDED],
-        written: b"\x1b[6n\x1b[1G\x1b[J\x1b[1G\x1b[?7l\x1b[Kxxxxxxxxxxxxxxxxxxxxxxxxxxxxxxxxxxxxxxx\x1b[?7h\x1b[40G\x1b[1G\x1b[J\x1b[1G\x1b[?7l\x1b[Kxxxxxxxxxxxxxxxxxxxxxxxxxxxxxxxxxxxxxxx\x1b[?7h\x1b[40G\r\n",
+        written: b"\x1b[6n\x1b[1G\x1b[J\x1b[?2026h\x1b[0m\x1b[1G\x1b[K\x1b[1G\x1b[0mxxxxxxxxxxxxxxxxxxxxxxxxxxxxxxxxxxxxxx\x1b[0m\x1b[39G\x1b[?25h\x1b[?2026l\x1b[1G\x1b[J\x1b[?2026h\x1b[0m\x1b[1G\x1b[K\x1b[1G\x1b[0mxxxxxxxxxxxxxxxxxxxxxxxxxxxxxxxxxxxxxx\x1b[0m\x1b[39G\x1b[?25h\x1b[?2026l\r\n",
     },
     // Nor is one that isn't to be asked.
     Row {
+        columns: 40,
         after: After::Text(b"\r"),
         asks: false,
         comes: &[ENDED],
-        written: b"\x1b[1G\x1b[J\x1b[1G\x1b[?7l\x1b[Kxxxxxxxxxxxxxxxxxxxxxxxxxxxxxxxxxxxxxxx\x1b[?7h\x1b[40G\r\n",
+        written: b"\x1b[1G\x1b[J\x1b[?2026h\x1b[0m\x1b[1G\x1b[K\x1b[1G\x1b[0mxxxxxxxxxxxxxxxxxxxxxxxxxxxxxxxxxxxxxx\x1b[0m\x1b[39G\x1b[?25h\x1b[?2026l\r\n",
     },
     // A question that fails ends the call, and the next one goes on with the line, in 40 columns.
     Row {
+        columns: 40,
         after: After::Fault,
         asks: true,
         comes: &[Comes::Fault(ErrorKind::TimedOut), ENDED],
-        written: b"\x1b[6n\x1b[1G\x1b[?7l\x1b[Kxxxxxxxxxxxxxxxxxxxxxxxxxxxxxxxxxxxxxxx\x1b[?7h\x1b[40G\r\n",
+        written: b"\x1b[6n\x1b[?2026h\x1b[0m\x1b[1G\x1b[K\x1b[1G\x1b[0mxxxxxxxxxxxxxxxxxxxxxxxxxxxxxxxxxxxxxx\x1b[0m\x1b[39G\x1b[?25h\x1b[?2026l\r\n",
+    },
+    // In more columns all is drawn anew too.
+    Row {
+        columns: 100,
+        after: After::Text(b"\x1b[1;51R\r"),
+        asks: true,
+        comes: &[ENDED],
+        written: b"\x1b[6n\x1b[1G\x1b[J\x1b[?2026h\x1b[0m\x1b[1G\x1b[K\x1b[1G\x1b[0mxxxxxxxxxxxxxxxxxxxxxxxxxxxxxxxxxxxxxxxxxxxxxxxxxx\x1b[0m\x1b[51G\x1b[?25h\x1b[?2026l\r\n",
+    },
+    // Three columns show one, two the cursor alone, and one or none nothing.
+    Row {
+        columns: 3,
+        after: After::Text(b"\x1b[17;3R\r"),
+        asks: true,
+        comes: &[ENDED],
+        written: b"\x1b[6n\x1b[1G\x1b[J\x1b[?2026h\x1b[0m\x1b[1G\x1b[K\x1b[1G\x1b[0mx\x1b[0m\x1b[2G\x1b[?25h\x1b[?2026l\r\n",
+    },
+    Row {
+        columns: 2,
+        after: After::Text(b"\x1b[25;2R\r"),
+        asks: true,
+        comes: &[ENDED],
+        written: b"\x1b[6n\x1b[1G\x1b[J\x1b[?2026h\x1b[0m\x1b[1G\x1b[K\x1b[0m\x1b[1G\x1b[?25h\x1b[?2026l\r\n",
+    },
+    Row {
+        columns: 1,
+        after: After::Text(b"\x1b[50;1R\r"),
+        asks: true,
+        comes: &[ENDED],
+        written: b"\x1b[6n\x1b[1G\x1b[J\r\n",
+    },
+    Row {
+        columns: 0,
+        after: After::Text(b"\x1b[1;1R\r"),
+        asks: true,
+        comes: &[ENDED],
+        written: b"\x1b[6n\x1b[1G\x1b[J\r\n",
     },
 ];
 
@@ -114,7 +158,7 @@ fn is_so<R: Wait>(
     comes: &[Comes],
 ) -> io::Result<bool> {
     let calls = AtomicU32::new(0);
-    let term = narrowing_by(RawFlag::new(alloc)?, &calls, 40);
+    let term = narrowing_by(RawFlag::new(alloc)?, &calls, row.columns);
     let out = Witness::new(alloc, room, ErrorKind::BrokenPipe);
     let script = Script::new(acts_of(alloc, row.after)?);
     let mut tty = Session::over(rt, alloc, script, term, out, Still)?;

@@ -39,7 +39,7 @@ fn are_apart() -> bool {
 
 /// How a bold cell shows to a programmer.
 const SHOWN: &str =
-    "Cell { symbol: 'x', style: ContentStyle { foreground_color: None, background_color: None, underline_color: None, attributes: Attributes(4) } }";
+    "Cell { symbol: 'x', marks: [], style: ContentStyle { foreground_color: None, background_color: None, underline_color: None, attributes: Attributes(4) } }";
 
 /// Whether a cell's attributes are a part of it, and it shows as what it was made of.
 fn is_bold(alloc: Global) -> bool {

@@ -38,11 +38,11 @@ enum Came {
     Wrong,
 }
 
-/// A sheet of two rows with a character in all cells of the second but the last.
-fn sheet(alloc: Global, width: u16, symbol: char, style: u32) -> Result<Sheet, AllocError> {
+/// A sheet of two rows with a text in all cells of the second but the last.
+fn sheet(alloc: Global, width: u16, text: &str, style: u32) -> Result<Sheet, AllocError> {
     let mut sheet = Sheet::new(alloc, width, 2)?;
     for column in 0..width.saturating_sub(1) {
-        sheet.set(column, 1, symbol, style);
+        sheet.set(column, 1, text, style);
     }
     Ok(sheet)
 }
@@ -69,8 +69,8 @@ fn all_of(alloc: Global, width: u16) -> Result<Frames, AllocError> {
     Ok(Frames {
         screen: Screen::new(alloc, width, 2)?,
         paper: Paper::new(alloc, width, 2)?,
-        first: sheet(alloc, width, 'Ж', 3)?,
-        second: sheet(alloc, width, 'x', 1)?,
+        first: sheet(alloc, width, "Ж\u{301}", 3)?,
+        second: sheet(alloc, width, "x", 1)?,
     })
 }
 

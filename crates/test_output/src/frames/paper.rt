@@ -20,11 +20,45 @@ pub const PLAIN: Look = Look {
     is_reverse: false,
 };
 
-/// A character by its code, in its look.
+/// A character by its code, and accents on it by theirs, in its look.
 #[derive(Clone, Copy, PartialEq, Eq, Debug)]
 pub struct Mark {
     pub code: u32,
+    pub accents: [u32; 3],
     pub look: Look,
+}
+
+impl Mark {
+    /// A character without accents.
+    pub fn new(code: u32, look: Look) -> Mark {
+        Mark {
+            code,
+            accents: [0; 3],
+            look,
+        }
+    }
+
+    /// Adds an accent, and returns whether there was room.
+    pub fn add(&mut self, accent: u32) -> bool {
+        for place in self.accents.iter_mut() {
+            if *place == 0 {
+                *place = accent;
+                return true;
+            }
+        }
+        false
+    }
+
+    /// How many characters it is written by.
+    pub fn count(&self) -> u32 {
+        let mut count = 1u32;
+        for accent in self.accents {
+            if accent != 0 {
+                count = count.saturating_add(1);
+            }
+        }
+        count
+    }
 }
 
 /// What the bytes so far are within.
@@ -54,6 +88,8 @@ pub struct Paper {
     look: Look,
     at: At,
     code: u32,
+    // The place of the character that was written last, if nothing but its accents came since.
+    last: Option<usize>,
     // The parameters so far, of which at most 4 are kept, and whether a `?` came.
     numbers: [u32; 4],
     count: usize,
@@ -125,10 +161,7 @@ pub fn style_of(number: u32) -> ContentStyle {
 impl Paper {
     /// A paper full of rubbish, with the cursor and the style anywhere.
     pub fn new(alloc: Global, width: u16, height: u16) -> Result<Paper, AllocError> {
-        let rubbish = Mark {
-            code: 0x23,
-            look: look_of(3),
-        };
+        let rubbish = Mark::new(0x23, look_of(3));
         let count = usize::from(width).saturating_mul(usize::from(height));
         let marks = Vec::from_elem(alloc, rubbish, count)?;
         Ok(Paper {
@@ -143,17 +176,35 @@ impl Paper {
             look: look_of(2),
             at: At::Ground,
             code: 0,
+            last: None,
             numbers: [0; 4],
             count: 0,
             is_private: false,
         })
     }
 
-    fn print(&mut self) {
-        let mark = Mark {
-            code: self.code,
-            look: self.look,
+    // An accent goes to the character that was written last.
+    fn accent(&mut self) {
+        let code = self.code;
+        let is_added = match self.last {
+            Some(at) => match self.marks.get_mut(at) {
+                Some(mark) => mark.add(code),
+                None => false,
+            },
+            None => false,
         };
+        if !is_added {
+            self.is_spoilt = true;
+        }
+        self.printed = self.printed.saturating_add(1);
+    }
+
+    fn print(&mut self) {
+        if matches!(self.code, 0x300..=0x36F) {
+            self.accent();
+            return;
+        }
+        let mark = Mark::new(self.code, self.look);
         let at = self
             .row
             .saturating_mul(self.width)
@@ -163,6 +214,7 @@ impl Paper {
             Some(place) if is_inside => *place = mark,
             _ => self.is_spoilt = true,
         }
+        self.last = Some(at);
         self.column = self.column.saturating_add(1);
         self.printed = self.printed.saturating_add(1);
     }
@@ -194,10 +246,7 @@ impl Paper {
         if self.look != PLAIN {
             self.is_spoilt = true;
         }
-        let space = Mark {
-            code: 0x20,
-            look: PLAIN,
-        };
+        let space = Mark::new(0x20, PLAIN);
         for place in self.marks.iter_mut() {
             *place = space;
         }
@@ -273,6 +322,7 @@ impl Paper {
 
     fn put(&mut self, byte: u8) {
         if byte == 0x1B {
+            self.last = None;
             self.at = At::Escape;
             return;
         }
@@ -323,10 +373,7 @@ pub struct Sheet {
 impl Sheet {
     /// A blank one.
     pub fn new(alloc: Global, width: u16, height: u16) -> Result<Sheet, AllocError> {
-        let space = Mark {
-            code: 0x20,
-            look: PLAIN,
-        };
+        let space = Mark::new(0x20, PLAIN);
         let count = usize::from(width).saturating_mul(usize::from(height));
         Ok(Sheet {
             buffer: Buffer::new(alloc, width, height)?,
@@ -334,27 +381,27 @@ impl Sheet {
         })
     }
 
-    /// Sets a character in a style, and returns whether it is as it should be.
-    pub fn set(&mut self, column: u16, row: u16, symbol: char, style: u32) -> bool {
+    /// Prints a character and its accents in a style, and returns whether it is as it should be.
+    pub fn set(&mut self, column: u16, row: u16, text: &str, style: u32) -> bool {
         let width = usize::from(self.buffer.width());
         let at = usize::from(row)
             .saturating_mul(width)
             .saturating_add(usize::from(column));
-        let mark = Mark {
-            code: symbol as u32,
-            look: look_of(style),
-        };
+        let mut mark = Mark::new(0, look_of(style));
+        for symbol in text.chars() {
+            if mark.code == 0 {
+                mark.code = symbol as u32;
+            } else if !mark.add(symbol as u32) {
+                return false;
+            }
+        }
+        let printed = self.buffer.print(column, row, text, style_of(style));
         match self.marks.get_mut(at) {
             Some(place) if usize::from(column) < width => {
                 *place = mark;
-                self.buffer
-                    .set(column, row, symbol, style_of(style))
-                    .is_ok()
+                printed == Ok(1)
             }
-            _ => self
-                .buffer
-                .set(column, row, symbol, style_of(style))
-                .is_err(),
+            _ => printed != Ok(1),
         }
     }
 }

@@ -13,7 +13,20 @@ const FRAMES: u32 = 50;
 /// The number from which the random ones follow.
 const SEED: u32 = 20_261_124;
 
-const SYMBOLS: [char; 8] = ['a', 'b', ' ', '~', 'é', 'Ж', '─', '𝔸'];
+const SYMBOLS: [&str; 12] = [
+    "a",
+    "b",
+    " ",
+    "~",
+    "é",
+    "Ж",
+    "─",
+    "𝔸",
+    "e\u{301}",
+    "e\u{301}\u{323}",
+    "a\u{308}\u{304}\u{300}",
+    "─\u{336}",
+];
 
 /// The next of the random numbers, below a limit.
 fn number(state: &mut u32, below: u16) -> u16 {
@@ -27,19 +40,19 @@ fn change(sheet: &mut Sheet, state: &mut u32) -> bool {
     for _ in 0..number(state, 9) {
         let column = number(state, 12);
         let row = number(state, 6);
-        let symbol = *SYMBOLS.get(usize::from(number(state, 8))).unwrap_or(&'?');
+        let text = *SYMBOLS.get(usize::from(number(state, 12))).unwrap_or(&"?");
         let style = u32::from(number(state, 7));
-        is_right = sheet.set(column, row, symbol, style) && is_right;
+        is_right = sheet.set(column, row, text, style) && is_right;
     }
     is_right
 }
 
-/// How many cells differ.
+/// How many characters the cells have that differ.
 fn count_changed(old: &Sheet, new: &Sheet) -> u32 {
     let mut count = 0u32;
     for (left, right) in old.marks.iter().zip(new.marks.iter()) {
         if left != right {
-            count = count.saturating_add(1);
+            count = count.saturating_add(right.count());
         }
     }
     count

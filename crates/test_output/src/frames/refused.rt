@@ -10,7 +10,7 @@ use std::io::{self, ErrorKind};
 use test_support::{expect, is_text};
 
 /// Characters, and why no cell can hold them (Unicode Standard Annex 11; ECMA-48 for the control characters).
-const ROWS: [(char, Option<CellFault>); 11] = [
+const ROWS: [(char, Option<CellFault>); 15] = [
     ('\u{0}', Some(CellFault::Control)),
     ('\u{1b}', Some(CellFault::Control)),
     ('\u{7f}', Some(CellFault::Control)),
@@ -18,6 +18,10 @@ const ROWS: [(char, Option<CellFault>); 11] = [
     ('\u{301}', Some(CellFault::NoWidth)),
     ('\u{200b}', Some(CellFault::NoWidth)),
     ('\u{17d8}', Some(CellFault::Wide)),
+    ('\u{200d}', Some(CellFault::Joined)),
+    ('\u{1f1e9}', Some(CellFault::Joined)),
+    ('\u{1f3fd}', Some(CellFault::Joined)),
+    ('\u{e0067}', Some(CellFault::Joined)),
     ('漢', None),
     ('😀', None),
     ('é', None),
@@ -76,11 +80,16 @@ fn faults_have_names(rt: HostRuntime) -> Result<(), AllocError> {
 }
 
 /// What a program prints of each fault.
-const TEXTS: [(CellFault, &str); 6] = [
+const TEXTS: [(CellFault, &str); 8] = [
     (CellFault::Outside, "outside the buffer"),
     (CellFault::Control, "a control character"),
     (CellFault::NoWidth, "a character of width 0"),
     (CellFault::Wide, "a character of too many columns"),
+    (
+        CellFault::Joined,
+        "a character that terminals join with others",
+    ),
+    (CellFault::ManyMarks, "more than three marks"),
     (
         CellFault::LastColumn,
         "a character of two columns in the last one",

@@ -24,7 +24,7 @@ fn is_shown(alloc: Global, screen: &mut Screen, sheet: &Sheet, paper: &mut Paper
 /// Changes all cells of the first row.
 fn change(sheet: &mut Sheet, style: u32) {
     for column in 0..sheet.buffer.width() {
-        sheet.set(column, 0, 'ß', style);
+        sheet.set(column, 0, "ß", style);
     }
 }
 

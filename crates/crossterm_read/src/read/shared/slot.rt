@@ -13,12 +13,13 @@ ghost use Rattle.crossterm_read.specs.inside.Slot.{ProducesCall, Learnt, Put, To
 
 use crate::read::InternalEventReader;
 use crate::read::shared::boxed::Boxed;
+use crate::read::shared::known::Known;
 use crate::read::shared::pass::Pass;
 use crate::read::shared::rule::{
-    Another, Left, Made, OneAndTheSame, Opens, Others, Puts, SlotPass, SlotQueue, Takes, TakesIn,
+    Another, Left, Made, OneAndTheSame, OneHistory, Opens, Others, Puts, SlotPass, Takes, TakesIn,
 };
-use crate::read::shared::view::View;
 use crate::source::{EventSource, Waker};
+use crossbeam_queue::RuledArrayQueue;
 use crossterm_types::event::timeout::{Clock, PollTimeout, Still};
 use std::alloc::Allocator;
 use std::boxed::Box;
@@ -29,7 +30,7 @@ use std::time::Duration;
 /// The slot that holds the reader, and beside it what reports each put.
 #[derive(Drop)]
 pub struct Slot<S: EventSource<A>, A: Allocator> {
-    pub(crate) queue: SlotQueue<S, A>,
+    pub(crate) queue: RuledArrayQueue<Boxed<S, A>, Known<S>, OneHistory, A>,
     pub(crate) puts: Condvar,
     pub(crate) waker: Waker,
     ghost one: { ruled_capacity queue ≡ 1 },
@@ -50,7 +51,7 @@ impl<S: EventSource<A>, A: Allocator + Clone> Slot<S, A> {
         let waker = reader.waker()?;
         let _fits_u64 = reader.arrivals();
         let reader = Box::new(alloc.clone()?, reader)?;
-        let (queue, mut first) = SlotQueue::<S, A>::ruled(alloc, 1)?;
+        let (queue, mut first) = RuledArrayQueue::ruled(alloc, 1)?;
         match queue.push_as::<Opens<M>, R>(rt, &mut first, Boxed { reader }) {
             Ok(()) => {}
             Err(_) => unreachable!(),
@@ -105,7 +106,7 @@ impl<S: EventSource<A>, A: Allocator> Slot<S, A> {
     }
 
     // A pass takes in what another has seen.
-    pub(crate) fn meet<M: Left<View<S>>>(&self, one: &mut SlotPass<S, A>, other: SlotPass<S, A>)
+    pub(crate) fn meet<M: Left<Known<S>>>(&self, one: &mut SlotPass<S, A>, other: SlotPass<S, A>)
         requires slot_passes { queues.IsPassOf self.now.queue one.old × queues.IsPassOf self.now.queue other }
         requires opened { (o : ReaderState S) × ((view one.old).opening ≡ Some o) }
         requires left { M.left ≡ view other }

@@ -58,6 +58,7 @@ impl<S: EventSource<A>, A: Allocator + Clone> EventReader<S, A> {
     // Takes the first event of the user, if one is held or comes at once: the device is asked once at most, with limit zero.
     //
     // It waits for nobody: if another has the reader, it returns `None`.
+    #[inline(always)]
     pub(crate) fn try_read<R: Wait>(
         &self,
         rt: &R,

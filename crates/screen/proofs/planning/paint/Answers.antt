@@ -14,7 +14,8 @@ returns g c =
     let now = held c.put.new.writer in
     let moves = move_strokes c.args.there c.args.place.0 c.args.place.1 in
     let style = style_strokes c.args.setting.now in
-    let print = stroke.Print c.symbol.result ∷ [] in
-    subst (λ s. PutsStrokes (moves ++ (style ++ (stroke.Print s ∷ []))) old c.args.pen.now now c.put.new.pen) c.symbol.ensures
+    let print = stroke.Print c.symbol.result c.marks.result ∷ [] in
+    subst (λ s. PutsStrokes (moves ++ (style ++ (stroke.Print s c.args.cell.now.marks ∷ []))) old c.args.pen.now now c.put.new.pen) c.symbol.ensures
+    (subst (λ m. PutsStrokes (moves ++ (style ++ (stroke.Print c.symbol.result m ∷ []))) old c.args.pen.now now c.put.new.pen) c.marks.ensures
     (puts_both moves (style ++ print) old moved now c.args.pen.now c.put_move.new.pen c.put.new.pen c.put_move.ensures
-    (puts_both style print moved set now c.put_move.new.pen c.put_style.new.pen c.put.new.pen c.put_style.ensures c.put.ensures))
+    (puts_both style print moved set now c.put_move.new.pen c.put_style.new.pen c.put.new.pen c.put_style.ensures c.put.ensures)))

@@ -1,6 +1,6 @@
 use Rattle.std.proofs.Common.{rules, ◌≡◌, ◌≢◌, ◌++◌, ◌+◌, ◌*◌, ◌<◌, ◌≤◌, ◌^◌, List, None, set, length, get_or, arith, true, false, sym, ap, ◌∙◌, subst, Some}
 use Rattle.std.proofs.lemmas.List.{get_or_default}
-use Rattle.screen.specs.Cells.{IsPrinted, IsPlaced, blank, is_covered, is_wide, last_place}
+use Rattle.screen.specs.Cells.{FitsCell, IsPlaced, blank, is_covered, is_wide, last_place, shown_text}
 use Rattle.screen.specs.Grids.{is_last, right_of}
 use Rattle.screen.specs.Updates.{HasToBePrinted}
 use Rattle.screen.specs.declared.strokes.Stroke.{Stroke}
@@ -8,7 +8,7 @@ use Rattle.screen.specs.inside.Pens.{PutsStrokes}
 use Rattle.screen.specs.inside.Settings.{Sets}
 use Rattle.screen.specs.inside.Strokes.{AreFitting, cell_strokes, first_strokes}
 use Rattle.screen.proofs.Putting.{puts_both}
-use Rattle.screen.proofs.Scans.{ends, keeps, keeps_counted, paints, paints_counted, paints_fitting, starts, starts_counted, starts_fitting, placed_printed, within_length}
+use Rattle.screen.proofs.Scans.{ends, keeps, keeps_counted, paints, paints_counted, paints_fitting, starts, starts_counted, starts_fitting, placed_held, within_length}
 use Rattle.screen.proofs.Skips.{AreCopied, AreSame, Stage, copied_all, copied_more, copied_one, copied_same, copied_start, stage_skipped}
 use Rattle.screen.proofs.Spares.{spares_all, spares_kept, spares_painted, spares_start}
 use Rattle.screen.proofs.planning.scan.Goals.{then-not-is_covered, else-not-is_covered}
@@ -77,7 +77,7 @@ loop-at-preserved g c =
           let uncovered : is_covered cell ≡ false = search rules in
           let prints : HasToBePrinted b cell = (uncovered, differ) in
           let is_placed : IsPlaced cell = subst IsPlaced ec (c.requires.fits k cell la) in
-          let fits : IsPrinted cell.symbol = placed_printed cell uncovered is_placed in
+          let fits : FitsCell (shown_text cell) = placed_held cell uncovered is_placed in
           let room : is_wide cell ≡ true → is_last w k ≡ false = λ y. c.requires.rows k cell la (ap is_wide ec ∙ y) in
           let more = cell_strokes there how place.0 place.1 cell in
           let next = right_of w (last_place k cell) in

@@ -1,34 +1,25 @@
-use Rattle.std.proofs.Common.{◌≡◌, ◌+◌, None, Some, chars, drop, length, ap, sym, ◌∙◌, arith}
-use Rattle.std.proofs.lemmas.Iterator.{YieldsList-from_chars}
-use Rattle.std.proofs.lemmas.Iterator.Consumers.{YieldsList-turn, YieldsList-end}
-use Rattle.std.proofs.lemmas.List.{drop_all, length_push}
-use Rattle.screen.specs.Texts.{text_fault}
-use Rattle.screen.specs.Cells.{symbol_fault}
-use Rattle.screen.proofs.Prints.{fault_from}
+use Rattle.std.proofs.Common.{◌≡◌, [], None, Some, ap, sym, ◌∙◌, rules}
+use Rattle.std.specs.Str.{chars}
+use Rattle.screen.specs.Parts.{text_parts}
+use Rattle.screen.specs.Texts.{part_fault, text_fault}
 use Rattle.screen.proofs.texts.text_fault.Goals as goal
 
-pub loop-symbol-preserved : goal.loop-symbol-preserved
-loop-symbol-preserved c =
-    let text = chars c.args.text.now in
-    let symbol = c.in-Some.symbol in
-    let n = length c.loop-symbol.yielded in
-    let turn = YieldsList-turn (YieldsList-from_chars c.args.text.now c.utf8.text cc) c.loop-symbol.yielded _ c.loop-symbol.yielded_by _ _ symbol c.in-Some.is c.next.ensures.steps in
-    let none : symbol_fault symbol ≡ None = sym c.symbol_fault.ensures.value ∙ c.in_default.is in
-    let rest : text_fault (drop n text) ≡ text_fault (drop (n + 1) text) =
-    fault_from text n symbol turn.0 turn.1 ∙ ap (λ o. elim o [ Some fault ↦ Some fault | None ↦ text_fault (drop (n + 1) text) ]) none in
-    ap (λ m. text_fault (drop m text)) (length_push c.loop-symbol.yielded symbol) ∙ sym rest ∙ c.loop-symbol.invariant
+pub loop-part-preserved : goal.loop-part-preserved
+loop-part-preserved c =
+    let first = c.in-Some.ensures.0 in
+    let none : part_fault first.front ≡ None = sym (c.part_fault.ensures.value first.front first.held) ∙ c.in_default-part_fault.is in
+    record {
+      utf8 = search rules;
+      same = sym (ap (λ o. elim o [ Some fault ↦ Some fault | None ↦ text_fault (text_parts (chars c.in-Some.back.now)) ]) none) ∙ sym (ap text_fault first.first) ∙ c.loop-part.invariant.same;
+    }
 
-pub returns-in-Some-symbol_fault : goal.returns-in-Some-symbol_fault
-returns-in-Some-symbol_fault c =
-    let text = chars c.args.text.now in
-    let n = length c.loop-symbol.yielded in
-    let turn = YieldsList-turn (YieldsList-from_chars c.args.text.now c.utf8.text cc) c.loop-symbol.yielded _ c.loop-symbol.yielded_by _ _ c.in-Some.symbol c.in-Some.is c.next.ensures.steps in
-    let some : symbol_fault c.in-Some.symbol ≡ Some c.in-Some-symbol_fault.fault = sym c.symbol_fault.ensures.value ∙ c.in-Some-symbol_fault.is in
-    sym (sym c.loop-symbol.invariant ∙ fault_from text n c.in-Some.symbol turn.0 turn.1
-    ∙ ap (λ o. elim o [ Some fault ↦ Some fault | None ↦ text_fault (drop (n + 1) text) ]) some)
+pub returns-in-Some-part_fault : goal.returns-in-Some-part_fault
+returns-in-Some-part_fault c =
+    let first = c.in-Some.ensures.0 in
+    let some : part_fault first.front ≡ Some c.in-Some-part_fault.fault = sym (c.part_fault.ensures.value first.front first.held) ∙ c.in-Some-part_fault.is in
+    sym (ap (λ o. elim o [ Some fault ↦ Some fault | None ↦ text_fault (text_parts (chars c.in-Some.back.now)) ]) some) ∙ sym (ap text_fault first.first) ∙ c.loop-part.invariant.same
 
 pub returns : goal.returns
 returns c =
-    let text = chars c.args.text.now in
-    let end = YieldsList-end (YieldsList-from_chars c.args.text.now c.utf8.text cc) c.loop-symbol.yielded _ c.loop-symbol.yielded_by _ _ c.in-None.is c.next.ensures.steps in
-    sym (sym c.loop-symbol.invariant ∙ ap text_fault (drop_all (length c.loop-symbol.yielded) text (omega (arith, end.1))))
+    let end : chars c.loop-part.rest.now ≡ [] = search rules in
+    sym (ap (λ t. text_fault (text_parts t)) end) ∙ c.loop-part.invariant.same

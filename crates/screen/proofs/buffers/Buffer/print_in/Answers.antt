@@ -2,27 +2,29 @@ use Rattle.std.proofs.Common.{◌≡◌, ◌+◌, ◌-◌, ◌<◌, ◌≤◌, L
 use Rattle.screen.specs.Alignments.{indent, refusal_in}
 use Rattle.screen.specs.Buffers.{Picture, with_shown, with_text}
 use Rattle.screen.specs.Texts.{text_columns, text_fault, within}
+use Rattle.screen.specs.declared.texts.Editing.TheVariants.{Whole}
+use Rattle.screen.specs.Parts.{text_parts}
 use Rattle.screen.specs.inside.Edits.{edited}
 use Rattle.screen.proofs.Alignments.{shown_whole, within_less}
-use Rattle.screen.proofs.Prints.{edits_none}
+use Rattle.screen.proofs.Prints.{edits_whole}
 use Rattle.screen.proofs.buffers.Buffer.print_in.Goals as goal
 
 -- What is printed is what has room in the rectangle.
-shown : (text : List ℕ) (room before used : ℕ) → text_fault text ≡ None → used ≡ text_columns (within room text) → before + used ≤ room
-    → within (room - before) (edited None text) ≡ within room text
+shown : (text : List (List ℕ)) (room before used : ℕ) → text_fault text ≡ None → used ≡ text_columns (within room text) → before + used ≤ room
+    → within (room - before) (edited Whole text) ≡ within room text
 shown text room before used none is few =
-    ap (within (room - before)) (edits_none None text none) ∙ within_less text room (room - before) (omega arith) (omega (arith, is, few))
+    ap (within (room - before)) (edits_whole text none) ∙ within_less text room (room - before) (omega arith) (omega (arith, is, few))
 
 pub returns-clause-used : goal.returns-clause-used
 returns-clause-used g c =
-    let text = chars c.args.text.now in
+    let text = text_parts (chars c.args.text.now) in
     let none : text_fault text ≡ None = sym c.text_fault.ensures ∙ c.fault_in.ensures.other c.in_default.is in
     c.print_at.ensures.used ∙ ap text_columns (shown text c.room_in-room.result c.indent-before.result c.columns_within.result none c.columns_within.ensures.value c.indent-before.ensures.few)
     ∙ ap (λ k. text_columns (within k text)) c.room_in-room.ensures.value
 
 pub returns-clause-ok : goal.returns-clause-ok
 returns-clause-ok g c =
-    let text = chars c.args.text.now in
+    let text = text_parts (chars c.args.text.now) in
     let p : Picture = c.args.self.now in
     let r = c.args.rect in
     let row = r.y + c.args.row in

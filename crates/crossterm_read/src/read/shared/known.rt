@@ -3,13 +3,13 @@
 use std::marker::{Model, PhantomData};
 
 /// What a pass knows of the reader that it shares. It is used in proofs alone: no value of it is made.
-pub struct View<S>(PhantomData<S>);
+pub struct Known<S>(PhantomData<S>);
 
-impl<S> Model for View<S> {
-    ghost use Rattle.crossterm_read.specs.History.{Known};
+impl<S> Model for Known<S> {
+    ghost use Rattle.crossterm_read.specs.History as history;
     ghost use Rattle.crossterm_read.specs.inside.Slot.{newcomer};
 
-    ghost Value = { Known S };
+    ghost Value = { history.Known S };
 
     ghost view = { λ _. newcomer };
 }

@@ -1,0 +1,47 @@
+-- How the cursor's row is drawn.
+use Rattle.std.specs.Prelude.{◌≡◌, ◌⊎◌, ℕ, ◌+◌, ◌-◌, ◌++◌, ◌==◌, min, nat_le, true, List, [], Option, Some, None, if◌then◌else◌}
+use Rattle.std.specs.Str.{chars}
+use Rattle.std.specs.List.{starts_with}
+use Rattle.crossterm.specs.Functions.{AppendsReading}
+use Rattle.crossterm_command.specs.Tokens.{Token}
+use Rattle.crossterm_command.specs.declared.color_output.ColorOutput.TheVariants.{Enabled}
+use Rattle.line_editor.specs.Splits.{Split}
+use Rattle.line_editor.specs.Views.{seen_text}
+use Rattle.screen.specs.Buffers.{Picture}
+use Rattle.screen.specs.Parts.{text_parts}
+use Rattle.screen.specs.Strips.{StripView, IsRowFrame, with_row}
+use Rattle.screen.specs.Texts.{replaced, text_columns, within}
+
+-- Nothing is known of a row that has all columns of the window but the last one.
+abbrev pub IsUnknown : ℕ → StripView → Type 0
+IsUnknown columns s = (s.width ≡ columns - 1) × (s.drawn ≡ None)
+
+-- One frame was written: the row shows the picture with the cursor in this column, and nothing else changes.
+abbrev pub IsDrawn : Picture → ℕ → StripView → StripView → Option (List ℕ) → Option (List ℕ) → Type 0
+IsDrawn p column s t old new =
+    (t ≡ with_row s Enabled p.cells) × (ts : List Token) × AppendsReading old new ts × IsRowFrame s Enabled p (Some column) ts
+
+-- A text is two parts, and another text begins with the second one.
+abbrev pub IsParted : List ℕ → List ℕ → List ℕ → List ℕ → Type 0
+IsParted text front rest after = (text ≡ front ++ rest) × (starts_with (λ a b. a == b) after rest ≡ true)
+
+-- The column behind a text that is printed from a column of a row of this width on, or 65,535 if that is less.
+abbrev pub column_behind : ℕ → ℕ → List ℕ → ℕ
+column_behind width column text = min (column + text_columns (within (width - column) (replaced 0xFFFD (text_parts text)))) 65535
+
+-- A column, or the last one of a row of this width if it is behind that.
+abbrev pub inside : ℕ → ℕ → ℕ
+inside width column = if nat_le column (width - 1) then column else width - 1
+
+-- The cursor is behind what was printed of the prompt, if it was, and of the line before the cursor, inside the row.
+pub record IsCursor (width : ℕ) (prompt : List ℕ) (line : Split) (column : ℕ) : Type 0 where
+  pub shown : List ℕ
+  pub text : List ℕ
+  pub front : List ℕ
+  pub rest : List ℕ
+  pub after : List ℕ
+  pub prompts : (shown ≡ []) ⊎ (shown ≡ prompt)
+  pub seen : (room : ℕ) × (chars text ≡ seen_text room line)
+  pub behind : chars after ≡ line.after
+  pub parted : IsParted text front rest after
+  pub value : column ≡ inside width (column_behind width (column_behind width 0 (chars shown)) (chars front))

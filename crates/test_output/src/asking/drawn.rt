@@ -1,0 +1,113 @@
+//! What is written of a line as keys are typed: what changed, a frame after the other.
+
+use super::{Comes, EMPTY, NEXT, Row, is_so};
+use std::io;
+use test_support::expect;
+
+const ROWS: &[Row] = &[
+    // A mark is in the cell of the character before it.
+    Row {
+        typed: b"e\xcc\x81\r",
+        prompt: "",
+        most: 9,
+        comes: Comes::Line("e\u{301}"),
+        written: &[
+            EMPTY,
+            "\x1b[?2026h\x1b[1G\x1b[0me\x1b[0m\x1b[2G\x1b[?25h\x1b[?2026l",
+            "\x1b[?2026h\x1b[1G\x1b[0me\u{301}\x1b[0m\x1b[2G\x1b[?25h\x1b[?2026l",
+            NEXT,
+        ],
+    },
+    // A family of three is shown one by one, since terminals disagree on what joins them. The cursor is behind it, and then before it.
+    Row {
+        typed: b"\x1b[200~\xf0\x9f\x91\xa8\xe2\x80\x8d\xf0\x9f\x91\xa9\xe2\x80\x8d\xf0\x9f\x91\xa7\x1b[201~\x02\r",
+        prompt: "",
+        most: 18,
+        comes: Comes::Line("\u{1f468}\u{200d}\u{1f469}\u{200d}\u{1f467}"),
+        written: &[
+            EMPTY,
+            "\x1b[?2026h\x1b[1G\x1b[0m\u{1f468}\u{fffd}\u{1f469}\u{fffd}\u{1f467}\x1b[0m\x1b[9G\x1b[?25h\x1b[?2026l",
+            "\x1b[?2026h\x1b[0m\x1b[1G\x1b[?25h\x1b[?2026l",
+            NEXT,
+        ],
+    },
+    // The cursor is behind what was replaced before it, and before what is replaced behind it.
+    Row {
+        typed: b"\x1b[200~a\xe2\x81\xa0\xe2\x81\xa0b\x1b[201~\x02\x02\x02\r",
+        prompt: "",
+        most: 9,
+        comes: Comes::Line("a\u{2060}\u{2060}b"),
+        written: &[
+            EMPTY,
+            "\x1b[?2026h\x1b[1G\x1b[0ma\u{fffd}\u{fffd}b\x1b[0m\x1b[5G\x1b[?25h\x1b[?2026l",
+            "\x1b[?2026h\x1b[0m\x1b[4G\x1b[?25h\x1b[?2026l",
+            "\x1b[?2026h\x1b[0m\x1b[3G\x1b[?25h\x1b[?2026l",
+            "\x1b[?2026h\x1b[0m\x1b[2G\x1b[?25h\x1b[?2026l",
+            NEXT,
+        ],
+    },
+    // Of a line that was longer nothing is left.
+    Row {
+        typed: b"\x1b[200~abc\x1b[201~\x7f\x15\r",
+        prompt: "",
+        most: 9,
+        comes: Comes::Line(""),
+        written: &[
+            EMPTY,
+            "\x1b[?2026h\x1b[1G\x1b[0mabc\x1b[0m\x1b[4G\x1b[?25h\x1b[?2026l",
+            "\x1b[?2026h\x1b[3G\x1b[0m \x1b[0m\x1b[3G\x1b[?25h\x1b[?2026l",
+            "\x1b[?2026h\x1b[1G\x1b[0m  \x1b[0m\x1b[1G\x1b[?25h\x1b[?2026l",
+            NEXT,
+        ],
+    },
+    // A key behind 60 characters writes 41 bytes.
+    Row {
+        typed: b"\x1b[200~xxxxxxxxxxxxxxxxxxxxxxxxxxxxxxxxxxxxxxxxxxxxxxxxxxxxxxxxxxxx\x1b[201~y\r",
+        prompt: "",
+        most: 99,
+        comes: Comes::Line("xxxxxxxxxxxxxxxxxxxxxxxxxxxxxxxxxxxxxxxxxxxxxxxxxxxxxxxxxxxxy"),
+        written: &[
+            EMPTY,
+            "\x1b[?2026h\x1b[1G\x1b[0mxxxxxxxxxxxxxxxxxxxxxxxxxxxxxxxxxxxxxxxxxxxxxxxxxxxxxxxxxxxx\x1b[0m\x1b[61G\x1b[?25h\x1b[?2026l",
+            "\x1b[?2026h\x1b[61G\x1b[0my\x1b[0m\x1b[62G\x1b[?25h\x1b[?2026l",
+            NEXT,
+        ],
+    },
+    // Of 80 columns the last isn't written: the cursor is in the one before it, and then a character, with the cursor at the line's start.
+    Row {
+        typed: b"\x1b[200~xxxxxxxxxxxxxxxxxxxxxxxxxxxxxxxxxxxxxxxxxxxxxxxxxxxxxxxxxxxxxxxxxxxxxxxxxxxxxxxxxxxxxxxxxx\x1b[201~\x01\r",
+        prompt: "",
+        most: 99,
+        comes: Comes::Line(
+            "xxxxxxxxxxxxxxxxxxxxxxxxxxxxxxxxxxxxxxxxxxxxxxxxxxxxxxxxxxxxxxxxxxxxxxxxxxxxxxxxxxxxxxxxxx",
+        ),
+        written: &[
+            EMPTY,
+            "\x1b[?2026h\x1b[1G\x1b[0mxxxxxxxxxxxxxxxxxxxxxxxxxxxxxxxxxxxxxxxxxxxxxxxxxxxxxxxxxxxxxxxxxxxxxxxxxxxxxx\x1b[0m\x1b[79G\x1b[?25h\x1b[?2026l",
+            "\x1b[?2026h\x1b[79G\x1b[0mx\x1b[0m\x1b[1G\x1b[?25h\x1b[?2026l",
+            NEXT,
+        ],
+    },
+    // Five hearts with selectors, which are replaced: as many of the last are shown as have room with the cursor.
+    Row {
+        typed: b"\x1b[200~\xe2\x9d\xa4\xef\xb8\x8f\xe2\x9d\xa4\xef\xb8\x8f\xe2\x9d\xa4\xef\xb8\x8f\xe2\x9d\xa4\xef\xb8\x8f\xe2\x9d\xa4\xef\xb8\x8f\x1b[201~\r",
+        prompt: "xxxxxxxxxxxxxxxxxxxxxxxxxxxxxxxxxxxxxxxxxxxxxxxxxxxxxxxxxxxxxxxxxxxxxx",
+        most: 30,
+        comes: Comes::Line(
+            "\u{2764}\u{fe0f}\u{2764}\u{fe0f}\u{2764}\u{fe0f}\u{2764}\u{fe0f}\u{2764}\u{fe0f}",
+        ),
+        written: &[
+            "\x1b[?2026h\x1b[0m\x1b[1G\x1b[K\x1b[1G\x1b[0mxxxxxxxxxxxxxxxxxxxxxxxxxxxxxxxxxxxxxxxxxxxxxxxxxxxxxxxxxxxxxxxxxxxxxx\x1b[0m\x1b[71G\x1b[?25h\x1b[?2026l",
+            "\x1b[?2026h\x1b[71G\x1b[0m\u{2764}\u{fffd}\u{2764}\u{fffd}\u{2764}\u{fffd}\x1b[0m\x1b[77G\x1b[?25h\x1b[?2026l",
+            NEXT,
+        ],
+    },
+];
+
+#[test]
+fn what_changed_is_written(rt: HostRuntime) -> io::Result<()> {
+    for row in ROWS {
+        expect!(rt; is_so(&rt, rt.alloc(), row)?);
+    }
+    Ok(())
+}
