@@ -14,7 +14,7 @@ use Rattle.crossterm_read.specs.Outcomes.{Answered}
 use Rattle.crossterm_read.proofs.Happening.{answered_front}
 use Rattle.crossterm_read.specs.declared.read.call.Call.{Call}
 use Rattle.crossterm_read.specs.Store.{EventStore, arrived, numbered_after, next_number, Arrives}
-use Rattle.crossterm_read.specs.Steps.{Patience, TakeReplies, ReadReplies, End, Ready, Tried, Broke, TakeStep, PollStep}
+use Rattle.crossterm_read.specs.Steps.{Patience, TakeReplies, ReadReplies, TakeStep, PollStep}
 use Rattle.crossterm_read.specs.Queries.{QueryReplies, QueryStep, IsAnswer, AfterReply, LeftReplies, FlagsReplies, KeyboardStep}
 use Rattle.crossterm_read.specs.Replies.{Said, Replied, ToPoll, ToTake, ToQuery, Fault, replied}
 use Rattle.crossterm_read.specs.Calls.{Step, Request, Poll, Read, Take, Position, Keyboard, request, Run, all_answers, empty, taken, numbered, IsAccounted, IsWithin, Accounts, Plays}
@@ -98,15 +98,15 @@ came_account : (f : Seen → Bool) (all done : List (Seen × ℕ)) (m t : EventS
 came_account f all done m t x r a h e =
     taken_so all done t m.arrivals (ToTake x) r e (subst (λ (l : List (Seen × ℕ)). Taken all done t l m.arrivals) (sym (came_taken x)) (take_account f all done m t x a h))
 
-read_account : (f : Seen → Bool) (all done : List (Seen × ℕ)) (end : End) (m t : EventStore) (r : Replied) → Account all done m → ReadReplies f end m t r → Taken all done t (taken (r ∷ [])) m.arrivals
-read_account f all done Ready m t r a h = came_account f all done m t h.0 r a h.1 h.2
-read_account f all done Tried m t r a h = taken_so all done t m.arrivals (ToTake None) r h.1 (none_taken all done m t h.0 a)
-read_account f all done (Broke kind) m t r a h = taken_so all done t m.arrivals (Fault kind) r h.1 (none_taken all done m t h.0 a)
+read_account : (f : Seen → Bool) (all done : List (Seen × ℕ)) (end : Result Bool ErrorKind) (m t : EventStore) (r : Replied) → Account all done m → ReadReplies f end m t r → Taken all done t (taken (r ∷ [])) m.arrivals
+read_account f all done (Ok true) m t r a h = came_account f all done m t h.0 r a h.1 h.2
+read_account f all done (Ok false) m t r a h = taken_so all done t m.arrivals (ToTake None) r h.1 (none_taken all done m t h.0 a)
+read_account f all done (Err kind) m t r a h = taken_so all done t m.arrivals (Fault kind) r h.1 (none_taken all done m t h.0 a)
 
 take_step : (f : Seen → Bool) (zs : List SourceAnswer) (all done : List (Seen × ℕ)) (s t : EventStore) (r : Replied) → Account all done s → TakeStep f zs s t r
     → Taken (all ++ arrived s.arrivals zs) done t (taken (r ∷ [])) (numbered_after s.arrivals zs)
 take_step f zs all done s t r a h =
-    let k = subst (λ l. Taken l done t (taken (r ∷ [])) s.arrivals) (sym (append-nil all)) (read_account f all done Ready s t r a h.1) in
+    let k = subst (λ l. Taken l done t (taken (r ∷ [])) s.arrivals) (sym (append-nil all)) (read_account f all done (Ok true) s t r a h.1) in
     subst (λ (l : List SourceAnswer). Taken (all ++ arrived s.arrivals l) done t (taken (r ∷ [])) (numbered_after s.arrivals l)) (sym h.0) k
 
 -- what a poll, and then what is said of it, do to what came

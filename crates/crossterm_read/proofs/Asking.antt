@@ -18,7 +18,7 @@ use Rattle.crossterm_read.specs.declared.read.reader.Once.{Once}
 use Rattle.crossterm_read.specs.declared.read.reader.Once.TheVariants as once
 use Rattle.crossterm_read.specs.declared.read.held.Taken.{Taken}
 use Rattle.crossterm_read.specs.Store.{EventStore, ReaderState, arrived, numbered_after, next_number, Arrives, reader_capacity}
-use Rattle.crossterm_read.specs.Steps.{Patience, Allows, IsSpent, first_admitted, Passes, Asks, Ready, Tried, Broke, NextStep, PollStep, RefusedOnlyWithoutRoom, TakeReplies}
+use Rattle.crossterm_read.specs.Steps.{Patience, Allows, IsSpent, first_admitted, Passes, Asks, NextStep, PollStep, RefusedOnlyWithoutRoom, TakeReplies}
 use Rattle.crossterm_read.specs.inside.Asking.{Asked, DrawsOne, held_with}
 use Rattle.crossterm_read.specs.inside.Replies.{kept, try_reply}
 use Rattle.crossterm_read.specs.Replies.{poll_reply}
@@ -157,7 +157,7 @@ none_passed f (Failed kind ∷ zs) h = absurd (stops_not h.0.0)
 pub steady_poll : {S A : Type 0} (drawn : S → List SourceAnswer → S → Type 0) (failed : S → ℕ) (f : Seen → Bool) (patience : Patience) (s t : ReaderState S) (given : Option (Taken (InternalEvent A))) → Asked drawn failed Stops f patience s t (Ok given) → failed t.source ≡ failed s.source
 steady_poll drawn failed f patience s t (Some taken) a = by_end a.3
   where
-    by_end : Asks Stops f patience s.store.held a.0 Ready → failed t.source ≡ failed s.source
+    by_end : Asks Stops f patience s.store.held a.0 (Ok true) → failed t.source ≡ failed s.source
     by_end (inl h) = a.5 (subst (AllByRecursion IsNoFault) (sym h.1) tt)
     by_end (inr h) = a.5 (subst (AllByRecursion IsNoFault) (sym h.1.all) (all_push IsNoFault h.1.before (Gave h.1.event) (none_passed f h.1.before h.1.passed) tt))
 steady_poll drawn failed f patience s t None a = a.5 (none_passed f a.0 a.3.1)
@@ -168,33 +168,33 @@ module _ {S : Type 0} (drawn : S → List SourceAnswer → S → Type 0) (failed
   Polls r = (zs : List SourceAnswer) × drawn s.source zs t.source × PollStep patience f zs s.store t.store (poll_reply r) × IfErr r (λ e. RefusedOnlyWithoutRoom s.room zs (error_kind e))
 
   pub poll_came : {A : Type 0} (m : ReaderState S) (taken : Taken (InternalEvent A)) → Asked drawn failed Stops f patience s m (Ok (Some taken)) → t.store ≡ held_with m.store (kept taken) → t.source ≡ m.source → Polls (Ok true)
-  poll_came m taken a h e = (a.0, subst (λ (y : S). drawn s.source a.0 y) (sym e) a.1, (Ready, a.3, subst (λ (y : EventStore). Arrives s.store a.0 y) (sym h) a.2, refl), tt)
+  poll_came m taken a h e = (a.0, subst (λ (y : S). drawn s.source a.0 y) (sym e) a.1, (Ok true, a.3, subst (λ (y : EventStore). Arrives s.store a.0 y) (sym h) a.2, refl), tt)
 
   pub poll_tried : (A : Type 0) → Asked {A = A} drawn failed Stops f patience s t (Ok None) → Polls (Ok false)
-  poll_tried A a = (a.0, a.1, (Tried, a.3, a.2, refl), tt)
+  poll_tried A a = (a.0, a.1, (Ok false, a.3, a.2, refl), tt)
 
   pub poll_woken : (A : Type 0) (e : Error) → error_kind e ≡ Interrupted → Asked {A = A} drawn failed Stops f patience s t (Err e) → Polls (Ok false)
-  poll_woken A e h a = (a.0, a.1, (Broke (error_kind e), a.3, a.2, inl (h, refl)), tt)
+  poll_woken A e h a = (a.0, a.1, (Err (error_kind e), a.3, a.2, inl (h, refl)), tt)
 
   pub poll_fault : (A : Type 0) (e : Error) → error_kind e ≢ Interrupted → Asked {A = A} drawn failed Stops f patience s t (Err e) → Polls (Err e)
-  poll_fault A e h a = (a.0, a.1, (Broke (error_kind e), a.3, a.2, inr (h, refl)), a.4)
+  poll_fault A e h a = (a.0, a.1, (Err (error_kind e), a.3, a.2, inr (h, refl)), a.4)
 
   -- a call that gives this
   abbrev pub Gives : {A : Type 0} → AtWake → Result (Option (Taken (InternalEvent A))) Error → Type 0
   Gives wake r = (zs : List SourceAnswer) × drawn s.source zs t.source × NextStep wake patience f zs s.store t.store (try_reply r) × IfErr r (λ e. RefusedOnlyWithoutRoom s.room zs (error_kind e)) × IsSteady failed s.source zs t.source
 
   pub next_held : {A : Type 0} (wake : AtWake) → ((s : S) → drawn s [] s) → (taken : Taken (InternalEvent A)) → TakeReplies f s.store t.store (Some (kept taken)) → t.source ≡ s.source → Gives wake (Ok (Some taken))
-  next_held wake law taken h e = ([], subst (λ (y : S). drawn s.source [] y) (sym e) (law s.source), (Ready, s.store, inl (ap is_some h.1, refl), arrives_none s.store, (Some (kept taken), h, refl)), tt, λ none. ap failed e)
+  next_held wake law taken h e = ([], subst (λ (y : S). drawn s.source [] y) (sym e) (law s.source), (Ok true, s.store, inl (ap is_some h.1, refl), arrives_none s.store, (Some (kept taken), h, refl)), tt, λ none. ap failed e)
 
   pub next_asked : {A : Type 0} (wake : AtWake) (r : Result (Option (Taken (InternalEvent A))) Error) → Asked drawn failed wake f patience s t r → Gives wake r
-  next_asked wake (Ok (Some taken)) a = (a.0, a.1, (Ready, held_with t.store (kept taken), a.3, a.2, (Some (kept taken), a.6, refl)), tt, a.5)
-  next_asked wake (Ok None) a = (a.0, a.1, (Tried, t.store, a.3, a.2, (refl, refl)), tt, a.5)
-  next_asked wake (Err e) a = (a.0, a.1, (Broke (error_kind e), t.store, a.3, a.2, (refl, refl)), a.4, a.5)
+  next_asked wake (Ok (Some taken)) a = (a.0, a.1, (Ok true, held_with t.store (kept taken), a.3, a.2, (Some (kept taken), a.6, refl)), tt, a.5)
+  next_asked wake (Ok None) a = (a.0, a.1, (Ok false, t.store, a.3, a.2, (refl, refl)), tt, a.5)
+  next_asked wake (Err e) a = (a.0, a.1, (Err (error_kind e), t.store, a.3, a.2, (refl, refl)), a.4, a.5)
 
 -- A poll for an event that is held.
 pub poll_held : {S : Type 0} (drawn : S → List SourceAnswer → S → Type 0) → ((s : S) → drawn s [] s) → (failed : S → ℕ) (f : Seen → Bool) (patience : Patience) (s : ReaderState S) → is_some (first_admitted f s.store.held) ≡ true
     → (zs : List SourceAnswer) × drawn s.source zs s.source × PollStep patience f zs s.store s.store (Ok true) × Unit {0}
-poll_held drawn law failed f patience s h = ([], law s.source, (Ready, inl (h, refl), arrives_none s.store, refl), tt)
+poll_held drawn law failed f patience s h = ([], law s.source, (Ok true, inl (h, refl), arrives_none s.store, refl), tt)
 
 -- A take that gives nothing leaves the reader as it was.
 pub taken_none : {S : Type 0} (f : Seen → Bool) (s t : ReaderState S) → TakeReplies f s.store t.store None → reader_capacity t ≡ reader_capacity s → t.source ≡ s.source → t ≡ s

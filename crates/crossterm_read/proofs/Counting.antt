@@ -1,5 +1,5 @@
 -- What is asked within a limit of time, in numbers of tries.
-use Rattle.std.proofs.Common.{◌≡◌, ◌⊎◌, ℕ, ◌+◌, List, Bool, true, false, Result, refl, inl, inr, arith, length}
+use Rattle.std.proofs.Common.{◌≡◌, ◌⊎◌, ℕ, ◌+◌, List, Bool, true, false, Result, Ok, Err, refl, inl, inr, arith, length}
 use Rattle.std.specs.List.{AllByRecursion}
 use Rattle.std.specs.declared.io.ErrorKind.{ErrorKind}
 use Rattle.std.specs.declared.io.ErrorKind.TheVariants.{OutOfMemory}
@@ -9,18 +9,18 @@ use Rattle.crossterm_read.specs.Answers.{SourceAnswer}
 use Rattle.crossterm_read.specs.Calls.{CountsTries, Poll, Read, Take, Position, Keyboard}
 use Rattle.crossterm_read.specs.Queries.{QueryStep, AfterReply, FlagsReplies}
 use Rattle.crossterm_read.specs.Replies.{Replied}
-use Rattle.crossterm_read.specs.Steps.{Patience, UpTo, Allows, Asks, End, Fails, Passes, Ready, Tried, Broke, PollStep}
+use Rattle.crossterm_read.specs.Steps.{Patience, UpTo, Allows, Asks, Fails, Passes, PollStep}
 use Rattle.crossterm_read.specs.Store.{EventStore}
 use Rattle.crossterm_read.specs.declared.read.reader.AtWake.{AtWake}
 use Rattle.crossterm_read.specs.declared.read.reader.AtWake.TheVariants.{Stops, GoesOn}
 
-asks_tries : (wake : AtWake) (f : Seen → Bool) (patience : Patience) (held : List (Seen × ℕ)) (zs : List SourceAnswer) (end : End) → Asks wake f patience held zs end → (tries : ℕ) × Asks wake f (UpTo tries) held zs end
-asks_tries wake f patience held zs Ready (inl h) = (0, inl h)
-asks_tries wake f patience held zs Ready (inr h) = (length zs, inr (h.0, h.1, omega arith))
-asks_tries wake f patience held zs Tried h = (length zs, (h.0, h.1, refl))
-asks_tries wake f patience held zs (Broke kind) h = broke h.1
+asks_tries : (wake : AtWake) (f : Seen → Bool) (patience : Patience) (held : List (Seen × ℕ)) (zs : List SourceAnswer) (end : Result Bool ErrorKind) → Asks wake f patience held zs end → (tries : ℕ) × Asks wake f (UpTo tries) held zs end
+asks_tries wake f patience held zs (Ok true) (inl h) = (0, inl h)
+asks_tries wake f patience held zs (Ok true) (inr h) = (length zs, inr (h.0, h.1, omega arith))
+asks_tries wake f patience held zs (Ok false) h = (length zs, (h.0, h.1, refl))
+asks_tries wake f patience held zs (Err kind) h = broke h.1
   where
-    broke : ((Fails wake f kind zs × Allows patience (length zs)) ⊎ ((kind ≡ OutOfMemory) × AllByRecursion (Passes wake f) zs × Allows patience (length zs + 1))) → (tries : ℕ) × Asks wake f (UpTo tries) held zs (Broke kind)
+    broke : ((Fails wake f kind zs × Allows patience (length zs)) ⊎ ((kind ≡ OutOfMemory) × AllByRecursion (Passes wake f) zs × Allows patience (length zs + 1))) → (tries : ℕ) × Asks wake f (UpTo tries) held zs (Err kind)
     broke (inl b) = (length zs, (h.0, inl (b.0, omega arith)))
     broke (inr b) = (length zs + 1, (h.0, inr (b.0, b.1, omega arith)))
 

@@ -17,9 +17,9 @@ use Rattle.crossterm_read.specs.Answers.{SourceAnswer, Gave, Nothing, Failed}
 use Rattle.crossterm_read.specs.Calls.{Read, Step}
 use Rattle.crossterm_read.specs.Entries.{InTime, IsCall, IsPoll, ReadsFor}
 use Rattle.crossterm_read.specs.History.{Extends, Known, last_taken}
-use Rattle.crossterm_read.specs.Replies.{Came, Faulted, Fault, Said, ToPoll, ToTake, event_seen, event_tried, shown}
+use Rattle.crossterm_read.specs.Replies.{Came, Faulted, Fault, ToPoll, ToTake, event_seen, event_tried, shown}
 use Rattle.crossterm_read.specs.Store.{EventStore, Arrives}
-use Rattle.crossterm_read.specs.Steps.{Patience, Asks, End, Ready, Tried, Broke, NextStep, Passes, PollStep, ReadReplies, ReadStep, TakeReplies}
+use Rattle.crossterm_read.specs.Steps.{Patience, Asks, NextStep, Passes, PollStep, ReadReplies, ReadStep, TakeReplies}
 use Rattle.crossterm_read.specs.Waiting.{AsksWithin}
 use Rattle.crossterm_read.specs.declared.read.held.Taken.{Taken}
 use Rattle.crossterm_read.specs.declared.read.reader.AtWake.TheVariants.{Stops, GoesOn}
@@ -56,47 +56,47 @@ module _ (f : Seen → Bool) (patience : Patience) (zs : List SourceAnswer) (s t
   pub next_took : (x : Seen × ℕ) → NextStep Stops patience f zs s t (ToTake (Some x)) → (m : EventStore) × PollStep patience f zs s m (Ok true) × TakeReplies f m t (Some x)
   next_took x n = by_end n.0 n.2 n.4
     where
-      by_end : (end : End) → Asks Stops f patience s.held zs end → ReadReplies f end n.1 t (ToTake (Some x)) → (m : EventStore) × PollStep patience f zs s m (Ok true) × TakeReplies f m t (Some x)
-      by_end Ready a r = (n.1, (Ready, a, n.3, refl), subst (TakeReplies f n.1 t) (sym (took_of (Some x) r.0 r.2)) r.1)
-      by_end Tried a r = absurd (some_not x r.1)
-      by_end (Broke kind) a r = absurd (take_not (Some x) kind r.1)
+      by_end : (end : Result Bool ErrorKind) → Asks Stops f patience s.held zs end → ReadReplies f end n.1 t (ToTake (Some x)) → (m : EventStore) × PollStep patience f zs s m (Ok true) × TakeReplies f m t (Some x)
+      by_end (Ok true) a r = (n.1, (Ok true, a, n.3, refl), subst (TakeReplies f n.1 t) (sym (took_of (Some x) r.0 r.2)) r.1)
+      by_end (Ok false) a r = absurd (some_not x r.1)
+      by_end (Err kind) a r = absurd (take_not (Some x) kind r.1)
 
   -- A read would have taken it as well.
   pub next_read : (x : Seen × ℕ) → NextStep Stops patience f zs s t (ToTake (Some x)) → ReadStep patience f zs s t (ToTake (Some x))
   next_read x n = by_end n.0 n.2 n.4
     where
-      by_end : (end : End) → Asks Stops f patience s.held zs end → ReadReplies f end n.1 t (ToTake (Some x)) → ReadStep patience f zs s t (ToTake (Some x))
-      by_end Ready (inl a) r = (Ready, n.1, inl a, n.3, r)
-      by_end Ready (inr a) r = (Ready, n.1, inr (a.0, record { before = a.1.before; event = a.1.event; all = a.1.all; passed = goes_on f a.1.before a.1.passed; admitted = a.1.admitted }, a.2), n.3, r)
-      by_end Tried a r = absurd (some_not x r.1)
-      by_end (Broke kind) a r = absurd (take_not (Some x) kind r.1)
+      by_end : (end : Result Bool ErrorKind) → Asks Stops f patience s.held zs end → ReadReplies f end n.1 t (ToTake (Some x)) → ReadStep patience f zs s t (ToTake (Some x))
+      by_end (Ok true) (inl a) r = (Ok true, n.1, inl a, n.3, r)
+      by_end (Ok true) (inr a) r = (Ok true, n.1, inr (a.0, record { before = a.1.before; event = a.1.event; all = a.1.all; passed = goes_on f a.1.before a.1.passed; admitted = a.1.admitted }, a.2), n.3, r)
+      by_end (Ok false) a r = absurd (some_not x r.1)
+      by_end (Err kind) a r = absurd (take_not (Some x) kind r.1)
 
   -- If it gives nothing, a poll would have found none.
   pub next_none : NextStep Stops patience f zs s t (ToTake None) → PollStep patience f zs s t (Ok false)
   next_none n = by_end n.0 n.2 n.4
     where
-      by_end : (end : End) → Asks Stops f patience s.held zs end → ReadReplies f end n.1 t (ToTake None) → PollStep patience f zs s t (Ok false)
-      by_end Ready a r = absurd (ready_there Stops f patience s n.1 zs a n.3 (subst (TakeReplies f n.1 t) (sym (took_of None r.0 r.2)) r.1).0)
-      by_end Tried a r = (Tried, a, subst (Arrives s zs) (sym r.0) n.3, refl)
-      by_end (Broke kind) a r = absurd (take_not None kind r.1)
+      by_end : (end : Result Bool ErrorKind) → Asks Stops f patience s.held zs end → ReadReplies f end n.1 t (ToTake None) → PollStep patience f zs s t (Ok false)
+      by_end (Ok true) a r = absurd (ready_there Stops f patience s n.1 zs a n.3 (subst (TakeReplies f n.1 t) (sym (took_of None r.0 r.2)) r.1).0)
+      by_end (Ok false) a r = (Ok false, a, subst (Arrives s zs) (sym r.0) n.3, refl)
+      by_end (Err kind) a r = absurd (take_not None kind r.1)
 
   -- Nor at a wake-up.
   pub next_woken : (kind : ErrorKind) → kind ≡ Interrupted → NextStep Stops patience f zs s t (Fault kind) → PollStep patience f zs s t (Ok false)
   next_woken kind h n = by_end n.0 n.2 n.4
     where
-      by_end : (end : End) → Asks Stops f patience s.held zs end → ReadReplies f end n.1 t (Fault kind) → PollStep patience f zs s t (Ok false)
-      by_end Ready a r = absurd (take_not r.0 kind (sym r.2))
-      by_end Tried a r = absurd (take_not None kind (sym r.1))
-      by_end (Broke k) a r = (Broke k, a, subst (Arrives s zs) (sym r.0) n.3, inl (sym (fault_of kind k r.1) ∙ h, refl))
+      by_end : (end : Result Bool ErrorKind) → Asks Stops f patience s.held zs end → ReadReplies f end n.1 t (Fault kind) → PollStep patience f zs s t (Ok false)
+      by_end (Ok true) a r = absurd (take_not r.0 kind (sym r.2))
+      by_end (Ok false) a r = absurd (take_not None kind (sym r.1))
+      by_end (Err k) a r = (Err k, a, subst (Arrives s zs) (sym r.0) n.3, inl (sym (fault_of kind k r.1) ∙ h, refl))
 
   -- Every other fault is a poll's.
   pub next_fault : (kind : ErrorKind) → kind ≢ Interrupted → NextStep Stops patience f zs s t (Fault kind) → PollStep patience f zs s t (Err kind)
   next_fault kind h n = by_end n.0 n.2 n.4
     where
-      by_end : (end : End) → Asks Stops f patience s.held zs end → ReadReplies f end n.1 t (Fault kind) → PollStep patience f zs s t (Err kind)
-      by_end Ready a r = absurd (take_not r.0 kind (sym r.2))
-      by_end Tried a r = absurd (take_not None kind (sym r.1))
-      by_end (Broke k) a r = (Broke k, a, subst (Arrives s zs) (sym r.0) n.3, inr (λ e. h (fault_of kind k r.1 ∙ e), ap broke (fault_of kind k r.1)))
+      by_end : (end : Result Bool ErrorKind) → Asks Stops f patience s.held zs end → ReadReplies f end n.1 t (Fault kind) → PollStep patience f zs s t (Err kind)
+      by_end (Ok true) a r = absurd (take_not r.0 kind (sym r.2))
+      by_end (Ok false) a r = absurd (take_not None kind (sym r.1))
+      by_end (Err k) a r = (Err k, a, subst (Arrives s zs) (sym r.0) n.3, inr (λ e. h (fault_of kind k r.1 ∙ e), ap broke (fault_of kind k r.1)))
 
 -- A read within a limit, as an entry of the history.
 pub step_within : {A : Type 0} (f : AnyFilter) (patience : Patience) (zs : List SourceAnswer) (s t : EventStore) (given : Option (Taken (InternalEvent A))) → NextStep Stops patience (admitted f) zs s t (ToTake (option_map kept given))

@@ -1,5 +1,5 @@
 -- If asking ended with an admitted event, one is held.
-use Rattle.std.proofs.Common.{◌≡◌, ◌<◌, ℕ, suc, ◌+◌, Bool, true, false, not, cond, nat_lt, List, [], ◌∷◌, ◌++◌, length, None, Some, inl, inr, sym, ap, ◌∙◌, arith, append_assoc, append-nil}
+use Rattle.std.proofs.Common.{◌≡◌, ◌<◌, ℕ, suc, ◌+◌, Bool, true, false, not, cond, nat_lt, List, [], ◌∷◌, ◌++◌, length, None, Some, Ok, inl, inr, sym, ap, ◌∙◌, arith, append_assoc, append-nil}
 use mathlib.Core.Bool.{true≢false}
 use Rattle.std.specs.Prelude.{is_some}
 use Rattle.std.specs.List.{prefix_len}
@@ -8,7 +8,7 @@ use Rattle.crossterm_types.specs.Seen.{Seen}
 use Rattle.crossterm_read.specs.Answers.{SourceAnswer, Gave}
 use Rattle.crossterm_read.specs.declared.read.reader.AtWake.{AtWake}
 use Rattle.crossterm_read.specs.Store.{EventStore, Arrives, arrived, numbered_after}
-use Rattle.crossterm_read.specs.Steps.{Patience, Finds, first_admitted, Asks, Ready}
+use Rattle.crossterm_read.specs.Steps.{Patience, Finds, first_admitted, Asks}
 use Rattle.crossterm_read.proofs.Asking.{arrived-append}
 
 -- If the last one is admitted, there is a first.
@@ -28,7 +28,7 @@ last_admitted f xs x n e none =
     some_not e = absurd (cc)
 
 -- So it is after asking that found one.
-pub ready_there : (wake : AtWake) (f : Seen → Bool) (patience : Patience) (s m : EventStore) (zs : List SourceAnswer) → Asks wake f patience s.held zs Ready → Arrives s zs m → first_admitted f m.held ≡ None → ⊥
+pub ready_there : (wake : AtWake) (f : Seen → Bool) (patience : Patience) (s m : EventStore) (zs : List SourceAnswer) → Asks wake f patience s.held zs (Ok true) → Arrives s zs m → first_admitted f m.held ≡ None → ⊥
 ready_there wake f patience s m zs (inl h) a none =
     let same : m.held ≡ s.held = a.held ∙ ap (λ (l : List SourceAnswer). s.held ++ arrived s.arrivals l) h.1 ∙ append-nil s.held in
     true≢false (sym h.0 ∙ ap is_some (sym (ap (first_admitted f) same) ∙ none))

@@ -17,7 +17,7 @@ use Rattle.crossterm_read.specs.OneResult.{IsNoKeyboardQuery, IsUnrefused, OneRe
 use Rattle.crossterm_read.specs.Outcomes.{Answered, Outcome}
 use Rattle.crossterm_read.specs.Queries.{QueryReplies}
 use Rattle.crossterm_read.specs.Replies.{Replied, ToTake, Fault, replied, shown}
-use Rattle.crossterm_read.specs.Steps.{End, Ready, Tried, Broke, ReadReplies}
+use Rattle.crossterm_read.specs.Steps.{ReadReplies}
 use Rattle.crossterm_read.specs.Store.{EventStore}
 use Rattle.crossterm_read.specs.declared.read.call.Call.{Call}
 use Rattle.crossterm_read.specs.declared.read.call.Call.TheVariants as call
@@ -76,10 +76,10 @@ of_take x r e = subst IsUnrefused (sym e) tt
 of_fault : (kind : ErrorKind) (r : Replied) → r ≡ Fault kind → ShowsUnrefused (shown r) → IsUnrefused r
 of_fault kind r e h = subst IsUnrefused (sym e) (subst (λ (y : Replied). ShowsUnrefused (shown y)) e h)
 
-of_read : (f : Seen → Bool) (end : End) (s t : EventStore) (r : Replied) → ReadReplies f end s t r → ShowsUnrefused (shown r) → IsUnrefused r
-of_read f Ready s t r a h = of_take a.0 r a.2
-of_read f Tried s t r a h = of_take None r a.1
-of_read f (Broke kind) s t r a h = of_fault kind r a.1 h
+of_read : (f : Seen → Bool) (end : Result Bool ErrorKind) (s t : EventStore) (r : Replied) → ReadReplies f end s t r → ShowsUnrefused (shown r) → IsUnrefused r
+of_read f (Ok true) s t r a h = of_take a.0 r a.2
+of_read f (Ok false) s t r a h = of_take None r a.1
+of_read f (Err kind) s t r a h = of_fault kind r a.1 h
 
 of_query : (f : Seen → Bool) (p : Result Bool ErrorKind) (s t : EventStore) (r : Replied) → QueryReplies f p s t r → ShowsUnrefused (shown r) → IsUnrefused r
 of_query f (Ok true) s t r a h = of_take (Some a.0) r a.2
@@ -89,7 +89,7 @@ of_query f (Err kind) s t r a h = of_fault kind r a.1 h
 of_step : (c : Call) (zs : List SourceAnswer) (s t : EventStore) (r : Replied) → IsNoKeyboardQuery c → Step (request c) zs s t r → ShowsUnrefused (shown r) → IsUnrefused r
 of_step (call.Poll tries f) zs s t r plain a h = of_poll a.0 r a.2 h
 of_step (call.Read tries f) zs s t r plain a h = of_read (admitted f) a.0 a.1 t r a.4 h
-of_step (call.Take f) zs s t r plain a h = of_read (admitted f) Ready s t r a.1 h
+of_step (call.Take f) zs s t r plain a h = of_read (admitted f) (Ok true) s t r a.1 h
 of_step (call.Position tries) zs s t r plain a h = of_query is_cursor_position a.1 a.0 t r a.3 h
 of_step (call.Keyboard tries) zs s t r plain a h = absurd plain
 

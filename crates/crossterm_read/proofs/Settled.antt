@@ -14,7 +14,7 @@ use Rattle.crossterm_read.specs.Calls.{Run, Step, all_answers, request}
 use Rattle.crossterm_read.specs.OneResult.{IsUnrefused}
 use Rattle.crossterm_read.specs.Queries.{QueryReplies, QueryStep, AfterReply, LeftReplies, FlagsReplies, KeyboardStep}
 use Rattle.crossterm_read.specs.Replies.{Replied, ToTake, ToQuery, Fault, replied}
-use Rattle.crossterm_read.specs.Steps.{End, Ready, Tried, Broke, Passes, UpTo, Asks, PollReplies, PollStep, ReadReplies, ReadStep, TakeReplies, first_admitted}
+use Rattle.crossterm_read.specs.Steps.{Passes, UpTo, Asks, PollReplies, PollStep, ReadReplies, ReadStep, TakeReplies, first_admitted}
 use Rattle.crossterm_read.specs.Store.{EventStore, Arrives}
 use Rattle.crossterm_read.specs.declared.read.call.Call.{Call}
 use Rattle.crossterm_read.specs.declared.read.call.Call.TheVariants as call
@@ -28,10 +28,10 @@ woken_not_refused e = cc
 -- ---- asking
 
 -- A call didn't end for want of memory.
-abbrev IsSound : End → Type 0
-IsSound Ready = Unit {0}
-IsSound Tried = Unit {0}
-IsSound (Broke kind) = kind ≢ OutOfMemory
+abbrev IsSound : Result Bool ErrorKind → Type 0
+IsSound (Ok true) = Unit {0}
+IsSound (Ok false) = Unit {0}
+IsSound (Err kind) = kind ≢ OutOfMemory
 
 not_both : (o : Option ℕ) → is_some o ≡ true → o ≡ None → ⊥
 not_both None h e = cc
@@ -39,57 +39,57 @@ not_both (Some n) h e = cc
 
 module _ (wake : AtWake) (f : Seen → Bool) where
   -- an answer at which asking ends so
-  abbrev EndsWith : SourceAnswer → End → Type 0
-  EndsWith (Gave x) Ready = f x ≡ true
-  EndsWith (Gave x) Tried = ⊥
-  EndsWith (Gave x) (Broke kind) = ⊥
+  abbrev EndsWith : SourceAnswer → Result Bool ErrorKind → Type 0
+  EndsWith (Gave x) (Ok true) = f x ≡ true
+  EndsWith (Gave x) (Ok false) = ⊥
+  EndsWith (Gave x) (Err kind) = ⊥
   EndsWith Nothing end = ⊥
-  EndsWith (Failed kind) Ready = ⊥
-  EndsWith (Failed kind) Tried = ⊥
-  EndsWith (Failed kind) (Broke why) = (why ≡ kind) × (wake ≡ GoesOn → kind ≢ Interrupted)
+  EndsWith (Failed kind) (Ok true) = ⊥
+  EndsWith (Failed kind) (Ok false) = ⊥
+  EndsWith (Failed kind) (Err why) = (why ≡ kind) × (wake ≡ GoesOn → kind ≢ Interrupted)
 
   -- asking goes on over these answers, with so many tries left, and ends so
-  abbrev Goes : ℕ → List SourceAnswer → End → Type 0
-  Goes n [] Ready = ⊥
-  Goes n [] Tried = n ≡ 0
-  Goes n [] (Broke kind) = ⊥
+  abbrev Goes : ℕ → List SourceAnswer → Result Bool ErrorKind → Type 0
+  Goes n [] (Ok true) = ⊥
+  Goes n [] (Ok false) = n ≡ 0
+  Goes n [] (Err kind) = ⊥
   Goes zero (z ∷ zs) end = ⊥
   Goes (suc n) (z ∷ zs) end = (Passes wake f z × Goes n zs end) ⊎ ((zs ≡ []) × EndsWith z end)
 
-  passes_on : (z : SourceAnswer) (end : End) → Passes wake f z → EndsWith z end → ⊥
-  passes_on (Gave x) Ready p e = let h : true ≡ false = sym e ∙ p in cc
-  passes_on (Gave x) Tried p e = e
-  passes_on (Gave x) (Broke kind) p e = e
+  passes_on : (z : SourceAnswer) (end : Result Bool ErrorKind) → Passes wake f z → EndsWith z end → ⊥
+  passes_on (Gave x) (Ok true) p e = let h : true ≡ false = sym e ∙ p in cc
+  passes_on (Gave x) (Ok false) p e = e
+  passes_on (Gave x) (Err kind) p e = e
   passes_on Nothing end p e = e
-  passes_on (Failed kind) Ready p e = e
-  passes_on (Failed kind) Tried p e = e
-  passes_on (Failed kind) (Broke why) p e = e.1 p.0 p.1
+  passes_on (Failed kind) (Ok true) p e = e
+  passes_on (Failed kind) (Ok false) p e = e
+  passes_on (Failed kind) (Err why) p e = e.1 p.0 p.1
 
-  one_end : (z : SourceAnswer) (c d : End) → EndsWith z c → EndsWith z d → c ≡ d
-  one_end (Gave x) Ready Ready a b = refl
-  one_end (Gave x) Ready Tried a b = absurd b
-  one_end (Gave x) Ready (Broke kind) a b = absurd b
-  one_end (Gave x) Tried d a b = absurd a
-  one_end (Gave x) (Broke kind) d a b = absurd a
+  one_end : (z : SourceAnswer) (c d : Result Bool ErrorKind) → EndsWith z c → EndsWith z d → c ≡ d
+  one_end (Gave x) (Ok true) (Ok true) a b = refl
+  one_end (Gave x) (Ok true) (Ok false) a b = absurd b
+  one_end (Gave x) (Ok true) (Err kind) a b = absurd b
+  one_end (Gave x) (Ok false) d a b = absurd a
+  one_end (Gave x) (Err kind) d a b = absurd a
   one_end Nothing c d a b = absurd a
-  one_end (Failed kind) Ready d a b = absurd a
-  one_end (Failed kind) Tried d a b = absurd a
-  one_end (Failed kind) (Broke why) Ready a b = absurd b
-  one_end (Failed kind) (Broke why) Tried a b = absurd b
-  one_end (Failed kind) (Broke why) (Broke reason) a b = ap Broke (a.0 ∙ sym b.0)
+  one_end (Failed kind) (Ok true) d a b = absurd a
+  one_end (Failed kind) (Ok false) d a b = absurd a
+  one_end (Failed kind) (Err why) (Ok true) a b = absurd b
+  one_end (Failed kind) (Err why) (Ok false) a b = absurd b
+  one_end (Failed kind) (Err why) (Err reason) a b = ap Err (a.0 ∙ sym b.0)
 
-  goes_alike : (n : ℕ) (zs ys a b : List SourceAnswer) (c d : End) → Goes n zs c → Goes n ys d → zs ++ a ≡ ys ++ b → (zs ≡ ys) × (c ≡ d)
-  goes_alike n [] [] a b Tried Tried g h e = (refl, refl)
-  goes_alike n [] [] a b Tried Ready g h e = absurd h
-  goes_alike n [] [] a b Tried (Broke kind) g h e = absurd h
-  goes_alike n [] ys a b Ready d g h e = absurd g
-  goes_alike n [] ys a b (Broke kind) d g h e = absurd g
-  goes_alike zero [] (y ∷ ys) a b Tried d g h e = absurd h
-  goes_alike (suc n) [] (y ∷ ys) a b Tried d g h e = absurd (let w : suc n ≡ 0 = g in omega arith)
+  goes_alike : (n : ℕ) (zs ys a b : List SourceAnswer) (c d : Result Bool ErrorKind) → Goes n zs c → Goes n ys d → zs ++ a ≡ ys ++ b → (zs ≡ ys) × (c ≡ d)
+  goes_alike n [] [] a b (Ok false) (Ok false) g h e = (refl, refl)
+  goes_alike n [] [] a b (Ok false) (Ok true) g h e = absurd h
+  goes_alike n [] [] a b (Ok false) (Err kind) g h e = absurd h
+  goes_alike n [] ys a b (Ok true) d g h e = absurd g
+  goes_alike n [] ys a b (Err kind) d g h e = absurd g
+  goes_alike zero [] (y ∷ ys) a b (Ok false) d g h e = absurd h
+  goes_alike (suc n) [] (y ∷ ys) a b (Ok false) d g h e = absurd (let w : suc n ≡ 0 = g in omega arith)
   goes_alike zero (z ∷ zs) ys a b c d g h e = absurd g
-  goes_alike (suc n) (z ∷ zs) [] a b c Ready g h e = absurd h
-  goes_alike (suc n) (z ∷ zs) [] a b c Tried g h e = absurd (let w : suc n ≡ 0 = h in omega arith)
-  goes_alike (suc n) (z ∷ zs) [] a b c (Broke kind) g h e = absurd h
+  goes_alike (suc n) (z ∷ zs) [] a b c (Ok true) g h e = absurd h
+  goes_alike (suc n) (z ∷ zs) [] a b c (Ok false) g h e = absurd (let w : suc n ≡ 0 = h in omega arith)
+  goes_alike (suc n) (z ∷ zs) [] a b c (Err kind) g h e = absurd h
   goes_alike (suc n) (z ∷ zs) (y ∷ ys) a b c d (inl g) (inl h) e =
       let head : z ≡ y = cc in
       let tail : zs ++ a ≡ ys ++ b = cc in
@@ -101,13 +101,13 @@ module _ (wake : AtWake) (f : Seen → Bool) where
       let head : z ≡ y = cc in
       (ap (λ (x : SourceAnswer). x ∷ zs) head ∙ ap (λ (l : List SourceAnswer). y ∷ l) (g.0 ∙ sym h.0), one_end y c d (subst (λ (x : SourceAnswer). EndsWith x c) head g.1) h.1)
 
-  ends_goes : (n : ℕ) (before : List SourceAnswer) (z : SourceAnswer) (end : End) → AllByRecursion (Passes wake f) before → EndsWith z end → length (before ++ z ∷ []) ≤ n → Goes n (before ++ z ∷ []) end
+  ends_goes : (n : ℕ) (before : List SourceAnswer) (z : SourceAnswer) (end : Result Bool ErrorKind) → AllByRecursion (Passes wake f) before → EndsWith z end → length (before ++ z ∷ []) ≤ n → Goes n (before ++ z ∷ []) end
   ends_goes zero [] z end all e l = absurd (omega arith)
   ends_goes (suc n) [] z end all e l = inr (refl, e)
   ends_goes zero (y ∷ ys) z end all e l = absurd (omega arith)
   ends_goes (suc n) (y ∷ ys) z end all e l = inl (all.0, ends_goes n ys z end all.1 e (omega arith))
 
-  tried_goes : (n : ℕ) (zs : List SourceAnswer) → AllByRecursion (Passes wake f) zs → length zs ≡ n → Goes n zs Tried
+  tried_goes : (n : ℕ) (zs : List SourceAnswer) → AllByRecursion (Passes wake f) zs → length zs ≡ n → Goes n zs (Ok false)
   tried_goes n [] all e = sym e
   tried_goes zero (z ∷ zs) all e = absurd (omega arith)
   tried_goes (suc n) (z ∷ zs) all e = inl (all.0, tried_goes n zs all.1 (omega arith))
@@ -117,44 +117,44 @@ module _ (wake : AtWake) (f : Seen → Bool) where
   passes_clean Nothing p = tt
   passes_clean (Failed kind) p = λ e. woken_not_refused (sym p.1 ∙ e)
 
-  end_clean : (z : SourceAnswer) (end : End) → IsSound end → EndsWith z end → IsClean z
+  end_clean : (z : SourceAnswer) (end : Result Bool ErrorKind) → IsSound end → EndsWith z end → IsClean z
   end_clean (Gave x) end s e = tt
   end_clean Nothing end s e = tt
-  end_clean (Failed kind) Ready s e = absurd e
-  end_clean (Failed kind) Tried s e = absurd e
-  end_clean (Failed kind) (Broke why) s e = λ h. s (e.0 ∙ h)
+  end_clean (Failed kind) (Ok true) s e = absurd e
+  end_clean (Failed kind) (Ok false) s e = absurd e
+  end_clean (Failed kind) (Err why) s e = λ h. s (e.0 ∙ h)
 
-  goes_clean : (n : ℕ) (zs : List SourceAnswer) (end : End) → IsSound end → Goes n zs end → AreClean zs
+  goes_clean : (n : ℕ) (zs : List SourceAnswer) (end : Result Bool ErrorKind) → IsSound end → Goes n zs end → AreClean zs
   goes_clean n [] end s g = tt
   goes_clean zero (z ∷ zs) end s g = absurd g
   goes_clean (suc n) (z ∷ zs) end s (inl g) = (passes_clean z g.0, goes_clean n zs end s g.1)
   goes_clean (suc n) (z ∷ zs) end s (inr g) = (end_clean z end s g.1, subst AreClean (sym g.0) tt)
 
   -- an admitted event is held, or asking goes on
-  abbrev Went : ℕ → List (Seen × ℕ) → List SourceAnswer → End → Type 0
-  Went n held zs end = ((is_some (first_admitted f held) ≡ true) × (zs ≡ []) × (end ≡ Ready)) ⊎ ((first_admitted f held ≡ None) × Goes n zs end)
+  abbrev Went : ℕ → List (Seen × ℕ) → List SourceAnswer → Result Bool ErrorKind → Type 0
+  Went n held zs end = ((is_some (first_admitted f held) ≡ true) × (zs ≡ []) × (end ≡ Ok true)) ⊎ ((first_admitted f held ≡ None) × Goes n zs end)
 
-  went : (n : ℕ) (held : List (Seen × ℕ)) (zs : List SourceAnswer) (end : End) → IsSound end → Asks wake f (UpTo n) held zs end → Went n held zs end
-  went n held zs Ready s (inl a) = inl (a.0, a.1, refl)
-  went n held zs Ready s (inr a) =
-      inr (a.0, subst (λ (l : List SourceAnswer). Goes n l Ready) (sym a.1.all) (ends_goes n a.1.before (Gave a.1.event) Ready a.1.passed a.1.admitted (subst (λ (l : List SourceAnswer). length l ≤ n) a.1.all a.2)))
-  went n held zs Tried s a = inr (a.0, tried_goes n zs a.1 a.2)
-  went n held zs (Broke kind) s a = elim a.1 [
+  went : (n : ℕ) (held : List (Seen × ℕ)) (zs : List SourceAnswer) (end : Result Bool ErrorKind) → IsSound end → Asks wake f (UpTo n) held zs end → Went n held zs end
+  went n held zs (Ok true) s (inl a) = inl (a.0, a.1, refl)
+  went n held zs (Ok true) s (inr a) =
+      inr (a.0, subst (λ (l : List SourceAnswer). Goes n l (Ok true)) (sym a.1.all) (ends_goes n a.1.before (Gave a.1.event) (Ok true) a.1.passed a.1.admitted (subst (λ (l : List SourceAnswer). length l ≤ n) a.1.all a.2)))
+  went n held zs (Ok false) s a = inr (a.0, tried_goes n zs a.1 a.2)
+  went n held zs (Err kind) s a = elim a.1 [
     | inl b ↦ inr (
       a.0,
-      subst (λ (l : List SourceAnswer). Goes n l (Broke kind)) (sym b.0.all)
-          (ends_goes n b.0.before (Failed kind) (Broke kind) b.0.passed (refl, b.0.stops) (subst (λ (l : List SourceAnswer). length l ≤ n) b.0.all b.1)),
+      subst (λ (l : List SourceAnswer). Goes n l (Err kind)) (sym b.0.all)
+          (ends_goes n b.0.before (Failed kind) (Err kind) b.0.passed (refl, b.0.stops) (subst (λ (l : List SourceAnswer). length l ≤ n) b.0.all b.1)),
     )
     | inr b ↦ absurd (s b.0)
   ]
 
-  went_alike : (n : ℕ) (held : List (Seen × ℕ)) (zs ys a b : List SourceAnswer) (c d : End) → Went n held zs c → Went n held ys d → zs ++ a ≡ ys ++ b → (zs ≡ ys) × (c ≡ d)
+  went_alike : (n : ℕ) (held : List (Seen × ℕ)) (zs ys a b : List SourceAnswer) (c d : Result Bool ErrorKind) → Went n held zs c → Went n held ys d → zs ++ a ≡ ys ++ b → (zs ≡ ys) × (c ≡ d)
   went_alike n held zs ys a b c d (inl g) (inl h) e = (g.1 ∙ sym h.1, g.2 ∙ sym h.2)
   went_alike n held zs ys a b c d (inl g) (inr h) e = absurd (not_both (first_admitted f held) g.0 h.0)
   went_alike n held zs ys a b c d (inr g) (inl h) e = absurd (not_both (first_admitted f held) h.0 g.0)
   went_alike n held zs ys a b c d (inr g) (inr h) e = goes_alike n zs ys a b c d g.1 h.1 e
 
-  went_clean : (n : ℕ) (held : List (Seen × ℕ)) (zs : List SourceAnswer) (end : End) → IsSound end → Went n held zs end → AreClean zs
+  went_clean : (n : ℕ) (held : List (Seen × ℕ)) (zs : List SourceAnswer) (end : Result Bool ErrorKind) → IsSound end → Went n held zs end → AreClean zs
   went_clean n held zs end s (inl g) = subst AreClean (sym g.1) tt
   went_clean n held zs end s (inr g) = goes_clean n zs end s g.1
 
@@ -189,19 +189,19 @@ abbrev IsFine : Result Bool ErrorKind → Type 0
 IsFine (Ok b) = Unit {0}
 IsFine (Err kind) = kind ≢ OutOfMemory
 
-poll_sound : (end : End) (r : Result Bool ErrorKind) → PollReplies end r → IsFine r → IsSound end
-poll_sound Ready r h fine = tt
-poll_sound Tried r h fine = tt
-poll_sound (Broke kind) r (inl h) fine = λ e. woken_not_refused (sym h.0 ∙ e)
-poll_sound (Broke kind) r (inr h) fine = subst IsFine h.1 fine
+poll_sound : (end : Result Bool ErrorKind) (r : Result Bool ErrorKind) → PollReplies end r → IsFine r → IsSound end
+poll_sound (Ok true) r h fine = tt
+poll_sound (Ok false) r h fine = tt
+poll_sound (Err kind) r (inl h) fine = λ e. woken_not_refused (sym h.0 ∙ e)
+poll_sound (Err kind) r (inr h) fine = subst IsFine h.1 fine
 
-one_poll : (end : End) (r p : Result Bool ErrorKind) → PollReplies end r → PollReplies end p → r ≡ p
-one_poll Ready r p a b = a ∙ sym b
-one_poll Tried r p a b = a ∙ sym b
-one_poll (Broke kind) r p (inl a) (inl b) = a.1 ∙ sym b.1
-one_poll (Broke kind) r p (inl a) (inr b) = absurd (b.0 a.0)
-one_poll (Broke kind) r p (inr a) (inl b) = absurd (a.0 b.0)
-one_poll (Broke kind) r p (inr a) (inr b) = a.1 ∙ sym b.1
+one_poll : (end : Result Bool ErrorKind) (r p : Result Bool ErrorKind) → PollReplies end r → PollReplies end p → r ≡ p
+one_poll (Ok true) r p a b = a ∙ sym b
+one_poll (Ok false) r p a b = a ∙ sym b
+one_poll (Err kind) r p (inl a) (inl b) = a.1 ∙ sym b.1
+one_poll (Err kind) r p (inl a) (inr b) = absurd (b.0 a.0)
+one_poll (Err kind) r p (inr a) (inl b) = absurd (a.0 b.0)
+one_poll (Err kind) r p (inr a) (inr b) = a.1 ∙ sym b.1
 
 -- What two such calls drew is one, and so is what is held then, and the reply.
 record Settles {R : Type 0} (zs ys : List SourceAnswer) (t u : EventStore) (r q : R) : Type 0 where
@@ -223,20 +223,20 @@ module _ (n : ℕ) (f : Seen → Bool) where
       record {
         drawn = both.0;
         store = one_store s t u zs ys both.0 x.2 y.2;
-        reply = one_poll y.0 r q (subst (λ (end : End). PollReplies end r) both.1 x.3) y.3;
+        reply = one_poll y.0 r q (subst (λ (end : Result Bool ErrorKind). PollReplies end r) both.1 x.3) y.3;
       }
 
-  read_sound : (end : End) (s t : EventStore) (r : Replied) → ReadReplies f end s t r → IsUnrefused r → IsSound end
-  read_sound Ready s t r h fine = tt
-  read_sound Tried s t r h fine = tt
-  read_sound (Broke kind) s t r h fine = subst IsUnrefused h.1 fine
+  read_sound : (end : Result Bool ErrorKind) (s t : EventStore) (r : Replied) → ReadReplies f end s t r → IsUnrefused r → IsSound end
+  read_sound (Ok true) s t r h fine = tt
+  read_sound (Ok false) s t r h fine = tt
+  read_sound (Err kind) s t r h fine = subst IsUnrefused h.1 fine
 
-  one_read_reply : (end : End) (s t u : EventStore) (r q : Replied) → ReadReplies f end s t r → ReadReplies f end s u q → (t ≡ u) × (r ≡ q)
-  one_read_reply Ready s t u r q a b =
+  one_read_reply : (end : Result Bool ErrorKind) (s t u : EventStore) (r q : Replied) → ReadReplies f end s t r → ReadReplies f end s u q → (t ≡ u) × (r ≡ q)
+  one_read_reply (Ok true) s t u r q a b =
       let both = one_taken f s t u a.0 b.0 a.1 b.1 in
       (both.1, a.2 ∙ ap ToTake both.0 ∙ sym b.2)
-  one_read_reply Tried s t u r q a b = (a.0 ∙ sym b.0, a.1 ∙ sym b.1)
-  one_read_reply (Broke kind) s t u r q a b = (a.0 ∙ sym b.0, a.1 ∙ sym b.1)
+  one_read_reply (Ok false) s t u r q a b = (a.0 ∙ sym b.0, a.1 ∙ sym b.1)
+  one_read_reply (Err kind) s t u r q a b = (a.0 ∙ sym b.0, a.1 ∙ sym b.1)
 
   read_clean : (zs : List SourceAnswer) (s t : EventStore) (r : Replied) → ReadStep (UpTo n) f zs s t r → IsUnrefused r → AreClean zs
   read_clean zs s t r a fine =
@@ -249,7 +249,7 @@ module _ (n : ℕ) (f : Seen → Bool) where
       let both = went_alike GoesOn f n s.held zs ys a b x.0 y.0
       (went GoesOn f n s.held zs x.0 (read_sound x.0 x.1 t r x.4 fine) x.2) (went GoesOn f n s.held ys y.0 (read_sound y.0 y.1 u q y.4 good) y.2) e in
       let store = one_store s x.1 y.1 zs ys both.0 x.3 y.3 in
-      let replies = one_read_reply y.0 y.1 t u r q (subst (λ (m : EventStore). ReadReplies f y.0 m t r) store (subst (λ (end : End). ReadReplies f end x.1 t r) both.1 x.4)) y.4 in
+      let replies = one_read_reply y.0 y.1 t u r q (subst (λ (m : EventStore). ReadReplies f y.0 m t r) store (subst (λ (end : Result Bool ErrorKind). ReadReplies f end x.1 t r) both.1 x.4)) y.4 in
       record { drawn = both.0; store = replies.0; reply = replies.1 }
 
   query_fine : (p : Result Bool ErrorKind) (m t : EventStore) (r : Replied) → QueryReplies f p m t r → IsUnrefused r → IsFine p
@@ -361,7 +361,7 @@ step_settles (call.Poll tries f) zs ys a b s t u r q v fine w good e =
     record { drawn = polls.drawn; store = polls.store; reply = v.2 ∙ ap replied polls.reply ∙ sym w.2 }
 step_settles (call.Read tries f) zs ys a b s t u r q v fine w good e = read_settles tries (admitted f) zs ys a b s t u r q v fine w good e
 step_settles (call.Take f) zs ys a b s t u r q v fine w good e =
-    let replies = one_read_reply 0 (admitted f) Ready s t u r q v.1 w.1 in
+    let replies = one_read_reply 0 (admitted f) (Ok true) s t u r q v.1 w.1 in
     record { drawn = v.0 ∙ sym w.0; store = replies.0; reply = replies.1 }
 step_settles (call.Position tries) zs ys a b s t u r q v fine w good e = query_settles tries is_cursor_position zs ys a b s t u r q v fine w good e
 step_settles (call.Keyboard tries) zs ys a b s t u r q v fine w good e = keyboard_settles tries zs ys a b s t u r q v fine w good e

@@ -13,7 +13,7 @@ use Rattle.crossterm_read.specs.Store.{IsLow, EventStore, ReaderState, Arrives}
 use Rattle.crossterm_read.specs.inside.Numbers.{IsOrderly}
 use Rattle.crossterm_read.specs.Queries.{QueryReplies, QueryStep, AfterReply, LeftReplies, FlagsReplies}
 use Rattle.crossterm_read.specs.Replies.{Replied, ToTake, ToQuery, Fault}
-use Rattle.crossterm_read.specs.Steps.{Patience, End, Ready, Tried, Broke, ReadReplies, TakeReplies}
+use Rattle.crossterm_read.specs.Steps.{Patience, ReadReplies, TakeReplies}
 use Rattle.crossterm_read.proofs.Rising.{Does, none_does, take_does, both_do, does_rise}
 
 -- events arrive, and then this is done
@@ -36,10 +36,10 @@ option_taken : (f : AnyFilter) (c : Request) → ((x : Seen × ℕ) → took c (
 option_taken f c one none m t (Some x) r h e = one_taken f c one m t x r h e
 option_taken f c one none m t None r h e = then_same c m m t (ToTake None) r (subst (λ (l : List (AnyFilter × ℕ)). Does m l m) (sym none) (none_does m)) h.1 e
 
-read_replies : (tries : Patience) (f : AnyFilter) (end : End) (m t : EventStore) (r : Replied) → ReadReplies (admitted f) end m t r → StepDoes (Read tries f) m t r
-read_replies tries f Ready m t r h = option_taken f (Read tries f) (λ x. refl) refl m t h.0 r h.1 h.2
-read_replies tries f Tried m t r h = then_same (Read tries f) m m t (ToTake None) r (none_does m) h.0 h.1
-read_replies tries f (Broke kind) m t r h = then_same (Read tries f) m m t (Fault kind) r (none_does m) h.0 h.1
+read_replies : (tries : Patience) (f : AnyFilter) (end : Result Bool ErrorKind) (m t : EventStore) (r : Replied) → ReadReplies (admitted f) end m t r → StepDoes (Read tries f) m t r
+read_replies tries f (Ok true) m t r h = option_taken f (Read tries f) (λ x. refl) refl m t h.0 r h.1 h.2
+read_replies tries f (Ok false) m t r h = then_same (Read tries f) m m t (ToTake None) r (none_does m) h.0 h.1
+read_replies tries f (Err kind) m t r h = then_same (Read tries f) m m t (Fault kind) r (none_does m) h.0 h.1
 
 -- a query of a request that takes by this filter
 query_fails : (c : Request) (kind : ErrorKind) → took c (Fault kind) ≡ [] → (m t : EventStore) (r : Replied) → (t ≡ m) × (r ≡ Fault kind) → StepDoes c m t r

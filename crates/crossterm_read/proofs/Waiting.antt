@@ -1,8 +1,9 @@
 -- Asking within a limit of time.
-use Rattle.std.proofs.Common.{◌≡◌, ◌≤◌, ◌-◌, ℕ, Bool, List, [], ◌∷◌, ◌++◌, Option, None, Some, refl, sym, ap, subst, inl, inr, ◌∙◌, arith, append_assoc}
+use Rattle.std.proofs.Common.{◌≡◌, ◌≤◌, ◌-◌, ℕ, Bool, true, false, List, [], ◌∷◌, ◌++◌, Option, None, Some, Result, Ok, Err, refl, sym, ap, subst, inl, inr, ◌∙◌, arith, append_assoc}
 use Rattle.std.specs.Duration.{as_nanos}
 use Rattle.std.specs.List.{AllByRecursion}
 use Rattle.std.specs.Option.{option_map}
+use Rattle.std.specs.declared.io.ErrorKind.{ErrorKind}
 use Rattle.std.specs.declared.time.Duration.{Duration}
 use Rattle.crossterm_types.specs.Seen.{Seen}
 use Rattle.crossterm_types.specs.Timing.{Reaches, HasElapsed, IsFirst, KeepsFirst, left_over}
@@ -12,7 +13,7 @@ use Rattle.crossterm_read.specs.Device.{AsksEach, AsksWith, IsAtOnce}
 use Rattle.crossterm_read.specs.declared.read.reader.AtWake.TheVariants.{GoesOn}
 use Rattle.crossterm_read.specs.Replies.{ToTake}
 use Rattle.crossterm_read.specs.Store.{EventStore}
-use Rattle.crossterm_read.specs.Steps.{Within, Asks, End, Ready, Tried, Broke, NextStep, ReadReplies, TakeReplies}
+use Rattle.crossterm_read.specs.Steps.{Within, Asks, NextStep, ReadReplies, TakeReplies}
 use Rattle.crossterm_read.specs.inside.Asking.{AsksInTime}
 use Rattle.crossterm_read.specs.Waiting.{AsksLeft, OnlyLastIsAtOnce, WasLeft}
 use Rattle.crossterm_read.proofs.Asking.{asks_more}
@@ -107,7 +108,7 @@ first_of latest began old now new start e later more first keeps = subst (IsFirs
 pub never_nothing : (f : Seen → Bool) (limit : Option Duration) → limit ≡ None → (past : ℕ) (zs : List SourceAnswer) (s t : EventStore) → NextStep GoesOn (Within limit past) f zs s t (ToTake None) → ⊥
 never_nothing f limit none past zs s t n = by_end n.0 n.2 n.4
   where
-    by_end : (end : End) → Asks GoesOn f (Within limit past) s.held zs end → ReadReplies f end n.1 t (ToTake None) → ⊥
-    by_end Ready a r = ready_there GoesOn f (Within limit past) s n.1 zs a n.3 (subst (TakeReplies f n.1 t) (sym (took_of None r.0 r.2)) r.1).0
-    by_end Tried a r = absurd (subst (λ (o : Option Duration). Reaches o past) none a.2.passed)
-    by_end (Broke kind) a r = absurd (take_not None kind r.1)
+    by_end : (end : Result Bool ErrorKind) → Asks GoesOn f (Within limit past) s.held zs end → ReadReplies f end n.1 t (ToTake None) → ⊥
+    by_end (Ok true) a r = ready_there GoesOn f (Within limit past) s n.1 zs a n.3 (subst (TakeReplies f n.1 t) (sym (took_of None r.0 r.2)) r.1).0
+    by_end (Ok false) a r = absurd (subst (λ (o : Option Duration). Reaches o past) none a.2.passed)
+    by_end (Err kind) a r = absurd (take_not None kind r.1)

@@ -17,15 +17,6 @@ use Rattle.crossterm_read.specs.Store.{EventStore, Arrives}
 abbrev pub first_admitted : (Seen → Bool) → List (Seen × ℕ) → Option ℕ
 first_admitted f held = position (λ h. f h.0) held
 
--- How asking the source ends.
-pub data End : Type 0 where
-  -- An admitted event is there.
-  Ready : End
-  -- The tries or the time are used up.
-  Tried : End
-  -- An error came.
-  Broke : ErrorKind → End
-
 -- An answer after which a call goes on: an event that isn't admitted, nothing, or a wake-up if it doesn't stop there.
 abbrev pub Passes : AtWake → (Seen → Bool) → SourceAnswer → Type 0
 Passes wake f (Gave x) = f x ≡ false
@@ -70,20 +61,20 @@ pub record Fails (wake : AtWake) (f : Seen → Bool) (kind : ErrorKind) (zs : Li
   pub passed : AllByRecursion (Passes wake f) before
   pub stops : wake ≡ GoesOn → kind ≢ Interrupted
 
--- What the source answers in a call, and how that ends. If an admitted event is held, it isn't asked. Memory for an
--- event may be refused first.
-abbrev pub Asks : AtWake → (Seen → Bool) → Patience → List (Seen × ℕ) → List SourceAnswer → End → Type 0
-Asks wake f patience held zs Ready =
+-- What the source answers in a call, and how that ends. It is true if an admitted event is there, and false if the
+-- tries or the time are used up. If an admitted event is held, the source isn't asked. Memory for an event may be
+-- refused first.
+abbrev pub Asks : AtWake → (Seen → Bool) → Patience → List (Seen × ℕ) → List SourceAnswer → Result Bool ErrorKind → Type 0
+Asks wake f patience held zs (Ok true) =
     ((is_some (first_admitted f held) ≡ true) × (zs ≡ [])) ⊎ ((first_admitted f held ≡ None) × Finds wake f zs × Allows patience (length zs))
-Asks wake f patience held zs Tried = (first_admitted f held ≡ None) × AllByRecursion (Passes wake f) zs × IsSpent patience (length zs)
-Asks wake f patience held zs (Broke kind) = (first_admitted f held ≡ None)
+Asks wake f patience held zs (Ok false) = (first_admitted f held ≡ None) × AllByRecursion (Passes wake f) zs × IsSpent patience (length zs)
+Asks wake f patience held zs (Err kind) = (first_admitted f held ≡ None)
     × ((Fails wake f kind zs × Allows patience (length zs)) ⊎ ((kind ≡ OutOfMemory) × AllByRecursion (Passes wake f) zs × Allows patience (length zs + 1)))
 
 -- What a poll returns, by how asking ended. After a wake-up it returns false.
-abbrev pub PollReplies : End → Result Bool ErrorKind → Type 0
-PollReplies Ready r = r ≡ Ok true
-PollReplies Tried r = r ≡ Ok false
-PollReplies (Broke kind) r = ((kind ≡ Interrupted) × (r ≡ Ok false)) ⊎ ((kind ≢ Interrupted) × (r ≡ Err kind))
+abbrev pub PollReplies : Result Bool ErrorKind → Result Bool ErrorKind → Type 0
+PollReplies (Ok is_there) r = r ≡ Ok is_there
+PollReplies (Err kind) r = ((kind ≡ Interrupted) × (r ≡ Ok false)) ⊎ ((kind ≢ Interrupted) × (r ≡ Err kind))
 
 -- The first admitted event is removed and given with its number, if one is held. No other is touched.
 abbrev pub TakeReplies : (Seen → Bool) → EventStore → EventStore → Option (Seen × ℕ) → Type 0
@@ -91,18 +82,18 @@ TakeReplies f s t None = (first_admitted f s.held ≡ None) × (t ≡ s)
 TakeReplies f s t (Some x) = (i : ℕ) × (first_admitted f s.held ≡ Some i) × (slice_index_or s.held i x ≡ x) × (t ≡ record s { held = remove s.held i })
 
 -- What a read takes and returns, by how asking ended.
-abbrev pub ReadReplies : (Seen → Bool) → End → EventStore → EventStore → Replied → Type 0
-ReadReplies f Ready s t r = (x : Option (Seen × ℕ)) × TakeReplies f s t x × (r ≡ ToTake x)
-ReadReplies f Tried s t r = (t ≡ s) × (r ≡ ToTake None)
-ReadReplies f (Broke kind) s t r = (t ≡ s) × (r ≡ Fault kind)
+abbrev pub ReadReplies : (Seen → Bool) → Result Bool ErrorKind → EventStore → EventStore → Replied → Type 0
+ReadReplies f (Ok true) s t r = (x : Option (Seen × ℕ)) × TakeReplies f s t x × (r ≡ ToTake x)
+ReadReplies f (Ok false) s t r = (t ≡ s) × (r ≡ ToTake None)
+ReadReplies f (Err kind) s t r = (t ≡ s) × (r ≡ Fault kind)
 
 -- A poll: the source gives these answers, their events are held, and this is returned.
 abbrev pub PollStep : Patience → (Seen → Bool) → List SourceAnswer → EventStore → EventStore → Result Bool ErrorKind → Type 0
-PollStep patience f zs s t r = (end : End) × Asks Stops f patience s.held zs end × Arrives s zs t × PollReplies end r
+PollStep patience f zs s t r = (end : Result Bool ErrorKind) × Asks Stops f patience s.held zs end × Arrives s zs t × PollReplies end r
 
 -- A call that takes what comes, and that stops at a wake-up or goes on.
 abbrev pub NextStep : AtWake → Patience → (Seen → Bool) → List SourceAnswer → EventStore → EventStore → Replied → Type 0
-NextStep wake patience f zs s t r = (end : End) × (m : EventStore) × Asks wake f patience s.held zs end × Arrives s zs m × ReadReplies f end m t r
+NextStep wake patience f zs s t r = (end : Result Bool ErrorKind) × (m : EventStore) × Asks wake f patience s.held zs end × Arrives s zs m × ReadReplies f end m t r
 
 -- A read goes on after a wake-up.
 abbrev pub ReadStep : Patience → (Seen → Bool) → List SourceAnswer → EventStore → EventStore → Replied → Type 0
@@ -110,7 +101,7 @@ ReadStep = NextStep GoesOn
 
 -- A take doesn't ask the source.
 abbrev pub TakeStep : (Seen → Bool) → List SourceAnswer → EventStore → EventStore → Replied → Type 0
-TakeStep f zs s t r = (zs ≡ []) × ReadReplies f Ready s t r
+TakeStep f zs s t r = (zs ≡ []) × ReadReplies f (Ok true) s t r
 
 -- Memory is refused only if the source's last answer was a refusal, or as many events came as there was room for.
 abbrev pub RefusedOnlyWithoutRoom : ℕ → List SourceAnswer → ErrorKind → Type 0

@@ -42,7 +42,7 @@
 //! | `Sources` | 126 | what a source answers, turn by turn | `DeviceSource` |
 //! | `Store` | 53 | what a reader holds | `InternalEventReader::{new, held}` |
 //! | `Replies` | 84 | what a call replies | |
-//! | `Steps` | 117 | what a poll, a read and a take do | `InternalEventReader::{poll_within, read_within, take}` |
+//! | `Steps` | 108 | what a poll, a read and a take do | `InternalEventReader::{poll_within, read_within, take}` |
 //! | `Queries` | 45 | what a query does | `InternalEventReader::{position_within, keyboard_within}` |
 //! | `Waiting` | 38 | with which limits a device is asked | `InternalEventReader::{poll, read}`, `EventReader::keyboard_by` |
 //! | `Calls` | 138 | runs of calls, and the account of all events: the headline | `read::play`, `laws::counts_tries` |

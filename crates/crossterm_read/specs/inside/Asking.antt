@@ -1,5 +1,5 @@
 -- What one question of a source comes to, and many until one is answered.
-use Rattle.std.specs.Prelude.{◌≡◌, ◌≢◌, ◌<◌, ℕ, Bool, true, List, [], ◌∷◌, ◌++◌, Result, Ok, Err, Option, Some, None}
+use Rattle.std.specs.Prelude.{◌≡◌, ◌≢◌, ◌<◌, ℕ, Bool, true, false, List, [], ◌∷◌, ◌++◌, Result, Ok, Err, Option, Some, None, IfErr}
 use Rattle.std.specs.IoError.{error_kind}
 use Rattle.std.specs.declared.io.Error.{Error}
 use Rattle.std.specs.declared.io.ErrorKind.{ErrorKind}
@@ -14,7 +14,7 @@ use Rattle.crossterm_read.specs.declared.read.reader.Once.TheVariants as once
 use Rattle.crossterm_read.specs.declared.read.held.Taken.{Taken}
 use Rattle.crossterm_read.specs.Store.{EventStore, ReaderState, Arrives}
 use Rattle.crossterm_read.specs.inside.Replies.{kept}
-use Rattle.crossterm_read.specs.Steps.{Patience, End, Ready, Tried, Broke, Passes, Asks, RefusedOnlyWithoutRoom, TakeReplies}
+use Rattle.crossterm_read.specs.Steps.{Patience, Passes, Asks, RefusedOnlyWithoutRoom, TakeReplies}
 use Rattle.std.specs.Duration.{as_nanos}
 use Rattle.std.specs.Option.{option_map}
 use Rattle.std.specs.declared.time.Duration.{Duration}
@@ -29,10 +29,10 @@ held_with s x = record s { held = s.held ++ x ∷ [] }
 
 module _ {A : Type 0} where
   -- how asking ended that gives an event, nothing, or a fault
-  abbrev pub end_of : Result (Option (Taken (InternalEvent A))) Error → End
-  end_of (Ok (Some taken)) = Ready
-  end_of (Ok None) = Tried
-  end_of (Err e) = Broke (error_kind e)
+  abbrev pub end_of : Result (Option (Taken (InternalEvent A))) Error → Result Bool ErrorKind
+  end_of (Ok (Some taken)) = Ok true
+  end_of (Ok None) = Ok false
+  end_of (Err e) = Err (error_kind e)
 
   -- what is held with the event that is given
   abbrev pub all_of : EventStore → Result (Option (Taken (InternalEvent A))) Error → EventStore
@@ -46,12 +46,6 @@ module _ {A : Type 0} where
   WouldGiveFirst f t (Ok None) = Unit {0}
   WouldGiveFirst f t (Err e) = Unit {0}
 
--- If asking ended with an error, its kind meets the condition.
-abbrev pub BrokeWhere : End → (ErrorKind → Type 0) → Type 0
-BrokeWhere Ready P = Unit {0}
-BrokeWhere Tried P = Unit {0}
-BrokeWhere (Broke kind) P = P kind
-
 -- There is room for an event that is given, and its number is above those of all others.
 abbrev pub HasPlace : {S A : Type 0} → ReaderState S → Taken (InternalEvent A) → Type 0
 HasPlace t taken = (0 < t.room) × IsOrderly (t.store.held ++ kept taken ∷ []) t.store.arrivals
@@ -59,7 +53,7 @@ HasPlace t taken = (0 < t.room) × IsOrderly (t.store.held ++ kept taken ∷ [])
 -- Some answers were drawn, and asking gave this: the first admitted event, which isn't held then, or none.
 abbrev pub Asked : {S A : Type 0} → (S → List SourceAnswer → S → Type 0) → (S → ℕ) → AtWake → (Seen → Bool) → Patience → ReaderState S → ReaderState S → Result (Option (Taken (InternalEvent A))) Error → Type 0
 Asked drawn failed wake f patience s t result = (zs : List SourceAnswer) × drawn s.source zs t.source × Arrives s.store zs (all_of t.store result) × Asks wake f patience s.store.held zs (end_of result)
-    × BrokeWhere (end_of result) (RefusedOnlyWithoutRoom s.room zs) × IsSteady failed s.source zs t.source × WouldGiveFirst f t.store result
+    × IfErr result (λ e. RefusedOnlyWithoutRoom s.room zs (error_kind e)) × IsSteady failed s.source zs t.source × WouldGiveFirst f t.store result
 
 -- What one question of the source led to, after room for one event was made. An admitted event isn't held.
 abbrev pub DrawsOne : {S A : Type 0} → (S → List SourceAnswer → S → Type 0) → (S → ℕ) → AtWake → (Seen → Bool) → ReaderState S → ReaderState S → Once A → Type 0
