@@ -193,6 +193,18 @@ at_place colors cells p (suc k) le =
     let more : k + 1 ≡ suc k = omega arith in
     subst (At colors cells) more (next colors cells k (get_or cells k blank) lt (same_default cells k blank lt) (at_place colors cells p k (omega (arith, le))))
 
+second_by : (first : Bool) (cells : List Cell) (k : ℕ) → ArePaired first cells → k < length cells → is_covered (get_or cells (suc k) blank) ≡ is_wide (get_or cells k blank)
+second_by first [] k p lt = absurd (omega (arith, lt))
+second_by first (c ∷ []) zero p lt = sym p.1
+second_by first (c ∷ d ∷ cells) zero p lt = p.1.0
+second_by first (c ∷ cells) (suc k) p lt = second_by (is_wide c) cells k p.1 (omega (arith, lt))
+
+-- The cell behind another one is covered if that one is wide, and no other is.
+pub second_covered : (cells : List Cell) (k : ℕ) → ArePaired false cells → k < length cells → is_covered (get_or cells (k + 1) blank) ≡ is_wide (get_or cells k blank)
+second_covered cells k p lt =
+    let next : suc k ≡ k + 1 = omega arith in
+    subst (λ n. is_covered (get_or cells n blank) ≡ is_wide (get_or cells k blank)) next (second_by false cells k p lt)
+
 pub space_is_narrow : takes_two 32 ≡ false
 unfolding char_width
 space_is_narrow = refl

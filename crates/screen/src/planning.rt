@@ -1,17 +1,17 @@
 //! The strokes of a frame.
-ghost use Rattle.std.specs.Prelude.{◌≡◌, ◌++◌, ◌+◌, ◌*◌, ◌<◌, ◌≤◌, ◌^◌, ◌↔◌, ⊤, OnErr, OnOk, IfSome, IsTrue, List, ◌∷◌, [], length, slice_get, true, false, Some};
+ghost use Rattle.std.specs.Prelude.{◌≡◌, ◌⊎◌, ◌++◌, ◌+◌, ◌*◌, ◌<◌, ◌≤◌, ◌^◌, ◌↔◌, ⊤, ℕ, OnErr, OnOk, IfSome, IsTrue, List, ◌∷◌, [], get_or, length, slice_get, true, false, Some};
 ghost use Rattle.std.specs.Io.KnownBytes.{Appends};
 ghost use Rattle.std.specs.List.{All};
 ghost use Rattle.crossterm_command.specs.Tokens.{text_of};
 ghost use Rattle.crossterm_command.specs.Writing.{AppendsFront};
-ghost use Rattle.screen.specs.Cells.{ArePaired, StayInRows, IsPlaced, last_place};
+ghost use Rattle.screen.specs.Cells.{ArePaired, StayInRows, IsPlaced, blank, last_place};
 ghost use Rattle.screen.specs.Grids.{right_of};
 ghost use Rattle.screen.specs.declared.strokes.Stroke.{Stroke};
 ghost use Rattle.screen.specs.inside.Pens.{PutsStrokes};
 ghost use Rattle.screen.specs.inside.Scans.{IsSized, Planned, Visited};
 ghost use Rattle.screen.specs.inside.Strokes.{AreFitting, cell_strokes, cursor_strokes, first_strokes, last_strokes, move_strokes, style_strokes, written_of};
 
-use crate::cells::{Cell, is_covered, is_wide};
+use crate::cells::{Cell, is_covered};
 use crate::differences::next_difference;
 use crate::packed::PackedStyle;
 use crate::pens::{Pen, finish, put};
@@ -92,13 +92,23 @@ fn right_of(at: usize, width: u16) -> Option<usize>
     }
 }
 
-/// The last place that the character at a place takes.
-fn last_of(at: usize, cell: &Cell) -> usize
-    requires { at < 2 ^ 32 }
-    ensures value { result ≡ last_place at cell.now }
-    ensures bound { result ≤ at + 1 }
+/// Copies the second cell of the character at a place, if it has one: that is shown with the first. Returns the last place that it takes.
+fn copy_second(before: &mut [Cell], after: &[Cell], at: usize) -> usize
+    requires length { length before.old ≡ length after.now }
+    requires at { at < length after.now }
+    requires paired { ArePaired false after.now }
+    ensures value { result ≡ last_place at (get_or after.now at blank) }
+    ensures bound { result < length after.now }
+    ensures length { length before.new ≡ length after.now }
+    ensures copied { (k : ℕ) → at < k → k ≤ result → get_or before.new k blank ≡ get_or after.now k blank }
+    ensures others { (k : ℕ) → (k ≤ at) ⊎ (result < k) → get_or before.new k blank ≡ get_or before.old k blank }
 {
-    if is_wide(cell) { at + 1 } else { at }
+    let next = at + 1;
+    if next < after.len() && is_covered(&after[next]) {
+        before[next] = after[next];
+        return next;
+    }
+    at
 }
 
 /// Begins a frame.
@@ -138,15 +148,16 @@ fn scan<W: io::Write>(
     let mut at = next_difference(before, after, 0);
     while at < after.len() {
         let cell = &after[at];
+        before[at] = *cell;
         if !is_covered(cell) {
             let place = place_of(at, width, height);
             let there = is_at(cursor, at);
             let setting = setting_of(style, &cell.packed_style());
             paint(writer, pen, there, &setting, place, cell);
-            cursor = right_of(last_of(at, cell), width);
             style = Some(cell.packed_style());
+            at = copy_second(before, after, at);
+            cursor = right_of(at, width);
         }
-        before[at] = *cell;
         at = next_difference(before, after, at + 1);
     }
 }

@@ -8,9 +8,9 @@ use Rattle.screen.specs.inside.Pens.{PutsStrokes}
 use Rattle.screen.specs.inside.Settings.{Sets}
 use Rattle.screen.specs.inside.Strokes.{AreFitting, cell_strokes, first_strokes}
 use Rattle.screen.proofs.Putting.{puts_both}
-use Rattle.screen.proofs.Scans.{ends, keeps, keeps_counted, paints, paints_counted, paints_fitting, starts, starts_counted, starts_fitting, placed_held, within_length}
-use Rattle.screen.proofs.Skips.{AreCopied, AreSame, Stage, copied_all, copied_more, copied_one, copied_same, copied_start, stage_skipped}
-use Rattle.screen.proofs.Spares.{spares_all, spares_kept, spares_painted, spares_start}
+use Rattle.screen.proofs.Scans.{ends, paints, paints_counted, paints_fitting, starts, starts_counted, starts_fitting, placed_held, within_length}
+use Rattle.screen.proofs.Skips.{AreCopied, AreSame, Stage, copied_all, copied_more, copied_one, copied_same, copied_second, copied_start, last_from, stage_covered, stage_second, stage_skipped}
+use Rattle.screen.proofs.Spares.{spares_all, spares_painted, spares_start}
 use Rattle.screen.proofs.planning.scan.Goals.{then-not-is_covered, else-not-is_covered}
 use Rattle.screen.proofs.planning.scan.Goals as goal
 
@@ -67,13 +67,18 @@ loop-at-preserved g c =
     let stage = inv.1 in
     let copied = inv.4 in
     let differ : b ≢ cell = λ e. inv.6 la (copied.rest k (omega arith) ∙ e ∙ sym ec ∙ get_or_default after k cell blank la) in
+    let ed : get_or after k blank ≡ cell = sym (get_or_default after k cell blank la) ∙ ec in
+    let shown = set c.loop-at.before k cell in
+    let one : AreCopied before after shown (k + 1) = copied_one before after c.loop-at.before k cell copied la ec in
     let j = c.if-not-is_covered in
-    let visited : (more : List Stroke) × Stage known w h before after more j.cursor j.style (k + 1) × AreFitting known more × PutsStrokes more old c.args.pen.now (held j.writer) j.pen =
+    let visited : (more : List Stroke) × Stage known w h before after more j.cursor j.style (j.at + 1) × AreFitting known more × PutsStrokes more old c.args.pen.now (held j.writer) j.pen × AreCopied before after j.before (j.at + 1) =
     elim c.if-not-is_covered.branch [
       | then-not-is_covered p ↦
           let place = p.place_of-place.result in
           let there = p.is_at-there.result in
           let how = p.setting_of-setting.result in
+          let second = p.copy_second-at in
+          let last = second.result in
           let uncovered : is_covered cell ≡ false = search rules in
           let prints : HasToBePrinted b cell = (uncovered, differ) in
           let is_placed : IsPlaced cell = subst IsPlaced ec (c.requires.fits k cell la) in
@@ -81,7 +86,8 @@ loop-at-preserved g c =
           let room : is_wide cell ≡ true → is_last w k ≡ false = λ y. c.requires.rows k cell la (ap is_wide ec ∙ y) in
           let more = cell_strokes there how place.0 place.1 cell in
           let next = right_of w (last_place k cell) in
-          let cursor : j.cursor ≡ next = ◌∙◌ {b = right_of w p.last_of.result} {c = next} (◌∙◌ {b = p.right_of-cursor.result} {c = right_of w p.last_of.result} p.cursor-is p.right_of-cursor.ensures) (ap (right_of w) p.last_of.ensures.value) in
+          let is_last_place : last ≡ last_place k cell = second.ensures.value ∙ ap (last_place k) ed in
+          let cursor : j.cursor ≡ next = ◌∙◌ {b = right_of w last} {c = next} (◌∙◌ {b = p.right_of-cursor.result} {c = right_of w last} p.cursor-is p.right_of-cursor.ensures) (ap (right_of w) is_last_place) in
           let set_now : j.style ≡ Some cell.style = search rules in
           let sets = subst (λ s. Sets c.loop-at.style s how) p.packed_style.ensures p.setting_of-setting.ensures.sets in
           let painted : Stage known w h before after (strokes ++ more) next (Some cell.style) (k + 1) = record {
@@ -90,37 +96,38 @@ loop-at-preserved g c =
             counted = paints_counted before after k strokes b cell there how place.1 place.0 kb la eb ec prints stage.counted;
             sparing = spares_painted known w before after k c.loop-at.cursor c.loop-at.style strokes b cell there how place.0 place.1 kb la eb ec prints p.is_at-there.ensures sets stage.sparing;
           } in
+          let all : Stage known w h before after (strokes ++ more) next (Some cell.style) (last + 1) =
+          stage_second known w h before after (strokes ++ more) next (Some cell.style) k last pb pa same_length la second.ensures.bound second.ensures.value painted in
           let put : PutsStrokes (strokes ++ more) old c.args.pen.now (held p.paint.new.writer) p.paint.new.pen =
-          puts_both strokes more old (held c.loop-at.writer) (held p.paint.new.writer) c.args.pen.now c.loop-at.pen p.paint.new.pen inv.3 p.paint.ensures in (
+          puts_both strokes more old (held c.loop-at.writer) (held p.paint.new.writer) c.args.pen.now c.loop-at.pen p.paint.new.pen inv.3 p.paint.ensures in
+          let cells : AreCopied before after second.new.before (last + 1) =
+          copied_second before after shown second.new.before k last one second.ensures.length (subst (λ n. k ≤ n) (sym is_last_place) (last_from k cell)) second.ensures.copied second.ensures.others in (
             strokes ++ more,
-            subst (λ o. Stage known w h before after (strokes ++ more) o j.style (k + 1)) (sym cursor) (subst (λ o. Stage known w h before after (strokes ++ more) next o (k + 1)) (sym set_now) painted),
+            subst (λ n. Stage known w h before after (strokes ++ more) j.cursor j.style (n + 1)) (sym p.at-is)
+                (subst (λ o. Stage known w h before after (strokes ++ more) o j.style (last + 1)) (sym cursor) (subst (λ o. Stage known w h before after (strokes ++ more) next o (last + 1)) (sym set_now) all)),
             paints_fitting known strokes there how place.0 place.1 cell (omega (arith, p.place_of-place.ensures.column, wide)) (omega (arith, p.place_of-place.ensures.row, high)) fits inv.2,
             subst (λ n. PutsStrokes (strokes ++ more) old c.args.pen.now (held n) j.pen) (sym p.writer-is) (subst (λ n. PutsStrokes (strokes ++ more) old c.args.pen.now (held p.paint.new.writer) n) (sym p.pen-is) put),
+            subst (λ n. AreCopied before after j.before (n + 1)) (sym p.at-is) (subst (λ l. AreCopied before after l (last + 1)) (sym p.before-is) cells),
           )
       | else-not-is_covered q ↦
           let covered : is_covered cell ≡ true = search rules in
-          let none : HasToBePrinted b cell → ⊥ = λ p. let no : true ≡ false = sym covered ∙ p.0 in cc in
-          let there : is_covered cell ≡ false → b ≡ cell = λ e. let no : true ≡ false = sym covered ∙ e in cc in
-          let kept : Stage known w h before after strokes c.loop-at.cursor c.loop-at.style (k + 1) = record {
-            reached = keeps known k w h before after c.loop-at.cursor c.loop-at.style strokes b cell kb la eb ec there pb pa stage.reached;
-            counted = keeps_counted before after k strokes b cell kb la eb ec none stage.counted;
-            sparing = spares_kept known w before after k c.loop-at.cursor c.loop-at.style strokes b cell kb la eb ec none stage.sparing;
-          } in (
+          let kept : Stage known w h before after strokes c.loop-at.cursor c.loop-at.style (k + 1) =
+          stage_covered known w h before after strokes c.loop-at.cursor c.loop-at.style k pb pa same_length la (ap is_covered ed ∙ covered) stage in (
             strokes,
-            subst (λ o. Stage known w h before after strokes o j.style (k + 1)) (sym q.cursor-is) (subst (λ o. Stage known w h before after strokes c.loop-at.cursor o (k + 1)) (sym q.style-is) kept),
+            subst (λ n. Stage known w h before after strokes j.cursor j.style (n + 1)) (sym q.at-is)
+                (subst (λ o. Stage known w h before after strokes o j.style (k + 1)) (sym q.cursor-is) (subst (λ o. Stage known w h before after strokes c.loop-at.cursor o (k + 1)) (sym q.style-is) kept)),
             inv.2,
             subst (λ n. PutsStrokes strokes old c.args.pen.now (held n) j.pen) (sym q.writer-is) (subst (λ n. PutsStrokes strokes old c.args.pen.now (held c.loop-at.writer) n) (sym q.pen-is) inv.3),
+            subst (λ n. AreCopied before after j.before (n + 1)) (sym q.at-is) (subst (λ l. AreCopied before after l (k + 1)) (sym q.before-is) one),
           )
     ] in
     let next = c.next_difference-at-in-loop-at in
-    let shown = set c.loop-at.before k cell in
-    let one : AreCopied before after shown (k + 1) = copied_one before after c.loop-at.before k cell copied la ec in
-    let same : AreSame shown after (k + 1) next.result = next.ensures.same in (
+    let same : AreSame j.before after (j.at + 1) next.result = next.ensures.same in (
       visited.0,
-      stage_skipped known w h before after visited.0 j.cursor j.style (k + 1) next.result pb pa same_length next.ensures.from next.ensures.bound (copied_same before after shown (k + 1) next.result one same) visited.1,
+      stage_skipped known w h before after visited.0 j.cursor j.style (j.at + 1) next.result pb pa same_length next.ensures.from next.ensures.bound (copied_same before after j.before (j.at + 1) next.result visited.4 same) visited.1,
       visited.2,
       visited.3,
-      copied_more before after shown (k + 1) next.result one next.ensures.from same,
+      copied_more before after j.before (j.at + 1) next.result visited.4 next.ensures.from same,
       next.ensures.bound,
       next.ensures.differ,
     )
