@@ -78,7 +78,11 @@ class Links:
             if (module, name) not in seen:
                 return self.resolve(module, path, seen | {(module, name)})
         for _item, path in module.globs:
-            target = self.resolve(module, path, seen)
+            # A glob's own path is looked up without that glob: if its crate isn't here, the first name of it would be looked for in it for ever.
+            glob = (module, tuple(path))
+            if glob in seen:
+                continue
+            target = self.resolve(module, path, seen | {glob})
             if isinstance(target, Module) and target is not module and (target, name) not in seen:
                 found = self.named(target, name, seen | {(target, name)})
                 if found:

@@ -1,11 +1,10 @@
 """Doc comments as HTML: Markdown, with links on the names of public items in backticks."""
-import html
 import re
 
-from markdown_it import MarkdownIt
-
 from .code import escape, link
+from .lexer import SourceError
 from .links import reached
+from .markdown import blocks, pieces
 
 GROUP = re.compile(r"^((?:\w+::)+)\{([\w\s,]+)\}$")
 
@@ -15,48 +14,51 @@ class Prose:
 
     def __init__(self, code):
         self.code, self.links = code, code.links
-        self.markdown = MarkdownIt("commonmark", {"html": False}).enable("table")
 
     def whole(self, text, scope, level):
         """All of a doc comment. Its headings begin at this level."""
-        tokens = self.markdown.parse(text)
-        definitions = definition_cells(tokens)
-        for token in tokens:
-            if token in definitions:
-                self.mend_definition(token.children, scope)
-                continue
-            if token.type in ("heading_open", "heading_close"):
-                token.tag = f"h{min(6, int(token.tag[1:]) + level - 1)}"
-            elif token.type in ("fence", "code_block"):
-                token.type, token.content = "html_block", self.example(token.content, scope)
-            elif token.type == "table_open":
-                token.type, token.content = "html_block", '<div class="wide"><table>\n'
-            elif token.type == "table_close":
-                token.type, token.content = "html_block", "</table></div>\n"
-            self.mend(token.children or [], scope)
-        return self.markdown.renderer.render(tokens, self.markdown.options, {})
+        try:
+            found = blocks(text)
+        except SourceError as error:
+            raise SourceError(f"{scope.module.source.path}: {error}") from error
+        return "".join(self.block(*it, scope, level) for it in found)
+
+    def block(self, kind, extra, text, scope, level):
+        """A block of a doc comment."""
+        if kind == "code":
+            return self.example(text, scope)
+        if kind == "table":
+            return self.table(extra, scope)
+        tag = f"h{min(6, extra + level - 1)}" if kind == "heading" else "p"
+        return f"<{tag}>{self.inline(text, scope)}</{tag}>\n"
+
+    def table(self, rows, scope):
+        """A table. A name in the first column below the head `Definitions` is a file's, and not an item's."""
+        is_definitions = rows[0][0] == "Definitions"
+        parts = []
+        for at, row in enumerate(rows):
+            cells = [self.definition(it, scope) if at and is_definitions and not column else self.inline(it, scope) for column, it in enumerate(row)]
+            tag = "td" if at else "th"
+            parts.append("<tr>" + "".join(f"<{tag}>{it}</{tag}>" for it in cells) + "</tr>\n")
+        body = f"<tbody>\n{''.join(parts[1:])}</tbody>\n" if parts[1:] else ""
+        return f'<div class="wide"><table>\n<thead>\n{parts[0]}</thead>\n{body}</table></div>\n'
+
+    def inline(self, text, scope):
+        """A text with its code in backticks, which has links."""
+        return "".join(self.span(it, scope) if is_code else escape(it) for is_code, it in pieces(text))
 
     def sentence(self, text):
         """The first sentence of a doc comment, without links in it."""
-        tokens = self.markdown.parseInline(first_sentence(text))
-        for token in tokens:
-            token.children = [it for it in token.children if it.type not in ("link_open", "link_close")]
-        return self.markdown.renderer.render(tokens, self.markdown.options, {})
+        return "".join(f"<code>{escape(it)}</code>" if is_code else escape(it) for is_code, it in pieces(first_sentence(text)))
 
-    def mend(self, children, scope):
-        """Makes links of the code in a paragraph. A link to a file of the repository loses its place, which isn't there beside these pages."""
-        for child in children:
-            if child.type == "code_inline":
-                child.type, child.content = "html_inline", self.span(child.content, scope)
-            elif child.type == "link_open" and not re.match(r"https?:", child.attrGet("href") or ""):
-                child.attrs = {}
-
-    def mend_definition(self, children, scope):
-        """Makes a link of the name of a file of definitions."""
-        for child in children:
-            if child.type == "code_inline":
-                file = self.code.definitions.files.get(f"{scope.module.crate}.specs.{child.content}")
-                child.type, child.content = "html_inline", f"<code>{link(file, escape(child.content)) if file else escape(child.content)}</code>"
+    def definition(self, text, scope):
+        """A cell that names a file of definitions, with a link to it."""
+        parts = []
+        for is_code, it in pieces(text):
+            file = self.code.definitions.files.get(f"{scope.module.crate}.specs.{it}") if is_code else None
+            inner = link(file, escape(it)) if file else escape(it)
+            parts.append(f"<code>{inner}</code>" if is_code else inner)
+        return "".join(parts)
 
     def example(self, text, scope):
         """A block of code."""
@@ -85,17 +87,6 @@ class Prose:
         return link(target, broken(text)) if target else broken(text)
 
 
-def definition_cells(tokens):
-    """The cells of tables that name files of definitions: the first of each row below the head `Definitions`. Such a name isn't an item's."""
-    found, is_definitions = [], False
-    for row, cell, inner in zip(tokens, tokens[1:], tokens[2:]):
-        if row.type == "tr_open" and cell.type == "th_open":
-            is_definitions = inner.content == "Definitions"
-        elif row.type == "tr_open" and is_definitions:
-            found.append(inner)
-    return found
-
-
 def broken(text):
     """A path, which a line may break after each pair of colons."""
     return escape(text).replace("::", "::<wbr>")
@@ -110,4 +101,4 @@ def first_sentence(text):
 
 def plain(text):
     """Markdown of a sentence as plain text."""
-    return re.sub(r"\[([^]]*)\]\([^)]*\)", r"\1", text.replace("`", "").replace("**", ""))
+    return text.replace("`", "")
