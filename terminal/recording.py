@@ -17,14 +17,14 @@ def read_text(path):
 
 
 def edit_shows_no_control():
-    """Controls of C1 that are typed are left out, and so are a pasted line end and a tab."""
+    """Controls of C1 that are typed are left out, and a pasted line end or tab is a blank."""
     terminal = Terminal(f'{WITH} {program("edit")}')
     try:
         terminal.until(b'\x1b[K')
         terminal.send('a\u009d0;title\u009cb\u0080c\r'.encode())
         terminal.until(b'10: a0;titlebc\r\n')
         terminal.send(b'\x1b[200~one\r\ntwo\nthree\rfour\tfive\x07\x1b[201~\r')
-        terminal.until(b'19: onetwothreefourfive\r\n')
+        terminal.until(b'23: one two three four five\r\n')
         equal('controls that were written', [it for it in terminal.out.decode() if '\x7f' <= it <= '\x9f'], [])
         terminal.send(b'\x03')
         equal('status', terminal.end(), 0)

@@ -9,7 +9,7 @@ use Rattle.line_editor.specs.declared.limits.Limits.{Limits}
 
 pub fresh_of : (limits : Limits) (line unfinished : Split) (killed : List ℕ) (past undone history : List Split) → line ≡ empty_line → unfinished ≡ empty_line
     → killed ≡ [] → past ≡ [] → undone ≡ [] → history ≡ []
-    → record { limits = limits; line = line; killed = killed; past = past; undone = undone; history = history; back = 0; unfinished = unfinished; typing = false }
+    → record { limits = limits; line = line; killed = killed; past = past; undone = undone; history = history; back = 0; unfinished = unfinished; typing = false; walking = false }
     ≡ fresh limits
 fresh_of limits line unfinished killed past undone history a b c d e f = rw (a, b, c, d, e, f) refl
 

@@ -1,5 +1,5 @@
 -- An editor stays within its limits.
-use Rattle.std.proofs.Common.{◌≡◌, ℕ, ◌+◌, ◌-◌, ◌<◌, ◌≤◌, true, false, List, [], ◌∷◌, ◌++◌, length, map, reverse, take, drop, refl, sym, subst, ◌∙◌, inl, inr, arith, append-nil}
+use Rattle.std.proofs.Common.{◌≡◌, ℕ, ◌+◌, ◌-◌, ◌<◌, ◌≤◌, Bool, true, false, List, [], ◌∷◌, ◌++◌, length, map, reverse, take, drop, refl, sym, subst, ◌∙◌, inl, inr, arith, append-nil}
 use Rattle.std.proofs.lemmas.Bool.{and_parts, and_from, cases_Bool, leb-true, ltb-false, ltb-true}
 use Rattle.std.proofs.lemmas.List.{reverse-append, reverse-reverse}
 use Rattle.std.specs.Prelude.{Option, Some, None, IfSome, suc, zero, slice_get}
@@ -13,14 +13,14 @@ use Rattle.line_editor.specs.declared.places.Target.{Target}
 use Rattle.line_editor.specs.declared.places.Target.TheVariants.{Forward}
 use Rattle.line_editor.specs.Bounded.{AreRoomy, IsBounded, IsHeld, IsKept, StaysBounded, all_done}
 use Rattle.line_editor.specs.Bounds.{is_too_long, room_of, size, written}
-use Rattle.line_editor.specs.Edits.{cut_text, empty_line, erased, inserted, meeting, settled, transposed}
+use Rattle.line_editor.specs.Edits.{cut_text, empty_line, erased, inserted, meeting, transposed}
 use Rattle.line_editor.specs.History.{loaded_line, has_room, lines_of, loaded}
 use Rattle.line_editor.specs.Places.{target_place}
-use Rattle.line_editor.specs.Shown.{AreShown, is_shown, shown_part}
+use Rattle.line_editor.specs.Shown.{AreShown, blanked, is_shown, pasted_part, shown_part}
 use Rattle.line_editor.specs.Splits.{Split, line_text}
-use Rattle.line_editor.specs.States.{EditorState, after, changed, dropped, erase_cut, found, fresh, kill_cut, left_for, moved, newer_from, newer_line, newer_to, older_to, redo_to, remembered, searched_to, transpose_at, type_char, after_typing, undo_to, unfinished_at, write}
+use Rattle.line_editor.specs.States.{EditorState, after, changed, dropped, erase_cut, found, found_line, fresh, is_any, kill_cut, left_for, moved, newer_from, newer_line, newer_to, older_to, redo_to, remembered, searched_to, sought, transpose_at, type_char, after_typing, undo_to, unfinished_at, write}
 use Rattle.line_editor.specs.Tasks.{Task, Acts, Pastes, Accepts, LetsGo, Loads, Closes, Nothing, done, task_text}
-use Rattle.line_editor.proofs.Held.{Found, all-drop, all-get, all-take, cut-shown, end-after, found-held, held-erased, held-inserted, held-moved, held-same, held-settled, held-transposed}
+use Rattle.line_editor.proofs.Held.{Found, all-drop, all-get, all-take, cut-shown, end-after, found-held, held-erased, held-found, held-inserted, held-moved, held-same, held-transposed}
 use Rattle.line_editor.proofs.Keeping.{keeps_text}
 use Rattle.line_editor.proofs.Showing.{shown-filter}
 use Rattle.line_editor.proofs.Sizing.{size-cons}
@@ -54,6 +54,19 @@ fresh-bounded limits = record {
 -- How far back in the history an editor is has no bound.
 bounded-back : (w : EditorState) (back : ℕ) → IsBounded w → IsBounded (record w { back = back })
 bounded-back w back h = record {
+  line = h.line;
+  unfinished = h.unfinished;
+  past = h.past;
+  undone = h.undone;
+  history = h.history;
+  killed = h.killed;
+  lines = h.lines;
+  steps = h.steps;
+}
+
+-- So has what a search looked for.
+bounded-walking : (w : EditorState) (walking : Bool) → IsBounded w → IsBounded (record w { walking = walking })
+bounded-walking w walking h = record {
   line = h.line;
   unfinished = h.unfinished;
   past = h.past;
@@ -203,10 +216,11 @@ module _ (w : EditorState) (h : IsBounded w) where
   bounded-newer_from zero = h
   bounded-newer_from (suc back) = bounded-newer (newer_line back w) (newer-held back)
 
-  bounded-search : (o : Option (ℕ × List ℕ)) → IfSome o (Found w.limits (reverse w.line.before)) → IsBounded (searched_to o w)
+  bounded-search : (o : Option (ℕ × List ℕ)) → IfSome o (Found w.limits (sought w)) → IsBounded (searched_to o w)
   bounded-search None k = h
   bounded-search (Some found) k =
-      bounded-left (settled (record { before = w.line.before; after = found.1 })) found.0 (held-settled w.limits w.line.before found.1 k)
+      bounded-walking (record (left_for (found_line (sought w) found.1) w) { back = found.0 }) (is_any (sought w))
+      (bounded-left (found_line (sought w) found.1) found.0 (held-found w.limits (sought w) found.1 k))
 
   bounded-after : (action : Action) → is_too_long (written action w) w ≡ false → IsBounded (after action w)
   bounded-after (Insert c) room = bounded-type c room
@@ -220,7 +234,7 @@ module _ (w : EditorState) (h : IsBounded w) where
   bounded-after Older room = bounded-older (slice_get w.history w.back) (all-get w.limits w.history w.back h.history)
   bounded-after Newer room = bounded-newer_from w.back
   bounded-after Search room =
-      bounded-search (found w) (found-held w.limits (reverse w.line.before) w.back (drop w.back w.history) (all-drop w.limits w.history w.back h.history))
+      bounded-search (found w) (found-held w.limits (sought w) (line_text w.line) w.back (drop w.back w.history) (all-drop w.limits w.history w.back h.history))
 
   -- ---- lines that go
 
@@ -276,23 +290,23 @@ all-reverse P [] h = tt
 all-reverse P (d ∷ lines) h =
     subst (AllByRecursion P) (sym (reverse-append (d ∷ []) lines)) (all-append P (reverse lines) (d ∷ []) (all-reverse P lines h.1) (h.0, tt))
 
-all-loaded : (limits : Limits) (lines : List (List ℕ)) → AllByRecursion (IsKept limits) (map loaded_line (filter (has_room limits) (map shown_part lines)))
+all-loaded : (limits : Limits) (lines : List (List ℕ)) → AllByRecursion (IsKept limits) (map loaded_line (filter (has_room limits) (map pasted_part lines)))
 all-loaded limits [] = tt
 all-loaded limits (line ∷ lines) =
-    elim (cases_Bool (has_room limits (shown_part line))) [
-      | inl here ↦ rw here (kept-ended limits (shown_part line) (shown-filter line) here, all-loaded limits lines)
+    elim (cases_Bool (has_room limits (pasted_part line))) [
+      | inl here ↦ rw here (kept-ended limits (pasted_part line) (shown-filter (blanked line)) here, all-loaded limits lines)
       | inr not_here ↦ rw not_here (all-loaded limits lines)
     ]
 
 bounded-loaded : (w : EditorState) → IsBounded w → (text : List ℕ) → IsBounded (loaded text w)
 bounded-loaded w h text =
-    let all = reverse (map loaded_line (filter (has_room w.limits) (map shown_part (lines_of text)))) in
+    let all = reverse (map loaded_line (filter (has_room w.limits) (map pasted_part (lines_of text)))) in
     record {
       line = h.line;
       unfinished = h.unfinished;
       past = h.past;
       undone = h.undone;
-      history = all-take w.limits (IsKept w.limits) w.limits.lines all (all-reverse (IsKept w.limits) (map loaded_line (filter (has_room w.limits) (map shown_part (lines_of text)))) (all-loaded w.limits (lines_of text)));
+      history = all-take w.limits (IsKept w.limits) w.limits.lines all (all-reverse (IsKept w.limits) (map loaded_line (filter (has_room w.limits) (map pasted_part (lines_of text)))) (all-loaded w.limits (lines_of text)));
       killed = h.killed;
       lines = take-short w.limits.lines all;
       steps = h.steps;
@@ -300,7 +314,7 @@ bounded-loaded w h text =
 
 bounded-done : (task : Task) (w : EditorState) → IsBounded w → is_too_long (task_text task w) w ≡ false → IsBounded (done task w)
 bounded-done (Acts action) w h room = bounded-after w h action room
-bounded-done (Pastes text) w h room = bounded-write w h (shown_part text) (shown-filter text) room
+bounded-done (Pastes text) w h room = bounded-write w h (pasted_part text) (shown-filter (blanked text)) room
 bounded-done Accepts w h room = bounded-remembered w h (line_text w.line) refl
 bounded-done LetsGo w h room = bounded-ended w h w.history h.history h.lines
 bounded-done (Loads text) w h room = bounded-loaded w h text

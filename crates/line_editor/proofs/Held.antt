@@ -1,9 +1,11 @@
 -- Edits of lines that are held give lines that are held.
-use Rattle.std.proofs.Common.{◌≡◌, ℕ, ◌+◌, ◌-◌, ◌≤◌, List, [], ◌∷◌, ◌++◌, length, reverse, take, drop, refl, sym, subst, ap, ◌∙◌, inl, inr, arith, length-append}
+use Rattle.std.proofs.Common.{◌≡◌, ℕ, ◌+◌, ◌-◌, ◌≤◌, List, [], ◌∷◌, ◌++◌, length, reverse, take, drop, refl, sym, subst, ap, ◌∙◌, inl, inr, arith, append-nil, length-append}
 use Rattle.std.proofs.lemmas.Bool.{cases_Bool, eqb-true}
+use Rattle.std.proofs.lemmas.List.{reverse-reverse}
 use Rattle.std.proofs.lemmas.Str.{encodes-append}
 use Rattle.std.specs.Prelude.{Option, Some, None, IfSome, ◌==◌, encode_utf8_all, slice_get, suc, zero}
 use Rattle.std.specs.List.{AllByRecursion}
+use Rattle.std.specs.Str.{bytes_eq}
 use Rattle.line_editor.specs.declared.limits.Limits.{Limits}
 use Rattle.line_editor.specs.declared.places.Stop.TheVariants.{Cluster, Edge}
 use Rattle.line_editor.specs.declared.places.Target.{Target}
@@ -14,7 +16,7 @@ use Rattle.line_editor.specs.Edits.{cut_text, reach_end, erased, from_to, insert
 use Rattle.line_editor.specs.Places.{target_place, stops}
 use Rattle.line_editor.specs.Shown.{AreShown}
 use Rattle.line_editor.specs.Splits.{Split, ahead, line_text}
-use Rattle.line_editor.specs.States.{behind_front, first_with, rest_or}
+use Rattle.line_editor.specs.States.{behind_front, first_with, found_line, other_rest, rest_or}
 use Rattle.line_editor.proofs.Keeping.{cuts_out, ends-IsFrom, from_to-IsFrom, keeps_text, text_of-IsFrom, text_of-joined, writes_at}
 use Rattle.line_editor.proofs.Showing.{shown-append, shown-back, shown-front}
 
@@ -141,19 +143,28 @@ module _ (limits : Limits) where
   or-else front (Some rest) n other h k = h
   or-else front None n other h k = k
 
-  pub found-held : (front : List ℕ) (passed : ℕ) (lines : List Split) → AllByRecursion (IsKept limits) lines → IfSome (first_with front passed lines) (Found front)
-  found-held front passed [] h = tt
-  found-held front passed (d ∷ lines) h =
-      or-else front (behind_front front (line_text d)) (passed + 1) (first_with front (passed + 1) lines)
-      (some-weaker (λ rest. line_text d ≡ front ++ rest) (λ rest. Holds limits (front ++ rest)) (behind_front front (line_text d))
-      (λ rest e. held-same (front ++ rest) (line_text d) (sym e) h.0.0) (behind-front front (line_text d)))
-      (found-held front (passed + 1) lines h.1)
+  other-rest : (front shown text : List ℕ) → IfSome (other_rest front shown text) (λ rest. text ≡ front ++ rest)
+  other-rest front shown text = elim (cases_Bool (bytes_eq text shown)) [ inl same ↦ rw same tt | inr other ↦ rw other (behind-front front text) ]
 
-  pub held-settled : (before after : List ℕ) → Holds limits (reverse before ++ after) → IsHeld limits (settled (record { before = before; after = after }))
+  pub found-held : (front shown : List ℕ) (passed : ℕ) (lines : List Split) → AllByRecursion (IsKept limits) lines
+      → IfSome (first_with front shown passed lines) (Found front)
+  found-held front shown passed [] h = tt
+  found-held front shown passed (d ∷ lines) h =
+      or-else front (other_rest front shown (line_text d)) (passed + 1) (first_with front shown (passed + 1) lines)
+      (some-weaker (λ rest. line_text d ≡ front ++ rest) (λ rest. Holds limits (front ++ rest)) (other_rest front shown (line_text d))
+      (λ rest e. held-same (front ++ rest) (line_text d) (sym e) h.0.0) (other-rest front shown (line_text d)))
+      (found-held front shown (passed + 1) lines h.1)
+
+  held-settled : (before after : List ℕ) → Holds limits (reverse before ++ after) → IsHeld limits (settled (record { before = before; after = after }))
   held-settled before after h =
       let p : Split = record { before = before; after = [] } in
       let q : Split = record { before = []; after = after } in
       held-same (line_text (settled (record { before = before; after = after }))) (reverse before ++ after) (text_of-joined p [] q) h
+
+  pub held-found : (front rest : List ℕ) → Holds limits (front ++ rest) → IsHeld limits (found_line front rest)
+  held-found [] rest h = held-same (reverse (reverse rest) ++ []) rest (append-nil (reverse (reverse rest)) ∙ reverse-reverse rest) h
+  held-found (c ∷ front) rest h =
+      held-settled (reverse (c ∷ front)) rest (held-same (reverse (reverse (c ∷ front)) ++ rest) ((c ∷ front) ++ rest) (ap (λ t. t ++ rest) (reverse-reverse (c ∷ front))) h)
 
 -- The end of a line has nothing behind it.
 pub edge-end : (before after : List ℕ) → (ahead (stops Edge) before after).after ≡ []

@@ -15,7 +15,7 @@ use Rattle.line_editor.specs.declared.limits.Limits.{Limits}
 use Rattle.line_editor.specs.Bounds.{size}
 use Rattle.line_editor.specs.Edits.{settled}
 use Rattle.line_editor.specs.History.{loaded_line, has_room, lines_of, saved, with_line}
-use Rattle.line_editor.specs.Shown.{shown_part}
+use Rattle.line_editor.specs.Shown.{pasted_part}
 use Rattle.line_editor.specs.Splits.{Split, line_text}
 use Rattle.line_editor.specs.inside.Lines.{IsFirstLine}
 use Rattle.line_editor.proofs.Searching.{from_line, past_lines}
@@ -86,7 +86,7 @@ line_loaded limits text all line history e f room =
 
 -- What lines come to, the newest first.
 abbrev pub kept : Limits → List (List ℕ) → List Split
-kept limits lines = reverse (map loaded_line (filter (has_room limits) (map shown_part lines)))
+kept limits lines = reverse (map loaded_line (filter (has_room limits) (map pasted_part lines)))
 
 -- What the lines of a text come to in front of a history.
 abbrev pub loads : Limits → List Split → List ℕ → List Split
@@ -99,22 +99,22 @@ take_within (suc n) m [] ys le = take-take (suc n) m ys le
 take_within (suc n) m (x ∷ xs) ys le = ap (λ t. x ∷ t) (take_within n m xs ys (omega (arith, le)))
 
 kept_cons : (limits : Limits) (line : List ℕ) (lines : List (List ℕ)) (history : List Split)
-    → take limits.lines (kept limits (line ∷ lines) ++ history) ≡ take limits.lines (kept limits lines ++ with_line limits (shown_part line) history)
+    → take limits.lines (kept limits (line ∷ lines) ++ history) ≡ take limits.lines (kept limits lines ++ with_line limits (pasted_part line) history)
 kept_cons limits line lines history =
-    elim (cases_Bool (has_room limits (shown_part line))) [
+    elim (cases_Bool (has_room limits (pasted_part line))) [
       | inl here ↦ rw here (
-          ap (λ t. take limits.lines (t ++ history)) (reverse-append (loaded_line (shown_part line) ∷ []) (map loaded_line (filter (has_room limits) (map shown_part lines))))
-          ∙ ap (take limits.lines) (append_assoc (kept limits lines) (loaded_line (shown_part line) ∷ []) history)
-          ∙ sym (take_within limits.lines limits.lines (kept limits lines) (loaded_line (shown_part line) ∷ history) (omega arith)))
+          ap (λ t. take limits.lines (t ++ history)) (reverse-append (loaded_line (pasted_part line) ∷ []) (map loaded_line (filter (has_room limits) (map pasted_part lines))))
+          ∙ ap (take limits.lines) (append_assoc (kept limits lines) (loaded_line (pasted_part line) ∷ []) history)
+          ∙ sym (take_within limits.lines limits.lines (kept limits lines) (loaded_line (pasted_part line) ∷ history) (omega arith)))
       | inr not_here ↦ rw not_here refl
     ]
 
 pub loads_step : (limits : Limits) (history : List Split) (text line back : List ℕ) → IsFirstLine text line back
-    → loads limits history text ≡ loads limits (with_line limits (shown_part line) history) back
+    → loads limits history text ≡ loads limits (with_line limits (pasted_part line) history) back
 loads_step limits history text line back (inl more) = ap (λ t. take limits.lines (kept limits t ++ history)) more ∙ kept_cons limits line (lines_of back) history
 loads_step limits history text line back (inr last) =
     ap (λ t. take limits.lines (kept limits t ++ history)) last.0 ∙ kept_cons limits line [] history
-    ∙ ap (loads limits (with_line limits (shown_part line) history)) (sym last.1)
+    ∙ ap (loads limits (with_line limits (pasted_part line) history)) (sym last.1)
 
 pub with_line-short : (limits : Limits) (text : List ℕ) (history : List Split) → take limits.lines history ≡ history
     → take limits.lines (with_line limits text history) ≡ with_line limits text history

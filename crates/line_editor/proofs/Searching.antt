@@ -1,11 +1,13 @@
 -- A search through lines, one after another.
 use Rattle.std.proofs.Common.{◌≡◌, ℕ, ◌+◌, List, [], ◌∷◌, ◌++◌, reverse, drop, refl, sym, ap, ◌∙◌, add-one, append-nil}
-use Rattle.std.specs.Prelude.{Some, None, zero, suc, slice_get}
+use Rattle.std.proofs.lemmas.Slice.Eq.{bytes_eq-Decides}
+use Rattle.std.proofs.lemmas.Str.{encodes-chars}
+use Rattle.std.specs.Prelude.{Bool, true, false, Some, None, zero, suc, encode_utf8_all, slice_get}
 use Rattle.std.specs.Option.{option_map}
-use Rattle.std.specs.Str.{chars}
+use Rattle.std.specs.Str.{bytes_eq, chars, IsUtf8}
 use Rattle.line_editor.specs.Splits.{Split, split_at, line_text}
 use Rattle.line_editor.specs.Edits.{line_with, settled}
-use Rattle.line_editor.specs.States.{behind_front, first_with, rest_or}
+use Rattle.line_editor.specs.States.{EditorState, first_with, found_line, other_rest, rest_or, sought}
 use Rattle.line_editor.proofs.Stepping.{chars_before-start}
 
 -- The lines from one on: its own text, and the lines behind it.
@@ -24,24 +26,45 @@ past_lines [] (suc at) e = (refl, refl)
 past_lines (x ∷ xs) zero e = cc
 past_lines (x ∷ xs) (suc at) e = past_lines xs at e
 
-pub search_step : (front : List ℕ) (xs : List Split) (at : ℕ) (t : List ℕ) → Some t ≡ option_map line_text (slice_get xs at)
-    → first_with front at (drop at xs) ≡ rest_or (behind_front front t) (at + 1) (first_with front (at + 1) (drop (at + 1) xs))
-search_step front xs at t e =
+pub search_step : (front shown : List ℕ) (xs : List Split) (at : ℕ) (t : List ℕ) → Some t ≡ option_map line_text (slice_get xs at)
+    → first_with front shown at (drop at xs) ≡ rest_or (other_rest front shown t) (at + 1) (first_with front shown (at + 1) (drop (at + 1) xs))
+search_step front shown xs at t e =
     let line = from_line xs at t e in
     let next : suc at ≡ at + 1 = sym (add-one at) in
-    ap (first_with front at) line.1
-    ∙ ap (λ s. rest_or (behind_front front s) (at + 1) (first_with front (at + 1) (drop (suc at) xs))) line.2
-    ∙ ap (λ n. rest_or (behind_front front t) (at + 1) (first_with front (at + 1) (drop n xs))) next
+    ap (first_with front shown at) line.1
+    ∙ ap (λ s. rest_or (other_rest front shown s) (at + 1) (first_with front shown (at + 1) (drop (suc at) xs))) line.2
+    ∙ ap (λ n. rest_or (other_rest front shown t) (at + 1) (first_with front shown (at + 1) (drop n xs))) next
 
-pub search_past : (front : List ℕ) (xs : List Split) (at : ℕ) → None ≡ option_map line_text (slice_get xs at)
-    → first_with front at (drop at xs) ≡ first_with front (at + 1) (drop (at + 1) xs)
-search_past front xs at e =
+pub search_past : (front shown : List ℕ) (xs : List Split) (at : ℕ) → None ≡ option_map line_text (slice_get xs at)
+    → first_with front shown at (drop at xs) ≡ first_with front shown (at + 1) (drop (at + 1) xs)
+search_past front shown xs at e =
     let none = past_lines xs at e in
     let next : suc at ≡ at + 1 = sym (add-one at) in
-    ap (first_with front at) none.0 ∙ ap (first_with front (at + 1)) (sym none.1 ∙ ap (λ n. drop n xs) next)
+    ap (first_with front shown at) none.0 ∙ ap (first_with front shown (at + 1)) (sym none.1 ∙ ap (λ n. drop n xs) next)
 
 -- A line of two texts.
 pub parts_as : (before after : List ℕ) → line_with (split_at after 0) (chars before) (split_at after 0) ≡ settled (record { before = reverse (chars before); after = chars after })
 parts_as before after =
     ap (λ t. settled (record { before = reverse (chars before) ++ t; after = chars after })) (chars_before-start after)
     ∙ ap (λ t. settled (record { before = t; after = chars after })) (append-nil (reverse (chars before)))
+
+-- A line that was found, if nothing was looked for.
+pub found-any : (front rest none : List ℕ) → front ≡ [] → none ≡ [] → settled (record { before = reverse rest; after = none }) ≡ found_line front rest
+found-any front rest none e f = ap (λ t. settled (record { before = reverse rest; after = t })) f ∙ ap (λ t. found_line t rest) (sym e)
+
+-- A search that goes on for any line.
+pub sought-any : (w : EditorState) → w.walking ≡ true → [] ≡ sought w
+sought-any w on = rw on refl
+
+-- Two texts are the same if their characters are.
+pub same-chars : (x y : List ℕ) → IsUtf8 x → IsUtf8 y → bytes_eq x y ≡ bytes_eq (chars x) (chars y)
+same-chars x y u v =
+    let bytes = bytes_eq-Decides x y in
+    let all = bytes_eq-Decides (chars x) (chars y) in
+    both-so (bytes_eq x y) (bytes_eq (chars x) (chars y)) (λ h. all.1 (ap chars (bytes.0 h)))
+    (λ h. bytes.1 (sym (encodes-chars x u) ∙ ap encode_utf8_all (all.0 h) ∙ encodes-chars y v))
+  where
+    both-so : (a b : Bool) → (a ≡ true → b ≡ true) → (b ≡ true → a ≡ true) → a ≡ b
+    both-so true b f g = sym (f refl)
+    both-so false true f g = g refl
+    both-so false false f g = refl

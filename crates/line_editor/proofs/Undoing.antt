@@ -224,5 +224,5 @@ can_be_undone actions w plain rests enough =
 pub redoes_undone : (w : EditorState) → RedoesUndone w
 redoes_undone w d past e = ap (λ t. after Redo (undo_to t w)) e ∙ (record_with w d past e)
   where
-    record_with : (w : EditorState) (d : Split) (past : List Split) → w.past ≡ d ∷ past → after Redo (undo_to (d ∷ past) w) ≡ record w { typing = false }
-    record_with w d past e = ap (λ t. record w { past = t; typing = false }) (sym e)
+    record_with : (w : EditorState) (d : Split) (past : List Split) → w.past ≡ d ∷ past → after Redo (undo_to (d ∷ past) w) ≡ record w { typing = false; walking = false }
+    record_with w d past e = ap (λ t. record w { past = t; typing = false; walking = false }) (sym e)

@@ -1,9 +1,9 @@
 -- A history as a text, and the history that a text holds.
-use Rattle.std.specs.Prelude.{ℕ, Bool, nat_le, nat_lt, ◌&&◌, ◌==◌, List, [], ◌∷◌, ◌++◌, if◌then◌else◌, map, reverse, take}
+use Rattle.std.specs.Prelude.{ℕ, Bool, false, nat_le, nat_lt, ◌&&◌, ◌==◌, List, [], ◌∷◌, ◌++◌, if◌then◌else◌, map, reverse, take}
 use Rattle.std.specs.List.{filter, flat_map, slice_split}
 use Rattle.line_editor.specs.declared.limits.Limits.{Limits}
 use Rattle.line_editor.specs.Bounds.{size}
-use Rattle.line_editor.specs.Shown.{shown_part}
+use Rattle.line_editor.specs.Shown.{pasted_part}
 use Rattle.line_editor.specs.Splits.{Split, line_text}
 use Rattle.line_editor.specs.States.{EditorState}
 
@@ -27,11 +27,11 @@ loaded_line text = record { before = reverse text; after = [] }
 abbrev pub with_line : Limits → List ℕ → List Split → List Split
 with_line limits text history = if has_room limits text then take limits.lines (loaded_line text ∷ history) else history
 
--- The history of a text: its last lines, the newest first, each with its shown characters. Lines without room are
--- left out.
+-- The history of a text: its last lines, the newest first, of each what comes of it into a line by a paste. Lines
+-- without room are left out.
 abbrev pub history_of : Limits → List ℕ → List Split
-history_of limits text = take limits.lines (reverse (map loaded_line (filter (has_room limits) (map shown_part (lines_of text)))))
+history_of limits text = take limits.lines (reverse (map loaded_line (filter (has_room limits) (map pasted_part (lines_of text)))))
 
 -- The editor with the history of a text in place of its own. Its line stays, as one that isn't in the history.
 abbrev pub loaded : List ℕ → EditorState → EditorState
-loaded text w = record w { history = history_of w.limits text; back = 0 }
+loaded text w = record w { history = history_of w.limits text; back = 0; walking = false }

@@ -72,6 +72,6 @@ CanBeUndone actions w =
     ArePlain actions → w.typing ≡ false → length w.past + length actions ≤ w.limits.steps
     → (n : ℕ) × (line_text (undo_times n (run_actions actions w)).line ≡ line_text w.line) × ((undo_times n (run_actions actions w)).past ≡ w.past)
 
--- A redo gives back what an undo took. No character counts as just typed then.
+-- A redo gives back what an undo took. Nothing counts as just typed or just found then.
 abbrev pub RedoesUndone : EditorState → Type 0
-RedoesUndone w = (d : Split) (past : List Split) → w.past ≡ d ∷ past → after Redo (after Undo w) ≡ record w { typing = false }
+RedoesUndone w = (d : Split) (past : List Split) → w.past ≡ d ∷ past → after Redo (after Undo w) ≡ record w { typing = false; walking = false }

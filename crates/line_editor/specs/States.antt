@@ -1,6 +1,7 @@
 -- The state of an editor, and how each action changes it.
 use Rattle.std.specs.Prelude.{⊤, ℕ, ◌+◌, ◌-◌, Bool, true, false, List, [], ◌∷◌, Option, Some, None, if◌then◌else◌, slice_get, drop, take, reverse, ◌==◌}
 use Rattle.std.specs.Prelude.{zero, suc}
+use Rattle.std.specs.Str.{bytes_eq}
 use Rattle.line_editor.specs.declared.actions.Action.{Action}
 use Rattle.line_editor.specs.declared.actions.Action.TheVariants as does
 use Rattle.line_editor.specs.declared.limits.Limits.{Limits}
@@ -10,7 +11,7 @@ use Rattle.line_editor.specs.declared.places.Target.TheVariants.{Forward}
 use Rattle.line_editor.specs.Splits.{Split, line_text}
 use Rattle.line_editor.specs.Edits.{cut_text, empty_line, erased, inserted, meeting, settled, transposed}
 use Rattle.line_editor.specs.Places.{target_place}
-use Rattle.line_editor.specs.Shown.{is_shown, shown_part}
+use Rattle.line_editor.specs.Shown.{is_shown, pasted_part}
 
 -- An editor: its line, and what came before it.
 pub record EditorState : Type 0 where
@@ -30,6 +31,8 @@ pub record EditorState : Type 0 where
   pub unfinished : Split
   -- Whether a character was typed last, which is undone with the next one.
   pub typing : Bool
+  -- Whether the line was found by a search for any line, as which the next one goes on.
+  pub walking : Bool
 
 -- A fresh editor has an empty line, and nothing came before it.
 abbrev pub fresh : Limits → EditorState
@@ -43,6 +46,7 @@ fresh limits = record {
   back = 0;
   unfinished = empty_line;
   typing = false;
+  walking = false;
 }
 
 -- ---- changes of the line
@@ -53,15 +57,15 @@ pushed w = take w.limits.steps (w.line ∷ w.past)
 
 -- The editor with another line, and the line before it can be undone.
 abbrev pub changed : Split → EditorState → EditorState
-changed d w = record w { line = d; past = pushed w; undone = []; typing = false }
+changed d w = record w { line = d; past = pushed w; undone = []; typing = false; walking = false }
 
 -- The editor after a character was typed. It is undone together with the characters that were typed just before it.
 abbrev pub after_typing : Split → EditorState → EditorState
-after_typing d w = record w { line = d; past = if w.typing then w.past else pushed w; undone = []; typing = true }
+after_typing d w = record w { line = d; past = if w.typing then w.past else pushed w; undone = []; typing = true; walking = false }
 
 -- The editor with its cursor elsewhere.
 abbrev pub moved : Split → EditorState → EditorState
-moved d w = record w { line = d; typing = false }
+moved d w = record w { line = d; typing = false; walking = false }
 
 -- ---- what is written
 
@@ -74,9 +78,9 @@ abbrev pub write : List ℕ → EditorState → EditorState
 write [] w = w
 write (c ∷ text) w = changed (inserted (c ∷ text) w.line) w
 
--- The editor after a paste, whose shown characters are written.
+-- The editor after a paste: its shown characters are written, with a blank for each run of line ends and tabs.
 abbrev pub pasted_into : List ℕ → EditorState → EditorState
-pasted_into text w = write (shown_part text) w
+pasted_into text w = write (pasted_part text) w
 
 -- ---- what is erased
 
@@ -100,12 +104,12 @@ transpose_at (c ∷ before) w = changed (transposed w.line) w
 -- The editor with the newest line of the past, if there is one. The line before it can be redone.
 abbrev pub undo_to : List Split → EditorState → EditorState
 undo_to [] w = w
-undo_to (d ∷ past) w = record w { line = d; past = past; undone = w.line ∷ w.undone; typing = false }
+undo_to (d ∷ past) w = record w { line = d; past = past; undone = w.line ∷ w.undone; typing = false; walking = false }
 
 -- The editor with the line that was undone last, if there is one. The line before it can be undone.
 abbrev pub redo_to : List Split → EditorState → EditorState
 redo_to [] w = w
-redo_to (d ∷ undone) w = record w { line = d; past = w.line ∷ w.past; undone = undone; typing = false }
+redo_to (d ∷ undone) w = record w { line = d; past = w.line ∷ w.past; undone = undone; typing = false; walking = false }
 
 -- ---- history
 
@@ -145,26 +149,48 @@ behind_front [] text = Some text
 behind_front (c ∷ front) [] = None
 behind_front (c ∷ front) (d ∷ text) = if c == d then behind_front front text else None
 
+-- The rest of a text that begins with another one, or `None` if it doesn't, or if it is the text of the line that is
+-- shown.
+abbrev pub other_rest : List ℕ → List ℕ → List ℕ → Option (List ℕ)
+other_rest front shown text = if bytes_eq text shown then None else behind_front front text
+
 -- The rest that was found with its place in the history, or what else was found.
 abbrev pub rest_or : Option (List ℕ) → ℕ → Option (ℕ × List ℕ) → Option (ℕ × List ℕ)
 rest_or (Some rest) back other = Some (back, rest)
 rest_or None back other = other
 
--- The first of the lines that begins with a text: its place behind `passed` others, and the rest of it. `None` if
--- there is none.
-abbrev pub first_with : List ℕ → ℕ → List Split → Option (ℕ × List ℕ)
-first_with front passed [] = None
-first_with front passed (d ∷ lines) = rest_or (behind_front front (line_text d)) (passed + 1) (first_with front (passed + 1) lines)
+-- The first of the lines that begins with a text and is another than the one that is shown: its place behind `passed`
+-- others, and the rest of it. `None` if there is none.
+abbrev pub first_with : List ℕ → List ℕ → ℕ → List Split → Option (ℕ × List ℕ)
+first_with front shown passed [] = None
+first_with front shown passed (d ∷ lines) =
+    rest_or (other_rest front shown (line_text d)) (passed + 1) (first_with front shown (passed + 1) lines)
 
--- The editor with a line that was found, if there is one. The cursor is behind the text that was searched for.
+-- What a search looks for at the beginning of lines: the text before the cursor, or again nothing if it just found a
+-- line for nothing.
+abbrev pub sought : EditorState → List ℕ
+sought w = if w.walking then [] else reverse w.line.before
+
+-- The next older line that begins with what is looked for, and is another than the line: its place, and the rest of
+-- it. `None` if there is none.
+abbrev pub found : EditorState → Option (ℕ × List ℕ)
+found w = first_with (sought w) (line_text w.line) w.back (drop w.back w.history)
+
+-- The line that was found: a text that was looked for, and the rest. The cursor is behind the text, or at the end if
+-- nothing was looked for.
+abbrev pub found_line : List ℕ → List ℕ → Split
+found_line [] rest = record { before = reverse rest; after = [] }
+found_line (c ∷ front) rest = settled (record { before = reverse (c ∷ front); after = rest })
+
+-- Whether a search looks for any line.
+abbrev pub is_any : List ℕ → Bool
+is_any [] = true
+is_any (c ∷ front) = false
+
+-- The editor with a line that was found, if there is one.
 abbrev pub searched_to : Option (ℕ × List ℕ) → EditorState → EditorState
 searched_to None w = w
-searched_to (Some found) w = record (left_for (settled (record { before = w.line.before; after = found.1 })) w) { back = found.0 }
-
--- The next older line that begins with the text before the cursor: its place, and the rest of it. `None` if there is
--- none.
-abbrev pub found : EditorState → Option (ℕ × List ℕ)
-found w = first_with (reverse w.line.before) w.back (drop w.back w.history)
+searched_to (Some found) w = record (left_for (found_line (sought w) found.1) w) { back = found.0; walking = is_any (sought w) }
 
 -- The history with an accepted line as its newest, up to the limit of lines. An empty line isn't remembered.
 abbrev pub remembered : Limits → Split → List ℕ → List Split → List Split

@@ -3,7 +3,7 @@ use Rattle.std.specs.Prelude.{ℕ, List, []}
 use Rattle.line_editor.specs.declared.actions.Action.{Action}
 use Rattle.line_editor.specs.Bounds.{written}
 use Rattle.line_editor.specs.History.{loaded}
-use Rattle.line_editor.specs.Shown.{shown_part}
+use Rattle.line_editor.specs.Shown.{pasted_part}
 use Rattle.line_editor.specs.States.{EditorState, accepted, after, dropped, pasted_into}
 
 -- What a call does to an editor.
@@ -33,8 +33,8 @@ done (Loads text) w = loaded text w
 done Closes w = w
 done Nothing w = w
 
--- What a task writes: the text of its action, or the shown characters of a paste.
+-- What a task writes: the text of its action, or what of a paste comes into the line.
 abbrev pub task_text : Task → EditorState → List ℕ
 task_text (Acts action) w = written action w
-task_text (Pastes text) w = shown_part text
+task_text (Pastes text) w = pasted_part text
 task_text task w = []

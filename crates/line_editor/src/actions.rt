@@ -30,6 +30,7 @@ pub enum Action {
     Older,
     /// Shows the next newer one, and at last the line that was left (`next-history`).
     Newer,
-    /// Shows the next older accepted line that begins with the text before the cursor (`history-search-backward`).
+    /// Shows the next older accepted line that begins with the text before the cursor and differs from the line (`history-search-backward`).
+    /// If nothing is before the cursor, any line is found, with the cursor at its end, and the next search goes on so.
     Search,
 }

@@ -8,9 +8,9 @@ ghost use Rattle.line_editor.specs.Bounds.{AreAllowed, StopsAt, refusal_of, is_t
 ghost use Rattle.line_editor.specs.Edits.{cut_text, inserted, meeting};
 ghost use Rattle.line_editor.specs.History.{loaded, saved};
 ghost use Rattle.line_editor.specs.Places.{target_place};
-ghost use Rattle.line_editor.specs.Shown.{AreShown, shown_part};
+ghost use Rattle.line_editor.specs.Shown.{AreShown, pasted_part};
 ghost use Rattle.line_editor.specs.Splits.{line_text};
-ghost use Rattle.line_editor.specs.States.{IsMove, accepted, after, changed, dropped, erase_cut, found, fresh, kill_cut, left_for, moved, newer_from, newer_line, older_to, pasted_into, redo_to, remembered, run_actions, searched_to, transpose_at, type_char, after_typing, undo_to, write};
+ghost use Rattle.line_editor.specs.States.{IsMove, accepted, after, changed, dropped, erase_cut, found, fresh, kill_cut, left_for, moved, newer_from, newer_line, older_to, pasted_into, redo_to, remembered, run_actions, searched_to, sought, transpose_at, type_char, after_typing, undo_to, write};
 
 use crate::actions::Action;
 use crate::fault::EditFault;
@@ -19,7 +19,7 @@ use crate::limits::Limits;
 use crate::lines::Line;
 use crate::places::{Stop, Target};
 use crate::recent::RecentLines;
-use crate::shown::{is_shown, shown, shown_len};
+use crate::shown::{is_shown, pasted, pasted_len};
 use crate::texts::is_nothing;
 use std::alloc::{AllocError, Allocator, Global};
 use std::marker::Model;
@@ -44,6 +44,7 @@ pub struct Editor<A: Allocator = Global> {
     back: usize,
     unfinished: Line<A>,
     typing: bool,
+    walking: bool,
 }
 
 impl<A: Allocator> Model for Editor<A> {
@@ -63,6 +64,7 @@ impl<A: Allocator> Model for Editor<A> {
       back = e.back;
       unfinished = e.unfinished;
       typing = e.typing;
+      walking = e.walking;
     } };
 
     ghost use Rattle.line_editor.specs.Shown.{AreShown};
@@ -84,6 +86,7 @@ fn started<A: Allocator + Clone>(alloc: A, limits: Limits) -> Result<Editor<A>, 
         back: 0,
         unfinished: Line::new(alloc.clone()?),
         typing: false,
+        walking: false,
         alloc,
     })
 }
@@ -152,6 +155,7 @@ impl<A: Allocator> Editor<A> {
         self.undone.clear();
         self.back = 0;
         self.typing = false;
+        self.walking = false;
     }
 }
 
@@ -183,6 +187,7 @@ impl<A: Allocator + Clone> Editor<A> {
         self.past.put(&mut self.line, line, self.limits.steps)?;
         self.undone.clear();
         self.typing = false;
+        self.walking = false;
         Ok(())
     }
 
@@ -195,6 +200,7 @@ impl<A: Allocator + Clone> Editor<A> {
         if self.typing {
             self.line.insert(text)?;
             self.undone.clear();
+            self.walking = false;
             return Ok(());
         }
         let line = self.line.inserted(text)?;
@@ -221,6 +227,7 @@ impl<A: Allocator + Clone> Editor<A> {
     {
         self.line.go(target);
         self.typing = false;
+        self.walking = false;
     }
 
     /// Erases what a target reaches.
@@ -285,6 +292,7 @@ impl<A: Allocator + Clone> Editor<A> {
         }
         self.past.exchange(&mut self.line, &mut self.undone)?;
         self.typing = false;
+        self.walking = false;
         Ok(())
     }
 
@@ -298,6 +306,7 @@ impl<A: Allocator + Clone> Editor<A> {
         }
         self.undone.exchange(&mut self.line, &mut self.past)?;
         self.typing = false;
+        self.walking = false;
         Ok(())
     }
 
@@ -364,17 +373,31 @@ impl<A: Allocator + Clone> Editor<A> {
         }
     }
 
-    /// Shows the next older line that begins with the text before the cursor.
+    /// What a search looks for at the beginning of lines.
+    fn sought(&self) -> &str
+        ensures text { chars result.now ≡ sought self.now }
+        ensures shown { AreShown (chars result.now) }
+    {
+        if self.walking {
+            return "";
+        }
+        self.line.before()
+    }
+
+    /// Shows the next older line that begins with the text before the cursor, and isn't the same line.
     fn search(&mut self) -> Result<(), AllocError>
         ensures ok { OnOk result (self.new ≡ searched_to (found self.old) self.old) }
         ensures err { OnErr result (self.new ≡ self.old) }
     {
-        match self.history.find(self.line.before(), self.back) {
+        let front = self.sought();
+        match self.history.find(front, self.line.text(), self.back) {
             None => Ok(()),
             Some((back, rest)) => {
-                let line = Line::of_parts(self.alloc.clone()?, self.line.before(), rest)?;
+                let walking = is_nothing(front);
+                let line = Line::found(self.alloc.clone()?, front, rest)?;
                 self.leave_for(line)?;
                 self.back = back;
+                self.walking = walking;
                 Ok(())
             }
         }
@@ -450,12 +473,12 @@ impl<A: Allocator + Clone> Editor<A> {
         Ok(())
     }
 
-    /// Writes a text's characters that come into a line.
-    fn write_shown(&mut self, text: &str) -> Result<(), AllocError>
+    /// Writes what of a text comes into a line.
+    fn write_pasted(&mut self, text: &str) -> Result<(), AllocError>
         ensures ok { OnOk result (self.new ≡ pasted_into (chars text.now) self.old) }
         ensures err { OnErr result (self.new ≡ self.old) }
     {
-        let text = shown(self.alloc.clone()?, text)?;
+        let text = pasted(self.alloc.clone()?, text)?;
         if is_nothing(text.as_str()) {
             return Ok(());
         }
@@ -463,27 +486,29 @@ impl<A: Allocator + Clone> Editor<A> {
         self.change(line)
     }
 
-    /// Writes a text at the cursor, as one change (`bracketed-paste-begin`). Control characters and those of more than two columns are left
-    /// out.
+    /// Writes a text at the cursor, as one change (`bracketed-paste-begin`).
+    ///
+    /// A line has one row: each run of line feeds, carriage returns and tabs becomes one blank, and a run at the text's end is left out. Other
+    /// control characters, and characters of more than two columns, are left out.
     ///
     /// # Errors
     ///
     /// `TooLong` if what is left of the text has no room in the line, and else `Memory` if memory was refused. Then nothing has changed.
     ///
     /// ```
-    /// editor.paste("one\ttwo\n")?;
-    /// assert_eq!(rt; editor.line().text(), "onetwo");
+    /// editor.paste("cd /tmp\nls\t-l\n")?;
+    /// assert_eq!(rt; editor.line().text(), "cd /tmp ls -l");
     /// ```
     pub fn paste(&mut self, text: &str) -> Result<(), EditFault>
         ensures ok { OnOk result (self.new ≡ pasted_into (chars text.now) self.old) }
-        ensures room { OnOk result (is_too_long (shown_part (chars text.now)) self.old ≡ false) }
+        ensures room { OnOk result (is_too_long (pasted_part (chars text.now)) self.old ≡ false) }
         ensures err { OnErr result (self.new ≡ self.old) }
-        ensures fault { IfErr result (λ fault. fault ≡ refusal_of (shown_part (chars text.now)) self.old) }
+        ensures fault { IfErr result (λ fault. fault ≡ refusal_of (pasted_part (chars text.now)) self.old) }
     {
-        if self.room() < shown_len(text) {
+        if self.room() < pasted_len(text) {
             return Err(EditFault::TooLong);
         }
-        match self.write_shown(text) {
+        match self.write_pasted(text) {
             Ok(()) => Ok(()),
             Err(_) => Err(EditFault::Memory),
         }
@@ -585,6 +610,7 @@ impl<A: Allocator + Clone> Editor<A> {
             Ok(history) => {
                 self.history = history;
                 self.back = 0;
+                self.walking = false;
                 Ok(())
             }
             Err(_) => Err(EditFault::Memory),

@@ -3,14 +3,14 @@ ghost use Rattle.std.specs.Prelude.{◌≡◌, ◌<◌, ◌++◌, ◌∷◌, [],
 ghost use Rattle.std.specs.Str.{chars};
 ghost use Rattle.std.specs.String.{string_bytes};
 ghost use Rattle.line_editor.specs.History.{history_of, saved, with_line};
-ghost use Rattle.line_editor.specs.Shown.{shown_part};
+ghost use Rattle.line_editor.specs.Shown.{pasted_part};
 ghost use Rattle.line_editor.specs.inside.Lines.{IsFirstLine};
 
 use crate::limits::Limits;
 use crate::lines::Line;
 use crate::places::char_after;
 use crate::recent::RecentLines;
-use crate::shown::{shown, shown_len};
+use crate::shown::{pasted, pasted_len};
 use std::alloc::{AllocError, Allocator};
 
 /// Adds a line and a line feed to a text.
@@ -57,20 +57,20 @@ fn first_line(text: &str) -> (&str, &str)
     (text, "")
 }
 
-/// A line becomes the newest of a history, if what is shown of it has room.
+/// A line becomes the newest of a history, if what comes of it into a line has room.
 fn load_line<A: Allocator + Clone>(
     history: &mut RecentLines<A>,
     alloc: &A,
     limits: Limits,
     line: &str,
 ) -> Result<(), AllocError>
-    ensures { OnOk result (history.new ≡ with_line limits (shown_part (chars line.now)) history.old) }
+    ensures { OnOk result (history.new ≡ with_line limits (pasted_part (chars line.now)) history.old) }
 {
-    let len = shown_len(line);
+    let len = pasted_len(line);
     if len == 0 || limits.bytes < len {
         return Ok(());
     }
-    let text = shown(alloc.clone()?, line)?;
+    let text = pasted(alloc.clone()?, line)?;
     let line = Line::of_parts(alloc.clone()?, text.as_str(), "")?;
     history.add(line, limits.lines)
 }

@@ -1,4 +1,4 @@
-//! Lines that are edited: an editor of one line, with the actions of GNU readline, undo and a history.
+//! Lines that are edited: an editor of one line, with the usual actions of GNU readline, undo and a history.
 //!
 //! An `Editor` has a `Line`, a text with a cursor that is never within an extended grapheme cluster (Unicode's UAX 29). An `Action` is done
 //! by `Editor::act`. Moves, erasures and kills take a `Target`, the next stop in a direction. `Line::seen` says what is seen of the line in a
@@ -18,7 +18,7 @@
 //!
 //! | Proved | By the contract of |
 //! |---|---|
-//! | what each action makes of an editor, and each refusal by name: a text is refused as too long exactly if it has no room, and nothing has changed | `Editor::{act, paste}` |
+//! | what each action makes of an editor, and each refusal by name: a text is refused as too long exactly if it has no room, and nothing has changed; line ends and tabs of a paste are blanks | `Editor::{act, paste}` |
 //! | some actions are done one after another, or those before the first that is refused | `Editor::run` |
 //! | neither a move nor letting a line go is ever refused | `Editor::{act, let_go}` |
 //! | an accepted line has its text, and is the newest of as many lines as the limit says | `Editor::accept` |
@@ -44,7 +44,7 @@
 //! | `Places` | the places to which a cursor goes | |
 //! | `Edits` | what is inserted, erased and transposed | |
 //! | `Recent` | lists of lines, the newest first | |
-//! | `Shown` | the characters that a line has | `Line::text` |
+//! | `Shown` | the characters that a line has, and those of a paste | `Line::text`, `Editor::paste` |
 //! | `States` | an editor's state, and what each action makes of it | `Editor` |
 //! | `Bounds` | which texts have room, and what is refused | `Editor::{act, run, paste}` |
 //! | `History` | a history as a text, and the history that a text holds | `Editor::{history_text, load_history}` |

@@ -9,10 +9,11 @@ ghost use Rattle.line_editor.specs.Places.{target_place};
 ghost use Rattle.line_editor.specs.Seen.{IsInClusters, IsSeen};
 ghost use Rattle.line_editor.specs.Shown.{AreShown};
 ghost use Rattle.line_editor.specs.Splits.{split_at, line_text};
+ghost use Rattle.line_editor.specs.States.{found_line};
 ghost use Rattle.line_editor.specs.Views.{column, seen_text};
 
 use crate::places::{Stop, Target, ahead, place_of};
-use crate::texts::split_last;
+use crate::texts::{is_nothing, split_last};
 use crate::views::{end_seen, start_seen};
 use std::alloc::{AllocError, Allocator, Global};
 use std::marker::Model;
@@ -138,6 +139,22 @@ impl<A: Allocator> Line<A> {
         ensures { IfOk result (λ line. line ≡ settled (record { before = reverse (chars before.now); after = chars after.now })) }
     {
         edited(alloc, after, 0, 0, before)
+    }
+
+    /// A line that was found by its beginning, with the cursor behind that, or at the end if any line was looked for.
+    ///
+    /// # Errors
+    ///
+    /// `AllocError` if memory was refused.
+    pub(crate) fn found(alloc: A, front: &str, rest: &str) -> Result<Line<A>, AllocError>
+        requires front { AreShown (chars front.now) }
+        requires rest { AreShown (chars rest.now) }
+        ensures { IfOk result (λ line. line ≡ found_line (chars front.now) (chars rest.now)) }
+    {
+        if is_nothing(front) {
+            return Line::of_parts(alloc, rest, "");
+        }
+        Line::of_parts(alloc, front, rest)
     }
 
     /// The text of the line.

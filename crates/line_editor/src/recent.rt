@@ -8,7 +8,7 @@ ghost use Rattle.line_editor.specs.Splits.{line_text};
 ghost use Rattle.line_editor.specs.States.{first_with};
 
 use crate::lines::Line;
-use crate::texts::behind_front;
+use crate::texts::other_rest;
 use std::alloc::{AllocError, Allocator, Global};
 use std::collections::VecDeque;
 use std::marker::Model;
@@ -132,14 +132,15 @@ impl<A: Allocator> RecentLines<A> {
         }
     }
 
-    /// The first line behind so many newer ones that begins with a text: its number from 1, and the rest of it.
-    pub(crate) fn find(&self, front: &str, from: usize) -> Option<(usize, &str)>
-        ensures found { option_map (λ found. (found.0, chars found.1.now)) result ≡ first_with (chars front.now) from (drop from self.now) }
+    /// The first line behind so many newer ones that begins with a text, and isn't the line that is shown: its number from 1, and the rest
+    /// of it.
+    pub(crate) fn find(&self, front: &str, shown: &str, from: usize) -> Option<(usize, &str)>
+        ensures found { option_map (λ found. (found.0, chars found.1.now)) result ≡ first_with (chars front.now) (chars shown.now) from (drop from self.now) }
         ensures shown { IfSome result (λ found. AreShown (chars found.1.now)) }
     {
         for at in from..self.lines.len() {
             if let Some(text) = self.text_at(at) {
-                if let Some(rest) = behind_front(text, front) {
+                if let Some(rest) = other_rest(text, front, shown) {
                     return Some((at + 1, rest));
                 }
             }

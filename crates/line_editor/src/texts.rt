@@ -1,9 +1,9 @@
 //! Texts by their characters.
 ghost use Rattle.std.specs.Prelude.{◌≡◌, ◌<◌, ℕ, List, [], ◌∷◌, IfSome, MatchBool, MatchOption, length, reverse};
 ghost use Rattle.std.specs.Option.{option_map};
-ghost use Rattle.std.specs.Str.{chars};
+ghost use Rattle.std.specs.Str.{bytes_eq, chars};
 ghost use Rattle.line_editor.specs.Shown.{AreShown};
-ghost use Rattle.line_editor.specs.States.{behind_front};
+ghost use Rattle.line_editor.specs.States.{behind_front, other_rest};
 
 /// The last character of a text, and the text before it.
 pub(crate) fn split_last(text: &str) -> Option<(char, &str)>
@@ -70,4 +70,22 @@ pub(crate) fn behind_front<'a>(text: &'a str, front: &str) -> Option<&'a str>
         wanted = front;
     }
     Some(rest)
+}
+
+/// Whether two texts are the same.
+fn is_same(text: &str, other: &str) -> bool
+    ensures { result ≡ bytes_eq (chars text.now) (chars other.now) }
+{
+    text == other
+}
+
+/// What is behind a front in a text that begins with it, unless it is the text that is shown.
+pub(crate) fn other_rest<'a>(text: &'a str, front: &str, shown: &str) -> Option<&'a str>
+    ensures rest { option_map (λ rest. chars rest.now) result ≡ other_rest (chars front.now) (chars shown.now) (chars text.now) }
+    ensures shown { AreShown (chars text.now) → IfSome result (λ rest. AreShown (chars rest.now)) }
+{
+    if is_same(text, shown) {
+        return None;
+    }
+    behind_front(text, front)
 }

@@ -1,4 +1,4 @@
-//! Asks for a line in a terminal, with a prompt and the keys of GNU readline.
+//! Asks for a line in a terminal, with a prompt and the usual keys of GNU readline.
 //!
 //! `read_line` shows a prompt in the cursor's row, and behind it a line that a `line_editor::Editor` edits, until the line is accepted, let go or
 //! closed. It reads the events of an `own_terminal::Session`, and writes to the session's writer. The editor is the caller's: it keeps the history,

@@ -28,7 +28,7 @@ const CONTROL: KeyModifiers = KeyModifiers::CONTROL;
 const ALT: KeyModifiers = KeyModifiers::ALT;
 
 /// Commands by their default keys. The history has `first line`, and after it `second line`.
-static ROWS: [Row; 36] = [
+static ROWS: [Row; 41] = [
     Row {
         command: "self-insert",
         line: "o|e",
@@ -252,6 +252,48 @@ static ROWS: [Row; 36] = [
         after: "none|",
     },
     Row {
+        command: "history-search-backward",
+        line: "|",
+        keys: &[(KeyCode::Char('r'), CONTROL)],
+        after: "second line|",
+    },
+    Row {
+        command: "history-search-backward",
+        line: "|",
+        keys: &[(KeyCode::Char('r'), CONTROL), (KeyCode::Char('r'), CONTROL)],
+        after: "first line|",
+    },
+    Row {
+        command: "history-search-backward",
+        line: "|",
+        keys: &[
+            (KeyCode::Char('r'), CONTROL),
+            (KeyCode::Char('n'), NONE),
+            (KeyCode::Char('e'), NONE),
+        ],
+        after: "second linene|",
+    },
+    Row {
+        command: "history-search-backward",
+        line: "|",
+        keys: &[
+            (KeyCode::Char('r'), CONTROL),
+            (KeyCode::End, NONE),
+            (KeyCode::Char('r'), CONTROL),
+        ],
+        after: "second line|",
+    },
+    Row {
+        command: "history-search-backward",
+        line: "|",
+        keys: &[
+            (KeyCode::Char('r'), CONTROL),
+            (KeyCode::Home, NONE),
+            (KeyCode::Char('r'), CONTROL),
+        ],
+        after: "first line|",
+    },
+    Row {
         command: "not bound",
         line: "one|",
         keys: &[
@@ -262,6 +304,16 @@ static ROWS: [Row; 36] = [
         after: "one|",
     },
 ];
+/// Pasted texts, and the line that each gives behind `>`.
+static PASTES: [(&str, &str); 6] = [
+    ("cd /tmp\nrm x", ">cd /tmp rm x|"),
+    ("echo one\r\n\r\necho two\r\n", ">echo one echo two|"),
+    ("\ta\tb\rc\t\n", "> a b c|"),
+    ("\n", ">|"),
+    ("a \n b", ">a   b|"),
+    ("a\u{7}b\u{85}c", ">abc|"),
+];
+
 /// An editor with a line, and the cursor at its bar.
 fn editor_of(alloc: Global, line: &str) -> Result<Editor, EditFault> {
     let mut editor = Editor::new(alloc, Limits::default())?;
@@ -299,6 +351,39 @@ fn keys_do_what_the_manual_of_readline_says(rt: HostRuntime) {
     for row in &ROWS {
         expect!(rt; does_so(rt.alloc(), row) == Ok(true), row.command);
     }
+}
+
+/// The line after a paste is what its row says.
+fn pastes_so(alloc: Global, row: &(&str, &str)) -> Result<bool, EditFault> {
+    let mut editor = editor_of(alloc, ">|")?;
+    editor.paste(row.0)?;
+    Ok(is_line(editor.line(), row.1))
+}
+
+#[test]
+fn line_ends_and_tabs_of_a_paste_are_blanks(rt: HostRuntime) {
+    for row in &PASTES {
+        expect!(rt; pastes_so(rt.alloc(), row) == Ok(true), row.0);
+    }
+}
+
+/// The line after `a` and so many searches in a history with two equal lines.
+fn searched(alloc: Global, searches: u32) -> Result<Editor, EditFault> {
+    let mut editor = Editor::new(alloc, Limits::default())?;
+    editor.load_history("a one\na two\na two\n")?;
+    editor.act(Action::Insert('a'))?;
+    for _ in 0..searches {
+        editor.act(Action::Search)?;
+    }
+    Ok(editor)
+}
+
+#[test]
+fn a_search_skips_the_line_that_is_shown(rt: HostRuntime) -> Result<(), EditFault> {
+    expect!(rt; is_line(searched(rt.alloc(), 1)?.line(), "a| two"));
+    expect!(rt; is_line(searched(rt.alloc(), 2)?.line(), "a| one"));
+    expect!(rt; is_line(searched(rt.alloc(), 3)?.line(), "a| one"));
+    Ok(())
 }
 
 /// What comes of a key on a line.

@@ -4,7 +4,7 @@ use Rattle.std.specs.Str.{chars}
 use Rattle.line_editor.specs.Edits.{inserted}
 use Rattle.line_editor.specs.States.{EditorState}
 use Rattle.line_editor.proofs.Acting.{write_none, write_some}
-use Rattle.line_editor.proofs.editor.Editor.write_shown.Goals as goal
+use Rattle.line_editor.proofs.editor.Editor.write_pasted.Goals as goal
 
 pub returns-then-is_nothing-clause-ok : goal.returns-then-is_nothing-clause-ok
 returns-then-is_nothing-clause-ok g c =

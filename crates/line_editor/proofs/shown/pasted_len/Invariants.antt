@@ -3,13 +3,13 @@ use denote.Text.{Utf8}
 use denote.Shadow.{shadow}
 use Rattle.std.specs.Str.{chars}
 use Rattle.line_editor.specs.Bounds.{size}
-use Rattle.line_editor.specs.Shown.{shown_part}
-use Rattle.line_editor.proofs.shown.shown_len.Given as goal
+use Rattle.line_editor.specs.Shown.{pasted_part}
+use Rattle.line_editor.proofs.shown.pasted_len.Given as goal
 
 abbrev pub invariant-loop-c : goal.invariant-loop-c
 invariant-loop-c l = record {
   utf8 : shadow (Utf8 l.rest);
-  same : size (shown_part (chars l.fn.text)) ≡ l.len + size (shown_part (chars l.rest));
+  same : size (pasted_part (chars l.fn.text)) ≡ l.len + size (pasted_part (chars l.rest));
 }
 
 abbrev pub decreases-loop-c : goal.decreases-loop-c
