@@ -31,7 +31,7 @@ pub record EditorState : Type 0 where
   pub unfinished : Split
   -- Whether a character was typed last, which is undone with the next one.
   pub typing : Bool
-  -- Whether the line was found by a search for any line, as which the next one goes on.
+  -- Whether a search for any line was done last, as which the next one goes on.
   pub walking : Bool
 
 -- A fresh editor has an empty line, and nothing came before it.
@@ -57,15 +57,15 @@ pushed w = take w.limits.steps (w.line ∷ w.past)
 
 -- The editor with another line, and the line before it can be undone.
 abbrev pub changed : Split → EditorState → EditorState
-changed d w = record w { line = d; past = pushed w; undone = []; typing = false; walking = false }
+changed d w = record w { line = d; past = pushed w; undone = []; typing = false }
 
 -- The editor after a character was typed. It is undone together with the characters that were typed just before it.
 abbrev pub after_typing : Split → EditorState → EditorState
-after_typing d w = record w { line = d; past = if w.typing then w.past else pushed w; undone = []; typing = true; walking = false }
+after_typing d w = record w { line = d; past = if w.typing then w.past else pushed w; undone = []; typing = true }
 
 -- The editor with its cursor elsewhere.
 abbrev pub moved : Split → EditorState → EditorState
-moved d w = record w { line = d; typing = false; walking = false }
+moved d w = record w { line = d; typing = false }
 
 -- ---- what is written
 
@@ -80,7 +80,7 @@ write (c ∷ text) w = changed (inserted (c ∷ text) w.line) w
 
 -- The editor after a paste: its shown characters are written, with a blank for each run of line ends and tabs.
 abbrev pub pasted_into : List ℕ → EditorState → EditorState
-pasted_into text w = write (pasted_part text) w
+pasted_into text w = record (write (pasted_part text) w) { walking = false }
 
 -- ---- what is erased
 
@@ -104,12 +104,12 @@ transpose_at (c ∷ before) w = changed (transposed w.line) w
 -- The editor with the newest line of the past, if there is one. The line before it can be redone.
 abbrev pub undo_to : List Split → EditorState → EditorState
 undo_to [] w = w
-undo_to (d ∷ past) w = record w { line = d; past = past; undone = w.line ∷ w.undone; typing = false; walking = false }
+undo_to (d ∷ past) w = record w { line = d; past = past; undone = w.line ∷ w.undone; typing = false }
 
 -- The editor with the line that was undone last, if there is one. The line before it can be undone.
 abbrev pub redo_to : List Split → EditorState → EditorState
 redo_to [] w = w
-redo_to (d ∷ undone) w = record w { line = d; past = w.line ∷ w.past; undone = undone; typing = false; walking = false }
+redo_to (d ∷ undone) w = record w { line = d; past = w.line ∷ w.past; undone = undone; typing = false }
 
 -- ---- history
 
@@ -182,15 +182,10 @@ abbrev pub found_line : List ℕ → List ℕ → Split
 found_line [] rest = record { before = reverse rest; after = [] }
 found_line (c ∷ front) rest = settled (record { before = reverse (c ∷ front); after = rest })
 
--- Whether a search looks for any line.
-abbrev pub is_any : List ℕ → Bool
-is_any [] = true
-is_any (c ∷ front) = false
-
 -- The editor with a line that was found, if there is one.
 abbrev pub searched_to : Option (ℕ × List ℕ) → EditorState → EditorState
 searched_to None w = w
-searched_to (Some found) w = record (left_for (found_line (sought w) found.1) w) { back = found.0; walking = is_any (sought w) }
+searched_to (Some found) w = record (left_for (found_line (sought w) found.1) w) { back = found.0 }
 
 -- The history with an accepted line as its newest, up to the limit of lines. An empty line isn't remembered.
 abbrev pub remembered : Limits → Split → List ℕ → List Split → List Split
@@ -207,19 +202,33 @@ accepted w = record (dropped w) { history = remembered w.limits w.line (line_tex
 
 -- ---- actions
 
+-- What an action makes of the editor, but for what a search after it looks for.
+abbrev pub acted : Action → EditorState → EditorState
+acted (does.Insert c) w = type_char c w
+acted (does.Go target) w = moved (target_place target w.line) w
+acted (does.Erase target) w = erase_cut (cut_text target w.line) target w
+acted (does.Kill target) w = kill_cut (cut_text target w.line) target w
+acted does.Yank w = write w.killed w
+acted does.Transpose w = transpose_at (meeting w.line.before w.line.after).before w
+acted does.Undo w = undo_to w.past w
+acted does.Redo w = redo_to w.undone w
+acted does.Older w = older_to (slice_get w.history w.back) w
+acted does.Newer w = newer_from w.back w
+acted does.Search w = searched_to (found w) w
+
+-- Whether a text has no characters.
+abbrev pub is_empty : List ℕ → Bool
+is_empty [] = true
+is_empty (c ∷ text) = false
+
+-- Whether an action is a search for any line.
+abbrev pub walks : Action → EditorState → Bool
+walks does.Search w = is_empty (sought w)
+walks action w = false
+
 -- The editor after an action.
 abbrev pub after : Action → EditorState → EditorState
-after (does.Insert c) w = type_char c w
-after (does.Go target) w = moved (target_place target w.line) w
-after (does.Erase target) w = erase_cut (cut_text target w.line) target w
-after (does.Kill target) w = kill_cut (cut_text target w.line) target w
-after does.Yank w = write w.killed w
-after does.Transpose w = transpose_at (meeting w.line.before w.line.after).before w
-after does.Undo w = undo_to w.past w
-after does.Redo w = redo_to w.undone w
-after does.Older w = older_to (slice_get w.history w.back) w
-after does.Newer w = newer_from w.back w
-after does.Search w = searched_to (found w) w
+after action w = record (acted action w) { walking = walks action w }
 
 -- The action only moves the cursor.
 abbrev pub IsMove : Action → Type 0

@@ -63,6 +63,8 @@
 #![tactic(auto)]
 
 mod actions;
+mod changes;
+mod draft;
 mod editor;
 mod fault;
 mod history;
