@@ -140,15 +140,11 @@ fn is_tab<B: Allocator>(event: &Event<B>) -> bool
 /// Whether an event is Ctrl-L, pressed or held, also with Shift.
 fn is_clear<B: Allocator>(event: &Event<B>) -> bool {
     match event {
-        Event::Key(key) => match key.code {
-            KeyCode::Char('l' | 'L') => match key.kind {
-                KeyEventKind::Press | KeyEventKind::Repeat => {
-                    key.modifiers.difference(KeyModifiers::SHIFT) == KeyModifiers::CONTROL
-                }
-                KeyEventKind::Release => false,
-            },
-            _ => false,
-        },
+        Event::Key(key) => {
+            matches!(key.code, KeyCode::Char('l' | 'L'))
+                && key.kind != KeyEventKind::Release
+                && key.modifiers.difference(KeyModifiers::SHIFT) == KeyModifiers::CONTROL
+        }
         Event::FocusGained
         | Event::FocusLost
         | Event::Mouse(_)
