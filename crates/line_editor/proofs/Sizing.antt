@@ -29,7 +29,7 @@ size-blank : (text : List ℕ) → size (32 ∷ text) ≡ 1 + size text
 unfolding encode
 size-blank text = length-append (encode_utf8 32) (encode_utf8_all text)
 
--- A blank takes no more bytes than what it stands for.
+-- A blank takes no more bytes than a gap.
 size-blanked : (text : List ℕ) → size (blanked text) ≤ size text
 size-blanked [] = omega arith
 size-blanked (c ∷ text) =

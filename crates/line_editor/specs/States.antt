@@ -149,8 +149,7 @@ behind_front [] text = Some text
 behind_front (c ∷ front) [] = None
 behind_front (c ∷ front) (d ∷ text) = if c == d then behind_front front text else None
 
--- The rest of a text that begins with another one, or `None` if it doesn't, or if it is the text of the line that is
--- shown.
+-- The rest of a text behind a front. `None` if it doesn't begin with that, or if it is the text that is shown.
 abbrev pub other_rest : List ℕ → List ℕ → List ℕ → Option (List ℕ)
 other_rest front shown text = if bytes_eq text shown then None else behind_front front text
 
@@ -159,15 +158,15 @@ abbrev pub rest_or : Option (List ℕ) → ℕ → Option (ℕ × List ℕ) → 
 rest_or (Some rest) back other = Some (back, rest)
 rest_or None back other = other
 
--- The first of the lines that begins with a text and is another than the one that is shown: its place behind `passed`
--- others, and the rest of it. `None` if there is none.
+-- The first of the lines that begins with a text and isn't the line that is shown. It is given by its place behind
+-- `passed` others and the rest of it. `None` if there is none.
 abbrev pub first_with : List ℕ → List ℕ → ℕ → List Split → Option (ℕ × List ℕ)
 first_with front shown passed [] = None
 first_with front shown passed (d ∷ lines) =
     rest_or (other_rest front shown (line_text d)) (passed + 1) (first_with front shown (passed + 1) lines)
 
--- What a search looks for at the beginning of lines: the text before the cursor, or again nothing if it just found a
--- line for nothing.
+-- The text that a search looks for at the beginning of lines. It is what is before the cursor, or nothing once more
+-- after a search for any line.
 abbrev pub sought : EditorState → List ℕ
 sought w = if w.walking then [] else reverse w.line.before
 

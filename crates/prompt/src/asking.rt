@@ -13,13 +13,13 @@ ghost use Rattle.prompt.specs.Prompts as prompts;
 ghost use Rattle.prompt.specs.inside.Drawing.{IsDrawn};
 ghost use Rattle.prompt.specs.inside.Turning.{IsTaken, Leads, MayAsk};
 
-use crate::drawing::{Row, erase, ring};
+use crate::drawing::{Row, clear, erase, ring};
 use crate::helpers::Helper;
 use crate::prompts::has_control;
 use crate::read::Read;
 use crossterm::event::source::EventSource;
 use crossterm::event::timeout::Clock;
-use crossterm::event::{Event, KeyCode, KeyEventKind};
+use crossterm::event::{Event, KeyCode, KeyEventKind, KeyModifiers};
 use crossterm::terminal::ModeDevice;
 use line_editor::{EditFault, Editor, Outcome};
 use own_terminal::Session;
@@ -137,6 +137,22 @@ fn is_tab<B: Allocator>(event: &Event<B>) -> bool
     }
 }
 
+/// Whether an event is Ctrl-L, pressed or held, also with Shift.
+fn is_clear<B: Allocator>(event: &Event<B>) -> bool {
+    match event {
+        Event::Key(key) => {
+            matches!(key.code, KeyCode::Char('l' | 'L'))
+                && key.kind != KeyEventKind::Release
+                && key.modifiers.difference(KeyModifiers::SHIFT) == KeyModifiers::CONTROL
+        }
+        Event::FocusGained
+        | Event::FocusLost
+        | Event::Mouse(_)
+        | Event::Paste(_)
+        | Event::Resize(..) => false,
+    }
+}
+
 /// Gives an event to an editor as it is.
 fn take_event<A: Allocator + Clone, B: Allocator>(
     editor: &mut Editor<A>,
@@ -224,6 +240,21 @@ fn ask<S: EventSource<Global>, D: ModeDevice, W: Write + Drop, C: Clock + Drop, 
     }
 }
 
+/// The columns of a window. One that says 0, as a serial line does, counts as 80, as in readline.
+fn columns_of<S: EventSource<Global>, D: ModeDevice, W: Write + Drop, C: Clock + Drop>(
+    tty: &mut Session<S, D, W, C>,
+) -> io::Result<u16>
+    ensures others { (tty.new.out ≡ tty.old.out) × (tty.new.pass ≡ tty.old.pass) × (tty.new.features ≡ tty.old.features) }
+    ensures mode { tty.new.term.prior ≡ tty.old.term.prior }
+    ensures some { IfOk result (λ columns. 0 < columns) }
+{
+    match tty.size() {
+        Ok((0, _)) => Ok(80),
+        Ok((columns, _)) => Ok(columns),
+        Err(error) => Err(error),
+    }
+}
+
 /// Begins a line anew in a window of another size, where it began before.
 fn show_anew<
     S: EventSource<Global>,
@@ -244,8 +275,8 @@ fn show_anew<
     ensures features { tty.new.features ≡ tty.old.features }
     ensures mode { IsTrue (is_some tty.old.term.prior) → tty.new.term.prior ≡ tty.old.term.prior }
 {
-    let columns = match tty.size() {
-        Ok((columns, _)) => columns,
+    let columns = match columns_of(tty) {
+        Ok(columns) => columns,
         Err(error) => return Err(error),
     };
     prompt.columns.set(columns);
@@ -259,6 +290,21 @@ fn show_anew<
         Ok(()) => show(&mut tty.out, editor, prompt, row),
         Err(error) => Err(error),
     }
+}
+
+/// Shows the line once more, after Ctrl-L at the top of an empty window.
+fn show_again<W: Write, B: Allocator, A: Allocator, H: Helper>(
+    out: &mut W,
+    editor: &Editor<A>,
+    prompt: &Prompt<'_, H>,
+    event: &Event<B>,
+    row: &mut Row,
+) -> io::Result<()> {
+    if is_clear(event) {
+        clear(out)?;
+        row.forget();
+    }
+    show(out, editor, prompt, row)
 }
 
 /// Shows the line once more after an event.
@@ -285,7 +331,7 @@ fn show_after<
     match event {
         Event::Resize(..) => show_anew(rt, tty, editor, prompt, row),
         Event::FocusGained | Event::FocusLost | Event::Key(_) | Event::Mouse(_) | Event::Paste(_) =>
-            { show(&mut tty.out, editor, prompt, row) }
+            { show_again(&mut tty.out, editor, prompt, event, row) }
     }
 }
 
@@ -343,8 +389,8 @@ fn columns_for<S: EventSource<Global>, D: ModeDevice, W: Write + Drop, C: Clock 
     if known > 0 {
         return Ok(known);
     }
-    match tty.size() {
-        Ok((columns, _)) => {
+    match columns_of(tty) {
+        Ok(columns) => {
             prompt.columns.set(columns);
             Ok(columns)
         }
@@ -419,12 +465,13 @@ impl<H: Helper> Prompt<'_, H> {
     /// is seen of its line is shown anew. A text that is too long for the line rings the bell, and the line goes on. Then the cursor goes to
     /// the start of the next row.
     ///
-    /// At Tab without a modifier the helper's text is pasted, if it has one for the line. Its hint is shown behind the line.
+    /// At Tab without a modifier the helper's text is pasted, if it has one for the line. Its hint is shown behind the line. Ctrl-L clears the
+    /// window, and the line goes on at its top (`clear-screen`): so a row that another program wrote over is whole again.
     ///
     /// The editor may hold an unfinished line, and then that line goes on. In a window that is too narrow for both, the prompt is left out. If
     /// `Feature::BracketedPaste` is on, a paste is one event; else an Enter in a paste accepts the line.
     ///
-    /// The window's size is asked for in the prompt's first call and after a resize. So a program that reads events by itself takes a new
+    /// The window's size is asked for in the prompt's first call and after a resize, and 0 columns count as 80. So a program that reads events by itself takes a new
     /// prompt after an `Event::Resize`. After one the terminal is also asked for the cursor's place, since it may have wrapped the row. If it
     /// doesn't answer within two seconds, it isn't asked again in this call.
     ///

@@ -1,10 +1,11 @@
 //! How a line is shown in the cursor's row.
 ghost use Rattle.std.specs.Prelude.{◌≡◌, ◌-◌, ◌<◌, IfOk, OnOk, chars};
 ghost use Rattle.std.specs.Io.KnownBytes.{Keeps};
+ghost use Rattle.screen.specs.Strips.{without_row};
 ghost use Rattle.prompt.specs.inside.Drawing.{IsCursor, IsDrawn, IsUnknown, column_behind, inside};
 
 use crate::prompts::{parted, shown, shown_hint};
-use crossterm::cursor::{MoveToColumn, MoveUp};
+use crossterm::cursor::{MoveTo, MoveToColumn, MoveUp};
 use crossterm::style::{Attribute, Attributes, ColorOutput, ContentStyle, Print};
 use crossterm::terminal::{Clear, ClearType};
 use crossterm::{QueueableCommand, execute, queue};
@@ -85,6 +86,13 @@ impl Row {
         self.strip.resize(width)?;
         self.buffer.resize(width, 1)?;
         Ok(())
+    }
+
+    /// Forgets what the row shows, as after the cursor went to another row.
+    pub(crate) fn forget(&mut self)
+        ensures { self.new.strip ≡ without_row self.old.strip }
+    {
+        self.strip.forget();
     }
 
     /// Prints a text from a column on, and returns the column behind it.
@@ -230,6 +238,11 @@ pub(crate) fn erase<W: Write>(out: &mut W, rows: u16) -> io::Result<()> {
         MoveToColumn(0),
         Clear(ClearType::FromCursorDown)
     )
+}
+
+/// Erases the window, and brings the cursor to its top.
+pub(crate) fn clear<W: Write>(out: &mut W) -> io::Result<()> {
+    queue!(out, COLORS, Clear(ClearType::All), MoveTo(0, 0))
 }
 
 /// Rings the bell.

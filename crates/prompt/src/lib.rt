@@ -22,7 +22,7 @@
 //! The line takes one row, and is seen through it as `Line::seen` says, in all columns of the window but the last. A key writes what it changes
 //! of the row. A character that no cell of `screen` can hold, as a joiner of emoji, is shown as U+FFFD.
 //!
-//! After a resize the terminal is asked for the cursor's place, since a narrower window may have wrapped the row. One that doesn't answer isn't
+//! Ctrl-L clears the window, and draws the row at its top. After a resize the terminal is asked for the cursor's place, since a narrower window may have wrapped the row. One that doesn't answer isn't
 //! asked again in that call; then what was wrapped stays above.
 //!
 //! It is built on `own_terminal`, `line_editor` and `screen`, by their public contracts, and on the crate `unicode_width` for columns.

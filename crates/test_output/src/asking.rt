@@ -95,6 +95,21 @@ const ROWS: &[Row] = &[
             NEXT,
         ],
     },
+    // Ctrl-L clears the window, and all is drawn anew at its top.
+    Row {
+        typed: b"a\x0cb\r",
+        prompt: "",
+        most: 9,
+        comes: Comes::Line("ab"),
+        written: &[
+            EMPTY,
+            "\x1b[?2026h\x1b[1G\x1b[0ma\x1b[0m\x1b[2G\x1b[?25h\x1b[?2026l",
+            "\x1b[2J\x1b[1;1H",
+            "\x1b[?2026h\x1b[0m\x1b[1G\x1b[K\x1b[1G\x1b[0ma\x1b[0m\x1b[2G\x1b[?25h\x1b[?2026l",
+            "\x1b[?2026h\x1b[2G\x1b[0mb\x1b[0m\x1b[3G\x1b[?25h\x1b[?2026l",
+            NEXT,
+        ],
+    },
     // A character that has no room rings the bell.
     Row {
         typed: b"ab\r",

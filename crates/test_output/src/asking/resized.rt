@@ -100,7 +100,7 @@ const ROWS: &[Row] = &[
         comes: &[ENDED],
         written: b"\x1b[6n\x1b[1G\x1b[J\x1b[?2026h\x1b[0m\x1b[1G\x1b[K\x1b[1G\x1b[0mxxxxxxxxxxxxxxxxxxxxxxxxxxxxxxxxxxxxxxxxxxxxxxxxxx\x1b[0m\x1b[51G\x1b[?25h\x1b[?2026l\r\n",
     },
-    // Three columns show one, two the cursor alone, and one or none nothing.
+    // Three columns show one, two the cursor alone, and one nothing.
     Row {
         columns: 3,
         after: After::Text(b"\x1b[17;3R\r"),
@@ -122,12 +122,13 @@ const ROWS: &[Row] = &[
         comes: &[ENDED],
         written: b"\x1b[6n\x1b[1G\x1b[J\r\n",
     },
+    // A window that says 0 columns counts as one of 80.
     Row {
         columns: 0,
-        after: After::Text(b"\x1b[1;1R\r"),
+        after: After::Text(b"\x1b[1;51R\r"),
         asks: true,
         comes: &[ENDED],
-        written: b"\x1b[6n\x1b[1G\x1b[J\r\n",
+        written: b"\x1b[6n\x1b[1G\x1b[J\x1b[?2026h\x1b[0m\x1b[1G\x1b[K\x1b[1G\x1b[0mxxxxxxxxxxxxxxxxxxxxxxxxxxxxxxxxxxxxxxxxxxxxxxxxxx\x1b[0m\x1b[51G\x1b[?25h\x1b[?2026l\r\n",
     },
 ];
 
