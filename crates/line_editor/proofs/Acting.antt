@@ -1,10 +1,11 @@
 -- What the parts of an action come to.
 use Rattle.std.proofs.Common.{◌≡◌, ℕ, true, false, List, [], ◌∷◌, refl, sym, ap, ◌∙◌}
+use Rattle.line_editor.specs.declared.last.Last.TheVariants.{Other}
 use Rattle.line_editor.specs.declared.places.Target.{Target}
 use Rattle.line_editor.specs.Splits.{Split}
 use Rattle.line_editor.specs.Edits.{cut_text, empty_line, erased, inserted, meeting, transposed}
 use Rattle.line_editor.specs.Shown.{is_shown}
-use Rattle.line_editor.specs.States.{EditorState, changed, erase_cut, fresh, kill_cut, redo_to, transpose_at, type_char, after_typing, undo_to, write}
+use Rattle.line_editor.specs.States.{EditorState, changed, erase_cut, fresh, joined, kept_by, kill_cut, redo_to, transpose_at, type_char, after_typing, undo_to, write}
 use Rattle.line_editor.specs.inside.Changes.{DraftState, draft_changed, draft_redone, draft_typed, draft_undone}
 use Rattle.line_editor.specs.declared.limits.Limits.{Limits}
 
@@ -17,7 +18,7 @@ with_draft d w = record w { line = d.line; past = d.past; undone = d.undone; typ
 
 pub fresh_of : (limits : Limits) (d : DraftState) (line unfinished : Split) (killed : List ℕ) (history : List Split)
     → d ≡ record { line = line; past = []; undone = []; typing = false } → line ≡ empty_line → unfinished ≡ empty_line → killed ≡ [] → history ≡ []
-    → record { limits = limits; line = d.line; killed = killed; past = d.past; undone = d.undone; history = history; back = 0; unfinished = unfinished; typing = d.typing; walking = false }
+    → record { limits = limits; line = d.line; killed = killed; past = d.past; undone = d.undone; history = history; back = 0; unfinished = unfinished; typing = d.typing; last = Other }
     ≡ fresh limits
 fresh_of limits d line unfinished killed history e a b c f = rw (e, a, b, c, f) refl
 
@@ -58,11 +59,11 @@ module _ (target : Target) (w : EditorState) (d : Split) (text : List ℕ) (same
     erase_some =
         ap (λ (l : Split). changed l w) (f ∙ ap (erased target) (sym same)) ∙ sym (ap (λ t. erase_cut t target w) (sym is_cut ∙ some))
 
-    pub kill_some : (killed : List ℕ) (v : EditorState) → killed ≡ text → v ≡ changed line w
+    pub kill_some : (killed : List ℕ) (v : EditorState) → killed ≡ joined target text (kept_by w.last w.killed) → v ≡ changed line w
         → record v { killed = killed } ≡ kill_cut (cut_text target w.line) target w
     kill_some killed v k g =
         ap (λ (x : EditorState). record x { killed = killed }) (g ∙ ap (λ (l : Split). changed l w) (f ∙ ap (erased target) (sym same)))
-        ∙ ap (λ t. record (changed (erased target w.line) w) { killed = t }) (k ∙ some)
+        ∙ ap (λ t. record (changed (erased target w.line) w) { killed = t }) (k ∙ ap (λ t. joined target t (kept_by w.last w.killed)) some)
         ∙ sym (ap (λ t. kill_cut t target w) (sym is_cut ∙ some))
 
 -- A text that is to be written, as it is at hand.

@@ -1,17 +1,19 @@
 -- What can be undone.
-use Rattle.std.proofs.Common.{◌≡◌, ℕ, ◌+◌, ◌≤◌, Bool, true, false, List, [], ◌∷◌, ◌++◌, length, refl, sym, ap, ◌∙◌, inl, inr, arith}
+use Rattle.std.proofs.Common.{◌≡◌, ℕ, ◌+◌, ◌≤◌, true, false, List, [], ◌∷◌, ◌++◌, length, refl, sym, ap, ◌∙◌, inl, inr, arith}
 use Rattle.std.specs.Prelude.{zero, suc, Option, Some, None, slice_get}
 use Rattle.std.proofs.lemmas.Bool.{cases_Bool, false≢true}
 use Rattle.std.proofs.lemmas.List.{take_all}
 use Rattle.line_editor.specs.declared.actions.Action.{Action}
 use Rattle.line_editor.specs.declared.actions.Action.TheVariants.{Insert, Go, Erase, Kill, Yank, Transpose, Undo, Redo, Older, Newer, Search}
+use Rattle.line_editor.specs.declared.last.Last.{Last}
+use Rattle.line_editor.specs.declared.last.Last.TheVariants.{Other}
 use Rattle.line_editor.specs.declared.limits.Limits.{Limits}
 use Rattle.line_editor.specs.declared.places.Target.{Target}
 use Rattle.line_editor.specs.Splits.{Split, line_text}
 use Rattle.line_editor.specs.Edits.{cut_text, meeting}
 use Rattle.line_editor.specs.Laws.{ArePlain, CanBeUndone, IsNoUndo, KeepsHistory, RedoesUndone, undo_times}
 use Rattle.line_editor.specs.Shown.{is_shown}
-use Rattle.line_editor.specs.States.{EditorState, acted, after, erase_cut, found, kill_cut, newer_from, newer_line, newer_to, older_to, pushed, redo_to, run_actions, searched_to, transpose_at, type_char, after_typing, undo_to, walks, write}
+use Rattle.line_editor.specs.States.{EditorState, acted, after, erase_cut, found, kill_cut, last_of, newer_from, newer_line, newer_to, older_to, pushed, redo_to, run_actions, searched_to, transpose_at, type_char, after_typing, undo_to, write}
 use Rattle.line_editor.proofs.Keeping.{keeps_text}
 
 -- ---- history
@@ -198,18 +200,18 @@ leads-acted text past n w h Older f = leads-older text past n w h (slice_get w.h
 leads-acted text past n w h Newer f = leads-newer_from text past n w h w.back
 leads-acted text past n w h Search f = leads-search text past n w h (found w)
 
-ends-walking : (text : List ℕ) (extra : List Split) (w : EditorState) (walking : Bool) → EndsIn text extra w → EndsIn text extra (record w { walking = walking })
-ends-walking text [] w walking h = h
-ends-walking text (d ∷ []) w walking h = h
-ends-walking text (d ∷ x ∷ extra) w walking h = ends-walking text (x ∷ extra) w walking h
+ends-last : (text : List ℕ) (extra : List Split) (w : EditorState) (last : Last) → EndsIn text extra w → EndsIn text extra (record w { last = last })
+ends-last text [] w last h = h
+ends-last text (d ∷ []) w last h = h
+ends-last text (d ∷ x ∷ extra) w last h = ends-last text (x ∷ extra) w last h
 
--- What a search looks for doesn't matter.
-leads-walking : (text : List ℕ) (past : List Split) (n : ℕ) (w : EditorState) (walking : Bool) → Leads text past n w → Leads text past n (record w { walking = walking })
-leads-walking text past n w walking h = record { extra = h.extra; lines = h.lines; ends = ends-walking text h.extra w walking h.ends; room = h.room }
+-- What the last action was doesn't matter.
+leads-last : (text : List ℕ) (past : List Split) (n : ℕ) (w : EditorState) (last : Last) → Leads text past n w → Leads text past n (record w { last = last })
+leads-last text past n w last h = record { extra = h.extra; lines = h.lines; ends = ends-last text h.extra w last h.ends; room = h.room }
 
 pub leads-after : (text : List ℕ) (past : List Split) (n : ℕ) (w : EditorState) → Leads text past (suc n) w → (action : Action) → IsNoUndo action
     → Leads text past n (after action w)
-leads-after text past n w h action f = leads-walking text past n (acted action w) (walks action w) (leads-acted text past n w h action f)
+leads-after text past n w h action f = leads-last text past n (acted action w) (last_of action w) (leads-acted text past n w h action f)
 
 pub leads-run : (text : List ℕ) (past : List Split) (actions : List Action) (w : EditorState) → ArePlain actions → Leads text past (length actions) w
     → Leads text past 0 (run_actions actions w)
@@ -218,7 +220,7 @@ leads-run text past (a ∷ actions) w f h = leads-run text past actions (after a
 
 -- The editor after an undo, by the lines that can be had.
 abbrev undo_once : List Split → EditorState → EditorState
-undo_once past w = record (undo_to past w) { walking = false }
+undo_once past w = record (undo_to past w) { last = Other }
 
 -- As many undos as there are lines.
 undone : (text : List ℕ) (past extra : List Split) (w : EditorState) → w.past ≡ extra ++ past → EndsIn text extra w
@@ -241,5 +243,5 @@ can_be_undone actions w plain rests enough =
 pub redoes_undone : (w : EditorState) → RedoesUndone w
 redoes_undone w d past e = ap (λ t. after Redo (undo_once t w)) e ∙ (record_with w d past e)
   where
-    record_with : (w : EditorState) (d : Split) (past : List Split) → w.past ≡ d ∷ past → after Redo (undo_once (d ∷ past) w) ≡ record w { typing = false; walking = false }
-    record_with w d past e = ap (λ t. record w { past = t; typing = false; walking = false }) (sym e)
+    record_with : (w : EditorState) (d : Split) (past : List Split) → w.past ≡ d ∷ past → after Redo (undo_once (d ∷ past) w) ≡ record w { typing = false; last = Other }
+    record_with w d past e = ap (λ t. record w { past = t; typing = false; last = Other }) (sym e)

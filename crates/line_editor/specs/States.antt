@@ -1,13 +1,15 @@
 -- The state of an editor, and how each action changes it.
-use Rattle.std.specs.Prelude.{⊤, ℕ, ◌+◌, ◌-◌, Bool, true, false, List, [], ◌∷◌, Option, Some, None, if◌then◌else◌, slice_get, drop, take, reverse, ◌==◌}
+use Rattle.std.specs.Prelude.{⊤, ℕ, ◌+◌, ◌-◌, Bool, true, false, List, [], ◌∷◌, ◌++◌, Option, Some, None, if◌then◌else◌, slice_get, drop, take, reverse, ◌==◌}
 use Rattle.std.specs.Prelude.{zero, suc}
 use Rattle.std.specs.Str.{bytes_eq}
 use Rattle.line_editor.specs.declared.actions.Action.{Action}
 use Rattle.line_editor.specs.declared.actions.Action.TheVariants as does
+use Rattle.line_editor.specs.declared.last.Last.{Last}
+use Rattle.line_editor.specs.declared.last.Last.TheVariants.{Killed, Other, Walked}
 use Rattle.line_editor.specs.declared.limits.Limits.{Limits}
 use Rattle.line_editor.specs.declared.places.Stop.TheVariants.{Edge}
 use Rattle.line_editor.specs.declared.places.Target.{Target}
-use Rattle.line_editor.specs.declared.places.Target.TheVariants.{Forward}
+use Rattle.line_editor.specs.declared.places.Target.TheVariants.{Back, Forward}
 use Rattle.line_editor.specs.Splits.{Split, line_text}
 use Rattle.line_editor.specs.Edits.{cut_text, empty_line, erased, inserted, meeting, settled, transposed}
 use Rattle.line_editor.specs.Places.{target_place}
@@ -18,7 +20,7 @@ pub record EditorState : Type 0 where
   -- The limits of all that follows.
   pub limits : Limits
   pub line : Split
-  -- The text that was killed last.
+  -- The text that was killed last, by kills side by side.
   pub killed : List ℕ
   -- The lines that undo and redo bring back, the newest first.
   pub past : List Split
@@ -31,8 +33,8 @@ pub record EditorState : Type 0 where
   pub unfinished : Split
   -- Whether a character was typed last, which is undone with the next one.
   pub typing : Bool
-  -- Whether a search for any line was done last, as which the next one goes on.
-  pub walking : Bool
+  -- What the last action was, as far as the next one goes on with it.
+  pub last : Last
 
 -- A fresh editor has an empty line, and nothing came before it.
 abbrev pub fresh : Limits → EditorState
@@ -46,7 +48,7 @@ fresh limits = record {
   back = 0;
   unfinished = empty_line;
   typing = false;
-  walking = false;
+  last = Other;
 }
 
 -- ---- changes of the line
@@ -80,7 +82,7 @@ write (c ∷ text) w = changed (inserted (c ∷ text) w.line) w
 
 -- The editor after a paste: its shown characters are written, with a blank for each run of line ends and tabs.
 abbrev pub pasted_into : List ℕ → EditorState → EditorState
-pasted_into text w = record (write (pasted_part text) w) { walking = false }
+pasted_into text w = record (write (pasted_part text) w) { last = Other }
 
 -- ---- what is erased
 
@@ -89,10 +91,21 @@ abbrev pub erase_cut : List ℕ → Target → EditorState → EditorState
 erase_cut [] target w = w
 erase_cut (c ∷ text) target w = changed (erased target w.line) w
 
+-- The text to which that of a kill is joined: what was killed, if the last action was a kill.
+abbrev pub kept_by : Last → List ℕ → List ℕ
+kept_by Killed killed = killed
+kept_by last killed = []
+
+-- A text that was cut, joined to another one in the direction in which it was cut.
+abbrev pub joined : Target → List ℕ → List ℕ → List ℕ
+joined (Back stop) text kept = text ++ kept
+joined (Forward stop) text kept = kept ++ text
+
 -- The editor after the part that a target reaches is erased and kept as killed. An empty part does nothing.
 abbrev pub kill_cut : List ℕ → Target → EditorState → EditorState
 kill_cut [] target w = w
-kill_cut (c ∷ text) target w = record (changed (erased target w.line) w) { killed = c ∷ text }
+kill_cut (c ∷ text) target w =
+    record (changed (erased target w.line) w) { killed = joined target (c ∷ text) (kept_by w.last w.killed) }
 
 -- The editor after two clusters are transposed. If nothing is before their meeting place, nothing happens.
 abbrev pub transpose_at : List ℕ → EditorState → EditorState
@@ -167,8 +180,12 @@ first_with front shown passed (d ∷ lines) =
 
 -- The text that a search looks for at the beginning of lines. It is what is before the cursor, or nothing once more
 -- after a search for any line.
+abbrev pub sought_by : Last → List ℕ → List ℕ
+sought_by Walked text = []
+sought_by last text = text
+
 abbrev pub sought : EditorState → List ℕ
-sought w = if w.walking then [] else reverse w.line.before
+sought w = sought_by w.last (reverse w.line.before)
 
 -- The next older line that begins with what is looked for, and is another than the line: its place, and the rest of
 -- it. `None` if there is none.
@@ -201,7 +218,7 @@ accepted w = record (dropped w) { history = remembered w.limits w.line (line_tex
 
 -- ---- actions
 
--- What an action makes of the editor, but for what a search after it looks for.
+-- What an action makes of the editor, but for what it is to the next one.
 abbrev pub acted : Action → EditorState → EditorState
 acted (does.Insert c) w = type_char c w
 acted (does.Go target) w = moved (target_place target w.line) w
@@ -220,14 +237,15 @@ abbrev pub is_empty : List ℕ → Bool
 is_empty [] = true
 is_empty (c ∷ text) = false
 
--- Whether an action is a search for any line.
-abbrev pub walks : Action → EditorState → Bool
-walks does.Search w = is_empty (sought w)
-walks action w = false
+-- What an action is to the next one. A kill that cuts nothing is no kill.
+abbrev pub last_of : Action → EditorState → Last
+last_of does.Search w = if is_empty (sought w) then Walked else Other
+last_of (does.Kill target) w = if is_empty (cut_text target w.line) then Other else Killed
+last_of action w = Other
 
 -- The editor after an action.
 abbrev pub after : Action → EditorState → EditorState
-after action w = record (acted action w) { walking = walks action w }
+after action w = record (acted action w) { last = last_of action w }
 
 -- The action only moves the cursor.
 abbrev pub IsMove : Action → Type 0

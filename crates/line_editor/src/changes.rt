@@ -37,6 +37,9 @@ impl<A: Allocator> Change<A> {
         ensures ok { OnOk result (self.new ≡ reached text.now at self.old) }
         ensures err { OnErr result (self.new ≡ self.old) }
     {
+        if self.to == at {
+            return Ok(());
+        }
         self.text.push_str(&text[self.to..at])?;
         self.to = at;
         Ok(())

@@ -10,18 +10,19 @@ ghost use Rattle.line_editor.specs.History.{loaded, saved};
 ghost use Rattle.line_editor.specs.Places.{target_place};
 ghost use Rattle.line_editor.specs.Shown.{AreShown, pasted_part};
 ghost use Rattle.line_editor.specs.Splits.{line_text};
-ghost use Rattle.line_editor.specs.States.{IsMove, accepted, acted, after, changed, dropped, erase_cut, found, fresh, kill_cut, left_for, moved, newer_from, newer_line, older_to, pasted_into, redo_to, remembered, run_actions, searched_to, sought, transpose_at, type_char, after_typing, undo_to, walks, write};
+ghost use Rattle.line_editor.specs.States.{IsMove, accepted, acted, after, changed, dropped, erase_cut, found, fresh, joined, kept_by, kill_cut, last_of, left_for, moved, newer_from, newer_line, older_to, pasted_into, redo_to, remembered, run_actions, searched_to, sought, transpose_at, type_char, after_typing, undo_to, write};
 
 use crate::actions::Action;
 use crate::draft::Draft;
 use crate::fault::EditFault;
 use crate::history::{history_of, saved};
+use crate::last::Last;
 use crate::limits::Limits;
 use crate::lines::Line;
 use crate::places::{Stop, Target};
 use crate::recent::RecentLines;
 use crate::shown::{is_shown, pasted, pasted_len};
-use crate::texts::is_nothing;
+use crate::texts::{is_nothing, joined};
 use std::alloc::{AllocError, Allocator, Global};
 use std::marker::Model;
 
@@ -42,8 +43,8 @@ pub struct Editor<A: Allocator = Global> {
     history: RecentLines<A>,
     back: usize,
     unfinished: Line<A>,
-    // Whether a search for any line was done last.
-    walking: bool,
+    // What the last action was.
+    last: Last,
 }
 
 impl<A: Allocator> Model for Editor<A> {
@@ -63,7 +64,7 @@ impl<A: Allocator> Model for Editor<A> {
       back = e.back;
       unfinished = e.unfinished;
       typing = e.draft.typing;
-      walking = e.walking;
+      last = e.last;
     } };
 
     ghost use Rattle.line_editor.specs.Shown.{AreShown};
@@ -82,7 +83,7 @@ fn started<A: Allocator + Clone>(alloc: A, limits: Limits) -> Result<Editor<A>, 
         history: RecentLines::new(alloc.clone()?),
         back: 0,
         unfinished: Line::new(alloc.clone()?),
-        walking: false,
+        last: Last::Other,
         alloc,
     })
 }
@@ -150,7 +151,7 @@ impl<A: Allocator> Editor<A> {
         self.draft.clear();
         self.unfinished.clear();
         self.back = 0;
-        self.walking = false;
+        self.last = Last::Other;
     }
 }
 
@@ -224,16 +225,40 @@ impl<A: Allocator + Clone> Editor<A> {
         Ok(())
     }
 
+    /// The text to which that of a kill is joined.
+    fn kept(&self) -> &str
+        ensures text { chars result.now ≡ kept_by self.now.last self.now.killed }
+        ensures shown { AreShown (chars result.now) }
+    {
+        match self.last {
+            Last::Killed => self.killed.as_str(),
+            Last::Other => "",
+            Last::Walked => "",
+        }
+    }
+
+    /// The text that a kill keeps.
+    fn killed_by(&self, target: Target) -> Result<String<A>, AllocError>
+        ensures text { IfOk result (λ killed. chars (string_bytes killed) ≡ joined target (cut_text target self.now.line) (kept_by self.now.last self.now.killed)) }
+        ensures shown { IfOk result (λ killed. AreShown (chars (string_bytes killed))) }
+    {
+        let kept = self.kept();
+        let text = self.draft.line().cut(target);
+        match target {
+            Target::Back(_) => joined(self.alloc.clone()?, text, kept),
+            Target::Forward(_) => joined(self.alloc.clone()?, kept, text),
+        }
+    }
+
     /// Erases what a target reaches, and keeps it.
     fn kill(&mut self, target: Target) -> Result<(), AllocError>
         ensures ok { OnOk result (self.new ≡ kill_cut (cut_text target self.old.line) target self.old) }
         ensures err { OnErr result (self.new ≡ self.old) }
     {
-        let text = self.draft.line().cut(target);
-        if is_nothing(text) {
+        if is_nothing(self.draft.line().cut(target)) {
             return Ok(());
         }
-        let killed = String::from_str(self.alloc.clone()?, text)?;
+        let killed = self.killed_by(target)?;
         self.draft.erase(target, self.limits.steps)?;
         self.killed = killed;
         Ok(())
@@ -349,10 +374,10 @@ impl<A: Allocator + Clone> Editor<A> {
         ensures text { chars result.now ≡ sought self.now }
         ensures shown { AreShown (chars result.now) }
     {
-        if self.walking {
-            return "";
+        match self.last {
+            Last::Walked => "",
+            Last::Other | Last::Killed => self.draft.line().before(),
         }
-        self.draft.line().before()
     }
 
     /// Shows the next older line that begins with the text before the cursor, and isn't the same line.
@@ -375,7 +400,7 @@ impl<A: Allocator + Clone> Editor<A> {
         }
     }
 
-    /// Does one thing for which there is room, but for what a search after it looks for.
+    /// Does one thing for which there is room, but for what it is to the next one.
     fn edit(&mut self, action: Action) -> Result<(), AllocError>
         ensures ok { OnOk result (self.new ≡ acted action self.old) }
         ensures err { OnErr result (self.new ≡ self.old) }
@@ -399,13 +424,14 @@ impl<A: Allocator + Clone> Editor<A> {
         }
     }
 
-    /// Whether an action is a search for any line.
-    fn walks(&self, action: Action) -> bool
-        ensures { result ≡ walks action self.now }
+    /// What an action is to the next one.
+    fn last_of(&self, action: Action) -> Last
+        ensures { result ≡ last_of action self.now }
     {
         match action {
-            Action::Search => is_nothing(self.sought()),
-            _ => false,
+            Action::Search if is_nothing(self.sought()) => Last::Walked,
+            Action::Kill(target) if !is_nothing(self.draft.line().cut(target)) => Last::Killed,
+            _ => Last::Other,
         }
     }
 
@@ -415,10 +441,10 @@ impl<A: Allocator + Clone> Editor<A> {
         ensures err { OnErr result (self.new ≡ self.old) }
         ensures free { IsMove action → IsOk result }
     {
-        let walking = self.walks(action);
+        let last = self.last_of(action);
         match self.edit(action) {
             Ok(()) => {
-                self.walking = walking;
+                self.last = last;
                 Ok(())
             }
             Err(error) => Err(error),
@@ -508,7 +534,7 @@ impl<A: Allocator + Clone> Editor<A> {
         }
         match self.write_pasted(text) {
             Ok(()) => {
-                self.walking = false;
+                self.last = Last::Other;
                 Ok(())
             }
             Err(_) => Err(EditFault::Memory),
@@ -611,7 +637,7 @@ impl<A: Allocator + Clone> Editor<A> {
             Ok(history) => {
                 self.history = history;
                 self.back = 0;
-                self.walking = false;
+                self.last = Last::Other;
                 Ok(())
             }
             Err(_) => Err(EditFault::Memory),

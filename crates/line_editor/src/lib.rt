@@ -69,6 +69,7 @@ mod editor;
 mod fault;
 mod history;
 mod keys;
+mod last;
 pub mod laws;
 mod limits;
 mod lines;
