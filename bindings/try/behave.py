@@ -3,7 +3,6 @@
 behave.py PROGRAM [TEST..]: without a test's name it runs all that are of `behave`; those whose names begin with `example_` are of the examples.
 """
 import fcntl
-import itertools
 import os
 import pty
 import select
@@ -262,8 +261,21 @@ def escapes(start):
     assert len(t.end()) == 3
 
 
+class TooSlow(Exception):
+    """What couldn't be tried since this machine is too busy."""
+
+
+def some_in_time(what, attempt, times):
+    """Attempts something until it was in time so many times, or for ten seconds, in which it has to be once: a busy machine is late."""
+    done, end = 0, time.monotonic() + 10
+    while done < times and time.monotonic() < end:
+        done += attempt()
+    if not done:
+        raise TooSlow(f"this machine is too slow: {what} was never in time within 10 s")
+
+
 def cuts(start):
-    """A key whose ESC ends a block, and whose rest comes up to 5 ms later, is that key: 20 times for each shim, way, size and gap."""
+    """A key whose ESC ends a block, and whose rest comes up to 5 ms later, is that key, for each shim, way, size and gap."""
     for shim in (29, 28, 25):
         for way in ("read", "poll", "stream"):
             t = start(f"{shim} {way}")
@@ -271,14 +283,13 @@ def cuts(start):
             t.told.clear()
             for size in (700, 1024, 4096):
                 for gap in (0, 0.001, 0.005):
-                    tries = (cut(t, size, gap) for _ in range(40))
-                    assert sum(itertools.islice(filter(None, tries), 20)), "no try was in time"
+                    some_in_time(f"the rest of a key, {gap} s after its ESC,", lambda: cut(t, size, gap), 20)
             t.type("Q")
             assert t.end() == []
 
 
 def cut(t, size, gap):
-    """Types a block of Downs that ends in ESC, later the rest of an Up, and returns whether this was in time: a busy machine is late."""
+    """Types a block of Downs that ends in ESC, later the rest of an Up, and returns whether this was in time."""
     begun = time.monotonic()
     assert os.write(t.master, b"\x1b[B" * (size // 3) + b"\x1b") == size
     if gap:
@@ -345,5 +356,8 @@ def example_menu(start):
 program, names = sys.argv[1], sys.argv[2:]
 ALL = (keys, resizes, limits, two_threads, many, queries, filters, ends, hangups, colours, streams, escapes, cuts)
 for test in [globals()[name] for name in names] or ALL:
-    test(lambda name, **how: Terminal(program, name, **how))
+    try:
+        test(lambda name, **how: Terminal(program, name, **how))
+    except TooSlow as slow:
+        sys.exit(f"{test.__name__}: {slow}")
     print(f"{test.__name__}: as expected", flush=True)
