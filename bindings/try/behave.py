@@ -275,15 +275,15 @@ def some_in_time(what, attempt, times):
 
 
 def cuts(start):
-    """A key whose ESC ends a block, and whose rest comes up to 5 ms later, is that key, for each shim, way, size and gap."""
+    """A key whose ESC ends a block, and whose rest comes up to 25 ms later, is that key, for each shim, way, size and gap."""
     for shim in (29, 28, 25):
         for way in ("read", "poll", "stream"):
             t = start(f"{shim} {way}")
             t.wait_told("ready")
             t.told.clear()
-            for size in (700, 1024, 4096):
-                for gap in (0, 0.001, 0.005):
-                    some_in_time(f"the rest of a key, {gap} s after its ESC,", lambda: cut(t, size, gap), 20)
+            for size in (4, 700, 1024, 4096):
+                for gap, times in ((0, 20), (0.001, 20), (0.025, 5)):
+                    some_in_time(f"the rest of a key, {gap} s after its ESC,", lambda: cut(t, size, gap), times)
             t.type("Q")
             assert t.end() == []
 
@@ -295,12 +295,43 @@ def cut(t, size, gap):
     if gap:
         time.sleep(gap)
     os.write(t.master, b"[Aq")
-    in_time = time.monotonic() - begun < 0.008
+    in_time = time.monotonic() - begun < 0.045
     t.until(lambda: t.told.endswith(b"\n"), "count")
     told = t.told.decode()
     t.told.clear()
     assert not in_time or told == f"{size // 3} Down, 1 Up, 0 Esc, 0 others\n", (size, gap, told)
     return in_time
+
+
+def lone_escapes(start):
+    """An ESC alone is Esc at once, and one behind another key is Esc if nothing follows, for each shim and way."""
+    t = start("keys")
+    t.wait_told("raw true")
+    some_in_time("Esc", lambda: escape_takes(t) < 0.025, 5)
+    t.type("q")
+    assert t.end()[-2:] == ["q  Press", "raw false"]
+    for shim in (29, 28, 25):
+        for way in ("read", "poll", "stream"):
+            t = start(f"{shim} {way}")
+            t.wait_told("ready")
+            for typed in ("\x1b", "x\x1b"):
+                t.type(typed)
+                # Far longer than the rest of a key may be late.
+                time.sleep(0.2)
+                t.type("[Aq")
+                t.wait_told(f"0 Down, 0 Up, 1 Esc, {1 + len(typed)} others")
+            t.type("Q")
+            t.end()
+
+
+def escape_takes(t):
+    """Types ESC after a pause, and returns how many seconds it takes until it is Esc."""
+    time.sleep(0.1)
+    count = t.told.count(b"Esc  Press") + 1
+    begun = time.monotonic()
+    t.type("\x1b")
+    t.wait_told("Esc  Press", count)
+    return time.monotonic() - begun
 
 
 # Of the examples.
@@ -354,7 +385,7 @@ def example_menu(start):
 
 
 program, names = sys.argv[1], sys.argv[2:]
-ALL = (keys, resizes, limits, two_threads, many, queries, filters, ends, hangups, colours, streams, escapes, cuts)
+ALL = (keys, resizes, limits, two_threads, many, queries, filters, ends, hangups, colours, streams, escapes, cuts, lone_escapes)
 for test in [globals()[name] for name in names] or ALL:
     try:
         test(lambda name, **how: Terminal(program, name, **how))

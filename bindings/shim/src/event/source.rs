@@ -10,10 +10,10 @@ use std::time::{Duration, Instant};
 const ESC: u8 = 0x1b;
 /// How many bytes are read at once.
 const ROOM: usize = 1024;
-/// How long the rest of a sequence may be late, if its ESC was the last byte that was read.
-///
-/// An ESC that is read alone is a key at once, unless other bytes were read so shortly before. Linux cuts a block after 4,095 bytes.
-const PAUSE: Duration = Duration::from_millis(10);
+/// How long the rest of a sequence may be late, if its ESC was the last byte that was read: a busy machine is late, too.
+const PAUSE: Duration = Duration::from_millis(50);
+/// How shortly after other bytes an ESC that is read alone is no key at once, but such a byte: Linux cuts a block after 4,095 bytes.
+const SHORTLY: Duration = Duration::from_millis(10);
 
 /// An ESC that was read last: a key, or the first byte of a sequence that was cut. The parser hasn't got it yet.
 #[derive(Clone, Copy)]
@@ -105,7 +105,7 @@ impl Source {
         let is_key = matches!(self.buffer[..count], [] | [ESC, ..]);
         let had_open = self.close(!is_key, sink);
         let now = Instant::now();
-        let is_shortly = self.last.replace(now).map_or(false, |last| now.duration_since(last) < PAUSE);
+        let is_shortly = self.last.replace(now).map_or(false, |last| now.duration_since(last) < SHORTLY);
         match self.buffer[..count] {
             [] if had_open => self.has_ended = true,
             [] => return Err(io::ErrorKind::UnexpectedEof.into()),
