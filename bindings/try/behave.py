@@ -266,48 +266,61 @@ class TooSlow(Exception):
 
 
 def some_in_time(what, attempt, times):
-    """Attempts something until it was in time so many times, or for ten seconds, in which it has to be once: a busy machine is late."""
-    done, end = 0, time.monotonic() + 10
-    while done < times and time.monotonic() < end:
-        done += attempt()
-    if not done:
+    """Attempts something until it was in time so many times, or for ten seconds, in which it has to be once: a busy machine is late. Returns what
+    the attempts in time returned; that of one that was late is None."""
+    found, end = [], time.monotonic() + 10
+    while len(found) < times and time.monotonic() < end:
+        result = attempt()
+        if result is not None:
+            found.append(result)
+    if not found:
         raise TooSlow(f"this machine is too slow: {what} was never in time within 10 s")
+    return found
+
+
+# The seconds before a key's ESC and before its rest, and how often they are tried.
+GAPS = ((0, 0, 20), (0, 0.001, 20), (0, 0.025, 5))
+# The ESC by itself: behind a key that is Esc.
+APART = (0.015, 0.015, 5)
 
 
 def cuts(start):
-    """A key whose ESC ends a block, and whose rest comes up to 25 ms later, is that key, for each shim, way, size and gap."""
+    """A key whose ESC ends a block, or comes shortly behind one, and whose rest comes up to 25 ms later, is that key, for each shim, way, size
+    and gap. One of some may be torn, since nobody sees here whether the reader was late."""
     for shim in (29, 28, 25):
         for way in ("read", "poll", "stream"):
             t = start(f"{shim} {way}")
             t.wait_told("ready")
             t.told.clear()
             for size in (4, 700, 1024, 4096):
-                for gap, times in ((0, 20), (0.001, 20), (0.025, 5)):
-                    some_in_time(f"the rest of a key, {gap} s after its ESC,", lambda: cut(t, size, gap), times)
+                for before, behind, times in GAPS if size == 4 else (*GAPS, APART):
+                    told = some_in_time(f"a key within {before + behind} s", lambda: cut(t, size, before, behind), times)
+                    whole = told.count(f"{size // 3} Down, 1 Up, 0 Esc, 0 others\n")
+                    assert whole >= len(told) - 1, (shim, way, size, before, behind, told)
             t.type("Q")
             assert t.end() == []
 
 
-def cut(t, size, gap):
-    """Types a block of Downs that ends in ESC, later the rest of an Up, and returns whether this was in time."""
+def cut(t, size, before, behind):
+    """Types a block of Downs, an ESC, and the rest of an Up, and returns the counts if that was in time."""
     begun = time.monotonic()
-    assert os.write(t.master, b"\x1b[B" * (size // 3) + b"\x1b") == size
-    if gap:
-        time.sleep(gap)
-    os.write(t.master, b"[Aq")
+    block, esc = b"\x1b[B" * (size // 3), b"\x1b"
+    for gap, part in [(0, block), (before, esc), (behind, b"[Aq")] if before else [(0, block + esc), (behind, b"[Aq")]:
+        if gap:
+            time.sleep(gap)
+        assert os.write(t.master, part) == len(part)
     in_time = time.monotonic() - begun < 0.045
     t.until(lambda: t.told.endswith(b"\n"), "count")
     told = t.told.decode()
     t.told.clear()
-    assert not in_time or told == f"{size // 3} Down, 1 Up, 0 Esc, 0 others\n", (size, gap, told)
-    return in_time
+    return told if in_time else None
 
 
 def lone_escapes(start):
     """An ESC alone is Esc at once, and one behind another key is Esc if nothing follows, for each shim and way."""
     t = start("keys")
     t.wait_told("raw true")
-    some_in_time("Esc", lambda: escape_takes(t) < 0.025, 5)
+    some_in_time("Esc", lambda: escape_takes(t) < 0.025 or None, 5)
     t.type("q")
     assert t.end()[-2:] == ["q  Press", "raw false"]
     for shim in (29, 28, 25):
