@@ -1,6 +1,7 @@
 """Tries how `with_terminal` ends, by programs of a few lines of sh in a pseudo-terminal. `try` and `try_script` run these."""
 import contextlib
 import os
+import shlex
 import shutil
 import signal
 import subprocess
@@ -154,6 +155,50 @@ def signals_while_stty_runs():
         for number in SIGNALS:
             for to_group in (False, True):
                 end_by(number, to_group, slow.wait, QUIET, slow.folder)
+
+
+def kill_leader(waits, script=QUIET, path=None):
+    """Kills a script that leads its session, as one that a window runs: nobody is left, the folder is gone, and the mode is as before."""
+    terminal = Terminal('exec ' + shlex.join(by_script(script)), path=path)
+    before = terminal.mode()
+    try:
+        waits(terminal)
+        os.kill(terminal.pid, signal.SIGKILL)
+        equal('status', terminal.end(), -signal.SIGKILL)
+        terminal.none_left()
+        equal('mode', terminal.mode(), before)
+    except Wrong as wrong:
+        raise Wrong(f'KILL of a leader: {wrong}') from wrong
+    finally:
+        terminal.close()
+
+
+def kill_while_stty_runs():
+    """KILL while the helper's `stty raw` runs, which takes long: it has set its mode before the mode from before is set."""
+    with Slow('stty', 'raw -echo', 0.2) as slow:
+        for _ in range(4):
+            kill_leader(slow.wait, path=slow.folder)
+            end_by(signal.SIGKILL, False, slow.wait, QUIET, slow.folder)
+
+
+def kill_while_it_begins():
+    """KILL while the folder is being made, and its pipes: nobody but the guard could remove it, and that isn't there yet."""
+    for command in ('mktemp', 'mkfifo'):
+        with Slow(command, '', 0.1) as slow:
+            for _ in range(3):
+                kill_leader(slow.wait, path=slow.folder)
+                end_by(signal.SIGKILL, False, slow.wait, QUIET, slow.folder)
+
+
+def kill_early(count=60):
+    """KILL at moments within the first 90 ms."""
+    for at in range(count):
+        kill_leader(wait_until(0.09 * at / count), BUSY)
+
+
+def some_kill_early():
+    """The same, at fewer moments."""
+    kill_early(12)
 
 
 def status_while_resizing(programs=40, at_once=8):

@@ -108,13 +108,14 @@ def read_until(sock, text):
 
 
 def start_server(descriptors=None, silence=None):
-    """A server of the picture at some port, which may have so many descriptors, and lets a guest go after so many seconds of silence."""
+    """A server of the picture at some port, which may have so many descriptors, and lets a guest go after so many seconds of silence. It ends
+    with its standard input, a pipe."""
     with socket.socket() as free:
         free.bind(('127.0.0.1', 0))
         port = free.getsockname()[1]
     limited = descriptors and (lambda: resource.setrlimit(resource.RLIMIT_NOFILE, (descriptors, descriptors)))
     words = [*program('paint').split(' '), 'serve', str(port), *([str(silence)] if silence else [])]
-    server = subprocess.Popen(words, stderr=subprocess.PIPE, preexec_fn=limited)
+    server = subprocess.Popen(words, stdin=subprocess.PIPE, stderr=subprocess.PIPE, preexec_fn=limited)
     for _ in range(100):
         try:
             # One that comes first and leaves at once doesn't end the server.
@@ -300,4 +301,82 @@ def paint_serves():
         server.kill()
 
 
-TRIES = [paint_here, paint_in_small_windows, paint_forgets_nobody, paint_turns_away, paint_lets_silent_guests_go, paint_serves]
+def all_of(sock, limit):
+    """All that comes until the other side ends it."""
+    out, end = b'', time.time() + limit
+    while time.time() < end:
+        sock.settimeout(max(0.01, end - time.time()))
+        with contextlib.suppress(TimeoutError):
+            data = sock.recv(65536)
+            if not data:
+                return out
+            out += data
+    raise Wrong(f'nobody ends it within {limit} s: {out[-200:]!r}')
+
+
+# What a guest gets when the server ends: reports and colours off, the cursor, the normal screen, and a sentence.
+FAREWELL = b'\x1b[?1006l\x1b[?1015l\x1b[?1003l\x1b[?1002l\x1b[?1000l\x1b[0m\x1b[?25h\x1b[?1049lpaint: the server has ended\r\n'
+
+
+def paint_takes_leave():
+    """The end of standard input ends the server, and a line `quit`: within two seconds all guests have the whole farewell, those who paint, and
+    some behind a deaf one, and the status is 0."""
+    for said in (b'quit\n', b'quite\n\nno quit\nquit\nmore', None):
+        server, port = start_server()
+        try:
+            deaf, hostile = bad_guests(port)
+            guests = [guest(port) for _ in range(10)]
+            for each in guests:
+                read_until(each, b'leave')
+            server.stdin.write(b'qui\n')
+            server.stdin.flush()
+            for turn in range(40):
+                # What is still on its way at the end isn't read by the server before it takes leave.
+                guests[turn % 5].sendall(b'\x1b[<0;%d;5M' % (turn + 10) * 50)
+            equal('another line', server.poll(), None)
+            begun = time.time()
+            if said:
+                server.stdin.write(said)
+                server.stdin.flush()
+            else:
+                server.stdin.close()
+            for each in guests:
+                got = all_of(each, begun + 2 - time.time())
+                equal('the farewell', got[-len(FAREWELL):], FAREWELL)
+                each.close()
+            equal('status', server.wait(max(0, begun + 3 - time.time())), 0)
+            equal('what it says', server.stderr.read(), b'')
+        finally:
+            server.kill()
+            server.wait()
+
+
+def paint_ends_with_its_input():
+    """A server whose input is at its end from the beginning ends at once, one in a terminal at Ctrl-D or `quit`, and one in the background at a
+    line in a pipe."""
+    serve = f'{program("paint")} serve'
+    for words in ('</dev/null', '<&-', f'<{__file__}'):
+        server = subprocess.Popen(['sh', '-c', f'exec {serve} 0 {words}'])
+        try:
+            wait_for(f'the end with {words}', lambda: time.sleep(0.01), lambda: server.poll() is not None)
+            equal(f'status with {words}', server.returncode, 0)
+        finally:
+            server.kill()
+    for typed in (b'\x04', b'quit\n'):
+        terminal = Terminal(f'exec {serve} 0')
+        try:
+            terminal.send(typed)
+            equal(f'status after {typed}', terminal.end(), 0)
+        finally:
+            terminal.close()
+    terminal = Terminal(f'mkfifo "$TMPDIR/host"; {serve} 0 <>"$TMPDIR/host" & sleep 0.1; echo begun; echo quit >"$TMPDIR/host"; wait $!')
+    try:
+        equal('status in the background', terminal.end(), 0)
+    finally:
+        terminal.close()
+
+
+TRIES = [
+    paint_here, paint_in_small_windows, paint_forgets_nobody, paint_turns_away, paint_lets_silent_guests_go, paint_serves, paint_takes_leave,
+    paint_ends_with_its_input,
+]

@@ -3,7 +3,6 @@
 behave.py PROGRAM [TEST..]: without a test's name it runs all that are of `behave`; those whose names begin with `example_` are of the examples.
 """
 import fcntl
-import itertools
 import os
 import pty
 import select
@@ -262,34 +261,90 @@ def escapes(start):
     assert len(t.end()) == 3
 
 
+class TooSlow(Exception):
+    """What couldn't be tried since this machine is too busy."""
+
+
+def some_in_time(what, attempt, times):
+    """Attempts something until it was in time so many times, or for ten seconds, in which it has to be once: a busy machine is late. Returns what
+    the attempts in time returned; that of one that was late is None."""
+    found, end = [], time.monotonic() + 10
+    while len(found) < times and time.monotonic() < end:
+        result = attempt()
+        if result is not None:
+            found.append(result)
+    if not found:
+        raise TooSlow(f"this machine is too slow: {what} was never in time within 10 s")
+    return found
+
+
+# The seconds before a key's ESC and before its rest, and how often they are tried.
+GAPS = ((0, 0, 20), (0, 0.001, 20), (0, 0.025, 5))
+# The ESC by itself: behind a key that is Esc.
+APART = (0.015, 0.015, 5)
+
+
 def cuts(start):
-    """A key whose ESC ends a block, and whose rest comes up to 5 ms later, is that key: 20 times for each shim, way, size and gap."""
+    """A key whose ESC ends a block, or comes shortly behind one, and whose rest comes up to 25 ms later, is that key, for each shim, way, size
+    and gap. One of some may be torn, since nobody sees here whether the reader was late."""
     for shim in (29, 28, 25):
         for way in ("read", "poll", "stream"):
             t = start(f"{shim} {way}")
             t.wait_told("ready")
             t.told.clear()
-            for size in (700, 1024, 4096):
-                for gap in (0, 0.001, 0.005):
-                    tries = (cut(t, size, gap) for _ in range(40))
-                    assert sum(itertools.islice(filter(None, tries), 20)), "no try was in time"
+            for size in (4, 700, 1024, 4096):
+                for before, behind, times in GAPS if size == 4 else (*GAPS, APART):
+                    told = some_in_time(f"a key within {before + behind} s", lambda: cut(t, size, before, behind), times)
+                    whole = told.count(f"{size // 3} Down, 1 Up, 0 Esc, 0 others\n")
+                    assert whole >= len(told) - 1, (shim, way, size, before, behind, told)
             t.type("Q")
             assert t.end() == []
 
 
-def cut(t, size, gap):
-    """Types a block of Downs that ends in ESC, later the rest of an Up, and returns whether this was in time: a busy machine is late."""
+def cut(t, size, before, behind):
+    """Types a block of Downs, an ESC, and the rest of an Up, and returns the counts if that was in time."""
     begun = time.monotonic()
-    assert os.write(t.master, b"\x1b[B" * (size // 3) + b"\x1b") == size
-    if gap:
-        time.sleep(gap)
-    os.write(t.master, b"[Aq")
-    in_time = time.monotonic() - begun < 0.008
+    block, esc = b"\x1b[B" * (size // 3), b"\x1b"
+    for gap, part in [(0, block), (before, esc), (behind, b"[Aq")] if before else [(0, block + esc), (behind, b"[Aq")]:
+        if gap:
+            time.sleep(gap)
+        assert os.write(t.master, part) == len(part)
+    in_time = time.monotonic() - begun < 0.045
     t.until(lambda: t.told.endswith(b"\n"), "count")
     told = t.told.decode()
     t.told.clear()
-    assert not in_time or told == f"{size // 3} Down, 1 Up, 0 Esc, 0 others\n", (size, gap, told)
-    return in_time
+    return told if in_time else None
+
+
+def lone_escapes(start):
+    """An ESC alone is Esc at once, and one behind another key is Esc if nothing follows, for each shim and way."""
+    t = start("keys")
+    t.wait_told("raw true")
+    some_in_time("Esc", lambda: escape_takes(t) < 0.025 or None, 5)
+    t.type("q")
+    assert t.end()[-2:] == ["q  Press", "raw false"]
+    for shim in (29, 28, 25):
+        for way in ("read", "poll", "stream"):
+            t = start(f"{shim} {way}")
+            t.wait_told("ready")
+            for typed in ("\x1b", "x\x1b"):
+                t.type(typed)
+                # Far longer than the rest of a key may be late.
+                time.sleep(0.2)
+                t.type("[Aq")
+                t.wait_told(f"0 Down, 0 Up, 1 Esc, {1 + len(typed)} others")
+            t.type("Q")
+            t.end()
+
+
+def escape_takes(t):
+    """Types ESC after a pause, and returns how many seconds it takes until it is Esc."""
+    time.sleep(0.1)
+    count = t.told.count(b"Esc  Press") + 1
+    begun = time.monotonic()
+    t.type("\x1b")
+    t.wait_told("Esc  Press", count)
+    return time.monotonic() - begun
 
 
 # Of the examples.
@@ -343,7 +398,10 @@ def example_menu(start):
 
 
 program, names = sys.argv[1], sys.argv[2:]
-ALL = (keys, resizes, limits, two_threads, many, queries, filters, ends, hangups, colours, streams, escapes, cuts)
+ALL = (keys, resizes, limits, two_threads, many, queries, filters, ends, hangups, colours, streams, escapes, cuts, lone_escapes)
 for test in [globals()[name] for name in names] or ALL:
-    test(lambda name, **how: Terminal(program, name, **how))
+    try:
+        test(lambda name, **how: Terminal(program, name, **how))
+    except TooSlow as slow:
+        sys.exit(f"{test.__name__}: {slow}")
     print(f"{test.__name__}: as expected", flush=True)

@@ -87,7 +87,7 @@ commands! {
 /// Whether an event is there, for which it waits so long at most. Then `read` returns it at once, if no other thread takes it.
 ///
 /// It waits beside another thread's `read`, and for any time, `Duration::MAX` too. If an ESC came last, behind other bytes, it waits up to
-/// 10 ms for what follows, once.
+/// 50 ms for what follows, once.
 ///
 /// ```no_run
 /// use crossterm::event::{poll, read};

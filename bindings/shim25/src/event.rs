@@ -114,7 +114,7 @@ fn has_seen() -> bool {
     seen().as_ref().map_or(false, |seen| !seen.is_empty())
 }
 
-/// Whether an event is there, for which it waits so long at most. If an ESC came last, behind other bytes, it waits up to 10 ms for what
+/// Whether an event is there, for which it waits so long at most. If an ESC came last, behind other bytes, it waits up to 50 ms for what
 /// follows, once.
 ///
 /// # Errors

@@ -29,7 +29,7 @@ fn run_plain(rt: &HostRuntime, name: &str, words: &[String]) -> io::Result<()> {
         ("own_command", []) => own_command::run(alloc, rt.reader(), &mut out),
         ("table", []) => table::run(rt, &mut out),
         ("paint", [word, port, more @ ..]) if word.as_str() == "serve" => {
-            paint::serve(rt, alloc, port.as_str(), more)
+            paint::serve(rt, alloc, rt.stdin(), port.as_str(), more)
         }
         ("replay", [file, form @ ..]) => replay::run(rt, file.as_str(), form, &mut out),
         _ => {

@@ -1,11 +1,13 @@
 //! Paints with the mouse, in one's own terminal or, as a server, many guests on one picture.
 //!
 //! `example paint` runs it in a terminal; Esc ends it. `example paint serve 7000` lets guests of this machine in at a port, by
-//! `telnet 127.0.0.1 7000` or `socat -,raw,echo=0 TCP:127.0.0.1:7000`. A signal ends it, as Ctrl-C does. A guest who says nothing for a minute
-//! has to leave, so that there is room for others; `example paint serve 7000 5` gives them five seconds.
+//! `telnet 127.0.0.1 7000` or `socat -,raw,echo=0 TCP:127.0.0.1:7000`. The end of standard input ends it, and a line `quit`, with a farewell to
+//! all. A signal, as Ctrl-C is, ends it with none. A guest who says nothing for a minute has to leave, so that there is room for others;
+//! `example paint serve 7000 5` gives them five seconds.
 
 mod canvas;
 mod guests;
+mod host;
 mod painter;
 mod telnet;
 mod view;
@@ -14,8 +16,9 @@ use canvas::Canvas;
 use own_terminal::{Feature, Tty};
 use painter::{Painter, Wish};
 use std::alloc::Global;
-use std::io::{self, ErrorKind, Write};
+use std::io::{self, ErrorKind, Read, Write};
 use std::net::Net;
+use std::os::fd::AsRawFd;
 use std::sync::Wait;
 use std::time::Duration;
 use view::View;
@@ -81,22 +84,23 @@ fn seconds_in(words: &[String]) -> Option<u32> {
     }
 }
 
-/// Serves guests at the port that a word names. The first of some more words may say how many seconds a guest may say nothing.
+/// Serves guests at the port that a word names, until the end of `input` or a line `quit` of it. The first of some more words may say how many seconds a guest may say nothing.
 ///
 /// # Errors
 ///
 /// `InvalidInput` if a word is no port, or no number of seconds from 1 on. Else the system's if it can't listen, watch or wait, and
 /// `OutOfMemory` if memory was refused at the beginning.
-pub fn serve<N: Net + std::rt::Clock>(
+pub fn serve<N: Net + std::rt::Clock, R: Read + AsRawFd + Drop>(
     rt: &N,
     alloc: Global,
+    input: R,
     port: &str,
     more: &[String],
 ) -> io::Result<()> {
     match (port.parse::<u16>(), seconds_in(more)) {
         (Ok(port), Some(seconds)) if seconds > 0 => {
             let silence = Duration::from_secs(u64::from(seconds));
-            guests::serve(rt, alloc, port, silence)
+            guests::serve(rt, alloc, input, port, silence)
         }
         _ => Err(io::Error::from(ErrorKind::InvalidInput)),
     }

@@ -10,10 +10,13 @@ use std::time::{Duration, Instant};
 const ESC: u8 = 0x1b;
 /// How many bytes are read at once.
 const ROOM: usize = 1024;
-/// How long the rest of a sequence may be late, if its ESC was the last byte that was read.
-///
-/// An ESC that is read alone is a key at once, unless other bytes were read so shortly before. Linux cuts a block after 4,095 bytes.
-const PAUSE: Duration = Duration::from_millis(10);
+/// How long the rest of a sequence may be late, if its ESC was the last byte that was read: a busy machine is late, too.
+const PAUSE: Duration = Duration::from_millis(50);
+/// How shortly after a key an ESC that is read alone is no key at once, but such a byte. After a block, which Linux cuts behind 4,095 bytes,
+/// it is `PAUSE`.
+const SHORTLY: Duration = Duration::from_millis(10);
+/// So many bytes that are read at once are a block.
+const BLOCK: usize = 64;
 
 /// An ESC that was read last: a key, or the first byte of a sequence that was cut. The parser hasn't got it yet.
 #[derive(Clone, Copy)]
@@ -43,8 +46,8 @@ pub struct Source {
     terminal: Terminal,
     pipe: RawFd,
     buffer: [u8; ROOM],
-    /// When bytes were read last.
-    last: Option<Instant>,
+    /// Until when an ESC that is read alone is no key at once.
+    shortly: Option<Instant>,
     open: Option<Open>,
     /// Whether the end of input came, and wasn't reported yet.
     has_ended: bool,
@@ -53,7 +56,7 @@ pub struct Source {
 impl Source {
     pub fn open() -> io::Result<Source> {
         let (terminal, pipe) = (Terminal::open()?, system::resize_pipe()?);
-        Ok(Source { parser: Parser::default(), terminal, pipe, buffer: [0; ROOM], last: None, open: None, has_ended: false })
+        Ok(Source { parser: Parser::default(), terminal, pipe, buffer: [0; ROOM], shortly: None, open: None, has_ended: false })
     }
 
     /// Whether an ESC is open that may still be decided shortly.
@@ -105,7 +108,8 @@ impl Source {
         let is_key = matches!(self.buffer[..count], [] | [ESC, ..]);
         let had_open = self.close(!is_key, sink);
         let now = Instant::now();
-        let is_shortly = self.last.replace(now).map_or(false, |last| now.duration_since(last) < PAUSE);
+        let until = now + if count < BLOCK { SHORTLY } else { PAUSE };
+        let is_shortly = self.shortly.replace(until).map_or(false, |until| now < until);
         match self.buffer[..count] {
             [] if had_open => self.has_ended = true,
             [] => return Err(io::ErrorKind::UnexpectedEof.into()),

@@ -1,6 +1,7 @@
 //! Many terminals that paint one picture, over TCP.
 
 use crate::paint::canvas::Canvas;
+use crate::paint::host::Host;
 use crate::paint::painter::{Painter, Wish};
 use crate::paint::telnet::{GREETING, Telnet};
 use crate::paint::view::View;
@@ -16,12 +17,14 @@ use mio::unix::SourceFd;
 use mio::{Events, Interest, Poll, Registry, Token};
 use slab::Slab;
 use std::alloc::{AllocError, Global};
-use std::io::{self, ErrorKind, Write};
-use std::net::{Ipv4Addr, Net, SocketAddr, TcpStream};
+use std::io::{self, ErrorKind, Read, Write};
+use std::net::{Ipv4Addr, Net, Shutdown, SocketAddr, TcpStream};
 use std::os::fd::AsRawFd;
 use std::time::Duration;
 
 const DOOR: Token = Token(usize::MAX);
+
+const HOST: Token = Token(usize::MAX - 1);
 
 /// How many guests there is room for.
 const GUESTS: usize = 64;
@@ -37,11 +40,19 @@ const COLORS: ColorOutput = ColorOutput::Enabled;
 /// How many milliseconds the door stays shut if the system can let nobody in, and nobody can be turned away.
 const PAUSE: u64 = 100;
 
+/// How many milliseconds guests have for their farewell when the server ends, and how many pass until it looks again who has taken it.
+const PARTING: u64 = 1000;
+
+const LOOK: u64 = 20;
+
 /// What somebody sees for whom there is no room.
 const FULL: &[u8] = b"paint: there is no room, come again later\r\n";
 
 /// What somebody sees who leaves since nothing came of them.
 const SILENT: &[u8] = b"paint: nothing came from you for too long\r\n";
+
+/// What all see when the server ends.
+const CLOSED: &[u8] = b"paint: the server has ended\r\n";
 
 /// One terminal: where its events come from, and where its picture goes.
 #[derive(Drop)]
@@ -54,6 +65,22 @@ struct Guest {
     is_busy: bool,
     // When bytes came last, or the guest.
     heard: Duration,
+    // How many bytes of the server's farewell were sent.
+    parted: usize,
+}
+
+/// Writes what puts the screen back.
+fn restore<W: Write>(w: &mut W) -> io::Result<()> {
+    queue!(w, COLORS, DisableMouseCapture, ResetColor, Show)?;
+    execute!(w, COLORS, LeaveAlternateScreen)
+}
+
+/// What all guests get when the server ends.
+fn farewell(alloc: Global) -> io::Result<Vec<u8>> {
+    let mut bytes = Vec::new(alloc);
+    restore(&mut bytes)?;
+    bytes.write_all(CLOSED)?;
+    Ok(bytes)
 }
 
 impl Guest {
@@ -71,6 +98,7 @@ impl Guest {
             view: View::new(alloc)?,
             is_busy: false,
             heard: now,
+            parted: 0,
         })
     }
 
@@ -102,10 +130,32 @@ impl Guest {
         self.view.draw(&mut self.out, canvas)
     }
 
-    /// Puts the screen back.
-    fn leave(&mut self) -> io::Result<()> {
-        queue!(self.out, COLORS, DisableMouseCapture, ResetColor, Show)?;
-        execute!(self.out, COLORS, LeaveAlternateScreen)
+    /// Sends as much of a farewell as the guest takes now, and ends the stream behind it. Then it passes over what still comes, until the
+    /// guest is gone: a stream that is closed before that loses what the guest hasn't taken yet. Returns whether the guest is gone.
+    fn part(&mut self, farewell: &[u8]) -> io::Result<bool> {
+        if let Some(rest @ [_, ..]) = farewell.get(self.parted..) {
+            let count = self.out.write(rest)?;
+            self.parted = self.parted.saturating_add(count);
+            if count < rest.len() {
+                return Ok(false);
+            }
+            self.out.shutdown(Shutdown::Write)?;
+        }
+        let mut buf = [0u8; 1024];
+        for _ in 0..TURN {
+            if self.out.read(&mut buf)? == 0 {
+                return Ok(true);
+            }
+        }
+        Ok(false)
+    }
+
+    /// The same, and one who can't be reached is gone.
+    fn has_parted(&mut self, farewell: &[u8]) -> bool {
+        match self.part(farewell) {
+            Ok(is_gone) => is_gone,
+            Err(error) => !matches!(error.kind(), ErrorKind::WouldBlock | ErrorKind::Interrupted),
+        }
     }
 
     /// Has the system report whether bytes are there, also if it reported them before.
@@ -113,6 +163,41 @@ impl Guest {
         self.is_busy = false;
         let fd = self.out.as_raw_fd();
         registry.reregister(&mut SourceFd(&fd), token, Interest::READABLE)
+    }
+}
+
+/// Who wants something and is no guest: somebody at the door, or the host.
+#[derive(Clone, Copy)]
+struct Came {
+    knocks: bool,
+    host: bool,
+}
+
+/// What rings if somebody wants something.
+#[derive(Drop)]
+struct Bell {
+    poll: Poll,
+    events: Events,
+}
+
+impl Bell {
+    fn new<N: Net>(rt: &N, alloc: Global) -> io::Result<Bell> {
+        Ok(Bell {
+            poll: Poll::new(rt)?,
+            events: Events::with_capacity(alloc, GUESTS)?,
+        })
+    }
+
+    fn registry(&self) -> &Registry {
+        self.poll.registry()
+    }
+
+    /// Waits until a guest or the host sends something, somebody knocks, or the limit has passed. A signal doesn't end the wait with an error.
+    fn wait(&mut self, limit: Option<Duration>) -> io::Result<()> {
+        match self.poll.poll(&mut self.events, limit) {
+            Err(error) if error.kind() != ErrorKind::Interrupted => Err(error),
+            _ => Ok(()),
+        }
     }
 }
 
@@ -167,7 +252,7 @@ impl Studio {
     fn dismiss_with(&mut self, key: usize, farewell: &[u8]) {
         if let Some(mut guest) = self.guests.try_remove(key) {
             // One who is gone already takes no farewell.
-            let _ = guest.leave();
+            let _ = restore(&mut guest.out);
             let _ = guest.out.write_all(farewell);
         }
     }
@@ -194,6 +279,17 @@ impl Studio {
             }
         }
         next
+    }
+
+    /// Goes on with the farewell of all, and drops those who are gone.
+    fn part(&mut self, farewell: &[u8]) {
+        for key in 0..GUESTS {
+            if let Some(guest) = self.guests.get_mut(key) {
+                if guest.has_parted(farewell) {
+                    self.guests.try_remove(key);
+                }
+            }
+        }
     }
 
     fn fulfil(&mut self, key: usize, wish: Wish) {
@@ -235,19 +331,23 @@ impl Studio {
         }
     }
 
-    /// Does what the guests want of whom something came, and returns whether somebody knocks.
-    fn attend(&mut self, registry: &Registry, events: &Events) -> bool {
-        let mut knocks = false;
-        for event in events.iter() {
+    /// Does what the guests want of whom something came, and returns whether somebody knocks, and whether something came of the host.
+    fn attend(&mut self, bell: &Bell) -> Came {
+        let mut came = Came {
+            knocks: false,
+            host: false,
+        };
+        for event in bell.events.iter() {
             match event.token() {
-                DOOR => knocks = true,
+                DOOR => came.knocks = true,
+                HOST => came.host = true,
                 Token(key) => {
                     self.hear(key);
-                    self.serve(registry, key);
+                    self.serve(bell.registry(), key);
                 }
             }
         }
-        knocks
+        came
     }
 
     /// Waits for more of a guest. One who can't be watched leaves.
@@ -320,57 +420,93 @@ fn earlier(a: Option<Duration>, b: Option<Duration>) -> Option<Duration> {
     }
 }
 
-/// Waits until a guest sends something, somebody knocks, or the limit has passed. A signal doesn't end the wait with an error.
-fn wait(poll: &mut Poll, events: &mut Events, limit: Option<Duration>) -> io::Result<()> {
-    match poll.poll(events, limit) {
-        Err(error) if error.kind() != ErrorKind::Interrupted => Err(error),
-        _ => Ok(()),
-    }
-}
-
-/// Serves guests at a port of this machine, until a signal ends the program. No guest ends it. One who says nothing for `silence` has to leave.
-///
-/// # Errors
-///
-/// The system's if it can't listen, watch or wait, and `OutOfMemory` if memory was refused at the beginning. No guest's fault is one.
-pub fn serve<N: Net + std::rt::Clock>(
+/// Serves guests until the host ends that.
+fn keep_open<N: Net + std::rt::Clock, R: Read + AsRawFd>(
     rt: &N,
-    alloc: Global,
-    port: u16,
-    silence: Duration,
+    studio: &mut Studio,
+    listener: &TcpListener,
+    host: &mut Host<R>,
+    bell: &mut Bell,
 ) -> io::Result<()> {
-    let address = SocketAddr::from((Ipv4Addr::LOCALHOST, port));
-    let mut listener = TcpListener::bind(rt, address)?;
-    let mut poll = Poll::new(rt)?;
-    poll.registry()
-        .register(&mut listener, DOOR, Interest::READABLE)?;
-    let mut events = Events::with_capacity(alloc, GUESTS)?;
     let mut clock = SystemClock::new(rt);
-    let mut studio = Studio {
-        alloc,
-        canvas: Canvas::new(alloc)?,
-        guests: Slab::new(alloc),
-        silence,
-        now: clock.now(),
-        spare: Poll::new(rt).ok(),
-    };
     let mut door = None;
     let mut limit = None;
     for _ in 0..u64::MAX {
-        wait(&mut poll, &mut events, limit)?;
+        bell.wait(limit)?;
         studio.now = clock.now();
-        if studio.attend(poll.registry(), &events) {
+        let came = studio.attend(bell);
+        if came.host && host.ends(bell.registry(), HOST) {
+            break;
+        }
+        if came.knocks {
             door = Some(Duration::ZERO);
         }
         if door.is_some() {
-            door = studio.open_door(rt, poll.registry(), &listener);
+            door = studio.open_door(rt, bell.registry(), listener);
         }
         let silent = studio.dismiss_silent();
-        limit = if studio.serve_busy(poll.registry()) {
+        limit = if studio.serve_busy(bell.registry()) {
             Some(Duration::ZERO)
         } else {
             earlier(door, silent)
         };
     }
     Ok(())
+}
+
+/// Takes leave of all guests, and returns when they have gone. Who doesn't take the farewell, or stays, is left after a second.
+fn close<N: std::rt::Clock>(
+    rt: &N,
+    studio: &mut Studio,
+    farewell: &[u8],
+    bell: &mut Bell,
+) -> io::Result<()> {
+    let mut clock = SystemClock::new(rt);
+    let begun = clock.now();
+    for _ in 0..u64::MAX {
+        studio.part(farewell);
+        let gone = clock.now().saturating_sub(begun);
+        if studio.guests.is_empty() || gone >= Duration::from_millis(PARTING) {
+            break;
+        }
+        bell.wait(Some(Duration::from_millis(LOOK)))?;
+    }
+    Ok(())
+}
+
+/// Serves guests at a port of this machine, until the end of `input` or a line `quit` of it. Then all get a farewell. No guest ends the
+/// server. One who says nothing for `silence` has to leave.
+///
+/// # Errors
+///
+/// The system's if it can't listen, watch or wait, and `OutOfMemory` if memory was refused at the beginning. No guest's fault is one.
+pub fn serve<N: Net + std::rt::Clock, R: Read + AsRawFd + Drop>(
+    rt: &N,
+    alloc: Global,
+    input: R,
+    port: u16,
+    silence: Duration,
+) -> io::Result<()> {
+    let address = SocketAddr::from((Ipv4Addr::LOCALHOST, port));
+    let mut listener = TcpListener::bind(rt, address)?;
+    let mut bell = Bell::new(rt, alloc)?;
+    bell.registry()
+        .register(&mut listener, DOOR, Interest::READABLE)?;
+    let mut host = Host::new(input);
+    if !host.watch(bell.registry(), HOST) {
+        return Ok(());
+    }
+    let farewell = farewell(alloc)?;
+    let mut studio = Studio {
+        alloc,
+        canvas: Canvas::new(alloc)?,
+        guests: Slab::new(alloc),
+        silence,
+        now: Duration::ZERO,
+        spare: Poll::new(rt).ok(),
+    };
+    let kept = keep_open(rt, &mut studio, &listener, &mut host, &mut bell);
+    let closed = close(rt, &mut studio, &farewell, &mut bell);
+    kept?;
+    closed
 }
