@@ -5,7 +5,7 @@ use Rattle.line_editor.specs.declared.places.Target.{Target}
 use Rattle.line_editor.specs.Splits.{Split}
 use Rattle.line_editor.specs.Edits.{cut_text, empty_line, erased, inserted, meeting, transposed}
 use Rattle.line_editor.specs.Shown.{is_shown}
-use Rattle.line_editor.specs.States.{EditorState, changed, erase_cut, fresh, joined, kept_by, kill_cut, redo_to, transpose_at, type_char, after_typing, undo_to, write}
+use Rattle.line_editor.specs.States.{EditorState, changed, erase_cut, fresh, kill_text, kept_by, kill_cut, redo_to, transpose_at, type_char, after_typing, undo_to, write}
 use Rattle.line_editor.specs.inside.Changes.{DraftState, draft_changed, draft_redone, draft_typed, draft_undone}
 use Rattle.line_editor.specs.declared.limits.Limits.{Limits}
 
@@ -59,11 +59,11 @@ module _ (target : Target) (w : EditorState) (d : Split) (text : List ℕ) (same
     erase_some =
         ap (λ (l : Split). changed l w) (f ∙ ap (erased target) (sym same)) ∙ sym (ap (λ t. erase_cut t target w) (sym is_cut ∙ some))
 
-    pub kill_some : (killed : List ℕ) (v : EditorState) → killed ≡ joined target text (kept_by w.last w.killed) → v ≡ changed line w
+    pub kill_some : (killed : List ℕ) (v : EditorState) → killed ≡ kill_text target text (kept_by w.last w.killed) → v ≡ changed line w
         → record v { killed = killed } ≡ kill_cut (cut_text target w.line) target w
     kill_some killed v k g =
         ap (λ (x : EditorState). record x { killed = killed }) (g ∙ ap (λ (l : Split). changed l w) (f ∙ ap (erased target) (sym same)))
-        ∙ ap (λ t. record (changed (erased target w.line) w) { killed = t }) (k ∙ ap (λ t. joined target t (kept_by w.last w.killed)) some)
+        ∙ ap (λ t. record (changed (erased target w.line) w) { killed = t }) (k ∙ ap (λ t. kill_text target t (kept_by w.last w.killed)) some)
         ∙ sym (ap (λ t. kill_cut t target w) (sym is_cut ∙ some))
 
 -- A text that is to be written, as it is at hand.

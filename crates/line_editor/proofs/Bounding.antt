@@ -20,7 +20,7 @@ use Rattle.line_editor.specs.History.{loaded_line, has_room, lines_of, loaded}
 use Rattle.line_editor.specs.Places.{target_place}
 use Rattle.line_editor.specs.Shown.{AreShown, blanked, is_shown, pasted_part, shown_part}
 use Rattle.line_editor.specs.Splits.{Split, line_text}
-use Rattle.line_editor.specs.States.{EditorState, acted, after, changed, dropped, erase_cut, found, found_line, fresh, joined, kept_by, kill_cut, last_of, left_for, moved, newer_from, newer_line, newer_to, older_to, redo_to, remembered, searched_to, sought, transpose_at, type_char, after_typing, undo_to, unfinished_at, write}
+use Rattle.line_editor.specs.States.{EditorState, acted, after, changed, dropped, erase_cut, found, found_line, fresh, kill_text, kept_by, kill_cut, last_after, left_for, moved, newer_from, newer_line, newer_to, older_to, redo_to, remembered, searched_to, sought, transpose_at, type_char, after_typing, undo_to, unfinished_at, write}
 use Rattle.line_editor.specs.Tasks.{Task, Acts, Pastes, Accepts, LetsGo, Loads, Closes, Nothing, done, task_text}
 use Rattle.line_editor.proofs.Held.{Found, all-drop, all-get, all-take, cut-shown, end-after, found-held, held-erased, held-found, held-inserted, held-moved, held-same, held-transposed}
 use Rattle.line_editor.proofs.Keeping.{keeps_text}
@@ -141,7 +141,7 @@ module _ (w : EditorState) (h : IsBounded w) where
   kept-shown Walked = refl
   kept-shown Killed = h.killed
 
-  joined-shown : (target : Target) (text kept : List ℕ) → AreShown text → AreShown kept → AreShown (joined target text kept)
+  joined-shown : (target : Target) (text kept : List ℕ) → AreShown text → AreShown kept → AreShown (kill_text target text kept)
   joined-shown (Back stop) text kept k l = shown-append text kept k l
   joined-shown (Forward stop) text kept k l = shown-append kept text l k
 
@@ -247,7 +247,7 @@ module _ (w : EditorState) (h : IsBounded w) where
       bounded-search (found w) (found-held w.limits (sought w) (line_text w.line) w.back (drop w.back w.history) (all-drop w.limits w.history w.back h.history))
 
   bounded-after : (action : Action) → is_too_long (written action w) w ≡ false → IsBounded (after action w)
-  bounded-after action room = bounded-last (acted action w) (last_of action w) (bounded-acted action room)
+  bounded-after action room = bounded-last (acted action w) (last_after action w) (bounded-acted action room)
 
   -- ---- lines that go
 

@@ -12,21 +12,21 @@ use Rattle.line_editor.specs.Edits.{IsSettled, line_with}
 use Rattle.line_editor.specs.Recent.{rest_of}
 use Rattle.line_editor.specs.Shown.{AreShown}
 use Rattle.line_editor.specs.Splits.{Split, split_at}
-use Rattle.line_editor.specs.inside.Changes.{AllFit, EndsBy, Fits, Splice, TakesBack, bytes_before, bytes_of, ended, first_ended, first_reached, lines_by, reached, spliced}
+use Rattle.line_editor.specs.inside.Changes.{AllFit, EndsBy, Fits, Splice, TakesBack, bytes_before, line_bytes, ended, first_ended, first_reached, lines_by, reached, spliced}
 use Rattle.line_editor.proofs.Settling.{text_of-split_at}
 
 -- The bytes of a line, and how many are before its cursor.
 module _ (text : List ℕ) (at : ℕ) (u : IsUtf8 text) (b : IsCharBoundary text at) where
-  pub bytes_of-split : bytes_of (split_at text at) ≡ text
-  bytes_of-split = ap encode_utf8_all (text_of-split_at text at u b) ∙ encodes-chars text u
+  pub line_bytes-split : line_bytes (split_at text at) ≡ text
+  line_bytes-split = ap encode_utf8_all (text_of-split_at text at u b) ∙ encodes-chars text u
 
   pub before-split : bytes_before (split_at text at) ≡ at
   before-split =
       ap size (reverse-reverse (chars (take at text))) ∙ ap length (encodes-chars (take at text) (IsUtf8-take text at u b))
       ∙ length-take-le at text b.0
 
-  pub bytes_of-line : (d : Split) → split_at text at ≡ d → bytes_of d ≡ text
-  bytes_of-line d e = ap bytes_of (sym e) ∙ bytes_of-split
+  pub line_bytes-line : (d : Split) → split_at text at ≡ d → line_bytes d ≡ text
+  line_bytes-line d e = ap line_bytes (sym e) ∙ line_bytes-split
 
   pub before-line : (d : Split) → split_at text at ≡ d → bytes_before d ≡ at
   before-line d e = ap bytes_before (sym e) ∙ before-split
@@ -69,17 +69,17 @@ module _ (text with new part : List ℕ) (from to end at : ℕ)
       subst P both (IsCharBoundary-at_seam new (take from text ++ with) (drop to text) e (IsUtf8-drop text to u b))
 
   pub takes_back : (d w : Split) → split_at text at ≡ d → IsCharBoundary text at → IsSettled (split_at text at) → AreShown (chars text)
-      → bytes_of w ≡ new → TakesBack back d w
+      → line_bytes w ≡ new → TakesBack back d w
   takes_back d w is place settled shown same =
-      let P : List ℕ → Type 0 = λ t. IsUtf8 t × IsCharBoundary t at × IsSettled (split_at t at) × AreShown (chars t) × (bytes_of d ≡ t) × (split_at t at ≡ d) in
-      let facts : P (spliced back new) = subst P (sym spliced-back) (u, place, settled, shown, bytes_of-line text at u place d is, is) in
-      let made : (Fits new back × (spliced back new ≡ bytes_of d) × (split_at (spliced back new) at ≡ d)) = (
+      let P : List ℕ → Type 0 = λ t. IsUtf8 t × IsCharBoundary t at × IsSettled (split_at t at) × AreShown (chars t) × (line_bytes d ≡ t) × (split_at t at ≡ d) in
+      let facts : P (spliced back new) = subst P (sym spliced-back) (u, place, settled, shown, line_bytes-line text at u place d is, is) in
+      let made : (Fits new back × (spliced back new ≡ line_bytes d) × (split_at (spliced back new) at ≡ d)) = (
         record { order = omega (arith, width, both, length-append (take from text) with); from = new-from; to = new-to; utf8 = facts.0; at = facts.1; settled = facts.2; shown = facts.3 },
         sym facts.4,
         facts.5,
       ) in
-      let Q : List ℕ → Type 0 = λ t. Fits t back × (spliced back t ≡ bytes_of d) × (split_at (spliced back t) at ≡ d) in
-      let there : Q (bytes_of w) = subst Q (sym same) made in
+      let Q : List ℕ → Type 0 = λ t. Fits t back × (spliced back t ≡ line_bytes d) × (split_at (spliced back t) at ≡ d) in
+      let there : Q (line_bytes w) = subst Q (sym same) made in
       record { fits = there.0; text = there.1; line = there.2 }
 
 -- Some of the changes.
@@ -95,15 +95,15 @@ AllFit-take (suc n) text (c ∷ changes) h = (h.0, AllFit-take n (spliced c text
 
 -- One change more.
 module _ (c : Splice) (d w : Split) (h : TakesBack c d w) (changes : List Splice) where
-  pub fit_more : AllFit (bytes_of d) changes → AllFit (bytes_of w) (c ∷ changes)
+  pub fit_more : AllFit (line_bytes d) changes → AllFit (line_bytes w) (c ∷ changes)
   fit_more f = let P : List ℕ → Type 0 = λ t. AllFit t changes in (h.fits, subst P (sym h.text) f)
 
-  pub lines_more : lines_by (bytes_of w) (c ∷ changes) ≡ d ∷ lines_by (bytes_of d) changes
-  lines_more = ap (λ (l : Split). l ∷ lines_by (spliced c (bytes_of w)) changes) h.line ∙ ap (λ t. d ∷ lines_by t changes) h.text
+  pub lines_more : lines_by (line_bytes w) (c ∷ changes) ≡ d ∷ lines_by (line_bytes d) changes
+  lines_more = ap (λ (l : Split). l ∷ lines_by (spliced c (line_bytes w)) changes) h.line ∙ ap (λ t. d ∷ lines_by t changes) h.text
 
 -- A change that is done leads on to those behind it.
-pub bytes_of-done : (text : List ℕ) (c : Splice) → Fits text c → bytes_of (split_at (spliced c text) c.at) ≡ spliced c text
-bytes_of-done text c h = bytes_of-split (spliced c text) c.at h.utf8 h.at
+pub line_bytes-done : (text : List ℕ) (c : Splice) → Fits text c → line_bytes (split_at (spliced c text) c.at) ≡ spliced c text
+line_bytes-done text c h = line_bytes-split (spliced c text) c.at h.utf8 h.at
 
 -- A text whose front and back are those of another one, and a change of that one, as one of this.
 module _ (text new : List ℕ) (at end : ℕ) (c : Splice) (front : take at new ≡ take at text) (last : drop end new ≡ drop at text)
@@ -165,39 +165,39 @@ ends-grown text at end place (c ∷ changes) le = le
 
 -- The same changes, of a line's own text.
 module _ (text : List ℕ) (at : ℕ) (d : Split) (u : IsUtf8 text) (b : IsCharBoundary text at) (here : split_at text at ≡ d) where
-  pub Fits-here : (c s : Splice) → c ≡ s → Fits (bytes_of d) s → Fits text c
+  pub Fits-here : (c s : Splice) → c ≡ s → Fits (line_bytes d) s → Fits text c
   Fits-here c s e h =
       let P : List ℕ → Type 0 = λ t. Fits t s in
       let Q : Splice → Type 0 = λ x. Fits text x in
-      subst Q (sym e) (subst P (bytes_of-line text at u b d here) h)
+      subst Q (sym e) (subst P (line_bytes-line text at u b d here) h)
 
-  pub boundary-here : (place : ℕ) → IsCharBoundary (bytes_of d) place → IsCharBoundary text place
-  boundary-here place h = let P : List ℕ → Type 0 = λ t. IsCharBoundary t place in subst P (bytes_of-line text at u b d here) h
+  pub boundary-here : (place : ℕ) → IsCharBoundary (line_bytes d) place → IsCharBoundary text place
+  boundary-here place h = let P : List ℕ → Type 0 = λ t. IsCharBoundary t place in subst P (line_bytes-line text at u b d here) h
 
   pub done-here : (new : List ℕ) (c s : Splice) → c ≡ s → new ≡ spliced c text
-      → split_at new c.at ≡ split_at (spliced s (bytes_of d)) s.at
+      → split_at new c.at ≡ split_at (spliced s (line_bytes d)) s.at
   done-here new c s e f =
       ap (λ t. split_at t c.at) f ∙ ap (λ (x : Splice). split_at (spliced x text) x.at) e
-      ∙ ap (λ t. split_at (spliced s t) s.at) (sym (bytes_of-line text at u b d here))
+      ∙ ap (λ t. split_at (spliced s t) s.at) (sym (line_bytes-line text at u b d here))
 
-  pub boundary-there : (place : ℕ) → IsCharBoundary text place → IsCharBoundary (bytes_of d) place
-  boundary-there place h = let P : List ℕ → Type 0 = λ t. IsCharBoundary t place in subst P (sym (bytes_of-line text at u b d here)) h
+  pub boundary-there : (place : ℕ) → IsCharBoundary text place → IsCharBoundary (line_bytes d) place
+  boundary-there place h = let P : List ℕ → Type 0 = λ t. IsCharBoundary t place in subst P (sym (line_bytes-line text at u b d here)) h
 
-  pub place-there : split_at (bytes_of d) at ≡ d
-  place-there = ap (λ t. split_at t at) (bytes_of-line text at u b d here) ∙ here
+  pub place-there : split_at (line_bytes d) at ≡ d
+  place-there = ap (λ t. split_at t at) (line_bytes-line text at u b d here) ∙ here
 
   pub joined-there : (from to : ℕ) (with : List ℕ)
-      → line_with (split_at text from) with (split_at text to) ≡ line_with (split_at (bytes_of d) from) with (split_at (bytes_of d) to)
-  joined-there from to with = ap (λ t. line_with (split_at t from) with (split_at t to)) (sym (bytes_of-line text at u b d here))
+      → line_with (split_at text from) with (split_at text to) ≡ line_with (split_at (line_bytes d) from) with (split_at (line_bytes d) to)
+  joined-there from to with = ap (λ t. line_with (split_at t from) with (split_at t to)) (sym (line_bytes-line text at u b d here))
 
-  pub inserted-there : (with : List ℕ) → insert_slice text at with ≡ insert_slice (bytes_of d) (bytes_before d) with
+  pub inserted-there : (with : List ℕ) → insert_slice text at with ≡ insert_slice (line_bytes d) (bytes_before d) with
   inserted-there with =
-      ap (λ t. insert_slice t at with) (sym (bytes_of-line text at u b d here))
-      ∙ ap (λ n. insert_slice (bytes_of d) n with) (sym (before-line text at u b d here))
+      ap (λ t. insert_slice t at with) (sym (line_bytes-line text at u b d here))
+      ∙ ap (λ n. insert_slice (line_bytes d) n with) (sym (before-line text at u b d here))
 
 -- A line in place of a whole other one.
 pub whole_back : (text with part : List ℕ) (end at : ℕ) (d w : Split) → IsUtf8 text → IsUtf8 with → part ≡ text → end ≡ length with
-    → split_at text at ≡ d → IsCharBoundary text at → IsSettled (split_at text at) → AreShown (chars text) → bytes_of w ≡ with
+    → split_at text at ≡ d → IsCharBoundary text at → IsSettled (split_at text at) → AreShown (chars text) → line_bytes w ≡ with
     → TakesBack (record { from = 0; to = end; text = part; at = at }) d w
 whole_back text with part end at d w u v f g is place settled shown same =
     let all : drop (length text) text ≡ [] = drop_all (length text) text (omega arith) in
@@ -215,11 +215,11 @@ first_item (y ∷ items) x some e = ap (λ z. z ∷ items) (sym e)
 
 module _ (text : List ℕ) (items rest : List Splice) (c : Splice) (w : Split) (e : items ≡ c ∷ rest) (f : AllFit text items)
     (n : w ≡ split_at (spliced c text) c.at) where
-  after-done : bytes_of w ≡ spliced c text
-  after-done = ap bytes_of n ∙ bytes_of-done text c (subst (AllFit text) e f).0
+  after-done : line_bytes w ≡ spliced c text
+  after-done = ap line_bytes n ∙ line_bytes-done text c (subst (AllFit text) e f).0
 
-  pub lines-done : lines_by (bytes_of w) rest ≡ rest_of (lines_by text items)
+  pub lines-done : lines_by (line_bytes w) rest ≡ rest_of (lines_by text items)
   lines-done = ap (λ t. lines_by t rest) after-done ∙ sym (ap (λ l. rest_of (lines_by text l)) e)
 
-  pub fit-done : AllFit (bytes_of w) rest
+  pub fit-done : AllFit (line_bytes w) rest
   fit-done = let P : List ℕ → Type 0 = λ t. AllFit t rest in subst P (sym after-done) (subst (AllFit text) e f).1

@@ -10,18 +10,18 @@ use Rattle.line_editor.specs.Edits.{inserted}
 use Rattle.line_editor.specs.Places.{target_place}
 use Rattle.line_editor.specs.Recent.{first_or, pushed_if, rest_of}
 use Rattle.line_editor.specs.Splits.{Split, line_text}
-use Rattle.line_editor.specs.inside.Changes.{AllFit, AreChanges, DraftState, EndsBy, Splice, TakesBack, bytes_before, bytes_of, draft_changed, draft_redone, draft_typed, draft_undone, first_ended, first_reached, lines_by}
+use Rattle.line_editor.specs.inside.Changes.{AllFit, AreChanges, DraftState, EndsBy, Splice, TakesBack, bytes_before, line_bytes, draft_changed, draft_redone, draft_typed, draft_undone, first_ended, first_reached, lines_by}
 use Rattle.line_editor.proofs.Changing.{AllFit-take, ended-reached, ends-grown, fit_more, grown-AllFit, grown-lines, lines_by-take, lines_more}
 use Rattle.line_editor.proofs.Keeping.{keeps_text}
 
--- The state that a line and its changes stand for.
+-- The state of a line with its changes.
 abbrev pub seen : Split → List Splice → List Splice → Bool → DraftState
-seen d past undone typing = record { line = d; past = lines_by (bytes_of d) past; undone = lines_by (bytes_of d) undone; typing = typing }
+seen d past undone typing = record { line = d; past = lines_by (line_bytes d) past; undone = lines_by (line_bytes d) undone; typing = typing }
 
 -- No changes.
 pub none-AreChanges : (d : Split) (past undone : List Splice) (typing : Bool) → past ≡ [] → undone ≡ [] → AreChanges d past undone typing
 none-AreChanges d past undone typing e f =
-    let P : List Splice → Type 0 = λ l. AllFit (bytes_of d) l in
+    let P : List Splice → Type 0 = λ l. AllFit (line_bytes d) l in
     let Q : List Splice → Type 0 = λ l. EndsBy (bytes_before d) l in
     record { back = subst P (sym e) tt; forth = subst P (sym f) tt; typed = λ _. subst Q (sym e) tt }
 
@@ -32,7 +32,7 @@ seen_none d v past undone typing g e f =
 
 -- The cursor elsewhere.
 module _ (target : Target) (d w : Split) (past undone : List Splice) (e : w ≡ target_place target d) where
-  moved-bytes : bytes_of w ≡ bytes_of d
+  moved-bytes : line_bytes w ≡ line_bytes d
   moved-bytes = ap encode_utf8_all (ap line_text e ∙ keeps_text target d)
 
   pub moved-AreChanges : (typing : Bool) → AreChanges d past undone typing → AreChanges w past undone false
@@ -45,7 +45,7 @@ module _ (target : Target) (d w : Split) (past undone : List Splice) (e : w ≡ 
       → seen w past undone false ≡ record s { line = target_place target s.line; typing = false }
   seen_moved typing s is =
       ap (λ t. record { line = w; past = lines_by t past; undone = lines_by t undone; typing = false }) moved-bytes
-      ∙ ap (λ (l : Split). record { line = l; past = lines_by (bytes_of d) past; undone = lines_by (bytes_of d) undone; typing = false }) e
+      ∙ ap (λ (l : Split). record { line = l; past = lines_by (line_bytes d) past; undone = lines_by (line_bytes d) undone; typing = false }) e
       ∙ ap (λ (x : DraftState). record x { line = target_place target x.line; typing = false }) is
 
 EndsBy-take : (n at : ℕ) (c : Splice) (old : List Splice) → c.to ≤ at → EndsBy at (take n (c ∷ old))
@@ -55,20 +55,20 @@ EndsBy-take (suc n) at c old h = h
 -- A change is noted.
 module _ (steps : ℕ) (c : Splice) (d w : Split) (h : TakesBack c d w) (old gone past undone : List Splice) (typed typing : Bool) (f : AreChanges d old gone typed)
     (e : past ≡ take steps (c ∷ old)) (g : undone ≡ []) where
-  noted-lines : lines_by (bytes_of w) past ≡ take steps (d ∷ lines_by (bytes_of d) old)
-  noted-lines = ap (lines_by (bytes_of w)) e ∙ lines_by-take steps (bytes_of w) (c ∷ old) ∙ ap (take steps) (lines_more c d w h old)
+  noted-lines : lines_by (line_bytes w) past ≡ take steps (d ∷ lines_by (line_bytes d) old)
+  noted-lines = ap (lines_by (line_bytes w)) e ∙ lines_by-take steps (line_bytes w) (c ∷ old) ∙ ap (take steps) (lines_more c d w h old)
 
   pub noted-AreChanges : (typing ≡ true → c.to ≤ bytes_before w) → AreChanges w past undone typing
   noted-AreChanges k =
-      let P : List Splice → Type 0 = λ l. AllFit (bytes_of w) l in
+      let P : List Splice → Type 0 = λ l. AllFit (line_bytes w) l in
       let Q : List Splice → Type 0 = λ l. EndsBy (bytes_before w) l in
       record {
-        back = subst P (sym e) (AllFit-take steps (bytes_of w) (c ∷ old) (fit_more c d w h old f.back));
+        back = subst P (sym e) (AllFit-take steps (line_bytes w) (c ∷ old) (fit_more c d w h old f.back));
         forth = subst P (sym g) tt;
         typed = λ sure. subst Q (sym e) (EndsBy-take steps (bytes_before w) c old (k sure));
       }
 
-  seen_noted : seen w past undone typing ≡ record { line = w; past = take steps (d ∷ lines_by (bytes_of d) old); undone = []; typing = typing }
+  seen_noted : seen w past undone typing ≡ record { line = w; past = take steps (d ∷ lines_by (line_bytes d) old); undone = []; typing = typing }
   seen_noted =
       ap (λ l. seen w past l typing) g ∙ ap (λ (l : List Split). record { line = w; past = l; undone = []; typing = typing }) noted-lines
 
@@ -76,7 +76,7 @@ module _ (steps : ℕ) (c : Splice) (d w : Split) (h : TakesBack c d w) (old gon
       → seen w past undone typing ≡ draft_changed steps (edit s.line) s
   seen_changed s is edit same off =
       seen_noted
-      ∙ ap (λ (t : Bool). record { line = w; past = take steps (d ∷ lines_by (bytes_of d) old); undone = []; typing = t }) off
+      ∙ ap (λ (t : Bool). record { line = w; past = take steps (d ∷ lines_by (line_bytes d) old); undone = []; typing = t }) off
       ∙ ap (λ (l : Split). draft_changed steps l (seen d old gone typed)) same
       ∙ ap (λ (x : DraftState). draft_changed steps (edit x.line) x) is
 
@@ -84,15 +84,15 @@ module _ (steps : ℕ) (c : Splice) (d w : Split) (h : TakesBack c d w) (old gon
       → seen w past undone typing ≡ draft_typed steps (edit s.line) s
   seen_typed s is edit same off on =
       seen_noted
-      ∙ ap (λ (t : Bool). record { line = w; past = take steps (d ∷ lines_by (bytes_of d) old); undone = []; typing = t }) on
+      ∙ ap (λ (t : Bool). record { line = w; past = take steps (d ∷ lines_by (line_bytes d) old); undone = []; typing = t }) on
       ∙ ap (λ (l : Split). draft_typed steps l (seen d old gone false)) same
       ∙ ap (λ (t : Bool). draft_typed steps (edit d) (seen d old gone t)) (sym off)
       ∙ ap (λ (x : DraftState). draft_typed steps (edit x.line) x) is
 
 -- A text is typed behind what was typed before.
 module _ (d w : Split) (text with : List ℕ) (at end : ℕ) (u : IsUtf8 text) (v : IsUtf8 with) (same : chars text ≡ line_text d) (here : at ≡ bytes_before d)
-    (there : IsCharBoundary (bytes_of d) at) where
-  text-bytes : text ≡ bytes_of d
+    (there : IsCharBoundary (line_bytes d) at) where
+  text-bytes : text ≡ line_bytes d
   text-bytes = sym (encodes-chars text u) ∙ ap encode_utf8_all same
 
   place : IsCharBoundary text at
@@ -101,7 +101,7 @@ module _ (d w : Split) (text with : List ℕ) (at end : ℕ) (u : IsUtf8 text) (
   pub reached-boundary : IsCharBoundary text at
   reached-boundary = place
 
-  pub reached-fit : (past : List Splice) → AllFit (bytes_of d) past → AllFit text past
+  pub reached-fit : (past : List Splice) → AllFit (line_bytes d) past → AllFit text past
   reached-fit past h = let P : List ℕ → Type 0 = λ t. AllFit t past in subst P (sym text-bytes) h
 
   pub reached-ends : (past : List Splice) → EndsBy (bytes_before d) past → EndsBy at past
@@ -133,13 +133,13 @@ module _ (d w : Split) (text with : List ℕ) (at end : ℕ) (u : IsUtf8 text) (
     seen_reached w past undone g e k s is =
         let lines : lines_by text past ≡ lines_by text old =
         ap (lines_by text) (e ∙ sym (ended-reached text at old)) ∙ grown-lines text text at at refl refl (omega arith) u u place old ends fit in
-        let lines-d : lines_by (bytes_of d) past ≡ lines_by (bytes_of d) old =
+        let lines-d : lines_by (line_bytes d) past ≡ lines_by (line_bytes d) old =
         ap (λ t. lines_by t past) (sym text-bytes) ∙ lines ∙ ap (λ t. lines_by t old) text-bytes in
         ap (λ (x : Split). seen x past undone typing) g ∙ ap (λ l. seen d past l typing) k
-        ∙ ap (λ (l : List Split). record { line = d; past = l; undone = lines_by (bytes_of d) gone; typing = typing }) lines-d ∙ is
+        ∙ ap (λ (l : List Split). record { line = d; past = l; undone = lines_by (line_bytes d) gone; typing = typing }) lines-d ∙ is
 
-    module _ (e : bytes_of w ≡ insert_slice (bytes_of d) (bytes_before d) with) (g : end ≡ bytes_before d + length with) where
-      new-is : bytes_of w ≡ (take at text ++ with) ++ drop at text
+    module _ (e : line_bytes w ≡ insert_slice (line_bytes d) (bytes_before d) with) (g : end ≡ bytes_before d + length with) where
+      new-is : line_bytes w ≡ (take at text ++ with) ++ drop at text
       new-is =
           e ∙ ap (λ t. insert_slice t (bytes_before d) with) (sym text-bytes) ∙ ap (λ n. insert_slice text n with) (sym here)
 
@@ -149,32 +149,32 @@ module _ (d w : Split) (text with : List ℕ) (at end : ℕ) (u : IsUtf8 text) (
       both : length (take at text ++ with) ≡ end
       both = omega (arith, length-append (take at text) with, width, here, g)
 
-      front : take at (bytes_of w) ≡ take at text
+      front : take at (line_bytes w) ≡ take at text
       front =
           ap (take at) (new-is ∙ append_assoc (take at text) with (drop at text)) ∙ take_at (take at text) (with ++ drop at text) at width
 
-      last : drop end (bytes_of w) ≡ drop at text
+      last : drop end (line_bytes w) ≡ drop at text
       last = ap (drop end) new-is ∙ drop_at (take at text ++ with) (drop at text) end both
 
       on : at ≤ end
       on = omega (arith, here, g)
 
-      new-utf8 : IsUtf8 (bytes_of w)
+      new-utf8 : IsUtf8 (line_bytes w)
       new-utf8 =
           subst IsUtf8 (sym new-is) (IsUtf8-append (take at text ++ with) (drop at text) (IsUtf8-append (take at text) with (IsUtf8-take text at u place) v) (IsUtf8-drop text at u place))
 
-      new-boundary : IsCharBoundary (bytes_of w) end
+      new-boundary : IsCharBoundary (line_bytes w) end
       new-boundary =
-          let P : ℕ → Type 0 = λ n. IsCharBoundary (bytes_of w) n in
-          subst P both (IsCharBoundary-at_seam (bytes_of w) (take at text ++ with) (drop at text) new-is (IsUtf8-drop text at u place))
+          let P : ℕ → Type 0 = λ n. IsCharBoundary (line_bytes w) n in
+          subst P both (IsCharBoundary-at_seam (line_bytes w) (take at text ++ with) (drop at text) new-is (IsUtf8-drop text at u place))
 
       pub grown-AreChanges : (past undone : List Splice) → past ≡ first_ended end (first_reached text at old) → undone ≡ [] → end ≤ bytes_before w
           → AreChanges w past undone typing
       grown-AreChanges past undone k n le =
-          let P : List Splice → Type 0 = λ l. AllFit (bytes_of w) l in
+          let P : List Splice → Type 0 = λ l. AllFit (line_bytes w) l in
           let Q : List Splice → Type 0 = λ l. EndsBy (bytes_before w) l in
           record {
-            back = subst P (sym k) (grown-AllFit text (bytes_of w) at end front last on u new-utf8 new-boundary old ends fit);
+            back = subst P (sym k) (grown-AllFit text (line_bytes w) at end front last on u new-utf8 new-boundary old ends fit);
             forth = subst P (sym n) tt;
             typed = λ _. subst Q (sym k) (ends-grown text at end (bytes_before w) old le);
           }
@@ -182,11 +182,11 @@ module _ (d w : Split) (text with : List ℕ) (at end : ℕ) (u : IsUtf8 text) (
       pub seen_grown : (past undone : List Splice) → past ≡ first_ended end (first_reached text at old) → undone ≡ [] → (s : DraftState) → seen d old gone typing ≡ s
           → w ≡ inserted (chars with) d → seen w past undone typing ≡ record s { line = inserted (chars with) s.line; undone = [] }
       seen_grown past undone k n s is made =
-          let lines : lines_by (bytes_of w) past ≡ lines_by (bytes_of d) old =
-          ap (lines_by (bytes_of w)) k ∙ grown-lines text (bytes_of w) at end front last on u new-utf8 new-boundary old ends fit
+          let lines : lines_by (line_bytes w) past ≡ lines_by (line_bytes d) old =
+          ap (lines_by (line_bytes w)) k ∙ grown-lines text (line_bytes w) at end front last on u new-utf8 new-boundary old ends fit
           ∙ ap (λ t. lines_by t old) text-bytes in
           ap (λ l. seen w past l typing) n ∙ ap (λ (l : List Split). record { line = w; past = l; undone = []; typing = typing }) lines
-          ∙ ap (λ (x : Split). record { line = x; past = lines_by (bytes_of d) old; undone = []; typing = typing }) made
+          ∙ ap (λ (x : Split). record { line = x; past = lines_by (line_bytes d) old; undone = []; typing = typing }) made
           ∙ ap (λ (x : DraftState). record x { line = inserted (chars with) x.line; undone = [] }) is
 
 pub typed_more : (steps : ℕ) (d : Split) (s : DraftState) → s.typing ≡ true → record s { line = d; undone = [] } ≡ draft_typed steps d s
@@ -201,44 +201,44 @@ module _ (d : Split) (old gone : List Splice) (typing : Bool) (s : DraftState) (
   pub undone_none : length old ≡ 0 → s ≡ draft_undone s.past s
   undone_none none =
       let nothing : old ≡ [] = nil-from_length old none in
-      let e : s.past ≡ [] = ap (λ (x : DraftState). x.past) (sym is) ∙ ap (lines_by (bytes_of d)) nothing in
+      let e : s.past ≡ [] = ap (λ (x : DraftState). x.past) (sym is) ∙ ap (lines_by (line_bytes d)) nothing in
       sym (ap (λ (l : List Split). draft_undone l s) e)
 
   pub redone_none : length gone ≡ 0 → s ≡ draft_redone s.undone s
   redone_none none =
       let nothing : gone ≡ [] = nil-from_length gone none in
-      let e : s.undone ≡ [] = ap (λ (x : DraftState). x.undone) (sym is) ∙ ap (lines_by (bytes_of d)) nothing in
+      let e : s.undone ≡ [] = ap (λ (x : DraftState). x.undone) (sym is) ∙ ap (lines_by (line_bytes d)) nothing in
       sym (ap (λ (l : List Split). draft_redone l s) e)
 
 undone_parts : (c : Splice) (changes : List Splice) (d : Split) (gone : List Splice) (typing : Bool) (w : Split) (past undone : List Split)
-    → w ≡ first_or d (lines_by (bytes_of d) (c ∷ changes)) → past ≡ rest_of (lines_by (bytes_of d) (c ∷ changes))
-    → undone ≡ pushed_if (lines_by (bytes_of d) (c ∷ changes)) d (lines_by (bytes_of d) gone)
-    → record { line = w; past = past; undone = undone; typing = false } ≡ draft_undone (lines_by (bytes_of d) (c ∷ changes)) (seen d (c ∷ changes) gone typing)
+    → w ≡ first_or d (lines_by (line_bytes d) (c ∷ changes)) → past ≡ rest_of (lines_by (line_bytes d) (c ∷ changes))
+    → undone ≡ pushed_if (lines_by (line_bytes d) (c ∷ changes)) d (lines_by (line_bytes d) gone)
+    → record { line = w; past = past; undone = undone; typing = false } ≡ draft_undone (lines_by (line_bytes d) (c ∷ changes)) (seen d (c ∷ changes) gone typing)
 undone_parts c changes d gone typing w past undone e f g = rw (e, f, g) refl
 
 pub seen_undone : (d : Split) (old gone : List Splice) (typing : Bool) (s : DraftState) → seen d old gone typing ≡ s → (length old ≡ 0 → ⊥)
-    → (w : Split) (past undone : List Splice) → w ≡ first_or d (lines_by (bytes_of d) old) → lines_by (bytes_of w) past ≡ rest_of (lines_by (bytes_of d) old)
-    → lines_by (bytes_of w) undone ≡ pushed_if (lines_by (bytes_of d) old) d (lines_by (bytes_of d) gone)
+    → (w : Split) (past undone : List Splice) → w ≡ first_or d (lines_by (line_bytes d) old) → lines_by (line_bytes w) past ≡ rest_of (lines_by (line_bytes d) old)
+    → lines_by (line_bytes w) undone ≡ pushed_if (lines_by (line_bytes d) old) d (lines_by (line_bytes d) gone)
     → seen w past undone false ≡ draft_undone s.past s
 seen_undone d [] gone typing s is some w past undone e f g = absurd (some refl)
 seen_undone d (c ∷ changes) gone typing s is some w past undone e f g =
     undone_parts c changes d gone typing w _ _ e f g ∙ ap (λ (x : DraftState). draft_undone x.past x) is
 
 redone_parts : (c : Splice) (changes : List Splice) (d : Split) (old : List Splice) (typing : Bool) (w : Split) (past undone : List Split)
-    → w ≡ first_or d (lines_by (bytes_of d) (c ∷ changes)) → undone ≡ rest_of (lines_by (bytes_of d) (c ∷ changes))
-    → past ≡ pushed_if (lines_by (bytes_of d) (c ∷ changes)) d (lines_by (bytes_of d) old)
-    → record { line = w; past = past; undone = undone; typing = false } ≡ draft_redone (lines_by (bytes_of d) (c ∷ changes)) (seen d old (c ∷ changes) typing)
+    → w ≡ first_or d (lines_by (line_bytes d) (c ∷ changes)) → undone ≡ rest_of (lines_by (line_bytes d) (c ∷ changes))
+    → past ≡ pushed_if (lines_by (line_bytes d) (c ∷ changes)) d (lines_by (line_bytes d) old)
+    → record { line = w; past = past; undone = undone; typing = false } ≡ draft_redone (lines_by (line_bytes d) (c ∷ changes)) (seen d old (c ∷ changes) typing)
 redone_parts c changes d old typing w past undone e f g = rw (e, f, g) refl
 
 pub seen_redone : (d : Split) (old gone : List Splice) (typing : Bool) (s : DraftState) → seen d old gone typing ≡ s → (length gone ≡ 0 → ⊥)
-    → (w : Split) (past undone : List Splice) → w ≡ first_or d (lines_by (bytes_of d) gone) → lines_by (bytes_of w) undone ≡ rest_of (lines_by (bytes_of d) gone)
-    → lines_by (bytes_of w) past ≡ pushed_if (lines_by (bytes_of d) gone) d (lines_by (bytes_of d) old)
+    → (w : Split) (past undone : List Splice) → w ≡ first_or d (lines_by (line_bytes d) gone) → lines_by (line_bytes w) undone ≡ rest_of (lines_by (line_bytes d) gone)
+    → lines_by (line_bytes w) past ≡ pushed_if (lines_by (line_bytes d) gone) d (lines_by (line_bytes d) old)
     → seen w past undone false ≡ draft_redone s.undone s
 seen_redone d old [] typing s is some w past undone e f g = absurd (some refl)
 seen_redone d old (c ∷ changes) typing s is some w past undone e f g =
     redone_parts c changes d old typing w _ _ e f g ∙ ap (λ (x : DraftState). draft_redone x.undone x) is
 
-pub stepped-AreChanges : (w : Split) (past undone : List Splice) → AllFit (bytes_of w) past → AllFit (bytes_of w) undone → AreChanges w past undone false
+pub stepped-AreChanges : (w : Split) (past undone : List Splice) → AllFit (line_bytes w) past → AllFit (line_bytes w) undone → AreChanges w past undone false
 stepped-AreChanges w past undone f g = record { back = f; forth = g; typed = λ off. absurd (false≢true off) }
 
 -- What is so anyhow is so on an error.

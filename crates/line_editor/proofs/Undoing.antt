@@ -13,7 +13,7 @@ use Rattle.line_editor.specs.Splits.{Split, line_text}
 use Rattle.line_editor.specs.Edits.{cut_text, meeting}
 use Rattle.line_editor.specs.Laws.{ArePlain, CanBeUndone, IsNoUndo, KeepsHistory, RedoesUndone, undo_times}
 use Rattle.line_editor.specs.Shown.{is_shown}
-use Rattle.line_editor.specs.States.{EditorState, acted, after, erase_cut, found, kill_cut, last_of, newer_from, newer_line, newer_to, older_to, pushed, redo_to, run_actions, searched_to, transpose_at, type_char, after_typing, undo_to, write}
+use Rattle.line_editor.specs.States.{EditorState, acted, after, erase_cut, found, kill_cut, last_after, newer_from, newer_line, newer_to, older_to, pushed, redo_to, run_actions, searched_to, transpose_at, type_char, after_typing, undo_to, write}
 use Rattle.line_editor.proofs.Keeping.{keeps_text}
 
 -- ---- history
@@ -211,7 +211,7 @@ leads-last text past n w last h = record { extra = h.extra; lines = h.lines; end
 
 pub leads-after : (text : List ℕ) (past : List Split) (n : ℕ) (w : EditorState) → Leads text past (suc n) w → (action : Action) → IsNoUndo action
     → Leads text past n (after action w)
-leads-after text past n w h action f = leads-last text past n (acted action w) (last_of action w) (leads-acted text past n w h action f)
+leads-after text past n w h action f = leads-last text past n (acted action w) (last_after action w) (leads-acted text past n w h action f)
 
 pub leads-run : (text : List ℕ) (past : List Split) (actions : List Action) (w : EditorState) → ArePlain actions → Leads text past (length actions) w
     → Leads text past 0 (run_actions actions w)

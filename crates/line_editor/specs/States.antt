@@ -91,21 +91,21 @@ abbrev pub erase_cut : List ℕ → Target → EditorState → EditorState
 erase_cut [] target w = w
 erase_cut (c ∷ text) target w = changed (erased target w.line) w
 
--- The text to which that of a kill is joined: what was killed, if the last action was a kill.
+-- The text to which that of a kill is kill_text: what was killed, if the last action was a kill.
 abbrev pub kept_by : Last → List ℕ → List ℕ
 kept_by Killed killed = killed
 kept_by last killed = []
 
--- A text that was cut, joined to another one in the direction in which it was cut.
-abbrev pub joined : Target → List ℕ → List ℕ → List ℕ
-joined (Back stop) text kept = text ++ kept
-joined (Forward stop) text kept = kept ++ text
+-- A text that was cut, kill_text to another one in the direction in which it was cut.
+abbrev pub kill_text : Target → List ℕ → List ℕ → List ℕ
+kill_text (Back stop) text kept = text ++ kept
+kill_text (Forward stop) text kept = kept ++ text
 
 -- The editor after the part that a target reaches is erased and kept as killed. An empty part does nothing.
 abbrev pub kill_cut : List ℕ → Target → EditorState → EditorState
 kill_cut [] target w = w
 kill_cut (c ∷ text) target w =
-    record (changed (erased target w.line) w) { killed = joined target (c ∷ text) (kept_by w.last w.killed) }
+    record (changed (erased target w.line) w) { killed = kill_text target (c ∷ text) (kept_by w.last w.killed) }
 
 -- The editor after two clusters are transposed. If nothing is before their meeting place, nothing happens.
 abbrev pub transpose_at : List ℕ → EditorState → EditorState
@@ -178,12 +178,12 @@ first_with front shown passed [] = None
 first_with front shown passed (d ∷ lines) =
     rest_or (other_rest front shown (line_text d)) (passed + 1) (first_with front shown (passed + 1) lines)
 
--- The text that a search looks for at the beginning of lines. It is what is before the cursor, or nothing once more
--- after a search for any line.
+-- The text that a search looks for if this text is before the cursor: nothing after a search for any line.
 abbrev pub sought_by : Last → List ℕ → List ℕ
 sought_by Walked text = []
 sought_by last text = text
 
+-- The text that a search looks for at the beginning of lines.
 abbrev pub sought : EditorState → List ℕ
 sought w = sought_by w.last (reverse w.line.before)
 
@@ -238,14 +238,14 @@ is_empty [] = true
 is_empty (c ∷ text) = false
 
 -- What an action is to the next one. A kill that cuts nothing is no kill.
-abbrev pub last_of : Action → EditorState → Last
-last_of does.Search w = if is_empty (sought w) then Walked else Other
-last_of (does.Kill target) w = if is_empty (cut_text target w.line) then Other else Killed
-last_of action w = Other
+abbrev pub last_after : Action → EditorState → Last
+last_after does.Search w = if is_empty (sought w) then Walked else Other
+last_after (does.Kill target) w = if is_empty (cut_text target w.line) then Other else Killed
+last_after action w = Other
 
 -- The editor after an action.
 abbrev pub after : Action → EditorState → EditorState
-after action w = record (acted action w) { last = last_of action w }
+after action w = record (acted action w) { last = last_after action w }
 
 -- The action only moves the cursor.
 abbrev pub IsMove : Action → Type 0

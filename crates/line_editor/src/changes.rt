@@ -1,9 +1,9 @@
-//! Changes of a line: each says what to put where, so that the line is again as it was.
+//! Changes of a line. Each turns the line back into the one before it.
 ghost use Rattle.std.specs.Prelude.{◌≡◌, ◌≤◌, ◌<◌, ◌∷◌, OnErr, OnOk, length, take};
 ghost use Rattle.std.specs.VecDeque.{deque_capacity, deque_len};
 ghost use Rattle.std.specs.Str.{IsCharBoundary};
 ghost use Rattle.line_editor.specs.Recent.{first_or, pushed_if, rest_of};
-ghost use Rattle.line_editor.specs.inside.Changes.{AllFit, EndsBy, bytes_of, ended, first_ended, first_reached, lines_by, reached};
+ghost use Rattle.line_editor.specs.inside.Changes.{AllFit, EndsBy, line_bytes, ended, first_ended, first_reached, lines_by, reached};
 
 use crate::lines::Line;
 use std::alloc::{AllocError, Allocator, Global};
@@ -107,14 +107,14 @@ pub(crate) fn step<A: Allocator + Clone>(
     changes: &mut VecDeque<Change<A>, A>,
     others: &mut VecDeque<Change<A>, A>,
 ) -> Result<(), AllocError>
-    requires changes { AllFit (bytes_of line.old) changes.old.items }
-    requires others { AllFit (bytes_of line.old) others.old.items }
-    ensures line { OnOk result (line.new ≡ first_or line.old (lines_by (bytes_of line.old) changes.old.items)) }
-    ensures changes { OnOk result (lines_by (bytes_of line.new) changes.new.items ≡ rest_of (lines_by (bytes_of line.old) changes.old.items)) }
-    ensures others { OnOk result (lines_by (bytes_of line.new) others.new.items
-        ≡ pushed_if (lines_by (bytes_of line.old) changes.old.items) line.old (lines_by (bytes_of line.old) others.old.items)) }
-    ensures fit { OnOk result (AllFit (bytes_of line.new) changes.new.items) }
-    ensures fit_others { OnOk result (AllFit (bytes_of line.new) others.new.items) }
+    requires changes { AllFit (line_bytes line.old) changes.old.items }
+    requires others { AllFit (line_bytes line.old) others.old.items }
+    ensures line { OnOk result (line.new ≡ first_or line.old (lines_by (line_bytes line.old) changes.old.items)) }
+    ensures changes { OnOk result (lines_by (line_bytes line.new) changes.new.items ≡ rest_of (lines_by (line_bytes line.old) changes.old.items)) }
+    ensures others { OnOk result (lines_by (line_bytes line.new) others.new.items
+        ≡ pushed_if (lines_by (line_bytes line.old) changes.old.items) line.old (lines_by (line_bytes line.old) others.old.items)) }
+    ensures fit { OnOk result (AllFit (line_bytes line.new) changes.new.items) }
+    ensures fit_others { OnOk result (AllFit (line_bytes line.new) others.new.items) }
     ensures line_err { OnErr result (line.new ≡ line.old) }
     ensures changes_err { OnErr result (changes.new.items ≡ changes.old.items) }
     ensures others_err { OnErr result (others.new.items ≡ others.old.items) }

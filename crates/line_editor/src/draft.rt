@@ -24,14 +24,14 @@ pub(crate) struct Draft<A: Allocator = Global> {
 }
 
 impl<A: Allocator> Model for Draft<A> {
-    ghost use Rattle.line_editor.specs.inside.Changes.{AreChanges, DraftState, bytes_of, lines_by};
+    ghost use Rattle.line_editor.specs.inside.Changes.{AreChanges, DraftState, line_bytes, lines_by};
 
     ghost Value = { DraftState };
 
     ghost view = { λ d. record {
       line = d.line;
-      past = lines_by (bytes_of d.line) d.past.items;
-      undone = lines_by (bytes_of d.line) d.undone.items;
+      past = lines_by (line_bytes d.line) d.past.items;
+      undone = lines_by (line_bytes d.line) d.undone.items;
       typing = d.typing;
     } };
 

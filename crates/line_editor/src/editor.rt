@@ -10,7 +10,7 @@ ghost use Rattle.line_editor.specs.History.{loaded, saved};
 ghost use Rattle.line_editor.specs.Places.{target_place};
 ghost use Rattle.line_editor.specs.Shown.{AreShown, pasted_part};
 ghost use Rattle.line_editor.specs.Splits.{line_text};
-ghost use Rattle.line_editor.specs.States.{IsMove, accepted, acted, after, changed, dropped, erase_cut, found, fresh, joined, kept_by, kill_cut, last_of, left_for, moved, newer_from, newer_line, older_to, pasted_into, redo_to, remembered, run_actions, searched_to, sought, transpose_at, type_char, after_typing, undo_to, write};
+ghost use Rattle.line_editor.specs.States.{IsMove, accepted, acted, after, changed, dropped, erase_cut, found, fresh, kill_text, kept_by, kill_cut, last_after, left_for, moved, newer_from, newer_line, older_to, pasted_into, redo_to, remembered, run_actions, searched_to, sought, transpose_at, type_char, after_typing, undo_to, write};
 
 use crate::actions::Action;
 use crate::draft::Draft;
@@ -239,7 +239,7 @@ impl<A: Allocator + Clone> Editor<A> {
 
     /// The text that a kill keeps.
     fn killed_by(&self, target: Target) -> Result<String<A>, AllocError>
-        ensures text { IfOk result (λ killed. chars (string_bytes killed) ≡ joined target (cut_text target self.now.line) (kept_by self.now.last self.now.killed)) }
+        ensures text { IfOk result (λ killed. chars (string_bytes killed) ≡ kill_text target (cut_text target self.now.line) (kept_by self.now.last self.now.killed)) }
         ensures shown { IfOk result (λ killed. AreShown (chars (string_bytes killed))) }
     {
         let kept = self.kept();
@@ -425,8 +425,8 @@ impl<A: Allocator + Clone> Editor<A> {
     }
 
     /// What an action is to the next one.
-    fn last_of(&self, action: Action) -> Last
-        ensures { result ≡ last_of action self.now }
+    fn last_after(&self, action: Action) -> Last
+        ensures { result ≡ last_after action self.now }
     {
         match action {
             Action::Search if is_nothing(self.sought()) => Last::Walked,
@@ -441,7 +441,7 @@ impl<A: Allocator + Clone> Editor<A> {
         ensures err { OnErr result (self.new ≡ self.old) }
         ensures free { IsMove action → IsOk result }
     {
-        let last = self.last_of(action);
+        let last = self.last_after(action);
         match self.edit(action) {
             Ok(()) => {
                 self.last = last;

@@ -12,7 +12,7 @@ ghost use Rattle.line_editor.specs.Shown.{AreShown};
 ghost use Rattle.line_editor.specs.Splits.{split_at, line_text};
 ghost use Rattle.line_editor.specs.States.{found_line};
 ghost use Rattle.line_editor.specs.Views.{column, seen_text};
-ghost use Rattle.line_editor.specs.inside.Changes.{Fits, TakesBack, bytes_before, bytes_of, spliced};
+ghost use Rattle.line_editor.specs.inside.Changes.{Fits, TakesBack, bytes_before, line_bytes, spliced};
 
 use crate::changes::Change;
 use crate::places::{Stop, Target, ahead, place_of};
@@ -243,7 +243,7 @@ impl<A: Allocator> Line<A> {
     pub(crate) fn insert(&mut self, text: &str) -> Result<usize, AllocError>
         requires { AreShown (chars text.now) }
         ensures ok { OnOk result (self.new ≡ inserted (chars text.now) self.old) }
-        ensures bytes { OnOk result (bytes_of self.new ≡ insert_slice (bytes_of self.old) (bytes_before self.old) text.now) }
+        ensures bytes { OnOk result (line_bytes self.new ≡ insert_slice (line_bytes self.old) (bytes_before self.old) text.now) }
         ensures end { IfOk result (λ end. end ≡ bytes_before self.old + length text.now) }
         ensures on { IfOk result (λ end. end ≤ bytes_before self.new) }
         ensures err { OnErr result (self.new ≡ self.old) }
@@ -260,8 +260,8 @@ impl<A: Allocator> Line<A> {
     /// The bytes before the cursor.
     pub(crate) fn at(&self) -> usize
         ensures value { result ≡ bytes_before self.now }
-        ensures boundary { IsCharBoundary (bytes_of self.now) result }
-        ensures place { split_at (bytes_of self.now) result ≡ self.now }
+        ensures boundary { IsCharBoundary (line_bytes self.now) result }
+        ensures place { split_at (line_bytes self.now) result ≡ self.now }
     {
         self.at
     }
@@ -351,10 +351,10 @@ impl<A: Allocator + Clone> Line<A> {
     /// `AllocError` if memory was refused. Then nothing has changed.
     fn splice(&mut self, from: usize, to: usize, with: &str) -> Result<Change<A>, AllocError>
         requires order { from ≤ to }
-        requires from { IsCharBoundary (bytes_of self.old) from }
-        requires to { IsCharBoundary (bytes_of self.old) to }
+        requires from { IsCharBoundary (line_bytes self.old) from }
+        requires to { IsCharBoundary (line_bytes self.old) to }
         requires with { AreShown (chars with.now) }
-        ensures ok { OnOk result (self.new ≡ line_with (split_at (bytes_of self.old) from) (chars with.now) (split_at (bytes_of self.old) to)) }
+        ensures ok { OnOk result (self.new ≡ line_with (split_at (line_bytes self.old) from) (chars with.now) (split_at (line_bytes self.old) to)) }
         ensures back { IfOk result (λ c. TakesBack c self.old self.new) }
         ensures end { IfOk result (λ c. c.to ≤ bytes_before self.new) }
         ensures err { OnErr result (self.new ≡ self.old) }
@@ -380,8 +380,8 @@ impl<A: Allocator + Clone> Line<A> {
     ///
     /// `AllocError` if memory was refused. Then nothing has changed.
     pub(crate) fn take_back(&mut self, change: &Change<A>) -> Result<Change<A>, AllocError>
-        requires { Fits (bytes_of self.old) change.now }
-        ensures ok { OnOk result (self.new ≡ split_at (spliced change.now (bytes_of self.old)) change.now.at) }
+        requires { Fits (line_bytes self.old) change.now }
+        ensures ok { OnOk result (self.new ≡ split_at (spliced change.now (line_bytes self.old)) change.now.at) }
         ensures back { IfOk result (λ c. TakesBack c self.old self.new) }
         ensures err { OnErr result (self.new ≡ self.old) }
     {

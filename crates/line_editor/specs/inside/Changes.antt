@@ -18,8 +18,8 @@ abbrev pub spliced : Splice → List ℕ → List ℕ
 spliced c text = (take c.from text ++ c.text) ++ drop c.to text
 
 -- The bytes of a line's text, and how many of them are before its cursor.
-abbrev pub bytes_of : Split → List ℕ
-bytes_of d = encode_utf8_all (line_text d)
+abbrev pub line_bytes : Split → List ℕ
+line_bytes d = encode_utf8_all (line_text d)
 
 abbrev pub bytes_before : Split → ℕ
 bytes_before d = size (reverse d.before)
@@ -46,9 +46,9 @@ AllFit text (c ∷ changes) = Fits text c × AllFit (spliced c text) changes
 
 -- A splice takes a change of a line back.
 pub record TakesBack (c : Splice) (before after : Split) : Type 0 where
-  pub fits : Fits (bytes_of after) c
-  pub text : spliced c (bytes_of after) ≡ bytes_of before
-  pub line : split_at (spliced c (bytes_of after)) c.at ≡ before
+  pub fits : Fits (line_bytes after) c
+  pub text : spliced c (line_bytes after) ≡ line_bytes before
+  pub line : split_at (spliced c (line_bytes after)) c.at ≡ before
 
 -- The first of the splices, if there is one, ends no later than at a place.
 abbrev pub EndsBy : ℕ → List Splice → Type 0
@@ -80,8 +80,8 @@ pub record DraftState : Type 0 where
 
 -- What is true of a line and the changes to the others. A character that was typed last is in the newest change.
 pub record AreChanges (line : Split) (past undone : List Splice) (typing : Bool) : Type 0 where
-  pub back : AllFit (bytes_of line) past
-  pub forth : AllFit (bytes_of line) undone
+  pub back : AllFit (line_bytes line) past
+  pub forth : AllFit (line_bytes line) undone
   pub typed : typing ≡ true → EndsBy (bytes_before line) past
 
 -- Another line, before which up to so many can be undone.

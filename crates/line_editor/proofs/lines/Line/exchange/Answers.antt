@@ -5,20 +5,20 @@ use Rattle.std.specs.Str.{IsCharBoundary, chars}
 use Rattle.std.specs.String.{string_bytes}
 use Rattle.line_editor.specs.Edits.{line_with}
 use Rattle.line_editor.specs.Splits.{Split, split_at}
-use Rattle.line_editor.proofs.Changing.{bytes_of-line}
+use Rattle.line_editor.proofs.Changing.{line_bytes-line}
 use Rattle.line_editor.proofs.Editing.{transposed_as}
 use Rattle.line_editor.proofs.Showing.{shown-both, shown-part, shown-same}
 use Rattle.line_editor.proofs.lines.Line.exchange.Goals as goal
 
 pub splice-requires-clause-from : goal.splice-requires-clause-from
 splice-requires-clause-from g c =
-    let same = c.as_str-text.ensures.value ∙ sym (bytes_of-line (string_bytes c.self.inside.text) c.self.inside.at (IsUtf8-string_bytes c.self.inside.text) c.self.invariant.0 c.args.self.now c.self.view_is) in
+    let same = c.as_str-text.ensures.value ∙ sym (line_bytes-line (string_bytes c.self.inside.text) c.self.inside.at (IsUtf8-string_bytes c.self.inside.text) c.self.invariant.0 c.args.self.now c.self.view_is) in
     let P : List ℕ → Type 0 = λ t. IsCharBoundary t c.place_of-from.result in
     subst P same c.place_of-from.ensures.boundary
 
 pub splice-requires-clause-to : goal.splice-requires-clause-to
 splice-requires-clause-to g c =
-    let same = c.as_str-text.ensures.value ∙ sym (bytes_of-line (string_bytes c.self.inside.text) c.self.inside.at (IsUtf8-string_bytes c.self.inside.text) c.self.invariant.0 c.args.self.now c.self.view_is) in
+    let same = c.as_str-text.ensures.value ∙ sym (line_bytes-line (string_bytes c.self.inside.text) c.self.inside.at (IsUtf8-string_bytes c.self.inside.text) c.self.invariant.0 c.args.self.now c.self.view_is) in
     let P : List ℕ → Type 0 = λ t. IsCharBoundary t c.place_of-to.result in
     subst P same c.place_of-to.ensures.boundary
 
@@ -37,7 +37,7 @@ splice-requires-clause-with g c =
 
 pub returns-clause-ok : goal.returns-clause-ok
 returns-clause-ok g c =
-    let same = c.as_str-text.ensures.value ∙ sym (bytes_of-line (string_bytes c.self.inside.text) c.self.inside.at (IsUtf8-string_bytes c.self.inside.text) c.self.invariant.0 c.args.self.now c.self.view_is) in
+    let same = c.as_str-text.ensures.value ∙ sym (line_bytes-line (string_bytes c.self.inside.text) c.self.inside.at (IsUtf8-string_bytes c.self.inside.text) c.self.invariant.0 c.args.self.now c.self.view_is) in
     let text = c.as_str-text.result.now in
     let P : Split → Type 0 = λ d. OnOk c.splice.result (c.splice.new.self ≡ d) in
     let middle = c.meeting-middle.ensures in

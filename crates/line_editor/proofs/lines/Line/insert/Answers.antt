@@ -3,7 +3,7 @@ use Rattle.std.proofs.lemmas.Str.{IsUtf8-string_bytes}
 use Rattle.std.specs.String.{string_bytes}
 use Rattle.std.specs.Str.{chars}
 use Rattle.line_editor.specs.Edits.{inserted}
-use Rattle.line_editor.proofs.Changing.{before-line, before-split, bytes_of-split, inserted-there}
+use Rattle.line_editor.proofs.Changing.{before-line, before-split, line_bytes-split, inserted-there}
 use Rattle.line_editor.proofs.Inserting.{inserted-Placed, inserted-shown, split_at-inserted}
 use Rattle.line_editor.proofs.lines.Line.insert.Goals as goal
 
@@ -25,7 +25,7 @@ returns-clause-ok g c =
 
 pub returns-clause-bytes : goal.returns-clause-bytes
 returns-clause-bytes g c =
-    bytes_of-split (string_bytes c.insert_str.new.self) _ (IsUtf8-string_bytes c.insert_str.new.self) (invariant_of-self-2 g c).0 ∙ c.in_ok-insert_str.ensures.bytes
+    line_bytes-split (string_bytes c.insert_str.new.self) _ (IsUtf8-string_bytes c.insert_str.new.self) (invariant_of-self-2 g c).0 ∙ c.in_ok-insert_str.ensures.bytes
     ∙ inserted-there (string_bytes c.self.inside.text) c.self.inside.at c.args.self.now (IsUtf8-string_bytes c.self.inside.text) c.self.invariant.0 c.self.view_is c.args.text.now
 
 pub returns-clause-end : goal.returns-clause-end

@@ -2,7 +2,7 @@ use Rattle.std.proofs.Common.{◌∙◌, ◌-◌, List, ℕ, ap, arith, length, 
 use Rattle.std.proofs.lemmas.Str.{IsUtf8-string_bytes}
 use Rattle.std.specs.Str.{IsCharBoundary, chars}
 use Rattle.std.specs.String.{string_bytes}
-use Rattle.line_editor.proofs.Changing.{before-split, boundary-here, bytes_of-split, joined-there, takes_back}
+use Rattle.line_editor.proofs.Changing.{before-split, boundary-here, line_bytes-split, joined-there, takes_back}
 use Rattle.line_editor.proofs.Settling.{ahead-Placed, spliced-boundary, split_at-joined}
 use Rattle.line_editor.proofs.Showing.{shown-spliced}
 use Rattle.line_editor.proofs.lines.Line.splice.Goals as goal
@@ -58,7 +58,7 @@ returns-clause-back g c =
     takes_back text c.args.with.now new _ c.args.from c.args.to _ c.self.inside.at (IsUtf8-string_bytes c.self.inside.text) c.utf8.with
     (boundary-here (string_bytes c.self.inside.text) c.self.inside.at c.args.self.now (IsUtf8-string_bytes c.self.inside.text) c.self.invariant.0 c.self.view_is c.args.from c.requires.from) (boundary-here (string_bytes c.self.inside.text) c.self.inside.at c.args.self.now (IsUtf8-string_bytes c.self.inside.text) c.self.invariant.0 c.self.view_is c.args.to c.requires.to) c.requires.order c.in_ok-removed.ensures.ok c.in_ok-removed.ensures.removed ends
     _ _ c.self.view_is c.self.invariant.0 c.self.invariant.1 c.self.invariant.2
-    (bytes_of-split new _ (IsUtf8-string_bytes c.swap.new.text) (invariant_of-self-2 g c).0)
+    (line_bytes-split new _ (IsUtf8-string_bytes c.swap.new.text) (invariant_of-self-2 g c).0)
 
 pub returns-clause-end : goal.returns-clause-end
 returns-clause-end g c =

@@ -5,7 +5,7 @@ use Rattle.std.specs.String.{string_bytes}
 use Rattle.line_editor.specs.Edits.{IsSettled}
 use Rattle.line_editor.specs.Shown.{AreShown}
 use Rattle.line_editor.specs.Splits.{split_at}
-use Rattle.line_editor.proofs.Changing.{Fits-here, bytes_of-split, done-here, takes_back}
+use Rattle.line_editor.proofs.Changing.{Fits-here, line_bytes-split, done-here, takes_back}
 use Rattle.line_editor.proofs.lines.Line.take_back.Goals as goal
 
 pub overflow_sub-behind : goal.overflow_sub-behind
@@ -59,4 +59,4 @@ returns-clause-back g c =
     ∙ ap (λ n. length new - (n - c.change.inside.to)) (ap length c.as_str-whole.ensures.value) in
     takes_back text c.as_str-with.result.now new _ c.change.inside.from c.change.inside.to _ c.self.inside.at (IsUtf8-string_bytes c.self.inside.text) c.as_str-with.utf8
     fits.from fits.to fits.order c.in_ok-removed.ensures.ok c.in_ok-removed.ensures.removed ends _ _ c.self.view_is c.self.invariant.0 c.self.invariant.1 c.self.invariant.2
-    (bytes_of-split new c.change.inside.at (IsUtf8-string_bytes c.swap.new.text) (invariant_of-self-2 g c).0)
+    (line_bytes-split new c.change.inside.at (IsUtf8-string_bytes c.swap.new.text) (invariant_of-self-2 g c).0)
