@@ -1,17 +1,48 @@
 -- What the parts of an action come to.
 use Rattle.std.proofs.Common.{◌≡◌, ℕ, true, false, List, [], ◌∷◌, refl, sym, ap, ◌∙◌}
+use Rattle.line_editor.specs.declared.last.Last.TheVariants.{Other}
 use Rattle.line_editor.specs.declared.places.Target.{Target}
 use Rattle.line_editor.specs.Splits.{Split}
 use Rattle.line_editor.specs.Edits.{cut_text, empty_line, erased, inserted, meeting, transposed}
 use Rattle.line_editor.specs.Shown.{is_shown}
-use Rattle.line_editor.specs.States.{EditorState, changed, erase_cut, fresh, kill_cut, transpose_at, type_char, after_typing, write}
+use Rattle.line_editor.specs.States.{EditorState, changed, erase_cut, fresh, kill_text, kept_by, kill_cut, redo_to, transpose_at, type_char, after_typing, undo_to, write}
+use Rattle.line_editor.specs.inside.Changes.{DraftState, draft_changed, draft_redone, draft_typed, draft_undone}
 use Rattle.line_editor.specs.declared.limits.Limits.{Limits}
 
-pub fresh_of : (limits : Limits) (line unfinished : Split) (killed : List ℕ) (past undone history : List Split) → line ≡ empty_line → unfinished ≡ empty_line
-    → killed ≡ [] → past ≡ [] → undone ≡ [] → history ≡ []
-    → record { limits = limits; line = line; killed = killed; past = past; undone = undone; history = history; back = 0; unfinished = unfinished; typing = false; walking = false }
+-- An editor's line with its changes.
+abbrev pub draft_of : EditorState → DraftState
+draft_of w = record { line = w.line; past = w.past; undone = w.undone; typing = w.typing }
+
+abbrev pub with_draft : DraftState → EditorState → EditorState
+with_draft d w = record w { line = d.line; past = d.past; undone = d.undone; typing = d.typing }
+
+pub fresh_of : (limits : Limits) (d : DraftState) (line unfinished : Split) (killed : List ℕ) (history : List Split)
+    → d ≡ record { line = line; past = []; undone = []; typing = false } → line ≡ empty_line → unfinished ≡ empty_line → killed ≡ [] → history ≡ []
+    → record { limits = limits; line = d.line; killed = killed; past = d.past; undone = d.undone; history = history; back = 0; unfinished = unfinished; typing = d.typing; last = Other }
     ≡ fresh limits
-fresh_of limits line unfinished killed past undone history a b c d e f = rw (a, b, c, d, e, f) refl
+fresh_of limits d line unfinished killed history e a b c f = rw (e, a, b, c, f) refl
+
+-- What an edit of the line makes of the editor.
+module _ (v w : EditorState) (is : v ≡ w) (d : DraftState) where
+  pub changed_as : (line : Split) → d ≡ draft_changed v.limits.steps line (draft_of v) → with_draft d v ≡ changed line w
+  changed_as line e = ap (λ (x : DraftState). with_draft x v) e ∙ ap (λ (x : EditorState). changed line x) is
+
+  pub typed_as : (edit : Split → Split) → d ≡ draft_typed v.limits.steps (edit v.line) (draft_of v) → with_draft d v ≡ after_typing (edit w.line) w
+  typed_as edit e = ap (λ (x : DraftState). with_draft x v) e ∙ ap (λ (x : EditorState). after_typing (edit x.line) x) is
+
+  undo_cases : (past : List Split) → with_draft (draft_undone past (draft_of v)) v ≡ undo_to past v
+  undo_cases [] = refl
+  undo_cases (l ∷ past) = refl
+
+  redo_cases : (undone : List Split) → with_draft (draft_redone undone (draft_of v)) v ≡ redo_to undone v
+  redo_cases [] = refl
+  redo_cases (l ∷ undone) = refl
+
+  pub undone_as : d ≡ draft_undone v.past (draft_of v) → with_draft d v ≡ undo_to w.past w
+  undone_as e = ap (λ (x : DraftState). with_draft x v) e ∙ undo_cases v.past ∙ ap (λ (x : EditorState). undo_to x.past x) is
+
+  pub redone_as : d ≡ draft_redone v.undone (draft_of v) → with_draft d v ≡ redo_to w.undone w
+  redone_as e = ap (λ (x : DraftState). with_draft x v) e ∙ redo_cases v.undone ∙ ap (λ (x : EditorState). redo_to x.undone x) is
 
 module _ (target : Target) (w : EditorState) (d : Split) (text : List ℕ) (same : w.line ≡ d) (e : text ≡ cut_text target d) where
   is_cut : text ≡ cut_text target w.line
@@ -28,11 +59,11 @@ module _ (target : Target) (w : EditorState) (d : Split) (text : List ℕ) (same
     erase_some =
         ap (λ (l : Split). changed l w) (f ∙ ap (erased target) (sym same)) ∙ sym (ap (λ t. erase_cut t target w) (sym is_cut ∙ some))
 
-    pub kill_some : (killed : List ℕ) (v : EditorState) → killed ≡ text → v ≡ changed line w
+    pub kill_some : (killed : List ℕ) (v : EditorState) → killed ≡ kill_text target text (kept_by w.last w.killed) → v ≡ changed line w
         → record v { killed = killed } ≡ kill_cut (cut_text target w.line) target w
     kill_some killed v k g =
         ap (λ (x : EditorState). record x { killed = killed }) (g ∙ ap (λ (l : Split). changed l w) (f ∙ ap (erased target) (sym same)))
-        ∙ ap (λ t. record (changed (erased target w.line) w) { killed = t }) (k ∙ some)
+        ∙ ap (λ t. record (changed (erased target w.line) w) { killed = t }) (k ∙ ap (λ t. kill_text target t (kept_by w.last w.killed)) some)
         ∙ sym (ap (λ t. kill_cut t target w) (sym is_cut ∙ some))
 
 -- A text that is to be written, as it is at hand.

@@ -1,5 +1,5 @@
 -- An editor stays within its limits.
-use Rattle.std.proofs.Common.{◌≡◌, ℕ, ◌+◌, ◌-◌, ◌<◌, ◌≤◌, Bool, true, false, List, [], ◌∷◌, ◌++◌, length, map, reverse, take, drop, refl, sym, subst, ◌∙◌, inl, inr, arith, append-nil}
+use Rattle.std.proofs.Common.{◌≡◌, ℕ, ◌+◌, ◌-◌, ◌<◌, ◌≤◌, true, false, List, [], ◌∷◌, ◌++◌, length, map, reverse, take, drop, refl, sym, subst, ◌∙◌, inl, inr, arith, append-nil}
 use Rattle.std.proofs.lemmas.Bool.{and_parts, and_from, cases_Bool, leb-true, ltb-false, ltb-true}
 use Rattle.std.proofs.lemmas.List.{reverse-append, reverse-reverse}
 use Rattle.std.specs.Prelude.{Option, Some, None, IfSome, suc, zero, slice_get}
@@ -7,10 +7,12 @@ use Rattle.std.specs.List.{AllByRecursion, filter}
 use Rattle.unicode_segmentation.proofs.TextLemmas.{encode_utf8_nonempty}
 use Rattle.line_editor.specs.declared.actions.Action.{Action}
 use Rattle.line_editor.specs.declared.actions.Action.TheVariants.{Insert, Go, Erase, Kill, Yank, Transpose, Undo, Redo, Older, Newer, Search}
+use Rattle.line_editor.specs.declared.last.Last.{Last}
+use Rattle.line_editor.specs.declared.last.Last.TheVariants.{Killed, Other, Walked}
 use Rattle.line_editor.specs.declared.limits.Limits.{Limits}
 use Rattle.line_editor.specs.declared.places.Stop.TheVariants.{Edge}
 use Rattle.line_editor.specs.declared.places.Target.{Target}
-use Rattle.line_editor.specs.declared.places.Target.TheVariants.{Forward}
+use Rattle.line_editor.specs.declared.places.Target.TheVariants.{Back, Forward}
 use Rattle.line_editor.specs.Bounded.{AreRoomy, IsBounded, IsHeld, IsKept, StaysBounded, all_done}
 use Rattle.line_editor.specs.Bounds.{is_too_long, room_of, size, written}
 use Rattle.line_editor.specs.Edits.{cut_text, empty_line, erased, inserted, meeting, transposed}
@@ -18,11 +20,11 @@ use Rattle.line_editor.specs.History.{loaded_line, has_room, lines_of, loaded}
 use Rattle.line_editor.specs.Places.{target_place}
 use Rattle.line_editor.specs.Shown.{AreShown, blanked, is_shown, pasted_part, shown_part}
 use Rattle.line_editor.specs.Splits.{Split, line_text}
-use Rattle.line_editor.specs.States.{EditorState, after, changed, dropped, erase_cut, found, found_line, fresh, is_any, kill_cut, left_for, moved, newer_from, newer_line, newer_to, older_to, redo_to, remembered, searched_to, sought, transpose_at, type_char, after_typing, undo_to, unfinished_at, write}
+use Rattle.line_editor.specs.States.{EditorState, acted, after, changed, dropped, erase_cut, found, found_line, fresh, kill_text, kept_by, kill_cut, last_after, left_for, moved, newer_from, newer_line, newer_to, older_to, redo_to, remembered, searched_to, sought, transpose_at, type_char, after_typing, undo_to, unfinished_at, write}
 use Rattle.line_editor.specs.Tasks.{Task, Acts, Pastes, Accepts, LetsGo, Loads, Closes, Nothing, done, task_text}
 use Rattle.line_editor.proofs.Held.{Found, all-drop, all-get, all-take, cut-shown, end-after, found-held, held-erased, held-found, held-inserted, held-moved, held-same, held-transposed}
 use Rattle.line_editor.proofs.Keeping.{keeps_text}
-use Rattle.line_editor.proofs.Showing.{shown-filter}
+use Rattle.line_editor.proofs.Showing.{shown-append, shown-filter}
 use Rattle.line_editor.proofs.Sizing.{size-cons}
 
 take-short : (n : ℕ) (lines : List Split) → length (take n lines) ≤ n
@@ -65,8 +67,8 @@ bounded-back w back h = record {
 }
 
 -- So has what a search looked for.
-bounded-walking : (w : EditorState) (walking : Bool) → IsBounded w → IsBounded (record w { walking = walking })
-bounded-walking w walking h = record {
+bounded-last : (w : EditorState) (last : Last) → IsBounded w → IsBounded (record w { last = last })
+bounded-last w last h = record {
   line = h.line;
   unfinished = h.unfinished;
   past = h.past;
@@ -134,6 +136,15 @@ module _ (w : EditorState) (h : IsBounded w) where
   bounded-erase [] target = h
   bounded-erase (c ∷ piece) target = bounded-changed (erased target w.line) (held-erased w.limits target w.line h.line)
 
+  kept-shown : (last : Last) → AreShown (kept_by last w.killed)
+  kept-shown Other = refl
+  kept-shown Walked = refl
+  kept-shown Killed = h.killed
+
+  joined-shown : (target : Target) (text kept : List ℕ) → AreShown text → AreShown kept → AreShown (kill_text target text kept)
+  joined-shown (Back stop) text kept k l = shown-append text kept k l
+  joined-shown (Forward stop) text kept k l = shown-append kept text l k
+
   bounded-kill : (piece : List ℕ) (target : Target) → AreShown piece → IsBounded (kill_cut piece target w)
   bounded-kill [] target k = h
   bounded-kill (c ∷ piece) target k =
@@ -144,7 +155,7 @@ module _ (w : EditorState) (h : IsBounded w) where
         past = b.past;
         undone = b.undone;
         history = b.history;
-        killed = k;
+        killed = joined-shown target (c ∷ piece) (kept_by w.last w.killed) k (kept-shown w.last);
         lines = b.lines;
         steps = b.steps;
       }
@@ -219,22 +230,24 @@ module _ (w : EditorState) (h : IsBounded w) where
   bounded-search : (o : Option (ℕ × List ℕ)) → IfSome o (Found w.limits (sought w)) → IsBounded (searched_to o w)
   bounded-search None k = h
   bounded-search (Some found) k =
-      bounded-walking (record (left_for (found_line (sought w) found.1) w) { back = found.0 }) (is_any (sought w))
-      (bounded-left (found_line (sought w) found.1) found.0 (held-found w.limits (sought w) found.1 k))
+      bounded-left (found_line (sought w) found.1) found.0 (held-found w.limits (sought w) found.1 k)
+
+  bounded-acted : (action : Action) → is_too_long (written action w) w ≡ false → IsBounded (acted action w)
+  bounded-acted (Insert c) room = bounded-type c room
+  bounded-acted (Go target) room = bounded-moved (target_place target w.line) (held-moved w.limits target w.line h.line)
+  bounded-acted (Erase target) room = bounded-erase (cut_text target w.line) target
+  bounded-acted (Kill target) room = bounded-kill (cut_text target w.line) target (cut-shown w.limits target w.line h.line)
+  bounded-acted Yank room = bounded-write w.killed h.killed room
+  bounded-acted Transpose room = bounded-transpose (meeting w.line.before w.line.after).before
+  bounded-acted Undo room = bounded-undo w.past h.past h.steps
+  bounded-acted Redo room = bounded-redo w.undone h.undone h.steps
+  bounded-acted Older room = bounded-older (slice_get w.history w.back) (all-get w.limits w.history w.back h.history)
+  bounded-acted Newer room = bounded-newer_from w.back
+  bounded-acted Search room =
+      bounded-search (found w) (found-held w.limits (sought w) (line_text w.line) w.back (drop w.back w.history) (all-drop w.limits w.history w.back h.history))
 
   bounded-after : (action : Action) → is_too_long (written action w) w ≡ false → IsBounded (after action w)
-  bounded-after (Insert c) room = bounded-type c room
-  bounded-after (Go target) room = bounded-moved (target_place target w.line) (held-moved w.limits target w.line h.line)
-  bounded-after (Erase target) room = bounded-erase (cut_text target w.line) target
-  bounded-after (Kill target) room = bounded-kill (cut_text target w.line) target (cut-shown w.limits target w.line h.line)
-  bounded-after Yank room = bounded-write w.killed h.killed room
-  bounded-after Transpose room = bounded-transpose (meeting w.line.before w.line.after).before
-  bounded-after Undo room = bounded-undo w.past h.past h.steps
-  bounded-after Redo room = bounded-redo w.undone h.undone h.steps
-  bounded-after Older room = bounded-older (slice_get w.history w.back) (all-get w.limits w.history w.back h.history)
-  bounded-after Newer room = bounded-newer_from w.back
-  bounded-after Search room =
-      bounded-search (found w) (found-held w.limits (sought w) (line_text w.line) w.back (drop w.back w.history) (all-drop w.limits w.history w.back h.history))
+  bounded-after action room = bounded-last (acted action w) (last_after action w) (bounded-acted action room)
 
   -- ---- lines that go
 
@@ -314,7 +327,7 @@ bounded-loaded w h text =
 
 bounded-done : (task : Task) (w : EditorState) → IsBounded w → is_too_long (task_text task w) w ≡ false → IsBounded (done task w)
 bounded-done (Acts action) w h room = bounded-after w h action room
-bounded-done (Pastes text) w h room = bounded-write w h (pasted_part text) (shown-filter (blanked text)) room
+bounded-done (Pastes text) w h room = bounded-last (write (pasted_part text) w) Other (bounded-write w h (pasted_part text) (shown-filter (blanked text)) room)
 bounded-done Accepts w h room = bounded-remembered w h (line_text w.line) refl
 bounded-done LetsGo w h room = bounded-ended w h w.history h.history h.lines
 bounded-done (Loads text) w h room = bounded-loaded w h text

@@ -1,6 +1,7 @@
 -- Back into the history, and forth again.
 use Rattle.std.proofs.Common.{◌≡◌, ℕ, ◌+◌, ◌<◌, ◌≤◌, List, [], ◌∷◌, length, refl, sym, subst, ap, ◌∙◌, arith}
 use Rattle.std.specs.Prelude.{Option, Some, suc, zero, slice_get}
+use Rattle.line_editor.specs.declared.last.Last.TheVariants.{Other}
 use Rattle.line_editor.specs.declared.actions.Action.TheVariants.{Newer, Older}
 use Rattle.line_editor.specs.Laws.{ComesBack, newer_times, older_times}
 use Rattle.line_editor.specs.Splits.{Split}
@@ -27,7 +28,7 @@ module _ (line : Split) (history : List Split) where
   older_step back v b lt =
       let found = some_at history back lt in
       let is : slice_get v.history v.back ≡ Some found.0 = ap (λ t. slice_get t v.back) b.lines ∙ ap (slice_get history) b.place ∙ found.1 in
-      let P : Option Split → Type 0 = λ o. Browses line history (suc back) (older_to o v) in
+      let P : Option Split → Type 0 = λ o. Browses line history (suc back) (record (older_to o v) { last = Other }) in
       subst P (sym is) (record {
         lines = b.lines;
         place = omega (arith, b.place);
@@ -35,7 +36,8 @@ module _ (line : Split) (history : List Split) where
         left = λ _. left-as v.back back v.line v.unfinished line b.place b.here b.left;
       })
 
-  newer_at : (back : ℕ) (v : EditorState) → Browses line history (suc back) v → suc back ≤ length history → Browses line history back (newer_from (suc back) v)
+  newer_at : (back : ℕ) (v : EditorState) → Browses line history (suc back) v → suc back ≤ length history
+      → Browses line history back (record (newer_from (suc back) v) { last = Other })
   newer_at zero v b le = record {
     lines = b.lines;
     place = omega (arith, b.place);
@@ -45,7 +47,7 @@ module _ (line : Split) (history : List Split) where
   newer_at (suc back) v b le =
       let found = some_at history back (omega (arith, le)) in
       let is : slice_get v.history back ≡ Some found.0 = ap (λ t. slice_get t back) b.lines ∙ found.1 in
-      let P : Option Split → Type 0 = λ o. Browses line history (suc back) (newer_to o v) in
+      let P : Option Split → Type 0 = λ o. Browses line history (suc back) (record (newer_to o v) { last = Other }) in
       subst P (sym is) (record {
         lines = b.lines;
         place = omega (arith, b.place);
@@ -55,7 +57,7 @@ module _ (line : Split) (history : List Split) where
 
   newer_step : (back : ℕ) (v : EditorState) → Browses line history (suc back) v → suc back ≤ length history → Browses line history back (after Newer v)
   newer_step back v b le =
-      let P : ℕ → Type 0 = λ n. Browses line history back (newer_from n v) in
+      let P : ℕ → Type 0 = λ n. Browses line history back (record (newer_from n v) { last = Other }) in
       subst P (sym b.place) (newer_at back v b le)
 
   older_all : (n back last : ℕ) (v : EditorState) → back + n ≡ last → last ≤ length history → Browses line history back v → Browses line history last (older_times n v)

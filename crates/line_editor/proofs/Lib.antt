@@ -19,3 +19,6 @@ pub mod Bounding
 pub mod Reloading
 pub mod Browsing
 pub mod Inserting
+pub mod Changing
+pub mod Drafting
+pub mod Ascii

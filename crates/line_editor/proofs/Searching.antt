@@ -5,9 +5,10 @@ use Rattle.std.proofs.lemmas.Str.{encodes-chars}
 use Rattle.std.specs.Prelude.{Bool, true, false, Some, None, zero, suc, encode_utf8_all, slice_get}
 use Rattle.std.specs.Option.{option_map}
 use Rattle.std.specs.Str.{bytes_eq, chars, IsUtf8}
+use Rattle.line_editor.specs.declared.last.Last.TheVariants.{Other, Walked}
 use Rattle.line_editor.specs.Splits.{Split, split_at, line_text}
 use Rattle.line_editor.specs.Edits.{line_with, settled}
-use Rattle.line_editor.specs.States.{EditorState, first_with, found_line, other_rest, rest_or, sought}
+use Rattle.line_editor.specs.States.{EditorState, first_with, found_line, kept_by, other_rest, rest_or, sought}
 use Rattle.line_editor.proofs.Stepping.{chars_before-start}
 
 -- The lines from one on: its own text, and the lines behind it.
@@ -53,8 +54,15 @@ pub found-any : (front rest none : List ℕ) → front ≡ [] → none ≡ [] �
 found-any front rest none e f = ap (λ t. settled (record { before = reverse rest; after = t })) f ∙ ap (λ t. found_line t rest) (sym e)
 
 -- A search that goes on for any line.
-pub sought-any : (w : EditorState) → w.walking ≡ true → [] ≡ sought w
+pub sought-any : (w : EditorState) → w.last ≡ Walked → [] ≡ sought w
 sought-any w on = rw on refl
+
+-- Nothing to join the text of a kill to.
+pub kept-other : (w : EditorState) → w.last ≡ Other → [] ≡ kept_by w.last w.killed
+kept-other w is = rw is refl
+
+pub kept-walked : (w : EditorState) → w.last ≡ Walked → [] ≡ kept_by w.last w.killed
+kept-walked w is = rw is refl
 
 -- Two texts are the same if their characters are.
 pub same-chars : (x y : List ℕ) → IsUtf8 x → IsUtf8 y → bytes_eq x y ≡ bytes_eq (chars x) (chars y)

@@ -5,13 +5,15 @@ use Rattle.std.proofs.lemmas.Bool.{cases_Bool, false≢true}
 use Rattle.std.proofs.lemmas.List.{take_all}
 use Rattle.line_editor.specs.declared.actions.Action.{Action}
 use Rattle.line_editor.specs.declared.actions.Action.TheVariants.{Insert, Go, Erase, Kill, Yank, Transpose, Undo, Redo, Older, Newer, Search}
+use Rattle.line_editor.specs.declared.last.Last.{Last}
+use Rattle.line_editor.specs.declared.last.Last.TheVariants.{Other}
 use Rattle.line_editor.specs.declared.limits.Limits.{Limits}
 use Rattle.line_editor.specs.declared.places.Target.{Target}
 use Rattle.line_editor.specs.Splits.{Split, line_text}
 use Rattle.line_editor.specs.Edits.{cut_text, meeting}
 use Rattle.line_editor.specs.Laws.{ArePlain, CanBeUndone, IsNoUndo, KeepsHistory, RedoesUndone, undo_times}
 use Rattle.line_editor.specs.Shown.{is_shown}
-use Rattle.line_editor.specs.States.{EditorState, after, erase_cut, found, kill_cut, newer_from, newer_line, newer_to, older_to, pushed, redo_to, run_actions, searched_to, transpose_at, type_char, after_typing, undo_to, write}
+use Rattle.line_editor.specs.States.{EditorState, acted, after, erase_cut, found, kill_cut, last_after, newer_from, newer_line, newer_to, older_to, pushed, redo_to, run_actions, searched_to, transpose_at, type_char, after_typing, undo_to, write}
 use Rattle.line_editor.proofs.Keeping.{keeps_text}
 
 -- ---- history
@@ -184,35 +186,52 @@ module _ (text : List ℕ) (past : List Split) (n : ℕ) (w : EditorState) (h : 
   leads-newer_from zero = leads-none
   leads-newer_from (suc back) = leads-newer (newer_line back w)
 
+leads-acted : (text : List ℕ) (past : List Split) (n : ℕ) (w : EditorState) → Leads text past (suc n) w → (action : Action) → IsNoUndo action
+    → Leads text past n (acted action w)
+leads-acted text past n w h (Insert c) f = leads-type text past n w h c
+leads-acted text past n w h (Go target) f = leads-same text past n w h _ refl refl (keeps_text target w.line) refl
+leads-acted text past n w h (Erase target) f = leads-erase text past n w h (cut_text target w.line) target
+leads-acted text past n w h (Kill target) f = leads-kill text past n w h (cut_text target w.line) target
+leads-acted text past n w h Yank f = leads-write text past n w h w.killed
+leads-acted text past n w h Transpose f = leads-transpose text past n w h (meeting w.line.before w.line.after).before
+leads-acted text past n w h Undo f = absurd f
+leads-acted text past n w h Redo f = absurd f
+leads-acted text past n w h Older f = leads-older text past n w h (slice_get w.history w.back)
+leads-acted text past n w h Newer f = leads-newer_from text past n w h w.back
+leads-acted text past n w h Search f = leads-search text past n w h (found w)
+
+ends-last : (text : List ℕ) (extra : List Split) (w : EditorState) (last : Last) → EndsIn text extra w → EndsIn text extra (record w { last = last })
+ends-last text [] w last h = h
+ends-last text (d ∷ []) w last h = h
+ends-last text (d ∷ x ∷ extra) w last h = ends-last text (x ∷ extra) w last h
+
+-- What the last action was doesn't matter.
+leads-last : (text : List ℕ) (past : List Split) (n : ℕ) (w : EditorState) (last : Last) → Leads text past n w → Leads text past n (record w { last = last })
+leads-last text past n w last h = record { extra = h.extra; lines = h.lines; ends = ends-last text h.extra w last h.ends; room = h.room }
+
 pub leads-after : (text : List ℕ) (past : List Split) (n : ℕ) (w : EditorState) → Leads text past (suc n) w → (action : Action) → IsNoUndo action
     → Leads text past n (after action w)
-leads-after text past n w h (Insert c) f = leads-type text past n w h c
-leads-after text past n w h (Go target) f = leads-same text past n w h _ refl refl (keeps_text target w.line) refl
-leads-after text past n w h (Erase target) f = leads-erase text past n w h (cut_text target w.line) target
-leads-after text past n w h (Kill target) f = leads-kill text past n w h (cut_text target w.line) target
-leads-after text past n w h Yank f = leads-write text past n w h w.killed
-leads-after text past n w h Transpose f = leads-transpose text past n w h (meeting w.line.before w.line.after).before
-leads-after text past n w h Undo f = absurd f
-leads-after text past n w h Redo f = absurd f
-leads-after text past n w h Older f = leads-older text past n w h (slice_get w.history w.back)
-leads-after text past n w h Newer f = leads-newer_from text past n w h w.back
-leads-after text past n w h Search f = leads-search text past n w h (found w)
+leads-after text past n w h action f = leads-last text past n (acted action w) (last_after action w) (leads-acted text past n w h action f)
 
 pub leads-run : (text : List ℕ) (past : List Split) (actions : List Action) (w : EditorState) → ArePlain actions → Leads text past (length actions) w
     → Leads text past 0 (run_actions actions w)
 leads-run text past [] w f h = h
 leads-run text past (a ∷ actions) w f h = leads-run text past actions (after a w) f.1 (leads-after text past (length actions) w h a f.0)
 
+-- The editor after an undo, by the lines that can be had.
+abbrev undo_once : List Split → EditorState → EditorState
+undo_once past w = record (undo_to past w) { last = Other }
+
 -- As many undos as there are lines.
 undone : (text : List ℕ) (past extra : List Split) (w : EditorState) → w.past ≡ extra ++ past → EndsIn text extra w
     → (n : ℕ) × (line_text (undo_times n w).line ≡ text) × ((undo_times n w).past ≡ past)
 undone text past [] w e h = (zero, h.0, e)
 undone text past (d ∷ []) w e h =
-    let step : after Undo w ≡ undo_to (d ∷ past) w = ap (λ t. undo_to t w) e in
+    let step : after Undo w ≡ undo_once (d ∷ past) w = ap (λ t. undo_once t w) e in
     (suc zero, ap (λ (x : EditorState). line_text x.line) step ∙ h, ap (λ (x : EditorState). x.past) step)
 undone text past (d ∷ x ∷ extra) w e h =
-    let v = undo_to (d ∷ ((x ∷ extra) ++ past)) w in
-    let step : after Undo w ≡ v = ap (λ t. undo_to t w) e in
+    let v = undo_once (d ∷ ((x ∷ extra) ++ past)) w in
+    let step : after Undo w ≡ v = ap (λ t. undo_once t w) e in
     let rest = undone text past (x ∷ extra) v refl (ends-lines text x extra w v h) in
     (suc rest.0, ap (λ (y : EditorState). line_text (undo_times rest.0 y).line) step ∙ rest.1, ap (λ (y : EditorState). (undo_times rest.0 y).past) step ∙ rest.2)
 
@@ -222,7 +241,7 @@ can_be_undone actions w plain rests enough =
     undone (line_text w.line) w.past all.extra (run_actions actions w) all.lines all.ends
 
 pub redoes_undone : (w : EditorState) → RedoesUndone w
-redoes_undone w d past e = ap (λ t. after Redo (undo_to t w)) e ∙ (record_with w d past e)
+redoes_undone w d past e = ap (λ t. after Redo (undo_once t w)) e ∙ (record_with w d past e)
   where
-    record_with : (w : EditorState) (d : Split) (past : List Split) → w.past ≡ d ∷ past → after Redo (undo_to (d ∷ past) w) ≡ record w { typing = false; walking = false }
-    record_with w d past e = ap (λ t. record w { past = t; typing = false; walking = false }) (sym e)
+    record_with : (w : EditorState) (d : Split) (past : List Split) → w.past ≡ d ∷ past → after Redo (undo_once (d ∷ past) w) ≡ record w { typing = false; last = Other }
+    record_with w d past e = ap (λ t. record w { past = t; typing = false; last = Other }) (sym e)

@@ -1,6 +1,7 @@
 -- A history as a text, and the history that a text holds.
-use Rattle.std.specs.Prelude.{ℕ, Bool, false, nat_le, nat_lt, ◌&&◌, ◌==◌, List, [], ◌∷◌, ◌++◌, if◌then◌else◌, map, reverse, take}
+use Rattle.std.specs.Prelude.{ℕ, Bool, nat_le, nat_lt, ◌&&◌, ◌==◌, List, [], ◌∷◌, ◌++◌, if◌then◌else◌, map, reverse, take}
 use Rattle.std.specs.List.{filter, flat_map, slice_split}
+use Rattle.line_editor.specs.declared.last.Last.TheVariants.{Other}
 use Rattle.line_editor.specs.declared.limits.Limits.{Limits}
 use Rattle.line_editor.specs.Bounds.{size}
 use Rattle.line_editor.specs.Shown.{pasted_part}
@@ -34,4 +35,4 @@ history_of limits text = take limits.lines (reverse (map loaded_line (filter (ha
 
 -- The editor with the history of a text in place of its own. Its line stays, as one that isn't in the history.
 abbrev pub loaded : List ℕ → EditorState → EditorState
-loaded text w = record w { history = history_of w.limits text; back = 0; walking = false }
+loaded text w = record w { history = history_of w.limits text; back = 0; last = Other }

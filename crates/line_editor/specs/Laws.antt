@@ -2,6 +2,7 @@
 use Rattle.std.specs.Prelude.{◌≡◌, ◌≤◌, ◌+◌, ℕ, zero, suc, ⊤, true, false, List, [], ◌∷◌, ◌++◌, length, reverse}
 use Rattle.line_editor.specs.declared.actions.Action.{Action}
 use Rattle.line_editor.specs.declared.actions.Action.TheVariants.{Newer, Older, Redo, Undo}
+use Rattle.line_editor.specs.declared.last.Last.TheVariants.{Other}
 use Rattle.line_editor.specs.declared.places.Target.{Target}
 use Rattle.line_editor.specs.Splits.{Split, line_text}
 use Rattle.line_editor.specs.Edits.{cut_text, reach_end, erased, inserted, start_of}
@@ -72,6 +73,6 @@ CanBeUndone actions w =
     ArePlain actions → w.typing ≡ false → length w.past + length actions ≤ w.limits.steps
     → (n : ℕ) × (line_text (undo_times n (run_actions actions w)).line ≡ line_text w.line) × ((undo_times n (run_actions actions w)).past ≡ w.past)
 
--- A redo gives back what an undo took. Nothing counts as just typed or just found then.
+-- A redo gives back what an undo took. Then nothing goes on with what was done before.
 abbrev pub RedoesUndone : EditorState → Type 0
-RedoesUndone w = (d : Split) (past : List Split) → w.past ≡ d ∷ past → after Redo (after Undo w) ≡ record w { typing = false; walking = false }
+RedoesUndone w = (d : Split) (past : List Split) → w.past ≡ d ∷ past → after Redo (after Undo w) ≡ record w { typing = false; last = Other }

@@ -1,13 +1,15 @@
 -- The state of an editor, and how each action changes it.
-use Rattle.std.specs.Prelude.{⊤, ℕ, ◌+◌, ◌-◌, Bool, true, false, List, [], ◌∷◌, Option, Some, None, if◌then◌else◌, slice_get, drop, take, reverse, ◌==◌}
+use Rattle.std.specs.Prelude.{⊤, ℕ, ◌+◌, ◌-◌, Bool, true, false, List, [], ◌∷◌, ◌++◌, Option, Some, None, if◌then◌else◌, slice_get, drop, take, reverse, ◌==◌}
 use Rattle.std.specs.Prelude.{zero, suc}
 use Rattle.std.specs.Str.{bytes_eq}
 use Rattle.line_editor.specs.declared.actions.Action.{Action}
 use Rattle.line_editor.specs.declared.actions.Action.TheVariants as does
+use Rattle.line_editor.specs.declared.last.Last.{Last}
+use Rattle.line_editor.specs.declared.last.Last.TheVariants.{Killed, Other, Walked}
 use Rattle.line_editor.specs.declared.limits.Limits.{Limits}
 use Rattle.line_editor.specs.declared.places.Stop.TheVariants.{Edge}
 use Rattle.line_editor.specs.declared.places.Target.{Target}
-use Rattle.line_editor.specs.declared.places.Target.TheVariants.{Forward}
+use Rattle.line_editor.specs.declared.places.Target.TheVariants.{Back, Forward}
 use Rattle.line_editor.specs.Splits.{Split, line_text}
 use Rattle.line_editor.specs.Edits.{cut_text, empty_line, erased, inserted, meeting, settled, transposed}
 use Rattle.line_editor.specs.Places.{target_place}
@@ -18,7 +20,7 @@ pub record EditorState : Type 0 where
   -- The limits of all that follows.
   pub limits : Limits
   pub line : Split
-  -- The text that was killed last.
+  -- The text that was killed last, by kills side by side.
   pub killed : List ℕ
   -- The lines that undo and redo bring back, the newest first.
   pub past : List Split
@@ -31,8 +33,8 @@ pub record EditorState : Type 0 where
   pub unfinished : Split
   -- Whether a character was typed last, which is undone with the next one.
   pub typing : Bool
-  -- Whether the line was found by a search for any line, as which the next one goes on.
-  pub walking : Bool
+  -- What the last action was, as far as the next one goes on with it.
+  pub last : Last
 
 -- A fresh editor has an empty line, and nothing came before it.
 abbrev pub fresh : Limits → EditorState
@@ -46,7 +48,7 @@ fresh limits = record {
   back = 0;
   unfinished = empty_line;
   typing = false;
-  walking = false;
+  last = Other;
 }
 
 -- ---- changes of the line
@@ -57,15 +59,15 @@ pushed w = take w.limits.steps (w.line ∷ w.past)
 
 -- The editor with another line, and the line before it can be undone.
 abbrev pub changed : Split → EditorState → EditorState
-changed d w = record w { line = d; past = pushed w; undone = []; typing = false; walking = false }
+changed d w = record w { line = d; past = pushed w; undone = []; typing = false }
 
 -- The editor after a character was typed. It is undone together with the characters that were typed just before it.
 abbrev pub after_typing : Split → EditorState → EditorState
-after_typing d w = record w { line = d; past = if w.typing then w.past else pushed w; undone = []; typing = true; walking = false }
+after_typing d w = record w { line = d; past = if w.typing then w.past else pushed w; undone = []; typing = true }
 
 -- The editor with its cursor elsewhere.
 abbrev pub moved : Split → EditorState → EditorState
-moved d w = record w { line = d; typing = false; walking = false }
+moved d w = record w { line = d; typing = false }
 
 -- ---- what is written
 
@@ -80,7 +82,7 @@ write (c ∷ text) w = changed (inserted (c ∷ text) w.line) w
 
 -- The editor after a paste: its shown characters are written, with a blank for each run of line ends and tabs.
 abbrev pub pasted_into : List ℕ → EditorState → EditorState
-pasted_into text w = write (pasted_part text) w
+pasted_into text w = record (write (pasted_part text) w) { last = Other }
 
 -- ---- what is erased
 
@@ -89,10 +91,21 @@ abbrev pub erase_cut : List ℕ → Target → EditorState → EditorState
 erase_cut [] target w = w
 erase_cut (c ∷ text) target w = changed (erased target w.line) w
 
+-- The text to which that of a kill is kill_text: what was killed, if the last action was a kill.
+abbrev pub kept_by : Last → List ℕ → List ℕ
+kept_by Killed killed = killed
+kept_by last killed = []
+
+-- A text that was cut, kill_text to another one in the direction in which it was cut.
+abbrev pub kill_text : Target → List ℕ → List ℕ → List ℕ
+kill_text (Back stop) text kept = text ++ kept
+kill_text (Forward stop) text kept = kept ++ text
+
 -- The editor after the part that a target reaches is erased and kept as killed. An empty part does nothing.
 abbrev pub kill_cut : List ℕ → Target → EditorState → EditorState
 kill_cut [] target w = w
-kill_cut (c ∷ text) target w = record (changed (erased target w.line) w) { killed = c ∷ text }
+kill_cut (c ∷ text) target w =
+    record (changed (erased target w.line) w) { killed = kill_text target (c ∷ text) (kept_by w.last w.killed) }
 
 -- The editor after two clusters are transposed. If nothing is before their meeting place, nothing happens.
 abbrev pub transpose_at : List ℕ → EditorState → EditorState
@@ -104,12 +117,12 @@ transpose_at (c ∷ before) w = changed (transposed w.line) w
 -- The editor with the newest line of the past, if there is one. The line before it can be redone.
 abbrev pub undo_to : List Split → EditorState → EditorState
 undo_to [] w = w
-undo_to (d ∷ past) w = record w { line = d; past = past; undone = w.line ∷ w.undone; typing = false; walking = false }
+undo_to (d ∷ past) w = record w { line = d; past = past; undone = w.line ∷ w.undone; typing = false }
 
 -- The editor with the line that was undone last, if there is one. The line before it can be undone.
 abbrev pub redo_to : List Split → EditorState → EditorState
 redo_to [] w = w
-redo_to (d ∷ undone) w = record w { line = d; past = w.line ∷ w.past; undone = undone; typing = false; walking = false }
+redo_to (d ∷ undone) w = record w { line = d; past = w.line ∷ w.past; undone = undone; typing = false }
 
 -- ---- history
 
@@ -165,10 +178,14 @@ first_with front shown passed [] = None
 first_with front shown passed (d ∷ lines) =
     rest_or (other_rest front shown (line_text d)) (passed + 1) (first_with front shown (passed + 1) lines)
 
--- The text that a search looks for at the beginning of lines. It is what is before the cursor, or nothing once more
--- after a search for any line.
+-- The text that a search looks for if this text is before the cursor: nothing after a search for any line.
+abbrev pub sought_by : Last → List ℕ → List ℕ
+sought_by Walked text = []
+sought_by last text = text
+
+-- The text that a search looks for at the beginning of lines.
 abbrev pub sought : EditorState → List ℕ
-sought w = if w.walking then [] else reverse w.line.before
+sought w = sought_by w.last (reverse w.line.before)
 
 -- The next older line that begins with what is looked for, and is another than the line: its place, and the rest of
 -- it. `None` if there is none.
@@ -181,15 +198,10 @@ abbrev pub found_line : List ℕ → List ℕ → Split
 found_line [] rest = record { before = reverse rest; after = [] }
 found_line (c ∷ front) rest = settled (record { before = reverse (c ∷ front); after = rest })
 
--- Whether a search looks for any line.
-abbrev pub is_any : List ℕ → Bool
-is_any [] = true
-is_any (c ∷ front) = false
-
 -- The editor with a line that was found, if there is one.
 abbrev pub searched_to : Option (ℕ × List ℕ) → EditorState → EditorState
 searched_to None w = w
-searched_to (Some found) w = record (left_for (found_line (sought w) found.1) w) { back = found.0; walking = is_any (sought w) }
+searched_to (Some found) w = record (left_for (found_line (sought w) found.1) w) { back = found.0 }
 
 -- The history with an accepted line as its newest, up to the limit of lines. An empty line isn't remembered.
 abbrev pub remembered : Limits → Split → List ℕ → List Split → List Split
@@ -206,19 +218,34 @@ accepted w = record (dropped w) { history = remembered w.limits w.line (line_tex
 
 -- ---- actions
 
+-- What an action makes of the editor, but for what it is to the next one.
+abbrev pub acted : Action → EditorState → EditorState
+acted (does.Insert c) w = type_char c w
+acted (does.Go target) w = moved (target_place target w.line) w
+acted (does.Erase target) w = erase_cut (cut_text target w.line) target w
+acted (does.Kill target) w = kill_cut (cut_text target w.line) target w
+acted does.Yank w = write w.killed w
+acted does.Transpose w = transpose_at (meeting w.line.before w.line.after).before w
+acted does.Undo w = undo_to w.past w
+acted does.Redo w = redo_to w.undone w
+acted does.Older w = older_to (slice_get w.history w.back) w
+acted does.Newer w = newer_from w.back w
+acted does.Search w = searched_to (found w) w
+
+-- Whether a text has no characters.
+abbrev pub is_empty : List ℕ → Bool
+is_empty [] = true
+is_empty (c ∷ text) = false
+
+-- What an action is to the next one. A kill that cuts nothing is no kill.
+abbrev pub last_after : Action → EditorState → Last
+last_after does.Search w = if is_empty (sought w) then Walked else Other
+last_after (does.Kill target) w = if is_empty (cut_text target w.line) then Other else Killed
+last_after action w = Other
+
 -- The editor after an action.
 abbrev pub after : Action → EditorState → EditorState
-after (does.Insert c) w = type_char c w
-after (does.Go target) w = moved (target_place target w.line) w
-after (does.Erase target) w = erase_cut (cut_text target w.line) target w
-after (does.Kill target) w = kill_cut (cut_text target w.line) target w
-after does.Yank w = write w.killed w
-after does.Transpose w = transpose_at (meeting w.line.before w.line.after).before w
-after does.Undo w = undo_to w.past w
-after does.Redo w = redo_to w.undone w
-after does.Older w = older_to (slice_get w.history w.back) w
-after does.Newer w = newer_from w.back w
-after does.Search w = searched_to (found w) w
+after action w = record (acted action w) { last = last_after action w }
 
 -- The action only moves the cursor.
 abbrev pub IsMove : Action → Type 0

@@ -16,7 +16,8 @@ pub enum Action {
     Go(Target),
     /// Erases what is between the cursor and a target (`backward-delete-char`, `delete-char`).
     Erase(Target),
-    /// Erases it, and keeps it for a yank (`kill-line`, `backward-kill-word` and others).
+    /// Erases it, and keeps it for a yank (`kill-line`, `backward-kill-word` and others). Kills side by side are one text, in the order of the
+    /// line.
     Kill(Target),
     /// Writes the text that was killed last (`yank`).
     Yank,

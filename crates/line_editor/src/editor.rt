@@ -10,17 +10,19 @@ ghost use Rattle.line_editor.specs.History.{loaded, saved};
 ghost use Rattle.line_editor.specs.Places.{target_place};
 ghost use Rattle.line_editor.specs.Shown.{AreShown, pasted_part};
 ghost use Rattle.line_editor.specs.Splits.{line_text};
-ghost use Rattle.line_editor.specs.States.{IsMove, accepted, after, changed, dropped, erase_cut, found, fresh, kill_cut, left_for, moved, newer_from, newer_line, older_to, pasted_into, redo_to, remembered, run_actions, searched_to, sought, transpose_at, type_char, after_typing, undo_to, write};
+ghost use Rattle.line_editor.specs.States.{IsMove, accepted, acted, after, changed, dropped, erase_cut, found, fresh, kill_text, kept_by, kill_cut, last_after, left_for, moved, newer_from, newer_line, older_to, pasted_into, redo_to, remembered, run_actions, searched_to, sought, transpose_at, type_char, after_typing, undo_to, write};
 
 use crate::actions::Action;
+use crate::draft::Draft;
 use crate::fault::EditFault;
 use crate::history::{history_of, saved};
+use crate::last::Last;
 use crate::limits::Limits;
 use crate::lines::Line;
 use crate::places::{Stop, Target};
 use crate::recent::RecentLines;
 use crate::shown::{is_shown, pasted, pasted_len};
-use crate::texts::is_nothing;
+use crate::texts::{is_nothing, joined};
 use std::alloc::{AllocError, Allocator, Global};
 use std::marker::Model;
 
@@ -36,15 +38,13 @@ use std::marker::Model;
 pub struct Editor<A: Allocator = Global> {
     alloc: A,
     limits: Limits,
-    line: Line<A>,
+    draft: Draft<A>,
     killed: String<A>,
-    past: RecentLines<A>,
-    undone: RecentLines<A>,
     history: RecentLines<A>,
     back: usize,
     unfinished: Line<A>,
-    typing: bool,
-    walking: bool,
+    // What the last action was.
+    last: Last,
 }
 
 impl<A: Allocator> Model for Editor<A> {
@@ -56,15 +56,15 @@ impl<A: Allocator> Model for Editor<A> {
 
     ghost view = { λ e. record {
       limits = e.limits;
-      line = e.line;
+      line = e.draft.line;
       killed = chars (string_bytes e.killed);
-      past = e.past;
-      undone = e.undone;
+      past = e.draft.past;
+      undone = e.draft.undone;
       history = e.history;
       back = e.back;
       unfinished = e.unfinished;
-      typing = e.typing;
-      walking = e.walking;
+      typing = e.draft.typing;
+      last = e.last;
     } };
 
     ghost use Rattle.line_editor.specs.Shown.{AreShown};
@@ -78,15 +78,12 @@ fn started<A: Allocator + Clone>(alloc: A, limits: Limits) -> Result<Editor<A>, 
 {
     Ok(Editor {
         limits,
-        line: Line::new(alloc.clone()?),
+        draft: Draft::new(Line::new(alloc.clone()?), alloc.clone()?, alloc.clone()?),
         killed: String::new(alloc.clone()?),
-        past: RecentLines::new(alloc.clone()?),
-        undone: RecentLines::new(alloc.clone()?),
         history: RecentLines::new(alloc.clone()?),
         back: 0,
         unfinished: Line::new(alloc.clone()?),
-        typing: false,
-        walking: false,
+        last: Last::Other,
         alloc,
     })
 }
@@ -100,7 +97,7 @@ impl<A: Allocator> Editor<A> {
     pub fn line(&self) -> &Line<A>
         ensures { result.now ≡ self.now.line }
     {
-        &self.line
+        self.draft.line()
     }
 
     /// The bounds of the line, the history and the changes that can be undone.
@@ -118,7 +115,9 @@ impl<A: Allocator> Editor<A> {
     fn room(&self) -> usize
         ensures { result ≡ room_of self.now }
     {
-        self.limits.bytes.saturating_sub(self.line.text().len())
+        self.limits
+            .bytes
+            .saturating_sub(self.draft.line().text().len())
     }
 
     /// Whether what an action writes has no room.
@@ -149,13 +148,10 @@ impl<A: Allocator> Editor<A> {
     pub fn let_go(&mut self)
         ensures { self.new ≡ dropped self.old }
     {
-        self.line.clear();
+        self.draft.clear();
         self.unfinished.clear();
-        self.past.clear();
-        self.undone.clear();
         self.back = 0;
-        self.typing = false;
-        self.walking = false;
+        self.last = Last::Other;
     }
 }
 
@@ -184,10 +180,7 @@ impl<A: Allocator + Clone> Editor<A> {
         ensures ok { OnOk result (self.new ≡ changed line self.old) }
         ensures err { OnErr result (self.new ≡ self.old) }
     {
-        self.past.put(&mut self.line, line, self.limits.steps)?;
-        self.undone.clear();
-        self.typing = false;
-        self.walking = false;
+        self.draft.change(line, self.limits.steps)?;
         Ok(())
     }
 
@@ -197,15 +190,7 @@ impl<A: Allocator + Clone> Editor<A> {
         ensures ok { OnOk result (self.new ≡ after_typing (inserted (chars text.now) self.old.line) self.old) }
         ensures err { OnErr result (self.new ≡ self.old) }
     {
-        if self.typing {
-            self.line.insert(text)?;
-            self.undone.clear();
-            self.walking = false;
-            return Ok(());
-        }
-        let line = self.line.inserted(text)?;
-        self.change(line)?;
-        self.typing = true;
+        self.draft.type_text(text, self.limits.steps)?;
         Ok(())
     }
 
@@ -225,9 +210,7 @@ impl<A: Allocator + Clone> Editor<A> {
     fn go(&mut self, target: Target)
         ensures { self.new ≡ moved (target_place target self.old.line) self.old }
     {
-        self.line.go(target);
-        self.typing = false;
-        self.walking = false;
+        self.draft.go(target);
     }
 
     /// Erases what a target reaches.
@@ -235,11 +218,36 @@ impl<A: Allocator + Clone> Editor<A> {
         ensures ok { OnOk result (self.new ≡ erase_cut (cut_text target self.old.line) target self.old) }
         ensures err { OnErr result (self.new ≡ self.old) }
     {
-        if is_nothing(self.line.cut(target)) {
+        if is_nothing(self.draft.line().cut(target)) {
             return Ok(());
         }
-        let line = self.line.erased(target)?;
-        self.change(line)
+        self.draft.erase(target, self.limits.steps)?;
+        Ok(())
+    }
+
+    /// The text to which that of a kill is joined.
+    fn kept(&self) -> &str
+        ensures text { chars result.now ≡ kept_by self.now.last self.now.killed }
+        ensures shown { AreShown (chars result.now) }
+    {
+        match self.last {
+            Last::Killed => self.killed.as_str(),
+            Last::Other => "",
+            Last::Walked => "",
+        }
+    }
+
+    /// The text that a kill keeps.
+    fn killed_by(&self, target: Target) -> Result<String<A>, AllocError>
+        ensures text { IfOk result (λ killed. chars (string_bytes killed) ≡ kill_text target (cut_text target self.now.line) (kept_by self.now.last self.now.killed)) }
+        ensures shown { IfOk result (λ killed. AreShown (chars (string_bytes killed))) }
+    {
+        let kept = self.kept();
+        let text = self.draft.line().cut(target);
+        match target {
+            Target::Back(_) => joined(self.alloc.clone()?, text, kept),
+            Target::Forward(_) => joined(self.alloc.clone()?, kept, text),
+        }
     }
 
     /// Erases what a target reaches, and keeps it.
@@ -247,13 +255,11 @@ impl<A: Allocator + Clone> Editor<A> {
         ensures ok { OnOk result (self.new ≡ kill_cut (cut_text target self.old.line) target self.old) }
         ensures err { OnErr result (self.new ≡ self.old) }
     {
-        let text = self.line.cut(target);
-        if is_nothing(text) {
+        if is_nothing(self.draft.line().cut(target)) {
             return Ok(());
         }
-        let killed = String::from_str(self.alloc.clone()?, text)?;
-        let line = self.line.erased(target)?;
-        self.change(line)?;
+        let killed = self.killed_by(target)?;
+        self.draft.erase(target, self.limits.steps)?;
         self.killed = killed;
         Ok(())
     }
@@ -266,8 +272,8 @@ impl<A: Allocator + Clone> Editor<A> {
         if is_nothing(self.killed.as_str()) {
             return Ok(());
         }
-        let line = self.line.inserted(self.killed.as_str())?;
-        self.change(line)
+        self.draft.put(self.killed.as_str(), self.limits.steps)?;
+        Ok(())
     }
 
     /// Transposes two clusters, if there are two.
@@ -275,11 +281,11 @@ impl<A: Allocator + Clone> Editor<A> {
         ensures ok { OnOk result (self.new ≡ transpose_at (meeting self.old.line.before self.old.line.after).before self.old) }
         ensures err { OnErr result (self.new ≡ self.old) }
     {
-        if !self.line.has_two() {
+        if !self.draft.line().has_two() {
             return Ok(());
         }
-        let line = self.line.transposed()?;
-        self.change(line)
+        self.draft.exchange(self.limits.steps)?;
+        Ok(())
     }
 
     /// Brings back the newest line of the past.
@@ -287,12 +293,7 @@ impl<A: Allocator + Clone> Editor<A> {
         ensures ok { OnOk result (self.new ≡ undo_to self.old.past self.old) }
         ensures err { OnErr result (self.new ≡ self.old) }
     {
-        if self.past.len() == 0 {
-            return Ok(());
-        }
-        self.past.exchange(&mut self.line, &mut self.undone)?;
-        self.typing = false;
-        self.walking = false;
+        self.draft.undo()?;
         Ok(())
     }
 
@@ -301,12 +302,7 @@ impl<A: Allocator + Clone> Editor<A> {
         ensures ok { OnOk result (self.new ≡ redo_to self.old.undone self.old) }
         ensures err { OnErr result (self.new ≡ self.old) }
     {
-        if self.undone.len() == 0 {
-            return Ok(());
-        }
-        self.undone.exchange(&mut self.line, &mut self.past)?;
-        self.typing = false;
-        self.walking = false;
+        self.draft.redo()?;
         Ok(())
     }
 
@@ -318,7 +314,7 @@ impl<A: Allocator + Clone> Editor<A> {
         if self.back > 0 {
             return self.change(line);
         }
-        let unfinished = self.line.copy()?;
+        let unfinished = self.draft.line().copy()?;
         self.change(line)?;
         self.unfinished = unfinished;
         Ok(())
@@ -378,10 +374,10 @@ impl<A: Allocator + Clone> Editor<A> {
         ensures text { chars result.now ≡ sought self.now }
         ensures shown { AreShown (chars result.now) }
     {
-        if self.walking {
-            return "";
+        match self.last {
+            Last::Walked => "",
+            Last::Other | Last::Killed => self.draft.line().before(),
         }
-        self.line.before()
     }
 
     /// Shows the next older line that begins with the text before the cursor, and isn't the same line.
@@ -390,22 +386,23 @@ impl<A: Allocator + Clone> Editor<A> {
         ensures err { OnErr result (self.new ≡ self.old) }
     {
         let front = self.sought();
-        match self.history.find(front, self.line.text(), self.back) {
+        match self
+            .history
+            .find(front, self.draft.line().text(), self.back)
+        {
             None => Ok(()),
             Some((back, rest)) => {
-                let walking = is_nothing(front);
                 let line = Line::found(self.alloc.clone()?, front, rest)?;
                 self.leave_for(line)?;
                 self.back = back;
-                self.walking = walking;
                 Ok(())
             }
         }
     }
 
-    /// Does one thing for which there is room.
-    fn perform(&mut self, action: Action) -> Result<(), AllocError>
-        ensures ok { OnOk result (self.new ≡ after action self.old) }
+    /// Does one thing for which there is room, but for what it is to the next one.
+    fn edit(&mut self, action: Action) -> Result<(), AllocError>
+        ensures ok { OnOk result (self.new ≡ acted action self.old) }
         ensures err { OnErr result (self.new ≡ self.old) }
         ensures free { IsMove action → IsOk result }
     {
@@ -424,6 +421,33 @@ impl<A: Allocator + Clone> Editor<A> {
             Action::Older => self.older(),
             Action::Newer => self.newer(),
             Action::Search => self.search(),
+        }
+    }
+
+    /// What an action is to the next one.
+    fn last_after(&self, action: Action) -> Last
+        ensures { result ≡ last_after action self.now }
+    {
+        match action {
+            Action::Search if is_nothing(self.sought()) => Last::Walked,
+            Action::Kill(target) if !is_nothing(self.draft.line().cut(target)) => Last::Killed,
+            _ => Last::Other,
+        }
+    }
+
+    /// Does one thing for which there is room.
+    fn perform(&mut self, action: Action) -> Result<(), AllocError>
+        ensures ok { OnOk result (self.new ≡ after action self.old) }
+        ensures err { OnErr result (self.new ≡ self.old) }
+        ensures free { IsMove action → IsOk result }
+    {
+        let last = self.last_after(action);
+        match self.edit(action) {
+            Ok(()) => {
+                self.last = last;
+                Ok(())
+            }
+            Err(error) => Err(error),
         }
     }
 
@@ -475,15 +499,15 @@ impl<A: Allocator + Clone> Editor<A> {
 
     /// Writes what of a text comes into a line.
     fn write_pasted(&mut self, text: &str) -> Result<(), AllocError>
-        ensures ok { OnOk result (self.new ≡ pasted_into (chars text.now) self.old) }
+        ensures ok { OnOk result (self.new ≡ write (pasted_part (chars text.now)) self.old) }
         ensures err { OnErr result (self.new ≡ self.old) }
     {
         let text = pasted(self.alloc.clone()?, text)?;
         if is_nothing(text.as_str()) {
             return Ok(());
         }
-        let line = self.line.inserted(text.as_str())?;
-        self.change(line)
+        self.draft.put(text.as_str(), self.limits.steps)?;
+        Ok(())
     }
 
     /// Writes a text at the cursor, as one change (`bracketed-paste-begin`).
@@ -509,7 +533,10 @@ impl<A: Allocator + Clone> Editor<A> {
             return Err(EditFault::TooLong);
         }
         match self.write_pasted(text) {
-            Ok(()) => Ok(()),
+            Ok(()) => {
+                self.last = Last::Other;
+                Ok(())
+            }
             Err(_) => Err(EditFault::Memory),
         }
     }
@@ -519,10 +546,10 @@ impl<A: Allocator + Clone> Editor<A> {
         ensures ok { OnOk result (self.new ≡ record self.old { history = remembered self.old.limits self.old.line (line_text self.old.line) self.old.history }) }
         ensures err { OnErr result (self.new ≡ self.old) }
     {
-        if is_nothing(self.line.text()) {
+        if is_nothing(self.draft.line().text()) {
             return Ok(());
         }
-        let mut line = self.line.copy()?;
+        let mut line = self.draft.line().copy()?;
         line.go(Target::Forward(Stop::Edge));
         self.history.add(line, self.limits.lines)
     }
@@ -534,7 +561,7 @@ impl<A: Allocator + Clone> Editor<A> {
         ensures ok { OnOk result (self.new ≡ accepted self.old) }
         ensures err { OnErr result (self.new ≡ self.old) }
     {
-        let text = String::from_str(self.alloc.clone()?, self.line.text())?;
+        let text = String::from_str(self.alloc.clone()?, self.draft.line().text())?;
         self.remember()?;
         self.let_go();
         Ok(text)
@@ -610,7 +637,7 @@ impl<A: Allocator + Clone> Editor<A> {
             Ok(history) => {
                 self.history = history;
                 self.back = 0;
-                self.walking = false;
+                self.last = Last::Other;
                 Ok(())
             }
             Err(_) => Err(EditFault::Memory),

@@ -143,7 +143,6 @@ fn both(code: KeyCode) -> Option<KeyCommand>
 /// |---|---|
 /// | Ctrl-R skips each line that equals the one that is shown | so it does only behind a text that is looked for |
 /// | Ctrl-W takes every white space for the end of a word | blanks and tabs alone |
-/// | Ctrl-Y gives the text of the last kill | kills side by side are one text |
 /// | a line of the history that was changed is as it was accepted when one comes back to it | the change is kept until a line is accepted |
 /// | Ctrl-_ takes back all characters that were typed side by side | 20 at a time |
 /// | line ends and tabs of a paste are blanks | they are kept |

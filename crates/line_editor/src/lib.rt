@@ -18,7 +18,7 @@
 //!
 //! | Proved | By the contract of |
 //! |---|---|
-//! | what each action makes of an editor, and each refusal by name: a text is refused as too long exactly if it has no room, and nothing has changed; line ends and tabs of a paste are blanks | `Editor::{act, paste}` |
+//! | what each action makes of an editor, and each refusal by name: a text is refused as too long exactly if it has no room, and nothing has changed; line ends and tabs of a paste are blanks, and kills side by side are one text | `Editor::{act, paste}` |
 //! | some actions are done one after another, or those before the first that is refused | `Editor::run` |
 //! | neither a move nor letting a line go is ever refused | `Editor::{act, let_go}` |
 //! | an accepted line has its text, and is the newest of as many lines as the limit says | `Editor::accept` |
@@ -63,10 +63,13 @@
 #![tactic(auto)]
 
 mod actions;
+mod changes;
+mod draft;
 mod editor;
 mod fault;
 mod history;
 mod keys;
+mod last;
 pub mod laws;
 mod limits;
 mod lines;

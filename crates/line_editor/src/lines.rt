@@ -1,5 +1,6 @@
 //! A line of text with a cursor.
-ghost use Rattle.std.specs.Prelude.{◌≡◌, ℕ, ◌-◌, ◌<◌, ◌≤◌, List, [], ◌∷◌, ◌++◌, IfOk, MatchBool, OnErr, OnOk, take, drop, length, reverse};
+ghost use Rattle.std.specs.Prelude.{◌≡◌, ℕ, ◌+◌, ◌-◌, ◌<◌, ◌≤◌, List, [], ◌∷◌, ◌++◌, IfOk, MatchBool, OnErr, OnOk, take, drop, length, reverse, slice_range};
+ghost use Rattle.std.specs.List.{insert_slice};
 ghost use Rattle.std.specs.String.{string_bytes};
 ghost use Rattle.std.specs.Str.{chars, IsCharBoundary};
 ghost use Rattle.unicode_segmentation.specs.Segments.{chars_before, chars_from};
@@ -11,12 +12,15 @@ ghost use Rattle.line_editor.specs.Shown.{AreShown};
 ghost use Rattle.line_editor.specs.Splits.{split_at, line_text};
 ghost use Rattle.line_editor.specs.States.{found_line};
 ghost use Rattle.line_editor.specs.Views.{column, seen_text};
+ghost use Rattle.line_editor.specs.inside.Changes.{Fits, TakesBack, bytes_before, line_bytes, spliced};
 
+use crate::changes::Change;
 use crate::places::{Stop, Target, ahead, place_of};
 use crate::texts::{is_nothing, split_last};
 use crate::views::{end_seen, start_seen};
 use std::alloc::{AllocError, Allocator, Global};
 use std::marker::Model;
+use std::mem;
 
 /// A line of text with a cursor, which is between two extended grapheme clusters (UAX 29) or at an end of the line. A line has no control
 /// characters, and none of more than two columns.
@@ -66,6 +70,26 @@ fn spliced<A: Allocator>(
     new.push_str(with)?;
     new.push_str(&text[to..])?;
     Ok(new)
+}
+
+/// Puts a text in place of what is between two places, and returns what was there.
+fn swap<A: Allocator + Clone>(
+    text: &mut String<A>,
+    from: usize,
+    to: usize,
+    with: &str,
+) -> Result<String<A>, AllocError>
+    requires order { from ≤ to }
+    requires from { IsCharBoundary (string_bytes text.old) from }
+    requires to { IsCharBoundary (string_bytes text.old) to }
+    ensures ok { OnOk result (string_bytes text.new ≡ (take from (string_bytes text.old) ++ with.now) ++ drop to (string_bytes text.old)) }
+    ensures removed { IfOk result (λ removed. string_bytes removed ≡ slice_range (string_bytes text.old) from to) }
+    ensures err { OnErr result (string_bytes text.new ≡ string_bytes text.old) }
+{
+    let alloc = text.allocator().clone()?;
+    let removed = String::from_str(alloc, &text.as_str()[from..to])?;
+    text.replace_range(from..to, with)?;
+    Ok(removed)
 }
 
 /// A line of such a text, with the cursor behind what was written, or behind the cluster that this ends in.
@@ -211,22 +235,49 @@ impl<A: Allocator> Line<A> {
 }
 
 impl<A: Allocator> Line<A> {
-    /// Inserts a text at the cursor. The line isn't copied.
+    /// Inserts a text at the cursor, and returns its end. The line isn't copied.
     ///
     /// # Errors
     ///
     /// `AllocError` if memory was refused. Then nothing has changed.
-    pub(crate) fn insert(&mut self, text: &str) -> Result<(), AllocError>
+    pub(crate) fn insert(&mut self, text: &str) -> Result<usize, AllocError>
         requires { AreShown (chars text.now) }
         ensures ok { OnOk result (self.new ≡ inserted (chars text.now) self.old) }
+        ensures bytes { OnOk result (line_bytes self.new ≡ insert_slice (line_bytes self.old) (bytes_before self.old) text.now) }
+        ensures end { IfOk result (λ end. end ≡ bytes_before self.old + length text.now) }
+        ensures on { IfOk result (λ end. end ≤ bytes_before self.new) }
         ensures err { OnErr result (self.new ≡ self.old) }
     {
         let whole = self.text.as_str();
         let behind = whole.len() - self.at;
         self.text.insert_str(self.at, text)?;
         let whole = self.text.as_str();
-        self.at = ahead(whole, whole.len() - behind, Stop::Cluster);
-        Ok(())
+        let end = whole.len() - behind;
+        self.at = ahead(whole, end, Stop::Cluster);
+        Ok(end)
+    }
+
+    /// The bytes before the cursor.
+    pub(crate) fn at(&self) -> usize
+        ensures value { result ≡ bytes_before self.now }
+        ensures boundary { IsCharBoundary (line_bytes self.now) result }
+        ensures place { split_at (line_bytes self.now) result ≡ self.now }
+    {
+        self.at
+    }
+
+    /// Another line takes its place. Returns what takes that back.
+    pub(crate) fn give_way_to(&mut self, line: Line<A>) -> Change<A>
+        ensures line { self.new ≡ line }
+        ensures back { TakesBack result self.old self.new }
+    {
+        let Line { text, at } = mem::replace(self, line);
+        Change {
+            from: 0,
+            to: self.text.as_str().len(),
+            text,
+            at,
+        }
     }
 
     /// Whether there are two clusters to transpose: something is before the place at which they meet.
@@ -292,40 +343,102 @@ impl<A: Allocator + Clone> Line<A> {
         Ok(Line { text, at: self.at })
     }
 
-    /// The line with a text inserted at the cursor.
+    /// Puts a text in place of what is between two places, with the cursor behind it, or behind the cluster that it ends in. Returns what
+    /// takes that back.
     ///
     /// # Errors
     ///
-    /// `AllocError` if memory was refused.
-    pub(crate) fn inserted(&self, text: &str) -> Result<Line<A>, AllocError>
+    /// `AllocError` if memory was refused. Then nothing has changed.
+    fn splice(&mut self, from: usize, to: usize, with: &str) -> Result<Change<A>, AllocError>
+        requires order { from ≤ to }
+        requires from { IsCharBoundary (line_bytes self.old) from }
+        requires to { IsCharBoundary (line_bytes self.old) to }
+        requires with { AreShown (chars with.now) }
+        ensures ok { OnOk result (self.new ≡ line_with (split_at (line_bytes self.old) from) (chars with.now) (split_at (line_bytes self.old) to)) }
+        ensures back { IfOk result (λ c. TakesBack c self.old self.new) }
+        ensures end { IfOk result (λ c. c.to ≤ bytes_before self.new) }
+        ensures err { OnErr result (self.new ≡ self.old) }
+    {
+        let whole = self.text.as_str();
+        let behind = whole.len() - to;
+        let removed = swap(&mut self.text, from, to, with)?;
+        let whole = self.text.as_str();
+        let end = whole.len() - behind;
+        let change = Change {
+            from,
+            to: end,
+            text: removed,
+            at: self.at,
+        };
+        self.at = ahead(whole, end, Stop::Cluster);
+        Ok(change)
+    }
+
+    /// Does a change, and returns what takes that back.
+    ///
+    /// # Errors
+    ///
+    /// `AllocError` if memory was refused. Then nothing has changed.
+    pub(crate) fn take_back(&mut self, change: &Change<A>) -> Result<Change<A>, AllocError>
+        requires { Fits (line_bytes self.old) change.now }
+        ensures ok { OnOk result (self.new ≡ split_at (spliced change.now (line_bytes self.old)) change.now.at) }
+        ensures back { IfOk result (λ c. TakesBack c self.old self.new) }
+        ensures err { OnErr result (self.new ≡ self.old) }
+    {
+        let whole = self.text.as_str();
+        let behind = whole.len() - change.to;
+        let with = change.text.as_str();
+        let removed = swap(&mut self.text, change.from, change.to, with)?;
+        let whole = self.text.as_str();
+        let back = Change {
+            from: change.from,
+            to: whole.len() - behind,
+            text: removed,
+            at: self.at,
+        };
+        self.at = change.at;
+        Ok(back)
+    }
+
+    /// Inserts a text at the cursor, and returns what takes that back.
+    ///
+    /// # Errors
+    ///
+    /// `AllocError` if memory was refused. Then nothing has changed.
+    pub(crate) fn put(&mut self, text: &str) -> Result<Change<A>, AllocError>
         requires { AreShown (chars text.now) }
-        ensures { IfOk result (λ line. line ≡ inserted (chars text.now) self.now) }
+        ensures ok { OnOk result (self.new ≡ inserted (chars text.now) self.old) }
+        ensures back { IfOk result (λ c. TakesBack c self.old self.new) }
+        ensures end { IfOk result (λ c. c.to ≤ bytes_before self.new) }
+        ensures err { OnErr result (self.new ≡ self.old) }
     {
-        let alloc = self.text.allocator().clone()?;
-        edited(alloc, self.text.as_str(), self.at, self.at, text)
+        let at = self.at();
+        self.splice(at, at, text)
     }
 
-    /// The line without what a target reaches.
+    /// Erases what a target reaches, and returns what takes that back.
     ///
     /// # Errors
     ///
-    /// `AllocError` if memory was refused.
-    pub(crate) fn erased(&self, target: Target) -> Result<Line<A>, AllocError>
-        ensures { IfOk result (λ line. line ≡ erased target self.now) }
+    /// `AllocError` if memory was refused. Then nothing has changed.
+    pub(crate) fn erase(&mut self, target: Target) -> Result<Change<A>, AllocError>
+        ensures ok { OnOk result (self.new ≡ erased target self.old) }
+        ensures back { IfOk result (λ c. TakesBack c self.old self.new) }
+        ensures err { OnErr result (self.new ≡ self.old) }
     {
-        let alloc = self.text.allocator().clone()?;
-        let text = self.text.as_str();
-        let (from, to) = reach(text, self.at, target);
-        edited(alloc, text, from, to, "")
+        let (from, to) = reach(self.text.as_str(), self.at, target);
+        self.splice(from, to, "")
     }
 
-    /// The line with the clusters before and behind the cursor exchanged, and at its end the last two.
+    /// Exchanges the clusters before and behind the cursor, and at the line's end the last two. Returns what takes that back.
     ///
     /// # Errors
     ///
-    /// `AllocError` if memory was refused.
-    pub(crate) fn transposed(&self) -> Result<Line<A>, AllocError>
-        ensures { IfOk result (λ line. line ≡ transposed self.now) }
+    /// `AllocError` if memory was refused. Then nothing has changed.
+    pub(crate) fn exchange(&mut self) -> Result<Change<A>, AllocError>
+        ensures ok { OnOk result (self.new ≡ transposed self.old) }
+        ensures back { IfOk result (λ c. TakesBack c self.old self.new) }
+        ensures err { OnErr result (self.new ≡ self.old) }
     {
         let text = self.text.as_str();
         let middle = meeting(text, self.at);
@@ -333,12 +446,6 @@ impl<A: Allocator + Clone> Line<A> {
         let to = place_of(text, middle, Target::Forward(Stop::Cluster));
         let mut with = String::from_str(self.text.allocator().clone()?, &text[middle..to])?;
         with.push_str(&text[from..middle])?;
-        edited(
-            self.text.allocator().clone()?,
-            text,
-            from,
-            to,
-            with.as_str(),
-        )
+        self.splice(from, to, with.as_str())
     }
 }

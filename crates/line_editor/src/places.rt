@@ -101,6 +101,22 @@ pub(crate) fn is_between(text: &str, at: usize) -> bool
     requires { IsCharBoundary text.now at }
     ensures { result ≡ breaks_at is_between text.now at }
 {
+    let bytes = text.as_bytes();
+    if at > 0 && at < bytes.len() {
+        // No two characters of one byte are joined but CR and LF.
+        if bytes[at - 1] < 128 && bytes[at] < 128 && bytes[at] != b'\n' {
+            return true;
+        }
+    }
+    is_between_any(text, at)
+}
+
+/// The same for any characters.
+#[inline(never)]
+fn is_between_any(text: &str, at: usize) -> bool
+    requires { IsCharBoundary text.now at }
+    ensures { result ≡ breaks_at is_between text.now at }
+{
     let mut cursor = GraphemeCursor::new(at, text.len(), true);
     match cursor.is_boundary(text, 0) {
         Ok(is_boundary) => is_boundary,
@@ -214,6 +230,8 @@ pub(crate) fn place_of(text: &str, at: usize, target: Target) -> usize
     ensures place { split_at text.now result ≡ target_place target (split_at text.now at) }
 {
     match target {
+        Target::Back(Stop::Edge) => 0,
+        Target::Forward(Stop::Edge) => text.len(),
         Target::Back(stop) => {
             if at == 0 {
                 return 0;

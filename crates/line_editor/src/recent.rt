@@ -2,7 +2,6 @@
 ghost use Rattle.std.specs.Prelude.{◌≡◌, [], ◌∷◌, IfOk, IfSome, OnOk, OnErr, drop, length, slice_get, take};
 ghost use Rattle.std.specs.Option.{option_map};
 ghost use Rattle.std.specs.Str.{chars};
-ghost use Rattle.line_editor.specs.Recent.{first_or, pushed_if, rest_of};
 ghost use Rattle.line_editor.specs.Shown.{AreShown};
 ghost use Rattle.line_editor.specs.Splits.{line_text};
 ghost use Rattle.line_editor.specs.States.{first_with};
@@ -12,7 +11,6 @@ use crate::texts::other_rest;
 use std::alloc::{AllocError, Allocator, Global};
 use std::collections::VecDeque;
 use std::marker::Model;
-use std::mem;
 
 /// Lines, of which the newest is the first.
 #[derive(Drop)]
@@ -65,57 +63,6 @@ impl<A: Allocator> RecentLines<A> {
         self.lines.reserve(1)?;
         self.lines.push_front_reserved(line);
         self.lines.truncate(limit);
-        Ok(())
-    }
-
-    /// Adds a line, whose place another one takes, and lets the oldest ones go beyond a limit.
-    ///
-    /// # Errors
-    ///
-    /// `AllocError` if memory was refused. Then nothing has changed.
-    pub(crate) fn put(
-        &mut self,
-        line: &mut Line<A>,
-        new: Line<A>,
-        limit: usize,
-    ) -> Result<(), AllocError>
-        ensures ok { OnOk result (self.new ≡ take limit (line.old ∷ self.old)) }
-        ensures line { OnOk result (line.new ≡ new) }
-        ensures err { OnErr result (self.new ≡ self.old) }
-        ensures line_err { OnErr result (line.new ≡ line.old) }
-    {
-        self.lines.reserve(1)?;
-        let old = mem::replace(line, new);
-        self.lines.push_front_reserved(old);
-        self.lines.truncate(limit);
-        Ok(())
-    }
-
-    /// Takes the newest line, if there is one, in exchange for another, which becomes the newest of a second list.
-    ///
-    /// # Errors
-    ///
-    /// `AllocError` if memory was refused. Then nothing has changed.
-    pub(crate) fn exchange(
-        &mut self,
-        line: &mut Line<A>,
-        to: &mut RecentLines<A>,
-    ) -> Result<(), AllocError>
-        ensures ok { OnOk result (self.new ≡ rest_of self.old) }
-        ensures line { OnOk result (line.new ≡ first_or line.old self.old) }
-        ensures to { OnOk result (to.new ≡ pushed_if self.old line.old to.old) }
-        ensures err { OnErr result (self.new ≡ self.old) }
-        ensures line_err { OnErr result (line.new ≡ line.old) }
-        ensures to_err { OnErr result (to.new ≡ to.old) }
-    {
-        to.lines.reserve(1)?;
-        match self.lines.pop_front() {
-            None => {}
-            Some(first) => {
-                let old = mem::replace(line, first);
-                to.lines.push_front_reserved(old);
-            }
-        }
         Ok(())
     }
 }

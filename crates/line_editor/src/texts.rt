@@ -1,9 +1,12 @@
 //! Texts by their characters.
-ghost use Rattle.std.specs.Prelude.{◌≡◌, ◌<◌, ℕ, List, [], ◌∷◌, IfSome, MatchBool, MatchOption, length, reverse};
+ghost use Rattle.std.specs.Prelude.{◌≡◌, ◌<◌, ℕ, List, [], ◌∷◌, ◌++◌, IfOk, IfSome, MatchBool, MatchOption, length, reverse};
 ghost use Rattle.std.specs.Option.{option_map};
 ghost use Rattle.std.specs.Str.{bytes_eq, chars};
+ghost use Rattle.std.specs.String.{string_bytes};
 ghost use Rattle.line_editor.specs.Shown.{AreShown};
 ghost use Rattle.line_editor.specs.States.{behind_front, other_rest};
+
+use std::alloc::{AllocError, Allocator};
 
 /// The last character of a text, and the text before it.
 pub(crate) fn split_last(text: &str) -> Option<(char, &str)>
@@ -77,6 +80,22 @@ fn is_same(text: &str, other: &str) -> bool
     ensures { result ≡ bytes_eq (chars text.now) (chars other.now) }
 {
     text == other
+}
+
+/// Two texts, one behind the other.
+pub(crate) fn joined<A: Allocator>(
+    alloc: A,
+    front: &str,
+    rest: &str,
+) -> Result<String<A>, AllocError>
+    requires front { AreShown (chars front.now) }
+    requires rest { AreShown (chars rest.now) }
+    ensures text { IfOk result (λ new. chars (string_bytes new) ≡ chars front.now ++ chars rest.now) }
+    ensures shown { IfOk result (λ new. AreShown (chars (string_bytes new))) }
+{
+    let mut new = String::from_str(alloc, front)?;
+    new.push_str(rest)?;
+    Ok(new)
 }
 
 /// What is behind a front in a text that begins with it, unless it is the text that is shown.

@@ -28,7 +28,7 @@ const CONTROL: KeyModifiers = KeyModifiers::CONTROL;
 const ALT: KeyModifiers = KeyModifiers::ALT;
 
 /// Commands by their default keys. The history has `first line`, and after it `second line`.
-static ROWS: [Row; 41] = [
+static ROWS: [Row; 47] = [
     Row {
         command: "self-insert",
         line: "o|e",
@@ -292,6 +292,72 @@ static ROWS: [Row; 41] = [
             (KeyCode::Char('r'), CONTROL),
         ],
         after: "first line|",
+    },
+    // Kills side by side are one text. These lines are those of bash 5.2, by `read -e`.
+    Row {
+        command: "kill-word",
+        line: "|a b c",
+        keys: &[
+            (KeyCode::Char('d'), ALT),
+            (KeyCode::Char('d'), ALT),
+            (KeyCode::End, NONE),
+            (KeyCode::Char('y'), CONTROL),
+        ],
+        after: " ca b|",
+    },
+    Row {
+        command: "unix-word-rubout",
+        line: "a b c|",
+        keys: &[
+            (KeyCode::Char('w'), CONTROL),
+            (KeyCode::Char('w'), CONTROL),
+            (KeyCode::Char('y'), CONTROL),
+        ],
+        after: "a b c|",
+    },
+    Row {
+        command: "backward-kill-word",
+        line: "a b c d|",
+        keys: &[
+            (KeyCode::Backspace, ALT),
+            (KeyCode::Backspace, ALT),
+            (KeyCode::Char('y'), CONTROL),
+            (KeyCode::Char('y'), CONTROL),
+        ],
+        after: "a b c dc d|",
+    },
+    Row {
+        command: "kill-line",
+        line: "a b c|",
+        keys: &[
+            (KeyCode::Char('w'), CONTROL),
+            (KeyCode::Char('k'), CONTROL),
+            (KeyCode::Char('w'), CONTROL),
+            (KeyCode::Char('y'), CONTROL),
+        ],
+        after: "a b |",
+    },
+    Row {
+        command: "unix-line-discard",
+        line: "one |two",
+        keys: &[
+            (KeyCode::Char('u'), CONTROL),
+            (KeyCode::Char('k'), CONTROL),
+            (KeyCode::Char('y'), CONTROL),
+        ],
+        after: "one two|",
+    },
+    Row {
+        command: "unix-word-rubout",
+        line: "a b c|",
+        keys: &[
+            (KeyCode::Char('w'), CONTROL),
+            (KeyCode::Left, NONE),
+            (KeyCode::End, NONE),
+            (KeyCode::Char('w'), CONTROL),
+            (KeyCode::Char('y'), CONTROL),
+        ],
+        after: "a b |",
     },
     Row {
         command: "not bound",

@@ -1,0 +1,19 @@
+use Rattle.std.proofs.Common.{◌∙◌, ◌∷◌, ap, refl, take}
+use Rattle.std.specs.Prelude.{true}
+use Rattle.std.specs.Str.{chars}
+use Rattle.line_editor.specs.Edits.{inserted}
+use Rattle.line_editor.proofs.Drafting.{noted-AreChanges, seen_typed}
+use Rattle.line_editor.proofs.draft.Draft.type_text.Goals as goal
+
+pub invariant_of-self-2 : goal.invariant_of-self-2
+invariant_of-self-2 g c =
+    noted-AreChanges c.args.steps c.in_ok-change.change c.self.inside.line c.put.new.self c.in_ok-change.ensures.back c.self.inside.past.items c.self.inside.undone.items
+    c.note.new.changes.items c.clear.new.self.items c.self.inside.typing true c.self.invariant
+    (c.note.ensures ∙ ap (λ l. take c.args.steps (c.in_ok-change.change ∷ l)) c.in_ok-reserve.ensures.items) c.clear.ensures.items (λ _. c.in_ok-change.ensures.end)
+
+pub returns-clause-ok : goal.returns-clause-ok
+returns-clause-ok g c =
+    seen_typed c.args.steps c.in_ok-change.change c.self.inside.line c.put.new.self c.in_ok-change.ensures.back c.self.inside.past.items c.self.inside.undone.items
+    c.note.new.changes.items c.clear.new.self.items c.self.inside.typing true c.self.invariant
+    (c.note.ensures ∙ ap (λ l. take c.args.steps (c.in_ok-change.change ∷ l)) c.in_ok-reserve.ensures.items) c.clear.ensures.items
+    c.args.self.now c.self.view_is (inserted (chars c.args.text.now)) c.in_ok-change.ensures.ok c.if-self.false refl

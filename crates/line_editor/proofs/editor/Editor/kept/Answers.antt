@@ -1,0 +1,18 @@
+use Rattle.std.proofs.Common.{◌∙◌, refl, sym, ap}
+use Rattle.std.proofs.lemmas.Str.{chars-nil}
+use Rattle.line_editor.specs.States.{EditorState}
+use Rattle.line_editor.proofs.Searching.{kept-other, kept-walked}
+use Rattle.line_editor.proofs.Showing.{shown-nothing}
+use Rattle.line_editor.proofs.editor.Editor.kept.Goals as goal
+
+pub returns-in-Other-clause-text : goal.returns-in-Other-clause-text
+returns-in-Other-clause-text g c = chars-nil ∙ kept-other c.args.self.now (ap (λ (w : EditorState). w.last) (sym c.self.view_is) ∙ c.in-Other.is)
+
+pub returns-in-Other-clause-shown : goal.returns-in-Other-clause-shown
+returns-in-Other-clause-shown g c = shown-nothing _ refl
+
+pub returns-in-Walked-clause-text : goal.returns-in-Walked-clause-text
+returns-in-Walked-clause-text g c = chars-nil ∙ kept-walked c.args.self.now (ap (λ (w : EditorState). w.last) (sym c.self.view_is) ∙ c.in-Walked.is)
+
+pub returns-in-Walked-clause-shown : goal.returns-in-Walked-clause-shown
+returns-in-Walked-clause-shown g c = shown-nothing _ refl
