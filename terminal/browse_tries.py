@@ -2,6 +2,7 @@
 import os
 import re
 import signal
+import tempfile
 import time
 
 from debug_lines import rows_in
@@ -55,6 +56,22 @@ def window_without_a_size():
             terminal.close()
 
 
+def window_of_no_known_size():
+    """A window of 0 by 0 if `tput` fails: the error says that no size is known."""
+    with tempfile.TemporaryDirectory() as folder:
+        with open(f'{folder}/tput', 'w', encoding='utf-8') as file:
+            file.write('#!/bin/sh\nexit 1\n')
+        os.chmod(f'{folder}/tput', 0o755)
+        terminal = Terminal(f'{WITH} {program("browse")}', size=(0, 0), path=folder)
+        try:
+            equal('status', terminal.end(), 1)
+            said = b"the terminal's helper failed: no size is known"
+            equal(f'{said!r} in {terminal.out!r}', said in terminal.out, True)
+            terminal.none_left()
+        finally:
+            terminal.close()
+
+
 def browsed(run):
     """The rows within the border of tmux's screen by their first words, and those that are reversed."""
     rows = run('capture-pane', '-t', 't', '-p', '-e').decode().rstrip('\n').split('\n')[1:-1]
@@ -100,5 +117,5 @@ def browse_in_tmux():
         equal('after Esc', rows_in(run), ['ended 0'])
 
 
-TRIES = [window_without_a_size, browse_here]
+TRIES = [window_without_a_size, window_of_no_known_size, browse_here]
 IN_TMUX = [browse_in_tmux]
