@@ -91,20 +91,26 @@ impl<'a> Saved<'a> {
                     )?;
                     Ok(true)
                 }
-                Err(error) => self.say(out, "isn't UTF-8, and can't be renamed", error),
+                Err(error) => {
+                    self.say(out, "isn't UTF-8, and can't be renamed", error)?;
+                    Ok(false)
+                }
             },
-            Err(error) => self.say(out, "can't be read", error),
+            Err(error) => {
+                self.say(out, "can't be read", error)?;
+                Ok(false)
+            }
         }
     }
 
-    /// Says what is wrong with the file, unless something was said already. Returns that its end isn't known.
-    fn say<W: Write>(&mut self, out: &mut W, what: &str, error: io::Error) -> io::Result<bool> {
+    /// Says what is wrong with the file, unless something was said already.
+    fn say<W: Write>(&mut self, out: &mut W, what: &str, error: io::Error) -> io::Result<()> {
         if !self.is_said {
             let file = self.file;
             write!(out, "shell: {file} {what}: {error}\r\n")?;
             self.is_said = true;
         }
-        Ok(false)
+        Ok(())
     }
 
     /// Appends an accepted line, unless it is empty, and before it those that couldn't be written.
@@ -123,10 +129,10 @@ impl<'a> Saved<'a> {
         }
         self.unwritten.extend_from_slice(line.as_bytes())?;
         self.unwritten.push(b'\n')?;
-        if let Err(error) = self.write(rt) {
-            self.say(out, "can't be written", error)?;
+        match self.write(rt) {
+            Ok(()) => Ok(()),
+            Err(error) => self.say(out, "can't be written", error),
         }
-        Ok(())
     }
 
     /// Appends what isn't in the file. If a part of it was written, the rest is left for the next time.
