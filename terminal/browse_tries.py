@@ -2,6 +2,7 @@
 import os
 import re
 import signal
+import tempfile
 import time
 
 from debug_lines import rows_in
@@ -42,14 +43,30 @@ def browse_here():
 
 def window_without_a_size():
     """A window of 0 by 0 counts as what `tput` says, 80 by 24."""
-    for name, typed, shown in (('edit', b'abc\x03', b'abc'), ('browse', b'\x1b', '\x1b[13;1H│VPA'.encode())):
+    for name, typed, shown in (('edit', b'abc\x03', b'\x1b[5G\x1b[0mc'), ('browse', b'\x1b', '\x1b[13;1H│VPA'.encode())):
         terminal = Terminal(f'{WITH} {program(name)}', size=(0, 0))
         try:
-            terminal.until({'edit': b'> ', 'browse': b'CBT'}[name])
+            terminal.until({'edit': b'>\x1b[0m\x1b[3G', 'browse': b'CBT'}[name])
             terminal.send(typed)
             equal(f'status of {name}', terminal.end(), 0)
             if shown not in terminal.out:
                 raise Wrong(f'{name} shows {terminal.out[-600:]!r}')
+            terminal.none_left()
+        finally:
+            terminal.close()
+
+
+def window_of_no_known_size():
+    """A window of 0 by 0 if `tput` fails: the error says that no size is known."""
+    with tempfile.TemporaryDirectory() as folder:
+        with open(f'{folder}/tput', 'w', encoding='utf-8') as file:
+            file.write('#!/bin/sh\nexit 1\n')
+        os.chmod(f'{folder}/tput', 0o755)
+        terminal = Terminal(f'{WITH} {program("browse")}', size=(0, 0), path=folder)
+        try:
+            equal('status', terminal.end(), 1)
+            said = b"the terminal's helper failed: no size is known"
+            equal(f'{said!r} in {terminal.out!r}', said in terminal.out, True)
             terminal.none_left()
         finally:
             terminal.close()
@@ -100,5 +117,5 @@ def browse_in_tmux():
         equal('after Esc', rows_in(run), ['ended 0'])
 
 
-TRIES = [window_without_a_size, browse_here]
+TRIES = [window_without_a_size, window_of_no_known_size, browse_here]
 IN_TMUX = [browse_in_tmux]

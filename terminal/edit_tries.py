@@ -1,8 +1,7 @@
-"""How `edit` and `shell` do in a terminal."""
+"""How `edit` does in a terminal."""
 import os
 import re
 import select
-import tempfile
 import time
 
 from debug_lines import rows_in
@@ -202,61 +201,5 @@ def edit_shows_marks_in_tmux():
         shows('> e\u0301bc\U0001f468\ufffd\U0001f469y', 5)
 
 
-def shell_in(path):
-    terminal = Terminal(f'{WITH} {program("shell")} {path}')
-    terminal.until(b'$' + ended(3))
-    return terminal
-
-
-def shell_completes_and_remembers():
-    """Tab completes a command's name, its hint is no part of the line, and the history comes back after a restart."""
-    with tempfile.TemporaryDirectory() as room:
-        path = os.path.join(room, 'history')
-        terminal = shell_in(path)
-        try:
-            # A hint is dim, behind the cursor, and erased as the row is left.
-            terminal.send(b'ec')
-            terminal.until(b'\x1b[3G\x1b[0me\x1b[0m\x1b[2mcho' + ended(4) + b'\x1b[?2026h\x1b[4G\x1b[0mc' + ended(5))
-            terminal.send(b'\r')
-            terminal.until(ended(5) + b'\x1b[K\r\nec is no command: ')
-            terminal.send(b'ec\t')
-            terminal.until(b'\x1b[5G\x1b[0mho' + ended(7))
-            terminal.send(b' some words\r')
-            terminal.until(b'\r\nsome words\r\n')
-            # Nothing completes this, and undo takes a completion back.
-            terminal.send(b'x\t\x7fhe\t\x1f')
-            terminal.until(b'\x1b[5G\x1b[0mlp' + ended(7) + b'\x1b[?2026h\x1b[5G\x1b[0m\x1b[2mlp' + ended(5))
-            terminal.send(b'\x15q\t\r')
-            equal('status', terminal.end(), 0)
-        finally:
-            terminal.close()
-        with open(path, 'rb') as file:
-            equal('history', file.read(), b'ec\necho some words\nquit\n')
-        terminal = shell_in(path)
-        try:
-            terminal.send(b'\x1b[A\x1b[A')
-            terminal.until(b'\x1b[3G\x1b[0mecho\x1b[8Gsome\x1b[13Gwords' + ended(18))
-            terminal.send(b'\r')
-            terminal.until(b'\r\nsome words\r\n')
-            terminal.send(b'history\r')
-            terminal.until(b'\r\nec\r\necho some words\r\nquit\r\necho some words\r\nhistory\r\n')
-            terminal.send(b'\x04')
-            equal('status', terminal.end(), 0)
-            terminal.none_left()
-        finally:
-            terminal.close()
-        with open(path, 'wb') as file:
-            file.write(b'\xff\n')
-        terminal = Terminal(f'{WITH} {program("shell")} {path}')
-        try:
-            terminal.until(f"shell: {path} can't be read: ".encode())
-            equal('status', terminal.end(), 1)
-        finally:
-            terminal.close()
-
-
-TRIES = [
-    edit_keeps_the_order, edit_loses_no_key_between_lines, edit_pastes_many_lines, edit_without_answers, edit_after_a_resize,
-    shell_completes_and_remembers,
-]
+TRIES = [edit_keeps_the_order, edit_loses_no_key_between_lines, edit_pastes_many_lines, edit_without_answers, edit_after_a_resize]
 IN_TMUX = [edit_in_tmux, edit_shows_marks_in_tmux]

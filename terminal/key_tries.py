@@ -121,7 +121,9 @@ def keys_pass_releases():
 
 def keys_tell_bad_lines():
     with keys('x\ncontrol-x = one\n\nctrl-foo = two\n= three\ng g = four\ng  g = five\n') as terminal:
-        want = ['no action', 'unknown modifier', 'unknown key', 'no chord', 'the same chords are bound']
+        want = [
+            'no action', 'a chord with an unknown modifier', 'a chord with an unknown key', 'no chord to bind', 'the same chords are bound',
+        ]
         rows = [f'line {number}: {fault}' for number, fault in zip((1, 2, 4, 5, 7), want)]
         equal('bad lines', lines(terminal.out)[:5], rows)
         expect_keys(terminal, b'gg', ['four'], '')

@@ -34,7 +34,7 @@ fn run_plain(rt: &HostRuntime, name: &str, words: &[String]) -> io::Result<()> {
         ("replay", [file, form @ ..]) => replay::run(rt, file.as_str(), form, &mut out),
         _ => {
             eprintln!(rt; "{USAGE}")?;
-            Err(io::Error::from(ErrorKind::InvalidInput))
+            Err(io::Error::new(ErrorKind::InvalidInput, "no example takes these words"))
         }
     }
 }

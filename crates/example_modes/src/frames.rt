@@ -167,7 +167,7 @@ pub fn run<I: BufRead + Drop, W: Write>(
         let line = line?;
         if let Err(wrong) = frames.take(out, line.as_str()) {
             eprintln!(rt; "{wrong}: {line}")?;
-            return Err(io::Error::from(ErrorKind::InvalidInput));
+            return Err(io::Error::new(ErrorKind::InvalidInput, "a line can't be done"));
         }
         out.flush()?;
     }

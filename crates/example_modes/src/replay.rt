@@ -211,7 +211,7 @@ fn load<R: AllocGlobal + Eprint>(rt: &R, file: &str, text: &[u8]) -> io::Result<
             if bad.reason == Wrong::Unended {
                 eprintln!(rt; "{file}: the recording was cut; --front replays the lines before")?;
             }
-            Err(io::Error::from(ErrorKind::InvalidData))
+            Err(io::Error::new(ErrorKind::InvalidData, "the file is no recording"))
         }
     }
 }
@@ -261,7 +261,8 @@ pub fn run<R: AllocGlobal + Files + Clock + Eprint, W: Write>(
     out: &mut W,
 ) -> io::Result<()> {
     let Some((is_front, form)) = read_words(words) else {
-        return Err(io::Error::from(ErrorKind::InvalidInput));
+        let usage = "behind FILE: [--front] [--speed N | --probe | --cast]";
+        return Err(io::Error::new(ErrorKind::InvalidInput, usage));
     };
     let text = fs::read(rt, file)?;
     let text = text.as_slice();

@@ -14,30 +14,39 @@ use std::io::ErrorKind;
 use std::{fmt, io};
 use thiserror::Error;
 
-/// Why a text is no chord. As an `io::Error` it has the kind `InvalidInput`.
+/// Why a text is no chord. As an `io::Error` it has the kind `InvalidInput` and the same text.
 ///
 /// ```
 /// assert_eq!(rt; read_chord("control-x"), Err(ChordFault::UnknownModifier));
 /// ```
 #[derive(Clone, Copy, Debug, PartialEq, Eq, Error)]
+#[error("{}", self.words())]
 pub enum ChordFault {
     /// There is no key: the text is empty, or ends behind a modifier.
-    #[error("no key")]
     Empty,
     /// What precedes a hyphen is no modifier.
-    #[error("unknown modifier")]
     UnknownModifier,
     /// The key has no such name.
-    #[error("unknown key")]
     UnknownKey,
+}
+
+impl ChordFault {
+    /// What a program prints of it.
+    fn words(&self) -> &'static str {
+        match self {
+            ChordFault::Empty => "a chord without a key",
+            ChordFault::UnknownModifier => "a chord with an unknown modifier",
+            ChordFault::UnknownKey => "a chord with an unknown key",
+        }
+    }
 }
 
 impl From<ChordFault> for io::Error {
     ghost from_gives = { λ fault error. error_kind error ≡ InvalidInput };
 
-    /// Of the kind `InvalidInput`.
-    fn from(_fault: ChordFault) -> io::Error {
-        io::Error::from(ErrorKind::InvalidInput)
+    /// Of the kind `InvalidInput`, with the fault's text.
+    fn from(fault: ChordFault) -> io::Error {
+        io::Error::new(ErrorKind::InvalidInput, fault.words())
     }
 }
 

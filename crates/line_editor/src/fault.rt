@@ -9,30 +9,39 @@ use thiserror::Error;
 
 /// Why a call of an editor is refused. Then nothing has changed.
 ///
-/// As an `io::Error`, `Memory` has the kind `OutOfMemory`, and `TooLong` has `InvalidInput`.
+/// As an `io::Error`, `Memory` has the kind `OutOfMemory`, and `TooLong` has `InvalidInput` and the same text.
 ///
 /// ```
 /// let mut editor = Editor::new(alloc, Limits { bytes: 2, ..Limits::default() })?;
 /// assert_eq!(rt; editor.paste("abc"), Err(EditFault::TooLong));
 /// ```
 #[derive(Clone, Copy, Debug, PartialEq, Eq, Error)]
+#[error("{}", self.words())]
 pub enum EditFault {
     /// Memory was refused.
-    #[error("out of memory")]
     Memory,
     /// The line would have more bytes than its limit.
-    #[error("the line would be too long")]
     TooLong,
+}
+
+impl EditFault {
+    /// What a program prints of it.
+    fn words(&self) -> &'static str {
+        match self {
+            EditFault::Memory => "out of memory",
+            EditFault::TooLong => "the line would be too long",
+        }
+    }
 }
 
 impl From<EditFault> for io::Error {
     ghost from_gives = { λ fault error. error_kind error ≡ line_fault_kind fault };
 
-    /// Of the kind `OutOfMemory` if memory was refused, else `InvalidInput`.
+    /// Of the kind `OutOfMemory` if memory was refused, else `InvalidInput`, with the fault's text.
     fn from(fault: EditFault) -> io::Error {
         match fault {
             EditFault::Memory => io::Error::from(ErrorKind::OutOfMemory),
-            EditFault::TooLong => io::Error::from(ErrorKind::InvalidInput),
+            EditFault::TooLong => io::Error::new(ErrorKind::InvalidInput, fault.words()),
         }
     }
 }

@@ -19,7 +19,7 @@ use crossterm::style::ColorOutput;
 use crossterm::terminal::{EnterAlternateScreen, LeaveAlternateScreen};
 use crossterm_command::write_text;
 use std::fmt;
-use std::io::{self, ErrorKind, Write};
+use std::io::{self, Write};
 
 /// What a program switches on in its terminal. A session switches it off again when it ends.
 #[derive(Clone, Copy, PartialEq, Eq, Debug)]
@@ -57,7 +57,7 @@ fn send<W: Write, C: Command>(out: &mut W, command: &C) -> io::Result<()>
     let mut text = ArrayString::<48>::new();
     match command.write_ansi(&mut text, ColorOutput::Enabled) {
         Ok(()) => write_flushed(out, text.as_str()),
-        Err(fmt::Error) => Err(io::Error::from(ErrorKind::Other)),
+        Err(fmt::Error) => Err(io::Error::other("a feature's text has no room")),
     }
 }
 

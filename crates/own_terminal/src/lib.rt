@@ -138,7 +138,10 @@ pub fn arguments<R: Runtime + Alloc<A = Global>>(rt: &R) -> io::Result<(Vec<Stri
         Some(folder) => Ok((words, folder)),
         None => {
             eprintln!(rt; "this program needs a terminal: start it by terminal/with_terminal")?;
-            Err(io::Error::from(ErrorKind::InvalidInput))
+            Err(io::Error::new(
+                ErrorKind::InvalidInput,
+                "no folder of pipes as the last argument",
+            ))
         }
     }
 }

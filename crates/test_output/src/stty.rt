@@ -6,8 +6,9 @@ use crate::witness::Witness;
 use crossterm::event::source::RawFlag;
 use crossterm::terminal::{ModeDevice, SttyDevice, SttyMode, Terminal, WindowSize};
 use std::alloc::Global;
+use std::format;
 use std::io::{self, ErrorKind, Read, Write};
-use test_support::expect;
+use test_support::{expect, is_text};
 
 /// Raw mode on and off again, and the size, by these answers.
 fn use_all<W: Write + Drop>(alloc: Global, answers: &[u8], requests: W) -> io::Result<(u16, u16)> {
@@ -53,31 +54,42 @@ fn a_helper_that_is_gone_is_reported(rt: HostRuntime) {
     }
 }
 
-/// The kind of the fault that these answers lead to.
-fn fault(alloc: Global, answers: &[u8]) -> Option<ErrorKind> {
+const HAS_ENDED: &str = "the terminal's helper has ended";
+
+const NO_MODE: &str = "the terminal's helper failed: no mode was set or reported";
+
+const NO_LINE: &str = "the terminal's helper didn't answer by a line of ASCII";
+
+const OTHER_MODE: &str = "the terminal's helper set another mode";
+
+const NO_SIZE: &str = "the terminal's helper failed: no size is known";
+
+/// Whether these answers lead to an error of a kind, of which a program prints this.
+fn fails(alloc: Global, answers: &[u8], kind: ErrorKind, want: &str) -> bool {
     let mut requests = Vec::new(alloc);
     match use_all(alloc, answers, &mut requests) {
-        Ok(_) => None,
-        Err(error) => Some(error.kind()),
+        Ok(_) => false,
+        Err(error) => error.kind() == kind && is_text(format!(in alloc; "{error}"), want),
     }
 }
 
 #[test]
 fn refusals_are_reported(rt: HostRuntime) {
     let alloc = rt.alloc();
-    let rows: [(&[u8], ErrorKind); 9] = [
-        (b"", ErrorKind::UnexpectedEof),
-        (b"500:5", ErrorKind::UnexpectedEof),
-        (b"failed\n", ErrorKind::Other),
-        (b"\n", ErrorKind::Other),
-        (b"5\xc3\xa9\n", ErrorKind::InvalidData),
-        (b"5\nfailed\n", ErrorKind::Other),
-        (b"5\n0\nfailed\n", ErrorKind::Other),
-        (b"5\n0\n6\n", ErrorKind::Other),
-        (b"5\n0\n5\n24\n0\n", ErrorKind::Other),
+    let rows: [(&[u8], ErrorKind, &str); 10] = [
+        (b"", ErrorKind::UnexpectedEof, HAS_ENDED),
+        (b"500:5", ErrorKind::UnexpectedEof, HAS_ENDED),
+        (b"failed\n", ErrorKind::Other, NO_MODE),
+        (b"\n", ErrorKind::Other, NO_MODE),
+        (b"5\xc3\xa9\n", ErrorKind::InvalidData, NO_LINE),
+        (b"5\nfailed\n", ErrorKind::Other, NO_MODE),
+        (b"5\n0\nfailed\n", ErrorKind::Other, NO_MODE),
+        (b"5\n0\n6\n", ErrorKind::Other, OTHER_MODE),
+        (b"5\n0\n5\n24\n0\n", ErrorKind::Other, NO_SIZE),
+        (b"5\n0\n5\n\n\n", ErrorKind::Other, NO_SIZE),
     ];
-    for (answers, kind) in rows {
-        expect!(rt; fault(alloc, answers) == Some(kind));
+    for (answers, kind, words) in rows {
+        expect!(rt; fails(alloc, answers, kind, words));
     }
 }
 

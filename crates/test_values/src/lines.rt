@@ -8,7 +8,8 @@ use line_editor::{Action, EditFault, Editor, Limits, Line, Outcome, Stop, Target
 use linked_list_allocator::LocalHeap;
 use rustyline::EDITS;
 use std::alloc::{AllocError, Allocator, Global};
-use test_support::{Calls, Came, expect, is_refused_below_a_size};
+use std::{format, io};
+use test_support::{Calls, Came, expect, is_refused_below_a_size, is_text};
 
 /// A key by its code and its modifiers.
 type Key = (KeyCode, KeyModifiers);
@@ -600,4 +601,12 @@ impl Calls for Actions {
 fn each_allocation_is_refused_and_leaves_the_line(rt: HostRuntime) -> Result<(), AllocError> {
     expect!(rt; is_refused_below_a_size(rt.alloc(), &Actions)?);
     Ok(())
+}
+
+#[test]
+fn a_line_that_is_too_long_is_an_error_that_says_so(rt: HostRuntime) {
+    let fault = EditFault::TooLong;
+    let want = "the line would be too long";
+    expect!(rt; is_text(format!(in rt.alloc(); "{fault}"), want));
+    expect!(rt; is_text(format!(in rt.alloc(); "{}", io::Error::from(fault)), want));
 }

@@ -79,17 +79,20 @@ fn faults_have_names(rt: HostRuntime) -> Result<(), AllocError> {
     Ok(())
 }
 
-/// What a program prints of each fault.
+/// What a program prints of each fault, and of the error that it becomes.
 const TEXTS: [(CellFault, &str); 8] = [
-    (CellFault::Outside, "outside the buffer"),
-    (CellFault::Control, "a control character"),
-    (CellFault::NoWidth, "a character of width 0"),
+    (CellFault::Outside, "a cell outside the buffer"),
+    (CellFault::Control, "a control character in a cell"),
+    (CellFault::NoWidth, "a character of width 0 in a cell"),
     (CellFault::Wide, "a character of too many columns"),
     (
         CellFault::Joined,
         "a character that terminals join with others",
     ),
-    (CellFault::ManyMarks, "more than three marks"),
+    (
+        CellFault::ManyMarks,
+        "a character with more than three marks",
+    ),
     (
         CellFault::LastColumn,
         "a character of two columns in the last one",
@@ -100,8 +103,10 @@ const TEXTS: [(CellFault, &str); 8] = [
     ),
 ];
 
-fn is_shown(alloc: Global, fault: &DrawFault, want: &str) -> bool {
+/// Whether a fault and the error that it becomes are shown so.
+fn is_shown(alloc: Global, fault: DrawFault, want: &str) -> bool {
     is_text(format!(in alloc; "{fault}"), want)
+        && is_text(format!(in alloc; "{}", io::Error::from(fault)), want)
 }
 
 fn have_texts(alloc: Global) -> bool {
@@ -109,12 +114,21 @@ fn have_texts(alloc: Global) -> bool {
         format!(in alloc; "{fault}"),
         want,
     ));
+    let are_errors_right = TEXTS.iter().all(|(fault, want)| is_text(
+        format!(in alloc; "{}", io::Error::from(*fault)),
+        want,
+    ));
+    let broken = DrawFault::Command(CommandFault::Text);
     are_cells_right
-        && is_shown(alloc, &DrawFault::Size, "a buffer of another size")
-        && is_shown(alloc, &DrawFault::Cursor, "a cursor outside the screen")
+        && are_errors_right
         && is_shown(
             alloc,
-            &DrawFault::Command(CommandFault::Text),
+            DrawFault::Size,
+            "a buffer of another size than the screen",
+        )
+        && is_shown(alloc, DrawFault::Cursor, "a cursor outside the screen")
+        && is_text(
+            format!(in alloc; "{broken}"),
             "a frame that wasn't written whole",
         )
 }
@@ -131,6 +145,7 @@ fn have_kinds() -> bool {
     let broken = DrawFault::Command(CommandFault::Writer(writer));
     let text = DrawFault::Command(CommandFault::Text);
     io::Error::from(CellFault::Outside).kind() == ErrorKind::InvalidInput
+        && io::Error::from(CellFault::Control).kind() == ErrorKind::InvalidInput
         && io::Error::from(CellFault::Wide).kind() == ErrorKind::InvalidInput
         && io::Error::from(CellFault::LastColumn).kind() == ErrorKind::InvalidInput
         && io::Error::from(DrawFault::Size).kind() == ErrorKind::InvalidInput

@@ -12,24 +12,29 @@ use test_support::{Seat, Still, alone, expect, is_text};
 
 static KEYMAP_FAULTS: [(KeymapFault, &str); 4] = [
     (KeymapFault::Memory, "out of memory"),
-    (KeymapFault::Empty, "no chord"),
-    (KeymapFault::TooLong, "more than 8 chords"),
+    (KeymapFault::Empty, "no chord to bind"),
+    (KeymapFault::TooLong, "more than 8 chords to bind"),
     (KeymapFault::Taken, "the same chords are bound"),
 ];
 
 static CHORD_FAULTS: [(ChordFault, &str); 3] = [
-    (ChordFault::Empty, "no key"),
-    (ChordFault::UnknownModifier, "unknown modifier"),
-    (ChordFault::UnknownKey, "unknown key"),
+    (ChordFault::Empty, "a chord without a key"),
+    (
+        ChordFault::UnknownModifier,
+        "a chord with an unknown modifier",
+    ),
+    (ChordFault::UnknownKey, "a chord with an unknown key"),
 ];
 
 #[test]
 fn faults_have_their_texts(rt: HostRuntime) {
     for (fault, want) in KEYMAP_FAULTS.iter() {
         expect!(rt; is_text(format!(in rt.alloc(); "{fault}"), want), want);
+        expect!(rt; is_text(format!(in rt.alloc(); "{}", io::Error::from(*fault)), want), want);
     }
     for (fault, want) in CHORD_FAULTS.iter() {
         expect!(rt; is_text(format!(in rt.alloc(); "{fault}"), want), want);
+        expect!(rt; is_text(format!(in rt.alloc(); "{}", io::Error::from(*fault)), want), want);
     }
 }
 

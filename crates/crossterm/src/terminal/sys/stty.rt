@@ -30,6 +30,17 @@ const LONGEST: usize = 255;
 // How often a read is made again that a signal interrupted.
 const INTERRUPTIONS: usize = 64;
 
+// What a program prints of the helper's failures.
+const HAS_ENDED: &str = "the terminal's helper has ended";
+
+const IS_NO_LINE: &str = "the terminal's helper didn't answer by a line of ASCII";
+
+const NO_MODE: &str = "the terminal's helper failed: no mode was set or reported";
+
+const NO_SIZE: &str = "the terminal's helper failed: no size is known";
+
+const OTHER_MODE: &str = "the terminal's helper set another mode";
+
 /// A mode of a terminal, as `stty -g` writes it.
 #[derive(Clone, Copy, PartialEq, Eq, Debug)]
 pub struct SttyMode {
@@ -62,7 +73,7 @@ fn read_byte<R: Read>(answers: &mut R) -> io::Result<u8>
     let mut byte = [0u8; 1];
     for _ in 0..=INTERRUPTIONS {
         match answers.read(&mut byte) {
-            Ok(0) => return Err(io::Error::from(ErrorKind::UnexpectedEof)),
+            Ok(0) => return Err(io::Error::new(ErrorKind::UnexpectedEof, HAS_ENDED)),
             Ok(_) => return Ok(byte[0]),
             Err(error) => {
                 if error.kind() != ErrorKind::Interrupted {
@@ -85,14 +96,14 @@ fn read_line<R: Read>(answers: &mut R) -> io::Result<ArrayString<LONGEST>>
             Ok(b'\n') => return Ok(text),
             Ok(byte) => {
                 if byte > 127 || text.len() == LONGEST {
-                    return Err(io::Error::from(ErrorKind::InvalidData));
+                    return Err(io::Error::new(ErrorKind::InvalidData, IS_NO_LINE));
                 }
                 text.push(char::from(byte));
             }
             Err(error) => return Err(error),
         }
     }
-    Err(io::Error::from(ErrorKind::InvalidData))
+    Err(io::Error::new(ErrorKind::InvalidData, IS_NO_LINE))
 }
 
 // Reads a mode.
@@ -102,7 +113,7 @@ fn read_mode<R: Read>(answers: &mut R) -> io::Result<SttyMode>
 {
     match read_line(answers) {
         Ok(text) => match text.as_str() {
-            "" | "failed" => Err(io::Error::from(ErrorKind::Other)),
+            "" | "failed" => Err(io::Error::other(NO_MODE)),
             _ => Ok(SttyMode { text }),
         },
         Err(error) => Err(error),
@@ -125,7 +136,7 @@ fn read_size<R: Read>(answers: &mut R) -> io::Result<(u16, u16)>
     };
     match tput_size(columns.as_str().as_bytes(), rows.as_str().as_bytes()) {
         Some(size) => Ok(size),
-        None => Err(io::Error::from(ErrorKind::Other)),
+        None => Err(io::Error::other(NO_SIZE)),
     }
 }
 
@@ -182,7 +193,7 @@ impl<R: Read + Drop, W: Write + Drop> SttyDevice<R, W> {
         request.push_str("\n");
         self.ask_mode(request.as_str())?;
         if self.mode != *mode {
-            return Err(io::Error::from(ErrorKind::Other));
+            return Err(io::Error::other(OTHER_MODE));
         }
         self.mode = *mode;
         Ok(())

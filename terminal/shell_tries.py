@@ -1,0 +1,195 @@
+"""How `shell` does in a terminal, and what is in the file of its history however it ends."""
+import contextlib
+import os
+import resource
+import signal
+import stat
+import tempfile
+import time
+
+from edit_tries import ended
+from ends import script_of
+from pseudo import WITH, Terminal, Wrong, equal, program
+
+
+@contextlib.contextmanager
+def shell(path, said=''):
+    """A terminal with a shell that shows its prompt. Before that it has said this, after its name."""
+    terminal = Terminal(f'{WITH} {program("shell")} {path}')
+    try:
+        terminal.until(b'$' + ended(3))
+        if said:
+            equal(f'{said} in {terminal.out!r}', f'shell: {said}\r'.encode() in terminal.out, True)
+        yield terminal
+    finally:
+        terminal.close()
+
+
+@contextlib.contextmanager
+def room():
+    """The path of a history in a folder of its own."""
+    with tempfile.TemporaryDirectory() as folder:
+        yield os.path.join(folder, 'history')
+
+
+def says(terminal, *words):
+    """Types lines that say words, and waits for each."""
+    for word in words:
+        terminal.send(b'echo %s\r' % word)
+        terminal.until(b'\r\n%s\r\n' % word)
+
+
+def ends(terminal):
+    """Ends the shell by Ctrl-D in an emptied line."""
+    terminal.send(b'\x15\x04')
+    equal('status', terminal.end(), 0)
+    terminal.none_left()
+
+
+def written(path):
+    """What is in a file, and nothing if there is none."""
+    with contextlib.suppress(FileNotFoundError), open(path, 'rb') as file:
+        return file.read()
+    return b''
+
+
+def write(path, data):
+    with open(path, 'wb') as file:
+        file.write(data)
+
+
+def shell_completes_and_remembers():
+    """Tab completes a command's name, its hint is no part of the line, and the history comes back after a restart."""
+    with room() as path:
+        with shell(path) as terminal:
+            # A hint is dim, behind the cursor, and erased as the row is left.
+            terminal.send(b'ec')
+            terminal.until(b'\x1b[3G\x1b[0me\x1b[0m\x1b[2mcho' + ended(4) + b'\x1b[?2026h\x1b[4G\x1b[0mc' + ended(5))
+            terminal.send(b'\r')
+            terminal.until(ended(5) + b'\x1b[K\r\nec is no command: ')
+            terminal.send(b'ec\t')
+            terminal.until(b'\x1b[5G\x1b[0mho' + ended(7))
+            terminal.send(b' some words\r')
+            terminal.until(b'\r\nsome words\r\n')
+            # Nothing completes this, and undo takes a completion back.
+            terminal.send(b'x\t\x7fhe\t\x1f')
+            terminal.until(b'\x1b[5G\x1b[0mlp' + ended(7) + b'\x1b[?2026h\x1b[5G\x1b[0m\x1b[2mlp' + ended(5))
+            terminal.send(b'\x15\r\r')
+            terminal.send(b'q\t\r')
+            equal('status', terminal.end(), 0)
+        equal('history', written(path), b'ec\necho some words\nquit\n')
+        equal('mode', stat.S_IMODE(os.stat(path).st_mode), 0o600)
+        with shell(path) as terminal:
+            terminal.send(b'\x1b[A\x1b[A')
+            terminal.until(b'\x1b[3G\x1b[0mecho\x1b[8Gsome\x1b[13Gwords' + ended(18))
+            terminal.send(b'\r')
+            terminal.until(b'\r\nsome words\r\n')
+            terminal.send(b'history\r')
+            terminal.until(b'\r\nec\r\necho some words\r\nquit\r\necho some words\r\nhistory\r\n')
+            ends(terminal)
+        equal('history', written(path), b'ec\necho some words\nquit\necho some words\nhistory\n')
+
+
+def shell_process(terminal):
+    """The process of the shell itself."""
+    return max(pid for pid, line in terminal.descendants() if line.split(' ')[0].endswith('example/out/example'))
+
+
+def shell_ends_by_signals():
+    """Each line is in the file as soon as it was accepted, however the program or the script ends, and comes back by Up."""
+    for find in (shell_process, script_of):
+        for number in (signal.SIGKILL, signal.SIGTERM, signal.SIGHUP):
+            with room() as path:
+                with shell(path) as terminal:
+                    says(terminal, b'one', b'two')
+                    os.kill(find(terminal), number)
+                    terminal.none_left()
+                equal(f'history after {number.name}', written(path), b'echo one\necho two\n')
+                with shell(path) as terminal:
+                    terminal.send(b'\x1b[A\x1b[A')
+                    terminal.until(b'one' + ended(11))
+                    ends(terminal)
+                equal('history after another start', written(path), b'echo one\necho two\n')
+
+
+def shell_sets_a_file_aside():
+    """A file that isn't UTF-8 gets a free name, and both names are said."""
+    with room() as path:
+        for number, name in enumerate((f'{path}.aside', f'{path}.aside1')):
+            data = b'%d\xff\n' % number
+            write(path, data)
+            with shell(path, f"{path} isn't UTF-8, and its name is {name} now") as terminal:
+                says(terminal, b'one')
+                ends(terminal)
+            equal('the file that was set aside', written(name), data)
+            equal('history', written(path), b'echo one\n')
+        equal('the first one', written(f'{path}.aside'), b'0\xff\n')
+
+
+def shell_goes_on_without_a_file():
+    """That a file can't be written is said once. Its lines are written as soon as that is possible."""
+    with tempfile.TemporaryDirectory() as folder:
+        path = f'{folder}/missing/history'
+        with shell(path) as terminal:
+            says(terminal, b'one', b'two')
+            said = f"shell: {path} can't be written: ".encode()
+            equal('how often it is said', terminal.out.count(said), 1)
+            os.mkdir(os.path.dirname(path))
+            says(terminal, b'three')
+            equal('how often it is said', terminal.out.count(said), 1)
+            terminal.send(b'history\r')
+            terminal.until(b'\r\necho one\r\necho two\r\necho three\r\nhistory\r\n')
+            ends(terminal)
+        equal('history', written(path), b'echo one\necho two\necho three\nhistory\n')
+        with shell(folder) as terminal:
+            says(terminal, b'one', b'two')
+            equal('how often a folder is named', terminal.out.count(b'shell: %s ' % folder.encode()), 1)
+            ends(terminal)
+
+
+def shell_writes_the_rest_later():
+    """A file that may grow by a part of a line alone, as on a full disk: the rest follows as soon as that is possible."""
+    with room() as path, shell(path) as terminal:
+        says(terminal, b'one')
+        pid = shell_process(terminal)
+        most = resource.prlimit(pid, resource.RLIMIT_FSIZE)
+        resource.prlimit(pid, resource.RLIMIT_FSIZE, (12, most[1]))
+        says(terminal, b'two', b'three')
+        equal('a part of the history', written(path), b'echo one\nech')
+        equal('how often it is said', terminal.out.count(f"shell: {path} can't be written: ".encode()), 1)
+        resource.prlimit(pid, resource.RLIMIT_FSIZE, most)
+        says(terminal, b'four')
+        equal('history', written(path), b'echo one\necho two\necho three\necho four\n')
+        ends(terminal)
+
+
+def shell_appends():
+    """A file that is there is appended to: one whose last line has no end, and one of more lines than the editor keeps."""
+    with room() as path:
+        write(path, b'echo before')
+        os.chmod(path, 0o640)
+        with shell(path) as terminal:
+            ends(terminal)
+        equal('history without a line', written(path), b'echo before')
+        with shell(path) as terminal:
+            says(terminal, b'one', b'two')
+            ends(terminal)
+        equal('history', written(path), b'echo before\necho one\necho two\n')
+        equal('mode', stat.S_IMODE(os.stat(path).st_mode), 0o640)
+        lines = b''.join(b'echo %04d\n' % number for number in range(1500))
+        write(path, lines)
+        start = time.time()
+        with shell(path) as terminal:
+            terminal.send(b'\x1b[A')
+            terminal.until(b'1499' + ended(12))
+            terminal.send(b'\r')
+            terminal.until(b'\r\n1499\r\n')
+            ends(terminal)
+        equal('less than 5 s', time.time() - start < 5, True)
+        equal('history', written(path), lines + b'echo 1499\n')
+
+
+TRIES = [
+    shell_completes_and_remembers, shell_ends_by_signals, shell_sets_a_file_aside, shell_goes_on_without_a_file,
+    shell_writes_the_rest_later, shell_appends,
+]
