@@ -141,7 +141,8 @@ fn both(code: KeyCode) -> Option<KeyCommand>
 ///
 /// | Here | In readline |
 /// |---|---|
-/// | Ctrl-R skips each line that equals the one that is shown | so it does only behind a text that is looked for |
+/// | Ctrl-R skips each line that equals the one that is shown | behind a text it skips one that equals the line it found before, and else none |
+/// | behind a line that a search for a text found, Up and a search for any line go on from that line | they go on from the line before the search |
 /// | Ctrl-W takes every white space for the end of a word | blanks and tabs alone |
 /// | a line of the history that was changed is as it was accepted when one comes back to it | the change is kept until a line is accepted |
 /// | Ctrl-_ takes back all characters that were typed side by side | 20 at a time |
