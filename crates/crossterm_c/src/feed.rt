@@ -9,7 +9,7 @@ ghost use Rattle.crossterm_c.specs.Feeding.{Pastes, view_of};
 ghost use Rattle.crossterm_c.specs.State.{state_at};
 ghost use Rattle.crossterm_c.specs.inside.Table.{FillsBy, table_capacity};
 
-use crate::event::paste_end;
+use numbers::paste_end;
 use crate::state::GelvanhState;
 use crate::table::Table;
 use crossterm_parse::paste::{Met, before_escape};

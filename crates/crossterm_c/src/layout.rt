@@ -2,7 +2,7 @@
 
 use crate::color::GelvanhColor;
 use crate::command::GelvanhCommand;
-use crate::event::GelvanhEvent;
+use numbers::GelvanhEvent;
 use crate::held::{GelvanhHeld, GelvanhReader};
 use crate::state::GelvanhState;
 use std::mem::{align_of, size_of};

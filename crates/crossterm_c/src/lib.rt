@@ -34,7 +34,6 @@
 mod batches;
 mod color;
 mod command;
-mod event;
 mod feed;
 mod held;
 mod laws;

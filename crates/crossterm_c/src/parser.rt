@@ -7,7 +7,7 @@ ghost use Rattle.crossterm_c.specs.Feeding.{Feeds};
 ghost use Rattle.crossterm_c.specs.State.{state_at};
 ghost use Rattle.crossterm_c.specs.Text.{WritesLossy};
 
-use crate::event::{GelvanhEvent, of_key};
+use numbers::{GelvanhEvent, of_key};
 use crate::feed::{feed, is_lone_letter};
 use crate::state::{GelvanhState, flatten, state_of};
 use crate::table::Table;

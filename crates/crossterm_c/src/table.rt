@@ -4,7 +4,7 @@
 ghost use Rattle.std.specs.Prelude.{◌≡◌, ◌-◌, ◌<◌, ◌≤◌, ◌∷◌, [], IsTrue, IsFalse};
 ghost use Rattle.crossterm_c.specs.inside.Table.{Filled, PutsEvents, table_capacity, filled_none, filled_on};
 
-use crate::event::{GelvanhEvent, of_key, of_meaning};
+use numbers::{GelvanhEvent, of_key, of_meaning};
 use crate::held::GelvanhHeld;
 use crossterm_parse::meaning::{Meaning, ascii_key, typed_key};
 use crossterm_parse::outlet::Outlet;

@@ -10,7 +10,7 @@ ghost use Rattle.prompt.specs.Asking.{LineEnds, StopsAsking, GoesOn, answer_seen
 ghost use Rattle.prompt.specs.Completing as completing;
 ghost use Rattle.prompt.specs.Completing.{as_read, given_by};
 ghost use Rattle.prompt.specs.Prompts as prompts;
-ghost use Rattle.prompt.specs.inside.Drawing.{IsDrawn};
+ghost use Rattle.prompt.specs.Drawing.{IsDrawn};
 ghost use Rattle.prompt.specs.inside.Turning.{IsTaken, Leads, MayAsk};
 
 use crate::drawing::{Row, clear, erase, ring};
@@ -420,7 +420,8 @@ fn begin<
         Ok(columns) => columns,
         Err(error) => return Err(error),
     };
-    let mut row = Row::new(tty.alloc, columns, prompt.asks)?;
+    let mut row = Row::new(tty.alloc, columns)?;
+    row.is_asked = prompt.asks;
     match show(&mut tty.out, editor, prompt, &mut row) {
         Ok(()) => Ok(row),
         Err(error) => Err(error),

@@ -3,7 +3,7 @@ use Rattle.crossterm_parse.specs.Marked.{marked}
 use Rattle.crossterm_parse.specs.declared.state.State.{State}
 use Rattle.crossterm_c.specs.Feeding.{Feeds}
 use Rattle.crossterm_c.specs.State.{state_at}
-use Rattle.crossterm_c.specs.declared.event.GelvanhEvent.{GelvanhEvent}
+use Rattle.numbers.specs.declared.event.GelvanhEvent.{GelvanhEvent}
 use Rattle.crossterm_c.proofs.FeedingLaws.{feeds_letter, first_set, some_events}
 use Rattle.crossterm_c.proofs.parser.gelvanh_feed.Goals as goal
 
