@@ -6,7 +6,7 @@ use Rattle.std.specs.Prelude.{Option, Some, None, IfSome, suc, zero, slice_get}
 use Rattle.std.specs.List.{AllByRecursion, filter}
 use Rattle.unicode_segmentation.proofs.TextLemmas.{encode_utf8_nonempty}
 use Rattle.line_editor.specs.declared.actions.Action.{Action}
-use Rattle.line_editor.specs.declared.actions.Action.TheVariants.{Insert, Go, Erase, Kill, Yank, Transpose, Undo, Redo, Older, Newer, Search}
+use Rattle.line_editor.specs.declared.actions.Action.TheVariants.{Insert, Go, Erase, Kill, Yank, Transpose, Undo, Redo, Older, Newer, Search, SearchForward}
 use Rattle.line_editor.specs.declared.last.Last.{Last}
 use Rattle.line_editor.specs.declared.last.Last.TheVariants.{Killed, Other, Walked}
 use Rattle.line_editor.specs.declared.limits.Limits.{Limits}
@@ -20,9 +20,9 @@ use Rattle.line_editor.specs.History.{loaded_line, has_room, lines_of, loaded}
 use Rattle.line_editor.specs.Places.{target_place}
 use Rattle.line_editor.specs.Shown.{AreShown, blanked, is_shown, pasted_part, shown_part}
 use Rattle.line_editor.specs.Splits.{Split, line_text}
-use Rattle.line_editor.specs.States.{EditorState, acted, after, changed, dropped, erase_cut, found, found_line, fresh, kill_text, kept_by, kill_cut, last_after, left_for, moved, newer_from, newer_line, newer_to, older_to, redo_to, remembered, searched_to, sought, transpose_at, type_char, after_typing, undo_to, unfinished_at, write}
-use Rattle.line_editor.specs.Tasks.{Task, Acts, Pastes, Accepts, LetsGo, Loads, Closes, Nothing, done, task_text}
-use Rattle.line_editor.proofs.Held.{Found, all-drop, all-get, all-take, cut-shown, end-after, found-held, held-erased, held-found, held-inserted, held-moved, held-same, held-transposed}
+use Rattle.line_editor.specs.States.{EditorState, acted, after, changed, dropped, erase_cut, found, found_line, found_newer, fresh, is_ignored, kill_text, kept_by, kill_cut, last_after, left_for, moved, newer_from, newer_line, newer_to, older_to, redo_to, remembered, searched_forward, searched_to, sought, transpose_at, type_char, after_typing, undo_to, unfinished_at, write}
+use Rattle.line_editor.specs.Tasks.{Task, Acts, Pastes, Accepts, LetsGo, Loads, Clears, Closes, Nothing, done, task_text}
+use Rattle.line_editor.proofs.Held.{Found, all-drop, all-get, all-take, cut-shown, end-after, found-held, last-held, held-erased, held-found, held-inserted, held-moved, held-same, held-transposed}
 use Rattle.line_editor.proofs.Keeping.{keeps_text}
 use Rattle.line_editor.proofs.Showing.{shown-append, shown-filter}
 use Rattle.line_editor.proofs.Sizing.{size-cons}
@@ -232,6 +232,10 @@ module _ (w : EditorState) (h : IsBounded w) where
   bounded-search (Some found) k =
       bounded-left (found_line (sought w) found.1) found.0 (held-found w.limits (sought w) found.1 k)
 
+  bounded-forward : (front : List ℕ) → IsBounded (searched_forward front w)
+  bounded-forward [] = bounded-newer_from w.back
+  bounded-forward (c ∷ front) = bounded-search (found_newer w) (last-held w.limits (sought w) (line_text w.line) (w.back - 1) w.history h.history)
+
   bounded-acted : (action : Action) → is_too_long (written action w) w ≡ false → IsBounded (acted action w)
   bounded-acted (Insert c) room = bounded-type c room
   bounded-acted (Go target) room = bounded-moved (target_place target w.line) (held-moved w.limits target w.line h.line)
@@ -245,6 +249,7 @@ module _ (w : EditorState) (h : IsBounded w) where
   bounded-acted Newer room = bounded-newer_from w.back
   bounded-acted Search room =
       bounded-search (found w) (found-held w.limits (sought w) (line_text w.line) w.back (drop w.back w.history) (all-drop w.limits w.history w.back h.history))
+  bounded-acted SearchForward room = bounded-forward (sought w)
 
   bounded-after : (action : Action) → is_too_long (written action w) w ≡ false → IsBounded (after action w)
   bounded-after action room = bounded-last (acted action w) (last_after action w) (bounded-acted action room)
@@ -276,8 +281,11 @@ module _ (w : EditorState) (h : IsBounded w) where
   bounded-remembered [] e = bounded-ended w.history h.history h.lines
   bounded-remembered (c ∷ text) e =
       let all = target_place (Forward Edge) w.line ∷ w.history in
-      bounded-ended (take w.limits.lines all) (all-take w.limits (IsKept w.limits) w.limits.lines all (kept-end c text e, h.history))
-      (take-short w.limits.lines all)
+      elim (cases_Bool (is_ignored w.limits (c ∷ text) w.history)) [
+        | inl ignored ↦ rw ignored (bounded-ended w.history h.history h.lines)
+        | inr kept ↦ rw kept (bounded-ended (take w.limits.lines all) (all-take w.limits (IsKept w.limits) w.limits.lines all (kept-end c text e, h.history))
+            (take-short w.limits.lines all))
+      ]
 
 -- ---- a history that is loaded
 
@@ -331,6 +339,7 @@ bounded-done (Pastes text) w h room = bounded-last (write (pasted_part text) w) 
 bounded-done Accepts w h room = bounded-remembered w h (line_text w.line) refl
 bounded-done LetsGo w h room = bounded-ended w h w.history h.history h.lines
 bounded-done (Loads text) w h room = bounded-loaded w h text
+bounded-done Clears w h room = bounded-last w Other h
 bounded-done Closes w h room = h
 bounded-done Nothing w h room = h
 

@@ -5,6 +5,7 @@ use Rattle.std.proofs.lemmas.List.{reverse-reverse}
 use Rattle.std.proofs.lemmas.Str.{encodes-append}
 use Rattle.std.specs.Prelude.{Option, Some, None, IfSome, ◌==◌, encode_utf8_all, slice_get, suc, zero}
 use Rattle.std.specs.List.{AllByRecursion}
+use Rattle.std.specs.Option.{option_and_then}
 use Rattle.std.specs.Str.{bytes_eq}
 use Rattle.line_editor.specs.declared.limits.Limits.{Limits}
 use Rattle.line_editor.specs.declared.places.Stop.TheVariants.{Cluster, Edge}
@@ -16,7 +17,7 @@ use Rattle.line_editor.specs.Edits.{cut_text, reach_end, erased, from_to, insert
 use Rattle.line_editor.specs.Places.{target_place, stops}
 use Rattle.line_editor.specs.Shown.{AreShown}
 use Rattle.line_editor.specs.Splits.{Split, ahead, line_text}
-use Rattle.line_editor.specs.States.{behind_front, first_with, found_line, other_rest, rest_or}
+use Rattle.line_editor.specs.States.{behind_front, first_with, found_line, last_with, other_rest, rest_at, rest_or}
 use Rattle.line_editor.proofs.Keeping.{cuts_out, ends-IsFrom, from_to-IsFrom, keeps_text, text_of-IsFrom, text_of-joined, writes_at}
 use Rattle.line_editor.proofs.Showing.{shown-append, shown-back, shown-front}
 
@@ -154,6 +155,19 @@ module _ (limits : Limits) where
       (some-weaker (λ rest. line_text d ≡ front ++ rest) (λ rest. Holds limits (front ++ rest)) (other_rest front shown (line_text d))
       (λ rest e. held-same (front ++ rest) (line_text d) (sym e) h.0.0) (other-rest front shown (line_text d)))
       (found-held front shown (passed + 1) lines h.1)
+
+  of-held : (front shown : List ℕ) (o : Option Split) → IfSome o (IsHeld limits)
+      → IfSome (option_and_then (λ (d : Split). other_rest front shown (line_text d)) o) (λ rest. Holds limits (front ++ rest))
+  of-held front shown None h = tt
+  of-held front shown (Some d) h =
+      some-weaker (λ rest. line_text d ≡ front ++ rest) (λ rest. Holds limits (front ++ rest)) (other_rest front shown (line_text d))
+      (λ rest e. held-same (front ++ rest) (line_text d) (sym e) h) (other-rest front shown (line_text d))
+
+  pub last-held : (front shown : List ℕ) (n : ℕ) (lines : List Split) → AllByRecursion (IsKept limits) lines → IfSome (last_with front shown n lines) (Found front)
+  last-held front shown zero lines h = tt
+  last-held front shown (suc n) lines h =
+      or-else front (rest_at front shown n lines) (n + 1) (last_with front shown n lines) (of-held front shown (slice_get lines n) (all-get lines n h))
+      (last-held front shown n lines h)
 
   held-settled : (before after : List ℕ) → Holds limits (reverse before ++ after) → IsHeld limits (settled (record { before = before; after = after }))
   held-settled before after h =

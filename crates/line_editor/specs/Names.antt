@@ -7,7 +7,7 @@ use Rattle.std.specs.Str.{chars}
 use Rattle.crossterm_flags.specs.Values.{same}
 use Rattle.crossterm_flags.specs.Variants.{value_in}
 use Rattle.line_editor.specs.declared.actions.Action.{Action}
-use Rattle.line_editor.specs.declared.actions.Action.TheVariants.{Insert, Go, Erase, Kill, Yank, Transpose, Undo, Redo, Older, Newer, Search}
+use Rattle.line_editor.specs.declared.actions.Action.TheVariants.{Insert, Go, Erase, Kill, Yank, Transpose, Undo, Redo, Older, Newer, Search, SearchForward}
 use Rattle.line_editor.specs.declared.places.Stop.TheVariants.{Cluster, WordStart, WordEnd, Blank, Edge}
 use Rattle.line_editor.specs.declared.places.Target.{Target}
 use Rattle.line_editor.specs.declared.places.Target.TheVariants.{Back, Forward}
@@ -44,6 +44,7 @@ action_name Redo = codes "redo"
 action_name Older = codes "older"
 action_name Newer = codes "newer"
 action_name Search = codes "search"
+action_name SearchForward = codes "search-forward"
 
 -- ---- what reads as a name
 
@@ -59,7 +60,7 @@ target_rows =
 abbrev pub action_rows : List (List ℕ × Action)
 action_rows =
     (codes "yank", Yank) ∷ (codes "transpose", Transpose) ∷ (codes "undo", Undo) ∷ (codes "redo", Redo) ∷ (codes "older", Older) ∷
-    (codes "newer", Newer) ∷ (codes "search", Search) ∷ []
+    (codes "newer", Newer) ∷ (codes "search", Search) ∷ (codes "search-forward", SearchForward) ∷ []
 
 -- The character of a text that has exactly one, otherwise `None`.
 abbrev pub one_char : List ℕ → Option ℕ
@@ -82,11 +83,11 @@ verb_named verb rest =
 abbrev pub is_hyphen : ℕ → Bool
 is_hyphen b = b == 45
 
--- The action that a text names, or `None`: by its verb before the first hyphen, or as a whole if it has no hyphen.
+-- The action that a text names, or `None`: as a whole, or by its verb before the first hyphen.
 abbrev pub action_named : List ℕ → Option Action
 action_named name =
-    if nat_lt (position_or_len is_hyphen name) (length name) then verb_named (before_first is_hyphen name) (after_first is_hyphen name)
-    else value_in action_rows name
+    option_or (value_in action_rows name)
+    (if nat_lt (position_or_len is_hyphen name) (length name) then verb_named (before_first is_hyphen name) (after_first is_hyphen name) else None)
 
 -- ---- reading back
 

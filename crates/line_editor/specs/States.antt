@@ -1,6 +1,7 @@
 -- The state of an editor, and how each action changes it.
-use Rattle.std.specs.Prelude.{⊤, ℕ, ◌+◌, ◌-◌, Bool, true, false, List, [], ◌∷◌, ◌++◌, Option, Some, None, if◌then◌else◌, slice_get, drop, take, reverse, ◌==◌}
+use Rattle.std.specs.Prelude.{⊤, ℕ, ◌+◌, ◌-◌, Bool, true, false, List, [], ◌∷◌, ◌++◌, Option, Some, None, if◌then◌else◌, slice_get, drop, take, reverse, ◌==◌, ◌&&◌, ◌||◌}
 use Rattle.std.specs.Prelude.{zero, suc}
+use Rattle.std.specs.Option.{option_and_then}
 use Rattle.std.specs.Str.{bytes_eq}
 use Rattle.line_editor.specs.declared.actions.Action.{Action}
 use Rattle.line_editor.specs.declared.actions.Action.TheVariants as does
@@ -198,15 +199,59 @@ abbrev pub found_line : List ℕ → List ℕ → Split
 found_line [] rest = record { before = reverse rest; after = [] }
 found_line (c ∷ front) rest = settled (record { before = reverse (c ∷ front); after = rest })
 
+-- The rest of the line at a place of the history, counted from 0, behind a front. `None` if no line is there, if it
+-- doesn't begin with that, or if it is the line that is shown.
+abbrev pub rest_at : List ℕ → List ℕ → ℕ → List Split → Option (List ℕ)
+rest_at front shown at lines = option_and_then (λ d. other_rest front shown (line_text d)) (slice_get lines at)
+
+-- The last of the first `n` lines that begins with a text and isn't the line that is shown. It is given by its number
+-- from 1 and the rest of it. `None` if there is none.
+abbrev pub last_with : List ℕ → List ℕ → ℕ → List Split → Option (ℕ × List ℕ)
+last_with front shown zero lines = None
+last_with front shown (suc n) lines = rest_or (rest_at front shown n lines) (n + 1) (last_with front shown n lines)
+
+-- The next newer line that begins with what is looked for, and is another than the line. `None` if there is none.
+abbrev pub found_newer : EditorState → Option (ℕ × List ℕ)
+found_newer w = last_with (sought w) (line_text w.line) (w.back - 1) w.history
+
 -- The editor with a line that was found, if there is one.
 abbrev pub searched_to : Option (ℕ × List ℕ) → EditorState → EditorState
 searched_to None w = w
 searched_to (Some found) w = record (left_for (found_line (sought w) found.1) w) { back = found.0 }
 
--- The history with an accepted line as its newest, up to the limit of lines. An empty line isn't remembered.
+-- The editor after a search forward for a text. If there is none, the next newer line is shown.
+abbrev pub searched_forward : List ℕ → EditorState → EditorState
+searched_forward [] w = newer_from w.back w
+searched_forward (c ∷ front) w = searched_to (found_newer w) w
+
+-- ---- lines that are accepted
+
+-- Whether a text has no characters.
+abbrev pub is_empty : List ℕ → Bool
+is_empty [] = true
+is_empty (c ∷ text) = false
+
+-- Whether a text begins with a blank.
+abbrev pub begins_with_space : List ℕ → Bool
+begins_with_space [] = false
+begins_with_space (c ∷ text) = c == 32
+
+-- Whether a text is that of the newest line.
+abbrev pub is_newest : List ℕ → List Split → Bool
+is_newest text [] = false
+is_newest text (d ∷ lines) = bytes_eq text (line_text d)
+
+-- Whether an accepted line isn't remembered: it is empty, or by the limits it begins with a blank or equals the newest.
+abbrev pub is_ignored : Limits → List ℕ → List Split → Bool
+is_ignored limits text history = is_empty text || ((limits.ignore_space && begins_with_space text) || (limits.ignore_dups && is_newest text history))
+
+-- The history with an accepted line as its newest, up to the limit of lines, unless it isn't remembered.
 abbrev pub remembered : Limits → Split → List ℕ → List Split → List Split
-remembered limits d [] history = history
-remembered limits d (c ∷ text) history = take limits.lines (target_place (Forward Edge) d ∷ history)
+remembered limits d text history = if is_ignored limits text history then history else take limits.lines (target_place (Forward Edge) d ∷ history)
+
+-- The editor after something with which no action goes on.
+abbrev pub broken_off : EditorState → EditorState
+broken_off w = record w { last = Other }
 
 -- A fresh editor with the killed text and the history of the one before.
 abbrev pub dropped : EditorState → EditorState
@@ -231,15 +276,12 @@ acted does.Redo w = redo_to w.undone w
 acted does.Older w = older_to (slice_get w.history w.back) w
 acted does.Newer w = newer_from w.back w
 acted does.Search w = searched_to (found w) w
-
--- Whether a text has no characters.
-abbrev pub is_empty : List ℕ → Bool
-is_empty [] = true
-is_empty (c ∷ text) = false
+acted does.SearchForward w = searched_forward (sought w) w
 
 -- What an action is to the next one. A kill that cuts nothing is no kill.
 abbrev pub last_after : Action → EditorState → Last
 last_after does.Search w = if is_empty (sought w) then Walked else Other
+last_after does.SearchForward w = if is_empty (sought w) then Walked else Other
 last_after (does.Kill target) w = if is_empty (cut_text target w.line) then Other else Killed
 last_after action w = Other
 

@@ -4,7 +4,7 @@ use Rattle.line_editor.specs.declared.actions.Action.{Action}
 use Rattle.line_editor.specs.Bounds.{written}
 use Rattle.line_editor.specs.History.{loaded}
 use Rattle.line_editor.specs.Shown.{pasted_part}
-use Rattle.line_editor.specs.States.{EditorState, accepted, after, dropped, pasted_into}
+use Rattle.line_editor.specs.States.{EditorState, accepted, after, broken_off, dropped, pasted_into}
 
 -- What a call does to an editor.
 pub data Task : Type 0 where
@@ -18,6 +18,8 @@ pub data Task : Type 0 where
   LetsGo : Task
   -- A history is loaded from a text.
   Loads : List ℕ → Task
+  -- The window is cleared, and the line goes on.
+  Clears : Task
   -- The editor is closed while its line is empty.
   Closes : Task
   -- Nothing is done.
@@ -30,6 +32,7 @@ done (Pastes text) w = pasted_into text w
 done Accepts w = accepted w
 done LetsGo w = dropped w
 done (Loads text) w = loaded text w
+done Clears w = broken_off w
 done Closes w = w
 done Nothing w = w
 

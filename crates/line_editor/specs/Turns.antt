@@ -17,7 +17,7 @@ use Rattle.line_editor.specs.Bounds.{is_too_long}
 use Rattle.line_editor.specs.Keys.{command_of}
 use Rattle.line_editor.specs.Splits.{line_text}
 use Rattle.line_editor.specs.States.{EditorState}
-use Rattle.line_editor.specs.Tasks.{Task, Acts, Pastes, Accepts, LetsGo, Closes, Nothing, done, task_text}
+use Rattle.line_editor.specs.Tasks.{Task, Acts, Pastes, Accepts, LetsGo, Clears, Closes, Nothing, done, task_text}
 
 -- The task of Control-D: an empty text closes, and in another one the cluster at the cursor is erased.
 abbrev pub erase_or_close : List ℕ → Task
@@ -30,6 +30,7 @@ task_of_command (asks.Act action) w = Acts action
 task_of_command asks.Accept w = Accepts
 task_of_command asks.Interrupt w = LetsGo
 task_of_command asks.EraseOrClose w = erase_or_close (line_text w.line)
+task_of_command asks.Clear w = Clears
 
 -- The task of a key with a command. A key without one does nothing.
 abbrev pub task_of_key : Option KeyCommand → EditorState → Task
@@ -46,6 +47,8 @@ task_of event w = Nothing
 pub data Answer : Type 0 where
   -- The line goes on.
   Going : Answer
+  -- The line goes on, and is drawn anew at the top of an empty window.
+  Clear : Answer
   -- The line was accepted.
   Line : List ℕ → Answer
   -- The line was interrupted.
@@ -56,14 +59,17 @@ pub data Answer : Type 0 where
 -- What contracts see of an outcome.
 abbrev pub seen_outcome : {A : Type 0} → Outcome A → Answer
 seen_outcome outcome.Going = Going
+seen_outcome outcome.Clear = Clear
 seen_outcome (outcome.Line text) = Line (chars (string_bytes text))
 seen_outcome outcome.Interrupted = Interrupted
 seen_outcome outcome.Closed = Closed
 
--- The outcome of a task: the line's text if it is accepted, an interruption, a closing, or else the line goes on.
+-- The outcome of a task: the line's text if it is accepted, an interruption, a closing, a clearing, or else the line
+-- goes on.
 abbrev pub answer : Task → EditorState → Answer
 answer Accepts w = Line (line_text w.line)
 answer LetsGo w = Interrupted
+answer Clears w = Clear
 answer Closes w = Closed
 answer task w = Going
 
@@ -74,6 +80,12 @@ turned event w = done (task_of event w) w
 -- What an event writes, which is what its task writes.
 abbrev pub event_text : Seen → EditorState → List ℕ
 event_text event w = task_text (task_of event w) w
+
+-- The line goes on after an outcome.
+abbrev pub IsGoing : Answer → Type 0
+IsGoing Going = ⊤
+IsGoing Clear = ⊤
+IsGoing answer = ⊥
 
 -- The line of an outcome, if it is one.
 abbrev pub lines_in : Answer → List (List ℕ)

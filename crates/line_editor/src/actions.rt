@@ -34,4 +34,6 @@ pub enum Action {
     /// Shows the next older accepted line that begins with the text before the cursor and differs from the line (`history-search-backward`).
     /// If nothing is before the cursor, any line is found, with the cursor at its end, and the next search goes on so.
     Search,
+    /// Shows the next newer one of these lines (`history-search-forward`). If nothing is before the cursor, it is as `Newer`.
+    SearchForward,
 }

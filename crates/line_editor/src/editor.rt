@@ -10,7 +10,7 @@ ghost use Rattle.line_editor.specs.History.{loaded, saved};
 ghost use Rattle.line_editor.specs.Places.{target_place};
 ghost use Rattle.line_editor.specs.Shown.{AreShown, pasted_part};
 ghost use Rattle.line_editor.specs.Splits.{line_text};
-ghost use Rattle.line_editor.specs.States.{IsMove, accepted, acted, after, changed, dropped, erase_cut, found, fresh, kill_text, kept_by, kill_cut, last_after, left_for, moved, newer_from, newer_line, older_to, pasted_into, redo_to, remembered, run_actions, searched_to, sought, transpose_at, type_char, after_typing, undo_to, write};
+ghost use Rattle.line_editor.specs.States.{IsMove, accepted, acted, after, broken_off, changed, dropped, erase_cut, found, found_newer, fresh, is_ignored, kill_text, kept_by, kill_cut, last_after, left_for, moved, newer_from, newer_line, older_to, pasted_into, redo_to, remembered, run_actions, searched_forward, searched_to, sought, transpose_at, type_char, after_typing, undo_to, write};
 
 use crate::actions::Action;
 use crate::draft::Draft;
@@ -22,7 +22,7 @@ use crate::lines::Line;
 use crate::places::{Stop, Target};
 use crate::recent::RecentLines;
 use crate::shown::{is_shown, pasted, pasted_len};
-use crate::texts::{is_nothing, joined};
+use crate::texts::{begins_with_space, is_nothing, joined};
 use std::alloc::{AllocError, Allocator, Global};
 use std::marker::Model;
 
@@ -135,7 +135,8 @@ impl<A: Allocator> Editor<A> {
             | Action::Redo
             | Action::Older
             | Action::Newer
-            | Action::Search => false,
+            | Action::Search
+            | Action::SearchForward => false,
         }
     }
 
@@ -152,6 +153,23 @@ impl<A: Allocator> Editor<A> {
         self.unfinished.clear();
         self.back = 0;
         self.last = Last::Other;
+    }
+
+    /// The next action goes on with nothing.
+    pub(crate) fn break_off(&mut self)
+        ensures { self.new ≡ broken_off self.old }
+    {
+        self.last = Last::Other;
+    }
+
+    /// Whether the line isn't remembered if it is accepted.
+    fn is_ignored(&self) -> bool
+        ensures { result ≡ is_ignored self.now.limits (line_text self.now.line) self.now.history }
+    {
+        let text = self.draft.line().text();
+        is_nothing(text)
+            || self.limits.ignore_space && begins_with_space(text)
+            || self.limits.ignore_dups && self.history.is_newest(text)
     }
 }
 
@@ -400,6 +418,38 @@ impl<A: Allocator + Clone> Editor<A> {
         }
     }
 
+    /// Shows the next newer line that begins with the text before the cursor, and isn't the same line.
+    fn search_newer(&mut self) -> Result<(), AllocError>
+        ensures ok { OnOk result (self.new ≡ searched_to (found_newer self.old) self.old) }
+        ensures err { OnErr result (self.new ≡ self.old) }
+    {
+        let front = self.sought();
+        let count = self.back.saturating_sub(1);
+        match self
+            .history
+            .find_newer(front, self.draft.line().text(), count)
+        {
+            None => Ok(()),
+            Some((back, rest)) => {
+                let line = Line::found(self.alloc.clone()?, front, rest)?;
+                self.leave_for(line)?;
+                self.back = back;
+                Ok(())
+            }
+        }
+    }
+
+    /// The same, or the next newer line if nothing is looked for.
+    fn search_forward(&mut self) -> Result<(), AllocError>
+        ensures ok { OnOk result (self.new ≡ searched_forward (sought self.old) self.old) }
+        ensures err { OnErr result (self.new ≡ self.old) }
+    {
+        if is_nothing(self.sought()) {
+            return self.newer();
+        }
+        self.search_newer()
+    }
+
     /// Does one thing for which there is room, but for what it is to the next one.
     fn edit(&mut self, action: Action) -> Result<(), AllocError>
         ensures ok { OnOk result (self.new ≡ acted action self.old) }
@@ -421,6 +471,7 @@ impl<A: Allocator + Clone> Editor<A> {
             Action::Older => self.older(),
             Action::Newer => self.newer(),
             Action::Search => self.search(),
+            Action::SearchForward => self.search_forward(),
         }
     }
 
@@ -430,6 +481,7 @@ impl<A: Allocator + Clone> Editor<A> {
     {
         match action {
             Action::Search if is_nothing(self.sought()) => Last::Walked,
+            Action::SearchForward if is_nothing(self.sought()) => Last::Walked,
             Action::Kill(target) if !is_nothing(self.draft.line().cut(target)) => Last::Killed,
             _ => Last::Other,
         }
@@ -541,12 +593,12 @@ impl<A: Allocator + Clone> Editor<A> {
         }
     }
 
-    /// The line becomes the newest of the history, unless it is empty.
+    /// The line becomes the newest of the history, unless it is ignored.
     fn remember(&mut self) -> Result<(), AllocError>
         ensures ok { OnOk result (self.new ≡ record self.old { history = remembered self.old.limits self.old.line (line_text self.old.line) self.old.history }) }
         ensures err { OnErr result (self.new ≡ self.old) }
     {
-        if is_nothing(self.draft.line().text()) {
+        if self.is_ignored() {
             return Ok(());
         }
         let mut line = self.draft.line().copy()?;
@@ -567,8 +619,8 @@ impl<A: Allocator + Clone> Editor<A> {
         Ok(text)
     }
 
-    /// Accepts the line, and returns its text (`accept-line`). It becomes the newest of the history unless it is empty, and an empty line
-    /// begins.
+    /// Accepts the line, and returns its text (`accept-line`). It becomes the newest of the history, unless it is empty or the limits
+    /// leave it out, and an empty line begins.
     ///
     /// # Errors
     ///

@@ -17,6 +17,8 @@ pub enum KeyCommand {
     Interrupt,
     /// To erase the cluster at the cursor, or to close an empty line (`delete-char`, which is an end of file on an empty line).
     EraseOrClose,
+    /// To draw the line anew at the top of an empty window (`clear-screen`).
+    Clear,
 }
 
 /// What a key asks for without Control and Alt.
@@ -34,6 +36,8 @@ fn plain(code: KeyCode) -> Option<KeyCommand>
         KeyCode::End => Action::Go(Target::Forward(Stop::Edge)),
         KeyCode::Up => Action::Older,
         KeyCode::Down => Action::Newer,
+        KeyCode::PageUp => Action::Search,
+        KeyCode::PageDown => Action::SearchForward,
         _ => return None,
     };
     Some(KeyCommand::Act(action))
@@ -53,6 +57,7 @@ fn control_char(c: char) -> Option<KeyCommand>
         'h' => Action::Erase(Target::Back(Stop::Cluster)),
         'j' => return Some(KeyCommand::Accept),
         'k' => Action::Kill(Target::Forward(Stop::Edge)),
+        'l' => return Some(KeyCommand::Clear),
         'm' => return Some(KeyCommand::Accept),
         'n' => Action::Newer,
         'p' => Action::Older,
@@ -129,19 +134,20 @@ fn both(code: KeyCode) -> Option<KeyCommand>
 /// | Ctrl-Y; Ctrl-T | `yank`, `transpose-chars` |
 /// | Ctrl-_ | `undo` |
 /// | Up, Ctrl-P; Down, Ctrl-N | `previous-history`, `next-history` |
-/// | Ctrl-R | `history-search-backward`, in place of `reverse-search-history` |
+/// | Page Up, and Ctrl-R in place of `reverse-search-history`; Page Down | `history-search-backward`, `history-search-forward` |
+/// | Ctrl-L | `clear-screen` |
 /// | Enter, Ctrl-J, Ctrl-M | `accept-line` |
 /// | Ctrl-C | an interrupt |
 /// | Ctrl-Alt-_ | a redo, which readline hasn't |
 ///
-/// These are the 21 usual commands of the 85 that bash binds by default. Terminals report Ctrl-_ as Ctrl-7, and both are bound. Shift makes no
+/// These are the 23 usual commands of the 85 that bash binds by default. Terminals report Ctrl-_ as Ctrl-7, and both are bound. Shift makes no
 /// difference but in the character, and large letters with Control or Alt are as small ones.
 ///
 /// What differs from readline:
 ///
 /// | Here | In readline |
 /// |---|---|
-/// | Ctrl-R skips each line that equals the one that is shown | behind a text it skips one that equals the line it found before, and else none |
+/// | a search back skips each line that equals the one that is shown | behind a text it skips one that equals the line it found before, and else none |
 /// | behind a line that a search for a text found, Up and a search for any line go on from that line | they go on from the line before the search |
 /// | Ctrl-W takes every white space for the end of a word | blanks and tabs alone |
 /// | a line of the history that was changed is as it was accepted when one comes back to it | the change is kept until a line is accepted |

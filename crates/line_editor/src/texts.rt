@@ -4,7 +4,7 @@ ghost use Rattle.std.specs.Option.{option_map};
 ghost use Rattle.std.specs.Str.{bytes_eq, chars};
 ghost use Rattle.std.specs.String.{string_bytes};
 ghost use Rattle.line_editor.specs.Shown.{AreShown};
-ghost use Rattle.line_editor.specs.States.{behind_front, other_rest};
+ghost use Rattle.line_editor.specs.States.{begins_with_space, behind_front, other_rest};
 
 use std::alloc::{AllocError, Allocator};
 
@@ -42,6 +42,16 @@ pub(crate) fn is_nothing(text: &str) -> bool
     }
 }
 
+/// Whether a text begins with a blank.
+pub(crate) fn begins_with_space(text: &str) -> bool
+    ensures { result ≡ begins_with_space (chars text.now) }
+{
+    match split_first(text) {
+        None => false,
+        Some((c, _)) => c == ' ',
+    }
+}
+
 /// What is behind a character in a text that begins with it.
 fn past_char<'a>(text: &'a str, c: char) -> Option<&'a str>
     ensures { MatchOption result ((front : List ℕ) → behind_front (c ∷ front) (chars text.now) ≡ None)
@@ -76,7 +86,7 @@ pub(crate) fn behind_front<'a>(text: &'a str, front: &str) -> Option<&'a str>
 }
 
 /// Whether two texts are the same.
-fn is_same(text: &str, other: &str) -> bool
+pub(crate) fn is_same(text: &str, other: &str) -> bool
     ensures { result ≡ bytes_eq (chars text.now) (chars other.now) }
 {
     text == other

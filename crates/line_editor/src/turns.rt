@@ -57,6 +57,10 @@ impl<A: Allocator + Clone> Editor<A> {
                 }
                 self.act_on(Action::Erase(Target::Forward(Stop::Cluster)))
             }
+            KeyCommand::Clear => {
+                self.break_off();
+                Ok(Outcome::Clear)
+            }
         }
     }
 
@@ -69,6 +73,7 @@ impl<A: Allocator + Clone> Editor<A> {
     /// ```
     /// match editor.turn(&event)? {
     ///     Outcome::Going => {}
+    ///     Outcome::Clear => draw_anew(),
     ///     Outcome::Line(text) => println!(rt; "{text}")?,
     ///     Outcome::Interrupted | Outcome::Closed => return Ok(()),
     /// }
@@ -116,7 +121,7 @@ impl<A: Allocator + Clone> Editor<A> {
                 lines.push_reserved(text);
                 Ok(())
             }
-            Ok(Outcome::Going) | Ok(Outcome::Interrupted) | Ok(Outcome::Closed) => Ok(()),
+            Ok(Outcome::Going | Outcome::Clear | Outcome::Interrupted | Outcome::Closed) => Ok(()),
             Err(fault) => Err(fault),
         }
     }

@@ -14,7 +14,7 @@ use Rattle.crossterm_read.specs.Replies.{Came, Faulted}
 use Rattle.crossterm.specs.Asking.{InTwoSeconds}
 use Rattle.line_editor.specs.Bounds.{is_too_long}
 use Rattle.line_editor.specs.States.{EditorState}
-use Rattle.line_editor.specs.Turns.{Answer, Going, Line, Interrupted, Closed, answer, event_text, task_of, turned}
+use Rattle.line_editor.specs.Turns.{Answer, Going, Line, Interrupted, Closed, IsGoing, answer, event_text, task_of, turned}
 use Rattle.prompt.specs.declared.read.Read.{Read}
 use Rattle.prompt.specs.declared.read.Read.TheVariants as read
 
@@ -42,7 +42,7 @@ pub data GoesOn {S : Type 0} (drawn : S → List SourceAnswer → S → Type 0) 
   -- Nothing was read.
   unread : GoesOn drawn asked given v w v w
   -- The line went on, one more event was read, and it goes on after it.
-  further : (p q : Known S) (k : EditorState) (e : Seen) → GoesOn drawn asked given v w p k → Reads drawn asked filters.Event p q (Came (Some e)) → answer_to (given k e) k ≡ Going
+  further : (p q : Known S) (k : EditorState) (e : Seen) → GoesOn drawn asked given v w p k → Reads drawn asked filters.Event p q (Came (Some e)) → IsGoing (answer_to (given k e) k)
       → GoesOn drawn asked given v w q (after_event (given k e) k)
   -- The line went on, and the terminal was asked for the cursor's place: the editor is as it was.
   placed : (p q : Known S) (k : EditorState) → GoesOn drawn asked given v w p k → AsksPlace drawn asked p q → GoesOn drawn asked given v w q k
