@@ -19,6 +19,7 @@ const LIMITS: Limits = Limits {
     bytes: 1 << 20,
     lines: 100,
     steps: 100,
+    kills: 60,
     ignore_dups: false,
     ignore_space: false,
 };

@@ -12,7 +12,7 @@ use Rattle.crossterm_flags.specs.Values.{same}
 use Rattle.crossterm_flags.specs.Variants.{value_in}
 use Rattle.unicode_segmentation.proofs.TextLemmas.{chars-encode_utf8}
 use Rattle.line_editor.specs.declared.actions.Action.{Action}
-use Rattle.line_editor.specs.declared.actions.Action.TheVariants.{Insert, Go, Erase, Kill, Yank, Transpose, Undo, Redo, Older, Newer, Search, SearchForward}
+use Rattle.line_editor.specs.declared.actions.Action.TheVariants.{Insert, Go, Erase, Kill, Yank, YankPop, Transpose, Undo, Redo, Older, Newer, Search, SearchForward}
 use Rattle.line_editor.specs.declared.places.Stop.TheVariants.{Cluster, WordStart, WordEnd, Blank, Edge}
 use Rattle.line_editor.specs.declared.places.Target.{Target}
 use Rattle.line_editor.specs.declared.places.Target.TheVariants.{Back, Forward}
@@ -70,6 +70,7 @@ reads_back (Kill target) h =
     let found : nat_lt 4 (length name) ≡ true = lt-ltb 4 (length name) (omega arith) in
     ap (λ b. read_at b (codes "kill") (target_name target)) found ∙ ap (option_map Kill) (target_back target)
 reads_back Yank h = refl
+reads_back YankPop h = refl
 reads_back Transpose h = refl
 reads_back Undo h = refl
 reads_back Redo h = refl

@@ -5,10 +5,11 @@ use Rattle.std.proofs.lemmas.Str.{encodes-chars}
 use Rattle.std.specs.Prelude.{Bool, Option, ◌-◌, ◌<◌, true, false, Some, None, zero, suc, encode_utf8_all, slice_get}
 use Rattle.std.specs.Option.{option_and_then, option_map}
 use Rattle.std.specs.Str.{bytes_eq, chars, IsUtf8}
-use Rattle.line_editor.specs.declared.last.Last.TheVariants.{Other, Walked}
+use Rattle.line_editor.specs.declared.last.Last.TheVariants.{Other, Walked, Yanked}
 use Rattle.line_editor.specs.Splits.{Split, split_at, line_text}
 use Rattle.line_editor.specs.Edits.{line_with, settled}
-use Rattle.line_editor.specs.States.{EditorState, first_with, found_line, found_newer, kept_by, last_with, newer_from, other_rest, rest_at, rest_or, searched_forward, searched_to, sought}
+use Rattle.line_editor.specs.Kills.{kept_by}
+use Rattle.line_editor.specs.States.{EditorState, first_with, found_line, found_newer, last_with, newer_from, other_rest, rest_at, rest_or, searched_forward, searched_to, sought}
 use Rattle.line_editor.proofs.Stepping.{chars_before-start}
 
 -- The lines from one on: its own text, and the lines behind it.
@@ -98,11 +99,14 @@ pub sought-any : (w : EditorState) → w.last ≡ Walked → [] ≡ sought w
 sought-any w on = rw on refl
 
 -- Nothing to join the text of a kill to.
-pub kept-other : (w : EditorState) → w.last ≡ Other → [] ≡ kept_by w.last w.killed
+pub kept-other : (w : EditorState) → w.last ≡ Other → [] ≡ kept_by w.last w.kills
 kept-other w is = rw is refl
 
-pub kept-walked : (w : EditorState) → w.last ≡ Walked → [] ≡ kept_by w.last w.killed
+pub kept-walked : (w : EditorState) → w.last ≡ Walked → [] ≡ kept_by w.last w.kills
 kept-walked w is = rw is refl
+
+pub kept-yanked : (w : EditorState) → w.last ≡ Yanked → [] ≡ kept_by w.last w.kills
+kept-yanked w is = rw is refl
 
 -- Two texts are the same if their characters are.
 pub same-chars : (x y : List ℕ) → IsUtf8 x → IsUtf8 y → bytes_eq x y ≡ bytes_eq (chars x) (chars y)

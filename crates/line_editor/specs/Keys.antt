@@ -6,7 +6,7 @@ use Rattle.crossterm_types.specs.declared.event.key.KeyCode.TheVariants as key
 use Rattle.crossterm_types.specs.declared.event.key.KeyEvent.{KeyEvent}
 use Rattle.crossterm_types.specs.declared.event.key.KeyEventKind.{KeyEventKind}
 use Rattle.crossterm_types.specs.declared.event.key.KeyEventKind.TheVariants.{Press, Repeat, Release}
-use Rattle.line_editor.specs.declared.actions.Action.TheVariants.{Insert, Go, Erase, Kill, Yank, Transpose, Undo, Redo, Older, Newer, Search, SearchForward}
+use Rattle.line_editor.specs.declared.actions.Action.TheVariants.{Insert, Go, Erase, Kill, Yank, YankPop, Transpose, Undo, Redo, Older, Newer, Search, SearchForward}
 use Rattle.line_editor.specs.declared.keys.KeyCommand.{KeyCommand}
 use Rattle.line_editor.specs.declared.keys.KeyCommand.TheVariants.{Act, Accept, Interrupt, EraseOrClose, Clear}
 use Rattle.line_editor.specs.declared.places.Stop.TheVariants.{Cluster, WordStart, WordEnd, Blank, Edge}
@@ -42,9 +42,9 @@ control_rows =
     (110, Act Newer) ∷ (112, Act Older) ∷ (114, Act Search) ∷ (116, Act Transpose) ∷ (117, Act (Kill (Back Edge))) ∷
     (119, Act (Kill (Back Blank))) ∷ (121, Act Yank) ∷ (95, Act Undo) ∷ (55, Act Undo) ∷ []
 
--- What `b`, `d` and `f` with Alt ask for: to go back a word, to kill one, and to go forward by one.
+-- What letters with Alt ask for: to go back a word, to kill one, to go forward by one, and to turn the ring of kills.
 abbrev pub alt_rows : List (ℕ × KeyCommand)
-alt_rows = (98, Act (Go (Back WordStart))) ∷ (100, Act (Kill (Forward WordEnd))) ∷ (102, Act (Go (Forward WordEnd))) ∷ []
+alt_rows = (98, Act (Go (Back WordStart))) ∷ (100, Act (Kill (Forward WordEnd))) ∷ (102, Act (Go (Forward WordEnd))) ∷ (121, Act YankPop) ∷ []
 
 -- What the underscore with Control and Alt asks for, and 7, which terminals report for it: redo.
 abbrev pub both_rows : List (ℕ × KeyCommand)

@@ -7,7 +7,7 @@ use Rattle.std.specs.Str.{chars}
 use Rattle.crossterm_flags.specs.Values.{same}
 use Rattle.crossterm_flags.specs.Variants.{value_in}
 use Rattle.line_editor.specs.declared.actions.Action.{Action}
-use Rattle.line_editor.specs.declared.actions.Action.TheVariants.{Insert, Go, Erase, Kill, Yank, Transpose, Undo, Redo, Older, Newer, Search, SearchForward}
+use Rattle.line_editor.specs.declared.actions.Action.TheVariants.{Insert, Go, Erase, Kill, Yank, YankPop, Transpose, Undo, Redo, Older, Newer, Search, SearchForward}
 use Rattle.line_editor.specs.declared.places.Stop.TheVariants.{Cluster, WordStart, WordEnd, Blank, Edge}
 use Rattle.line_editor.specs.declared.places.Target.{Target}
 use Rattle.line_editor.specs.declared.places.Target.TheVariants.{Back, Forward}
@@ -38,6 +38,7 @@ action_name (Go target) = codes "go-" ++ target_name target
 action_name (Erase target) = codes "erase-" ++ target_name target
 action_name (Kill target) = codes "kill-" ++ target_name target
 action_name Yank = codes "yank"
+action_name YankPop = codes "yank-pop"
 action_name Transpose = codes "transpose"
 action_name Undo = codes "undo"
 action_name Redo = codes "redo"
@@ -59,7 +60,7 @@ target_rows =
 -- The actions without a target or a character, by their names.
 abbrev pub action_rows : List (List ℕ × Action)
 action_rows =
-    (codes "yank", Yank) ∷ (codes "transpose", Transpose) ∷ (codes "undo", Undo) ∷ (codes "redo", Redo) ∷ (codes "older", Older) ∷
+    (codes "yank", Yank) ∷ (codes "yank-pop", YankPop) ∷ (codes "transpose", Transpose) ∷ (codes "undo", Undo) ∷ (codes "redo", Redo) ∷ (codes "older", Older) ∷
     (codes "newer", Newer) ∷ (codes "search", Search) ∷ (codes "search-forward", SearchForward) ∷ []
 
 -- The character of a text that has exactly one, otherwise `None`.

@@ -1,18 +1,19 @@
 -- The state of an editor, and how each action changes it.
-use Rattle.std.specs.Prelude.{⊤, ℕ, ◌+◌, ◌-◌, Bool, true, false, List, [], ◌∷◌, ◌++◌, Option, Some, None, if◌then◌else◌, slice_get, drop, take, reverse, ◌==◌, ◌&&◌, ◌||◌}
+use Rattle.std.specs.Prelude.{⊤, ℕ, ◌+◌, ◌-◌, Bool, true, false, List, [], ◌∷◌, ◌++◌, Option, Some, None, if◌then◌else◌, slice_get, drop, length, take, reverse, ◌==◌, ◌&&◌, ◌||◌}
 use Rattle.std.specs.Prelude.{zero, suc}
 use Rattle.std.specs.Option.{option_and_then}
 use Rattle.std.specs.Str.{bytes_eq}
 use Rattle.line_editor.specs.declared.actions.Action.{Action}
 use Rattle.line_editor.specs.declared.actions.Action.TheVariants as does
 use Rattle.line_editor.specs.declared.last.Last.{Last}
-use Rattle.line_editor.specs.declared.last.Last.TheVariants.{Killed, Other, Walked}
+use Rattle.line_editor.specs.declared.last.Last.TheVariants.{Killed, Other, Walked, Yanked}
 use Rattle.line_editor.specs.declared.limits.Limits.{Limits}
 use Rattle.line_editor.specs.declared.places.Stop.TheVariants.{Edge}
 use Rattle.line_editor.specs.declared.places.Target.{Target}
-use Rattle.line_editor.specs.declared.places.Target.TheVariants.{Back, Forward}
+use Rattle.line_editor.specs.declared.places.Target.TheVariants.{Forward}
 use Rattle.line_editor.specs.Splits.{Split, line_text}
-use Rattle.line_editor.specs.Edits.{cut_text, empty_line, erased, inserted, meeting, settled, transposed}
+use Rattle.line_editor.specs.Edits.{cut_text, empty_line, erased, inserted, line_with, meeting, settled, transposed}
+use Rattle.line_editor.specs.Kills.{kill_at, kills_with, next_place}
 use Rattle.line_editor.specs.Places.{target_place}
 use Rattle.line_editor.specs.Shown.{is_shown, pasted_part}
 
@@ -21,8 +22,10 @@ pub record EditorState : Type 0 where
   -- The limits of all that follows.
   pub limits : Limits
   pub line : Split
-  -- The text that was killed last, by kills side by side.
-  pub killed : List ℕ
+  -- The texts that were killed, the newest first. Kills side by side are one text.
+  pub kills : List (List ℕ)
+  -- How many kills are newer than the one that a yank writes.
+  pub yank_at : ℕ
   -- The lines that undo and redo bring back, the newest first.
   pub past : List Split
   pub undone : List Split
@@ -42,7 +45,8 @@ abbrev pub fresh : Limits → EditorState
 fresh limits = record {
   limits = limits;
   line = empty_line;
-  killed = [];
+  kills = [];
+  yank_at = 0;
   past = [];
   undone = [];
   history = [];
@@ -92,21 +96,11 @@ abbrev pub erase_cut : List ℕ → Target → EditorState → EditorState
 erase_cut [] target w = w
 erase_cut (c ∷ text) target w = changed (erased target w.line) w
 
--- The text to which that of a kill is kill_text: what was killed, if the last action was a kill.
-abbrev pub kept_by : Last → List ℕ → List ℕ
-kept_by Killed killed = killed
-kept_by last killed = []
-
--- A text that was cut, kill_text to another one in the direction in which it was cut.
-abbrev pub kill_text : Target → List ℕ → List ℕ → List ℕ
-kill_text (Back stop) text kept = text ++ kept
-kill_text (Forward stop) text kept = kept ++ text
-
--- The editor after the part that a target reaches is erased and kept as killed. An empty part does nothing.
+-- The editor after the part that a target reaches is erased and is the newest kill. An empty part does nothing.
 abbrev pub kill_cut : List ℕ → Target → EditorState → EditorState
 kill_cut [] target w = w
 kill_cut (c ∷ text) target w =
-    record (changed (erased target w.line) w) { killed = kill_text target (c ∷ text) (kept_by w.last w.killed) }
+    record (changed (erased target w.line) w) { kills = kills_with w.limits.kills w.last target (c ∷ text) w.kills; yank_at = 0 }
 
 -- The editor after two clusters are transposed. If nothing is before their meeting place, nothing happens.
 abbrev pub transpose_at : List ℕ → EditorState → EditorState
@@ -162,6 +156,29 @@ abbrev pub behind_front : List ℕ → List ℕ → Option (List ℕ)
 behind_front [] text = Some text
 behind_front (c ∷ front) [] = None
 behind_front (c ∷ front) (d ∷ text) = if c == d then behind_front front text else None
+
+-- The text that a yank writes.
+abbrev pub yanked : EditorState → List ℕ
+yanked w = kill_at w.kills w.yank_at
+
+-- The place of the kill that follows the yanked one in the ring.
+abbrev pub next_yank : EditorState → ℕ
+next_yank w = next_place w.yank_at (length w.kills)
+
+-- What is before a text that was yanked last, nearest first, if the text is before the cursor. `None` otherwise.
+abbrev pub before_yanked : Last → List ℕ → List ℕ → Option (List ℕ)
+before_yanked Yanked text before = behind_front (reverse text) before
+before_yanked last text before = None
+
+-- What is before the yanked text in the line.
+abbrev pub before_yank : EditorState → Option (List ℕ)
+before_yank w = before_yanked w.last (yanked w) w.line.before
+
+-- The editor with the next kill of the ring in place of the yanked text, if it is known what is before that.
+abbrev pub popped_to : Option (List ℕ) → EditorState → EditorState
+popped_to None w = w
+popped_to (Some before) w =
+    record (changed (line_with (record { before = before; after = [] }) (kill_at w.kills (next_yank w)) w.line) w) { yank_at = next_yank w }
 
 -- The rest of a text behind a front. `None` if it doesn't begin with that, or if it is the text that is shown.
 abbrev pub other_rest : List ℕ → List ℕ → List ℕ → Option (List ℕ)
@@ -253,11 +270,11 @@ remembered limits d text history = if is_ignored limits text history then histor
 abbrev pub broken_off : EditorState → EditorState
 broken_off w = record w { last = Other }
 
--- A fresh editor with the killed text and the history of the one before.
+-- A fresh editor with the kills and the history of the one before.
 abbrev pub dropped : EditorState → EditorState
-dropped w = record (fresh w.limits) { killed = w.killed; history = w.history }
+dropped w = record (fresh w.limits) { kills = w.kills; yank_at = w.yank_at; history = w.history }
 
--- A fresh editor with the killed text and the history of the one before, in which the accepted line is remembered.
+-- A fresh editor with the kills and the history of the one before, in which the accepted line is remembered.
 abbrev pub accepted : EditorState → EditorState
 accepted w = record (dropped w) { history = remembered w.limits w.line (line_text w.line) w.history }
 
@@ -269,7 +286,8 @@ acted (does.Insert c) w = type_char c w
 acted (does.Go target) w = moved (target_place target w.line) w
 acted (does.Erase target) w = erase_cut (cut_text target w.line) target w
 acted (does.Kill target) w = kill_cut (cut_text target w.line) target w
-acted does.Yank w = write w.killed w
+acted does.Yank w = write (yanked w) w
+acted does.YankPop w = popped_to (before_yank w) w
 acted does.Transpose w = transpose_at (meeting w.line.before w.line.after).before w
 acted does.Undo w = undo_to w.past w
 acted does.Redo w = redo_to w.undone w
@@ -278,10 +296,17 @@ acted does.Newer w = newer_from w.back w
 acted does.Search w = searched_to (found w) w
 acted does.SearchForward w = searched_forward (sought w) w
 
--- What an action is to the next one. A kill that cuts nothing is no kill.
+-- What a turn of the ring is to the next action: a yank, if there was one.
+abbrev pub last_popped : Option (List ℕ) → Last
+last_popped None = Other
+last_popped (Some before) = Yanked
+
+-- What an action is to the next one. A kill that cuts nothing is no kill, and a yank of nothing no yank.
 abbrev pub last_after : Action → EditorState → Last
 last_after does.Search w = if is_empty (sought w) then Walked else Other
 last_after does.SearchForward w = if is_empty (sought w) then Walked else Other
+last_after does.Yank w = if is_empty (yanked w) then Other else Yanked
+last_after does.YankPop w = last_popped (before_yank w)
 last_after (does.Kill target) w = if is_empty (cut_text target w.line) then Other else Killed
 last_after action w = Other
 

@@ -18,7 +18,7 @@
 //!
 //! | Proved | By the contract of |
 //! |---|---|
-//! | what each action makes of an editor, and each refusal by name: a text is refused as too long exactly if it has no room, and nothing has changed; line ends and tabs of a paste are blanks, and kills side by side are one text | `Editor::{act, paste}` |
+//! | what each action makes of an editor, and each refusal by name: a text is refused as too long exactly if it has no room, and nothing has changed; line ends and tabs of a paste are blanks, kills side by side are one text, and a ring of kills turns | `Editor::{act, paste}` |
 //! | some actions are done one after another, or those before the first that is refused | `Editor::run` |
 //! | neither a move nor letting a line go is ever refused | `Editor::{act, let_go}` |
 //! | an accepted line has its text, and is the newest of as many lines as the limit says, unless the limits leave it out | `Editor::accept` |
@@ -45,6 +45,7 @@
 //! | `Places` | the places to which a cursor goes | |
 //! | `Edits` | what is inserted, erased and transposed | |
 //! | `Recent` | lists of lines, the newest first | |
+//! | `Kills` | the texts that were killed, and the ring in which they are yanked | |
 //! | `Shown` | the characters that a line has, and those of a paste | `Line::text`, `Editor::paste` |
 //! | `States` | an editor's state, and what each action makes of it | `Editor` |
 //! | `Bounds` | which texts have room, and what is refused | `Editor::{act, run, paste}` |
@@ -70,6 +71,7 @@ mod editor;
 mod fault;
 mod history;
 mod keys;
+mod kills;
 mod last;
 pub mod laws;
 mod limits;

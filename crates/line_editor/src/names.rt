@@ -39,6 +39,7 @@ impl fmt::Display for Action {
             Action::Erase(target) => write!(f, "erase-{target}"),
             Action::Kill(target) => write!(f, "kill-{target}"),
             Action::Yank => write!(f, "yank"),
+            Action::YankPop => write!(f, "yank-pop"),
             Action::Transpose => write!(f, "transpose"),
             Action::Undo => write!(f, "undo"),
             Action::Redo => write!(f, "redo"),
@@ -75,6 +76,7 @@ fn word_named(name: &str) -> Option<Action>
 {
     match name {
         "yank" => Some(Action::Yank),
+        "yank-pop" => Some(Action::YankPop),
         "transpose" => Some(Action::Transpose),
         "undo" => Some(Action::Undo),
         "redo" => Some(Action::Redo),
@@ -126,7 +128,7 @@ impl Action {
     /// |---|---|
     /// | `insert-x`, `insert-space` | typing of a character |
     /// | `go-`, `erase-` or `kill-`, and a target's name | moves, erasures and kills |
-    /// | `yank`, `transpose`, `undo`, `redo`, `older`, `newer`, `search`, `search-forward` | the others |
+    /// | `yank`, `yank-pop`, `transpose`, `undo`, `redo`, `older`, `newer`, `search`, `search-forward` | the others |
     ///
     /// Targets are `char-back`, `char-forward`, `word-back`, `word-forward`, `word-end-back`, `word-start-forward`, `blank-back`,
     /// `blank-forward`, `line-start` and `line-end`.

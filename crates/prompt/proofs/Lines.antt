@@ -6,7 +6,7 @@ use Rattle.crossterm_read.specs.Answers.{SourceAnswer}
 use Rattle.crossterm_read.specs.History.{Known}
 use Rattle.line_editor.specs.Bounds.{is_too_long}
 use Rattle.line_editor.specs.States.{EditorState}
-use Rattle.line_editor.specs.Turns.{Answer, Going, Clear, Line, Interrupted, Closed, IsGoing, after_events, answer, event_text, lines_in, lines_of_events, task_of, turned}
+use Rattle.line_editor.specs.Turns.{Answer, Going, Clear, Line, Interrupted, Closed, IsGoing, after_events, answer, event_more, lines_in, lines_of_events, task_of, turned}
 use Rattle.prompt.specs.Asking.{LineEnds, GoesOn, unread, further, placed, answer_to, after_event}
 use Rattle.prompt.specs.Lines.{Calls, uncalled, called, GivesLines, read_for_line, going_on_events, taken_events}
 
@@ -33,7 +33,7 @@ module _ (given : EditorState → Seen → Seen) where
   taken_both [] ys w = refl
   taken_both (x ∷ xs) ys w =
       let y : Seen = given w x in
-      taken_first (is_too_long (event_text y w) w) y ys w (taken_events given (xs ++ ys) w) (taken_events given xs w) (taken_events given (xs ++ ys) (turned y w))
+      taken_first (is_too_long (event_more y w) w) y ys w (taken_events given (xs ++ ys) w) (taken_events given xs w) (taken_events given (xs ++ ys) (turned y w))
       (taken_events given xs (turned y w)) (taken_both xs ys w) (taken_both xs ys (turned y w))
 
   -- What two runs of events give together.
@@ -70,8 +70,8 @@ gives_one : (given : EditorState → Seen → Seen) (e : Seen) (w : EditorState)
 gives_one given e w a is =
     let y : Seen = given w e in
     record {
-      come = one_lines (is_too_long (event_text y w) w) y w ∙ ap lines_in is;
-      left = one_left (is_too_long (event_text y w) w) y w;
+      come = one_lines (is_too_long (event_more y w) w) y w ∙ ap lines_in is;
+      left = one_left (is_too_long (event_more y w) w) y w;
     }
 
 module _ {S : Type 0} {drawn : S → List SourceAnswer → S → Type 0} {asked : S → List (Option Duration)} {given : EditorState → Seen → Seen} where

@@ -14,7 +14,7 @@ use Rattle.crossterm.specs.Asking.{InRawMode, InTwoSeconds, Queries, raw_already
 use Rattle.crossterm.specs.Modes.{ModeCall, Modes}
 use Rattle.line_editor.specs.Bounds.{is_too_long}
 use Rattle.line_editor.specs.States.{EditorState}
-use Rattle.line_editor.specs.Turns.{Answer, IsGoing, event_text}
+use Rattle.line_editor.specs.Turns.{Answer, IsGoing, event_more}
 use Rattle.prompt.specs.Asking.{AsksPlace, GoesOn, StopsAsking, unread, further, placed, refused}
 use Rattle.prompt.specs.inside.Turning.{MayAsk, TakesAs}
 
@@ -61,6 +61,6 @@ module _ {S : Type 0} (drawn : S → List SourceAnswer → S → Type 0) (asked 
 
   -- Memory was refused for one more event.
   pub refuses : (p q : Known S) (k z : EditorState) (e : Seen) (kind : ErrorKind) → GoesOn drawn asked given v w p k → Reads drawn asked filters.Event p q (Came (Some e))
-      → is_too_long (event_text (given k e) k) k ≡ false → z ≡ k → kind ≡ OutOfMemory → StopsAsking drawn asked given v w kind q z
+      → is_too_long (event_more (given k e) k) k ≡ false → z ≡ k → kind ≡ OutOfMemory → StopsAsking drawn asked given v w kind q z
   refuses p q k z e kind goes reads room same is =
       subst (λ (x : EditorState). StopsAsking drawn asked given v w kind q x) (sym same) (refused p e goes reads room is)

@@ -473,10 +473,10 @@ fn limits_leave_lines_out_of_the_history(rt: HostRuntime) -> Result<(), EditFaul
         ignore_space: true,
         ..dups
     };
-    expect!(rt; kept_by(rt.alloc(), all)? == "one\n two\none\none\n");
-    expect!(rt; kept_by(rt.alloc(), dups)? == "one\n two\none\n");
-    expect!(rt; kept_by(rt.alloc(), space)? == "one\none\none\n");
-    expect!(rt; kept_by(rt.alloc(), both)? == "one\n");
+    expect!(rt; kept_by(rt.alloc(), all)?.as_str() == "one\n two\none\none\n");
+    expect!(rt; kept_by(rt.alloc(), dups)?.as_str() == "one\n two\none\n");
+    expect!(rt; kept_by(rt.alloc(), space)?.as_str() == "one\none\none\n");
+    expect!(rt; kept_by(rt.alloc(), both)?.as_str() == "one\n");
     Ok(())
 }
 
