@@ -28,8 +28,8 @@ abbrev pub popped_more : Option (List ℕ) → EditorState → ℕ
 popped_more None w = 0
 popped_more (Some before) w = size (kill_at w.kills (next_yank w)) - size (yanked w)
 
--- How many more bytes the line has after an action that writes, or 0: those of a typed character if it is shown, those
--- of a kill for a yank, and what the next kill has more.
+-- How many more bytes the line has after an action that writes, or 0. A typed character has none if it isn't shown. A
+-- yank has those of its kill, and a turn of the ring what the next kill has more.
 abbrev pub more_by : Action → EditorState → ℕ
 more_by (Insert c) w = size (shown_part (c ∷ []))
 more_by Yank w = size (yanked w)

@@ -42,7 +42,7 @@ control_rows =
     (110, Act Newer) ∷ (112, Act Older) ∷ (114, Act Search) ∷ (116, Act Transpose) ∷ (117, Act (Kill (Back Edge))) ∷
     (119, Act (Kill (Back Blank))) ∷ (121, Act Yank) ∷ (95, Act Undo) ∷ (55, Act Undo) ∷ []
 
--- What letters with Alt ask for: to go back a word, to kill one, to go forward by one, and to turn the ring of kills.
+-- What letters with Alt ask for: to go back or forward by a word, to kill one, and to turn the ring of kills.
 abbrev pub alt_rows : List (ℕ × KeyCommand)
 alt_rows = (98, Act (Go (Back WordStart))) ∷ (100, Act (Kill (Forward WordEnd))) ∷ (102, Act (Go (Forward WordEnd))) ∷ (121, Act YankPop) ∷ []
 

@@ -36,8 +36,7 @@ done Clears w = broken_off w
 done Closes w = w
 done Nothing w = w
 
--- How many more bytes the line has after a task that writes, or 0: those of an action, or of what of a paste comes into
--- the line.
+-- How many more bytes the line has after a task that writes, or 0. A paste has those of what of it comes into the line.
 abbrev pub task_more : Task → EditorState → ℕ
 task_more (Acts action) w = more_by action w
 task_more (Pastes text) w = size (pasted_part text)

@@ -152,7 +152,7 @@ fn both(code: KeyCode) -> Option<KeyCommand>
 /// | a search back skips each line that equals the one that is shown | behind a text it skips one that equals the line it found before, and else none |
 /// | behind a line that a search for a text found, Up and a search for any line go on from that line | they go on from the line before the search |
 /// | a search forward for any line comes at last to the unfinished line | only if the search back began there |
-/// | the unfinished line comes back with the cursor where it was | with the cursor at its end |
+/// | the unfinished line comes back with its cursor | with the cursor at its end |
 /// | Ctrl-W takes every white space for the end of a word | blanks and tabs alone |
 /// | a line of the history that was changed is as it was accepted when one comes back to it | the change is kept until a line is accepted |
 /// | Ctrl-_ takes back all characters that were typed side by side | 20 at a time |
