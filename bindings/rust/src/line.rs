@@ -54,7 +54,6 @@ pub use helper::{Helper, Words};
 
 /// What comes of an event.
 #[derive(Clone, Debug, PartialEq, Eq)]
-#[must_use]
 pub enum Outcome {
     /// The line goes on.
     Going,
@@ -73,8 +72,8 @@ pub enum LineError {
     TooLong,
     /// Memory was refused.
     NoMemory,
-    /// The prompt has a control character, or a key has modifiers or a state without a name.
-    Unknown,
+    /// The prompt has a control character.
+    Prompt,
 }
 
 impl Display for LineError {
@@ -82,7 +81,7 @@ impl Display for LineError {
         f.write_str(match self {
             LineError::TooLong => "the line would be too long",
             LineError::NoMemory => "there is no memory for the line",
-            LineError::Unknown => "no prompt has a control character, and no key such bits",
+            LineError::Prompt => "the prompt has a control character",
         })
     }
 }
@@ -92,7 +91,7 @@ impl Error for LineError {}
 impl From<LineError> for io::Error {
     fn from(error: LineError) -> io::Error {
         let kind = match error {
-            LineError::TooLong | LineError::Unknown => io::ErrorKind::InvalidInput,
+            LineError::TooLong | LineError::Prompt => io::ErrorKind::InvalidInput,
             LineError::NoMemory => io::ErrorKind::OutOfMemory,
         };
         io::Error::new(kind, error)
@@ -104,7 +103,8 @@ fn done(answer: Answer) -> Result<(), LineError> {
     match answer {
         Answer::TooLong => Err(LineError::TooLong),
         Answer::NoMemory => Err(LineError::NoMemory),
-        Answer::Unknown => Err(LineError::Unknown),
+        // A `&str` is UTF-8, and an event has an event's numbers: so it is a prompt.
+        Answer::Unknown => Err(LineError::Prompt),
         Answer::GoesOn | Answer::Accepted | Answer::Interrupted | Answer::Closed => Ok(()),
     }
 }
@@ -152,7 +152,7 @@ impl<H> Editor<H> {
     ///
     /// let mut editor = Editor::new(Limits::default())?.with_helper(Words::new(["help", "quit"]));
     /// editor.paste("he")?;
-    /// let _going = editor.turn(&Event::Key(KeyCode::Tab.into()))?;
+    /// editor.turn(&Event::Key(KeyCode::Tab.into()))?;
     /// assert_eq!(editor.text(), "help");
     /// # Ok::<(), gelvanh::line::LineError>(())
     /// ```
@@ -198,7 +198,7 @@ impl<H> Editor<H> {
     ///
     /// let mut editor = Editor::new(Limits::default())?;
     /// editor.load_history("first\nsecond\n")?;
-    /// let _going = editor.turn(&Event::Key(KeyCode::Up.into()))?;
+    /// editor.turn(&Event::Key(KeyCode::Up.into()))?;
     /// assert_eq!(editor.text(), "second");
     /// # Ok::<(), gelvanh::line::LineError>(())
     /// ```
@@ -211,7 +211,7 @@ impl<H> Editor<H> {
     ///
     /// # Errors
     ///
-    /// `NoMemory`, or `Unknown` if the prompt has a control character.
+    /// `NoMemory`, or `Prompt` if the prompt has a control character.
     pub fn begin(&mut self, prompt: &str, columns: u16) -> Result<(), LineError> {
         self.is_shown = false;
         done(self.line.begin(prompt, columns))
@@ -250,7 +250,7 @@ impl<H: Helper> Editor<H> {
     ///
     /// # Errors
     ///
-    /// `TooLong`, `NoMemory`, or `Unknown` if a key has modifiers or a state without a name.
+    /// `TooLong`, or `NoMemory`.
     pub fn turn(&mut self, event: &Event) -> Result<Outcome, LineError> {
         #[cfg(feature = "bracketed-paste")]
         if let Event::Paste(text) = event {
