@@ -1,7 +1,9 @@
 /* Asks for lines, and prints each: what linenoise is for. The first archive's parser makes events of bytes, and the line editor a line of events.
  *
  * cc -o lines bindings/c/lines.c $(pkg-config --cflags --libs gelvanh) && ./lines */
-#define _DEFAULT_SOURCE
+#ifndef _GNU_SOURCE
+#define _GNU_SOURCE
+#endif
 #include "gelvanh_line.h"
 #include <poll.h>
 #include <signal.h>
@@ -14,7 +16,7 @@
 static struct gelvanh_line line;
 
 static void on_resize(int signal) {
-    (void)signal; /* it ends a wait */
+    (void)signal;
 }
 
 /* Writes a text, and behind it what the line has for the terminal. */
@@ -44,12 +46,14 @@ static int next(struct gelvanh_event *event) {
     static uint8_t bytes[1024];
     static ssize_t from, to;
     struct pollfd fd = {0, POLLIN, 0};
+    sigset_t none;
     size_t count = 0;
+    sigemptyset(&none);
     while (count == 0) {
         if (from == to) {
             if (!show())
                 return 0;
-            while (poll(&fd, 1, -1) < 0)
+            while (ppoll(&fd, 1, NULL, &none) < 0) /* a resize, which waits for this */
                 if (!put("\r\033[J") || !begin() || !show())
                     return 0;
             from = 0;
@@ -88,11 +92,15 @@ int main(void) {
     static uint8_t text[65536];
     struct termios before, raw;
     struct sigaction action;
+    sigset_t resize;
     int is_terminal = tcgetattr(0, &before) == 0;
     uint32_t answer;
     memset(&action, 0, sizeof action);
     action.sa_handler = on_resize;
     sigaction(SIGWINCH, &action, NULL);
+    sigemptyset(&resize);
+    sigaddset(&resize, SIGWINCH);
+    sigprocmask(SIG_BLOCK, &resize, NULL);
     if (gelvanh_line_new(&line, &limits) != GELVANH_LINE_GOES_ON)
         return perror("lines"), 1;
     if (is_terminal) {

@@ -135,7 +135,7 @@ impl<H: Helper> Editor<H> {
     /// `Outcome::Going`.
     ///
     /// Raw mode is on meanwhile, and so are pastes as events, unless this crate lacks the feature `bracketed-paste`. Both are off again however
-    /// it ends; a raw mode that was on before stays on. What is there at once is taken before the line is shown. A text without room rings the
+    /// it ends; a raw mode that was on before stays on. Between two lines the terminal has its own mode, in which Ctrl-C ends the program. What is there at once is taken before the line is shown. A text without room rings the
     /// bell. After a resize the row is drawn anew, and Ctrl-L clears the window before.
     ///
     /// The editor may hold an unfinished line, as after an error: then that line goes on.
@@ -147,9 +147,12 @@ impl<H: Helper> Editor<H> {
     ///
     /// A line that has ended is returned also if the terminal fails to leave its row.
     pub fn readline<T: Terminal + ?Sized>(&mut self, prompt: &str, terminal: &mut T) -> io::Result<Outcome> {
-        let columns = terminal.columns()?;
-        self.begin(prompt, columns)?;
+        self.begin(prompt, 0)?;
         let session = Session::begin(terminal)?;
+        // From its first look on a terminal reports resizes: so none is lost between its size and the next event.
+        session.terminal.has_event()?;
+        let columns = session.terminal.columns()?;
+        self.begin(prompt, columns)?;
         self.show(session.terminal)?;
         loop {
             let event = session.terminal.read()?;
