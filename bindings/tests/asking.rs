@@ -15,7 +15,7 @@ enum Act {
     Fail(ErrorKind),
 }
 
-/// A terminal of 40 columns that has acts, and keeps what it was told.
+/// A terminal of 40 columns that has acts, and keeps what it was shown.
 struct Played {
     acts: VecDeque<Act>,
     shown: Vec<u8>,

@@ -1,4 +1,4 @@
-//! The tables in crates/test_values, which are read as they stand there.
+//! The tables of lines in crates/test_values: how they are written in Rattle.
 
 use std::fs;
 use std::path::PathBuf;
