@@ -19,6 +19,9 @@ const LIMITS: Limits = Limits {
     bytes: 1 << 20,
     lines: 100,
     steps: 100,
+    kills: 60,
+    ignore_dups: false,
+    ignore_space: false,
 };
 
 /// Brings the cursor to a row in which nothing was written. Returns whether the terminal answers where it is.

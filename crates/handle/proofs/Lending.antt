@@ -8,13 +8,13 @@ use base.Logic.{SProp, ent, sep, emp, never, fst∗, id⊢}
 use base.Fml.{Fml, Lft, GName, ftrue, fsep, flft}
 use mir.Syntax.{Sym, Ty, Fn, Callee, named, mut, erased, ty_ptr, ty_ref, ty_struct, tcons, tnil, dnil, impl, local, value_local, place, deref, field, copy, rv_opd, addr_of, aggregate, seq, assign, block, return}
 use mir.Raw.{raw as bare}
-use mir.Val.{Val, vptr, vstruct, vcons, vnil, has_ty, WT}
+use mir.Val.{Val, vptr, vstruct, vcons, vnil, of_list, has_ty, WT}
 use prog.Model.{Model}
 use prog.Wp.{WpFn, Closed}
 use contract.Monad.{fact}
 use contract.Running.{Running, tables}
 use types.Logic.{Logic, sem}
-use types.Kit.{‵, raw, ◌⊛◌, some, later, at_ret, ◌$◌, ◌∵◌, !, qed, move, keep, drop, use1, split, join, pick, fsplit, fsplit3, fjoin, fpack, feq_i, rewrite, suffices, frame, group, done, await}
+use types.Kit.{‵, raw, ◌⊛◌, some, later, at_ret, ◌$◌, ◌∵◌, !, qed, move, keep, drop, use1, split, join, pick, fsplit, fsplit3, fjoin, fpack, fpick, feq_i, feq_l, rewrite, suffices, frame, group, done, await}
 use types.Run.{stop, fld, addr, load, of_opd, no_more, and_then, first, blocks, exec, returns, enter}
 use types.ByLocal.{alloc_all, pass_all, free_all, look_at, get, get_in, through, sets, sets_last, env}
 use types.Part.{whole, sub, look_in, agg}
@@ -45,7 +45,8 @@ use Rattle.std.specs.contracts.impls.GlobalAllocator.TheImpl.{ghosts, dict}
 use Rattle.std.proofs.alloc.Calls.{Al, handle_tells}
 use Rattle.std.proofs.ResultValues.{and_tt}
 use Rattle.std.proofs.VecSteps.Shapes.{after}
-use Rattle.handle.specs.Held.{may_free}
+use Rattle.std.specs.Prelude.{Option, Some}
+use Rattle.handle.specs.Held.{may_free, slot_owns}
 use Rattle.handle.specs.contracts.parts.Parts as parts
 
 -- a kind of handle: what is kept, with its laws; the struct's values, its pointer, its ghost field, and that field changed; the rest as the struct's module has it
@@ -211,3 +212,90 @@ module _ (N : Kind) where
       returns ! (look_at ! 0 refl) $ free_all ! refl $
       suffices ! _ (ends_at 𝓛 parts_ended parts_stayed c z w made (tt, (tt, tt)) (tt, (tt, tt))) $ says ! refl $
       nothing ! $ nothing ! $ fjoin ! $ nothing ! $ fjoin ! $ join ! $ nothing ! $ join ! $ done !)))))
+
+-- The place of a kind of handle: as a kind, but that it may have no value yet, and a way to make one of a pointer and a
+-- value.
+pub record Slot : Type 2 where
+  pub kept : RattleType
+  pub name : Sym
+  pub D : Type 0
+  pub at : D → Ptr
+  pub value : D → Option kept.Denot
+  pub make : Ptr → kept.Denot → D
+  pub same_at : (p : Ptr) (w : kept.Denot) → at (make p w) ≡ p
+  pub new_value : (p : Ptr) (w : kept.Denot) → value (make p w) ≡ Some w
+  pub coded : Coded D
+  pub shr_at : D → ℕ → ℕ → Lft → Fml
+
+module _ (N : Slot) where
+  abbrev pub slot_type : owning.Owning
+  slot_type = record {
+    name = N.name;
+    args = [];
+    types = [];
+    parts = RawPtr-field ∷ [];
+    D = N.D;
+    as_values = λ d. (N.at d, tt);
+    coded = N.coded;
+    heap = λ d. slot_owns N.kept (N.at d) (N.value d);
+    exit = λ k. hidden (under (λ d. intos (RawPtr-field ∷ []) (N.at d, tt)) (exits_of k (rows (RawPtr-field ∷ []))));
+    shr_at = N.shr_at;
+  }
+
+  abbrev pub S : RattleType
+  S = owning.row slot_type
+
+  abbrev From : RattleType
+  From = parts.the_row N.kept heap.the_row ghosts
+
+  -- `let Parts { at, alloc: _ } = parts; Slot { at: at as *mut u8 }`
+  abbrev pub slot_code : Ty → Fn
+  slot_code p = record {
+    lifetimes = 0;
+    outlives = [];
+    ty_params = [];
+    givens = 0;
+    params = 1;
+    locals = local (ty_struct N.name (tcons ty_ptr tnil)) value_local ∷ local p value_local ∷ local ty_ptr value_local ∷ local ty_ptr value_local ∷ [];
+    body = seq (assign (place 2 []) (rv_opd (copy (place 1 (field 0 ∷ []))))) (seq (assign (place 3 []) (rv_opd (copy (place 2 []))))
+        (seq (assign (place 0 []) (aggregate (copy (place 3 []) ∷ []))) return));
+  }
+
+  abbrev pub slot_ended : Ended
+  slot_ended = record { signature = record { lifetimes = 0; outlives = []; params = plain (λ _. From) ∷ []; result = plain (λ _. S) }; kept = (yes, tt) }
+
+  abbrev pub slot_spec : {M : Type 1} {𝓤 : Ura M} (𝓛 : Logic 𝓤) → Clauses 𝓤 slot_ended
+  slot_spec {𝓤 = 𝓤} 𝓛 κs a = record { ghost = Unit {0}; requires = λ _. emp 𝓤; ensures = λ _ r _. fact 𝓤 (N.value r ≡ Some a.0.value) }
+
+  abbrev slot_stayed : Stays slot_ended.signature.params slot_ended.kept
+  slot_stayed = (stay_dropped (plain (λ _. From)) yes, tt)
+
+  abbrev slot_al : Al
+  slot_al = record { row = heap.the_row; laws = heap_laws.the_row_laws; g = ghosts; d = dict; drops = impl [] tnil dnil }
+
+  pub slot_meets : {M : Type 1} {𝓤 : Ura M} (𝓛 : Logic 𝓤) (𝓜 : Model 𝓤 𝓛.H) (𝓡 : Running 𝓤 𝓛.H 𝓜) (key : Callee)
+      → Closed 𝓤 𝓛.H (tables 𝓤 𝓛.H 𝓜 𝓡 𝓡.env).C (tables 𝓤 𝓛.H 𝓜 𝓡 𝓡.env).Λ key (slot_code (layout From)) → Meets 𝓛 slot_ended.signature ((tables 𝓤 𝓛.H 𝓜 𝓡 𝓡.env).C key) (closing 𝓛 slot_ended (slot_spec 𝓛))
+  slot_meets {𝓤 = 𝓤} 𝓛 𝓜 𝓡 key closed =
+      let c = slot_spec 𝓛 in let 𝓣 = tables 𝓤 𝓛.H 𝓜 𝓡 𝓡.env in let fn = slot_code (layout From) in
+      proved_at 𝓛 slot_ended slot_stayed c 𝓜 𝓡 (Goes-dropped 𝓛 0 (plain (λ _. From)) yes (λ κs x w. refl), tt) key fn closed (λ z are.
+      let v = z.0.3.0 in let us = z.0.4.0 in let Post : Val → SProp 𝓤 = (walk_of 𝓛 slot_ended slot_stayed c).post z in let Run : List Val → SProp 𝓤 = λ ws. WpFn 𝓤 𝓛.H 𝓣.C 𝓣.Λ fn ws Post in
+      qed 𝓛 ((‵ ftrue ⊛ ‵ (From.own_val v us) ⊛ ‵ ftrue) ∷ ‵ ftrue ∷ []) ∵
+      split ! $ drop ! $ split ! $ fsplit ! $ fpick ! (λ vss. fsplit ! $ feq_l ! (λ ev. fsplit ! $ feq_l ! (λ ep. fsplit ! $ handle_tells slot_al ! v.alloc vss.1.0 (λ hv ea fa.
+      move ! (1 ∷ []) $ drop ! $ move ! (1 ∷ []) $
+      in_a_block ! v.at (λ p. box_owns may_free N.kept p v.value) (fst∗ 𝓤 (never 𝓤) (sem 𝓛 (may_free (bare (lone N.kept.mir)) null_ptr))) (λ b o e.
+      -- [the box; the allocator; nothing]
+      let made : N.D = N.make (block_ptr b o) v.value in let w : Val = vstruct (vcons (vptr b o) vnil) in let pv : Val = vstruct (vcons (vptr b o) (vcons hv vnil)) in
+      let is_pv : us ≡ pv ∷ [] = ev ∙ (λ j. vstruct (of_list ((ep ∙ ap (λ (p : Ptr). ptr_val p ∷ []) e) j ++ (ea j ++ []))) ∷ []) in
+      let good : T (has_ty (layout From) pv) × WT pv = (and_tt (has_ty (layout heap.the_row) hv) fa.0, (tt, (fa.1, tt))) in
+      let words : vptr b o ∷ [] ≡ ptr_val (N.at made) ∷ [] = ap (λ (p : Ptr). ptr_val p ∷ []) (sym (N.same_at (block_ptr b o) v.value)) in
+      rewrite ! 0 (λ (p : Ptr). ‵ (box_owns may_free N.kept p v.value)) (sym (N.same_at (block_ptr b o) v.value)) refl $
+      rewrite ! 0 (λ (x : Option N.kept.Denot). ‵ (slot_owns N.kept (N.at made) x)) (sym (N.new_value (block_ptr b o) v.value)) refl $
+      nothing ! $ feq_i ! (List Val) (vptr b o ∷ []) (ptr_val (N.at made) ∷ []) words $ fjoin ! $ feq_i ! (List Val) (w ∷ []) (w ∷ []) refl $ fjoin ! $
+      fpack ! (Valss (RawPtr ∷ [])) (within (owning.shape slot_type) (N.at made, tt) (w ∷ [])) (vptr b o ∷ [], tt) $ fjoin ! $
+      use1 𝓛 (‵ (S.own_val made (w ∷ []))) (id⊢ 𝓤 _) $ keep ! (0 ∷ []) $
+      suffices ! (Run (pv ∷ [])) (subst (λ (ws : List Val). ent 𝓤 (Run (pv ∷ [])) (Run ws)) (sym (λ i. is_pv i ++ [])) (id⊢ 𝓤 (Run (pv ∷ [])))) $
+      enter ! 𝓣.C 𝓣.Λ fn (pv ∷ []) Post $ alloc_all ! (λ l. pass_all ! refl (good, tt) $
+      sets ! (of_opd ! (get_in ! (fld ! refl (stop !)) (sub ! 0 refl (whole !)))) refl (tt, tt) $ sets ! (of_opd ! (get ! refl)) refl (tt, tt) $
+      sets ! (agg ! (and_then ! (get ! refl) (no_more !))) refl (tt, (tt, tt)) $ returns ! (look_at ! 0 refl) $ free_all ! refl $
+      suffices ! _ (ends_at 𝓛 slot_ended slot_stayed c z w made (tt, tt) (tt, tt)) $ says ! (N.new_value (block_ptr b o) v.value) $
+      nothing ! $ nothing ! $ fjoin ! $ join ! $ nothing ! $ join ! $ done !)))))))

@@ -1,8 +1,10 @@
 //! What the calls return.
+ghost use Rattle.std.specs.Prelude.{◌≡◌};
+ghost use Rattle.line_c.specs.Answers.{fault_answer, number};
 
 use line_editor::EditFault;
 
-/// What comes of a call, as its number.
+/// What comes of a call.
 #[derive(Clone, Copy, PartialEq, Eq, Debug)]
 pub enum Answer {
     /// It is done, and the line goes on.
@@ -17,15 +19,33 @@ pub enum Answer {
     TooLong,
     /// Memory was refused. Nothing has changed.
     NoMemory,
-    /// The numbers are no event's, or a text isn't UTF-8, or a prompt has a control character. Nothing has changed.
+    /// The numbers are no event's, a text isn't UTF-8, or a prompt has a control character. Nothing has changed.
     Unknown,
 }
 
-impl From<EditFault> for Answer {
-    fn from(fault: EditFault) -> Answer {
-        match fault {
-            EditFault::TooLong => Answer::TooLong,
-            EditFault::Memory => Answer::NoMemory,
+impl Answer {
+    /// Its number, as C has it.
+    pub(crate) fn number(self) -> u32
+        ensures { result ≡ number self }
+    {
+        match self {
+            Answer::GoesOn => 0,
+            Answer::Accepted => 1,
+            Answer::Interrupted => 2,
+            Answer::Closed => 3,
+            Answer::TooLong => 4,
+            Answer::NoMemory => 5,
+            Answer::Unknown => 6,
         }
+    }
+}
+
+/// The answer that names a fault.
+pub(crate) fn answer_to(fault: EditFault) -> Answer
+    ensures { result ≡ fault_answer fault }
+{
+    match fault {
+        EditFault::TooLong => Answer::TooLong,
+        EditFault::Memory => Answer::NoMemory,
     }
 }

@@ -1,7 +1,7 @@
 //! What C keeps: a pointer to a box.
-ghost use Rattle.std.specs.Prelude.{◌≡◌};
+ghost use Rattle.std.specs.Prelude.{◌≡◌, Option, Some};
 ghost use Rattle.std.specs.Borrow.{sem};
-ghost use Rattle.line_c.specs.declared.lines.Lines.{Lines};
+ghost use Rattle.line_c.specs.Kept.{Kept};
 
 use crate::lines::Lines;
 use handle::Parts;
@@ -11,8 +11,8 @@ use std::marker::Model;
 /// A line that C keeps.
 #[repr(C)]
 pub struct LineHandle {
-    pub(crate) at: *mut u8,
-    pub ghost value: { Lines },
+    at: *mut u8,
+    pub ghost value: { Kept },
 }
 
 impl Model for LineHandle {
@@ -42,6 +42,33 @@ impl LineHandle {
         Parts {
             at: at as *mut Lines,
             alloc,
+        }
+    }
+}
+
+/// The place of a `LineHandle` while a line begins: it may have none yet. What it owns with one is what the handle owns.
+#[repr(C)]
+#[derive(Drop)]
+pub struct LineSlot {
+    at: *mut u8,
+    pub ghost value: { Option Kept },
+}
+
+impl Model for LineSlot {
+    ghost use Rattle.handle.specs.Held.{slot_owns};
+    ghost use Rattle.line_c.specs.contracts.lines.Lines.{the_row};
+
+    ghost also_owns = { λ s. slot_owns the_row s.at s.value };
+}
+
+impl LineSlot {
+    /// The place of a line that lies in these parts.
+    pub(crate) fn of(parts: Parts<Lines, Global>) -> LineSlot
+        ensures { result.value ≡ Some parts.value }
+    {
+        let Parts { at, alloc: _ } = parts;
+        LineSlot {
+            at: at as *mut u8,
         }
     }
 }

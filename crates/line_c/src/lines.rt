@@ -1,13 +1,24 @@
 //! An editor with the row in which its line is shown.
+ghost use Rattle.std.specs.Prelude.{◌≡◌, false, IfOk, IfSome, OnErr, OnOk, Some, reverse};
+ghost use Rattle.std.specs.Str.{chars};
+ghost use Rattle.crossterm_types.specs.Seen.{Paste, seen_event};
+ghost use Rattle.line_editor.specs.Bounds.{size};
+ghost use Rattle.line_editor.specs.Splits.{line_text};
+ghost use Rattle.numbers.specs.Event.{event_known};
+ghost use Rattle.line_c.specs.declared.answers.Answer.TheVariants.{GoesOn, NoMemory};
+ghost use Rattle.line_c.specs.Kept.{forgotten};
+ghost use Rattle.prompt.specs.Prompts.{has_control};
+ghost use Rattle.line_c.specs.Answers.{Begins, Copies, CopiesHistory, IsFresh, LeadsTo, Moves, Shows, Takes, WithText, counted, with_hint, with_history};
 
-use crate::answers::Answer;
+use crate::answers::{Answer, answer_to};
 use crossterm_types::event::{Event, InternalEvent};
-use line_editor::{Editor, Limits, Outcome};
+use line_editor::{EditFault, Editor, Limits, Outcome};
 use numbers::{GelvanhEvent, event_of};
 use prompt::Row;
 use std::alloc::{AllocError, Global};
 use std::collections::VecDeque;
 use std::io::{Read, Write};
+use std::marker::Model;
 
 /// An editor, the row in which its line is shown, and what is still to be written to the terminal.
 #[derive(Drop)]
@@ -25,13 +36,34 @@ pub struct Lines {
     frame: Vec<u8>,
 }
 
+impl Model for Lines {
+    ghost use Rattle.std.specs.String.{string_bytes};
+    ghost use Rattle.std.specs.Str.{chars};
+    ghost use Rattle.line_c.specs.Kept.{Kept};
+
+    ghost Value = { Kept };
+
+    ghost view = { λ l. record {
+      editor = l.editor;
+      row = l.row;
+      prompt = string_bytes l.prompt;
+      hint = string_bytes l.hint;
+      accepted = chars (string_bytes l.accepted);
+      output = l.output.items;
+    } };
+}
+
 /// The columns that count: 0, as a serial line says, are 80.
-fn columns_of(columns: u16) -> u16 {
+fn counted(columns: u16) -> u16
+    ensures { result ≡ counted columns }
+{
     if columns == 0 { 80 } else { columns }
 }
 
-/// Copies a text into a slice, if it fits, and returns its length.
-pub(crate) fn copy_whole(text: &str, slice: &mut [u8]) -> usize {
+/// Copies a text into a slice, if it fits, and returns how many bytes it has.
+fn copy_text(text: &str, slice: &mut [u8]) -> usize
+    ensures { Copies (chars text.now) result slice.old slice.new }
+{
     let count = text.len();
     if count <= slice.len() {
         slice[0..count].copy_from_slice(text.as_bytes());
@@ -39,26 +71,34 @@ pub(crate) fn copy_whole(text: &str, slice: &mut [u8]) -> usize {
     count
 }
 
-/// What is behind a pointer of `gelvanh_line_new`.
-pub(crate) fn made(alloc: Global, limits: Limits) -> Option<Box<Lines>> {
-    match Editor::new(alloc, limits) {
-        Ok(editor) => match Row::new(alloc, 80) {
-            Ok(row) => match Box::new(
-                alloc,
-                Lines {
-                    alloc,
-                    editor,
-                    row,
-                    prompt: String::new(alloc),
-                    hint: String::new(alloc),
-                    accepted: String::new(alloc),
-                    output: VecDeque::new(alloc),
-                    frame: Vec::new(alloc),
-                },
-            ) {
-                Ok(kept) => Some(kept),
-                Err(_) => None,
-            },
+/// An editor in a row of 80 columns, with nothing written.
+fn started(alloc: Global, limits: Limits) -> Result<Lines, EditFault>
+    ensures { IfOk result (λ lines. IsFresh limits lines) }
+{
+    let editor = Editor::new(alloc, limits)?;
+    let row = match Row::new(alloc, 80) {
+        Ok(row) => row,
+        Err(_) => return Err(EditFault::Memory),
+    };
+    Ok(Lines {
+        alloc,
+        editor,
+        row,
+        prompt: String::new(alloc),
+        hint: String::new(alloc),
+        accepted: String::new(alloc),
+        output: VecDeque::new(alloc),
+        frame: Vec::new(alloc),
+    })
+}
+
+/// An editor in a box, if memory was had for it.
+pub(crate) fn made(alloc: Global, limits: Limits) -> Option<Box<Lines>>
+    ensures { IfSome result (λ kept. IsFresh limits kept.value) }
+{
+    match started(alloc, limits) {
+        Ok(lines) => match Box::new(alloc, lines) {
+            Ok(kept) => Some(kept),
             Err(_) => None,
         },
         Err(_) => None,
@@ -67,40 +107,67 @@ pub(crate) fn made(alloc: Global, limits: Limits) -> Option<Box<Lines>> {
 
 impl Lines {
     /// Takes a prompt, and a row of a window of so many columns, of which nothing is known.
-    fn take_prompt(&mut self, prompt: &str, columns: u16) -> Result<(), AllocError> {
+    fn take_prompt(&mut self, prompt: &str, columns: u16) -> Result<(), AllocError>
+        requires { has_control (chars prompt.now) ≡ false }
+        ensures ok { OnOk result (Begins prompt.now columns GoesOn self.old self.new) }
+        ensures err { OnErr result (self.new ≡ self.old) }
+    {
         let prompt = String::from_str(self.alloc, prompt)?;
-        self.row = Row::new(self.alloc, columns_of(columns))?;
+        self.row = Row::new(self.alloc, counted(columns))?;
         self.prompt = prompt;
         Ok(())
     }
 
     /// Begins a row with a prompt, in a window of so many columns.
-    pub(crate) fn begin(&mut self, prompt: &[u8], columns: u16) -> Answer {
-        match str::from_utf8(prompt) {
-            Ok(text) if prompt::is_shown(text) => match self.take_prompt(text, columns) {
-                Ok(()) => Answer::GoesOn,
-                Err(_) => Answer::NoMemory,
-            },
-            _ => Answer::Unknown,
+    fn begin_with(&mut self, prompt: &str, columns: u16) -> Answer
+        ensures { Begins prompt.now columns result self.old self.new }
+    {
+        if !prompt::is_shown(prompt) {
+            return Answer::Unknown;
+        }
+        match self.take_prompt(prompt, columns) {
+            Ok(()) => Answer::GoesOn,
+            Err(_) => Answer::NoMemory,
         }
     }
 
-    /// Takes the text that is shown behind the line.
-    pub(crate) fn take_hint(&mut self, hint: &[u8]) -> Answer {
-        match str::from_utf8(hint) {
-            Ok(text) => match String::from_str(self.alloc, text) {
-                Ok(hint) => {
-                    self.hint = hint;
-                    Answer::GoesOn
-                }
-                Err(_) => Answer::NoMemory,
-            },
+    /// The same with a prompt of bytes.
+    pub(crate) fn begin(&mut self, prompt: &[u8], columns: u16) -> Answer
+        ensures { WithText prompt.now (Begins prompt.now columns) result self.old self.new }
+    {
+        match str::from_utf8(prompt) {
+            Ok(text) => self.begin_with(text, columns),
             Err(_) => Answer::Unknown,
         }
     }
 
-    /// Does what a user's event asks for. The row is left once the line has ended.
-    fn turn(&mut self, event: &Event) -> Answer {
+    /// Takes the text that is shown behind the line.
+    fn show_behind(&mut self, hint: &str) -> Answer
+        ensures { LeadsTo (with_hint hint.now self.old) result self.old self.new }
+    {
+        match String::from_str(self.alloc, hint) {
+            Ok(hint) => {
+                self.hint = hint;
+                Answer::GoesOn
+            }
+            Err(_) => Answer::NoMemory,
+        }
+    }
+
+    /// The same with a text of bytes.
+    pub(crate) fn take_hint(&mut self, hint: &[u8]) -> Answer
+        ensures { WithText hint.now (LeadsTo (with_hint hint.now self.old)) result self.old self.new }
+    {
+        match str::from_utf8(hint) {
+            Ok(text) => self.show_behind(text),
+            Err(_) => Answer::Unknown,
+        }
+    }
+
+    /// Does what an event asks for. The row is left once the line has ended.
+    fn turn(&mut self, event: &Event) -> Answer
+        ensures { Takes (Some (seen_event event.now)) result self.old self.new }
+    {
         let before = self.output.len();
         if self.output.write(self.row.leaving().as_bytes()).is_err() {
             return Answer::NoMemory;
@@ -118,7 +185,7 @@ impl Lines {
             }
             Err(fault) => {
                 self.output.truncate(before);
-                return Answer::from(fault);
+                return answer_to(fault);
             }
         };
         self.row.forget();
@@ -126,7 +193,9 @@ impl Lines {
     }
 
     /// Takes an event by its numbers.
-    pub(crate) fn take(&mut self, event: &GelvanhEvent) -> Answer {
+    pub(crate) fn take(&mut self, event: &GelvanhEvent) -> Answer
+        ensures { Takes (event_known event.now) result self.old self.new }
+    {
         match event_of::<Global>(event) {
             None => Answer::Unknown,
             Some(InternalEvent::Event(event)) => self.turn(&event),
@@ -135,35 +204,56 @@ impl Lines {
     }
 
     /// Pastes a text.
-    pub(crate) fn paste(&mut self, text: &[u8]) -> Answer {
+    fn paste_text(&mut self, text: &str) -> Answer
+        ensures { Takes (Some (Paste text.now)) result self.old self.new }
+    {
+        match self.editor.paste(text) {
+            Ok(()) => Answer::GoesOn,
+            Err(fault) => answer_to(fault),
+        }
+    }
+
+    /// The same with a text of bytes.
+    pub(crate) fn paste(&mut self, text: &[u8]) -> Answer
+        ensures { WithText text.now (Takes (Some (Paste text.now))) result self.old self.new }
+    {
         match str::from_utf8(text) {
-            Ok(text) => match self.editor.paste(text) {
-                Ok(()) => Answer::GoesOn,
-                Err(fault) => Answer::from(fault),
-            },
+            Ok(text) => self.paste_text(text),
             Err(_) => Answer::Unknown,
         }
     }
 
-    /// Shows the line: what changed in its row joins the output.
-    pub(crate) fn show(&mut self) -> Answer {
-        self.frame.clear();
-        let line = self.editor.line();
-        let drawn = self.row.draw(
-            &mut self.frame,
-            self.prompt.as_str(),
-            line,
-            self.hint.as_str(),
-        );
-        if drawn.is_ok() && self.output.write(&self.frame).is_ok() {
-            return Answer::GoesOn;
-        }
+    /// Nothing is known of the row any more, since memory was refused for a frame.
+    fn give_up(&mut self) -> Answer
+        ensures answer { result ≡ NoMemory }
+        ensures row { self.new ≡ record self.old { row = forgotten self.old.row } }
+    {
         self.row.forget();
         Answer::NoMemory
     }
 
+    /// Shows the line: what changed in its row joins the output.
+    pub(crate) fn show(&mut self) -> Answer
+        ensures { Shows result self.old self.new }
+    {
+        self.frame.clear();
+        let line = self.editor.line();
+        match self
+            .row
+            .draw(&mut self.frame, self.prompt.as_str(), line, self.hint.as_str())
+        {
+            Ok(()) => match self.output.write(&self.frame) {
+                Ok(_) => Answer::GoesOn,
+                Err(_) => self.give_up(),
+            },
+            Err(_) => self.give_up(),
+        }
+    }
+
     /// Moves what is to be written into a slice, as far as there is room, and returns how many bytes.
-    pub(crate) fn output(&mut self, slice: &mut [u8]) -> usize {
+    pub(crate) fn move_output(&mut self, slice: &mut [u8]) -> usize
+        ensures { Moves result slice.old slice.new self.old self.new }
+    {
         match self.output.read(slice) {
             Ok(count) => count,
             Err(_) => 0,
@@ -171,38 +261,55 @@ impl Lines {
     }
 
     /// Copies the line's text.
-    pub(crate) fn text(&self, slice: &mut [u8]) -> usize {
-        copy_whole(self.editor.line().text(), slice)
+    pub(crate) fn text(&self, slice: &mut [u8]) -> usize
+        ensures { Copies (line_text self.now.editor.line) result slice.old slice.new }
+    {
+        copy_text(self.editor.line().text(), slice)
     }
 
     /// The bytes of the line before the cursor.
-    pub(crate) fn cursor(&self) -> usize {
+    pub(crate) fn cursor(&self) -> usize
+        ensures { result ≡ size (reverse self.now.editor.line.before) }
+    {
         self.editor.line().before().len()
     }
 
     /// Copies the text of the line that was accepted last.
-    pub(crate) fn accepted(&self, slice: &mut [u8]) -> usize {
-        copy_whole(self.accepted.as_str(), slice)
+    pub(crate) fn accepted(&self, slice: &mut [u8]) -> usize
+        ensures { Copies self.now.accepted result slice.old slice.new }
+    {
+        copy_text(self.accepted.as_str(), slice)
     }
 
-    /// Copies the text of the history, if it fits, and its length.
-    pub(crate) fn history(&self, slice: &mut [u8], length: &mut usize) -> Answer {
+    /// Copies the text of the history, if it fits, and sets its length.
+    pub(crate) fn history(&self, slice: &mut [u8], length: &mut usize) -> Answer
+        ensures { CopiesHistory self.now.editor result length.old length.new slice.old slice.new }
+    {
         match self.editor.history_text() {
             Ok(text) => {
-                *length = copy_whole(text.as_str(), slice);
+                *length = copy_text(text.as_str(), slice);
                 Answer::GoesOn
             }
-            Err(fault) => Answer::from(fault),
+            Err(_) => Answer::NoMemory,
         }
     }
 
     /// Takes the history from a text.
-    pub(crate) fn load(&mut self, text: &[u8]) -> Answer {
+    fn load_text(&mut self, text: &str) -> Answer
+        ensures { LeadsTo (with_history text.now self.old) result self.old self.new }
+    {
+        match self.editor.load_history(text) {
+            Ok(()) => Answer::GoesOn,
+            Err(_) => Answer::NoMemory,
+        }
+    }
+
+    /// The same with a text of bytes.
+    pub(crate) fn load(&mut self, text: &[u8]) -> Answer
+        ensures { WithText text.now (LeadsTo (with_history text.now self.old)) result self.old self.new }
+    {
         match str::from_utf8(text) {
-            Ok(text) => match self.editor.load_history(text) {
-                Ok(()) => Answer::GoesOn,
-                Err(fault) => Answer::from(fault),
-            },
+            Ok(text) => self.load_text(text),
             Err(_) => Answer::Unknown,
         }
     }

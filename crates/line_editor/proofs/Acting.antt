@@ -1,11 +1,12 @@
 -- What the parts of an action come to.
-use Rattle.std.proofs.Common.{◌≡◌, ℕ, true, false, List, [], ◌∷◌, refl, sym, ap, ◌∙◌}
+use Rattle.std.proofs.Common.{◌≡◌, ℕ, true, false, List, [], ◌∷◌, Some, refl, sym, ap, ◌∙◌}
 use Rattle.line_editor.specs.declared.last.Last.TheVariants.{Other}
 use Rattle.line_editor.specs.declared.places.Target.{Target}
 use Rattle.line_editor.specs.Splits.{Split}
-use Rattle.line_editor.specs.Edits.{cut_text, empty_line, erased, inserted, meeting, transposed}
+use Rattle.line_editor.specs.Edits.{cut_text, empty_line, erased, inserted, line_with, meeting, transposed}
+use Rattle.line_editor.specs.Kills.{kill_at, kills_with}
 use Rattle.line_editor.specs.Shown.{is_shown}
-use Rattle.line_editor.specs.States.{EditorState, changed, erase_cut, fresh, kill_text, kept_by, kill_cut, redo_to, transpose_at, type_char, after_typing, undo_to, write}
+use Rattle.line_editor.specs.States.{EditorState, changed, before_yank, erase_cut, fresh, kill_cut, next_yank, popped_to, redo_to, transpose_at, type_char, after_typing, undo_to, write}
 use Rattle.line_editor.specs.inside.Changes.{DraftState, draft_changed, draft_redone, draft_typed, draft_undone}
 use Rattle.line_editor.specs.declared.limits.Limits.{Limits}
 
@@ -16,11 +17,11 @@ draft_of w = record { line = w.line; past = w.past; undone = w.undone; typing = 
 abbrev pub with_draft : DraftState → EditorState → EditorState
 with_draft d w = record w { line = d.line; past = d.past; undone = d.undone; typing = d.typing }
 
-pub fresh_of : (limits : Limits) (d : DraftState) (line unfinished : Split) (killed : List ℕ) (history : List Split)
-    → d ≡ record { line = line; past = []; undone = []; typing = false } → line ≡ empty_line → unfinished ≡ empty_line → killed ≡ [] → history ≡ []
-    → record { limits = limits; line = d.line; killed = killed; past = d.past; undone = d.undone; history = history; back = 0; unfinished = unfinished; typing = d.typing; last = Other }
+pub fresh_of : (limits : Limits) (d : DraftState) (line unfinished : Split) (kills : List (List ℕ)) (history : List Split)
+    → d ≡ record { line = line; past = []; undone = []; typing = false } → line ≡ empty_line → unfinished ≡ empty_line → kills ≡ [] → history ≡ []
+    → record { limits = limits; line = d.line; kills = kills; yank_at = 0; past = d.past; undone = d.undone; history = history; back = 0; unfinished = unfinished; typing = d.typing; last = Other }
     ≡ fresh limits
-fresh_of limits d line unfinished killed history e a b c f = rw (e, a, b, c, f) refl
+fresh_of limits d line unfinished kills history e a b c f = rw (e, a, b, c, f) refl
 
 -- What an edit of the line makes of the editor.
 module _ (v w : EditorState) (is : v ≡ w) (d : DraftState) where
@@ -59,11 +60,11 @@ module _ (target : Target) (w : EditorState) (d : Split) (text : List ℕ) (same
     erase_some =
         ap (λ (l : Split). changed l w) (f ∙ ap (erased target) (sym same)) ∙ sym (ap (λ t. erase_cut t target w) (sym is_cut ∙ some))
 
-    pub kill_some : (killed : List ℕ) (v : EditorState) → killed ≡ kill_text target text (kept_by w.last w.killed) → v ≡ changed line w
-        → record v { killed = killed } ≡ kill_cut (cut_text target w.line) target w
-    kill_some killed v k g =
-        ap (λ (x : EditorState). record x { killed = killed }) (g ∙ ap (λ (l : Split). changed l w) (f ∙ ap (erased target) (sym same)))
-        ∙ ap (λ t. record (changed (erased target w.line) w) { killed = t }) (k ∙ ap (λ t. kill_text target t (kept_by w.last w.killed)) some)
+    pub kill_some : (kills : List (List ℕ)) (v : EditorState) → kills ≡ kills_with w.limits.kills w.last target text w.kills → v ≡ changed line w
+        → record v { kills = kills; yank_at = 0 } ≡ kill_cut (cut_text target w.line) target w
+    kill_some kills v k g =
+        ap (λ (x : EditorState). record x { kills = kills; yank_at = 0 }) (g ∙ ap (λ (l : Split). changed l w) (f ∙ ap (erased target) (sym same)))
+        ∙ ap (λ t. record (changed (erased target w.line) w) { kills = t; yank_at = 0 }) (k ∙ ap (λ t. kills_with w.limits.kills w.last target t w.kills) some)
         ∙ sym (ap (λ t. kill_cut t target w) (sym is_cut ∙ some))
 
 -- A text that is to be written, as it is at hand.
@@ -89,3 +90,13 @@ module _ (w : EditorState) (d : Split) (same : w.line ≡ d) where
   transpose_some c before some line f =
       ap (λ (l : Split). changed l w) (f ∙ ap transposed (sym same))
       ∙ sym (ap (λ (x : Split). transpose_at (meeting x.before x.after).before w) same ∙ ap (λ t. transpose_at t w) some)
+
+-- The next kill in place of the yanked one.
+pub pop_some : (w v : EditorState) (p q : Split) (text : List ℕ) (next : ℕ) → before_yank w ≡ Some p.before → q ≡ w.line → next ≡ next_yank w
+    → text ≡ kill_at w.kills next → v ≡ changed (line_with p text q) w → record v { yank_at = next } ≡ popped_to (before_yank w) w
+pop_some w v p q text next before line place kill g =
+    ap (λ (x : EditorState). record x { yank_at = next }) g
+    ∙ ap (λ (l : Split). record (changed (line_with p text l) w) { yank_at = next }) line
+    ∙ ap (λ t. record (changed (line_with p t w.line) w) { yank_at = next }) kill
+    ∙ ap (λ n. record (changed (line_with p (kill_at w.kills n) w.line) w) { yank_at = n }) place
+    ∙ sym (ap (λ o. popped_to o w) before)

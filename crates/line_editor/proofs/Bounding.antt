@@ -6,25 +6,27 @@ use Rattle.std.specs.Prelude.{Option, Some, None, IfSome, suc, zero, slice_get}
 use Rattle.std.specs.List.{AllByRecursion, filter}
 use Rattle.unicode_segmentation.proofs.TextLemmas.{encode_utf8_nonempty}
 use Rattle.line_editor.specs.declared.actions.Action.{Action}
-use Rattle.line_editor.specs.declared.actions.Action.TheVariants.{Insert, Go, Erase, Kill, Yank, Transpose, Undo, Redo, Older, Newer, Search}
+use Rattle.line_editor.specs.declared.actions.Action.TheVariants.{Insert, Go, Erase, Kill, Yank, YankPop, Transpose, Undo, Redo, Older, Newer, Search, SearchForward}
 use Rattle.line_editor.specs.declared.last.Last.{Last}
-use Rattle.line_editor.specs.declared.last.Last.TheVariants.{Killed, Other, Walked}
+use Rattle.line_editor.specs.declared.last.Last.TheVariants.{Other}
 use Rattle.line_editor.specs.declared.limits.Limits.{Limits}
 use Rattle.line_editor.specs.declared.places.Stop.TheVariants.{Edge}
 use Rattle.line_editor.specs.declared.places.Target.{Target}
-use Rattle.line_editor.specs.declared.places.Target.TheVariants.{Back, Forward}
+use Rattle.line_editor.specs.declared.places.Target.TheVariants.{Forward}
 use Rattle.line_editor.specs.Bounded.{AreRoomy, IsBounded, IsHeld, IsKept, StaysBounded, all_done}
-use Rattle.line_editor.specs.Bounds.{is_too_long, room_of, size, written}
-use Rattle.line_editor.specs.Edits.{cut_text, empty_line, erased, inserted, meeting, transposed}
+use Rattle.line_editor.specs.Bounds.{is_too_long, more_by, popped_more, room_of, size}
+use Rattle.line_editor.specs.Edits.{cut_text, empty_line, erased, inserted, line_with, meeting, transposed}
 use Rattle.line_editor.specs.History.{loaded_line, has_room, lines_of, loaded}
+use Rattle.line_editor.specs.Kills.{kill_at}
 use Rattle.line_editor.specs.Places.{target_place}
 use Rattle.line_editor.specs.Shown.{AreShown, blanked, is_shown, pasted_part, shown_part}
 use Rattle.line_editor.specs.Splits.{Split, line_text}
-use Rattle.line_editor.specs.States.{EditorState, acted, after, changed, dropped, erase_cut, found, found_line, fresh, kill_text, kept_by, kill_cut, last_after, left_for, moved, newer_from, newer_line, newer_to, older_to, redo_to, remembered, searched_to, sought, transpose_at, type_char, after_typing, undo_to, unfinished_at, write}
-use Rattle.line_editor.specs.Tasks.{Task, Acts, Pastes, Accepts, LetsGo, Loads, Closes, Nothing, done, task_text}
-use Rattle.line_editor.proofs.Held.{Found, all-drop, all-get, all-take, cut-shown, end-after, found-held, held-erased, held-found, held-inserted, held-moved, held-same, held-transposed}
+use Rattle.line_editor.specs.States.{EditorState, acted, after, before_yank, changed, dropped, erase_cut, found, found_line, found_newer, fresh, is_ignored, kill_cut, last_after, left_for, moved, newer_from, newer_line, newer_to, next_yank, older_to, popped_to, redo_to, remembered, searched_forward, searched_to, sought, transpose_at, type_char, after_typing, undo_to, unfinished_at, write, yanked}
+use Rattle.line_editor.specs.Tasks.{Task, Acts, Pastes, Accepts, LetsGo, Loads, Clears, Closes, Nothing, done, task_more}
+use Rattle.line_editor.proofs.Held.{Found, all-drop, all-get, all-take, cut-shown, end-after, found-held, last-held, held-erased, held-found, held-inserted, held-moved, held-replaced, held-same, held-transposed, yank-before}
 use Rattle.line_editor.proofs.Keeping.{keeps_text}
-use Rattle.line_editor.proofs.Showing.{shown-append, shown-filter}
+use Rattle.line_editor.proofs.Ringing.{kill-shown, with-shown}
+use Rattle.line_editor.proofs.Showing.{shown-filter}
 use Rattle.line_editor.proofs.Sizing.{size-cons}
 
 take-short : (n : ℕ) (lines : List Split) → length (take n lines) ≤ n
@@ -35,7 +37,7 @@ take-short (suc n) (d ∷ lines) = omega (arith, take-short n lines)
 pub size-some : (c : ℕ) (text : List ℕ) → 0 < size (c ∷ text)
 size-some c text = omega (arith, size-cons c text, encode_utf8_nonempty c)
 
-has_room_for : (text : List ℕ) (w : EditorState) → is_too_long text w ≡ false → size text ≤ w.limits.bytes - size (line_text w.line)
+has_room_for : (text : List ℕ) (w : EditorState) → is_too_long (size text) w ≡ false → size text ≤ w.limits.bytes - size (line_text w.line)
 has_room_for text w h = ltb-false (room_of w) (size text) h
 
 held-empty : (limits : Limits) → IsHeld limits empty_line
@@ -48,7 +50,7 @@ fresh-bounded limits = record {
   past = tt;
   undone = tt;
   history = tt;
-  killed = refl;
+  kills = tt;
   lines = omega arith;
   steps = omega arith;
 }
@@ -61,7 +63,7 @@ bounded-back w back h = record {
   past = h.past;
   undone = h.undone;
   history = h.history;
-  killed = h.killed;
+  kills = h.kills;
   lines = h.lines;
   steps = h.steps;
 }
@@ -74,7 +76,7 @@ bounded-last w last h = record {
   past = h.past;
   undone = h.undone;
   history = h.history;
-  killed = h.killed;
+  kills = h.kills;
   lines = h.lines;
   steps = h.steps;
 }
@@ -87,7 +89,7 @@ module _ (w : EditorState) (h : IsBounded w) where
     past = all-take w.limits (IsHeld w.limits) w.limits.steps (w.line ∷ w.past) (h.line, h.past);
     undone = tt;
     history = h.history;
-    killed = h.killed;
+    kills = h.kills;
     lines = h.lines;
     steps = omega (arith, take-short w.limits.steps (w.line ∷ w.past));
   }
@@ -99,7 +101,7 @@ module _ (w : EditorState) (h : IsBounded w) where
     past = elim (cases_Bool w.typing) [ inl on ↦ rw on h.past | inr off ↦ rw off (bounded-changed d k).past ];
     undone = tt;
     history = h.history;
-    killed = h.killed;
+    kills = h.kills;
     lines = h.lines;
     steps = elim (cases_Bool w.typing) [ inl on ↦ rw on (omega (arith, h.steps)) | inr off ↦ rw off (omega (arith, take-short w.limits.steps (w.line ∷ w.past))) ];
   }
@@ -111,23 +113,23 @@ module _ (w : EditorState) (h : IsBounded w) where
     past = h.past;
     undone = h.undone;
     history = h.history;
-    killed = h.killed;
+    kills = h.kills;
     lines = h.lines;
     steps = h.steps;
   }
 
-  bounded-type : (c : ℕ) → is_too_long (shown_part (c ∷ [])) w ≡ false → IsBounded (type_char c w)
+  bounded-type : (c : ℕ) → is_too_long (size (shown_part (c ∷ []))) w ≡ false → IsBounded (type_char c w)
   bounded-type c room =
       elim (cases_Bool (is_shown c)) [
         | inl here ↦ rw here (
             let one : shown_part (c ∷ []) ≡ c ∷ [] = rw here refl in
-            let P : List ℕ → Type 0 = λ t. is_too_long t w ≡ false in
+            let P : List ℕ → Type 0 = λ t. is_too_long (size t) w ≡ false in
             bounded-typed (inserted (c ∷ []) w.line)
             (held-inserted w.limits (c ∷ []) w.line h.line (and_from _ _ here refl) (has_room_for (c ∷ []) w (subst P one room))))
         | inr not_here ↦ rw not_here h
       ]
 
-  bounded-write : (text : List ℕ) → AreShown text → is_too_long text w ≡ false → IsBounded (write text w)
+  bounded-write : (text : List ℕ) → AreShown text → is_too_long (size text) w ≡ false → IsBounded (write text w)
   bounded-write [] k room = h
   bounded-write (c ∷ text) k room =
       bounded-changed (inserted (c ∷ text) w.line) (held-inserted w.limits (c ∷ text) w.line h.line k (has_room_for (c ∷ text) w room))
@@ -135,15 +137,6 @@ module _ (w : EditorState) (h : IsBounded w) where
   bounded-erase : (piece : List ℕ) (target : Target) → IsBounded (erase_cut piece target w)
   bounded-erase [] target = h
   bounded-erase (c ∷ piece) target = bounded-changed (erased target w.line) (held-erased w.limits target w.line h.line)
-
-  kept-shown : (last : Last) → AreShown (kept_by last w.killed)
-  kept-shown Other = refl
-  kept-shown Walked = refl
-  kept-shown Killed = h.killed
-
-  joined-shown : (target : Target) (text kept : List ℕ) → AreShown text → AreShown kept → AreShown (kill_text target text kept)
-  joined-shown (Back stop) text kept k l = shown-append text kept k l
-  joined-shown (Forward stop) text kept k l = shown-append kept text l k
 
   bounded-kill : (piece : List ℕ) (target : Target) → AreShown piece → IsBounded (kill_cut piece target w)
   bounded-kill [] target k = h
@@ -155,7 +148,7 @@ module _ (w : EditorState) (h : IsBounded w) where
         past = b.past;
         undone = b.undone;
         history = b.history;
-        killed = joined-shown target (c ∷ piece) (kept_by w.last w.killed) k (kept-shown w.last);
+        kills = with-shown w.limits.kills w.last target (c ∷ piece) w.kills k h.kills;
         lines = b.lines;
         steps = b.steps;
       }
@@ -172,7 +165,7 @@ module _ (w : EditorState) (h : IsBounded w) where
     past = k.1;
     undone = (h.line, h.undone);
     history = h.history;
-    killed = h.killed;
+    kills = h.kills;
     lines = h.lines;
     steps = omega (arith, le);
   }
@@ -185,10 +178,29 @@ module _ (w : EditorState) (h : IsBounded w) where
     past = (h.line, h.past);
     undone = k.1;
     history = h.history;
-    killed = h.killed;
+    kills = h.kills;
     lines = h.lines;
     steps = omega (arith, le);
   }
+
+  bounded-popped : (o : Option (List ℕ)) → IfSome o (λ before. w.line.before ≡ reverse (yanked w) ++ before) → is_too_long (popped_more o w) w ≡ false
+      → IsBounded (popped_to o w)
+  bounded-popped None k room = h
+  bounded-popped (Some before) k room =
+      let next = kill_at w.kills (next_yank w) in
+      let b = bounded-changed (line_with (record { before = before; after = [] }) next w.line)
+      (held-replaced w.limits w.line before (yanked w) next h.line k (kill-shown w.kills (next_yank w) h.kills)
+      (ltb-false (room_of w) (size next - size (yanked w)) room)) in
+      record {
+        line = b.line;
+        unfinished = b.unfinished;
+        past = b.past;
+        undone = b.undone;
+        history = b.history;
+        kills = b.kills;
+        lines = b.lines;
+        steps = b.steps;
+      }
 
   -- ---- history
 
@@ -206,7 +218,7 @@ module _ (w : EditorState) (h : IsBounded w) where
         past = b.past;
         undone = b.undone;
         history = b.history;
-        killed = b.killed;
+        kills = b.kills;
         lines = b.lines;
         steps = b.steps;
       }
@@ -232,12 +244,17 @@ module _ (w : EditorState) (h : IsBounded w) where
   bounded-search (Some found) k =
       bounded-left (found_line (sought w) found.1) found.0 (held-found w.limits (sought w) found.1 k)
 
-  bounded-acted : (action : Action) → is_too_long (written action w) w ≡ false → IsBounded (acted action w)
+  bounded-forward : (front : List ℕ) → IsBounded (searched_forward front w)
+  bounded-forward [] = bounded-newer_from w.back
+  bounded-forward (c ∷ front) = bounded-search (found_newer w) (last-held w.limits (sought w) (line_text w.line) (w.back - 1) w.history h.history)
+
+  bounded-acted : (action : Action) → is_too_long (more_by action w) w ≡ false → IsBounded (acted action w)
   bounded-acted (Insert c) room = bounded-type c room
   bounded-acted (Go target) room = bounded-moved (target_place target w.line) (held-moved w.limits target w.line h.line)
   bounded-acted (Erase target) room = bounded-erase (cut_text target w.line) target
   bounded-acted (Kill target) room = bounded-kill (cut_text target w.line) target (cut-shown w.limits target w.line h.line)
-  bounded-acted Yank room = bounded-write w.killed h.killed room
+  bounded-acted Yank room = bounded-write (yanked w) (kill-shown w.kills w.yank_at h.kills) room
+  bounded-acted YankPop room = bounded-popped (before_yank w) (yank-before w.last (yanked w) w.line.before) room
   bounded-acted Transpose room = bounded-transpose (meeting w.line.before w.line.after).before
   bounded-acted Undo room = bounded-undo w.past h.past h.steps
   bounded-acted Redo room = bounded-redo w.undone h.undone h.steps
@@ -245,8 +262,9 @@ module _ (w : EditorState) (h : IsBounded w) where
   bounded-acted Newer room = bounded-newer_from w.back
   bounded-acted Search room =
       bounded-search (found w) (found-held w.limits (sought w) (line_text w.line) w.back (drop w.back w.history) (all-drop w.limits w.history w.back h.history))
+  bounded-acted SearchForward room = bounded-forward (sought w)
 
-  bounded-after : (action : Action) → is_too_long (written action w) w ≡ false → IsBounded (after action w)
+  bounded-after : (action : Action) → is_too_long (more_by action w) w ≡ false → IsBounded (after action w)
   bounded-after action room = bounded-last (acted action w) (last_after action w) (bounded-acted action room)
 
   -- ---- lines that go
@@ -259,7 +277,7 @@ module _ (w : EditorState) (h : IsBounded w) where
     past = tt;
     undone = tt;
     history = k;
-    killed = h.killed;
+    kills = h.kills;
     lines = le;
     steps = omega arith;
   }
@@ -276,8 +294,11 @@ module _ (w : EditorState) (h : IsBounded w) where
   bounded-remembered [] e = bounded-ended w.history h.history h.lines
   bounded-remembered (c ∷ text) e =
       let all = target_place (Forward Edge) w.line ∷ w.history in
-      bounded-ended (take w.limits.lines all) (all-take w.limits (IsKept w.limits) w.limits.lines all (kept-end c text e, h.history))
-      (take-short w.limits.lines all)
+      elim (cases_Bool (is_ignored w.limits (c ∷ text) w.history)) [
+        | inl ignored ↦ rw ignored (bounded-ended w.history h.history h.lines)
+        | inr kept ↦ rw kept (bounded-ended (take w.limits.lines all) (all-take w.limits (IsKept w.limits) w.limits.lines all (kept-end c text e, h.history))
+            (take-short w.limits.lines all))
+      ]
 
 -- ---- a history that is loaded
 
@@ -320,17 +341,18 @@ bounded-loaded w h text =
       past = h.past;
       undone = h.undone;
       history = all-take w.limits (IsKept w.limits) w.limits.lines all (all-reverse (IsKept w.limits) (map loaded_line (filter (has_room w.limits) (map pasted_part (lines_of text)))) (all-loaded w.limits (lines_of text)));
-      killed = h.killed;
+      kills = h.kills;
       lines = take-short w.limits.lines all;
       steps = h.steps;
     }
 
-bounded-done : (task : Task) (w : EditorState) → IsBounded w → is_too_long (task_text task w) w ≡ false → IsBounded (done task w)
+bounded-done : (task : Task) (w : EditorState) → IsBounded w → is_too_long (task_more task w) w ≡ false → IsBounded (done task w)
 bounded-done (Acts action) w h room = bounded-after w h action room
 bounded-done (Pastes text) w h room = bounded-last (write (pasted_part text) w) Other (bounded-write w h (pasted_part text) (shown-filter (blanked text)) room)
 bounded-done Accepts w h room = bounded-remembered w h (line_text w.line) refl
 bounded-done LetsGo w h room = bounded-ended w h w.history h.history h.lines
 bounded-done (Loads text) w h room = bounded-loaded w h text
+bounded-done Clears w h room = bounded-last w Other h
 bounded-done Closes w h room = h
 bounded-done Nothing w h room = h
 

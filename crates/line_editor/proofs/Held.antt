@@ -1,23 +1,27 @@
 -- Edits of lines that are held give lines that are held.
-use Rattle.std.proofs.Common.{◌≡◌, ℕ, ◌+◌, ◌-◌, ◌≤◌, List, [], ◌∷◌, ◌++◌, length, reverse, take, drop, refl, sym, subst, ap, ◌∙◌, inl, inr, arith, append-nil, length-append}
+use Rattle.std.proofs.Common.{◌≡◌, ℕ, ◌+◌, ◌-◌, ◌≤◌, List, [], ◌∷◌, ◌++◌, length, reverse, take, drop, refl, sym, subst, ap, ◌∙◌, inl, inr, arith, append-nil, append_assoc, length-append}
 use Rattle.std.proofs.lemmas.Bool.{cases_Bool, eqb-true}
-use Rattle.std.proofs.lemmas.List.{reverse-reverse}
+use Rattle.std.proofs.lemmas.List.{reverse-append, reverse-reverse}
 use Rattle.std.proofs.lemmas.Str.{encodes-append}
 use Rattle.std.specs.Prelude.{Option, Some, None, IfSome, ◌==◌, encode_utf8_all, slice_get, suc, zero}
 use Rattle.std.specs.List.{AllByRecursion}
+use Rattle.std.specs.Option.{option_and_then}
 use Rattle.std.specs.Str.{bytes_eq}
+use Rattle.line_editor.specs.declared.last.Last.{Last}
+use Rattle.line_editor.specs.declared.last.Last.TheVariants.{Killed, Other, Walked, Yanked}
 use Rattle.line_editor.specs.declared.limits.Limits.{Limits}
 use Rattle.line_editor.specs.declared.places.Stop.TheVariants.{Cluster, Edge}
 use Rattle.line_editor.specs.declared.places.Target.{Target}
 use Rattle.line_editor.specs.declared.places.Target.TheVariants.{Back, Forward}
 use Rattle.line_editor.specs.Bounded.{IsHeld, IsKept}
 use Rattle.line_editor.specs.Bounds.{size}
-use Rattle.line_editor.specs.Edits.{cut_text, reach_end, erased, from_to, inserted, meeting, settled, start_of, transposed}
+use Rattle.line_editor.specs.Edits.{cut_text, reach_end, erased, from_to, inserted, line_with, meeting, settled, start_of, transposed}
 use Rattle.line_editor.specs.Places.{target_place, stops}
 use Rattle.line_editor.specs.Shown.{AreShown}
 use Rattle.line_editor.specs.Splits.{Split, ahead, line_text}
-use Rattle.line_editor.specs.States.{behind_front, first_with, found_line, other_rest, rest_or}
+use Rattle.line_editor.specs.States.{before_yanked, behind_front, first_with, found_line, last_with, other_rest, rest_at, rest_or}
 use Rattle.line_editor.proofs.Keeping.{cuts_out, ends-IsFrom, from_to-IsFrom, keeps_text, text_of-IsFrom, text_of-joined, writes_at}
+use Rattle.line_editor.proofs.Ringing.{behind-front, some-weaker}
 use Rattle.line_editor.proofs.Showing.{shown-append, shown-back, shown-front}
 
 pub size-append : (a b : List ℕ) → size (a ++ b) ≡ size a + size b
@@ -101,6 +105,21 @@ module _ (limits : Limits) where
         ),
       )
 
+  -- Another text in place of the one before the cursor.
+  pub held-replaced : (d : Split) (before old new : List ℕ) → IsHeld limits d → d.before ≡ reverse old ++ before → AreShown new
+      → size new - size old ≤ limits.bytes - size (line_text d) → IsHeld limits (line_with (record { before = before; after = [] }) new d)
+  held-replaced d before old new h e k few =
+      let front = reverse before in
+      let back = d.after in
+      let parts : line_text d ≡ front ++ (old ++ back) =
+      ap (λ t. reverse t ++ back) e ∙ ap (λ t. t ++ back) (reverse-append (reverse old) before ∙ ap (λ t. front ++ t) (reverse-reverse old))
+      ∙ append_assoc front old back in
+      let all : Holds limits (front ++ (old ++ back)) = held-same (front ++ (old ++ back)) (line_text d) (sym parts) h in
+      held-same (line_text (line_with (record { before = before; after = [] }) new d)) (front ++ (new ++ back)) (text_of-joined (record { before = before; after = [] }) new d) (
+        shown-append front (new ++ back) (shown-front front (old ++ back) all.0) (shown-append new back k (shown-back old back (shown-back front (old ++ back) all.0))),
+        omega (arith, few, h.1, ap size parts, size-append front (old ++ back), size-append old back, size-append front (new ++ back), size-append new back),
+      )
+
   -- ---- lists
 
   pub all-take : (P : Split → Type 0) (n : ℕ) (lines : List Split) → AllByRecursion P lines → AllByRecursion P (take n lines)
@@ -119,20 +138,6 @@ module _ (limits : Limits) where
   all-drop (d ∷ lines) (suc at) h = all-drop lines at h.1
 
   -- ---- a search
-
-  some-weaker : {X : Type 0} (P Q : X → Type 0) (o : Option X) → ((x : X) → P x → Q x) → IfSome o P → IfSome o Q
-  some-weaker P Q (Some x) f h = f x h
-  some-weaker P Q None f h = tt
-
-  behind-front : (front text : List ℕ) → IfSome (behind_front front text) (λ rest. text ≡ front ++ rest)
-  behind-front [] text = refl
-  behind-front (c ∷ front) [] = tt
-  behind-front (c ∷ front) (x ∷ text) =
-      elim (cases_Bool (c == x)) [
-        | inl here ↦ rw here (some-weaker (λ rest. text ≡ front ++ rest) (λ rest. x ∷ text ≡ (c ∷ front) ++ rest) (behind_front front text)
-            (λ rest e. ap (λ n. n ∷ text) (sym (eqb-true c x here)) ∙ ap (λ t. c ∷ t) e) (behind-front front text))
-        | inr not_here ↦ rw not_here tt
-      ]
 
   -- A front and what was found behind it.
   abbrev pub Found : List ℕ → ℕ × List ℕ → Type 0
@@ -155,6 +160,19 @@ module _ (limits : Limits) where
       (λ rest e. held-same (front ++ rest) (line_text d) (sym e) h.0.0) (other-rest front shown (line_text d)))
       (found-held front shown (passed + 1) lines h.1)
 
+  of-held : (front shown : List ℕ) (o : Option Split) → IfSome o (IsHeld limits)
+      → IfSome (option_and_then (λ (d : Split). other_rest front shown (line_text d)) o) (λ rest. Holds limits (front ++ rest))
+  of-held front shown None h = tt
+  of-held front shown (Some d) h =
+      some-weaker (λ rest. line_text d ≡ front ++ rest) (λ rest. Holds limits (front ++ rest)) (other_rest front shown (line_text d))
+      (λ rest e. held-same (front ++ rest) (line_text d) (sym e) h) (other-rest front shown (line_text d))
+
+  pub last-held : (front shown : List ℕ) (n : ℕ) (lines : List Split) → AllByRecursion (IsKept limits) lines → IfSome (last_with front shown n lines) (Found front)
+  last-held front shown zero lines h = tt
+  last-held front shown (suc n) lines h =
+      or-else front (rest_at front shown n lines) (n + 1) (last_with front shown n lines) (of-held front shown (slice_get lines n) (all-get lines n h))
+      (last-held front shown n lines h)
+
   held-settled : (before after : List ℕ) → Holds limits (reverse before ++ after) → IsHeld limits (settled (record { before = before; after = after }))
   held-settled before after h =
       let p : Split = record { before = before; after = [] } in
@@ -165,6 +183,13 @@ module _ (limits : Limits) where
   held-found [] rest h = held-same (reverse (reverse rest) ++ []) rest (append-nil (reverse (reverse rest)) ∙ reverse-reverse rest) h
   held-found (c ∷ front) rest h =
       held-settled (reverse (c ∷ front)) rest (held-same (reverse (reverse (c ∷ front)) ++ rest) ((c ∷ front) ++ rest) (ap (λ t. t ++ rest) (reverse-reverse (c ∷ front))) h)
+
+-- What is before a text that was yanked last.
+pub yank-before : (last : Last) (text before : List ℕ) → IfSome (before_yanked last text before) (λ rest. before ≡ reverse text ++ rest)
+yank-before Yanked text before = behind-front (reverse text) before
+yank-before Other text before = tt
+yank-before Walked text before = tt
+yank-before Killed text before = tt
 
 -- The end of a line has nothing behind it.
 pub edge-end : (before after : List ℕ) → (ahead (stops Edge) before after).after ≡ []

@@ -10,7 +10,8 @@ pub mod Furthest
 pub mod Seeing
 pub mod Searching
 pub mod Showing
-pub mod Running
+pub mod Ringing
+mod Running
 pub mod Loading
 pub mod Turning
 pub mod Naming

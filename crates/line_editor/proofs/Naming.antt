@@ -12,7 +12,7 @@ use Rattle.crossterm_flags.specs.Values.{same}
 use Rattle.crossterm_flags.specs.Variants.{value_in}
 use Rattle.unicode_segmentation.proofs.TextLemmas.{chars-encode_utf8}
 use Rattle.line_editor.specs.declared.actions.Action.{Action}
-use Rattle.line_editor.specs.declared.actions.Action.TheVariants.{Insert, Go, Erase, Kill, Yank, Transpose, Undo, Redo, Older, Newer, Search}
+use Rattle.line_editor.specs.declared.actions.Action.TheVariants.{Insert, Go, Erase, Kill, Yank, YankPop, Transpose, Undo, Redo, Older, Newer, Search, SearchForward}
 use Rattle.line_editor.specs.declared.places.Stop.TheVariants.{Cluster, WordStart, WordEnd, Blank, Edge}
 use Rattle.line_editor.specs.declared.places.Target.{Target}
 use Rattle.line_editor.specs.declared.places.Target.TheVariants.{Back, Forward}
@@ -32,9 +32,9 @@ target_back (Forward WordEnd) = refl
 target_back (Forward Blank) = refl
 target_back (Forward Edge) = refl
 
--- A name whose first hyphen is at this place is read by its verb.
-abbrev read_at : Bool → List ℕ → List ℕ → List ℕ → Option Action
-read_at found verb rest name = if found then verb_named verb rest else value_in action_rows name
+-- A name with a hyphen is read by its verb, if it has no row.
+abbrev read_at : Bool → List ℕ → List ℕ → Option Action
+read_at found verb rest = if found then verb_named verb rest else None
 
 -- ---- a character
 
@@ -56,26 +56,28 @@ pub reads_back : (action : Action) → NameReadsBack action
 reads_back (Insert c) h =
     let name = action_name (Insert c) in
     let found : nat_lt 6 (length name) ≡ true = lt-ltb 6 (length name) (omega arith) in
-    ap (λ b. read_at b (codes "insert") (key_char_name c) name) found ∙ ap (option_map Insert) (char_back c h)
+    ap (λ b. read_at b (codes "insert") (key_char_name c)) found ∙ ap (option_map Insert) (char_back c h)
 reads_back (Go target) h =
     let name = action_name (Go target) in
     let found : nat_lt 2 (length name) ≡ true = lt-ltb 2 (length name) (omega arith) in
-    ap (λ b. read_at b (codes "go") (target_name target) name) found ∙ ap (option_map Go) (target_back target)
+    ap (λ b. read_at b (codes "go") (target_name target)) found ∙ ap (option_map Go) (target_back target)
 reads_back (Erase target) h =
     let name = action_name (Erase target) in
     let found : nat_lt 5 (length name) ≡ true = lt-ltb 5 (length name) (omega arith) in
-    ap (λ b. read_at b (codes "erase") (target_name target) name) found ∙ ap (option_map Erase) (target_back target)
+    ap (λ b. read_at b (codes "erase") (target_name target)) found ∙ ap (option_map Erase) (target_back target)
 reads_back (Kill target) h =
     let name = action_name (Kill target) in
     let found : nat_lt 4 (length name) ≡ true = lt-ltb 4 (length name) (omega arith) in
-    ap (λ b. read_at b (codes "kill") (target_name target) name) found ∙ ap (option_map Kill) (target_back target)
+    ap (λ b. read_at b (codes "kill") (target_name target)) found ∙ ap (option_map Kill) (target_back target)
 reads_back Yank h = refl
+reads_back YankPop h = refl
 reads_back Transpose h = refl
 reads_back Undo h = refl
 reads_back Redo h = refl
 reads_back Older h = refl
 reads_back Newer h = refl
 reads_back Search h = refl
+reads_back SearchForward h = refl
 
 -- ---- a text that is no name
 

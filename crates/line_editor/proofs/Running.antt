@@ -3,7 +3,7 @@ use Rattle.std.proofs.Common.{◌≡◌, false, List, [], ◌∷◌, ◌++◌, r
 use Rattle.std.specs.Prelude.{Result, Ok, Err, IfErr}
 use Rattle.std.specs.Result.{IsErrAnd}
 use Rattle.line_editor.specs.declared.actions.Action.{Action}
-use Rattle.line_editor.specs.Bounds.{AreAllowed, is_too_long, written}
+use Rattle.line_editor.specs.Bounds.{AreAllowed, is_too_long, more_by}
 use Rattle.line_editor.specs.States.{EditorState, after, run_actions}
 
 -- One action more.
@@ -12,7 +12,7 @@ run_end [] a w = refl
 run_end (b ∷ actions) a w = run_end actions a (after b w)
 
 pub allowed_end : (actions : List Action) (a : Action) (w : EditorState) → AreAllowed actions w
-    → is_too_long (written a (run_actions actions w)) (run_actions actions w) ≡ false → AreAllowed (actions ++ a ∷ []) w
+    → is_too_long (more_by a (run_actions actions w)) (run_actions actions w) ≡ false → AreAllowed (actions ++ a ∷ []) w
 allowed_end [] a w all last = (last, tt)
 allowed_end (b ∷ actions) a w all last = (all.0, allowed_end actions a (after b w) all.1 last)
 

@@ -4,7 +4,7 @@ use Rattle.std.proofs.lemmas.List.{map-append, take-append-drop, take_more}
 use Rattle.crossterm_types.specs.Seen.{Seen}
 use Rattle.line_editor.specs.Bounds.{is_too_long}
 use Rattle.line_editor.specs.States.{EditorState}
-use Rattle.line_editor.specs.Turns.{AreTaken, after_events, answer, event_text, lines_in, lines_of_events, task_of, turned}
+use Rattle.line_editor.specs.Turns.{AreTaken, after_events, answer, event_more, lines_in, lines_of_events, task_of, turned}
 
 -- Of a list that is looked at item by item: one item more, and what is left.
 module _ {X Y : Type 0} (f : X → Y) (xs : List X) (i : ℕ) (x : X) (l : i < length xs) (is : x ≡ get_or xs i x) where
@@ -23,7 +23,7 @@ made_end [] e w = refl
 made_end (x ∷ events) e w = made_end events e (turned x w)
 
 pub taken_end : (events : List Seen) (e : Seen) (w : EditorState) → AreTaken events w
-    → is_too_long (event_text e (after_events events w)) (after_events events w) ≡ false → AreTaken (events ++ e ∷ []) w
+    → is_too_long (event_more e (after_events events w)) (after_events events w) ≡ false → AreTaken (events ++ e ∷ []) w
 taken_end [] e w all last = (last, tt)
 taken_end (x ∷ events) e w all last = (all.0, taken_end events e (turned x w) all.1 last)
 

@@ -4,7 +4,7 @@ use Rattle.std.specs.Prelude.{zero, suc, Option, Some, None, slice_get}
 use Rattle.std.proofs.lemmas.Bool.{cases_Bool, false≢true}
 use Rattle.std.proofs.lemmas.List.{take_all}
 use Rattle.line_editor.specs.declared.actions.Action.{Action}
-use Rattle.line_editor.specs.declared.actions.Action.TheVariants.{Insert, Go, Erase, Kill, Yank, Transpose, Undo, Redo, Older, Newer, Search}
+use Rattle.line_editor.specs.declared.actions.Action.TheVariants.{Insert, Go, Erase, Kill, Yank, YankPop, Transpose, Undo, Redo, Older, Newer, Search, SearchForward}
 use Rattle.line_editor.specs.declared.last.Last.{Last}
 use Rattle.line_editor.specs.declared.last.Last.TheVariants.{Other}
 use Rattle.line_editor.specs.declared.limits.Limits.{Limits}
@@ -13,7 +13,7 @@ use Rattle.line_editor.specs.Splits.{Split, line_text}
 use Rattle.line_editor.specs.Edits.{cut_text, meeting}
 use Rattle.line_editor.specs.Laws.{ArePlain, CanBeUndone, IsNoUndo, KeepsHistory, RedoesUndone, undo_times}
 use Rattle.line_editor.specs.Shown.{is_shown}
-use Rattle.line_editor.specs.States.{EditorState, acted, after, erase_cut, found, kill_cut, last_after, newer_from, newer_line, newer_to, older_to, pushed, redo_to, run_actions, searched_to, transpose_at, type_char, after_typing, undo_to, write}
+use Rattle.line_editor.specs.States.{EditorState, acted, after, before_yank, erase_cut, found, found_newer, kill_cut, last_after, newer_from, newer_line, newer_to, older_to, popped_to, pushed, redo_to, run_actions, searched_forward, searched_to, sought, transpose_at, type_char, after_typing, undo_to, write, yanked}
 use Rattle.line_editor.proofs.Keeping.{keeps_text}
 
 -- ---- history
@@ -32,6 +32,10 @@ kill_history (c ∷ text) target w = refl
 write_history : (text : List ℕ) (w : EditorState) → (write text w).history ≡ w.history
 write_history [] w = refl
 write_history (c ∷ text) w = refl
+
+popped_history : (o : Option (List ℕ)) (w : EditorState) → (popped_to o w).history ≡ w.history
+popped_history None w = refl
+popped_history (Some before) w = refl
 
 transpose_history : (before : List ℕ) (w : EditorState) → (transpose_at before w).history ≡ w.history
 transpose_history [] w = refl
@@ -61,18 +65,24 @@ search_history : (found : Option (ℕ × List ℕ)) (w : EditorState) → (searc
 search_history None w = refl
 search_history (Some found) w = refl
 
+forward_history : (front : List ℕ) (w : EditorState) → (searched_forward front w).history ≡ w.history
+forward_history [] w = newer_from_history w.back w
+forward_history (c ∷ front) w = search_history (found_newer w) w
+
 pub keeps_history : (action : Action) (w : EditorState) → KeepsHistory action w
 keeps_history (Insert c) w = type_history c w
 keeps_history (Go target) w = refl
 keeps_history (Erase target) w = erase_history (cut_text target w.line) target w
 keeps_history (Kill target) w = kill_history (cut_text target w.line) target w
-keeps_history Yank w = write_history w.killed w
+keeps_history Yank w = write_history (yanked w) w
+keeps_history YankPop w = popped_history (before_yank w) w
 keeps_history Transpose w = transpose_history (meeting w.line.before w.line.after).before w
 keeps_history Undo w = undo_history w.past w
 keeps_history Redo w = redo_history w.undone w
 keeps_history Older w = older_history (slice_get w.history w.back) w
 keeps_history Newer w = newer_from_history w.back w
 keeps_history Search w = search_history (found w) w
+keeps_history SearchForward w = forward_history (sought w) w
 
 -- ---- undo
 
@@ -166,6 +176,10 @@ module _ (text : List ℕ) (past : List Split) (n : ℕ) (w : EditorState) (h : 
   leads-write [] = leads-none
   leads-write (c ∷ piece) = leads-changed _ refl refl
 
+  leads-popped : (o : Option (List ℕ)) → Leads text past n (popped_to o w)
+  leads-popped None = leads-none
+  leads-popped (Some before) = leads-changed _ refl refl
+
   leads-transpose : (before : List ℕ) → Leads text past n (transpose_at before w)
   leads-transpose [] = leads-none
   leads-transpose (c ∷ before) = leads-changed _ refl refl
@@ -186,19 +200,25 @@ module _ (text : List ℕ) (past : List Split) (n : ℕ) (w : EditorState) (h : 
   leads-newer_from zero = leads-none
   leads-newer_from (suc back) = leads-newer (newer_line back w)
 
+  leads-forward : (front : List ℕ) → Leads text past n (searched_forward front w)
+  leads-forward [] = leads-newer_from w.back
+  leads-forward (c ∷ front) = leads-search (found_newer w)
+
 leads-acted : (text : List ℕ) (past : List Split) (n : ℕ) (w : EditorState) → Leads text past (suc n) w → (action : Action) → IsNoUndo action
     → Leads text past n (acted action w)
 leads-acted text past n w h (Insert c) f = leads-type text past n w h c
 leads-acted text past n w h (Go target) f = leads-same text past n w h _ refl refl (keeps_text target w.line) refl
 leads-acted text past n w h (Erase target) f = leads-erase text past n w h (cut_text target w.line) target
 leads-acted text past n w h (Kill target) f = leads-kill text past n w h (cut_text target w.line) target
-leads-acted text past n w h Yank f = leads-write text past n w h w.killed
+leads-acted text past n w h Yank f = leads-write text past n w h (yanked w)
+leads-acted text past n w h YankPop f = leads-popped text past n w h (before_yank w)
 leads-acted text past n w h Transpose f = leads-transpose text past n w h (meeting w.line.before w.line.after).before
 leads-acted text past n w h Undo f = absurd f
 leads-acted text past n w h Redo f = absurd f
 leads-acted text past n w h Older f = leads-older text past n w h (slice_get w.history w.back)
 leads-acted text past n w h Newer f = leads-newer_from text past n w h w.back
 leads-acted text past n w h Search f = leads-search text past n w h (found w)
+leads-acted text past n w h SearchForward f = leads-forward text past n w h (sought w)
 
 ends-last : (text : List ℕ) (extra : List Split) (w : EditorState) (last : Last) → EndsIn text extra w → EndsIn text extra (record w { last = last })
 ends-last text [] w last h = h

@@ -7,7 +7,7 @@ use Rattle.line_editor.specs.History.{history_of, saved}
 use Rattle.line_editor.specs.Shown.{AreShown}
 use Rattle.line_editor.specs.Splits.{Split, line_text}
 use Rattle.line_editor.specs.States.{EditorState, fresh}
-use Rattle.line_editor.specs.Tasks.{Task, done, task_text}
+use Rattle.line_editor.specs.Tasks.{Task, done, task_more}
 
 -- A line is held if each of its characters is shown, and it has no more bytes than the limit.
 abbrev pub IsHeld : Limits → Split → Type 0
@@ -24,7 +24,7 @@ pub record IsBounded (w : EditorState) : Type 0 where
   pub past : AllByRecursion (IsHeld w.limits) w.past
   pub undone : AllByRecursion (IsHeld w.limits) w.undone
   pub history : AllByRecursion (IsKept w.limits) w.history
-  pub killed : AreShown w.killed
+  pub kills : AllByRecursion AreShown w.kills
   pub lines : length w.history ≤ w.limits.lines
   pub steps : length w.past + length w.undone ≤ w.limits.steps
 
@@ -33,12 +33,12 @@ abbrev pub all_done : List Task → EditorState → EditorState
 all_done [] w = w
 all_done (task ∷ tasks) w = all_done tasks (done task w)
 
--- Each task in turn writes a text that has room in the line.
+-- What each task in turn writes has room in the line.
 abbrev pub AreRoomy : List Task → EditorState → Type 0
 AreRoomy [] w = ⊤
-AreRoomy (task ∷ tasks) w = (is_too_long (task_text task w) w ≡ false) × AreRoomy tasks (done task w)
+AreRoomy (task ∷ tasks) w = (is_too_long (task_more task w) w ≡ false) × AreRoomy tasks (done task w)
 
--- A fresh editor stays within its limits after any tasks that write no text that is too long.
+-- A fresh editor stays within its limits after any tasks whose texts have room.
 abbrev pub StaysBounded : Limits → List Task → Type 0
 StaysBounded limits tasks = AreRoomy tasks (fresh limits) → IsBounded (all_done tasks (fresh limits))
 

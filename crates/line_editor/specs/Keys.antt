@@ -6,14 +6,14 @@ use Rattle.crossterm_types.specs.declared.event.key.KeyCode.TheVariants as key
 use Rattle.crossterm_types.specs.declared.event.key.KeyEvent.{KeyEvent}
 use Rattle.crossterm_types.specs.declared.event.key.KeyEventKind.{KeyEventKind}
 use Rattle.crossterm_types.specs.declared.event.key.KeyEventKind.TheVariants.{Press, Repeat, Release}
-use Rattle.line_editor.specs.declared.actions.Action.TheVariants.{Insert, Go, Erase, Kill, Yank, Transpose, Undo, Redo, Older, Newer, Search}
+use Rattle.line_editor.specs.declared.actions.Action.TheVariants.{Insert, Go, Erase, Kill, Yank, YankPop, Transpose, Undo, Redo, Older, Newer, Search, SearchForward}
 use Rattle.line_editor.specs.declared.keys.KeyCommand.{KeyCommand}
-use Rattle.line_editor.specs.declared.keys.KeyCommand.TheVariants.{Act, Accept, Interrupt, EraseOrClose}
+use Rattle.line_editor.specs.declared.keys.KeyCommand.TheVariants.{Act, Accept, Interrupt, EraseOrClose, Clear}
 use Rattle.line_editor.specs.declared.places.Stop.TheVariants.{Cluster, WordStart, WordEnd, Blank, Edge}
 use Rattle.line_editor.specs.declared.places.Target.TheVariants.{Back, Forward}
 
--- What a key without Control and Alt asks for, or `None`. A character is typed, and Up and Down go through the
--- history.
+-- What a key without Control and Alt asks for, or `None`. A character is typed, Up and Down go through the history, and
+-- Page Up and Page Down search it.
 abbrev pub unmodified : KeyCode → Option KeyCommand
 unmodified (key.Char c) = Some (Act (Insert c))
 unmodified key.Enter = Some Accept
@@ -25,6 +25,8 @@ unmodified key.Home = Some (Act (Go (Back Edge)))
 unmodified key.End = Some (Act (Go (Forward Edge)))
 unmodified key.Up = Some (Act Older)
 unmodified key.Down = Some (Act Newer)
+unmodified key.PageUp = Some (Act Search)
+unmodified key.PageDown = Some (Act SearchForward)
 unmodified code = None
 
 -- What the row of a character asks for, or `None` if it has no row.
@@ -36,13 +38,13 @@ row_in (row ∷ rows) c = if c == row.0 then Some row.1 else row_in rows c
 abbrev pub control_rows : List (ℕ × KeyCommand)
 control_rows =
     (97, Act (Go (Back Edge))) ∷ (98, Act (Go (Back Cluster))) ∷ (99, Interrupt) ∷ (100, EraseOrClose) ∷ (101, Act (Go (Forward Edge))) ∷
-    (102, Act (Go (Forward Cluster))) ∷ (104, Act (Erase (Back Cluster))) ∷ (106, Accept) ∷ (107, Act (Kill (Forward Edge))) ∷ (109, Accept) ∷
+    (102, Act (Go (Forward Cluster))) ∷ (104, Act (Erase (Back Cluster))) ∷ (106, Accept) ∷ (107, Act (Kill (Forward Edge))) ∷ (108, Clear) ∷ (109, Accept) ∷
     (110, Act Newer) ∷ (112, Act Older) ∷ (114, Act Search) ∷ (116, Act Transpose) ∷ (117, Act (Kill (Back Edge))) ∷
     (119, Act (Kill (Back Blank))) ∷ (121, Act Yank) ∷ (95, Act Undo) ∷ (55, Act Undo) ∷ []
 
--- What `b`, `d` and `f` with Alt ask for: to go back a word, to kill one, and to go forward by one.
+-- What letters with Alt ask for: to go back or forward by a word, to kill one, and to turn the ring of kills.
 abbrev pub alt_rows : List (ℕ × KeyCommand)
-alt_rows = (98, Act (Go (Back WordStart))) ∷ (100, Act (Kill (Forward WordEnd))) ∷ (102, Act (Go (Forward WordEnd))) ∷ []
+alt_rows = (98, Act (Go (Back WordStart))) ∷ (100, Act (Kill (Forward WordEnd))) ∷ (102, Act (Go (Forward WordEnd))) ∷ (121, Act YankPop) ∷ []
 
 -- What the underscore with Control and Alt asks for, and 7, which terminals report for it: redo.
 abbrev pub both_rows : List (ℕ × KeyCommand)

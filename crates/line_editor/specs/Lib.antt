@@ -3,6 +3,7 @@ pub mod Words
 pub mod Places
 pub mod Edits
 pub mod Recent
+pub mod Kills
 pub mod Shown
 pub mod States
 pub mod Bounds

@@ -7,7 +7,7 @@ use Rattle.std.specs.Str.{chars}
 use Rattle.crossterm_flags.specs.Values.{same}
 use Rattle.crossterm_flags.specs.Variants.{value_in}
 use Rattle.line_editor.specs.declared.actions.Action.{Action}
-use Rattle.line_editor.specs.declared.actions.Action.TheVariants.{Insert, Go, Erase, Kill, Yank, Transpose, Undo, Redo, Older, Newer, Search}
+use Rattle.line_editor.specs.declared.actions.Action.TheVariants.{Insert, Go, Erase, Kill, Yank, YankPop, Transpose, Undo, Redo, Older, Newer, Search, SearchForward}
 use Rattle.line_editor.specs.declared.places.Stop.TheVariants.{Cluster, WordStart, WordEnd, Blank, Edge}
 use Rattle.line_editor.specs.declared.places.Target.{Target}
 use Rattle.line_editor.specs.declared.places.Target.TheVariants.{Back, Forward}
@@ -38,12 +38,14 @@ action_name (Go target) = codes "go-" ++ target_name target
 action_name (Erase target) = codes "erase-" ++ target_name target
 action_name (Kill target) = codes "kill-" ++ target_name target
 action_name Yank = codes "yank"
+action_name YankPop = codes "yank-pop"
 action_name Transpose = codes "transpose"
 action_name Undo = codes "undo"
 action_name Redo = codes "redo"
 action_name Older = codes "older"
 action_name Newer = codes "newer"
 action_name Search = codes "search"
+action_name SearchForward = codes "search-forward"
 
 -- ---- what reads as a name
 
@@ -58,8 +60,8 @@ target_rows =
 -- The actions without a target or a character, by their names.
 abbrev pub action_rows : List (List ℕ × Action)
 action_rows =
-    (codes "yank", Yank) ∷ (codes "transpose", Transpose) ∷ (codes "undo", Undo) ∷ (codes "redo", Redo) ∷ (codes "older", Older) ∷
-    (codes "newer", Newer) ∷ (codes "search", Search) ∷ []
+    (codes "yank", Yank) ∷ (codes "yank-pop", YankPop) ∷ (codes "transpose", Transpose) ∷ (codes "undo", Undo) ∷ (codes "redo", Redo) ∷ (codes "older", Older) ∷
+    (codes "newer", Newer) ∷ (codes "search", Search) ∷ (codes "search-forward", SearchForward) ∷ []
 
 -- The character of a text that has exactly one, otherwise `None`.
 abbrev pub one_char : List ℕ → Option ℕ
@@ -82,11 +84,11 @@ verb_named verb rest =
 abbrev pub is_hyphen : ℕ → Bool
 is_hyphen b = b == 45
 
--- The action that a text names, or `None`: by its verb before the first hyphen, or as a whole if it has no hyphen.
+-- The action that a text names, or `None`: as a whole, or by its verb before the first hyphen.
 abbrev pub action_named : List ℕ → Option Action
 action_named name =
-    if nat_lt (position_or_len is_hyphen name) (length name) then verb_named (before_first is_hyphen name) (after_first is_hyphen name)
-    else value_in action_rows name
+    option_or (value_in action_rows name)
+    (if nat_lt (position_or_len is_hyphen name) (length name) then verb_named (before_first is_hyphen name) (after_first is_hyphen name) else None)
 
 -- ---- reading back
 

@@ -1,17 +1,19 @@
 -- The state of an editor, and how each action changes it.
-use Rattle.std.specs.Prelude.{⊤, ℕ, ◌+◌, ◌-◌, Bool, true, false, List, [], ◌∷◌, ◌++◌, Option, Some, None, if◌then◌else◌, slice_get, drop, take, reverse, ◌==◌}
+use Rattle.std.specs.Prelude.{⊤, ℕ, ◌+◌, ◌-◌, Bool, true, false, List, [], ◌∷◌, ◌++◌, Option, Some, None, if◌then◌else◌, slice_get, drop, length, take, reverse, ◌==◌, ◌&&◌, ◌||◌}
 use Rattle.std.specs.Prelude.{zero, suc}
+use Rattle.std.specs.Option.{option_and_then}
 use Rattle.std.specs.Str.{bytes_eq}
 use Rattle.line_editor.specs.declared.actions.Action.{Action}
 use Rattle.line_editor.specs.declared.actions.Action.TheVariants as does
 use Rattle.line_editor.specs.declared.last.Last.{Last}
-use Rattle.line_editor.specs.declared.last.Last.TheVariants.{Killed, Other, Walked}
+use Rattle.line_editor.specs.declared.last.Last.TheVariants.{Killed, Other, Walked, Yanked}
 use Rattle.line_editor.specs.declared.limits.Limits.{Limits}
 use Rattle.line_editor.specs.declared.places.Stop.TheVariants.{Edge}
 use Rattle.line_editor.specs.declared.places.Target.{Target}
-use Rattle.line_editor.specs.declared.places.Target.TheVariants.{Back, Forward}
+use Rattle.line_editor.specs.declared.places.Target.TheVariants.{Forward}
 use Rattle.line_editor.specs.Splits.{Split, line_text}
-use Rattle.line_editor.specs.Edits.{cut_text, empty_line, erased, inserted, meeting, settled, transposed}
+use Rattle.line_editor.specs.Edits.{cut_text, empty_line, erased, inserted, line_with, meeting, settled, transposed}
+use Rattle.line_editor.specs.Kills.{kill_at, kills_with, next_place}
 use Rattle.line_editor.specs.Places.{target_place}
 use Rattle.line_editor.specs.Shown.{is_shown, pasted_part}
 
@@ -20,8 +22,10 @@ pub record EditorState : Type 0 where
   -- The limits of all that follows.
   pub limits : Limits
   pub line : Split
-  -- The text that was killed last, by kills side by side.
-  pub killed : List ℕ
+  -- The texts that were killed, the newest first. Kills side by side are one text.
+  pub kills : List (List ℕ)
+  -- How many kills are newer than the one that a yank writes.
+  pub yank_at : ℕ
   -- The lines that undo and redo bring back, the newest first.
   pub past : List Split
   pub undone : List Split
@@ -41,7 +45,8 @@ abbrev pub fresh : Limits → EditorState
 fresh limits = record {
   limits = limits;
   line = empty_line;
-  killed = [];
+  kills = [];
+  yank_at = 0;
   past = [];
   undone = [];
   history = [];
@@ -91,21 +96,11 @@ abbrev pub erase_cut : List ℕ → Target → EditorState → EditorState
 erase_cut [] target w = w
 erase_cut (c ∷ text) target w = changed (erased target w.line) w
 
--- The text to which that of a kill is kill_text: what was killed, if the last action was a kill.
-abbrev pub kept_by : Last → List ℕ → List ℕ
-kept_by Killed killed = killed
-kept_by last killed = []
-
--- A text that was cut, kill_text to another one in the direction in which it was cut.
-abbrev pub kill_text : Target → List ℕ → List ℕ → List ℕ
-kill_text (Back stop) text kept = text ++ kept
-kill_text (Forward stop) text kept = kept ++ text
-
--- The editor after the part that a target reaches is erased and kept as killed. An empty part does nothing.
+-- The editor after the part that a target reaches is erased and is the newest kill. An empty part does nothing.
 abbrev pub kill_cut : List ℕ → Target → EditorState → EditorState
 kill_cut [] target w = w
 kill_cut (c ∷ text) target w =
-    record (changed (erased target w.line) w) { killed = kill_text target (c ∷ text) (kept_by w.last w.killed) }
+    record (changed (erased target w.line) w) { kills = kills_with w.limits.kills w.last target (c ∷ text) w.kills; yank_at = 0 }
 
 -- The editor after two clusters are transposed. If nothing is before their meeting place, nothing happens.
 abbrev pub transpose_at : List ℕ → EditorState → EditorState
@@ -162,6 +157,29 @@ behind_front [] text = Some text
 behind_front (c ∷ front) [] = None
 behind_front (c ∷ front) (d ∷ text) = if c == d then behind_front front text else None
 
+-- The text that a yank writes.
+abbrev pub yanked : EditorState → List ℕ
+yanked w = kill_at w.kills w.yank_at
+
+-- The place of the kill that follows the yanked one in the ring.
+abbrev pub next_yank : EditorState → ℕ
+next_yank w = next_place w.yank_at (length w.kills)
+
+-- What is before a text that was yanked last, nearest first, if the text is before the cursor. `None` otherwise.
+abbrev pub before_yanked : Last → List ℕ → List ℕ → Option (List ℕ)
+before_yanked Yanked text before = behind_front (reverse text) before
+before_yanked last text before = None
+
+-- What is before the yanked text in the line.
+abbrev pub before_yank : EditorState → Option (List ℕ)
+before_yank w = before_yanked w.last (yanked w) w.line.before
+
+-- The editor with the next kill of the ring in place of the yanked text, if it is known what is before that.
+abbrev pub popped_to : Option (List ℕ) → EditorState → EditorState
+popped_to None w = w
+popped_to (Some before) w =
+    record (changed (line_with (record { before = before; after = [] }) (kill_at w.kills (next_yank w)) w.line) w) { yank_at = next_yank w }
+
 -- The rest of a text behind a front. `None` if it doesn't begin with that, or if it is the text that is shown.
 abbrev pub other_rest : List ℕ → List ℕ → List ℕ → Option (List ℕ)
 other_rest front shown text = if bytes_eq text shown then None else behind_front front text
@@ -198,21 +216,65 @@ abbrev pub found_line : List ℕ → List ℕ → Split
 found_line [] rest = record { before = reverse rest; after = [] }
 found_line (c ∷ front) rest = settled (record { before = reverse (c ∷ front); after = rest })
 
+-- The rest of the line at a place of the history, counted from 0, behind a front. `None` if no line is there, if it
+-- doesn't begin with that, or if it is the line that is shown.
+abbrev pub rest_at : List ℕ → List ℕ → ℕ → List Split → Option (List ℕ)
+rest_at front shown at lines = option_and_then (λ d. other_rest front shown (line_text d)) (slice_get lines at)
+
+-- The last of the first `n` lines that begins with a text and isn't the line that is shown. It is given by its number
+-- from 1 and the rest of it. `None` if there is none.
+abbrev pub last_with : List ℕ → List ℕ → ℕ → List Split → Option (ℕ × List ℕ)
+last_with front shown zero lines = None
+last_with front shown (suc n) lines = rest_or (rest_at front shown n lines) (n + 1) (last_with front shown n lines)
+
+-- The next newer line that begins with what is looked for, and is another than the line. `None` if there is none.
+abbrev pub found_newer : EditorState → Option (ℕ × List ℕ)
+found_newer w = last_with (sought w) (line_text w.line) (w.back - 1) w.history
+
 -- The editor with a line that was found, if there is one.
 abbrev pub searched_to : Option (ℕ × List ℕ) → EditorState → EditorState
 searched_to None w = w
 searched_to (Some found) w = record (left_for (found_line (sought w) found.1) w) { back = found.0 }
 
--- The history with an accepted line as its newest, up to the limit of lines. An empty line isn't remembered.
+-- The editor after a search forward for a text. If there is none, the next newer line is shown.
+abbrev pub searched_forward : List ℕ → EditorState → EditorState
+searched_forward [] w = newer_from w.back w
+searched_forward (c ∷ front) w = searched_to (found_newer w) w
+
+-- ---- lines that are accepted
+
+-- Whether a text has no characters.
+abbrev pub is_empty : List ℕ → Bool
+is_empty [] = true
+is_empty (c ∷ text) = false
+
+-- Whether a text begins with a blank.
+abbrev pub begins_with_space : List ℕ → Bool
+begins_with_space [] = false
+begins_with_space (c ∷ text) = c == 32
+
+-- Whether a text is that of the newest line.
+abbrev pub is_newest : List ℕ → List Split → Bool
+is_newest text [] = false
+is_newest text (d ∷ lines) = bytes_eq text (line_text d)
+
+-- Whether an accepted line isn't remembered: it is empty, or by the limits it begins with a blank or equals the newest.
+abbrev pub is_ignored : Limits → List ℕ → List Split → Bool
+is_ignored limits text history = is_empty text || ((limits.ignore_space && begins_with_space text) || (limits.ignore_dups && is_newest text history))
+
+-- The history with an accepted line as its newest, up to the limit of lines, unless it isn't remembered.
 abbrev pub remembered : Limits → Split → List ℕ → List Split → List Split
-remembered limits d [] history = history
-remembered limits d (c ∷ text) history = take limits.lines (target_place (Forward Edge) d ∷ history)
+remembered limits d text history = if is_ignored limits text history then history else take limits.lines (target_place (Forward Edge) d ∷ history)
 
--- A fresh editor with the killed text and the history of the one before.
+-- The editor after something with which no action goes on.
+abbrev pub broken_off : EditorState → EditorState
+broken_off w = record w { last = Other }
+
+-- A fresh editor with the kills and the history of the one before.
 abbrev pub dropped : EditorState → EditorState
-dropped w = record (fresh w.limits) { killed = w.killed; history = w.history }
+dropped w = record (fresh w.limits) { kills = w.kills; yank_at = w.yank_at; history = w.history }
 
--- A fresh editor with the killed text and the history of the one before, in which the accepted line is remembered.
+-- A fresh editor with the kills and the history of the one before, in which the accepted line is remembered.
 abbrev pub accepted : EditorState → EditorState
 accepted w = record (dropped w) { history = remembered w.limits w.line (line_text w.line) w.history }
 
@@ -224,22 +286,27 @@ acted (does.Insert c) w = type_char c w
 acted (does.Go target) w = moved (target_place target w.line) w
 acted (does.Erase target) w = erase_cut (cut_text target w.line) target w
 acted (does.Kill target) w = kill_cut (cut_text target w.line) target w
-acted does.Yank w = write w.killed w
+acted does.Yank w = write (yanked w) w
+acted does.YankPop w = popped_to (before_yank w) w
 acted does.Transpose w = transpose_at (meeting w.line.before w.line.after).before w
 acted does.Undo w = undo_to w.past w
 acted does.Redo w = redo_to w.undone w
 acted does.Older w = older_to (slice_get w.history w.back) w
 acted does.Newer w = newer_from w.back w
 acted does.Search w = searched_to (found w) w
+acted does.SearchForward w = searched_forward (sought w) w
 
--- Whether a text has no characters.
-abbrev pub is_empty : List ℕ → Bool
-is_empty [] = true
-is_empty (c ∷ text) = false
+-- What a turn of the ring is to the next action: a yank, if there was one.
+abbrev pub last_popped : Option (List ℕ) → Last
+last_popped None = Other
+last_popped (Some before) = Yanked
 
--- What an action is to the next one. A kill that cuts nothing is no kill.
+-- What an action is to the next one. A kill that cuts nothing is no kill, and a yank of nothing no yank.
 abbrev pub last_after : Action → EditorState → Last
 last_after does.Search w = if is_empty (sought w) then Walked else Other
+last_after does.SearchForward w = if is_empty (sought w) then Walked else Other
+last_after does.Yank w = if is_empty (yanked w) then Other else Yanked
+last_after does.YankPop w = last_popped (before_yank w)
 last_after (does.Kill target) w = if is_empty (cut_text target w.line) then Other else Killed
 last_after action w = Other
 

@@ -1,10 +1,10 @@
 -- What the calls of an editor do to it.
-use Rattle.std.specs.Prelude.{ℕ, List, []}
+use Rattle.std.specs.Prelude.{ℕ, List}
 use Rattle.line_editor.specs.declared.actions.Action.{Action}
-use Rattle.line_editor.specs.Bounds.{written}
+use Rattle.line_editor.specs.Bounds.{more_by, size}
 use Rattle.line_editor.specs.History.{loaded}
 use Rattle.line_editor.specs.Shown.{pasted_part}
-use Rattle.line_editor.specs.States.{EditorState, accepted, after, dropped, pasted_into}
+use Rattle.line_editor.specs.States.{EditorState, accepted, after, broken_off, dropped, pasted_into}
 
 -- What a call does to an editor.
 pub data Task : Type 0 where
@@ -18,6 +18,8 @@ pub data Task : Type 0 where
   LetsGo : Task
   -- A history is loaded from a text.
   Loads : List ℕ → Task
+  -- The window is cleared, and the line goes on.
+  Clears : Task
   -- The editor is closed while its line is empty.
   Closes : Task
   -- Nothing is done.
@@ -30,11 +32,12 @@ done (Pastes text) w = pasted_into text w
 done Accepts w = accepted w
 done LetsGo w = dropped w
 done (Loads text) w = loaded text w
+done Clears w = broken_off w
 done Closes w = w
 done Nothing w = w
 
--- What a task writes: the text of its action, or what of a paste comes into the line.
-abbrev pub task_text : Task → EditorState → List ℕ
-task_text (Acts action) w = written action w
-task_text (Pastes text) w = pasted_part text
-task_text task w = []
+-- How many more bytes the line has after a task that writes, or 0. A paste has those of what of it comes into the line.
+abbrev pub task_more : Task → EditorState → ℕ
+task_more (Acts action) w = more_by action w
+task_more (Pastes text) w = size (pasted_part text)
+task_more task w = 0

@@ -1,7 +1,6 @@
 -- What an editor does at events, one after another.
-use Rattle.std.specs.Prelude.{◌≡◌, ⊤, ℕ, true, false, List, [], ◌∷◌, ◌++◌, map, Option, Some, None, string_bytes}
+use Rattle.std.specs.Prelude.{◌≡◌, ⊤, ℕ, true, false, List, [], ◌∷◌, ◌++◌, Option, Some, None, string_bytes}
 use Rattle.std.specs.Str.{chars}
-use Rattle.std.specs.declared.string.String.{String}
 use Rattle.crossterm_types.specs.Seen.{Seen}
 use Rattle.crossterm_types.specs.Seen as seen
 use Rattle.line_editor.specs.declared.actions.Action.TheVariants.{Erase}
@@ -17,7 +16,7 @@ use Rattle.line_editor.specs.Bounds.{is_too_long}
 use Rattle.line_editor.specs.Keys.{command_of}
 use Rattle.line_editor.specs.Splits.{line_text}
 use Rattle.line_editor.specs.States.{EditorState}
-use Rattle.line_editor.specs.Tasks.{Task, Acts, Pastes, Accepts, LetsGo, Closes, Nothing, done, task_text}
+use Rattle.line_editor.specs.Tasks.{Task, Acts, Pastes, Accepts, LetsGo, Clears, Closes, Nothing, done, task_more}
 
 -- The task of Control-D: an empty text closes, and in another one the cluster at the cursor is erased.
 abbrev pub erase_or_close : List ℕ → Task
@@ -30,6 +29,7 @@ task_of_command (asks.Act action) w = Acts action
 task_of_command asks.Accept w = Accepts
 task_of_command asks.Interrupt w = LetsGo
 task_of_command asks.EraseOrClose w = erase_or_close (line_text w.line)
+task_of_command asks.Clear w = Clears
 
 -- The task of a key with a command. A key without one does nothing.
 abbrev pub task_of_key : Option KeyCommand → EditorState → Task
@@ -46,6 +46,8 @@ task_of event w = Nothing
 pub data Answer : Type 0 where
   -- The line goes on.
   Going : Answer
+  -- The line goes on, and is drawn anew at the top of an empty window.
+  Clear : Answer
   -- The line was accepted.
   Line : List ℕ → Answer
   -- The line was interrupted.
@@ -56,14 +58,17 @@ pub data Answer : Type 0 where
 -- What contracts see of an outcome.
 abbrev pub seen_outcome : {A : Type 0} → Outcome A → Answer
 seen_outcome outcome.Going = Going
+seen_outcome outcome.Clear = Clear
 seen_outcome (outcome.Line text) = Line (chars (string_bytes text))
 seen_outcome outcome.Interrupted = Interrupted
 seen_outcome outcome.Closed = Closed
 
--- The outcome of a task: the line's text if it is accepted, an interruption, a closing, or else the line goes on.
+-- The outcome of a task: the line's text if it is accepted, an interruption, a closing, a clearing, or else the line
+-- goes on.
 abbrev pub answer : Task → EditorState → Answer
 answer Accepts w = Line (line_text w.line)
 answer LetsGo w = Interrupted
+answer Clears w = Clear
 answer Closes w = Closed
 answer task w = Going
 
@@ -71,9 +76,15 @@ answer task w = Going
 abbrev pub turned : Seen → EditorState → EditorState
 turned event w = done (task_of event w) w
 
--- What an event writes, which is what its task writes.
-abbrev pub event_text : Seen → EditorState → List ℕ
-event_text event w = task_text (task_of event w) w
+-- How many more bytes the line has after an event that writes, or 0, by its task.
+abbrev pub event_more : Seen → EditorState → ℕ
+event_more event w = task_more (task_of event w) w
+
+-- The line goes on after an outcome.
+abbrev pub IsGoing : Answer → Type 0
+IsGoing Going = ⊤
+IsGoing Clear = ⊤
+IsGoing answer = ⊥
 
 -- The line of an outcome, if it is one.
 abbrev pub lines_in : Answer → List (List ℕ)
@@ -90,14 +101,10 @@ abbrev pub lines_of_events : List Seen → EditorState → List (List ℕ)
 lines_of_events [] w = []
 lines_of_events (event ∷ events) w = lines_in (answer (task_of event w) w) ++ lines_of_events events (turned event w)
 
--- Each event in turn writes a text that has room in the line.
+-- What each event in turn writes has room in the line.
 abbrev pub AreTaken : List Seen → EditorState → Type 0
 AreTaken [] w = ⊤
-AreTaken (event ∷ events) w = (is_too_long (event_text event w) w ≡ false) × AreTaken events (turned event w)
-
--- The characters of each string.
-abbrev pub texts : {A : Type 0} → List (String A) → List (List ℕ)
-texts strings = map (λ text. chars (string_bytes text)) strings
+AreTaken (event ∷ events) w = (is_too_long (event_more event w) w ≡ false) × AreTaken events (turned event w)
 
 -- A run of events stopped before one that was refused: those before it were taken, and nothing else was done.
 pub record StopsBefore (fault : EditFault) (events : List Seen) (w v : EditorState) (before after : List (List ℕ)) : Type 0 where
@@ -108,4 +115,4 @@ pub record StopsBefore (fault : EditFault) (events : List Seen) (w v : EditorSta
   pub taken : AreTaken front w
   pub made : v ≡ after_events front w
   pub lines : after ≡ before ++ lines_of_events front w
-  pub why : fault ≡ TooLong → is_too_long (event_text event v) v ≡ true
+  pub why : fault ≡ TooLong → is_too_long (event_more event v) v ≡ true

@@ -19,8 +19,11 @@ pub enum Action {
     /// Erases it, and keeps it for a yank (`kill-line`, `backward-kill-word` and others). Kills side by side are one text, in the order of the
     /// line.
     Kill(Target),
-    /// Writes the text that was killed last (`yank`).
+    /// Writes the text that was killed last, or to which the ring was turned (`yank`).
     Yank,
+    /// Puts the next kill of the ring, an older one, in the place of the text that was yanked just before (`yank-pop`). Behind the oldest
+    /// kill comes the newest. A further yank writes the same kill, and a further kill becomes the newest.
+    YankPop,
     /// Exchanges the clusters before and behind the cursor, and the last two at a line's end (`transpose-chars`).
     Transpose,
     /// Brings back the line before the last change (`undo`). Characters that were typed side by side are one change.
@@ -34,4 +37,6 @@ pub enum Action {
     /// Shows the next older accepted line that begins with the text before the cursor and differs from the line (`history-search-backward`).
     /// If nothing is before the cursor, any line is found, with the cursor at its end, and the next search goes on so.
     Search,
+    /// Shows the next newer one of these lines (`history-search-forward`). If nothing is before the cursor, it is as `Newer`.
+    SearchForward,
 }

@@ -1,10 +1,11 @@
 //! A line, with the changes that lead to the lines before it and to those that were undone.
-ghost use Rattle.std.specs.Prelude.{◌≡◌, false, true, [], OnErr, OnOk};
-ghost use Rattle.std.specs.Str.{chars};
-ghost use Rattle.line_editor.specs.Edits.{empty_line, erased, inserted, transposed};
+ghost use Rattle.std.specs.Prelude.{◌≡◌, ◌≤◌, false, true, [], OnErr, OnOk};
+ghost use Rattle.std.specs.Str.{chars, IsCharBoundary};
+ghost use Rattle.line_editor.specs.Edits.{empty_line, erased, inserted, line_with, transposed};
 ghost use Rattle.line_editor.specs.Places.{target_place};
 ghost use Rattle.line_editor.specs.Shown.{AreShown};
-ghost use Rattle.line_editor.specs.inside.Changes.{draft_changed, draft_redone, draft_typed, draft_undone};
+ghost use Rattle.line_editor.specs.Splits.{split_at};
+ghost use Rattle.line_editor.specs.inside.Changes.{line_bytes, draft_changed, draft_redone, draft_typed, draft_undone};
 
 use crate::changes::{Change, count, end_first, note, reach_first, step};
 use crate::lines::Line;
@@ -112,6 +113,30 @@ impl<A: Allocator + Clone> Draft<A> {
     {
         self.past.reserve(1)?;
         let change = self.line.erase(target)?;
+        note(&mut self.past, change, steps);
+        self.undone.clear();
+        self.typing = false;
+        Ok(())
+    }
+
+    /// Puts a text in place of what is between two places.
+    pub(crate) fn replace(
+        &mut self,
+        from: usize,
+        to: usize,
+        with: &str,
+        steps: usize,
+    ) -> Result<(), AllocError>
+        requires order { from ≤ to }
+        requires from { IsCharBoundary (line_bytes self.old.line) from }
+        requires to { IsCharBoundary (line_bytes self.old.line) to }
+        requires with { AreShown (chars with.now) }
+        ensures ok { OnOk result (self.new
+            ≡ draft_changed steps (line_with (split_at (line_bytes self.old.line) from) (chars with.now) (split_at (line_bytes self.old.line) to)) self.old) }
+        ensures err { OnErr result (self.new ≡ self.old) }
+    {
+        self.past.reserve(1)?;
+        let change = self.line.splice(from, to, with)?;
         note(&mut self.past, change, steps);
         self.undone.clear();
         self.typing = false;

@@ -1,32 +1,37 @@
 //! An editor of a line, an action at a time.
-ghost use Rattle.std.specs.Prelude.{◌≡◌, false, List, [], IfErr, IfOk, IsOk, OnOk, OnErr, slice_get};
-ghost use Rattle.std.specs.Str.{chars};
+ghost use Rattle.std.specs.Prelude.{◌≡◌, ◌≤◌, false, List, [], IfErr, IfOk, IsOk, MatchOption, None, Some, OnOk, OnErr, slice_get};
+ghost use Rattle.std.specs.Str.{chars, IsCharBoundary};
 ghost use Rattle.std.specs.String.{string_bytes};
 ghost use Rattle.line_editor.specs.declared.actions.Action.{Action};
 ghost use Rattle.line_editor.specs.declared.fault.EditFault.TheVariants.{Memory};
-ghost use Rattle.line_editor.specs.Bounds.{AreAllowed, StopsAt, refusal_of, is_too_long, room_of, written};
+ghost use Rattle.unicode_segmentation.specs.Segments.{chars_before};
+ghost use Rattle.line_editor.specs.Bounds.{AreAllowed, StopsAt, is_too_long, more_by, popped_more, refusal_of, room_of, size};
 ghost use Rattle.line_editor.specs.Edits.{cut_text, inserted, meeting};
 ghost use Rattle.line_editor.specs.History.{loaded, saved};
+ghost use Rattle.line_editor.specs.Kills.{kept_by, kill_text};
 ghost use Rattle.line_editor.specs.Places.{target_place};
 ghost use Rattle.line_editor.specs.Shown.{AreShown, pasted_part};
 ghost use Rattle.line_editor.specs.Splits.{line_text};
-ghost use Rattle.line_editor.specs.States.{IsMove, accepted, acted, after, changed, dropped, erase_cut, found, fresh, kill_text, kept_by, kill_cut, last_after, left_for, moved, newer_from, newer_line, older_to, pasted_into, redo_to, remembered, run_actions, searched_to, sought, transpose_at, type_char, after_typing, undo_to, write};
+ghost use Rattle.line_editor.specs.inside.Changes.{bytes_before, line_bytes};
+ghost use Rattle.line_editor.specs.States.{IsMove, accepted, acted, after, before_yank, broken_off, changed, dropped, erase_cut, found, found_newer, fresh, is_ignored, kill_cut, last_after, left_for, moved, newer_from, newer_line, next_yank, older_to, pasted_into, popped_to, redo_to, remembered, run_actions, searched_forward, searched_to, sought, transpose_at, type_char, after_typing, undo_to, write, yanked};
 
 use crate::actions::Action;
 use crate::draft::Draft;
 use crate::fault::EditFault;
 use crate::history::{history_of, saved};
+use crate::kills::{keep, kill_at, next_place};
 use crate::last::Last;
 use crate::limits::Limits;
 use crate::lines::Line;
 use crate::places::{Stop, Target};
 use crate::recent::RecentLines;
 use crate::shown::{is_shown, pasted, pasted_len};
-use crate::texts::{is_nothing, joined};
+use crate::texts::{begins_with_space, is_nothing, joined};
 use std::alloc::{AllocError, Allocator, Global};
+use std::collections::VecDeque;
 use std::marker::Model;
 
-/// An editor of one line, with the text that was killed last, the changes that can be undone, and the history of accepted lines.
+/// An editor of one line, with the texts that were killed, the changes that can be undone, and the history of accepted lines.
 ///
 /// ```
 /// let mut editor = Editor::new(alloc, Limits::default())?;
@@ -39,7 +44,9 @@ pub struct Editor<A: Allocator = Global> {
     alloc: A,
     limits: Limits,
     draft: Draft<A>,
-    killed: String<A>,
+    kills: VecDeque<String<A>, A>,
+    // How many kills are newer than the one that a yank writes.
+    yank_at: usize,
     history: RecentLines<A>,
     back: usize,
     unfinished: Line<A>,
@@ -48,8 +55,7 @@ pub struct Editor<A: Allocator = Global> {
 }
 
 impl<A: Allocator> Model for Editor<A> {
-    ghost use Rattle.std.specs.String.{string_bytes};
-    ghost use Rattle.std.specs.Str.{chars};
+    ghost use Rattle.line_editor.specs.Kills.{texts};
     ghost use Rattle.line_editor.specs.States.{EditorState};
 
     ghost Value = { EditorState };
@@ -57,7 +63,8 @@ impl<A: Allocator> Model for Editor<A> {
     ghost view = { λ e. record {
       limits = e.limits;
       line = e.draft.line;
-      killed = chars (string_bytes e.killed);
+      kills = texts e.kills.items;
+      yank_at = e.yank_at;
       past = e.draft.past;
       undone = e.draft.undone;
       history = e.history;
@@ -67,9 +74,10 @@ impl<A: Allocator> Model for Editor<A> {
       last = e.last;
     } };
 
+    ghost use Rattle.std.specs.List.{AllByRecursion};
     ghost use Rattle.line_editor.specs.Shown.{AreShown};
 
-    ghost invariant = { λ e. AreShown (chars (string_bytes e.killed)) };
+    ghost invariant = { λ e. AllByRecursion AreShown (texts e.kills.items) };
 }
 
 /// An editor with nothing written.
@@ -79,7 +87,8 @@ fn started<A: Allocator + Clone>(alloc: A, limits: Limits) -> Result<Editor<A>, 
     Ok(Editor {
         limits,
         draft: Draft::new(Line::new(alloc.clone()?), alloc.clone()?, alloc.clone()?),
-        killed: String::new(alloc.clone()?),
+        kills: VecDeque::new(alloc.clone()?),
+        yank_at: 0,
         history: RecentLines::new(alloc.clone()?),
         back: 0,
         unfinished: Line::new(alloc.clone()?),
@@ -120,13 +129,54 @@ impl<A: Allocator> Editor<A> {
             .saturating_sub(self.draft.line().text().len())
     }
 
+    /// The text that a yank writes.
+    fn yanked(&self) -> &str
+        ensures text { chars result.now ≡ yanked self.now }
+        ensures shown { AreShown (chars result.now) }
+    {
+        kill_at(&self.kills, self.yank_at)
+    }
+
+    /// The place of the kill that follows in the ring.
+    fn next_yank(&self) -> usize
+        ensures { result ≡ next_yank self.now }
+    {
+        next_place(self.yank_at, self.kills.len())
+    }
+
+    /// The place before the text that was yanked last, if the text is before the cursor.
+    fn before_yank(&self) -> Option<usize>
+        ensures { MatchOption result (before_yank self.now ≡ None)
+            (λ place. (place ≤ bytes_before self.now.line) × IsCharBoundary (line_bytes self.now.line) place
+            × (before_yank self.now ≡ Some (chars_before (line_bytes self.now.line) place))) }
+    {
+        match self.last {
+            Last::Yanked => self.draft.line().place_before(self.yanked()),
+            Last::Other | Last::Walked | Last::Killed => None,
+        }
+    }
+
+    /// How many more bytes the line has after a turn of the ring.
+    fn popped_more(&self) -> usize
+        ensures { result ≡ popped_more (before_yank self.now) self.now }
+    {
+        match self.before_yank() {
+            None => 0,
+            Some(_) => {
+                let next = kill_at(&self.kills, self.next_yank());
+                next.len().saturating_sub(self.yanked().len())
+            }
+        }
+    }
+
     /// Whether what an action writes has no room.
     fn is_too_long(&self, action: Action) -> bool
-        ensures { result ≡ is_too_long (written action self.now) self.now }
+        ensures { result ≡ is_too_long (more_by action self.now) self.now }
     {
         match action {
             Action::Insert(c) => is_shown(c) && self.room() < c.len_utf8(),
-            Action::Yank => self.room() < self.killed.as_str().len(),
+            Action::Yank => self.room() < self.yanked().len(),
+            Action::YankPop => self.room() < self.popped_more(),
             Action::Go(_)
             | Action::Erase(_)
             | Action::Kill(_)
@@ -135,11 +185,12 @@ impl<A: Allocator> Editor<A> {
             | Action::Redo
             | Action::Older
             | Action::Newer
-            | Action::Search => false,
+            | Action::Search
+            | Action::SearchForward => false,
         }
     }
 
-    /// Lets the line go, and an empty one begins. The history and the killed text stay. This takes no memory.
+    /// Lets the line go, and an empty one begins. The history and the kills stay. This takes no memory.
     ///
     /// ```
     /// editor.let_go();
@@ -152,6 +203,23 @@ impl<A: Allocator> Editor<A> {
         self.unfinished.clear();
         self.back = 0;
         self.last = Last::Other;
+    }
+
+    /// The next action goes on with nothing.
+    pub(crate) fn break_off(&mut self)
+        ensures { self.new ≡ broken_off self.old }
+    {
+        self.last = Last::Other;
+    }
+
+    /// Whether the line isn't remembered if it is accepted.
+    fn is_ignored(&self) -> bool
+        ensures { result ≡ is_ignored self.now.limits (line_text self.now.line) self.now.history }
+    {
+        let text = self.draft.line().text();
+        is_nothing(text)
+            || self.limits.ignore_space && begins_with_space(text)
+            || self.limits.ignore_dups && self.history.is_newest(text)
     }
 }
 
@@ -227,19 +295,20 @@ impl<A: Allocator + Clone> Editor<A> {
 
     /// The text to which that of a kill is joined.
     fn kept(&self) -> &str
-        ensures text { chars result.now ≡ kept_by self.now.last self.now.killed }
+        ensures text { chars result.now ≡ kept_by self.now.last self.now.kills }
         ensures shown { AreShown (chars result.now) }
     {
         match self.last {
-            Last::Killed => self.killed.as_str(),
+            Last::Killed => kill_at(&self.kills, 0),
             Last::Other => "",
             Last::Walked => "",
+            Last::Yanked => "",
         }
     }
 
     /// The text that a kill keeps.
     fn killed_by(&self, target: Target) -> Result<String<A>, AllocError>
-        ensures text { IfOk result (λ killed. chars (string_bytes killed) ≡ kill_text target (cut_text target self.now.line) (kept_by self.now.last self.now.killed)) }
+        ensures text { IfOk result (λ killed. chars (string_bytes killed) ≡ kill_text target (cut_text target self.now.line) (kept_by self.now.last self.now.kills)) }
         ensures shown { IfOk result (λ killed. AreShown (chars (string_bytes killed))) }
     {
         let kept = self.kept();
@@ -250,7 +319,7 @@ impl<A: Allocator + Clone> Editor<A> {
         }
     }
 
-    /// Erases what a target reaches, and keeps it.
+    /// Erases what a target reaches, and keeps it as the newest kill.
     fn kill(&mut self, target: Target) -> Result<(), AllocError>
         ensures ok { OnOk result (self.new ≡ kill_cut (cut_text target self.old.line) target self.old) }
         ensures err { OnErr result (self.new ≡ self.old) }
@@ -259,21 +328,42 @@ impl<A: Allocator + Clone> Editor<A> {
             return Ok(());
         }
         let killed = self.killed_by(target)?;
+        self.kills.reserve(1)?;
         self.draft.erase(target, self.limits.steps)?;
-        self.killed = killed;
+        keep(&mut self.kills, killed, self.last, self.limits.kills);
+        self.yank_at = 0;
         Ok(())
     }
 
-    /// Writes the text that was killed last.
+    /// Writes the kill at the ring's place.
     fn yank(&mut self) -> Result<(), AllocError>
-        ensures ok { OnOk result (self.new ≡ write self.old.killed self.old) }
+        ensures ok { OnOk result (self.new ≡ write (yanked self.old) self.old) }
         ensures err { OnErr result (self.new ≡ self.old) }
     {
-        if is_nothing(self.killed.as_str()) {
+        let text = kill_at(&self.kills, self.yank_at);
+        if is_nothing(text) {
             return Ok(());
         }
-        self.draft.put(self.killed.as_str(), self.limits.steps)?;
+        self.draft.put(text, self.limits.steps)?;
         Ok(())
+    }
+
+    /// Puts the next kill of the ring in place of the yanked one.
+    fn yank_pop(&mut self) -> Result<(), AllocError>
+        ensures ok { OnOk result (self.new ≡ popped_to (before_yank self.old) self.old) }
+        ensures err { OnErr result (self.new ≡ self.old) }
+    {
+        match self.before_yank() {
+            None => Ok(()),
+            Some(from) => {
+                let next = self.next_yank();
+                let to = self.draft.line().at();
+                let text = kill_at(&self.kills, next);
+                self.draft.replace(from, to, text, self.limits.steps)?;
+                self.yank_at = next;
+                Ok(())
+            }
+        }
     }
 
     /// Transposes two clusters, if there are two.
@@ -376,7 +466,7 @@ impl<A: Allocator + Clone> Editor<A> {
     {
         match self.last {
             Last::Walked => "",
-            Last::Other | Last::Killed => self.draft.line().before(),
+            Last::Other | Last::Killed | Last::Yanked => self.draft.line().before(),
         }
     }
 
@@ -400,6 +490,38 @@ impl<A: Allocator + Clone> Editor<A> {
         }
     }
 
+    /// Shows the next newer line that begins with the text before the cursor, and isn't the same line.
+    fn search_newer(&mut self) -> Result<(), AllocError>
+        ensures ok { OnOk result (self.new ≡ searched_to (found_newer self.old) self.old) }
+        ensures err { OnErr result (self.new ≡ self.old) }
+    {
+        let front = self.sought();
+        let count = self.back.saturating_sub(1);
+        match self
+            .history
+            .find_newer(front, self.draft.line().text(), count)
+        {
+            None => Ok(()),
+            Some((back, rest)) => {
+                let line = Line::found(self.alloc.clone()?, front, rest)?;
+                self.leave_for(line)?;
+                self.back = back;
+                Ok(())
+            }
+        }
+    }
+
+    /// The same, or the next newer line if nothing is looked for.
+    fn search_forward(&mut self) -> Result<(), AllocError>
+        ensures ok { OnOk result (self.new ≡ searched_forward (sought self.old) self.old) }
+        ensures err { OnErr result (self.new ≡ self.old) }
+    {
+        if is_nothing(self.sought()) {
+            return self.newer();
+        }
+        self.search_newer()
+    }
+
     /// Does one thing for which there is room, but for what it is to the next one.
     fn edit(&mut self, action: Action) -> Result<(), AllocError>
         ensures ok { OnOk result (self.new ≡ acted action self.old) }
@@ -415,12 +537,14 @@ impl<A: Allocator + Clone> Editor<A> {
             Action::Erase(target) => self.erase(target),
             Action::Kill(target) => self.kill(target),
             Action::Yank => self.yank(),
+            Action::YankPop => self.yank_pop(),
             Action::Transpose => self.transpose(),
             Action::Undo => self.undo(),
             Action::Redo => self.redo(),
             Action::Older => self.older(),
             Action::Newer => self.newer(),
             Action::Search => self.search(),
+            Action::SearchForward => self.search_forward(),
         }
     }
 
@@ -430,7 +554,10 @@ impl<A: Allocator + Clone> Editor<A> {
     {
         match action {
             Action::Search if is_nothing(self.sought()) => Last::Walked,
+            Action::SearchForward if is_nothing(self.sought()) => Last::Walked,
             Action::Kill(target) if !is_nothing(self.draft.line().cut(target)) => Last::Killed,
+            Action::Yank if !is_nothing(self.yanked()) => Last::Yanked,
+            Action::YankPop if self.before_yank().is_some() => Last::Yanked,
             _ => Last::Other,
         }
     }
@@ -463,9 +590,9 @@ impl<A: Allocator + Clone> Editor<A> {
     /// ```
     pub fn act(&mut self, action: Action) -> Result<(), EditFault>
         ensures ok { OnOk result (self.new ≡ after action self.old) }
-        ensures room { OnOk result (is_too_long (written action self.old) self.old ≡ false) }
+        ensures room { OnOk result (is_too_long (more_by action self.old) self.old ≡ false) }
         ensures err { OnErr result (self.new ≡ self.old) }
-        ensures fault { IfErr result (λ fault. fault ≡ refusal_of (written action self.old) self.old) }
+        ensures fault { IfErr result (λ fault. fault ≡ refusal_of (more_by action self.old) self.old) }
         ensures free { IsMove action → IsOk result }
     {
         if self.is_too_long(action) {
@@ -525,9 +652,9 @@ impl<A: Allocator + Clone> Editor<A> {
     /// ```
     pub fn paste(&mut self, text: &str) -> Result<(), EditFault>
         ensures ok { OnOk result (self.new ≡ pasted_into (chars text.now) self.old) }
-        ensures room { OnOk result (is_too_long (pasted_part (chars text.now)) self.old ≡ false) }
+        ensures room { OnOk result (is_too_long (size (pasted_part (chars text.now))) self.old ≡ false) }
         ensures err { OnErr result (self.new ≡ self.old) }
-        ensures fault { IfErr result (λ fault. fault ≡ refusal_of (pasted_part (chars text.now)) self.old) }
+        ensures fault { IfErr result (λ fault. fault ≡ refusal_of (size (pasted_part (chars text.now))) self.old) }
     {
         if self.room() < pasted_len(text) {
             return Err(EditFault::TooLong);
@@ -541,12 +668,12 @@ impl<A: Allocator + Clone> Editor<A> {
         }
     }
 
-    /// The line becomes the newest of the history, unless it is empty.
+    /// The line becomes the newest of the history, unless it is ignored.
     fn remember(&mut self) -> Result<(), AllocError>
         ensures ok { OnOk result (self.new ≡ record self.old { history = remembered self.old.limits self.old.line (line_text self.old.line) self.old.history }) }
         ensures err { OnErr result (self.new ≡ self.old) }
     {
-        if is_nothing(self.draft.line().text()) {
+        if self.is_ignored() {
             return Ok(());
         }
         let mut line = self.draft.line().copy()?;
@@ -567,8 +694,8 @@ impl<A: Allocator + Clone> Editor<A> {
         Ok(text)
     }
 
-    /// Accepts the line, and returns its text (`accept-line`). It becomes the newest of the history unless it is empty, and an empty line
-    /// begins.
+    /// Accepts the line, and returns its text (`accept-line`). It becomes the newest of the history, unless it is empty or the limits
+    /// leave it out, and an empty line begins.
     ///
     /// # Errors
     ///

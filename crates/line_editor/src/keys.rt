@@ -17,6 +17,8 @@ pub enum KeyCommand {
     Interrupt,
     /// To erase the cluster at the cursor, or to close an empty line (`delete-char`, which is an end of file on an empty line).
     EraseOrClose,
+    /// To draw the line anew at the top of an empty window (`clear-screen`).
+    Clear,
 }
 
 /// What a key asks for without Control and Alt.
@@ -34,6 +36,8 @@ fn plain(code: KeyCode) -> Option<KeyCommand>
         KeyCode::End => Action::Go(Target::Forward(Stop::Edge)),
         KeyCode::Up => Action::Older,
         KeyCode::Down => Action::Newer,
+        KeyCode::PageUp => Action::Search,
+        KeyCode::PageDown => Action::SearchForward,
         _ => return None,
     };
     Some(KeyCommand::Act(action))
@@ -53,6 +57,7 @@ fn control_char(c: char) -> Option<KeyCommand>
         'h' => Action::Erase(Target::Back(Stop::Cluster)),
         'j' => return Some(KeyCommand::Accept),
         'k' => Action::Kill(Target::Forward(Stop::Edge)),
+        'l' => return Some(KeyCommand::Clear),
         'm' => return Some(KeyCommand::Accept),
         'n' => Action::Newer,
         'p' => Action::Older,
@@ -88,6 +93,7 @@ fn alt_char(c: char) -> Option<KeyCommand>
         'b' => Action::Go(Target::Back(Stop::WordStart)),
         'd' => Action::Kill(Target::Forward(Stop::WordEnd)),
         'f' => Action::Go(Target::Forward(Stop::WordEnd)),
+        'y' => Action::YankPop,
         _ => return None,
     };
     Some(KeyCommand::Act(action))
@@ -126,26 +132,32 @@ fn both(code: KeyCode) -> Option<KeyCommand>
 /// | Backspace, Ctrl-H; Ctrl-D, Delete | `backward-delete-char`, `delete-char` |
 /// | Ctrl-K; Ctrl-U | `kill-line`, `unix-line-discard` |
 /// | Alt-D; Alt-Backspace; Ctrl-W | `kill-word`, `backward-kill-word`, `unix-word-rubout` |
-/// | Ctrl-Y; Ctrl-T | `yank`, `transpose-chars` |
+/// | Ctrl-Y; Alt-Y | `yank`, `yank-pop` |
+/// | Ctrl-T | `transpose-chars` |
 /// | Ctrl-_ | `undo` |
 /// | Up, Ctrl-P; Down, Ctrl-N | `previous-history`, `next-history` |
-/// | Ctrl-R | `history-search-backward`, in place of `reverse-search-history` |
+/// | Page Up, and Ctrl-R in place of `reverse-search-history`; Page Down | `history-search-backward`, `history-search-forward` |
+/// | Ctrl-L | `clear-screen` |
 /// | Enter, Ctrl-J, Ctrl-M | `accept-line` |
 /// | Ctrl-C | an interrupt |
 /// | Ctrl-Alt-_ | a redo, which readline hasn't |
 ///
-/// These are the 21 usual commands of the 85 that bash binds by default. Terminals report Ctrl-_ as Ctrl-7, and both are bound. Shift makes no
+/// These are the 24 usual commands of the 85 that bash binds by default. Terminals report Ctrl-_ as Ctrl-7, and both are bound. Shift makes no
 /// difference but in the character, and large letters with Control or Alt are as small ones.
 ///
 /// What differs from readline:
 ///
 /// | Here | In readline |
 /// |---|---|
-/// | Ctrl-R skips each line that equals the one that is shown | behind a text it skips one that equals the line it found before, and else none |
+/// | a search back skips each line that equals the one that is shown | behind a text it skips one that equals the line it found before, and else none |
 /// | behind a line that a search for a text found, Up and a search for any line go on from that line | they go on from the line before the search |
+/// | a search forward for any line comes at last to the unfinished line | only if the search back began there |
+/// | the unfinished line comes back with its cursor | with the cursor at its end |
 /// | Ctrl-W takes every white space for the end of a word | blanks and tabs alone |
 /// | a line of the history that was changed is as it was accepted when one comes back to it | the change is kept until a line is accepted |
 /// | Ctrl-_ takes back all characters that were typed side by side | 20 at a time |
+/// | Alt-Y is undone as one change | the yanked text is taken out and the other put in, one after the other |
+/// | the last 60 kills are kept | the last 10 |
 /// | line ends and tabs of a paste are blanks | they are kept |
 ///
 /// ```

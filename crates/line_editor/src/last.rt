@@ -9,4 +9,6 @@ pub(crate) enum Last {
     Walked,
     /// A kill: the text of the next kill is joined to its text.
     Killed,
+    /// A yank: the next turn of the ring puts another kill in its place.
+    Yanked,
 }

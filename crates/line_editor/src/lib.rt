@@ -18,14 +18,15 @@
 //!
 //! | Proved | By the contract of |
 //! |---|---|
-//! | what each action makes of an editor, and each refusal by name: a text is refused as too long exactly if it has no room, and nothing has changed; line ends and tabs of a paste are blanks, and kills side by side are one text | `Editor::{act, paste}` |
+//! | what each action makes of an editor, and each refusal by name: a text is refused as too long exactly if it has no room, and nothing has changed; line ends and tabs of a paste are blanks, kills side by side are one text, and a ring of kills turns | `Editor::{act, paste}` |
 //! | some actions are done one after another, or those before the first that is refused | `Editor::run` |
 //! | neither a move nor letting a line go is ever refused | `Editor::{act, let_go}` |
-//! | an accepted line has its text, and is the newest of as many lines as the limit says | `Editor::accept` |
+//! | an accepted line has its text, and is the newest of as many lines as the limit says, unless the limits leave it out | `Editor::accept` |
 //! | a line's cursor is between clusters, whatever was typed, pasted or erased | `Line::before` |
 //! | a line has no control character, and none of more than two columns | `Line::{text, before, cut, seen}`, `Editor::accept` |
 //! | a move keeps the text; what is erased was one piece; what is written is at the cursor; a kill and a yank give the text back | `laws::{keeps_text, cuts_out, writes_at, yanks_back}` |
 //! | undo gives back what was there before any actions, as long as the steps suffice, and redo what was undone | `laws::{can_be_undone, redoes_undone}` |
+//! | Ctrl-L changes no line, and ends kills side by side | `Editor::turn` |
 //! | an action keeps the accepted lines, and back in the history and forth again is the line that was left | `laws::{keeps_history, comes_back}` |
 //! | of a line as much is seen as has room, from one place between clusters to another, with the cursor at its place in the line | `Line::seen`, `laws::{fits, keeps_clusters}` |
 //! | the text of a history is its lines, the oldest first; a history that is loaded is the last lines of a text that have room; loading what was saved gives the same history | `Editor::{history_text, load_history}`, `laws::loads_saved` |
@@ -44,6 +45,7 @@
 //! | `Places` | the places to which a cursor goes | |
 //! | `Edits` | what is inserted, erased and transposed | |
 //! | `Recent` | lists of lines, the newest first | |
+//! | `Kills` | the texts that were killed, and the ring in which they are yanked | |
 //! | `Shown` | the characters that a line has, and those of a paste | `Line::text`, `Editor::paste` |
 //! | `States` | an editor's state, and what each action makes of it | `Editor` |
 //! | `Bounds` | which texts have room, and what is refused | `Editor::{act, run, paste}` |
@@ -69,6 +71,7 @@ mod editor;
 mod fault;
 mod history;
 mod keys;
+mod kills;
 mod last;
 pub mod laws;
 mod limits;

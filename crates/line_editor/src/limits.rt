@@ -14,15 +14,24 @@ pub struct Limits {
     pub lines: usize,
     /// The changes that can be undone. The oldest one is forgotten for a further one.
     pub steps: usize,
+    /// The texts of kills that can be yanked. The oldest one is forgotten for a further one.
+    pub kills: usize,
+    /// Whether an accepted line that equals the newest one isn't kept once more, as by `ignoredups` of bash's `HISTCONTROL`.
+    pub ignore_dups: bool,
+    /// Whether an accepted line that begins with a blank isn't kept, as by `ignorespace`.
+    pub ignore_space: bool,
 }
 
 impl Default for Limits {
-    /// 65,536 bytes, 1,000 lines and 1,000 steps.
+    /// 65,536 bytes, 1,000 lines, 1,000 steps and 60 kills. Each accepted line is kept but an empty one.
     fn default() -> Self {
         Limits {
             bytes: 65_536,
             lines: 1_000,
             steps: 1_000,
+            kills: 60,
+            ignore_dups: false,
+            ignore_space: false,
         }
     }
 }

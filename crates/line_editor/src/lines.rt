@@ -1,5 +1,5 @@
 //! A line of text with a cursor.
-ghost use Rattle.std.specs.Prelude.{◌≡◌, ℕ, ◌+◌, ◌-◌, ◌<◌, ◌≤◌, List, [], ◌∷◌, ◌++◌, IfOk, MatchBool, OnErr, OnOk, take, drop, length, reverse, slice_range};
+ghost use Rattle.std.specs.Prelude.{◌≡◌, ℕ, ◌+◌, ◌-◌, ◌<◌, ◌≤◌, List, [], ◌∷◌, ◌++◌, IfOk, MatchBool, MatchOption, None, Some, OnErr, OnOk, take, drop, length, reverse, slice_range};
 ghost use Rattle.std.specs.List.{insert_slice};
 ghost use Rattle.std.specs.String.{string_bytes};
 ghost use Rattle.std.specs.Str.{chars, IsCharBoundary};
@@ -10,13 +10,13 @@ ghost use Rattle.line_editor.specs.Places.{target_place};
 ghost use Rattle.line_editor.specs.Seen.{IsInClusters, IsSeen};
 ghost use Rattle.line_editor.specs.Shown.{AreShown};
 ghost use Rattle.line_editor.specs.Splits.{split_at, line_text};
-ghost use Rattle.line_editor.specs.States.{found_line};
+ghost use Rattle.line_editor.specs.States.{behind_front, found_line};
 ghost use Rattle.line_editor.specs.Views.{column, seen_text};
 ghost use Rattle.line_editor.specs.inside.Changes.{Fits, TakesBack, bytes_before, line_bytes, spliced};
 
 use crate::changes::Change;
 use crate::places::{Stop, Target, ahead, place_of};
-use crate::texts::{is_nothing, split_last};
+use crate::texts::{before_end, is_nothing, split_last, utf8_len};
 use crate::views::{end_seen, start_seen};
 use std::alloc::{AllocError, Allocator, Global};
 use std::marker::Model;
@@ -266,6 +266,18 @@ impl<A: Allocator> Line<A> {
         self.at
     }
 
+    /// The place before a text that is before the cursor, if the text is there.
+    pub(crate) fn place_before(&self, end: &str) -> Option<usize>
+        ensures { MatchOption result (behind_front (reverse (chars end.now)) self.now.before ≡ None)
+            (λ place. (place ≤ bytes_before self.now) × IsCharBoundary (line_bytes self.now) place
+            × (behind_front (reverse (chars end.now)) self.now.before ≡ Some (chars_before (line_bytes self.now) place))) }
+    {
+        match before_end(&self.text.as_str()[..self.at], end) {
+            None => None,
+            Some(front) => Some(utf8_len(front)),
+        }
+    }
+
     /// Another line takes its place. Returns what takes that back.
     pub(crate) fn give_way_to(&mut self, line: Line<A>) -> Change<A>
         ensures line { self.new ≡ line }
@@ -349,7 +361,12 @@ impl<A: Allocator + Clone> Line<A> {
     /// # Errors
     ///
     /// `AllocError` if memory was refused. Then nothing has changed.
-    fn splice(&mut self, from: usize, to: usize, with: &str) -> Result<Change<A>, AllocError>
+    pub(crate) fn splice(
+        &mut self,
+        from: usize,
+        to: usize,
+        with: &str,
+    ) -> Result<Change<A>, AllocError>
         requires order { from ≤ to }
         requires from { IsCharBoundary (line_bytes self.old) from }
         requires to { IsCharBoundary (line_bytes self.old) to }

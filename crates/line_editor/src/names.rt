@@ -39,12 +39,14 @@ impl fmt::Display for Action {
             Action::Erase(target) => write!(f, "erase-{target}"),
             Action::Kill(target) => write!(f, "kill-{target}"),
             Action::Yank => write!(f, "yank"),
+            Action::YankPop => write!(f, "yank-pop"),
             Action::Transpose => write!(f, "transpose"),
             Action::Undo => write!(f, "undo"),
             Action::Redo => write!(f, "redo"),
             Action::Older => write!(f, "older"),
             Action::Newer => write!(f, "newer"),
             Action::Search => write!(f, "search"),
+            Action::SearchForward => write!(f, "search-forward"),
         }
     }
 }
@@ -68,18 +70,20 @@ fn target_named(name: &str) -> Option<Target>
     }
 }
 
-/// The action of a name without a verb.
+/// The action of a name that has neither a target nor a character.
 fn word_named(name: &str) -> Option<Action>
     ensures { result ≡ value_in spec.action_rows name.now }
 {
     match name {
         "yank" => Some(Action::Yank),
+        "yank-pop" => Some(Action::YankPop),
         "transpose" => Some(Action::Transpose),
         "undo" => Some(Action::Undo),
         "redo" => Some(Action::Redo),
         "older" => Some(Action::Older),
         "newer" => Some(Action::Newer),
         "search" => Some(Action::Search),
+        "search-forward" => Some(Action::SearchForward),
         _ => None,
     }
 }
@@ -124,7 +128,7 @@ impl Action {
     /// |---|---|
     /// | `insert-x`, `insert-space` | typing of a character |
     /// | `go-`, `erase-` or `kill-`, and a target's name | moves, erasures and kills |
-    /// | `yank`, `transpose`, `undo`, `redo`, `older`, `newer`, `search` | the others |
+    /// | `yank`, `yank-pop`, `transpose`, `undo`, `redo`, `older`, `newer`, `search`, `search-forward` | the others |
     ///
     /// Targets are `char-back`, `char-forward`, `word-back`, `word-forward`, `word-end-back`, `word-start-forward`, `blank-back`,
     /// `blank-forward`, `line-start` and `line-end`.
@@ -135,9 +139,12 @@ impl Action {
     pub fn from_name(name: &str) -> Option<Action>
         ensures { result ≡ spec.action_named name.now }
     {
-        match name.split_once('-') {
-            None => word_named(name),
-            Some((verb, rest)) => verb_named(verb, rest),
+        match word_named(name) {
+            Some(action) => Some(action),
+            None => match name.split_once('-') {
+                None => None,
+                Some((verb, rest)) => verb_named(verb, rest),
+            },
         }
     }
 }

@@ -8,6 +8,8 @@ use std::alloc::{Allocator, Global};
 pub enum Outcome<A: Allocator = Global> {
     /// The line goes on.
     Going,
+    /// The line goes on, and who draws it draws it anew at the top of an empty window, by Ctrl-L.
+    Clear,
     /// The line was accepted, and this is its text.
     Line(String<A>),
     /// The line was let go, by Ctrl-C.

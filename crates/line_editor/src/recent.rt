@@ -4,10 +4,10 @@ ghost use Rattle.std.specs.Option.{option_map};
 ghost use Rattle.std.specs.Str.{chars};
 ghost use Rattle.line_editor.specs.Shown.{AreShown};
 ghost use Rattle.line_editor.specs.Splits.{line_text};
-ghost use Rattle.line_editor.specs.States.{first_with};
+ghost use Rattle.line_editor.specs.States.{first_with, is_newest, last_with};
 
 use crate::lines::Line;
-use crate::texts::other_rest;
+use crate::texts::{is_same, other_rest};
 use std::alloc::{AllocError, Allocator, Global};
 use std::collections::VecDeque;
 use std::marker::Model;
@@ -79,6 +79,16 @@ impl<A: Allocator> RecentLines<A> {
         }
     }
 
+    /// Whether a text is that of the newest line.
+    pub(crate) fn is_newest(&self, text: &str) -> bool
+        ensures { result ≡ is_newest (chars text.now) self.now }
+    {
+        match self.text_at(0) {
+            None => false,
+            Some(newest) => is_same(text, newest),
+        }
+    }
+
     /// The first line behind so many newer ones that begins with a text, and isn't the line that is shown: its number from 1, and the rest
     /// of it.
     pub(crate) fn find(&self, front: &str, shown: &str, from: usize) -> Option<(usize, &str)>
@@ -91,6 +101,24 @@ impl<A: Allocator> RecentLines<A> {
                     return Some((at + 1, rest));
                 }
             }
+        }
+        None
+    }
+
+    /// The last of so many lines from the newest on that begins with a text, and isn't the line that is shown: its number from 1, and the
+    /// rest of it.
+    pub(crate) fn find_newer(&self, front: &str, shown: &str, count: usize) -> Option<(usize, &str)>
+        ensures found { option_map (λ found. (found.0, chars found.1.now)) result ≡ last_with (chars front.now) (chars shown.now) count self.now }
+        ensures shown { IfSome result (λ found. AreShown (chars found.1.now)) }
+    {
+        let mut number = count;
+        while number > 0 {
+            if let Some(text) = self.text_at(number - 1) {
+                if let Some(rest) = other_rest(text, front, shown) {
+                    return Some((number, rest));
+                }
+            }
+            number -= 1;
         }
         None
     }

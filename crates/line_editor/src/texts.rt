@@ -1,10 +1,10 @@
 //! Texts by their characters.
 ghost use Rattle.std.specs.Prelude.{◌≡◌, ◌<◌, ℕ, List, [], ◌∷◌, ◌++◌, IfOk, IfSome, MatchBool, MatchOption, length, reverse};
 ghost use Rattle.std.specs.Option.{option_map};
-ghost use Rattle.std.specs.Str.{bytes_eq, chars};
+ghost use Rattle.std.specs.Str.{bytes_eq, chars, IsUtf8};
 ghost use Rattle.std.specs.String.{string_bytes};
 ghost use Rattle.line_editor.specs.Shown.{AreShown};
-ghost use Rattle.line_editor.specs.States.{behind_front, other_rest};
+ghost use Rattle.line_editor.specs.States.{begins_with_space, behind_front, other_rest};
 
 use std::alloc::{AllocError, Allocator};
 
@@ -42,6 +42,56 @@ pub(crate) fn is_nothing(text: &str) -> bool
     }
 }
 
+/// Whether a text begins with a blank.
+pub(crate) fn begins_with_space(text: &str) -> bool
+    ensures { result ≡ begins_with_space (chars text.now) }
+{
+    match split_first(text) {
+        None => false,
+        Some((c, _)) => c == ' ',
+    }
+}
+
+/// The bytes of a text, which is in UTF-8.
+pub(crate) fn utf8_len(text: &str) -> usize
+    ensures utf8 { IsUtf8 text.now }
+    ensures len { result ≡ length text.now }
+{
+    text.len()
+}
+
+/// What is before a character in a text that ends in it.
+fn before_char<'a>(text: &'a str, c: char) -> Option<&'a str>
+    ensures { MatchOption result ((front : List ℕ) → behind_front (c ∷ front) (reverse (chars text.now)) ≡ None)
+        (λ rest. (reverse (chars text.now) ≡ c ∷ reverse (chars rest.now)) × (length rest.now < length text.now)) }
+{
+    match split_last(text) {
+        None => None,
+        Some((d, rest)) => {
+            if c != d {
+                return None;
+            }
+            Some(rest)
+        }
+    }
+}
+
+/// What is before an end in a text that ends in it.
+pub(crate) fn before_end<'a>(text: &'a str, end: &str) -> Option<&'a str>
+    ensures { option_map (λ rest. reverse (chars rest.now)) result ≡ behind_front (reverse (chars end.now)) (reverse (chars text.now)) }
+{
+    let mut rest = text;
+    let mut wanted = end;
+    while let Some((c, front)) = split_last(wanted) {
+        match before_char(rest, c) {
+            None => return None,
+            Some(back) => rest = back,
+        }
+        wanted = front;
+    }
+    Some(rest)
+}
+
 /// What is behind a character in a text that begins with it.
 fn past_char<'a>(text: &'a str, c: char) -> Option<&'a str>
     ensures { MatchOption result ((front : List ℕ) → behind_front (c ∷ front) (chars text.now) ≡ None)
@@ -76,7 +126,7 @@ pub(crate) fn behind_front<'a>(text: &'a str, front: &str) -> Option<&'a str>
 }
 
 /// Whether two texts are the same.
-fn is_same(text: &str, other: &str) -> bool
+pub(crate) fn is_same(text: &str, other: &str) -> bool
     ensures { result ≡ bytes_eq (chars text.now) (chars other.now) }
 {
     text == other

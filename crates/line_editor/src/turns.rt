@@ -3,9 +3,10 @@ ghost use Rattle.std.specs.Prelude.{◌≡◌, ◌++◌, true, false, map, IfErr
 ghost use Rattle.crossterm_types.specs.Seen.{seen_event};
 ghost use Rattle.line_editor.specs.declared.fault.EditFault.TheVariants.{TooLong};
 ghost use Rattle.line_editor.specs.Bounds.{refusal_of, is_too_long};
+ghost use Rattle.line_editor.specs.Kills.{texts};
 ghost use Rattle.line_editor.specs.Tasks as tasks;
-ghost use Rattle.line_editor.specs.Tasks.{done, task_text};
-ghost use Rattle.line_editor.specs.Turns.{AreTaken, StopsBefore, after_events, answer, seen_outcome, event_text, lines_in, lines_of_events, task_of, task_of_command, texts, turned};
+ghost use Rattle.line_editor.specs.Tasks.{done, task_more};
+ghost use Rattle.line_editor.specs.Turns.{AreTaken, StopsBefore, after_events, answer, seen_outcome, event_more, lines_in, lines_of_events, task_of, task_of_command, turned};
 ghost use Rattle.line_editor.specs.Turns as turns;
 
 use crate::actions::Action;
@@ -23,9 +24,9 @@ impl<A: Allocator + Clone> Editor<A> {
     fn act_on(&mut self, action: Action) -> Result<Outcome<A>, EditFault>
         ensures ok { OnOk result (self.new ≡ done (tasks.Acts action) self.old) }
         ensures answer { IfOk result (λ outcome. seen_outcome outcome ≡ turns.Going) }
-        ensures room { OnOk result (is_too_long (task_text (tasks.Acts action) self.old) self.old ≡ false) }
+        ensures room { OnOk result (is_too_long (task_more (tasks.Acts action) self.old) self.old ≡ false) }
         ensures err { OnErr result (self.new ≡ self.old) }
-        ensures fault { IfErr result (λ fault. fault ≡ refusal_of (task_text (tasks.Acts action) self.old) self.old) }
+        ensures fault { IfErr result (λ fault. fault ≡ refusal_of (task_more (tasks.Acts action) self.old) self.old) }
     {
         match self.act(action) {
             Ok(()) => Ok(Outcome::Going),
@@ -37,9 +38,9 @@ impl<A: Allocator + Clone> Editor<A> {
     fn obey(&mut self, command: KeyCommand) -> Result<Outcome<A>, EditFault>
         ensures ok { OnOk result (self.new ≡ done (task_of_command command self.old) self.old) }
         ensures answer { IfOk result (λ outcome. seen_outcome outcome ≡ answer (task_of_command command self.old) self.old) }
-        ensures room { OnOk result (is_too_long (task_text (task_of_command command self.old) self.old) self.old ≡ false) }
+        ensures room { OnOk result (is_too_long (task_more (task_of_command command self.old) self.old) self.old ≡ false) }
         ensures err { OnErr result (self.new ≡ self.old) }
-        ensures fault { IfErr result (λ fault. fault ≡ refusal_of (task_text (task_of_command command self.old) self.old) self.old) }
+        ensures fault { IfErr result (λ fault. fault ≡ refusal_of (task_more (task_of_command command self.old) self.old) self.old) }
     {
         match command {
             KeyCommand::Act(action) => self.act_on(action),
@@ -57,6 +58,10 @@ impl<A: Allocator + Clone> Editor<A> {
                 }
                 self.act_on(Action::Erase(Target::Forward(Stop::Cluster)))
             }
+            KeyCommand::Clear => {
+                self.break_off();
+                Ok(Outcome::Clear)
+            }
         }
     }
 
@@ -69,6 +74,7 @@ impl<A: Allocator + Clone> Editor<A> {
     /// ```
     /// match editor.turn(&event)? {
     ///     Outcome::Going => {}
+    ///     Outcome::Clear => draw_anew(),
     ///     Outcome::Line(text) => println!(rt; "{text}")?,
     ///     Outcome::Interrupted | Outcome::Closed => return Ok(()),
     /// }
@@ -76,9 +82,9 @@ impl<A: Allocator + Clone> Editor<A> {
     pub fn turn<B: Allocator>(&mut self, event: &Event<B>) -> Result<Outcome<A>, EditFault>
         ensures ok { OnOk result (self.new ≡ turned (seen_event event.now) self.old) }
         ensures answer { IfOk result (λ outcome. seen_outcome outcome ≡ answer (task_of (seen_event event.now) self.old) self.old) }
-        ensures room { OnOk result (is_too_long (event_text (seen_event event.now) self.old) self.old ≡ false) }
+        ensures room { OnOk result (is_too_long (event_more (seen_event event.now) self.old) self.old ≡ false) }
         ensures err { OnErr result (self.new ≡ self.old) }
-        ensures fault { IfErr result (λ fault. fault ≡ refusal_of (event_text (seen_event event.now) self.old) self.old) }
+        ensures fault { IfErr result (λ fault. fault ≡ refusal_of (event_more (seen_event event.now) self.old) self.old) }
     {
         match event {
             Event::Key(key) => match command_of(key) {
@@ -103,10 +109,10 @@ impl<A: Allocator + Clone> Editor<A> {
     ) -> Result<(), EditFault>
         ensures ok { OnOk result (self.new ≡ turned (seen_event event.now) self.old) }
         ensures lines { OnOk result (texts lines.new.items ≡ texts lines.old.items ++ lines_in (answer (task_of (seen_event event.now) self.old) self.old)) }
-        ensures room { OnOk result (is_too_long (event_text (seen_event event.now) self.old) self.old ≡ false) }
+        ensures room { OnOk result (is_too_long (event_more (seen_event event.now) self.old) self.old ≡ false) }
         ensures err { OnErr result (self.new ≡ self.old) }
         ensures lines_err { OnErr result (lines.new.items ≡ lines.old.items) }
-        ensures fault { IfErr result (λ fault. fault ≡ TooLong → is_too_long (event_text (seen_event event.now) self.old) self.old ≡ true) }
+        ensures fault { IfErr result (λ fault. fault ≡ TooLong → is_too_long (event_more (seen_event event.now) self.old) self.old ≡ true) }
     {
         if lines.reserve(1).is_err() {
             return Err(EditFault::Memory);
@@ -116,7 +122,7 @@ impl<A: Allocator + Clone> Editor<A> {
                 lines.push_reserved(text);
                 Ok(())
             }
-            Ok(Outcome::Going) | Ok(Outcome::Interrupted) | Ok(Outcome::Closed) => Ok(()),
+            Ok(Outcome::Going | Outcome::Clear | Outcome::Interrupted | Outcome::Closed) => Ok(()),
             Err(fault) => Err(fault),
         }
     }

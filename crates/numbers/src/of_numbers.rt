@@ -2,7 +2,7 @@
 ghost use Rattle.std.specs.Prelude.{◌≡◌, ◌&&◌, Some, slice_get};
 ghost use Rattle.std.specs.Option.{option_map};
 ghost use Rattle.crossterm_types.specs.Seen.{seen};
-ghost use Rattle.numbers.specs.Event.{button_at, char_at, code_at, done_at, event_known, function_at, key_known, key_list, media_list, modifier_list, mouse_known, only_if, press_at, with_button, without_button};
+ghost use Rattle.numbers.specs.Event.{button_at, char_at, code_at, done_at, event_known, function_at, key_known, key_list, media_list, modifier_list, mouse_known, no_code, no_flags, no_place, no_press, only_if, press_at, with_button, without_button};
 
 use crate::event::GelvanhEvent;
 use crossterm_types::event::{

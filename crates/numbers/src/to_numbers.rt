@@ -2,7 +2,7 @@
 ghost use Rattle.std.specs.Prelude.{◌≡◌, ◌-◌, ℕ, List, Some, length, take};
 ghost use Rattle.crossterm_types.specs.Seen.{Key, Mouse};
 ghost use Rattle.crossterm_parse.specs.Meaning.{pasted, seen_meaning};
-ghost use Rattle.numbers.specs.Event.{code_at, done_at, event_at};
+ghost use Rattle.numbers.specs.Event.{code_at, done_at, event_at, event_known};
 
 use crate::event::GelvanhEvent;
 use crossterm_parse::meaning::Meaning;
@@ -85,7 +85,8 @@ pub(crate) fn done_by_mouse(kind: MouseEventKind) -> (u16, u32)
 
 /// The numbers of a key.
 pub fn of_key(key: KeyEvent) -> GelvanhEvent
-    ensures { (kept : List ℕ) → event_at kept result ≡ Key key }
+    ensures means { (kept : List ℕ) → event_at kept result ≡ Key key }
+    ensures known { event_known result ≡ Some (Key key) }
 {
     let (code, value) = code_and_value(key.code);
     GelvanhEvent {
@@ -100,7 +101,8 @@ pub fn of_key(key: KeyEvent) -> GelvanhEvent
 
 /// The numbers of what the mouse did.
 fn of_mouse(mouse: MouseEvent) -> GelvanhEvent
-    ensures { (kept : List ℕ) → event_at kept result ≡ Mouse mouse }
+    ensures means { (kept : List ℕ) → event_at kept result ≡ Mouse mouse }
+    ensures known { event_known result ≡ Some (Mouse mouse) }
 {
     let (code, value) = done_by_mouse(mouse.kind);
     GelvanhEvent {
@@ -116,7 +118,8 @@ fn of_mouse(mouse: MouseEvent) -> GelvanhEvent
 /// The numbers of what a sequence means.
 #[inline(always)]
 pub fn of_meaning(meaning: Meaning) -> GelvanhEvent
-    ensures { (kept : List ℕ) → event_at kept result ≡ seen_meaning meaning }
+    ensures means { (kept : List ℕ) → event_at kept result ≡ seen_meaning meaning }
+    ensures known { event_known result ≡ Some (seen_meaning meaning) }
 {
     match meaning {
         Meaning::Key(key) => of_key(key),

@@ -6,7 +6,7 @@ use Rattle.crossterm_read.specs.Answers.{SourceAnswer}
 use Rattle.crossterm_read.specs.History.{Known}
 use Rattle.line_editor.specs.Bounds.{is_too_long}
 use Rattle.line_editor.specs.States.{EditorState}
-use Rattle.line_editor.specs.Turns.{Answer, Going, after_events, answer, event_text, lines_in, lines_of_events, task_of, turned}
+use Rattle.line_editor.specs.Turns.{Answer, Going, Clear, Line, Interrupted, Closed, IsGoing, after_events, answer, event_more, lines_in, lines_of_events, task_of, turned}
 use Rattle.prompt.specs.Asking.{LineEnds, GoesOn, unread, further, placed, answer_to, after_event}
 use Rattle.prompt.specs.Lines.{Calls, uncalled, called, GivesLines, read_for_line, going_on_events, taken_events}
 
@@ -33,7 +33,7 @@ module _ (given : EditorState → Seen → Seen) where
   taken_both [] ys w = refl
   taken_both (x ∷ xs) ys w =
       let y : Seen = given w x in
-      taken_first (is_too_long (event_text y w) w) y ys w (taken_events given (xs ++ ys) w) (taken_events given xs w) (taken_events given (xs ++ ys) (turned y w))
+      taken_first (is_too_long (event_more y w) w) y ys w (taken_events given (xs ++ ys) w) (taken_events given xs w) (taken_events given (xs ++ ys) (turned y w))
       (taken_events given xs (turned y w)) (taken_both xs ys w) (taken_both xs ys (turned y w))
 
   -- What two runs of events give together.
@@ -56,14 +56,22 @@ one_left : (long : Bool) (e : Seen) (w : EditorState) → after_events (cond lon
 one_left true e w = refl
 one_left false e w = refl
 
+-- No line comes out while it goes on.
+no_line : (a : Answer) → IsGoing a → lines_in a ≡ []
+no_line Going h = refl
+no_line Clear h = refl
+no_line (Line text) h = absurd h
+no_line Interrupted h = absurd h
+no_line Closed h = absurd h
+
 -- What one event gives.
 gives_one : (given : EditorState → Seen → Seen) (e : Seen) (w : EditorState) (a : Answer) → answer_to (given w e) w ≡ a
     → GivesLines given (e ∷ []) w (lines_in a) (after_event (given w e) w)
 gives_one given e w a is =
     let y : Seen = given w e in
     record {
-      come = one_lines (is_too_long (event_text y w) w) y w ∙ ap lines_in is;
-      left = one_left (is_too_long (event_text y w) w) y w;
+      come = one_lines (is_too_long (event_more y w) w) y w ∙ ap lines_in is;
+      left = one_left (is_too_long (event_more y w) w) y w;
     }
 
 module _ {S : Type 0} {drawn : S → List SourceAnswer → S → Type 0} {asked : S → List (Option Duration)} {given : EditorState → Seen → Seen} where
@@ -71,7 +79,9 @@ module _ {S : Type 0} {drawn : S → List SourceAnswer → S → Type 0} {asked 
   gives_none : {v : Known S} {w : EditorState} {p : Known S} {k : EditorState} → (goes : GoesOn drawn asked given v w p k) → GivesLines given (going_on_events goes) w [] k
   gives_none unread = record { come = refl; left = refl }
   gives_none {w = w} (further p q k e goes reads going) =
-      gives_both given (going_on_events goes) (e ∷ []) w k (after_event (given k e) k) [] [] (gives_none goes) (gives_one given e k Going going)
+      let P : List (List ℕ) → Type 0 = λ t. GivesLines given (e ∷ []) k t (after_event (given k e) k) in
+      gives_both given (going_on_events goes) (e ∷ []) w k (after_event (given k e) k) [] [] (gives_none goes)
+      (subst P (no_line (answer_to (given k e) k) going) (gives_one given e k (answer_to (given k e) k) refl))
   gives_none (placed p q k goes asks) = gives_none goes
 
   -- What a line's events give.

@@ -14,7 +14,7 @@ use Rattle.crossterm.specs.Asking.{InRawMode, InTwoSeconds, Queries, raw_already
 use Rattle.crossterm.specs.Modes.{ModeCall, Modes}
 use Rattle.line_editor.specs.Bounds.{is_too_long}
 use Rattle.line_editor.specs.States.{EditorState}
-use Rattle.line_editor.specs.Turns.{Going, event_text}
+use Rattle.line_editor.specs.Turns.{Answer, IsGoing, event_more}
 use Rattle.prompt.specs.Asking.{AsksPlace, GoesOn, StopsAsking, unread, further, placed, refused}
 use Rattle.prompt.specs.inside.Turning.{MayAsk, TakesAs}
 
@@ -50,8 +50,9 @@ module _ {S : Type 0} (drawn : S → List SourceAnswer → S → Type 0) (asked 
 
   -- One more event was read, and the line goes on.
   pub goes_further : (p q : Known S) (k z : EditorState) (e : Seen) → GoesOn drawn asked given v w p k → Reads drawn asked filters.Event p q (Came (Some e))
-      → TakesAs Going (given k e) k z → GoesOn drawn asked given v w q z
-  goes_further p q k z e goes reads takes = subst (λ (x : EditorState). GoesOn drawn asked given v w q x) (sym takes.1) (further p q k e goes reads takes.0)
+      → (a : Answer) → IsGoing a → TakesAs a (given k e) k z → GoesOn drawn asked given v w q z
+  goes_further p q k z e goes reads a going takes =
+      subst (λ (x : EditorState). GoesOn drawn asked given v w q x) (sym takes.1) (further p q k e goes reads (subst IsGoing (sym takes.0) going))
 
   -- Then the terminal may be asked for the cursor's place.
   pub goes_on_asked : (p u : Known S) (k : EditorState) → GoesOn drawn asked given v w p k → MayAsk drawn asked p u → GoesOn drawn asked given v w u k
@@ -60,6 +61,6 @@ module _ {S : Type 0} (drawn : S → List SourceAnswer → S → Type 0) (asked 
 
   -- Memory was refused for one more event.
   pub refuses : (p q : Known S) (k z : EditorState) (e : Seen) (kind : ErrorKind) → GoesOn drawn asked given v w p k → Reads drawn asked filters.Event p q (Came (Some e))
-      → is_too_long (event_text (given k e) k) k ≡ false → z ≡ k → kind ≡ OutOfMemory → StopsAsking drawn asked given v w kind q z
+      → is_too_long (event_more (given k e) k) k ≡ false → z ≡ k → kind ≡ OutOfMemory → StopsAsking drawn asked given v w kind q z
   refuses p q k z e kind goes reads room same is =
       subst (λ (x : EditorState). StopsAsking drawn asked given v w kind q x) (sym same) (refused p e goes reads room is)

@@ -14,17 +14,17 @@ use Rattle.crossterm_read.specs.Replies.{Came, Faulted}
 use Rattle.crossterm.specs.Asking.{InTwoSeconds}
 use Rattle.line_editor.specs.Bounds.{is_too_long}
 use Rattle.line_editor.specs.States.{EditorState}
-use Rattle.line_editor.specs.Turns.{Answer, Going, Line, Interrupted, Closed, answer, event_text, task_of, turned}
+use Rattle.line_editor.specs.Turns.{Answer, Going, Line, Interrupted, Closed, IsGoing, answer, event_more, task_of, turned}
 use Rattle.prompt.specs.declared.read.Read.{Read}
 use Rattle.prompt.specs.declared.read.Read.TheVariants as read
 
 -- The editor after an event. If the event's text is too long, nothing changes.
 abbrev pub after_event : Seen → EditorState → EditorState
-after_event e w = cond (is_too_long (event_text e w) w) w (turned e w)
+after_event e w = cond (is_too_long (event_more e w) w) w (turned e w)
 
 -- The outcome of an event: that of its turn, or the line goes on if its text is too long.
 abbrev pub answer_to : Seen → EditorState → Answer
-answer_to e w = cond (is_too_long (event_text e w) w) Going (answer (task_of e w) w)
+answer_to e w = cond (is_too_long (event_more e w) w) Going (answer (task_of e w) w)
 
 -- What contracts see of what was asked for: a line is its text.
 abbrev pub answer_seen : {A : Type 0} → Read A → Answer
@@ -42,7 +42,7 @@ pub data GoesOn {S : Type 0} (drawn : S → List SourceAnswer → S → Type 0) 
   -- Nothing was read.
   unread : GoesOn drawn asked given v w v w
   -- The line went on, one more event was read, and it goes on after it.
-  further : (p q : Known S) (k : EditorState) (e : Seen) → GoesOn drawn asked given v w p k → Reads drawn asked filters.Event p q (Came (Some e)) → answer_to (given k e) k ≡ Going
+  further : (p q : Known S) (k : EditorState) (e : Seen) → GoesOn drawn asked given v w p k → Reads drawn asked filters.Event p q (Came (Some e)) → IsGoing (answer_to (given k e) k)
       → GoesOn drawn asked given v w q (after_event (given k e) k)
   -- The line went on, and the terminal was asked for the cursor's place: the editor is as it was.
   placed : (p q : Known S) (k : EditorState) → GoesOn drawn asked given v w p k → AsksPlace drawn asked p q → GoesOn drawn asked given v w q k
@@ -65,4 +65,4 @@ pub data StopsAsking {S : Type 0} (drawn : S → List SourceAnswer → S → Typ
   -- The next read failed with this error.
   broke : (p : Known S) → GoesOn drawn asked given v w p z → Reads drawn asked filters.Event p u (Faulted kind) → StopsAsking drawn asked given v w kind u z
   -- Memory was refused for the event that was read next, and what the editor was given has room.
-  refused : (p : Known S) (e : Seen) → GoesOn drawn asked given v w p z → Reads drawn asked filters.Event p u (Came (Some e)) → is_too_long (event_text (given z e) z) z ≡ false → kind ≡ OutOfMemory → StopsAsking drawn asked given v w kind u z
+  refused : (p : Known S) (e : Seen) → GoesOn drawn asked given v w p z → Reads drawn asked filters.Event p u (Came (Some e)) → is_too_long (event_more (given z e) z) z ≡ false → kind ≡ OutOfMemory → StopsAsking drawn asked given v w kind u z

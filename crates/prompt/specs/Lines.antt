@@ -6,7 +6,7 @@ use Rattle.crossterm_read.specs.Answers.{SourceAnswer}
 use Rattle.crossterm_read.specs.History.{Known}
 use Rattle.line_editor.specs.Bounds.{is_too_long}
 use Rattle.line_editor.specs.States.{EditorState}
-use Rattle.line_editor.specs.Turns.{Answer, after_events, event_text, lines_in, lines_of_events, turned}
+use Rattle.line_editor.specs.Turns.{Answer, after_events, event_more, lines_in, lines_of_events, turned}
 use Rattle.prompt.specs.Asking.{LineEnds, GoesOn, unread, further, placed}
 
 -- The events that were read while a line went on, in order.
@@ -23,7 +23,7 @@ read_for_line ends = going_on_events ends.goes ++ ends.event ∷ []
 abbrev pub taken_events : (EditorState → Seen → Seen) → List Seen → EditorState → List Seen
 taken_events given [] w = []
 taken_events given (e ∷ events) w =
-    cond (is_too_long (event_text (given w e) w) w) (taken_events given events w) (given w e ∷ taken_events given events (turned (given w e) w))
+    cond (is_too_long (event_more (given w e) w) w) (taken_events given events w) (given w e ∷ taken_events given events (turned (given w e) w))
 
 -- Calls for lines were made one after another: these events were read, and these lines returned.
 pub data Calls {S : Type 0} (drawn : S → List SourceAnswer → S → Type 0) (asked : S → List (Option Duration)) (given : EditorState → Seen → Seen) (v : Known S) (w : EditorState) : Known S → EditorState → List Seen → List (List ℕ) → Type 0 where

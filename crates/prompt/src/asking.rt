@@ -19,7 +19,7 @@ use crate::prompts::has_control;
 use crate::read::Read;
 use crossterm::event::source::EventSource;
 use crossterm::event::timeout::Clock;
-use crossterm::event::{Event, KeyCode, KeyEventKind, KeyModifiers};
+use crossterm::event::{Event, KeyCode, KeyEventKind};
 use crossterm::terminal::ModeDevice;
 use line_editor::{EditFault, Editor, Outcome};
 use own_terminal::Session;
@@ -28,10 +28,12 @@ use std::cell::Cell;
 use std::io::{self, ErrorKind, Write};
 use std::sync::Wait;
 
-/// What an editor makes of an event: the line goes on, also if a text was too long for it, or it ends. Or memory was refused.
+/// What an editor makes of an event: the line goes on, also anew in an empty window or if a text was too long for it, or it ends. Or memory
+/// was refused.
 #[derive(Drop)]
 enum Taken<A: Allocator> {
     Going,
+    Clear,
     TooLong,
     Ended(Read<A>),
     Refused,
@@ -137,22 +139,6 @@ fn is_tab<B: Allocator>(event: &Event<B>) -> bool
     }
 }
 
-/// Whether an event is Ctrl-L, pressed or held, also with Shift.
-fn is_clear<B: Allocator>(event: &Event<B>) -> bool {
-    match event {
-        Event::Key(key) => {
-            matches!(key.code, KeyCode::Char('l' | 'L'))
-                && key.kind != KeyEventKind::Release
-                && key.modifiers.difference(KeyModifiers::SHIFT) == KeyModifiers::CONTROL
-        }
-        Event::FocusGained
-        | Event::FocusLost
-        | Event::Mouse(_)
-        | Event::Paste(_)
-        | Event::Resize(..) => false,
-    }
-}
-
 /// Gives an event to an editor as it is.
 fn take_event<A: Allocator + Clone, B: Allocator>(
     editor: &mut Editor<A>,
@@ -162,6 +148,7 @@ fn take_event<A: Allocator + Clone, B: Allocator>(
 {
     match editor.turn(event) {
         Ok(Outcome::Going) => Taken::Going,
+        Ok(Outcome::Clear) => Taken::Clear,
         Ok(Outcome::Line(text)) => Taken::Ended(Read::Line(text)),
         Ok(Outcome::Interrupted) => Taken::Ended(Read::Interrupted),
         Ok(Outcome::Closed) => Taken::Ended(Read::Closed),
@@ -292,18 +279,15 @@ fn show_anew<
     }
 }
 
-/// Shows the line once more, after Ctrl-L at the top of an empty window.
-fn show_again<W: Write, B: Allocator, A: Allocator, H: Helper>(
+/// Shows the line once more, at the top of an empty window.
+fn show_at_top<W: Write, A: Allocator, H: Helper>(
     out: &mut W,
     editor: &Editor<A>,
     prompt: &Prompt<'_, H>,
-    event: &Event<B>,
     row: &mut Row,
 ) -> io::Result<()> {
-    if is_clear(event) {
-        clear(out)?;
-        row.forget();
-    }
+    clear(out)?;
+    row.forget();
     show(out, editor, prompt, row)
 }
 
@@ -331,7 +315,7 @@ fn show_after<
     match event {
         Event::Resize(..) => show_anew(rt, tty, editor, prompt, row),
         Event::FocusGained | Event::FocusLost | Event::Key(_) | Event::Mouse(_) | Event::Paste(_) =>
-            { show_again(&mut tty.out, editor, prompt, event, row) }
+            { show(&mut tty.out, editor, prompt, row) }
     }
 }
 
@@ -362,6 +346,10 @@ fn take_turn<
     };
     match take(editor, prompt.helper, &event) {
         Taken::Going => match show_after(rt, tty, editor, prompt, &event, row) {
+            Ok(()) => Turn::Going,
+            Err(error) => Turn::Failed(error),
+        },
+        Taken::Clear => match show_at_top(&mut tty.out, editor, prompt, row) {
             Ok(()) => Turn::Going,
             Err(error) => Turn::Failed(error),
         },

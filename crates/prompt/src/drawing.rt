@@ -1,5 +1,5 @@
 //! How a line is shown in the cursor's row.
-ghost use Rattle.std.specs.Prelude.{◌≡◌, ◌-◌, ◌<◌, IfOk, OnOk, chars};
+ghost use Rattle.std.specs.Prelude.{◌≡◌, ◌-◌, ◌<◌, IfOk, OnOk, chars, false};
 ghost use Rattle.std.specs.Io.KnownBytes.{Keeps};
 ghost use Rattle.screen.specs.Strips.{without_row};
 ghost use Rattle.prompt.specs.Drawing.{IsCursor, IsDrawn, IsUnknown, column_behind, inside, leaving};
@@ -79,7 +79,8 @@ impl Row {
     /// let row = Row::new(alloc, 80)?;
     /// ```
     pub fn new(alloc: Global, columns: u16) -> Result<Row, AllocError>
-        ensures { IfOk result (λ row. IsUnknown columns row.strip) }
+        ensures unknown { IfOk result (λ row. IsUnknown columns row.strip) }
+        ensures plain { IfOk result (λ row. row.has_hint ≡ false) }
     {
         let width = drawn_columns(columns);
         let strip = Strip::new(alloc, width)?;
@@ -93,16 +94,8 @@ impl Row {
         })
     }
 
-    /// Takes the columns of a window. Nothing is known of the row then.
-    ///
-    /// # Errors
-    ///
-    /// `AllocError` if memory was refused.
-    ///
-    /// ```
-    /// row.resize(120)?;
-    /// ```
-    pub fn resize(&mut self, columns: u16) -> Result<(), AllocError>
+    /// Takes the columns of another window. Nothing is known of the row then.
+    pub(crate) fn resize(&mut self, columns: u16) -> Result<(), AllocError>
         ensures { OnOk result (IsUnknown columns self.new.strip) }
     {
         let width = drawn_columns(columns);
@@ -117,7 +110,7 @@ impl Row {
     /// row.forget();
     /// ```
     pub fn forget(&mut self)
-        ensures { self.new.strip ≡ without_row self.old.strip }
+        ensures { self.new ≡ record self.old { strip = without_row self.old.strip } }
     {
         self.strip.forget();
     }
@@ -211,6 +204,7 @@ impl Row {
             → IsDrawn self.new.buffer self.new.column self.old.strip self.new.strip (W.contents out.old) (W.contents out.new)) }
         ensures cursor { OnOk result (0 < self.old.strip.width → IsCursor self.old.buffer.width prompt.now line.now self.new.column) }
         ensures narrow { self.old.strip.width ≡ 0 → Keeps (W.contents out.old) (W.contents out.new) }
+        ensures width { self.new.strip.width ≡ self.old.strip.width }
     {
         if self.strip.width() == 0 {
             return out.flush();

@@ -1,11 +1,13 @@
-//! Lines that are edited: the default keys of GNU readline, as its manual says, the answers of rustyline 9.1.2 to random edits, and memory
-//! that is refused.
+//! Lines that are edited: the default keys of GNU readline, as its manual says, the answers of GNU readline 8.2 and rustyline 9.1.2 to many
+//! keys, and memory that is refused.
 
+mod readline;
 mod rustyline;
 
 use crossterm_types::event::{Event, KeyCode, KeyEvent, KeyModifiers};
 use line_editor::{Action, EditFault, Editor, Limits, Line, Outcome, Stop, Target};
 use linked_list_allocator::LocalHeap;
+use readline::SCRIPTS;
 use rustyline::EDITS;
 use std::alloc::{AllocError, Allocator, Global};
 use std::{format, io};
@@ -29,7 +31,7 @@ const CONTROL: KeyModifiers = KeyModifiers::CONTROL;
 const ALT: KeyModifiers = KeyModifiers::ALT;
 
 /// Commands by their default keys. The history has `first line`, and after it `second line`.
-static ROWS: [Row; 47] = [
+static ROWS: [Row; 40] = [
     Row {
         command: "self-insert",
         line: "o|e",
@@ -240,60 +242,6 @@ static ROWS: [Row; 47] = [
         ],
         after: "second line|",
     },
-    Row {
-        command: "history-search-backward",
-        line: "fir|",
-        keys: &[(KeyCode::Char('r'), CONTROL)],
-        after: "fir|st line",
-    },
-    Row {
-        command: "history-search-backward",
-        line: "none|",
-        keys: &[(KeyCode::Char('r'), CONTROL)],
-        after: "none|",
-    },
-    Row {
-        command: "history-search-backward",
-        line: "|",
-        keys: &[(KeyCode::Char('r'), CONTROL)],
-        after: "second line|",
-    },
-    Row {
-        command: "history-search-backward",
-        line: "|",
-        keys: &[(KeyCode::Char('r'), CONTROL), (KeyCode::Char('r'), CONTROL)],
-        after: "first line|",
-    },
-    Row {
-        command: "history-search-backward",
-        line: "|",
-        keys: &[
-            (KeyCode::Char('r'), CONTROL),
-            (KeyCode::Char('n'), NONE),
-            (KeyCode::Char('e'), NONE),
-        ],
-        after: "second linene|",
-    },
-    Row {
-        command: "history-search-backward",
-        line: "|",
-        keys: &[
-            (KeyCode::Char('r'), CONTROL),
-            (KeyCode::End, NONE),
-            (KeyCode::Char('r'), CONTROL),
-        ],
-        after: "second line|",
-    },
-    Row {
-        command: "history-search-backward",
-        line: "|",
-        keys: &[
-            (KeyCode::Char('r'), CONTROL),
-            (KeyCode::Home, NONE),
-            (KeyCode::Char('r'), CONTROL),
-        ],
-        after: "first line|",
-    },
     // Kills side by side are one text. These lines are those of bash 5.2, by `read -e`.
     Row {
         command: "kill-word",
@@ -453,6 +401,85 @@ fn a_search_skips_the_line_that_is_shown(rt: HostRuntime) -> Result<(), EditFaul
     Ok(())
 }
 
+/// The key of a word of a script.
+fn key_of(word: &str) -> Option<Key> {
+    let code = match word {
+        "SP" => KeyCode::Char(' '),
+        "BS" | "A-BS" => KeyCode::Backspace,
+        "Del" => KeyCode::Delete,
+        "Enter" => KeyCode::Enter,
+        "Home" => KeyCode::Home,
+        "End" => KeyCode::End,
+        "Left" => KeyCode::Left,
+        "Right" => KeyCode::Right,
+        "Up" => KeyCode::Up,
+        "Down" => KeyCode::Down,
+        "PgUp" => KeyCode::PageUp,
+        "PgDn" => KeyCode::PageDown,
+        _ => KeyCode::Char(word.chars().next_back()?),
+    };
+    if word.starts_with("C-") {
+        return Some((code, CONTROL));
+    }
+    Some((code, if word.starts_with("A-") { ALT } else { NONE }))
+}
+
+/// Whether the line after a script's keys is what its row says.
+fn goes_so(alloc: Global, row: &str) -> Result<bool, EditFault> {
+    let Some((keys, line)) = row.split_once(" = ") else {
+        return Ok(false);
+    };
+    let mut editor = Editor::new(alloc, Limits::default())?;
+    editor.load_history("first line\nsecond line\nthird fine\nfirst again\n")?;
+    for word in keys.split(' ') {
+        let Some((code, modifiers)) = key_of(word) else {
+            return Ok(false);
+        };
+        let event: Event = Event::Key(KeyEvent::new(code, modifiers));
+        editor.turn(&event)?;
+    }
+    Ok(is_line(editor.line(), line))
+}
+
+#[test]
+fn scripts_give_the_lines_of_readline(rt: HostRuntime) {
+    for row in SCRIPTS.lines() {
+        expect!(rt; goes_so(rt.alloc(), row) == Ok(true), row);
+    }
+}
+
+/// The history's text after four lines are accepted, of which one begins with a blank and one equals the line before it.
+fn kept_by(alloc: Global, limits: Limits) -> Result<String, EditFault> {
+    let mut editor = Editor::new(alloc, limits)?;
+    for line in ["one", " two", "one", "one"] {
+        editor.paste(line)?;
+        editor.accept()?;
+    }
+    editor.history_text()
+}
+
+#[test]
+fn limits_leave_lines_out_of_the_history(rt: HostRuntime) -> Result<(), EditFault> {
+    let all = Limits::default();
+    let dups = Limits {
+        ignore_dups: true,
+        ..all
+    };
+    let space = Limits {
+        ignore_space: true,
+        ..all
+    };
+    let both = Limits {
+        ignore_space: true,
+        ..dups
+    };
+    expect!(rt; kept_by(rt.alloc(), all)?.as_str() == "one\n two\none\none\n");
+    expect!(rt; kept_by(rt.alloc(), dups)?.as_str() == "one\n two\none\n");
+    expect!(rt; kept_by(rt.alloc(), space)?.as_str() == "one\none\none\n");
+    expect!(rt; kept_by(rt.alloc(), both)?.as_str() == "one\n");
+    Ok(())
+}
+
 /// What comes of a key on a line.
 fn outcome_of(alloc: Global, line: &str, key: &Key) -> Result<Outcome, EditFault> {
     let mut editor = editor_of(alloc, line)?;
@@ -475,6 +502,7 @@ fn lines_are_accepted_interrupted_and_closed(rt: HostRuntime) {
     expect!(rt; accepts(alloc, "o|ne", &(KeyCode::Enter, NONE), "one"));
     expect!(rt; accepts(alloc, "o|ne", &(KeyCode::Char('j'), CONTROL), "one"));
     expect!(rt; outcome_of(alloc, "o|ne", &(KeyCode::Char('c'), CONTROL)) == Ok(Outcome::Interrupted));
+    expect!(rt; outcome_of(alloc, "o|ne", &(KeyCode::Char('L'), CONTROL)) == Ok(Outcome::Clear));
     expect!(rt; outcome_of(alloc, "|", &end) == Ok(Outcome::Closed));
     expect!(rt; outcome_of(alloc, "one|", &end) == Ok(Outcome::Going));
 }
@@ -534,7 +562,7 @@ fn edits_give_the_lines_of_rustyline(rt: HostRuntime) {
 }
 
 /// All actions that may need memory, in an order in which each has something to do.
-static ACTIONS: [Action; 16] = [
+static ACTIONS: [Action; 17] = [
     Action::Older,
     Action::Newer,
     Action::Insert('o'),
@@ -550,6 +578,7 @@ static ACTIONS: [Action; 16] = [
     Action::Yank,
     Action::Go(Target::Back(Stop::Edge)),
     Action::Search,
+    Action::SearchForward,
     Action::Kill(Target::Forward(Stop::Edge)),
 ];
 

@@ -7,7 +7,7 @@ use Rattle.crossterm_read.specs.Answers.{SourceAnswer}
 use Rattle.crossterm_read.specs.History.{Known}
 use Rattle.line_editor.specs.Bounds.{is_too_long}
 use Rattle.line_editor.specs.States.{EditorState}
-use Rattle.line_editor.specs.Turns.{Answer, event_text}
+use Rattle.line_editor.specs.Turns.{Answer, event_more}
 use Rattle.line_editor.specs.Turns as turns
 use Rattle.prompt.specs.declared.asking.Taken.{Taken}
 use Rattle.prompt.specs.declared.asking.Taken.TheVariants as taken
@@ -22,9 +22,10 @@ TakesAs a e w z = (answer_to e w ≡ a) × (z ≡ after_event e w)
 -- An editor took an event, or memory was refused for it. Then its text has room, and nothing has changed.
 abbrev pub IsTaken : {A : Type 0} → Taken A → Seen → EditorState → EditorState → Type 0
 IsTaken taken.Going e w z = TakesAs turns.Going e w z
+IsTaken taken.Clear e w z = TakesAs turns.Clear e w z
 IsTaken taken.TooLong e w z = TakesAs turns.Going e w z
 IsTaken (taken.Ended read) e w z = TakesAs (answer_seen read) e w z
-IsTaken taken.Refused e w z = (is_too_long (event_text e w) w ≡ false) × (z ≡ w)
+IsTaken taken.Refused e w z = (is_too_long (event_more e w) w ≡ false) × (z ≡ w)
 
 -- A turn leads on, to the line's end, or to an error.
 abbrev pub Leads : {S A : Type 0} → (S → List SourceAnswer → S → Type 0) → (S → List (Option Duration)) → (EditorState → Seen → Seen) → Known S → EditorState → Turn A → Known S → EditorState → Type 0

@@ -24,4 +24,4 @@ returns-then-is_lone_letter-clause-feeds c =
     let lone = c.is_lone_letter.ensures (search rules) in
     subst (λ (given : List GelvanhEvent). Feeds (state_at c.args.state.now) (state_at c.args.state.now) given (take 1 c.args.piece.now) (take 1 (marked c.args.piece.now c.args.more c.args.raw)))
     (first_set c.args.events.now c.of_key.result (some_events c.args.events.now (sym c.is_empty.ensures ∙ c.if-not-is_empty.true)))
-    (feeds_letter (state_at c.args.state.now) c.args.piece.now c.args.more c.args.raw c.of_key.result c.ascii_key.result lone.0 lone.1 lone.2 c.of_key.ensures c.ascii_key.ensures)
+    (feeds_letter (state_at c.args.state.now) c.args.piece.now c.args.more c.args.raw c.of_key.result c.ascii_key.result lone.0 lone.1 lone.2 c.of_key.ensures.means c.ascii_key.ensures)

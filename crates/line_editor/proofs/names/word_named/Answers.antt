@@ -6,4 +6,4 @@ use Rattle.line_editor.proofs.names.word_named.Goals as goal
 pub returns-in_default : goal.returns-in_default
 returns-in_default c =
     let d = c.in_default in
-    sym (none_named spec.action_rows c.args.name.now (d.not-yank, (d.not-transpose, (d.not-undo, (d.not-redo, (d.not-older, (d.not-newer, (d.not-search, tt))))))))
+    sym (none_named spec.action_rows c.args.name.now (d.not-yank, (d.not-text, (d.not-transpose, (d.not-undo, (d.not-redo, (d.not-older, (d.not-newer, (d.not-search, (d.not-text-2, tt))))))))))

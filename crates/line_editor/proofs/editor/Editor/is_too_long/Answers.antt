@@ -6,5 +6,5 @@ use Rattle.line_editor.proofs.editor.Editor.is_too_long.Goals as goal
 
 pub returns-in-Yank : goal.returns-in-Yank
 returns-in-Yank g c =
-    let len = length-size c.as_str.result.now _ c.as_str.utf8 (ap chars c.as_str.ensures.value ∙ ap (λ (w : EditorState). w.killed) c.self.view_is) in
+    let len = length-size c.yanked.result.now _ c.yanked.utf8 c.yanked.ensures.text in
     rw (c.in-Yank.is, len, c.room-in-Yank.ensures) refl

@@ -1,7 +1,7 @@
 use Rattle.std.proofs.Common.{◌∙◌, refl, sym, ap}
 use Rattle.std.proofs.lemmas.Str.{chars-nil}
 use Rattle.line_editor.specs.States.{EditorState}
-use Rattle.line_editor.proofs.Searching.{kept-other, kept-walked}
+use Rattle.line_editor.proofs.Searching.{kept-other, kept-walked, kept-yanked}
 use Rattle.line_editor.proofs.Showing.{shown-nothing}
 use Rattle.line_editor.proofs.editor.Editor.kept.Goals as goal
 
@@ -16,3 +16,9 @@ returns-in-Walked-clause-text g c = chars-nil ∙ kept-walked c.args.self.now (a
 
 pub returns-in-Walked-clause-shown : goal.returns-in-Walked-clause-shown
 returns-in-Walked-clause-shown g c = shown-nothing _ refl
+
+pub returns-in-Yanked-clause-text : goal.returns-in-Yanked-clause-text
+returns-in-Yanked-clause-text g c = chars-nil ∙ kept-yanked c.args.self.now (ap (λ (w : EditorState). w.last) (sym c.self.view_is) ∙ c.in-Yanked.is)
+
+pub returns-in-Yanked-clause-shown : goal.returns-in-Yanked-clause-shown
+returns-in-Yanked-clause-shown g c = shown-nothing _ refl

@@ -3,7 +3,7 @@ use Rattle.std.proofs.lemmas.List.{take-append-drop, take_all, take_more}
 use Rattle.line_editor.specs.declared.actions.Action.{Action}
 use Rattle.line_editor.specs.declared.actions.Action.TheVariants.{Insert}
 use Rattle.line_editor.specs.declared.fault.EditFault.{EditFault}
-use Rattle.line_editor.specs.Bounds.{AreAllowed, StopsAt, refusal_of, written}
+use Rattle.line_editor.specs.Bounds.{AreAllowed, StopsAt, refusal_of, more_by}
 use Rattle.line_editor.specs.States.{EditorState, after, run_actions}
 use Rattle.line_editor.proofs.Running.{allowed_end, err_as, run_end}
 use Rattle.line_editor.proofs.editor.Editor.run.Goals as goal
@@ -26,7 +26,7 @@ returns-in_err-act-clause-err g c =
       are = parts;
       allowed = c.loop-action.invariant.allowed;
       done = c.in_err-act.ensures.err ∙ c.loop-action.invariant.done;
-      why = c.in_err-act.ensures.fault ∙ ap (λ (x : EditorState). refusal_of (written a x) x) (sym c.in_err-act.ensures.err);
+      why = c.in_err-act.ensures.fault ∙ ap (λ (x : EditorState). refusal_of (more_by a x) x) (sym c.in_err-act.ensures.err);
     } in
     err_as c.from_residual.result P c.in_err-act.field-0.0 c.from_residual.ensures.1 stops
 

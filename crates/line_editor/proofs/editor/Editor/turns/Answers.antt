@@ -3,8 +3,9 @@ use Rattle.crossterm_types.specs.Seen.{Seen, seen_event}
 use Rattle.line_editor.specs.declared.fault.EditFault.{EditFault}
 use Rattle.line_editor.specs.declared.fault.EditFault.TheVariants.{TooLong}
 use Rattle.line_editor.specs.Bounds.{is_too_long}
+use Rattle.line_editor.specs.Kills.{texts}
 use Rattle.line_editor.specs.States.{EditorState}
-use Rattle.line_editor.specs.Turns.{AreTaken, StopsBefore, after_events, answer, event_text, lines_in, lines_of_events, task_of, texts, turned}
+use Rattle.line_editor.specs.Turns.{AreTaken, StopsBefore, after_events, answer, event_more, lines_in, lines_of_events, task_of, turned}
 use Rattle.line_editor.proofs.Running.{err_as}
 use Rattle.line_editor.proofs.Turning.{lines_end, made_end, seen_more, seen_parts, taken_end}
 use Rattle.line_editor.proofs.editor.Editor.turns.Goals as goal
@@ -21,7 +22,7 @@ returns-in_err-turn_into-clause-err g c =
     let P : EditFault → Type 0 = λ fault. StopsBefore fault (map seen_event events) w v before after in
     let same : v ≡ c.loop-event.self = c.in_err-turn_into.ensures.err in
     let fault = c.in_err-turn_into.field-0.0 in
-    let Q : EditorState → Type 0 = λ x. fault ≡ TooLong → is_too_long (event_text e x) x ≡ true in
+    let Q : EditorState → Type 0 = λ x. fault ≡ TooLong → is_too_long (event_more e x) x ≡ true in
     let stops : P fault = record {
       front = map seen_event (take i events);
       event = e;
@@ -44,7 +45,7 @@ loop-event-preserved g c =
     let more = seen_more seen_event events i c.event-item.result c.loop-event-test.true c.event-item.is in
     let made = c.loop-event.invariant.made in
     let P : List Seen → Type 0 = λ t. AreTaken t w in
-    let Q : EditorState → Type 0 = λ x. is_too_long (event_text e x) x ≡ false in
+    let Q : EditorState → Type 0 = λ x. is_too_long (event_more e x) x ≡ false in
     record {
       taken = subst P (sym more) (taken_end front e w c.loop-event.invariant.taken (subst Q made c.in_ok-turn_into.ensures.room));
       made = c.in_ok-turn_into.ensures.ok ∙ ap (turned e) made ∙ sym (made_end front e w) ∙ ap (λ t. after_events t w) (sym more);

@@ -1,6 +1,7 @@
 use Rattle.std.proofs.Common.{◌≡◌, ◌++◌, map, take}
 use Rattle.crossterm_types.specs.Seen.{seen_event}
-use Rattle.line_editor.specs.Turns.{AreTaken, after_events, lines_of_events, texts}
+use Rattle.line_editor.specs.Kills.{texts}
+use Rattle.line_editor.specs.Turns.{AreTaken, after_events, lines_of_events}
 use Rattle.line_editor.proofs.editor.Editor.turns.Given as goal
 
 abbrev pub invariant-loop-event : goal.invariant-loop-event

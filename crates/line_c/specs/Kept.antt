@@ -1,0 +1,40 @@
+-- What a handle keeps: an editor, with the row in which its line is shown.
+use Rattle.std.specs.Prelude.{ℕ, List, ◌++◌}
+use Rattle.line_editor.specs.States.{EditorState}
+use Rattle.line_editor.specs.Turns as turns
+use Rattle.line_editor.specs.Turns.{task_of, turned}
+use Rattle.crossterm_types.specs.Seen.{Seen}
+use Rattle.prompt.specs.Drawing.{leaving}
+use Rattle.prompt.specs.declared.drawing.Row.{Row}
+use Rattle.screen.specs.Strips.{without_row}
+
+-- What a handle keeps. Texts are in UTF-8, but for the accepted line, which is its characters.
+pub record Kept : Type 0 where
+  pub editor : EditorState
+  pub row : Row
+  pub prompt : List ℕ
+  -- The text that is shown behind the line while the cursor is at its end.
+  pub hint : List ℕ
+  -- The line that was accepted last.
+  pub accepted : List ℕ
+  -- What is still to be written to the terminal.
+  pub output : List ℕ
+
+-- The row if it isn't known what it shows.
+abbrev pub forgotten : Row → Row
+forgotten row = record row { strip = without_row row.strip }
+
+-- The row is left: the output goes on with what leaves it, and nothing is known of the next one.
+abbrev pub left : Kept → Kept
+left k = record k { row = forgotten k.row; output = k.output ++ leaving k.row.has_hint }
+
+-- What an outcome of the editor makes of the rest. Once the line has ended its row is left, and an accepted line is kept.
+abbrev pub ended : turns.Answer → Kept → Kept
+ended turns.Going k = k
+ended (turns.Line text) k = record (left k) { accepted = text }
+ended turns.Interrupted k = left k
+ended turns.Closed k = left k
+
+-- After an event: the editor takes it, and its outcome does the rest.
+abbrev pub after_event : Seen → Kept → Kept
+after_event e k = ended (turns.answer (task_of e k.editor) k.editor) (record k { editor = turned e k.editor })
