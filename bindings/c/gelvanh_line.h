@@ -29,7 +29,7 @@ struct gelvanh_line_limits {
 /* The limits that most programs want, and other fields too if some follow: struct gelvanh_line_limits limits = GELVANH_LINE_LIMITS; */
 #define GELVANH_LINE_LIMITS {65536, 1000, 1000}
 
-/* What came of a call. After the last three nothing has changed. */
+/* What came of a call. After the three that refuse something nothing has changed. Further answers may follow the last: the line goes on then. */
 enum gelvanh_line_answer {
     GELVANH_LINE_GOES_ON,     /* it is done, and the line goes on */
     GELVANH_LINE_ACCEPTED,    /* by Enter: gelvanh_line_accepted has its text, which is in the history if it isn't empty */

@@ -7,7 +7,7 @@ use std::{env, fs, io};
 const NAMES: [&str; 4] = ["add ", "forget", "help", "sum"];
 
 /// What a line asks for, or what is wrong with it.
-fn answer(line: &str, numbers: &mut Vec<f64>) -> Result<String, String> {
+fn answer(line: &str, numbers: &mut Vec<i32>) -> Result<String, String> {
     let mut words = line.split_whitespace();
     match words.next() {
         None => return Ok(String::new()),
@@ -21,7 +21,7 @@ fn answer(line: &str, numbers: &mut Vec<f64>) -> Result<String, String> {
         Some("sum") => {}
         Some(word) => return Err(format!("{word}: help lists what there is")),
     }
-    Ok(format!("{} numbers, {} in all", numbers.len(), numbers.iter().sum::<f64>()))
+    Ok(format!("{} numbers, {} in all", numbers.len(), numbers.iter().copied().map(i64::from).sum::<i64>()))
 }
 
 fn main() -> io::Result<()> {

@@ -51,7 +51,9 @@ impl From<u32> for Answer {
             3 => Answer::Closed,
             4 => Answer::TooLong,
             5 => Answer::NoMemory,
-            _ => Answer::Unknown,
+            6 => Answer::Unknown,
+            // One that may follow: the line goes on.
+            _ => Answer::GoesOn,
         }
     }
 }

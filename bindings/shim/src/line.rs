@@ -18,7 +18,7 @@ use std::io::{self, Write};
 use std::ops::{Deref, DerefMut};
 use std::time::Duration;
 
-pub use gelvanh::line::{Helper, Limits, LineError, Outcome, Words};
+pub use gelvanh::line::{Helper, Limits, LineError, Outcome, Terminal, Words};
 
 /// The terminal that `event::read` reads, and standard output.
 struct Tty;
@@ -33,7 +33,7 @@ impl Write for Tty {
     }
 }
 
-impl gelvanh::line::Terminal for Tty {
+impl Terminal for Tty {
     fn set_raw_mode(&mut self, is_on: bool) -> io::Result<bool> {
         let was_on = terminal::is_raw_mode_enabled()?;
         if is_on {
@@ -58,7 +58,7 @@ impl gelvanh::line::Terminal for Tty {
 }
 
 /// An editor of one line, which asks for it in the terminal. It has what `gelvanh::line::Editor` has: `text`, `history`, `load_history`, `turn` and
-/// `show` for who reads events by itself, and more.
+/// `show` for who reads events by itself, and more. That one's `readline` asks in any `Terminal`.
 pub struct Editor<H = ()> {
     editor: gelvanh::line::Editor<H>,
 }

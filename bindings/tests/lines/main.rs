@@ -152,6 +152,58 @@ fn key_of_edit(edit: &str) -> Key {
     }
 }
 
+/// The key of a word of a script.
+fn key_of_word(word: &str) -> Key {
+    let code = match word {
+        "SP" => KeyCode::Char(' '),
+        "BS" | "A-BS" => KeyCode::Backspace,
+        "Del" => KeyCode::Delete,
+        "Enter" => KeyCode::Enter,
+        "Home" => KeyCode::Home,
+        "End" => KeyCode::End,
+        "Left" => KeyCode::Left,
+        "Right" => KeyCode::Right,
+        "Up" => KeyCode::Up,
+        "Down" => KeyCode::Down,
+        "PgUp" => KeyCode::PageUp,
+        "PgDn" => KeyCode::PageDown,
+        _ => {
+            let letter = word.trim_start_matches("C-").trim_start_matches("A-");
+            assert_eq!(letter.chars().count(), 1, "no key: {word}");
+            KeyCode::Char(letter.chars().next().expect("a letter"))
+        }
+    };
+    let modifiers = match word.get(..2) {
+        Some("C-") => KeyModifiers::CONTROL,
+        Some("A-") => KeyModifiers::ALT,
+        _ => KeyModifiers::NONE,
+    };
+    (code, modifiers)
+}
+
+/// A script of keys, and the line that readline 8.2 has after it. All begin with these four lines in the history.
+#[test]
+fn scripts_of_readline() -> Result<(), LineError> {
+    let source = form::read("lines/readline.rt");
+    let (text, _) = form::literal(&source, '"').expect("a text of scripts");
+    let (mut wrong, mut count) = (Vec::new(), 0);
+    for row in text.lines() {
+        let (keys, after) = row.split_once(" = ").unwrap_or_else(|| panic!("no row: {row}"));
+        let mut editor = Editor::new(Limits::default())?;
+        editor.load_history("first line\nsecond line\nthird fine\nfirst again\n")?;
+        for word in keys.split(' ') {
+            type_key(&mut editor, &key_of_word(word))?;
+        }
+        count += 1;
+        if shown(&editor) != after {
+            wrong.push(format!("{keys} must give {after} and gave {}", shown(&editor)));
+        }
+    }
+    assert!(count > 0);
+    check("lines/readline.rt", "scripts of readline", count, count, &wrong);
+    Ok(())
+}
+
 #[test]
 fn edits_of_rustyline() {
     let (text, _) = form::literal(&form::read("lines/rustyline.rt"), '"').expect("a text of edits");

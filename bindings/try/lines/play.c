@@ -58,7 +58,7 @@ static const char *const prompts[] = {"> ", "", "\xe6\xbc\xa2> ", "a long prompt
 static const char *const histories[] = {"", "one\n", "hello world\nhe said\nhe said\n\nlast", "a very long line that has no room in the limit of sixty bytes, so it is left out\nshort\n"};
 static const uint32_t letters[] = {'a', 'b', 'h', 'e', ' ', ' ', '-', 'Z', 0xE9, 0x6F22, 0x301, 0x1F469, 0x200D, 0x1F1E6, 0x11A8, 7};
 static const char controls[] = "aabbccdeefhhjkklmnnppqrrttuuwwyy__77";
-static const char alts[] = "bbddffqz";
+static const char alts[] = "bbddffyyyqz";
 
 static void print_hex(const char *kind, const char *text) {
     printf("%s", kind);
@@ -88,7 +88,7 @@ static void print_key(void) {
         printf("k%u,%u,%u,%u", draw(14), 0u, draw(4) == 0 ? draw(64) : 0, press);
         break;
     default: /* those that are most of a line's */
-        printf("k%u,0,%u,%u", (unsigned)"\0\0\2\2\2\3\4\4\5\6\7\12\12\14"[draw(14)], 2 * (draw(6) == 0), press);
+        printf("k%u,0,%u,%u", (unsigned)"\0\0\2\2\2\3\4\4\5\6\7\10\10\11\12\12\14"[draw(17)], 2 * (draw(6) == 0), press);
     }
 }
 

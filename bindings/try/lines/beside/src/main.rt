@@ -10,12 +10,6 @@ use std::io::{self, ErrorKind, Read, Write};
 
 const NAMES: [&str; 3] = ["help", "history", "hi there"];
 
-const LIMITS: Limits = Limits {
-    bytes: 60,
-    lines: 4,
-    steps: 20,
-};
-
 /// An editor with its row, and how many bytes were written, with their FNV-1a.
 #[derive(Drop)]
 struct Player {
@@ -26,6 +20,15 @@ struct Player {
     is_shown: bool,
     written: u64,
     hash: u64,
+}
+
+fn limits() -> Limits {
+    Limits {
+        bytes: 60,
+        lines: 4,
+        steps: 20,
+        ..Limits::default()
+    }
 }
 
 fn wrong() -> io::Error {
@@ -104,7 +107,7 @@ impl Player {
     fn new(alloc: Global) -> io::Result<Player> {
         Ok(Player {
             alloc,
-            editor: Editor::new(alloc, LIMITS)?,
+            editor: Editor::new(alloc, limits())?,
             row: Row::new(alloc, 80)?,
             prompt: String::new(alloc),
             is_shown: false,
@@ -175,7 +178,7 @@ impl Player {
             }
         }
         let answer = match self.editor.turn(event) {
-            Ok(Outcome::Going) => 0,
+            Ok(Outcome::Going | Outcome::Clear) => 0,
             Ok(Outcome::Line(text)) => {
                 self.leave(1);
                 write!(out, "1[")?;
