@@ -90,7 +90,7 @@ static void ends(void) {
 }
 
 static void refused(void) {
-    static const struct gelvanh_line_limits short_one = {3, 2, 2};
+    static const struct gelvanh_line_limits short_one = {3, 2, 2, 60, 0, 0};
     struct gelvanh_event none[9];
     struct gelvanh_line line = made(), small;
     size_t at;
