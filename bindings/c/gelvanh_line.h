@@ -24,15 +24,18 @@ struct gelvanh_line_limits {
     size_t bytes; /* of a line in UTF-8: a longer one is refused */
     size_t lines; /* of the history: the oldest is forgotten for a further one */
     size_t steps; /* that can be undone: the oldest is forgotten for a further one */
+    size_t kills; /* that can be yanked: the oldest is forgotten for a further one */
+    gelvanh_bool ignore_dups;  /* whether a line that equals the newest of the history isn't kept once more */
+    gelvanh_bool ignore_space; /* whether a line that begins with a blank isn't kept */
 };
 
 /* The limits that most programs want, and other fields too if some follow: struct gelvanh_line_limits limits = GELVANH_LINE_LIMITS; */
-#define GELVANH_LINE_LIMITS {65536, 1000, 1000}
+#define GELVANH_LINE_LIMITS {65536, 1000, 1000, 60, 0, 0}
 
 /* What came of a call. After the three that refuse something nothing has changed. Further answers may follow the last: the line goes on then. */
 enum gelvanh_line_answer {
     GELVANH_LINE_GOES_ON,     /* it is done, and the line goes on */
-    GELVANH_LINE_ACCEPTED,    /* by Enter: gelvanh_line_accepted has its text, which is in the history if it isn't empty */
+    GELVANH_LINE_ACCEPTED,    /* by Enter: gelvanh_line_accepted has its text, which is in the history if the limits allow it */
     GELVANH_LINE_INTERRUPTED, /* by Ctrl-C: the line is empty again */
     GELVANH_LINE_CLOSED,      /* by Ctrl-D in an empty line */
     GELVANH_LINE_TOO_LONG,    /* the text has no room in the line */
@@ -70,7 +73,8 @@ uint32_t gelvanh_line_paste(struct gelvanh_line *line, const uint8_t *text, size
  * GELVANH_LINE_GOES_ON, GELVANH_LINE_NO_MEMORY, or GELVANH_LINE_UNKNOWN if it isn't UTF-8. */
 uint32_t gelvanh_line_hint(struct gelvanh_line *line, const uint8_t *hint, size_t length);
 
-/* Lets what changed in the row join the output. GELVANH_LINE_GOES_ON, or GELVANH_LINE_NO_MEMORY: then the next call draws all of the row. */
+/* Lets what changed in the row join the output; after Ctrl-L the window is cleared, and the row is at its top.
+ * GELVANH_LINE_GOES_ON, or GELVANH_LINE_NO_MEMORY: then the next call draws all of the row. */
 uint32_t gelvanh_line_show(struct gelvanh_line *line);
 
 /* Moves output into a slice, and returns how many bytes; 0 if none are left. It may be less than `room` and than what is left: call it again. */
@@ -96,9 +100,12 @@ uint32_t gelvanh_line_load_history(struct gelvanh_line *line, const uint8_t *tex
 /* Sizes and places are checked as in gelvanh.h. */
 #define GELVANH_CHECK(name, test) typedef char gelvanh_line_check_##name[(test) ? 1 : -1]
 GELVANH_CHECK(line, sizeof(struct gelvanh_line) == sizeof(void *));
-GELVANH_CHECK(limits, sizeof(struct gelvanh_line_limits) == 24);
+GELVANH_CHECK(limits, sizeof(struct gelvanh_line_limits) == 40);
 GELVANH_CHECK(limits_lines, offsetof(struct gelvanh_line_limits, lines) == 8);
 GELVANH_CHECK(limits_steps, offsetof(struct gelvanh_line_limits, steps) == 16);
+GELVANH_CHECK(limits_kills, offsetof(struct gelvanh_line_limits, kills) == 24);
+GELVANH_CHECK(limits_ignore_dups, offsetof(struct gelvanh_line_limits, ignore_dups) == 32);
+GELVANH_CHECK(limits_ignore_space, offsetof(struct gelvanh_line_limits, ignore_space) == 33);
 GELVANH_CHECK(answers, GELVANH_LINE_UNKNOWN == 6);
 #undef GELVANH_CHECK
 

@@ -21,12 +21,18 @@ pub struct Limits {
     pub lines: usize,
     /// The changes that can be undone. The oldest one is forgotten for a further one.
     pub steps: usize,
+    /// The texts of kills that can be yanked. The oldest one is forgotten for a further one.
+    pub kills: usize,
+    /// Whether an accepted line that equals the newest one isn't kept once more, as by `ignoredups` of bash's `HISTCONTROL`.
+    pub ignore_dups: bool,
+    /// Whether an accepted line that begins with a blank isn't kept, as by `ignorespace`.
+    pub ignore_space: bool,
 }
 
 impl Default for Limits {
-    /// 65,536 bytes, 1,000 lines and 1,000 steps.
+    /// 65,536 bytes, 1,000 lines, 1,000 steps and 60 kills. Each accepted line is kept but an empty one.
     fn default() -> Limits {
-        Limits { bytes: 65_536, lines: 1_000, steps: 1_000 }
+        Limits { bytes: 65_536, lines: 1_000, steps: 1_000, kills: 60, ignore_dups: false, ignore_space: false }
     }
 }
 
@@ -64,7 +70,7 @@ struct At(*mut u8);
 
 const _: () = {
     assert!(size_of::<At>() == size_of::<usize>());
-    assert!(size_of::<Limits>() == 24);
+    assert!(size_of::<Limits>() == 40);
 };
 
 extern "C" {

@@ -196,7 +196,7 @@ static uint32_t act(struct player *player, const char *word) {
     }
 }
 
-static const struct gelvanh_line_limits limits = {60, 4, 20};
+static const struct gelvanh_line_limits limits = {60, 4, 20, 3, true, false};
 
 static struct player begun(void) {
     struct player player = {{NULL}, false, 0, 14695981039346656037u};

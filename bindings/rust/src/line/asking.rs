@@ -2,7 +2,7 @@
 
 use super::{Editor, Helper, LineError, Outcome};
 use crate::event::Event;
-use crate::key::{KeyCode, KeyEventKind, KeyModifiers};
+use crate::key::{KeyCode, KeyModifiers};
 use crate::writing::write_command;
 use crate::{ClearType, Command};
 use std::io::{self, Write};
@@ -116,15 +116,6 @@ fn set_pastes<T: Terminal + ?Sized>(terminal: &mut T, is_on: bool) -> io::Result
     terminal.flush()
 }
 
-/// Whether an event is the key Ctrl-L, which clears the window.
-fn is_clear(event: &Event) -> bool {
-    event.as_key_event().map_or(false, |key| {
-        key.kind != KeyEventKind::Release
-            && matches!(key.code, KeyCode::Char('l' | 'L'))
-            && key.modifiers.difference(KeyModifiers::SHIFT) == KeyModifiers::CONTROL
-    })
-}
-
 /// Whether a key may end the line, which is shown whole before that.
 fn may_end(event: &Event) -> bool {
     event.as_key_event().map_or(false, |key| key.code == KeyCode::Enter || key.modifiers.contains(KeyModifiers::CONTROL))
@@ -171,11 +162,6 @@ impl<H: Helper> Editor<H> {
         if let Event::Resize(columns, _) = *event {
             write_command(terminal, &Command::MoveToColumn(0), true)?;
             write_command(terminal, &Command::Clear(ClearType::FromCursorDown), true)?;
-            self.begin(prompt, columns)?;
-        } else if is_clear(event) {
-            write_command(terminal, &Command::Clear(ClearType::All), true)?;
-            write_command(terminal, &Command::MoveTo(0, 0), true)?;
-            let columns = terminal.columns()?;
             self.begin(prompt, columns)?;
         } else if may_end(event) {
             self.show(terminal)?;

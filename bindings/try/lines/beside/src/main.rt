@@ -18,16 +18,23 @@ struct Player {
     row: Row,
     prompt: String,
     is_shown: bool,
+    // Whether the next frame clears the window.
+    clears: bool,
     written: u64,
     hash: u64,
 }
+
+/// What erases the window and brings the cursor to its top.
+const CLEARING: &str = "\x1b[2J\x1b[1;1H";
 
 fn limits() -> Limits {
     Limits {
         bytes: 60,
         lines: 4,
         steps: 20,
-        ..Limits::default()
+        kills: 3,
+        ignore_dups: true,
+        ignore_space: false,
     }
 }
 
@@ -111,6 +118,7 @@ impl Player {
             row: Row::new(alloc, 80)?,
             prompt: String::new(alloc),
             is_shown: false,
+            clears: false,
             written: 0,
             hash: 14_695_981_039_346_656_037,
         })
@@ -138,6 +146,10 @@ impl Player {
         }
         let words = Words::new(&NAMES);
         let mut frame = Vec::new(self.alloc);
+        if self.clears {
+            frame.extend_from_slice(CLEARING.as_bytes())?;
+            self.clears = false;
+        }
         let line = self.editor.line();
         self.row.draw(
             &mut frame,
@@ -178,7 +190,12 @@ impl Player {
             }
         }
         let answer = match self.editor.turn(event) {
-            Ok(Outcome::Going | Outcome::Clear) => 0,
+            Ok(Outcome::Going) => 0,
+            Ok(Outcome::Clear) => {
+                self.row.forget();
+                self.clears = true;
+                0
+            }
             Ok(Outcome::Line(text)) => {
                 self.leave(1);
                 write!(out, "1[")?;
