@@ -269,8 +269,8 @@ impl<H: Helper> Editor<H> {
         }
     }
 
-    /// Writes what makes the row show the line as it is, with the helper's hint behind it; after Ctrl-L at the top of an empty window. After a line has ended that is the next one: `flush`
-    /// only leaves the row.
+    /// Writes what makes the row show the line as it is, with the helper's hint behind it; after Ctrl-L at the top of an empty window. After a
+    /// line has ended that is the next one: `flush` only leaves the row.
     ///
     /// # Errors
     ///

@@ -44,7 +44,8 @@ static int has(struct gelvanh_line *line, const char *text, size_t before) {
     memcpy(kept, slice, sizeof slice);
     if (length > 0 && (gelvanh_line_text(line, slice, length - 1) != length || memcmp(slice, kept, sizeof slice)))
         return 0;
-    return gelvanh_line_text(line, slice, length) == length && !memcmp(slice, text, length) && slice[length] == '#' && gelvanh_line_cursor(line) == before;
+    return gelvanh_line_text(line, slice, length) == length && !memcmp(slice, text, length) && slice[length] == '#' &&
+           gelvanh_line_cursor(line) == before;
 }
 
 /* Whether all that is left of the output is this. */
@@ -126,7 +127,9 @@ static void refused(void) {
 
 /* Events that aren't a line's do nothing. */
 static void passed_over(void) {
-    static const unsigned kinds[] = {GELVANH_FOCUS_GAINED, GELVANH_FOCUS_LOST, GELVANH_MOUSE, GELVANH_CURSOR, GELVANH_FLAGS, GELVANH_ATTRIBUTES, GELVANH_RESIZE};
+    static const unsigned kinds[] = {
+        GELVANH_FOCUS_GAINED, GELVANH_FOCUS_LOST, GELVANH_MOUSE, GELVANH_CURSOR, GELVANH_FLAGS, GELVANH_ATTRIBUTES, GELVANH_RESIZE,
+    };
     struct gelvanh_line line = made();
     struct gelvanh_event event;
     size_t at;
@@ -166,7 +169,8 @@ static void frames(void) {
     CHECK(gelvanh_line_begin(&line, bytes("> "), 2, 80) == GELVANH_LINE_GOES_ON && gelvanh_line_show(&line) == GELVANH_LINE_GOES_ON);
     slice[length < sizeof slice ? length : 0] = 0;
     CHECK(length > 10 && writes(&line, (const char *)slice));
-    CHECK(gelvanh_line_begin(&line, bytes("> "), 2, 1) == GELVANH_LINE_GOES_ON && gelvanh_line_show(&line) == GELVANH_LINE_GOES_ON && writes(&line, ""));
+    CHECK(gelvanh_line_begin(&line, bytes("> "), 2, 1) == GELVANH_LINE_GOES_ON);
+    CHECK(gelvanh_line_show(&line) == GELVANH_LINE_GOES_ON && writes(&line, ""));
     gelvanh_line_free(other);
     gelvanh_line_free(line);
 }
