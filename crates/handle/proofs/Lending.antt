@@ -92,7 +92,7 @@ module _ (N : Kind) where
   is_word : (h : N.D) (us : List Val) {b o : ℕ} → N.at h ≡ block_ptr b o → denote.Laws.Is R h us → us ≡ vstruct (vcons (vptr b o) vnil) ∷ []
   is_word h us e is = owning_laws.Tells-lowered the_type (RawPtr-laws, tt) h us is ∙ ap (λ (p : Ptr). vstruct (vcons (ptr_val p) vnil) ∷ []) e
 
-  -- `unsafe { &mut *(self.at as *mut T) }`, where the code names the two types so behind a `&mut`
+  -- `unsafe { &mut *(self.at as *mut T) }`, with the two types as the code names them behind a `&mut`
   abbrev pub open_code : Ty → Ty → Fn
   open_code k h = record {
     lifetimes = 1;

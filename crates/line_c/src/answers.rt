@@ -1,6 +1,6 @@
 //! What the calls return.
 ghost use Rattle.std.specs.Prelude.{◌≡◌};
-ghost use Rattle.line_c.specs.Answers.{fault_answer, number};
+ghost use Rattle.line_c.specs.Answers.{answer_number, fault_answer};
 
 use line_editor::EditFault;
 
@@ -26,7 +26,7 @@ pub enum Answer {
 impl Answer {
     /// Its number, as C has it.
     pub(crate) fn number(self) -> u32
-        ensures { result ≡ number self }
+        ensures { result ≡ answer_number self }
     {
         match self {
             Answer::GoesOn => 0,

@@ -4,8 +4,8 @@ ghost use Rattle.crossterm_types.specs.Seen.{Paste};
 ghost use Rattle.line_editor.specs.Bounds.{size};
 ghost use Rattle.line_editor.specs.Splits.{line_text};
 ghost use Rattle.numbers.specs.Event.{event_known};
-ghost use Rattle.line_c.specs.Begun.{IsBegun, limits_of};
-ghost use Rattle.line_c.specs.Answers.{Answers, Begins, Copies, CopiesHistory, LeadsTo, Moves, Shows, Takes, WithText, with_hint, with_history};
+ghost use Rattle.line_c.specs.Begun.{OpensLine, limits_of};
+ghost use Rattle.line_c.specs.Answers.{ReturnsAnswer, BeginsRow, Copies, CopiesHistory, MakesOf, Moves, ShowsLine, TakesInput, WithText, with_hint, with_history};
 
 use crate::answers::Answer;
 use crate::keeping::{LineHandle, LineSlot};
@@ -21,10 +21,16 @@ use std::alloc::Global;
 pub struct LineLimits {
     /// The bytes of a line in UTF-8. A longer one is refused.
     pub bytes: usize,
-    /// The accepted lines in the history. The oldest one is forgotten for a further one.
+    /// The accepted lines in the history. The oldest one is unknown_row for a further one.
     pub lines: usize,
-    /// The changes that can be undone. The oldest one is forgotten for a further one.
+    /// The changes that can be undone. The oldest one is unknown_row for a further one.
     pub steps: usize,
+    /// The texts of kills that can be yanked. The oldest one is unknown_row for a further one.
+    pub kills: usize,
+    /// Whether an accepted line that equals the newest one isn't kept once more.
+    pub ignore_dups: bool,
+    /// Whether an accepted line that begins with a blank isn't kept.
+    pub ignore_space: bool,
 }
 
 impl LineLimits {
@@ -36,14 +42,17 @@ impl LineLimits {
             bytes: self.bytes,
             lines: self.lines,
             steps: self.steps,
+            kills: self.kills,
+            ignore_dups: self.ignore_dups,
+            ignore_space: self.ignore_space,
         }
     }
 }
 
-/// Begins an editor, whose pointer is written, and returns 0. Or memory was refused: then nothing is written, and it returns 5.
+/// BeginsRow an editor, whose pointer is written, and returns 0. Or memory was refused: then nothing is written, and it returns 5.
 #[unsafe(no_mangle)]
 pub extern "C" fn gelvanh_line_new(alloc: Global, line: &mut LineSlot, limits: &LineLimits) -> u32
-    ensures { IsBegun limits.now result line.old line.new }
+    ensures { OpensLine limits.now result line.old line.new }
 {
     match made(alloc, limits.limits()) {
         Some(kept) => {
@@ -60,18 +69,18 @@ pub extern "C" fn gelvanh_line_free(alloc: Global, line: LineHandle) {
     let _kept = line.parts(alloc).into_box();
 }
 
-/// Begins a row with a prompt in UTF-8, in a window of so many columns, of which nothing is known. 0 columns count as 80.
+/// BeginsRow a row with a prompt in UTF-8, in a window of so many columns, of which nothing is known. 0 columns count as 80.
 #[unsafe(no_mangle)]
 pub extern "C" fn gelvanh_line_begin(line: &mut LineHandle, prompt: &[u8], columns: u16) -> u32
-    ensures { Answers result (WithText prompt.now (Begins prompt.now columns)) line.old.value line.new.value }
+    ensures { ReturnsAnswer result (WithText prompt.now (BeginsRow prompt.now columns)) line.old.value line.new.value }
 {
     line.open().begin(prompt, columns).number()
 }
 
-/// Takes an event by its numbers. A reply, the mouse and a resize do nothing, and a paste's end is unknown: its text is pasted by itself.
+/// TakesInput an event by its numbers. A reply, the mouse and a resize do nothing, and a paste's end is unknown: its text is pasted by itself.
 #[unsafe(no_mangle)]
 pub extern "C" fn gelvanh_line_event(line: &mut LineHandle, event: &GelvanhEvent) -> u32
-    ensures { Answers result (Takes (event_known event.now)) line.old.value line.new.value }
+    ensures { ReturnsAnswer result (TakesInput (event_known event.now)) line.old.value line.new.value }
 {
     line.open().take(event).number()
 }
@@ -79,23 +88,24 @@ pub extern "C" fn gelvanh_line_event(line: &mut LineHandle, event: &GelvanhEvent
 /// Pastes a text in UTF-8.
 #[unsafe(no_mangle)]
 pub extern "C" fn gelvanh_line_paste(line: &mut LineHandle, text: &[u8]) -> u32
-    ensures { Answers result (WithText text.now (Takes (Some (Paste text.now)))) line.old.value line.new.value }
+    ensures { ReturnsAnswer result (WithText text.now (TakesInput (Some (Paste text.now)))) line.old.value line.new.value }
 {
     line.open().paste(text).number()
 }
 
-/// Takes the text, in UTF-8, that is shown behind the line while the cursor is at its end.
+/// TakesInput the text, in UTF-8, that is shown behind the line while the cursor is at its end.
 #[unsafe(no_mangle)]
 pub extern "C" fn gelvanh_line_hint(line: &mut LineHandle, hint: &[u8]) -> u32
-    ensures { Answers result (WithText hint.now (LeadsTo (with_hint hint.now line.old.value))) line.old.value line.new.value }
+    ensures { ReturnsAnswer result (WithText hint.now (MakesOf (with_hint hint.now line.old.value))) line.old.value line.new.value }
 {
     line.open().take_hint(hint).number()
 }
 
-/// Shows the line: what changed in its row joins what is to be written.
+/// ShowsLine the line: what changed in its row joins what is to be written. After Ctrl-L the window is cleared before, and the line is drawn at its
+/// top.
 #[unsafe(no_mangle)]
 pub extern "C" fn gelvanh_line_show(line: &mut LineHandle) -> u32
-    ensures { Answers result Shows line.old.value line.new.value }
+    ensures { ReturnsAnswer result ShowsLine line.old.value line.new.value }
 {
     line.open().show().number()
 }
@@ -143,15 +153,15 @@ pub extern "C" fn gelvanh_line_history(
     slice: &mut [u8],
     length: &mut usize,
 ) -> u32
-    ensures { Answers result (λ a k l. CopiesHistory k.editor a length.old length.new slice.old slice.new × (l ≡ k)) line.old.value line.new.value }
+    ensures { ReturnsAnswer result (λ a k l. CopiesHistory k.editor a length.old length.new slice.old slice.new × (l ≡ k)) line.old.value line.new.value }
 {
     line.open().history(slice, length).number()
 }
 
-/// Takes the history from a text in UTF-8.
+/// TakesInput the history from a text in UTF-8.
 #[unsafe(no_mangle)]
 pub extern "C" fn gelvanh_line_load_history(line: &mut LineHandle, text: &[u8]) -> u32
-    ensures { Answers result (WithText text.now (LeadsTo (with_history text.now line.old.value))) line.old.value line.new.value }
+    ensures { ReturnsAnswer result (WithText text.now (MakesOf (with_history text.now line.old.value))) line.old.value line.new.value }
 {
     line.open().load(text).number()
 }

@@ -1,7 +1,7 @@
 //! What C keeps: a pointer to a box.
 ghost use Rattle.std.specs.Prelude.{◌≡◌, Option, Some};
 ghost use Rattle.std.specs.Borrow.{sem};
-ghost use Rattle.line_c.specs.Kept.{Kept};
+ghost use Rattle.line_c.specs.Kept.{LineState};
 
 use crate::lines::Lines;
 use handle::Parts;
@@ -12,7 +12,7 @@ use std::marker::Model;
 #[repr(C)]
 pub struct LineHandle {
     at: *mut u8,
-    pub ghost value: { Kept },
+    pub ghost value: { LineState },
 }
 
 impl Model for LineHandle {
@@ -51,7 +51,7 @@ impl LineHandle {
 #[derive(Drop)]
 pub struct LineSlot {
     at: *mut u8,
-    pub ghost value: { Option Kept },
+    pub ghost value: { Option LineState },
 }
 
 impl Model for LineSlot {
@@ -67,8 +67,6 @@ impl LineSlot {
         ensures { result.value ≡ Some parts.value }
     {
         let Parts { at, alloc: _ } = parts;
-        LineSlot {
-            at: at as *mut u8,
-        }
+        LineSlot { at: at as *mut u8 }
     }
 }

@@ -1,14 +1,14 @@
 //! An editor with the row in which its line is shown.
-ghost use Rattle.std.specs.Prelude.{◌≡◌, false, IfOk, IfSome, OnErr, OnOk, Some, reverse};
+ghost use Rattle.std.specs.Prelude.{◌≡◌, false, IfOk, IfSome, OnErr, OnOk, Some, reverse, vec_items};
 ghost use Rattle.std.specs.Str.{chars};
 ghost use Rattle.crossterm_types.specs.Seen.{Paste, seen_event};
 ghost use Rattle.line_editor.specs.Bounds.{size};
 ghost use Rattle.line_editor.specs.Splits.{line_text};
 ghost use Rattle.numbers.specs.Event.{event_known};
 ghost use Rattle.line_c.specs.declared.answers.Answer.TheVariants.{GoesOn, NoMemory};
-ghost use Rattle.line_c.specs.Kept.{forgotten};
+ghost use Rattle.line_c.specs.Kept.{unknown_row};
 ghost use Rattle.prompt.specs.Prompts.{has_control};
-ghost use Rattle.line_c.specs.Answers.{Begins, Copies, CopiesHistory, IsFresh, LeadsTo, Moves, Shows, Takes, WithText, counted, with_hint, with_history};
+ghost use Rattle.line_c.specs.Answers.{BeginsRow, Copies, CopiesHistory, IsFresh, MakesOf, Moves, ShowsLine, TakesInput, WithText, before_frame, counted, with_hint, with_history};
 
 use crate::answers::{Answer, answer_to};
 use crossterm_types::event::{Event, InternalEvent};
@@ -31,6 +31,8 @@ pub struct Lines {
     hint: String,
     // The text of the line that was accepted last.
     accepted: String,
+    // Whether the next frame clears the window.
+    clears: bool,
     output: VecDeque<u8>,
     // The bytes of a frame, which are joined to the output once all of it is there.
     frame: Vec<u8>,
@@ -39,9 +41,9 @@ pub struct Lines {
 impl Model for Lines {
     ghost use Rattle.std.specs.String.{string_bytes};
     ghost use Rattle.std.specs.Str.{chars};
-    ghost use Rattle.line_c.specs.Kept.{Kept};
+    ghost use Rattle.line_c.specs.Kept.{LineState};
 
-    ghost Value = { Kept };
+    ghost Value = { LineState };
 
     ghost view = { λ l. record {
       editor = l.editor;
@@ -49,6 +51,7 @@ impl Model for Lines {
       prompt = string_bytes l.prompt;
       hint = string_bytes l.hint;
       accepted = chars (string_bytes l.accepted);
+      clears = l.clears;
       output = l.output.items;
     } };
 }
@@ -71,6 +74,17 @@ fn copy_text(text: &str, slice: &mut [u8]) -> usize
     count
 }
 
+/// BeginsRow the bytes of a frame: with what clears the window, if it does that.
+fn begin_frame(frame: &mut Vec<u8>, clears: bool) -> Result<(), AllocError>
+    ensures { OnOk result (vec_items frame.new ≡ before_frame clears) }
+{
+    frame.clear();
+    if clears {
+        frame.extend_from_slice(Row::clearing().as_bytes())?;
+    }
+    Ok(())
+}
+
 /// An editor in a row of 80 columns, with nothing written.
 fn started(alloc: Global, limits: Limits) -> Result<Lines, EditFault>
     ensures { IfOk result (λ lines. IsFresh limits lines) }
@@ -87,6 +101,7 @@ fn started(alloc: Global, limits: Limits) -> Result<Lines, EditFault>
         prompt: String::new(alloc),
         hint: String::new(alloc),
         accepted: String::new(alloc),
+        clears: false,
         output: VecDeque::new(alloc),
         frame: Vec::new(alloc),
     })
@@ -106,10 +121,10 @@ pub(crate) fn made(alloc: Global, limits: Limits) -> Option<Box<Lines>>
 }
 
 impl Lines {
-    /// Takes a prompt, and a row of a window of so many columns, of which nothing is known.
+    /// TakesInput a prompt, and a row of a window of so many columns, of which nothing is known.
     fn take_prompt(&mut self, prompt: &str, columns: u16) -> Result<(), AllocError>
         requires { has_control (chars prompt.now) ≡ false }
-        ensures ok { OnOk result (Begins prompt.now columns GoesOn self.old self.new) }
+        ensures ok { OnOk result (BeginsRow prompt.now columns GoesOn self.old self.new) }
         ensures err { OnErr result (self.new ≡ self.old) }
     {
         let prompt = String::from_str(self.alloc, prompt)?;
@@ -118,9 +133,9 @@ impl Lines {
         Ok(())
     }
 
-    /// Begins a row with a prompt, in a window of so many columns.
+    /// BeginsRow a row with a prompt, in a window of so many columns.
     fn begin_with(&mut self, prompt: &str, columns: u16) -> Answer
-        ensures { Begins prompt.now columns result self.old self.new }
+        ensures { BeginsRow prompt.now columns result self.old self.new }
     {
         if !prompt::is_shown(prompt) {
             return Answer::Unknown;
@@ -133,7 +148,7 @@ impl Lines {
 
     /// The same with a prompt of bytes.
     pub(crate) fn begin(&mut self, prompt: &[u8], columns: u16) -> Answer
-        ensures { WithText prompt.now (Begins prompt.now columns) result self.old self.new }
+        ensures { WithText prompt.now (BeginsRow prompt.now columns) result self.old self.new }
     {
         match str::from_utf8(prompt) {
             Ok(text) => self.begin_with(text, columns),
@@ -141,9 +156,9 @@ impl Lines {
         }
     }
 
-    /// Takes the text that is shown behind the line.
+    /// TakesInput the text that is shown behind the line.
     fn show_behind(&mut self, hint: &str) -> Answer
-        ensures { LeadsTo (with_hint hint.now self.old) result self.old self.new }
+        ensures { MakesOf (with_hint hint.now self.old) result self.old self.new }
     {
         match String::from_str(self.alloc, hint) {
             Ok(hint) => {
@@ -156,7 +171,7 @@ impl Lines {
 
     /// The same with a text of bytes.
     pub(crate) fn take_hint(&mut self, hint: &[u8]) -> Answer
-        ensures { WithText hint.now (LeadsTo (with_hint hint.now self.old)) result self.old self.new }
+        ensures { WithText hint.now (MakesOf (with_hint hint.now self.old)) result self.old self.new }
     {
         match str::from_utf8(hint) {
             Ok(text) => self.show_behind(text),
@@ -166,7 +181,7 @@ impl Lines {
 
     /// Does what an event asks for. The row is left once the line has ended.
     fn turn(&mut self, event: &Event) -> Answer
-        ensures { Takes (Some (seen_event event.now)) result self.old self.new }
+        ensures { TakesInput (Some (seen_event event.now)) result self.old self.new }
     {
         let before = self.output.len();
         if self.output.write(self.row.leaving().as_bytes()).is_err() {
@@ -183,6 +198,12 @@ impl Lines {
                 self.output.truncate(before);
                 return Answer::GoesOn;
             }
+            Ok(Outcome::Clear) => {
+                self.output.truncate(before);
+                self.row.forget();
+                self.clears = true;
+                return Answer::GoesOn;
+            }
             Err(fault) => {
                 self.output.truncate(before);
                 return answer_to(fault);
@@ -192,9 +213,9 @@ impl Lines {
         answer
     }
 
-    /// Takes an event by its numbers.
+    /// TakesInput an event by its numbers.
     pub(crate) fn take(&mut self, event: &GelvanhEvent) -> Answer
-        ensures { Takes (event_known event.now) result self.old self.new }
+        ensures { TakesInput (event_known event.now) result self.old self.new }
     {
         match event_of::<Global>(event) {
             None => Answer::Unknown,
@@ -205,7 +226,7 @@ impl Lines {
 
     /// Pastes a text.
     fn paste_text(&mut self, text: &str) -> Answer
-        ensures { Takes (Some (Paste text.now)) result self.old self.new }
+        ensures { TakesInput (Some (Paste text.now)) result self.old self.new }
     {
         match self.editor.paste(text) {
             Ok(()) => Answer::GoesOn,
@@ -215,7 +236,7 @@ impl Lines {
 
     /// The same with a text of bytes.
     pub(crate) fn paste(&mut self, text: &[u8]) -> Answer
-        ensures { WithText text.now (Takes (Some (Paste text.now))) result self.old self.new }
+        ensures { WithText text.now (TakesInput (Some (Paste text.now))) result self.old self.new }
     {
         match str::from_utf8(text) {
             Ok(text) => self.paste_text(text),
@@ -226,24 +247,31 @@ impl Lines {
     /// Nothing is known of the row any more, since memory was refused for a frame.
     fn give_up(&mut self) -> Answer
         ensures answer { result ≡ NoMemory }
-        ensures row { self.new ≡ record self.old { row = forgotten self.old.row } }
+        ensures row { self.new ≡ record self.old { row = unknown_row self.old.row } }
     {
         self.row.forget();
         Answer::NoMemory
     }
 
-    /// Shows the line: what changed in its row joins the output.
+    /// ShowsLine the line: what changed in its row joins the output.
     pub(crate) fn show(&mut self) -> Answer
-        ensures { Shows result self.old self.new }
+        ensures { ShowsLine result self.old self.new }
     {
-        self.frame.clear();
+        if begin_frame(&mut self.frame, self.clears).is_err() {
+            return self.give_up();
+        }
         let line = self.editor.line();
-        match self
-            .row
-            .draw(&mut self.frame, self.prompt.as_str(), line, self.hint.as_str())
-        {
+        match self.row.draw(
+            &mut self.frame,
+            self.prompt.as_str(),
+            line,
+            self.hint.as_str(),
+        ) {
             Ok(()) => match self.output.write(&self.frame) {
-                Ok(_) => Answer::GoesOn,
+                Ok(_) => {
+                    self.clears = false;
+                    Answer::GoesOn
+                }
                 Err(_) => self.give_up(),
             },
             Err(_) => self.give_up(),
@@ -294,9 +322,9 @@ impl Lines {
         }
     }
 
-    /// Takes the history from a text.
+    /// TakesInput the history from a text.
     fn load_text(&mut self, text: &str) -> Answer
-        ensures { LeadsTo (with_history text.now self.old) result self.old self.new }
+        ensures { MakesOf (with_history text.now self.old) result self.old self.new }
     {
         match self.editor.load_history(text) {
             Ok(()) => Answer::GoesOn,
@@ -306,7 +334,7 @@ impl Lines {
 
     /// The same with a text of bytes.
     pub(crate) fn load(&mut self, text: &[u8]) -> Answer
-        ensures { WithText text.now (LeadsTo (with_history text.now self.old)) result self.old self.new }
+        ensures { WithText text.now (MakesOf (with_history text.now self.old)) result self.old self.new }
     {
         match str::from_utf8(text) {
             Ok(text) => self.load_text(text),

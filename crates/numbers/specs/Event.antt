@@ -35,8 +35,8 @@ modifier_list =
     modifier.RightShift ∷ modifier.RightControl ∷ modifier.RightAlt ∷ modifier.RightSuper ∷ modifier.RightHyper ∷ modifier.RightMeta ∷
     modifier.IsoLevel3Shift ∷ modifier.IsoLevel5Shift ∷ []
 
--- The keys that have a number of their own, in declared order. A function key and a character key, at the places 14
--- and 15, have a value beside it, so what stands here in their places counts for nothing.
+-- The keys that have a number of their own, in declared order. At the places 14 and 15 are a function key and a
+-- character. They have a value too, so `code_at` doesn't look here for them.
 abbrev pub key_list : List KeyCode
 key_list =
     code.Backspace ∷ code.Enter ∷ code.Left ∷ code.Right ∷ code.Up ∷ code.Down ∷ code.Home ∷ code.End ∷ code.PageUp ∷ code.PageDown ∷

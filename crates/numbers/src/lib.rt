@@ -13,6 +13,12 @@
 //! | numbers are the event that they mean, and no other numbers are one | `event_of`, `key_of`, `mouse_of` |
 //! | an event's numbers are read back as this event | `laws::reads_back` |
 //!
+//! What to believe (`specs/`):
+//!
+//! | Definitions | Of | Contract |
+//! |---|---|---|
+//! | `Event` | events as numbers | `of_meaning`, `event_of` |
+//!
 //! A function's proof is in `proofs/` at the function's path; if there is no file, the prover found it by itself.
 #![tactic(auto)]
 

@@ -49,3 +49,7 @@ pub record IsCursor (width : ℕ) (prompt : List ℕ) (line : Split) (column : �
 -- The text that leaves a row: EL if a hint is shown behind the line, then CR and LF, so that the next row begins.
 abbrev pub leaving : Bool → List ℕ
 leaving has_hint = (if has_hint then 0x1B ∷ codes "[K" else []) ++ 0x0D ∷ 0x0A ∷ []
+
+-- The text that erases the window and brings the cursor to its top: ED 2, and CUP to the first row and column.
+abbrev pub clearing : List ℕ
+clearing = 0x1B ∷ codes "[2J" ++ 0x1B ∷ codes "[1;1H"

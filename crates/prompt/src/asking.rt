@@ -13,7 +13,7 @@ ghost use Rattle.prompt.specs.Prompts as prompts;
 ghost use Rattle.prompt.specs.Drawing.{IsDrawn};
 ghost use Rattle.prompt.specs.inside.Turning.{IsTaken, Leads, MayAsk};
 
-use crate::drawing::{Row, clear, erase, ring};
+use crate::drawing::{Row, erase, ring};
 use crate::helpers::Helper;
 use crate::prompts::has_control;
 use crate::read::Read;
@@ -286,7 +286,7 @@ fn show_at_top<W: Write, A: Allocator, H: Helper>(
     prompt: &Prompt<'_, H>,
     row: &mut Row,
 ) -> io::Result<()> {
-    clear(out)?;
+    out.write_all(Row::clearing().as_bytes())?;
     row.forget();
     show(out, editor, prompt, row)
 }

@@ -2,10 +2,10 @@
 ghost use Rattle.std.specs.Prelude.{◌≡◌, ◌-◌, ◌<◌, IfOk, OnOk, chars, false};
 ghost use Rattle.std.specs.Io.KnownBytes.{Keeps};
 ghost use Rattle.screen.specs.Strips.{without_row};
-ghost use Rattle.prompt.specs.Drawing.{IsCursor, IsDrawn, IsUnknown, column_behind, inside, leaving};
+ghost use Rattle.prompt.specs.Drawing.{IsCursor, IsDrawn, IsUnknown, clearing, column_behind, inside, leaving};
 
 use crate::prompts::{parted, shown, shown_hint};
-use crossterm::cursor::{MoveTo, MoveToColumn, MoveUp};
+use crossterm::cursor::{MoveToColumn, MoveUp};
 use crossterm::style::{Attribute, Attributes, ColorOutput, ContentStyle, Print};
 use crossterm::terminal::{Clear, ClearType};
 use crossterm::{QueueableCommand, execute, queue};
@@ -243,6 +243,18 @@ impl Row {
         if self.has_hint { "\x1b[K\r\n" } else { "\r\n" }
     }
 
+    /// What erases the window and brings the cursor to its top, for a line that goes on there. Nothing is known of the row then.
+    ///
+    /// ```
+    /// out.write_all(Row::clearing().as_bytes())?;
+    /// row.forget();
+    /// ```
+    pub fn clearing() -> &'static str
+        ensures { result.now ≡ clearing }
+    {
+        "\x1b[2J\x1b[1;1H"
+    }
+
     /// Leaves the row. A fault is left to the next write.
     pub(crate) fn leave<W: Write>(&self, out: &mut W) {
         let _ = out.write_all(self.leaving().as_bytes());
@@ -278,11 +290,6 @@ pub(crate) fn erase<W: Write>(out: &mut W, rows: u16) -> io::Result<()> {
         MoveToColumn(0),
         Clear(ClearType::FromCursorDown)
     )
-}
-
-/// Erases the window, and brings the cursor to its top.
-pub(crate) fn clear<W: Write>(out: &mut W) -> io::Result<()> {
-    queue!(out, COLORS, Clear(ClearType::All), MoveTo(0, 0))
 }
 
 /// Rings the bell.
