@@ -232,7 +232,27 @@ static void clears(void) {
     gelvanh_line_free(line);
 }
 
+/* Limits of nothing, and of all. */
+static void extremes(void) {
+    static const struct gelvanh_line_limits none = {0, 0, 0, 0, 0, 0}, all = {(size_t)-1, (size_t)-1, (size_t)-1, (size_t)-1, 1, 1};
+    struct gelvanh_line line;
+    uint8_t slice[64];
+    size_t length = 99;
+    CHECK(gelvanh_line_new(&line, &none) == GELVANH_LINE_GOES_ON);
+    CHECK(type(&line, GELVANH_CHAR, 'a', 0) == GELVANH_LINE_TOO_LONG && gelvanh_line_paste(&line, NULL, 0) == GELVANH_LINE_GOES_ON);
+    CHECK(gelvanh_line_load_history(&line, bytes("a\n"), 2) == GELVANH_LINE_GOES_ON && type(&line, GELVANH_UP, 0, 0) == GELVANH_LINE_GOES_ON);
+    CHECK(has(&line, "", 0) && type(&line, GELVANH_ENTER, 0, 0) == GELVANH_LINE_ACCEPTED);
+    CHECK(gelvanh_line_history(&line, slice, sizeof slice, &length) == GELVANH_LINE_GOES_ON && length == 0);
+    gelvanh_line_free(line);
+    CHECK(gelvanh_line_new(&line, &all) == GELVANH_LINE_GOES_ON);
+    CHECK(type(&line, GELVANH_CHAR, 'a', 0) == GELVANH_LINE_GOES_ON && type(&line, GELVANH_CHAR, 'w', GELVANH_CONTROL) == GELVANH_LINE_GOES_ON);
+    CHECK(type(&line, GELVANH_CHAR, 'y', GELVANH_CONTROL) == GELVANH_LINE_GOES_ON && has(&line, "a", 1));
+    CHECK(type(&line, GELVANH_ENTER, 0, 0) == GELVANH_LINE_ACCEPTED && type(&line, GELVANH_UP, 0, 0) == GELVANH_LINE_GOES_ON && has(&line, "a", 1));
+    gelvanh_line_free(line);
+}
+
 int main(void) {
+    extremes();
     limited();
     kills();
     clears();
