@@ -25,17 +25,17 @@ struct gelvanh_line_limits {
     size_t lines; /* of the history: the oldest is forgotten for a further one */
     size_t steps; /* that can be undone: the oldest is forgotten for a further one */
     size_t kills; /* that can be yanked: the oldest is forgotten for a further one */
-    gelvanh_bool ignore_dups;  /* whether an accepted line that equals the newest one isn't kept once more */
-    gelvanh_bool ignore_space; /* whether one that begins with a blank isn't kept */
+    gelvanh_bool ignore_dups;  /* whether a line that equals the newest of the history isn't kept once more */
+    gelvanh_bool ignore_space; /* whether a line that begins with a blank isn't kept */
 };
 
 /* The limits that most programs want, and other fields too if some follow: struct gelvanh_line_limits limits = GELVANH_LINE_LIMITS; */
 #define GELVANH_LINE_LIMITS {65536, 1000, 1000, 60, 0, 0}
 
-/* What came of a call. After the three that refuse something nothing has changed. Further answers may follow the last: the line goes on then. */
+/* What came of a call. After the three that refuse something nothing has changed. If others follow the last some day, the line goes on. */
 enum gelvanh_line_answer {
     GELVANH_LINE_GOES_ON,     /* it is done, and the line goes on */
-    GELVANH_LINE_ACCEPTED,    /* by Enter: gelvanh_line_accepted has its text, which is in the history if it isn't empty */
+    GELVANH_LINE_ACCEPTED,    /* by Enter: gelvanh_line_accepted has its text, which is in the history if the limits allow it */
     GELVANH_LINE_INTERRUPTED, /* by Ctrl-C: the line is empty again */
     GELVANH_LINE_CLOSED,      /* by Ctrl-D in an empty line */
     GELVANH_LINE_TOO_LONG,    /* the text has no room in the line */
@@ -58,7 +58,8 @@ uint32_t gelvanh_line_begin(struct gelvanh_line *line, const uint8_t *prompt, si
 /* Takes an event. What is bound to no key, the mouse, resizes and replies change nothing, and GELVANH_LINE_GOES_ON is returned.
  *
  * Any answer. After the three by which a line ends, the output leaves its row: the cursor is at the start of the next one, and the next
- * gelvanh_line_show draws anew. The end of a paste is GELVANH_LINE_UNKNOWN: its text goes to gelvanh_line_paste. */
+ * gelvanh_line_show draws anew. What wasn't shown of the line by then never is, so show it before a key that may end it. The end of a paste is
+ * GELVANH_LINE_UNKNOWN: its text goes to gelvanh_line_paste. */
 uint32_t gelvanh_line_event(struct gelvanh_line *line, const struct gelvanh_event *event);
 
 /* Puts a text at the cursor: one of a paste, or one that completes the line. Line ends and tabs side by side become one blank, and at the text's
@@ -73,7 +74,7 @@ uint32_t gelvanh_line_paste(struct gelvanh_line *line, const uint8_t *text, size
  * GELVANH_LINE_GOES_ON, GELVANH_LINE_NO_MEMORY, or GELVANH_LINE_UNKNOWN if it isn't UTF-8. */
 uint32_t gelvanh_line_hint(struct gelvanh_line *line, const uint8_t *hint, size_t length);
 
-/* Lets what changed in the row join the output. After Ctrl-L the window is cleared before, and the row is drawn at its top.
+/* Lets what changed in the row join the output; after Ctrl-L the window is cleared, and the row is at its top.
  * GELVANH_LINE_GOES_ON, or GELVANH_LINE_NO_MEMORY: then the next call draws all of the row. */
 uint32_t gelvanh_line_show(struct gelvanh_line *line);
 

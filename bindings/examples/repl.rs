@@ -24,12 +24,8 @@ fn answer(line: &str, numbers: &mut Vec<i32>) -> Result<String, String> {
     Ok(format!("{} numbers, {} in all", numbers.len(), numbers.iter().copied().map(i64::from).sum::<i64>()))
 }
 
-fn main() -> io::Result<()> {
-    let path = env::args().nth(1).unwrap_or_else(|| ".repl_history".into());
-    let mut editor = Editor::new(Limits::default())?.with_helper(Words::new(NAMES));
-    if let Ok(text) = fs::read_to_string(&path) {
-        editor.load_history(&text)?;
-    }
+/// Asks for lines, and answers each.
+fn run(editor: &mut Editor<Words>) -> io::Result<()> {
     let mut numbers = Vec::new();
     loop {
         match editor.readline("sum> ")? {
@@ -37,9 +33,20 @@ fn main() -> io::Result<()> {
                 Ok(text) => println!("{text}"),
                 Err(fault) => eprintln!("{fault}"),
             },
-            Outcome::Closed => break,
+            Outcome::Closed => return Ok(()),
             Outcome::Interrupted | Outcome::Going => {}
         }
     }
-    fs::write(path, editor.history()?)
+}
+
+fn main() -> io::Result<()> {
+    let path = env::args().nth(1).unwrap_or_else(|| ".repl_history".into());
+    let mut editor = Editor::new(Limits::default())?.with_helper(Words::new(NAMES));
+    if let Ok(text) = fs::read_to_string(&path) {
+        editor.load_history(&text)?;
+    }
+    let ended = run(&mut editor);
+    // The lines are kept also if the terminal is gone.
+    fs::write(path, editor.history()?)?;
+    ended
 }

@@ -164,7 +164,8 @@ fn no_line_is_lost_by_a_terminal_that_fails() {
             }
             Err(error) => {
                 assert_eq!(error.kind(), ErrorKind::BrokenPipe);
-                assert_eq!(editor.text(), &"ab"[..editor.text().len()]);
+                // All keys that were read are in the line.
+                assert_eq!(editor.text(), "ab"[..3 - terminal.acts.len()]);
                 faults += 1;
             }
         }

@@ -42,7 +42,7 @@ mod helper;
 
 use crate::event::Event;
 use crate::flat;
-use crate::key::{KeyCode, KeyEventKind, KeyModifiers};
+use crate::key::{KeyCode, KeyModifiers};
 use crate::raw_line::{Answer, Handle};
 use std::error::Error;
 use std::fmt::{self, Display};
@@ -111,8 +111,7 @@ fn done(answer: Answer) -> Result<(), LineError> {
 
 /// Whether an event is Tab without a modifier.
 fn is_tab(event: &Event) -> bool {
-    let is_tab = |key| matches!(key, crate::KeyEvent { code: KeyCode::Tab, modifiers: KeyModifiers::NONE, kind, .. } if kind != KeyEventKind::Release);
-    event.as_key_event().map_or(false, is_tab)
+    event.as_key_event().map_or(false, |key| key.code == KeyCode::Tab && key.modifiers == KeyModifiers::NONE && !key.is_release())
 }
 
 /// An editor of one line, with the text that was killed last, the changes that can be undone, and the history of accepted lines.
@@ -270,8 +269,8 @@ impl<H: Helper> Editor<H> {
         }
     }
 
-    /// Writes what makes the row show the line as it is, with the helper's hint behind it. After a line has ended that is the next one: `flush`
-    /// only leaves the row.
+    /// Writes what makes the row show the line as it is, with the helper's hint behind it; after Ctrl-L at the top of an empty window. After a
+    /// line has ended that is the next one: `flush` only leaves the row.
     ///
     /// # Errors
     ///

@@ -219,6 +219,25 @@ fn edits_of_rustyline() {
     check("lines/rustyline.rt", "edits of rustyline", rows.len(), said.expect("lines.rt has a count"), &played(&rows));
 }
 
+#[test]
+fn limits_leave_lines_out_of_the_history() -> Result<(), LineError> {
+    let rows = [
+        (false, false, "one\n two\none\none\n"),
+        (true, false, "one\n two\none\n"),
+        (false, true, "one\none\none\n"),
+        (true, true, "one\n"),
+    ];
+    for (ignore_dups, ignore_space, history) in rows {
+        let mut editor = Editor::new(Limits { ignore_dups, ignore_space, ..Limits::default() })?;
+        for line in ["one", " two", "one", "one", ""] {
+            editor.paste(line)?;
+            editor.turn(&Event::Key(KeyCode::Enter.into()))?;
+        }
+        assert_eq!(editor.history()?, history, "{ignore_dups} {ignore_space}");
+    }
+    Ok(())
+}
+
 /// Keys on a line, what comes of the last one, and the history then.
 #[test]
 fn ends_of_lines() -> Result<(), LineError> {

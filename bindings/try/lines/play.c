@@ -52,10 +52,15 @@ static uint32_t draw(uint32_t below) {
     return (uint32_t)(seed >> 32) % below;
 }
 
-static const char *const texts[] = {"a", "two words", "h", "hi", "x-y_z", "caf\xc3\xa9", "\xe6\xbc\xa2\xe5\xad\x97", "e\xcc\x81", "\xf0\x9f\x91\xa9\xe2\x80\x8d\xf0\x9f\x91\xa9",
-                                    "line\nline\tend\r\n", "\x07\x1b[A", "", "  ", "0123456789012345678901234567890123456789"};
+static const char *const texts[] = {
+    "a", "two words", "h", "hi", "x-y_z", "caf\xc3\xa9", "\xe6\xbc\xa2\xe5\xad\x97", "e\xcc\x81", "\xf0\x9f\x91\xa9\xe2\x80\x8d\xf0\x9f\x91\xa9",
+    "line\nline\tend\r\n", "\x07\x1b[A", "", "  ", "0123456789012345678901234567890123456789",
+};
 static const char *const prompts[] = {"> ", "", "\xe6\xbc\xa2> ", "a long prompt for a narrow window> "};
-static const char *const histories[] = {"", "one\n", "hello world\nhe said\nhe said\n\nlast", "a very long line that has no room in the limit of sixty bytes, so it is left out\nshort\n"};
+static const char *const histories[] = {
+    "", "one\n", "hello world\nhe said\nhe said\n\nlast",
+    "a very long line that has no room in the limit of sixty bytes, so it is left out\nshort\n",
+};
 static const uint32_t letters[] = {'a', 'b', 'h', 'e', ' ', ' ', '-', 'Z', 0xE9, 0x6F22, 0x301, 0x1F469, 0x200D, 0x1F1E6, 0x11A8, 7};
 static const char controls[] = "aabbccdeefhhjkklmnnppqrrttuuwwyy__77";
 static const char alts[] = "bbddffyyyqz";
@@ -196,7 +201,7 @@ static uint32_t act(struct player *player, const char *word) {
     }
 }
 
-static const struct gelvanh_line_limits limits = {60, 4, 20, 60, 0, 0};
+static const struct gelvanh_line_limits limits = {60, 4, 20, 3, true, false};
 
 static struct player begun(void) {
     struct player player = {{NULL}, false, 0, 14695981039346656037u};

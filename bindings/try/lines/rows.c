@@ -44,7 +44,8 @@ static int has(struct gelvanh_line *line, const char *text, size_t before) {
     memcpy(kept, slice, sizeof slice);
     if (length > 0 && (gelvanh_line_text(line, slice, length - 1) != length || memcmp(slice, kept, sizeof slice)))
         return 0;
-    return gelvanh_line_text(line, slice, length) == length && !memcmp(slice, text, length) && slice[length] == '#' && gelvanh_line_cursor(line) == before;
+    return gelvanh_line_text(line, slice, length) == length && !memcmp(slice, text, length) && slice[length] == '#' &&
+           gelvanh_line_cursor(line) == before;
 }
 
 /* Whether all that is left of the output is this. */
@@ -90,7 +91,7 @@ static void ends(void) {
 }
 
 static void refused(void) {
-    static const struct gelvanh_line_limits short_one = {3, 2, 2, 60, 0, 0};
+    static const struct gelvanh_line_limits short_one = {3, 2, 2, 2, 0, 0};
     struct gelvanh_event none[9];
     struct gelvanh_line line = made(), small;
     size_t at;
@@ -126,7 +127,9 @@ static void refused(void) {
 
 /* Events that aren't a line's do nothing. */
 static void passed_over(void) {
-    static const unsigned kinds[] = {GELVANH_FOCUS_GAINED, GELVANH_FOCUS_LOST, GELVANH_MOUSE, GELVANH_CURSOR, GELVANH_FLAGS, GELVANH_ATTRIBUTES, GELVANH_RESIZE};
+    static const unsigned kinds[] = {
+        GELVANH_FOCUS_GAINED, GELVANH_FOCUS_LOST, GELVANH_MOUSE, GELVANH_CURSOR, GELVANH_FLAGS, GELVANH_ATTRIBUTES, GELVANH_RESIZE,
+    };
     struct gelvanh_line line = made();
     struct gelvanh_event event;
     size_t at;
@@ -166,12 +169,93 @@ static void frames(void) {
     CHECK(gelvanh_line_begin(&line, bytes("> "), 2, 80) == GELVANH_LINE_GOES_ON && gelvanh_line_show(&line) == GELVANH_LINE_GOES_ON);
     slice[length < sizeof slice ? length : 0] = 0;
     CHECK(length > 10 && writes(&line, (const char *)slice));
-    CHECK(gelvanh_line_begin(&line, bytes("> "), 2, 1) == GELVANH_LINE_GOES_ON && gelvanh_line_show(&line) == GELVANH_LINE_GOES_ON && writes(&line, ""));
+    CHECK(gelvanh_line_begin(&line, bytes("> "), 2, 1) == GELVANH_LINE_GOES_ON);
+    CHECK(gelvanh_line_show(&line) == GELVANH_LINE_GOES_ON && writes(&line, ""));
     gelvanh_line_free(other);
     gelvanh_line_free(line);
 }
 
+/* What the limits say of the history. */
+static void limited(void) {
+    static const char *const typed[] = {"one", " two", "one", "one", ""};
+    static const char *const kept[] = {"one\n two\none\none\n", "one\n two\none\n", "one\none\none\n", "one\n"};
+    size_t at, line_at, length;
+    for (at = 0; at < 4; at++) {
+        struct gelvanh_line_limits limits = GELVANH_LINE_LIMITS;
+        struct gelvanh_line line;
+        uint8_t slice[64];
+        limits.ignore_dups = at & 1;
+        limits.ignore_space = at >> 1;
+        CHECK(gelvanh_line_new(&line, &limits) == GELVANH_LINE_GOES_ON);
+        for (line_at = 0; line_at < 5; line_at++) {
+            CHECK(gelvanh_line_paste(&line, bytes(typed[line_at]), strlen(typed[line_at])) == GELVANH_LINE_GOES_ON);
+            CHECK(type(&line, GELVANH_ENTER, 0, 0) == GELVANH_LINE_ACCEPTED);
+        }
+        CHECK(gelvanh_line_history(&line, slice, sizeof slice, &length) == GELVANH_LINE_GOES_ON);
+        CHECK(length == strlen(kept[at]) && !memcmp(slice, kept[at], length));
+        gelvanh_line_free(line);
+    }
+}
+
+/* Alt-Y turns to the kill before, of which as many are kept as the limits say. */
+static void kills(void) {
+    static const struct gelvanh_line_limits two = {100, 2, 9, 2, 0, 0};
+    static const char *const after[] = {"c", "b", "c"};
+    struct gelvanh_line line;
+    size_t at;
+    CHECK(gelvanh_line_new(&line, &two) == GELVANH_LINE_GOES_ON);
+    for (at = 0; at < 3; at++) {
+        CHECK(type(&line, GELVANH_CHAR, (uint32_t)('a' + at), 0) == GELVANH_LINE_GOES_ON);
+        CHECK(type(&line, GELVANH_CHAR, 'u', GELVANH_CONTROL) == GELVANH_LINE_GOES_ON && has(&line, "", 0));
+        CHECK(type(&line, GELVANH_LEFT, 0, 0) == GELVANH_LINE_GOES_ON);
+    }
+    for (at = 0; at < 3; at++)
+        CHECK(type(&line, GELVANH_CHAR, 'y', at == 0 ? GELVANH_CONTROL : GELVANH_ALT) == GELVANH_LINE_GOES_ON && has(&line, after[at], 1));
+    gelvanh_line_free(line);
+}
+
+/* Ctrl-L clears the window with the next frame, once. */
+static void clears(void) {
+    struct gelvanh_line line = made();
+    uint8_t slice[512];
+    size_t length, at;
+    CHECK(gelvanh_line_paste(&line, bytes("he"), 2) == GELVANH_LINE_GOES_ON && gelvanh_line_show(&line) == GELVANH_LINE_GOES_ON);
+    CHECK(gelvanh_line_output(&line, slice, sizeof slice) > 0);
+    CHECK(type(&line, GELVANH_CHAR, 'l', GELVANH_CONTROL) == GELVANH_LINE_GOES_ON && has(&line, "he", 2) && writes(&line, ""));
+    for (at = 0; at < 2; at++) {
+        CHECK(gelvanh_line_show(&line) == GELVANH_LINE_GOES_ON);
+        length = gelvanh_line_output(&line, slice, sizeof slice - 1);
+        slice[length] = 0;
+        CHECK((strstr((const char *)slice, "\033[2J\033[1;1H") == (const char *)slice) == (at == 0));
+        CHECK((strstr((const char *)slice, "he") != NULL) == (at == 0));
+    }
+    gelvanh_line_free(line);
+}
+
+/* Limits of nothing, and of all. */
+static void extremes(void) {
+    static const struct gelvanh_line_limits none = {0, 0, 0, 0, 0, 0}, all = {(size_t)-1, (size_t)-1, (size_t)-1, (size_t)-1, 1, 1};
+    struct gelvanh_line line;
+    uint8_t slice[64];
+    size_t length = 99;
+    CHECK(gelvanh_line_new(&line, &none) == GELVANH_LINE_GOES_ON);
+    CHECK(type(&line, GELVANH_CHAR, 'a', 0) == GELVANH_LINE_TOO_LONG && gelvanh_line_paste(&line, NULL, 0) == GELVANH_LINE_GOES_ON);
+    CHECK(gelvanh_line_load_history(&line, bytes("a\n"), 2) == GELVANH_LINE_GOES_ON && type(&line, GELVANH_UP, 0, 0) == GELVANH_LINE_GOES_ON);
+    CHECK(has(&line, "", 0) && type(&line, GELVANH_ENTER, 0, 0) == GELVANH_LINE_ACCEPTED);
+    CHECK(gelvanh_line_history(&line, slice, sizeof slice, &length) == GELVANH_LINE_GOES_ON && length == 0);
+    gelvanh_line_free(line);
+    CHECK(gelvanh_line_new(&line, &all) == GELVANH_LINE_GOES_ON);
+    CHECK(type(&line, GELVANH_CHAR, 'a', 0) == GELVANH_LINE_GOES_ON && type(&line, GELVANH_CHAR, 'w', GELVANH_CONTROL) == GELVANH_LINE_GOES_ON);
+    CHECK(type(&line, GELVANH_CHAR, 'y', GELVANH_CONTROL) == GELVANH_LINE_GOES_ON && has(&line, "a", 1));
+    CHECK(type(&line, GELVANH_ENTER, 0, 0) == GELVANH_LINE_ACCEPTED && type(&line, GELVANH_UP, 0, 0) == GELVANH_LINE_GOES_ON && has(&line, "a", 1));
+    gelvanh_line_free(line);
+}
+
 int main(void) {
+    extremes();
+    limited();
+    kills();
+    clears();
     texts();
     ends();
     refused();

@@ -126,9 +126,10 @@ impl<H: Helper> Editor<H> {
     /// `Outcome::Going`.
     ///
     /// Raw mode is on meanwhile, and so are pastes as events, unless this crate lacks the feature `bracketed-paste`. Both are off again however
-    /// it ends; a raw mode that was on before stays on. Between two lines the terminal has its own mode, in which Ctrl-C ends the program. What is
-    /// there at once is taken before the line is shown. A text without room rings the bell. After a resize the row is drawn anew, and Ctrl-L clears
-    /// the window before.
+    /// it ends; a raw mode that was on before stays on. Between two lines the terminal has its own mode, in which Ctrl-C ends the program.
+    ///
+    /// What is there at once is taken before the line is shown. A text without room rings the bell. After a resize the row is drawn anew, and
+    /// Ctrl-L clears the window before.
     ///
     /// The editor may hold an unfinished line, as after an error: then that line goes on.
     ///
@@ -160,17 +161,20 @@ impl<H: Helper> Editor<H> {
 
     /// Takes an event, and shows the line unless more are there.
     fn take<T: Terminal + ?Sized>(&mut self, prompt: &str, event: &Event, terminal: &mut T) -> io::Result<Outcome> {
+        // The event is taken even if its frame fails.
+        let shown = if may_end(event) { self.show(terminal) } else { Ok(()) };
+        let taken = self.turn(event);
+        if !matches!(taken, Ok(Outcome::Going) | Err(LineError::TooLong)) {
+            return Ok(taken?);
+        }
+        shown?;
+        if taken.is_err() {
+            terminal.write_all(b"\x07")?;
+        }
         if let Event::Resize(columns, _) = *event {
             write_command(terminal, &Command::MoveToColumn(0), true)?;
             write_command(terminal, &Command::Clear(ClearType::FromCursorDown), true)?;
             self.begin(prompt, columns)?;
-        } else if may_end(event) {
-            self.show(terminal)?;
-        }
-        match self.turn(event) {
-            Ok(Outcome::Going) => {}
-            Err(LineError::TooLong) => terminal.write_all(b"\x07")?,
-            ended => return Ok(ended?),
         }
         if !terminal.has_event()? {
             self.show(terminal)?;

@@ -65,7 +65,7 @@ fn act(editor: &mut Editor<Words>, word: &str, out: &mut Sum) -> (u32, Option<St
 }
 
 fn run(script: &str) -> Result<String, LineError> {
-    let editor = Editor::new(Limits { bytes: 60, lines: 4, steps: 20, ..Limits::default() })?;
+    let editor = Editor::new(Limits { bytes: 60, lines: 4, steps: 20, kills: 3, ignore_dups: true, ignore_space: false })?;
     let mut editor = editor.with_helper(Words::new(["help", "history", "hi there"]));
     let mut out = Sum { count: 0, hash: 14_695_981_039_346_656_037 };
     let mut line = String::new();
