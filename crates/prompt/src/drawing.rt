@@ -23,6 +23,8 @@ const REPLACEMENT: char = '\u{FFFD}';
 /// The row in which a line is shown.
 #[derive(Drop)]
 pub(crate) struct Row {
+    /// What texts are made with.
+    pub(crate) alloc: Global,
     strip: Strip,
     buffer: Buffer,
     // The cursor's column, as it was drawn last.
@@ -70,6 +72,7 @@ impl Row {
         let strip = Strip::new(alloc, width)?;
         let buffer = Buffer::new(alloc, width, 1)?;
         Ok(Row {
+            alloc,
             strip,
             buffer,
             column: 0,
