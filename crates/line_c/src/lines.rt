@@ -257,8 +257,9 @@ impl Lines {
     pub(crate) fn show(&mut self) -> Answer
         ensures { ShowsLine result self.old self.new }
     {
-        if begin_frame(&mut self.frame, self.clears).is_err() {
-            return self.give_up();
+        match begin_frame(&mut self.frame, self.clears) {
+            Ok(()) => {}
+            Err(_) => return self.give_up(),
         }
         let line = self.editor.line();
         match self.row.draw(
