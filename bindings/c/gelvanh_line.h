@@ -40,7 +40,8 @@ enum gelvanh_line_answer {
     GELVANH_LINE_CLOSED,      /* by Ctrl-D in an empty line */
     GELVANH_LINE_TOO_LONG,    /* the text has no room in the line */
     GELVANH_LINE_NO_MEMORY,   /* memory was refused */
-    GELVANH_LINE_UNKNOWN      /* what was given is none: numbers that are no event's, a text that isn't UTF-8 */
+    GELVANH_LINE_UNKNOWN,     /* what was given is none: numbers that are no event's, a text that isn't UTF-8 */
+    GELVANH_LINE_RINGS        /* the line goes on, and a bell is due: an incremental search found nothing, or there is none to give up */
 };
 
 /* Begins a line, which is empty and has no history. GELVANH_LINE_GOES_ON, or GELVANH_LINE_NO_MEMORY: then there is none to end. */

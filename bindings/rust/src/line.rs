@@ -57,6 +57,8 @@ pub use helper::{Helper, Words};
 pub enum Outcome {
     /// The line goes on.
     Going,
+    /// The line goes on, and a bell is due: an incremental search found nothing, or there is none to give up.
+    Ring,
     /// The line was accepted, by Enter, and this is its text.
     Line(String),
     /// The line was let go, by Ctrl-C.
@@ -105,7 +107,7 @@ fn done(answer: Answer) -> Result<(), LineError> {
         Answer::NoMemory => Err(LineError::NoMemory),
         // A `&str` is UTF-8, and an event has an event's numbers: so it is a prompt.
         Answer::Unknown => Err(LineError::Prompt),
-        Answer::GoesOn | Answer::Accepted | Answer::Interrupted | Answer::Closed => Ok(()),
+        Answer::GoesOn | Answer::Accepted | Answer::Interrupted | Answer::Closed | Answer::Rings => Ok(()),
     }
 }
 
@@ -265,6 +267,7 @@ impl<H: Helper> Editor<H> {
             Answer::Accepted => Ok(Outcome::Line(self.line.accepted())),
             Answer::Interrupted => Ok(Outcome::Interrupted),
             Answer::Closed => Ok(Outcome::Closed),
+            Answer::Rings => Ok(Outcome::Ring),
             answer => done(answer).map(|()| Outcome::Going),
         }
     }

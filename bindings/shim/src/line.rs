@@ -91,7 +91,7 @@ impl<H> Editor<H> {
 
 impl<H: Helper> Editor<H> {
     /// Asks for a line in the cursor's row, behind a prompt, until Enter, Ctrl-C, or Ctrl-D in an empty line. It never returns
-    /// `Outcome::Going`.
+    /// `Outcome::Going` or `Outcome::Ring`.
     ///
     /// Raw mode is on meanwhile, and so are pastes as events, unless this crate lacks the feature `bracketed-paste`. Both are off again however
     /// it ends; a raw mode that was on before stays on. A text without room rings the bell. After a resize the row is drawn anew, and Ctrl-L clears

@@ -21,11 +21,11 @@ use std::alloc::Global;
 pub struct LineLimits {
     /// The bytes of a line in UTF-8. A longer one is refused.
     pub bytes: usize,
-    /// The accepted lines in the history. The oldest one is unknown_row for a further one.
+    /// The accepted lines in the history. The oldest one is forgotten for a further one.
     pub lines: usize,
-    /// The changes that can be undone. The oldest one is unknown_row for a further one.
+    /// The changes that can be undone. The oldest one is forgotten for a further one.
     pub steps: usize,
-    /// The texts of kills that can be yanked. The oldest one is unknown_row for a further one.
+    /// The texts of kills that can be yanked. The oldest one is forgotten for a further one.
     pub kills: usize,
     /// Whether an accepted line that equals the newest one isn't kept once more.
     pub ignore_dups: bool,
@@ -49,7 +49,7 @@ impl LineLimits {
     }
 }
 
-/// BeginsRow an editor, whose pointer is written, and returns 0. Or memory was refused: then nothing is written, and it returns 5.
+/// Begins an editor, whose pointer is written, and returns 0. Or memory was refused: then nothing is written, and it returns 5.
 #[unsafe(no_mangle)]
 pub extern "C" fn gelvanh_line_new(alloc: Global, line: &mut LineSlot, limits: &LineLimits) -> u32
     ensures { OpensLine limits.now result line.old line.new }
@@ -69,7 +69,7 @@ pub extern "C" fn gelvanh_line_free(alloc: Global, line: LineHandle) {
     let _kept = line.parts(alloc).into_box();
 }
 
-/// BeginsRow a row with a prompt in UTF-8, in a window of so many columns, of which nothing is known. 0 columns count as 80.
+/// Begins a row with a prompt in UTF-8, in a window of so many columns, of which nothing is known. 0 columns count as 80.
 #[unsafe(no_mangle)]
 pub extern "C" fn gelvanh_line_begin(line: &mut LineHandle, prompt: &[u8], columns: u16) -> u32
     ensures { ReturnsAnswer result (WithText prompt.now (BeginsRow prompt.now columns)) line.old.value line.new.value }
@@ -77,7 +77,7 @@ pub extern "C" fn gelvanh_line_begin(line: &mut LineHandle, prompt: &[u8], colum
     line.open().begin(prompt, columns).number()
 }
 
-/// TakesInput an event by its numbers. A reply, the mouse and a resize do nothing, and a paste's end is unknown: its text is pasted by itself.
+/// Takes an event by its numbers. A reply, the mouse and a resize do nothing, and a paste's end is unknown: its text is pasted by itself.
 #[unsafe(no_mangle)]
 pub extern "C" fn gelvanh_line_event(line: &mut LineHandle, event: &GelvanhEvent) -> u32
     ensures { ReturnsAnswer result (TakesInput (event_known event.now)) line.old.value line.new.value }
@@ -93,7 +93,7 @@ pub extern "C" fn gelvanh_line_paste(line: &mut LineHandle, text: &[u8]) -> u32
     line.open().paste(text).number()
 }
 
-/// TakesInput the text, in UTF-8, that is shown behind the line while the cursor is at its end.
+/// Takes the text, in UTF-8, that is shown behind the line while the cursor is at its end.
 #[unsafe(no_mangle)]
 pub extern "C" fn gelvanh_line_hint(line: &mut LineHandle, hint: &[u8]) -> u32
     ensures { ReturnsAnswer result (WithText hint.now (MakesOf (with_hint hint.now line.old.value))) line.old.value line.new.value }
@@ -101,7 +101,7 @@ pub extern "C" fn gelvanh_line_hint(line: &mut LineHandle, hint: &[u8]) -> u32
     line.open().take_hint(hint).number()
 }
 
-/// ShowsLine the line: what changed in its row joins what is to be written. After Ctrl-L the window is cleared before, and the line is drawn at its
+/// Shows the line: what changed in its row joins what is to be written. After Ctrl-L the window is cleared before, and the line is drawn at its
 /// top.
 #[unsafe(no_mangle)]
 pub extern "C" fn gelvanh_line_show(line: &mut LineHandle) -> u32
@@ -158,7 +158,7 @@ pub extern "C" fn gelvanh_line_history(
     line.open().history(slice, length).number()
 }
 
-/// TakesInput the history from a text in UTF-8.
+/// Takes the history from a text in UTF-8.
 #[unsafe(no_mangle)]
 pub extern "C" fn gelvanh_line_load_history(line: &mut LineHandle, text: &[u8]) -> u32
     ensures { ReturnsAnswer result (WithText text.now (MakesOf (with_history text.now line.old.value))) line.old.value line.new.value }

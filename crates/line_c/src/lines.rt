@@ -1,5 +1,5 @@
 //! An editor with the row in which its line is shown.
-ghost use Rattle.std.specs.Prelude.{◌≡◌, false, IfOk, IfSome, OnErr, OnOk, Some, reverse, string_bytes, vec_items};
+ghost use Rattle.std.specs.Prelude.{◌≡◌, false, IfOk, IfSome, OnErr, OnOk, Some, encode_utf8_all, reverse, string_bytes, vec_items};
 ghost use Rattle.std.specs.Str.{chars};
 ghost use Rattle.crossterm_types.specs.Seen.{Paste, seen_event};
 ghost use Rattle.line_editor.specs.Bounds.{size};
@@ -7,6 +7,7 @@ ghost use Rattle.line_editor.specs.Splits.{line_text};
 ghost use Rattle.numbers.specs.Event.{event_known};
 ghost use Rattle.line_c.specs.declared.answers.Answer.TheVariants.{GoesOn, NoMemory};
 ghost use Rattle.line_c.specs.Kept.{unknown_row};
+ghost use Rattle.prompt.specs.Drawing.{search_text};
 ghost use Rattle.prompt.specs.Prompts.{has_control};
 ghost use Rattle.line_c.specs.Answers.{BeginsRow, Copies, CopiesHistory, IsFresh, MakesOf, Moves, ShowsLine, TakesInput, WithText, before_frame, counted, prompt_of, with_hint, with_history};
 
@@ -74,7 +75,19 @@ fn copy_text(text: &str, slice: &mut [u8]) -> usize
     count
 }
 
-/// BeginsRow the bytes of a frame: with what clears the window, if it does that.
+/// What is shown of a hint: nothing while an incremental search goes on.
+fn hint_behind(hint: &str, is_searching: bool) -> &str {
+    if is_searching { "" } else { hint }
+}
+
+/// What is shown before the line while an incremental search goes on.
+fn search_shown(alloc: Global, pattern: &str, is_ahead: bool) -> Result<String, AllocError>
+    ensures { IfOk result (λ text. string_bytes text ≡ search_text is_ahead (encode_utf8_all (chars pattern.now))) }
+{
+    search_text(alloc, pattern, is_ahead)
+}
+
+/// Begins the bytes of a frame: with what clears the window, if it does that.
 fn begin_frame(frame: &mut Vec<u8>, clears: bool) -> Result<(), AllocError>
     ensures { OnOk result (vec_items frame.new ≡ before_frame clears) }
 {
@@ -121,7 +134,7 @@ pub(crate) fn made(alloc: Global, limits: Limits) -> Option<Box<Lines>>
 }
 
 impl Lines {
-    /// TakesInput a prompt, and a row of a window of so many columns, of which nothing is known.
+    /// Takes a prompt, and a row of a window of so many columns, of which nothing is known.
     fn take_prompt(&mut self, prompt: &str, columns: u16) -> Result<(), AllocError>
         requires { has_control (chars prompt.now) ≡ false }
         ensures ok { OnOk result (BeginsRow prompt.now columns GoesOn self.old self.new) }
@@ -133,7 +146,7 @@ impl Lines {
         Ok(())
     }
 
-    /// BeginsRow a row with a prompt, in a window of so many columns.
+    /// Begins a row with a prompt, in a window of so many columns.
     fn begin_with(&mut self, prompt: &str, columns: u16) -> Answer
         ensures { BeginsRow prompt.now columns result self.old self.new }
     {
@@ -156,7 +169,7 @@ impl Lines {
         }
     }
 
-    /// TakesInput the text that is shown behind the line.
+    /// Takes the text that is shown behind the line.
     fn show_behind(&mut self, hint: &str) -> Answer
         ensures { MakesOf (with_hint hint.now self.old) result self.old self.new }
     {
@@ -217,7 +230,7 @@ impl Lines {
         answer
     }
 
-    /// TakesInput an event by its numbers.
+    /// Takes an event by its numbers.
     pub(crate) fn take(&mut self, event: &GelvanhEvent) -> Answer
         ensures { TakesInput (event_known event.now) result self.old self.new }
     {
@@ -254,7 +267,7 @@ impl Lines {
     {
         match self.editor.pattern() {
             None => String::from_str(self.alloc, self.prompt.as_str()),
-            Some(pattern) => search_text(self.alloc, pattern, self.editor.is_ahead()),
+            Some(pattern) => search_shown(self.alloc, pattern, self.editor.is_ahead()),
         }
     }
 
@@ -267,7 +280,7 @@ impl Lines {
         Answer::NoMemory
     }
 
-    /// ShowsLine the line: what changed in its row joins the output.
+    /// Shows the line: what changed in its row joins the output.
     pub(crate) fn show(&mut self) -> Answer
         ensures { ShowsLine result self.old self.new }
     {
@@ -279,11 +292,9 @@ impl Lines {
             Ok(text) => text,
             Err(_) => return self.give_up(),
         };
+        let hint = hint_behind(self.hint.as_str(), self.editor.pattern().is_some());
         let line = self.editor.line();
-        match self
-            .row
-            .draw(&mut self.frame, text.as_str(), line, self.hint.as_str())
-        {
+        match self.row.draw(&mut self.frame, text.as_str(), line, hint) {
             Ok(()) => match self.output.write(&self.frame) {
                 Ok(_) => {
                     self.clears = false;
@@ -339,7 +350,7 @@ impl Lines {
         }
     }
 
-    /// TakesInput the history from a text.
+    /// Takes the history from a text.
     fn load_text(&mut self, text: &str) -> Answer
         ensures { MakesOf (with_history text.now self.old) result self.old self.new }
     {

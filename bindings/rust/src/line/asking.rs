@@ -123,7 +123,7 @@ fn may_end(event: &Event) -> bool {
 
 impl<H: Helper> Editor<H> {
     /// Asks for a line in the cursor's row, behind a prompt, until Enter, Ctrl-C, or Ctrl-D in an empty line. It never returns
-    /// `Outcome::Going`.
+    /// `Outcome::Going` or `Outcome::Ring`.
     ///
     /// Raw mode is on meanwhile, and so are pastes as events, unless this crate lacks the feature `bracketed-paste`. Both are off again however
     /// it ends; a raw mode that was on before stays on. Between two lines the terminal has its own mode, in which Ctrl-C ends the program.
@@ -164,11 +164,11 @@ impl<H: Helper> Editor<H> {
         // The event is taken even if its frame fails.
         let shown = if may_end(event) { self.show(terminal) } else { Ok(()) };
         let taken = self.turn(event);
-        if !matches!(taken, Ok(Outcome::Going) | Err(LineError::TooLong)) {
+        if !matches!(taken, Ok(Outcome::Going | Outcome::Ring) | Err(LineError::TooLong)) {
             return Ok(taken?);
         }
         shown?;
-        if taken.is_err() {
+        if taken != Ok(Outcome::Going) {
             terminal.write_all(b"\x07")?;
         }
         if let Event::Resize(columns, _) = *event {

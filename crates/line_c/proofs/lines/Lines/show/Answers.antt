@@ -1,4 +1,4 @@
-use Rattle.std.proofs.Common.{◌≡◌, ℕ, ◌<◌, false, List, ◌++◌, Some, sym, ap, ◌∙◌, subst}
+use Rattle.std.proofs.Common.{◌≡◌, ℕ, ◌<◌, false, List, ◌++◌, Some, string_bytes, sym, ap, ◌∙◌, subst}
 use Rattle.line_editor.specs.Splits.{Split}
 use Rattle.prompt.specs.Drawing.{IsCursor, IsDrawn}
 use Rattle.prompt.specs.declared.drawing.Row.{Row}
@@ -13,7 +13,7 @@ returns-in-Ok-write c =
     let frame = c.draw.new.out.items in
     let out = c.in-Ok-write.ensures.ok ∙ ap (λ (bytes : List ℕ). c.self.inside.output.items ++ bytes) c.deref.ensures.value in
     let begun : c.begin_frame.new.frame.items ≡ before_frame c.self.inside.clears = c.in-Ok.ensures in
-    let text : string_bytes c.in-Ok-text.text ≡ prompt_of (the_view c.self.inside) = ? in (
+    let text : string_bytes c.in-Ok-text_before.text ≡ prompt_of (the_view c.self.inside) = ? in (
       frame,
       ap (λ (bytes : List ℕ). record (the_view c.self.inside) { row = row; clears = false; output = bytes }) out
           ∙ ap (λ (k : LineState). record k { row = row; clears = false; output = k.output ++ frame }) c.self.view_is,
@@ -26,13 +26,3 @@ returns-in-Ok-write c =
       subst (λ (k : LineState). k.row.strip.width ≡ 0 → frame ≡ before_frame k.clears) c.self.view_is (λ none. c.in-Ok-draw.ensures.narrow none ∙ begun),
     )
 
-pub returns-in-Err-write : goal.returns-in-Err-write
-returns-in-Err-write c =
-    let row = unknown_row c.draw.new.self in
-    let is = c.give_up-in-Err-write.ensures.row ∙ ap (λ (bytes : List ℕ). record (the_view c.self.inside) { row = row; output = bytes }) c.in-Err-write.ensures.err
-    ∙ ap (λ (k : LineState). record k { row = row }) c.self.view_is in
-    subst (λ a. ShowsLine a c.args.self.now c.give_up-in-Err-write.new.self) (sym c.give_up-in-Err-write.ensures.answer) (
-      is ∙ ap (λ (r : Row). record c.args.self.now { row = r }) (sym (ap (λ (k : LineState). k.row) is)),
-      ap (λ (k : LineState). k.row.strip.drawn) is,
-      ap (λ (k : LineState). k.row.strip.width) is ∙ c.draw.ensures.width ∙ ap (λ (k : LineState). k.row.strip.width) c.self.view_is,
-    )
