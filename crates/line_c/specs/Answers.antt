@@ -7,13 +7,14 @@ use Rattle.line_editor.specs.declared.fault.EditFault.TheVariants as fault
 use Rattle.line_editor.specs.declared.limits.Limits.{Limits}
 use Rattle.line_editor.specs.Bounds.{is_too_long, size}
 use Rattle.line_editor.specs.History.{loaded, saved}
+use Rattle.line_editor.specs.Seeking.{is_ahead, pattern_of}
 use Rattle.line_editor.specs.States.{EditorState, fresh}
 use Rattle.line_editor.specs.Turns as turns
 use Rattle.line_editor.specs.Turns.{event_more, task_of}
 use Rattle.line_c.specs.declared.answers.Answer.{Answer}
-use Rattle.line_c.specs.declared.answers.Answer.TheVariants.{GoesOn, Accepted, Interrupted, Closed, TooLong, NoMemory, Unknown}
+use Rattle.line_c.specs.declared.answers.Answer.TheVariants.{GoesOn, Accepted, Interrupted, Closed, TooLong, NoMemory, Unknown, Rings}
 use Rattle.line_c.specs.Kept.{LineState, after_input}
-use Rattle.prompt.specs.Drawing.{IsCursor, IsDrawn, IsUnknown, clearing}
+use Rattle.prompt.specs.Drawing.{IsCursor, IsDrawn, IsUnknown, clearing, search_text}
 use Rattle.prompt.specs.Prompts.{has_control}
 
 -- The number of an answer.
@@ -25,11 +26,13 @@ answer_number Closed = 3
 answer_number TooLong = 4
 answer_number NoMemory = 5
 answer_number Unknown = 6
+answer_number Rings = 7
 
 -- The answer that says this outcome.
 abbrev pub outcome_answer : turns.Answer → Answer
 outcome_answer turns.Going = GoesOn
 outcome_answer turns.Clear = GoesOn
+outcome_answer turns.Ring = Rings
 outcome_answer (turns.Line text) = Accepted
 outcome_answer turns.Interrupted = Interrupted
 outcome_answer turns.Closed = Closed
@@ -87,6 +90,15 @@ BeginsRow prompt columns a k l = ⊥
 abbrev pub before_frame : Bool → List ℕ
 before_frame clears = if clears then clearing else []
 
+-- What is shown before the line: the prompt, or what an incremental search looks for.
+abbrev pub text_before : Option (List ℕ) → Bool → List ℕ → List ℕ
+text_before None is_ahead prompt = prompt
+text_before (Some pattern) is_ahead prompt = search_text is_ahead (encode_utf8_all pattern)
+
+-- The same of what is kept.
+abbrev pub prompt_of : LineState → List ℕ
+prompt_of k = text_before (pattern_of k.editor) (is_ahead k.editor.last) k.prompt
+
 -- One frame joined the output: the row shows the line with its cursor, and nothing else changes. The window is cleared
 -- before, if that was due. In a row of no columns nothing is drawn. If memory was refused, the output is as it was, and
 -- nothing is known of the row.
@@ -95,7 +107,7 @@ ShowsLine GoesOn k l =
     (frame : List ℕ) × (l ≡ record k { row = l.row; clears = false; output = k.output ++ frame })
     × (0 < k.row.strip.width
     → IsDrawn l.row.buffer l.row.column k.row.strip l.row.strip (Some (before_frame k.clears)) (Some frame)
-    × IsCursor k.row.buffer.width k.prompt k.editor.line l.row.column)
+    × IsCursor k.row.buffer.width (prompt_of k) k.editor.line l.row.column)
     × (k.row.strip.width ≡ 0 → frame ≡ before_frame k.clears)
 ShowsLine NoMemory k l = (l ≡ record k { row = l.row }) × (l.row.strip.drawn ≡ None) × (l.row.strip.width ≡ k.row.strip.width)
 ShowsLine a k l = ⊥

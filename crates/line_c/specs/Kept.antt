@@ -34,6 +34,7 @@ row_left k = record k { row = unknown_row k.row; output = k.output ++ leaving k.
 -- row is left, and an accepted line is kept.
 abbrev pub after_outcome : turns.Answer → LineState → LineState
 after_outcome turns.Going k = k
+after_outcome turns.Ring k = k
 after_outcome turns.Clear k = record k { row = unknown_row k.row; clears = true }
 after_outcome (turns.Line text) k = record (row_left k) { accepted = text }
 after_outcome turns.Interrupted k = row_left k

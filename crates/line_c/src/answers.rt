@@ -21,6 +21,8 @@ pub enum Answer {
     NoMemory,
     /// The numbers are no event's, a text isn't UTF-8, or a prompt has a control character. Nothing has changed.
     Unknown,
+    /// The line goes on, and the bell rings: an incremental search found nothing, or there is none to give up.
+    Rings,
 }
 
 impl Answer {
@@ -36,6 +38,7 @@ impl Answer {
             Answer::TooLong => 4,
             Answer::NoMemory => 5,
             Answer::Unknown => 6,
+            Answer::Rings => 7,
         }
     }
 }

@@ -1,5 +1,5 @@
 //! An editor with the row in which its line is shown.
-ghost use Rattle.std.specs.Prelude.{◌≡◌, false, IfOk, IfSome, OnErr, OnOk, Some, reverse, vec_items};
+ghost use Rattle.std.specs.Prelude.{◌≡◌, false, IfOk, IfSome, OnErr, OnOk, Some, reverse, string_bytes, vec_items};
 ghost use Rattle.std.specs.Str.{chars};
 ghost use Rattle.crossterm_types.specs.Seen.{Paste, seen_event};
 ghost use Rattle.line_editor.specs.Bounds.{size};
@@ -8,13 +8,13 @@ ghost use Rattle.numbers.specs.Event.{event_known};
 ghost use Rattle.line_c.specs.declared.answers.Answer.TheVariants.{GoesOn, NoMemory};
 ghost use Rattle.line_c.specs.Kept.{unknown_row};
 ghost use Rattle.prompt.specs.Prompts.{has_control};
-ghost use Rattle.line_c.specs.Answers.{BeginsRow, Copies, CopiesHistory, IsFresh, MakesOf, Moves, ShowsLine, TakesInput, WithText, before_frame, counted, with_hint, with_history};
+ghost use Rattle.line_c.specs.Answers.{BeginsRow, Copies, CopiesHistory, IsFresh, MakesOf, Moves, ShowsLine, TakesInput, WithText, before_frame, counted, prompt_of, with_hint, with_history};
 
 use crate::answers::{Answer, answer_to};
 use crossterm_types::event::{Event, InternalEvent};
 use line_editor::{EditFault, Editor, Limits, Outcome};
 use numbers::{GelvanhEvent, event_of};
-use prompt::Row;
+use prompt::{Row, search_text};
 use std::alloc::{AllocError, Global};
 use std::collections::VecDeque;
 use std::io::{Read, Write};
@@ -198,6 +198,10 @@ impl Lines {
                 self.output.truncate(before);
                 return Answer::GoesOn;
             }
+            Ok(Outcome::Ring) => {
+                self.output.truncate(before);
+                return Answer::Rings;
+            }
             Ok(Outcome::Clear) => {
                 self.output.truncate(before);
                 self.row.forget();
@@ -244,6 +248,16 @@ impl Lines {
         }
     }
 
+    /// What is shown before the line: the prompt, or what an incremental search looks for.
+    fn text_before(&self) -> Result<String, AllocError>
+        ensures { IfOk result (λ text. string_bytes text ≡ prompt_of self.now) }
+    {
+        match self.editor.pattern() {
+            None => String::from_str(self.alloc, self.prompt.as_str()),
+            Some(pattern) => search_text(self.alloc, pattern, self.editor.is_ahead()),
+        }
+    }
+
     /// Nothing is known of the row any more, since memory was refused for a frame.
     fn give_up(&mut self) -> Answer
         ensures answer { result ≡ NoMemory }
@@ -261,13 +275,15 @@ impl Lines {
             Ok(()) => {}
             Err(_) => return self.give_up(),
         }
+        let text = match self.text_before() {
+            Ok(text) => text,
+            Err(_) => return self.give_up(),
+        };
         let line = self.editor.line();
-        match self.row.draw(
-            &mut self.frame,
-            self.prompt.as_str(),
-            line,
-            self.hint.as_str(),
-        ) {
+        match self
+            .row
+            .draw(&mut self.frame, text.as_str(), line, self.hint.as_str())
+        {
             Ok(()) => match self.output.write(&self.frame) {
                 Ok(_) => {
                     self.clears = false;

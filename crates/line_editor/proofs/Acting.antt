@@ -17,11 +17,11 @@ draft_of w = record { line = w.line; past = w.past; undone = w.undone; typing = 
 abbrev pub with_draft : DraftState → EditorState → EditorState
 with_draft d w = record w { line = d.line; past = d.past; undone = d.undone; typing = d.typing }
 
-pub fresh_of : (limits : Limits) (d : DraftState) (line unfinished : Split) (kills : List (List ℕ)) (history : List Split)
-    → d ≡ record { line = line; past = []; undone = []; typing = false } → line ≡ empty_line → unfinished ≡ empty_line → kills ≡ [] → history ≡ []
-    → record { limits = limits; line = d.line; kills = kills; yank_at = 0; past = d.past; undone = d.undone; history = history; back = 0; unfinished = unfinished; typing = d.typing; last = Other }
+pub fresh_of : (limits : Limits) (d : DraftState) (line unfinished pattern began : Split) (kills : List (List ℕ)) (history : List Split)
+    → d ≡ record { line = line; past = []; undone = []; typing = false } → line ≡ empty_line → unfinished ≡ empty_line → pattern ≡ empty_line → began ≡ empty_line → kills ≡ [] → history ≡ []
+    → record { limits = limits; line = d.line; kills = kills; yank_at = 0; past = d.past; undone = d.undone; history = history; back = 0; unfinished = unfinished; search = record { pattern = pattern; line = began; back = 0 }; typing = d.typing; last = Other }
     ≡ fresh limits
-fresh_of limits d line unfinished kills history e a b c f = rw (e, a, b, c, f) refl
+fresh_of limits d line unfinished pattern began kills history e a b p q c f = rw (e, a, b, p, q, c, f) refl
 
 -- What an edit of the line makes of the editor.
 module _ (v w : EditorState) (is : v ≡ w) (d : DraftState) where

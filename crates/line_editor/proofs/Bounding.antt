@@ -2,7 +2,7 @@
 use Rattle.std.proofs.Common.{◌≡◌, ℕ, ◌+◌, ◌-◌, ◌<◌, ◌≤◌, true, false, List, [], ◌∷◌, ◌++◌, length, map, reverse, take, drop, refl, sym, subst, ◌∙◌, inl, inr, arith, append-nil}
 use Rattle.std.proofs.lemmas.Bool.{and_parts, and_from, cases_Bool, leb-true, ltb-false, ltb-true}
 use Rattle.std.proofs.lemmas.List.{reverse-append, reverse-reverse}
-use Rattle.std.specs.Prelude.{Option, Some, None, IfSome, suc, zero, slice_get}
+use Rattle.std.specs.Prelude.{Bool, Option, Some, None, IfSome, ◌&&◌, ◌==◌, suc, zero, slice_get}
 use Rattle.std.specs.List.{AllByRecursion, filter}
 use Rattle.unicode_segmentation.proofs.TextLemmas.{encode_utf8_nonempty}
 use Rattle.line_editor.specs.declared.actions.Action.{Action}
@@ -10,19 +10,20 @@ use Rattle.line_editor.specs.declared.actions.Action.TheVariants.{Insert, Go, Er
 use Rattle.line_editor.specs.declared.last.Last.{Last}
 use Rattle.line_editor.specs.declared.last.Last.TheVariants.{Other}
 use Rattle.line_editor.specs.declared.limits.Limits.{Limits}
-use Rattle.line_editor.specs.declared.places.Stop.TheVariants.{Edge}
+use Rattle.line_editor.specs.declared.places.Stop.TheVariants.{Cluster, Edge}
 use Rattle.line_editor.specs.declared.places.Target.{Target}
-use Rattle.line_editor.specs.declared.places.Target.TheVariants.{Forward}
+use Rattle.line_editor.specs.declared.places.Target.TheVariants.{Back, Forward}
 use Rattle.line_editor.specs.Bounded.{AreRoomy, IsBounded, IsHeld, IsKept, StaysBounded, all_done}
 use Rattle.line_editor.specs.Bounds.{is_too_long, more_by, popped_more, room_of, size}
 use Rattle.line_editor.specs.Edits.{cut_text, empty_line, erased, inserted, line_with, meeting, transposed}
 use Rattle.line_editor.specs.History.{loaded_line, has_room, lines_of, loaded}
 use Rattle.line_editor.specs.Kills.{kill_at}
 use Rattle.line_editor.specs.Places.{target_place}
+use Rattle.line_editor.specs.Seeking.{begun, brought, brought_to, found_here, found_next, has_found, is_ahead, is_more, is_seeking, put_back, sought_more, sought_next, sought_on, sought_with}
 use Rattle.line_editor.specs.Shown.{AreShown, blanked, is_shown, pasted_part, shown_part}
 use Rattle.line_editor.specs.Splits.{Split, line_text}
-use Rattle.line_editor.specs.States.{EditorState, acted, after, before_yank, changed, dropped, erase_cut, found, found_line, found_newer, fresh, is_ignored, kill_cut, last_after, left_for, moved, newer_from, newer_line, newer_to, next_yank, older_to, popped_to, redo_to, remembered, searched_forward, searched_to, sought, transpose_at, type_char, after_typing, undo_to, unfinished_at, write, yanked}
-use Rattle.line_editor.specs.Tasks.{Task, Acts, Pastes, Accepts, LetsGo, Loads, Clears, Closes, Nothing, done, task_more}
+use Rattle.line_editor.specs.States.{EditorState, LineSearch, acted, after, before_yank, changed, dropped, erase_cut, found, found_line, found_newer, fresh, is_ignored, kill_cut, last_after, left_for, moved, newer_from, newer_line, newer_to, next_yank, older_to, popped_to, redo_to, remembered, rung, searched_forward, searched_to, sought, transpose_at, type_char, after_typing, undo_to, unfinished_at, write, yanked}
+use Rattle.line_editor.specs.Tasks.{Task, Acts, Pastes, Accepts, LetsGo, Loads, Seeks, SeeksMore, SeeksLess, GivesUp, Ends, Clears, Closes, Nothing, done, task_more}
 use Rattle.line_editor.proofs.Held.{Found, all-drop, all-get, all-take, cut-shown, end-after, found-held, last-held, held-erased, held-found, held-inserted, held-moved, held-replaced, held-same, held-transposed, yank-before}
 use Rattle.line_editor.proofs.Keeping.{keeps_text}
 use Rattle.line_editor.proofs.Ringing.{kill-shown, with-shown}
@@ -51,6 +52,8 @@ fresh-bounded limits = record {
   undone = tt;
   history = tt;
   kills = tt;
+  pattern = held-empty limits;
+  began = held-empty limits;
   lines = omega arith;
   steps = omega arith;
 }
@@ -64,6 +67,8 @@ bounded-back w back h = record {
   undone = h.undone;
   history = h.history;
   kills = h.kills;
+  pattern = h.pattern;
+  began = h.began;
   lines = h.lines;
   steps = h.steps;
 }
@@ -77,9 +82,42 @@ bounded-last w last h = record {
   undone = h.undone;
   history = h.history;
   kills = h.kills;
+  pattern = h.pattern;
+  began = h.began;
   lines = h.lines;
   steps = h.steps;
 }
+
+-- So has what is looked for, as far as it is held.
+bounded-search-of : (w : EditorState) (search : LineSearch) → IsBounded w → IsHeld w.limits search.pattern → IsHeld w.limits search.line
+    → IsBounded (record w { search = search })
+bounded-search-of w search h k l = record {
+  line = h.line;
+  unfinished = h.unfinished;
+  past = h.past;
+  undone = h.undone;
+  history = h.history;
+  kills = h.kills;
+  pattern = k;
+  began = l;
+  lines = h.lines;
+  steps = h.steps;
+}
+
+limits-brought_to : (number : ℕ) (o : Option Split) (w : EditorState) → (brought_to number o w).limits ≡ w.limits
+limits-brought_to number None w = refl
+limits-brought_to number (Some d) w = refl
+
+limits-brought : (number : ℕ) (w : EditorState) → (brought number w).limits ≡ w.limits
+limits-brought number w =
+    elim (cases_Bool (has_found w.last && w.back == number)) [
+      | inl there ↦ rw there refl
+      | inr new ↦ rw new (limits-brought_to number (slice_get w.history (number - 1)) w)
+    ]
+
+limits-sought : (ahead : Bool) (o : Option ℕ) (w : EditorState) → (sought_on ahead o w).limits ≡ w.limits
+limits-sought ahead None w = refl
+limits-sought ahead (Some number) w = limits-brought number w
 
 module _ (w : EditorState) (h : IsBounded w) where
   bounded-changed : (d : Split) → IsHeld w.limits d → IsBounded (changed d w)
@@ -90,6 +128,8 @@ module _ (w : EditorState) (h : IsBounded w) where
     undone = tt;
     history = h.history;
     kills = h.kills;
+    pattern = h.pattern;
+    began = h.began;
     lines = h.lines;
     steps = omega (arith, take-short w.limits.steps (w.line ∷ w.past));
   }
@@ -102,6 +142,8 @@ module _ (w : EditorState) (h : IsBounded w) where
     undone = tt;
     history = h.history;
     kills = h.kills;
+    pattern = h.pattern;
+    began = h.began;
     lines = h.lines;
     steps = elim (cases_Bool w.typing) [ inl on ↦ rw on (omega (arith, h.steps)) | inr off ↦ rw off (omega (arith, take-short w.limits.steps (w.line ∷ w.past))) ];
   }
@@ -114,6 +156,8 @@ module _ (w : EditorState) (h : IsBounded w) where
     undone = h.undone;
     history = h.history;
     kills = h.kills;
+    pattern = h.pattern;
+    began = h.began;
     lines = h.lines;
     steps = h.steps;
   }
@@ -149,6 +193,8 @@ module _ (w : EditorState) (h : IsBounded w) where
         undone = b.undone;
         history = b.history;
         kills = with-shown w.limits.kills w.last target (c ∷ piece) w.kills k h.kills;
+        pattern = b.pattern;
+        began = b.began;
         lines = b.lines;
         steps = b.steps;
       }
@@ -166,6 +212,8 @@ module _ (w : EditorState) (h : IsBounded w) where
     undone = (h.line, h.undone);
     history = h.history;
     kills = h.kills;
+    pattern = h.pattern;
+    began = h.began;
     lines = h.lines;
     steps = omega (arith, le);
   }
@@ -179,6 +227,8 @@ module _ (w : EditorState) (h : IsBounded w) where
     undone = k.1;
     history = h.history;
     kills = h.kills;
+    pattern = h.pattern;
+    began = h.began;
     lines = h.lines;
     steps = omega (arith, le);
   }
@@ -198,6 +248,8 @@ module _ (w : EditorState) (h : IsBounded w) where
         undone = b.undone;
         history = b.history;
         kills = b.kills;
+        pattern = b.pattern;
+        began = b.began;
         lines = b.lines;
         steps = b.steps;
       }
@@ -219,6 +271,8 @@ module _ (w : EditorState) (h : IsBounded w) where
         undone = b.undone;
         history = b.history;
         kills = b.kills;
+        pattern = b.pattern;
+        began = b.began;
         lines = b.lines;
         steps = b.steps;
       }
@@ -267,6 +321,56 @@ module _ (w : EditorState) (h : IsBounded w) where
   bounded-after : (action : Action) → is_too_long (more_by action w) w ≡ false → IsBounded (after action w)
   bounded-after action room = bounded-last (acted action w) (last_after action w) (bounded-acted action room)
 
+  -- ---- incremental searches
+
+  bounded-brought_to : (number : ℕ) (o : Option Split) → IfSome o (IsHeld w.limits) → IsBounded (brought_to number o w)
+  bounded-brought_to number None k = h
+  bounded-brought_to number (Some d) k = bounded-left d number k
+
+  bounded-brought : (number : ℕ) → IsBounded (brought number w)
+  bounded-brought number =
+      elim (cases_Bool (has_found w.last && w.back == number)) [
+        | inl there ↦ rw there h
+        | inr new ↦ rw new (bounded-brought_to number (slice_get w.history (number - 1)) (all-get w.limits w.history (number - 1) h.history))
+      ]
+
+  bounded-sought : (ahead : Bool) (o : Option ℕ) → IsBounded (sought_on ahead o w)
+  bounded-sought ahead None = bounded-last w _ h
+  bounded-sought ahead (Some number) = bounded-last (brought number w) _ (bounded-brought number)
+
+  bounded-begun : (ahead : Bool) → IsBounded (begun ahead w)
+  bounded-begun ahead = bounded-last _ _ (bounded-search-of w (record { pattern = empty_line; line = w.line; back = w.back }) h (held-empty w.limits) h.line)
+
+  bounded-next : (ahead : Bool) → IsBounded (sought_next ahead w)
+  bounded-next ahead = elim (cases_Bool (is_seeking w.last)) [ inl on ↦ rw on (bounded-sought ahead (found_next ahead w)) | inr off ↦ rw off (bounded-begun ahead) ]
+
+  bounded-with : (pattern : Split) → IsHeld w.limits pattern → IsBounded (sought_with pattern w)
+  bounded-with pattern k =
+      let ahead = is_ahead w.last in
+      let found = found_here (line_text pattern) ahead w in
+      let same = limits-sought ahead found w in
+      let P : Limits → Type 0 = λ l. IsHeld l pattern in
+      let Q : Limits → Type 0 = λ l. IsHeld l w.search.line in
+      bounded-search-of (sought_on ahead found w) (record w.search { pattern = pattern }) (bounded-sought ahead found) (subst P (sym same) k) (subst Q (sym same) h.began)
+
+  bounded-more : (c : ℕ) → IsBounded (sought_more c w)
+  bounded-more c =
+      elim (cases_Bool (is_more c w)) [
+        | inl more ↦ rw more (
+            let parts = and_parts _ _ more in
+            let few = leb-true (size (line_text w.search.pattern) + size (c ∷ [])) w.limits.bytes parts.1 in
+            bounded-with (inserted (c ∷ []) w.search.pattern)
+            (held-inserted w.limits (c ∷ []) w.search.pattern h.pattern (and_from _ _ parts.0 refl) (omega (arith, few))))
+        | inr none ↦ rw none h
+      ]
+
+  bounded-put_back : IsBounded (put_back w)
+  bounded-put_back =
+      elim (cases_Bool (has_found w.last)) [
+        | inl found ↦ rw found (bounded-back (changed w.search.line w) w.search.back (bounded-changed w.search.line h.began))
+        | inr none ↦ rw none h
+      ]
+
   -- ---- lines that go
 
   bounded-ended : (history : List Split) → AllByRecursion (IsKept w.limits) history → length history ≤ w.limits.lines
@@ -278,6 +382,8 @@ module _ (w : EditorState) (h : IsBounded w) where
     undone = tt;
     history = k;
     kills = h.kills;
+    pattern = held-empty w.limits;
+    began = held-empty w.limits;
     lines = le;
     steps = omega arith;
   }
@@ -342,6 +448,8 @@ bounded-loaded w h text =
       undone = h.undone;
       history = all-take w.limits (IsKept w.limits) w.limits.lines all (all-reverse (IsKept w.limits) (map loaded_line (filter (has_room w.limits) (map pasted_part (lines_of text)))) (all-loaded w.limits (lines_of text)));
       kills = h.kills;
+      pattern = h.pattern;
+      began = h.began;
       lines = take-short w.limits.lines all;
       steps = h.steps;
     }
@@ -352,6 +460,11 @@ bounded-done (Pastes text) w h room = bounded-last (write (pasted_part text) w) 
 bounded-done Accepts w h room = bounded-remembered w h (line_text w.line) refl
 bounded-done LetsGo w h room = bounded-ended w h w.history h.history h.lines
 bounded-done (Loads text) w h room = bounded-loaded w h text
+bounded-done (Seeks ahead) w h room = bounded-next w h ahead
+bounded-done (SeeksMore c) w h room = bounded-more w h c
+bounded-done SeeksLess w h room = bounded-with w h (erased (Back Cluster) w.search.pattern) (held-erased w.limits (Back Cluster) w.search.pattern h.pattern)
+bounded-done GivesUp w h room = bounded-last (put_back w) (rung w.last) (bounded-put_back w h)
+bounded-done Ends w h room = bounded-last w Other h
 bounded-done Clears w h room = bounded-last w Other h
 bounded-done Closes w h room = h
 bounded-done Nothing w h room = h

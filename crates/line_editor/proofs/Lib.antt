@@ -11,6 +11,8 @@ pub mod Seeing
 pub mod Searching
 pub mod Showing
 pub mod Ringing
+pub mod Numbering
+pub mod Looking
 mod Running
 pub mod Loading
 pub mod Turning

@@ -9,7 +9,7 @@ use Rattle.std.specs.Str.{chars, IsCharBoundary, IsUtf8}
 use Rattle.std.specs.declared.string.String.{String}
 use Rattle.unicode_segmentation.specs.Segments.{chars_before}
 use Rattle.line_editor.specs.declared.last.Last.{Last}
-use Rattle.line_editor.specs.declared.last.Last.TheVariants.{Killed, Other, Walked, Yanked}
+use Rattle.line_editor.specs.declared.last.Last.TheVariants.{Killed, Other, Seeking, Walked, Yanked}
 use Rattle.line_editor.specs.declared.places.Target.{Target}
 use Rattle.line_editor.specs.declared.places.Target.TheVariants.{Back, Forward}
 use Rattle.line_editor.specs.Kills.{kept_by, kill_at, kill_text, kills_before, kills_with, texts}
@@ -37,6 +37,7 @@ kept-shown Other kills h = refl
 kept-shown Walked kills h = refl
 kept-shown Killed kills h = kill-shown kills 0 h
 kept-shown Yanked kills h = refl
+kept-shown (Seeking s) kills h = refl
 
 before-shown : (last : Last) (kills : List (List ℕ)) → AllByRecursion AreShown kills → AllByRecursion AreShown (kills_before last kills)
 before-shown Other kills h = h
@@ -44,6 +45,7 @@ before-shown Walked kills h = h
 before-shown Killed [] h = tt
 before-shown Killed (text ∷ kills) h = h.1
 before-shown Yanked kills h = h
+before-shown (Seeking s) kills h = h
 
 joined-shown : (target : Target) (text kept : List ℕ) → AreShown text → AreShown kept → AreShown (kill_text target text kept)
 joined-shown (Back stop) text kept k l = shown-append text kept k l
@@ -63,6 +65,7 @@ before-texts Walked items = refl
 before-texts Killed [] = refl
 before-texts Killed (x ∷ items) = refl
 before-texts Yanked items = refl
+before-texts (Seeking s) items = refl
 
 module _ {A : Type 0} (limit : ℕ) (last : Last) (killed : String A) (items new : List (String A)) (e : new ≡ take limit (killed ∷ kills_before last items)) where
   pub kept-texts : texts new ≡ take limit (chars (string_bytes killed) ∷ kills_before last (texts items))

@@ -5,7 +5,8 @@ use Rattle.std.proofs.lemmas.Str.{encodes-chars}
 use Rattle.std.specs.Prelude.{Bool, Option, ◌-◌, ◌<◌, true, false, Some, None, zero, suc, encode_utf8_all, slice_get}
 use Rattle.std.specs.Option.{option_and_then, option_map}
 use Rattle.std.specs.Str.{bytes_eq, chars, IsUtf8}
-use Rattle.line_editor.specs.declared.last.Last.TheVariants.{Other, Walked, Yanked}
+use Rattle.line_editor.specs.declared.last.Last.TheVariants.{Other, Seeking, Walked, Yanked}
+use Rattle.line_editor.specs.declared.last.Seek.{Seek}
 use Rattle.line_editor.specs.Splits.{Split, split_at, line_text}
 use Rattle.line_editor.specs.Edits.{line_with, settled}
 use Rattle.line_editor.specs.Kills.{kept_by}
@@ -104,6 +105,9 @@ kept-other w is = rw is refl
 
 pub kept-walked : (w : EditorState) → w.last ≡ Walked → [] ≡ kept_by w.last w.kills
 kept-walked w is = rw is refl
+
+pub kept-seeking : (w : EditorState) (s : Seek) → w.last ≡ Seeking s → [] ≡ kept_by w.last w.kills
+kept-seeking w s is = rw is refl
 
 pub kept-yanked : (w : EditorState) → w.last ≡ Yanked → [] ≡ kept_by w.last w.kills
 kept-yanked w is = rw is refl

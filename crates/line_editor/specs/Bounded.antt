@@ -25,6 +25,8 @@ pub record IsBounded (w : EditorState) : Type 0 where
   pub undone : AllByRecursion (IsHeld w.limits) w.undone
   pub history : AllByRecursion (IsKept w.limits) w.history
   pub kills : AllByRecursion AreShown w.kills
+  pub pattern : IsHeld w.limits w.search.pattern
+  pub began : IsHeld w.limits w.search.line
   pub lines : length w.history ≤ w.limits.lines
   pub steps : length w.past + length w.undone ≤ w.limits.steps
 

@@ -8,7 +8,7 @@ use Rattle.crossterm_types.specs.declared.event.key.KeyEventKind.{KeyEventKind}
 use Rattle.crossterm_types.specs.declared.event.key.KeyEventKind.TheVariants.{Press, Repeat, Release}
 use Rattle.line_editor.specs.declared.actions.Action.TheVariants.{Insert, Go, Erase, Kill, Yank, YankPop, Transpose, Undo, Redo, Older, Newer, Search, SearchForward}
 use Rattle.line_editor.specs.declared.keys.KeyCommand.{KeyCommand}
-use Rattle.line_editor.specs.declared.keys.KeyCommand.TheVariants.{Act, Accept, Interrupt, EraseOrClose, Clear}
+use Rattle.line_editor.specs.declared.keys.KeyCommand.TheVariants.{Act, Accept, Interrupt, EraseOrClose, Clear, SearchBack, SearchAhead, Abort, EndSearch}
 use Rattle.line_editor.specs.declared.places.Stop.TheVariants.{Cluster, WordStart, WordEnd, Blank, Edge}
 use Rattle.line_editor.specs.declared.places.Target.TheVariants.{Back, Forward}
 
@@ -17,6 +17,7 @@ use Rattle.line_editor.specs.declared.places.Target.TheVariants.{Back, Forward}
 abbrev pub unmodified : KeyCode → Option KeyCommand
 unmodified (key.Char c) = Some (Act (Insert c))
 unmodified key.Enter = Some Accept
+unmodified key.Esc = Some EndSearch
 unmodified key.Backspace = Some (Act (Erase (Back Cluster)))
 unmodified key.Delete = Some (Act (Erase (Forward Cluster)))
 unmodified key.Left = Some (Act (Go (Back Cluster)))
@@ -38,8 +39,8 @@ row_in (row ∷ rows) c = if c == row.0 then Some row.1 else row_in rows c
 abbrev pub control_rows : List (ℕ × KeyCommand)
 control_rows =
     (97, Act (Go (Back Edge))) ∷ (98, Act (Go (Back Cluster))) ∷ (99, Interrupt) ∷ (100, EraseOrClose) ∷ (101, Act (Go (Forward Edge))) ∷
-    (102, Act (Go (Forward Cluster))) ∷ (104, Act (Erase (Back Cluster))) ∷ (106, Accept) ∷ (107, Act (Kill (Forward Edge))) ∷ (108, Clear) ∷ (109, Accept) ∷
-    (110, Act Newer) ∷ (112, Act Older) ∷ (114, Act Search) ∷ (116, Act Transpose) ∷ (117, Act (Kill (Back Edge))) ∷
+    (102, Act (Go (Forward Cluster))) ∷ (103, Abort) ∷ (104, Act (Erase (Back Cluster))) ∷ (106, Accept) ∷ (107, Act (Kill (Forward Edge))) ∷ (108, Clear) ∷ (109, Accept) ∷
+    (110, Act Newer) ∷ (112, Act Older) ∷ (114, SearchBack) ∷ (115, SearchAhead) ∷ (116, Act Transpose) ∷ (117, Act (Kill (Back Edge))) ∷
     (119, Act (Kill (Back Blank))) ∷ (121, Act Yank) ∷ (95, Act Undo) ∷ (55, Act Undo) ∷ []
 
 -- What letters with Alt ask for: to go back or forward by a word, to kill one, and to turn the ring of kills.

@@ -1,5 +1,6 @@
 -- Laws: what edits keep.
-use Rattle.std.specs.Prelude.{◌≡◌, ◌≤◌, ◌+◌, ℕ, zero, suc, ⊤, true, false, List, [], ◌∷◌, ◌++◌, length, reverse}
+use Rattle.std.specs.Prelude.{◌≡◌, ◌≤◌, ◌+◌, ℕ, zero, suc, ⊤, Bool, MatchOption, true, false, List, [], ◌∷◌, ◌++◌, length, reverse}
+use Rattle.std.specs.List.{AllByRecursion}
 use Rattle.line_editor.specs.declared.actions.Action.{Action}
 use Rattle.line_editor.specs.declared.actions.Action.TheVariants.{Newer, Older, Redo, Undo}
 use Rattle.line_editor.specs.declared.last.Last.TheVariants.{Other}
@@ -7,6 +8,7 @@ use Rattle.line_editor.specs.declared.places.Target.{Target}
 use Rattle.line_editor.specs.Splits.{Split, line_text}
 use Rattle.line_editor.specs.Edits.{cut_text, reach_end, erased, inserted, start_of}
 use Rattle.line_editor.specs.Places.{is_between, target_place}
+use Rattle.line_editor.specs.Seeking.{contains, first_number}
 use Rattle.line_editor.specs.States.{EditorState, after, run_actions}
 
 -- A move keeps the text.
@@ -76,3 +78,25 @@ CanBeUndone actions w =
 -- A redo gives back what an undo took. Then nothing goes on with what was done before.
 abbrev pub RedoesUndone : EditorState → Type 0
 RedoesUndone w = (d : Split) (past : List Split) → w.past ≡ d ∷ past → after Redo (after Undo w) ≡ record w { typing = false; last = Other }
+
+-- ---- searches
+
+-- A text contains a pattern exactly if the pattern is a piece of it.
+pub record FindsPiece (pattern text : List ℕ) : Type 0 where
+  pub found : contains pattern text ≡ true → (front : List ℕ) × (back : List ℕ) × (text ≡ front ++ (pattern ++ back))
+  pub missed : contains pattern text ≡ false → (front back : List ℕ) → text ≡ front ++ (pattern ++ back) → ⊥
+
+-- A line that is looked for has this number, and none of those before it is looked for.
+pub record IsNearest (is : List ℕ → Bool) (passed number : ℕ) (lines : List Split) : Type 0 where
+  pub front : List Split
+  pub line : Split
+  pub back : List Split
+  pub are : lines ≡ front ++ line ∷ back
+  pub count : number ≡ passed + (length front + 1)
+  pub before : AllByRecursion (λ d. is (line_text d) ≡ false) front
+  pub here : is (line_text line) ≡ true
+
+-- A search back finds the nearest line that is looked for, and `None` if no line is.
+abbrev pub FindsNearest : (List ℕ → Bool) → ℕ → List Split → Type 0
+FindsNearest is passed lines =
+    MatchOption (first_number is passed lines) (AllByRecursion (λ d. is (line_text d) ≡ false) lines) (λ number. IsNearest is passed number lines)

@@ -7,6 +7,7 @@ pub mod Kills
 pub mod Shown
 pub mod States
 pub mod Bounds
+pub mod Seeking
 pub mod History
 pub mod Tasks
 pub mod Bounded

@@ -17,6 +17,16 @@ use Rattle.line_editor.specs.Kills.{kill_at, kills_with, next_place}
 use Rattle.line_editor.specs.Places.{target_place}
 use Rattle.line_editor.specs.Shown.{is_shown, pasted_part}
 
+-- An incremental search: what it looks for, and the line from which it began with its place in the history.
+pub record LineSearch : Type 0 where
+  pub pattern : Split
+  pub line : Split
+  pub back : ℕ
+
+-- A search that looks for nothing.
+abbrev pub no_search : LineSearch
+no_search = record { pattern = empty_line; line = empty_line; back = 0 }
+
 -- An editor: its line, and what came before it.
 pub record EditorState : Type 0 where
   -- The limits of all that follows.
@@ -35,6 +45,8 @@ pub record EditorState : Type 0 where
   pub back : ℕ
   -- The line that was left for one of the history.
   pub unfinished : Split
+  -- The last incremental search.
+  pub search : LineSearch
   -- Whether a character was typed last, which is undone with the next one.
   pub typing : Bool
   -- What the last action was, as far as the next one goes on with it.
@@ -52,6 +64,7 @@ fresh limits = record {
   history = [];
   back = 0;
   unfinished = empty_line;
+  search = no_search;
   typing = false;
   last = Other;
 }
@@ -296,17 +309,22 @@ acted does.Newer w = newer_from w.back w
 acted does.Search w = searched_to (found w) w
 acted does.SearchForward w = searched_forward (sought w) w
 
+-- The last action after something that only rings the bell. Kills go on side by side, and nothing else does.
+abbrev pub rung : Last → Last
+rung Killed = Killed
+rung last = Other
+
 -- What a turn of the ring is to the next action: a yank, if there was one.
-abbrev pub last_popped : Option (List ℕ) → Last
-last_popped None = Other
-last_popped (Some before) = Yanked
+abbrev pub last_popped : Option (List ℕ) → Last → Last
+last_popped None last = rung last
+last_popped (Some before) last = Yanked
 
 -- What an action is to the next one. A kill that cuts nothing is no kill, and a yank of nothing no yank.
 abbrev pub last_after : Action → EditorState → Last
 last_after does.Search w = if is_empty (sought w) then Walked else Other
 last_after does.SearchForward w = if is_empty (sought w) then Walked else Other
 last_after does.Yank w = if is_empty (yanked w) then Other else Yanked
-last_after does.YankPop w = last_popped (before_yank w)
+last_after does.YankPop w = last_popped (before_yank w) w.last
 last_after (does.Kill target) w = if is_empty (cut_text target w.line) then Other else Killed
 last_after action w = Other
 

@@ -1,9 +1,9 @@
 -- What an editor does at events, one after another.
-use Rattle.std.specs.Prelude.{◌≡◌, ⊤, ℕ, true, false, List, [], ◌∷◌, ◌++◌, Option, Some, None, string_bytes}
+use Rattle.std.specs.Prelude.{◌≡◌, ⊤, ℕ, true, false, List, [], ◌∷◌, ◌++◌, Bool, Option, Some, None, if◌then◌else◌, not, string_bytes}
 use Rattle.std.specs.Str.{chars}
 use Rattle.crossterm_types.specs.Seen.{Seen}
 use Rattle.crossterm_types.specs.Seen as seen
-use Rattle.line_editor.specs.declared.actions.Action.TheVariants.{Erase}
+use Rattle.line_editor.specs.declared.actions.Action.TheVariants.{Erase, Insert}
 use Rattle.line_editor.specs.declared.fault.EditFault.{EditFault}
 use Rattle.line_editor.specs.declared.fault.EditFault.TheVariants.{TooLong}
 use Rattle.line_editor.specs.declared.keys.KeyCommand.{KeyCommand}
@@ -11,25 +11,55 @@ use Rattle.line_editor.specs.declared.keys.KeyCommand.TheVariants as asks
 use Rattle.line_editor.specs.declared.outcome.Outcome.{Outcome}
 use Rattle.line_editor.specs.declared.outcome.Outcome.TheVariants as outcome
 use Rattle.line_editor.specs.declared.places.Stop.TheVariants.{Cluster}
-use Rattle.line_editor.specs.declared.places.Target.TheVariants.{Forward}
+use Rattle.line_editor.specs.declared.places.Target.TheVariants.{Back, Forward}
+use Rattle.line_editor.specs.declared.seeking.SearchKey.{SearchKey}
+use Rattle.line_editor.specs.declared.seeking.SearchKey.TheVariants.{GiveUp, Less, More}
 use Rattle.line_editor.specs.Bounds.{is_too_long}
 use Rattle.line_editor.specs.Keys.{command_of}
+use Rattle.line_editor.specs.Seeking.{is_seeking, rings_less, rings_more, rings_next}
 use Rattle.line_editor.specs.Splits.{line_text}
 use Rattle.line_editor.specs.States.{EditorState}
-use Rattle.line_editor.specs.Tasks.{Task, Acts, Pastes, Accepts, LetsGo, Clears, Closes, Nothing, done, task_more}
+use Rattle.line_editor.specs.Tasks.{Task, Acts, Pastes, Accepts, LetsGo, Seeks, SeeksMore, SeeksLess, GivesUp, Ends, Clears, Closes, Nothing, done, task_more}
 
 -- The task of Control-D: an empty text closes, and in another one the cluster at the cursor is erased.
 abbrev pub erase_or_close : List ℕ → Task
 erase_or_close [] = Closes
 erase_or_close (c ∷ text) = Acts (Erase (Forward Cluster))
 
+-- The task of a command if no search goes on.
+abbrev pub plain_task : KeyCommand → EditorState → Task
+plain_task (asks.Act action) w = Acts action
+plain_task asks.Accept w = Accepts
+plain_task asks.Interrupt w = LetsGo
+plain_task asks.EraseOrClose w = erase_or_close (line_text w.line)
+plain_task asks.Clear w = Clears
+plain_task asks.SearchBack w = Seeks false
+plain_task asks.SearchAhead w = Seeks true
+plain_task asks.Abort w = GivesUp
+plain_task asks.EndSearch w = Ends
+
+-- What the key of a command is to a search, or `None` if it ends it. Characters and Backspace are for what it looks for,
+-- and an interrupt gives it up.
+abbrev pub search_key : KeyCommand → Option SearchKey
+search_key (asks.Act (Insert c)) = Some (More c)
+search_key (asks.Act (Erase (Back Cluster))) = Some Less
+search_key asks.Interrupt = Some GiveUp
+search_key command = None
+
+-- The task of a key of a search.
+abbrev pub search_task : SearchKey → Task
+search_task (More c) = SeeksMore c
+search_task Less = SeeksLess
+search_task GiveUp = GivesUp
+
+-- The task of a command while a search goes on.
+abbrev pub seeking_task : Option SearchKey → KeyCommand → EditorState → Task
+seeking_task None command w = plain_task command w
+seeking_task (Some key) command w = search_task key
+
 -- The task of a command.
 abbrev pub task_of_command : KeyCommand → EditorState → Task
-task_of_command (asks.Act action) w = Acts action
-task_of_command asks.Accept w = Accepts
-task_of_command asks.Interrupt w = LetsGo
-task_of_command asks.EraseOrClose w = erase_or_close (line_text w.line)
-task_of_command asks.Clear w = Clears
+task_of_command command w = if is_seeking w.last then seeking_task (search_key command) command w else plain_task command w
 
 -- The task of a key with a command. A key without one does nothing.
 abbrev pub task_of_key : Option KeyCommand → EditorState → Task
@@ -48,6 +78,8 @@ pub data Answer : Type 0 where
   Going : Answer
   -- The line goes on, and is drawn anew at the top of an empty window.
   Clear : Answer
+  -- The line goes on, and the bell rings.
+  Ring : Answer
   -- The line was accepted.
   Line : List ℕ → Answer
   -- The line was interrupted.
@@ -59,16 +91,26 @@ pub data Answer : Type 0 where
 abbrev pub seen_outcome : {A : Type 0} → Outcome A → Answer
 seen_outcome outcome.Going = Going
 seen_outcome outcome.Clear = Clear
+seen_outcome outcome.Ring = Ring
 seen_outcome (outcome.Line text) = Line (chars (string_bytes text))
 seen_outcome outcome.Interrupted = Interrupted
 seen_outcome outcome.Closed = Closed
 
+-- The outcome of a key that may only ring.
+abbrev pub ring_if : Bool → Answer
+ring_if true = Ring
+ring_if false = Going
+
 -- The outcome of a task: the line's text if it is accepted, an interruption, a closing, a clearing, or else the line
--- goes on.
+-- goes on. The bell rings if a search finds nothing, or if there is none to give up.
 abbrev pub answer : Task → EditorState → Answer
 answer Accepts w = Line (line_text w.line)
 answer LetsGo w = Interrupted
 answer Clears w = Clear
+answer (Seeks ahead) w = ring_if (rings_next ahead w)
+answer (SeeksMore c) w = ring_if (rings_more c w)
+answer SeeksLess w = ring_if (rings_less w)
+answer GivesUp w = ring_if (not (is_seeking w.last))
 answer Closes w = Closed
 answer task w = Going
 
@@ -84,6 +126,7 @@ event_more event w = task_more (task_of event w) w
 abbrev pub IsGoing : Answer → Type 0
 IsGoing Going = ⊤
 IsGoing Clear = ⊤
+IsGoing Ring = ⊤
 IsGoing answer = ⊥
 
 -- The line of an outcome, if it is one.

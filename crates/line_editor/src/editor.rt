@@ -13,14 +13,14 @@ ghost use Rattle.line_editor.specs.Places.{target_place};
 ghost use Rattle.line_editor.specs.Shown.{AreShown, pasted_part};
 ghost use Rattle.line_editor.specs.Splits.{line_text};
 ghost use Rattle.line_editor.specs.inside.Changes.{bytes_before, line_bytes};
-ghost use Rattle.line_editor.specs.States.{IsMove, accepted, acted, after, before_yank, broken_off, changed, dropped, erase_cut, found, found_newer, fresh, is_ignored, kill_cut, last_after, left_for, moved, newer_from, newer_line, next_yank, older_to, pasted_into, popped_to, redo_to, remembered, run_actions, searched_forward, searched_to, sought, transpose_at, type_char, after_typing, undo_to, write, yanked};
+ghost use Rattle.line_editor.specs.States.{IsMove, accepted, acted, after, before_yank, broken_off, changed, dropped, erase_cut, found, found_newer, fresh, is_ignored, kill_cut, last_after, last_popped, left_for, moved, newer_from, newer_line, next_yank, older_to, pasted_into, popped_to, redo_to, remembered, run_actions, searched_forward, searched_to, sought, transpose_at, type_char, after_typing, undo_to, write, yanked};
 
 use crate::actions::Action;
 use crate::draft::Draft;
 use crate::fault::EditFault;
 use crate::history::{history_of, saved};
 use crate::kills::{keep, kill_at, next_place};
-use crate::last::Last;
+use crate::last::{Last, rung};
 use crate::limits::Limits;
 use crate::lines::Line;
 use crate::places::{Stop, Target};
@@ -42,16 +42,20 @@ use std::marker::Model;
 #[derive(Drop)]
 pub struct Editor<A: Allocator = Global> {
     alloc: A,
-    limits: Limits,
-    draft: Draft<A>,
+    pub(crate) limits: Limits,
+    pub(crate) draft: Draft<A>,
     kills: VecDeque<String<A>, A>,
     // How many kills are newer than the one that a yank writes.
     yank_at: usize,
-    history: RecentLines<A>,
-    back: usize,
+    pub(crate) history: RecentLines<A>,
+    pub(crate) back: usize,
     unfinished: Line<A>,
+    // What an incremental search looks for, and the line from which it began with its place in the history.
+    pub(crate) pattern: Line<A>,
+    pub(crate) began: Line<A>,
+    pub(crate) began_back: usize,
     // What the last action was.
-    last: Last,
+    pub(crate) last: Last,
 }
 
 impl<A: Allocator> Model for Editor<A> {
@@ -70,6 +74,7 @@ impl<A: Allocator> Model for Editor<A> {
       history = e.history;
       back = e.back;
       unfinished = e.unfinished;
+      search = record { pattern = e.pattern; line = e.began; back = e.began_back };
       typing = e.draft.typing;
       last = e.last;
     } };
@@ -92,6 +97,9 @@ fn started<A: Allocator + Clone>(alloc: A, limits: Limits) -> Result<Editor<A>, 
         history: RecentLines::new(alloc.clone()?),
         back: 0,
         unfinished: Line::new(alloc.clone()?),
+        pattern: Line::new(alloc.clone()?),
+        began: Line::new(alloc.clone()?),
+        began_back: 0,
         last: Last::Other,
         alloc,
     })
@@ -152,7 +160,7 @@ impl<A: Allocator> Editor<A> {
     {
         match self.last {
             Last::Yanked => self.draft.line().place_before(self.yanked()),
-            Last::Other | Last::Walked | Last::Killed => None,
+            Last::Other | Last::Walked | Last::Killed | Last::Seeking(_) => None,
         }
     }
 
@@ -201,6 +209,9 @@ impl<A: Allocator> Editor<A> {
     {
         self.draft.clear();
         self.unfinished.clear();
+        self.pattern.clear();
+        self.began.clear();
+        self.began_back = 0;
         self.back = 0;
         self.last = Last::Other;
     }
@@ -244,7 +255,7 @@ impl<A: Allocator + Clone> Editor<A> {
     }
 
     /// Another line takes the line's place, and the one before can be undone.
-    fn change(&mut self, line: Line<A>) -> Result<(), AllocError>
+    pub(crate) fn change(&mut self, line: Line<A>) -> Result<(), AllocError>
         ensures ok { OnOk result (self.new ≡ changed line self.old) }
         ensures err { OnErr result (self.new ≡ self.old) }
     {
@@ -303,6 +314,7 @@ impl<A: Allocator + Clone> Editor<A> {
             Last::Other => "",
             Last::Walked => "",
             Last::Yanked => "",
+            Last::Seeking(_) => "",
         }
     }
 
@@ -397,7 +409,7 @@ impl<A: Allocator + Clone> Editor<A> {
     }
 
     /// Shows a line of the history, and keeps the line if it isn't one.
-    fn leave_for(&mut self, line: Line<A>) -> Result<(), AllocError>
+    pub(crate) fn leave_for(&mut self, line: Line<A>) -> Result<(), AllocError>
         ensures ok { OnOk result (self.new ≡ left_for line self.old) }
         ensures err { OnErr result (self.new ≡ self.old) }
     {
@@ -466,7 +478,9 @@ impl<A: Allocator + Clone> Editor<A> {
     {
         match self.last {
             Last::Walked => "",
-            Last::Other | Last::Killed | Last::Yanked => self.draft.line().before(),
+            Last::Other | Last::Killed | Last::Yanked | Last::Seeking(_) => {
+                self.draft.line().before()
+            }
         }
     }
 
@@ -548,6 +562,16 @@ impl<A: Allocator + Clone> Editor<A> {
         }
     }
 
+    /// What a turn of the ring is to the next action.
+    fn last_popped(&self) -> Last
+        ensures { result ≡ last_popped (before_yank self.now) self.now.last }
+    {
+        match self.before_yank() {
+            Some(_) => Last::Yanked,
+            None => rung(self.last),
+        }
+    }
+
     /// What an action is to the next one.
     fn last_after(&self, action: Action) -> Last
         ensures { result ≡ last_after action self.now }
@@ -557,7 +581,7 @@ impl<A: Allocator + Clone> Editor<A> {
             Action::SearchForward if is_nothing(self.sought()) => Last::Walked,
             Action::Kill(target) if !is_nothing(self.draft.line().cut(target)) => Last::Killed,
             Action::Yank if !is_nothing(self.yanked()) => Last::Yanked,
-            Action::YankPop if self.before_yank().is_some() => Last::Yanked,
+            Action::YankPop => self.last_popped(),
             _ => Last::Other,
         }
     }

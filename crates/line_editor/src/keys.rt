@@ -19,6 +19,14 @@ pub enum KeyCommand {
     EraseOrClose,
     /// To draw the line anew at the top of an empty window (`clear-screen`).
     Clear,
+    /// To begin an incremental search, or to go on to an older line (`reverse-search-history`).
+    SearchBack,
+    /// To begin one, or to go on to a newer line (`forward-search-history`).
+    SearchAhead,
+    /// To give an incremental search up (`abort`).
+    Abort,
+    /// To take what an incremental search found (Esc).
+    EndSearch,
 }
 
 /// What a key asks for without Control and Alt.
@@ -28,6 +36,7 @@ fn plain(code: KeyCode) -> Option<KeyCommand>
     let action = match code {
         KeyCode::Char(c) => Action::Insert(c),
         KeyCode::Enter => return Some(KeyCommand::Accept),
+        KeyCode::Esc => return Some(KeyCommand::EndSearch),
         KeyCode::Backspace => Action::Erase(Target::Back(Stop::Cluster)),
         KeyCode::Delete => Action::Erase(Target::Forward(Stop::Cluster)),
         KeyCode::Left => Action::Go(Target::Back(Stop::Cluster)),
@@ -54,6 +63,7 @@ fn control_char(c: char) -> Option<KeyCommand>
         'd' => return Some(KeyCommand::EraseOrClose),
         'e' => Action::Go(Target::Forward(Stop::Edge)),
         'f' => Action::Go(Target::Forward(Stop::Cluster)),
+        'g' => return Some(KeyCommand::Abort),
         'h' => Action::Erase(Target::Back(Stop::Cluster)),
         'j' => return Some(KeyCommand::Accept),
         'k' => Action::Kill(Target::Forward(Stop::Edge)),
@@ -61,7 +71,8 @@ fn control_char(c: char) -> Option<KeyCommand>
         'm' => return Some(KeyCommand::Accept),
         'n' => Action::Newer,
         'p' => Action::Older,
-        'r' => Action::Search,
+        'r' => return Some(KeyCommand::SearchBack),
+        's' => return Some(KeyCommand::SearchAhead),
         't' => Action::Transpose,
         'u' => Action::Kill(Target::Back(Stop::Edge)),
         'w' => Action::Kill(Target::Back(Stop::Blank)),
@@ -136,13 +147,15 @@ fn both(code: KeyCode) -> Option<KeyCommand>
 /// | Ctrl-T | `transpose-chars` |
 /// | Ctrl-_ | `undo` |
 /// | Up, Ctrl-P; Down, Ctrl-N | `previous-history`, `next-history` |
-/// | Page Up, and Ctrl-R in place of `reverse-search-history`; Page Down | `history-search-backward`, `history-search-forward` |
+/// | Ctrl-R; Ctrl-S | `reverse-search-history`, `forward-search-history` |
+/// | Ctrl-G | `abort` |
+/// | Page Up; Page Down | `history-search-backward`, `history-search-forward` |
 /// | Ctrl-L | `clear-screen` |
 /// | Enter, Ctrl-J, Ctrl-M | `accept-line` |
 /// | Ctrl-C | an interrupt |
 /// | Ctrl-Alt-_ | a redo, which readline hasn't |
 ///
-/// These are the 24 usual commands of the 85 that bash binds by default. Terminals report Ctrl-_ as Ctrl-7, and both are bound. Shift makes no
+/// These are the 27 usual commands of the 85 that bash binds by default. Terminals report Ctrl-_ as Ctrl-7, and both are bound. Shift makes no
 /// difference but in the character, and large letters with Control or Alt are as small ones.
 ///
 /// What differs from readline:
@@ -158,6 +171,13 @@ fn both(code: KeyCode) -> Option<KeyCommand>
 /// | Ctrl-_ takes back all characters that were typed side by side | 20 at a time |
 /// | Alt-Y is undone as one change | the yanked text is taken out and the other put in, one after the other |
 /// | the last 60 kills are kept | the last 10 |
+/// | an incremental search goes from line to line, with the cursor at the end of what it finds | from match to match, with the cursor at its start |
+/// | it looks in the accepted lines alone | in the line too |
+/// | Ctrl-S goes to a newer line at once | it turns a search back around first |
+/// | Ctrl-R on nothing rings | it looks for what was looked for last |
+/// | Ctrl-W, Ctrl-Y and a paste take what was found, as other keys do | they bring more into what is looked for |
+/// | Ctrl-C gives a search up | it lets the line go |
+/// | what Backspace brings back stays the line that is shown | an older line with the shorter text may come |
 /// | line ends and tabs of a paste are blanks | they are kept |
 ///
 /// ```

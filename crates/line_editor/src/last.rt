@@ -1,4 +1,15 @@
 //! What an editor's last action was.
+ghost use Rattle.std.specs.Prelude.{◌≡◌};
+ghost use Rattle.line_editor.specs.States.{rung};
+
+/// How far an incremental search is.
+#[derive(Clone, Copy, PartialEq, Eq, Debug)]
+pub(crate) struct Seek {
+    /// Whether it goes to newer lines.
+    pub(crate) ahead: bool,
+    /// Whether it has found a line.
+    pub(crate) found: bool,
+}
 
 /// What the last action was, as far as the next one goes on with it.
 #[derive(Clone, Copy, PartialEq, Eq, Debug)]
@@ -11,4 +22,16 @@ pub(crate) enum Last {
     Killed,
     /// A yank: the next turn of the ring puts another kill in its place.
     Yanked,
+    /// A key of an incremental search, which goes on.
+    Seeking(Seek),
+}
+
+/// The last action after something that only rings the bell.
+pub(crate) fn rung(last: Last) -> Last
+    ensures { result ≡ rung last }
+{
+    match last {
+        Last::Killed => Last::Killed,
+        Last::Other | Last::Walked | Last::Yanked | Last::Seeking(_) => Last::Other,
+    }
 }

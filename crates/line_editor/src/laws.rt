@@ -1,10 +1,10 @@
 //! Laws of lines and of their editor. None of these functions does anything when it runs: its contract is the law.
-ghost use Rattle.std.specs.Prelude.{List, ℕ};
+ghost use Rattle.std.specs.Prelude.{Bool, List, ℕ};
 ghost use Rattle.line_editor.specs.declared.actions.Action.{Action};
 ghost use Rattle.line_editor.specs.declared.places.Target.{Target};
 ghost use Rattle.line_editor.specs.declared.limits.Limits.{Limits};
 ghost use Rattle.line_editor.specs.Bounded.{LoadsSaved, StaysBounded};
-ghost use Rattle.line_editor.specs.Laws.{CanBeUndone, ComesBack, CutsOut, KeepsHistory, KeepsText, RedoesUndone, WritesAt, YanksBack};
+ghost use Rattle.line_editor.specs.Laws.{CanBeUndone, ComesBack, CutsOut, FindsNearest, FindsPiece, KeepsHistory, KeepsText, RedoesUndone, WritesAt, YanksBack};
 ghost use Rattle.line_editor.specs.Names.{NameReadsBack};
 ghost use Rattle.line_editor.specs.Seen.{IsSeenIn, KeepsClusters};
 ghost use Rattle.line_editor.specs.Splits.{Split};
@@ -49,6 +49,16 @@ pub fn can_be_undone()
 /// A redo gives back what an undo took.
 pub fn redoes_undone()
     ensures { (w : EditorState) → RedoesUndone w }
+{}
+
+/// A text contains a pattern exactly if the pattern is a piece of it.
+pub fn finds_piece()
+    ensures { (pattern text : List ℕ) → FindsPiece pattern text }
+{}
+
+/// A search back finds the nearest line that is looked for, and nothing if no line is.
+pub fn finds_nearest()
+    ensures { (is : List ℕ → Bool) (passed : ℕ) (lines : List Split) → FindsNearest is passed lines }
 {}
 
 /// What is seen of a line has room in a row, and so has the cursor, at its place in the line.

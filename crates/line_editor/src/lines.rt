@@ -1,5 +1,5 @@
 //! A line of text with a cursor.
-ghost use Rattle.std.specs.Prelude.{◌≡◌, ℕ, ◌+◌, ◌-◌, ◌<◌, ◌≤◌, List, [], ◌∷◌, ◌++◌, IfOk, MatchBool, MatchOption, None, Some, OnErr, OnOk, take, drop, length, reverse, slice_range};
+ghost use Rattle.std.specs.Prelude.{◌≡◌, ℕ, ◌+◌, ◌-◌, ◌<◌, ◌≤◌, List, [], ◌∷◌, ◌++◌, IfOk, MatchBool, MatchOption, None, Some, OnErr, OnOk, take, drop, length, reverse, slice_range, true};
 ghost use Rattle.std.specs.List.{insert_slice};
 ghost use Rattle.std.specs.String.{string_bytes};
 ghost use Rattle.std.specs.Str.{chars, IsCharBoundary};
@@ -8,7 +8,7 @@ ghost use Rattle.line_editor.specs.Bounds.{size};
 ghost use Rattle.line_editor.specs.Edits.{IsSettled, cut_text, empty_line, reach_end, erased, inserted, line_with, meeting, settled, start_of, transposed};
 ghost use Rattle.line_editor.specs.Places.{target_place};
 ghost use Rattle.line_editor.specs.Seen.{IsInClusters, IsSeen};
-ghost use Rattle.line_editor.specs.Shown.{AreShown};
+ghost use Rattle.line_editor.specs.Shown.{AreShown, is_shown};
 ghost use Rattle.line_editor.specs.Splits.{split_at, line_text};
 ghost use Rattle.line_editor.specs.States.{behind_front, found_line};
 ghost use Rattle.line_editor.specs.Views.{column, seen_text};
@@ -353,6 +353,34 @@ impl<A: Allocator + Clone> Line<A> {
     {
         let text = String::from_str(self.text.allocator().clone()?, self.text.as_str())?;
         Ok(Line { text, at: self.at })
+    }
+
+    /// The same line once more, with a character at the cursor.
+    ///
+    /// # Errors
+    ///
+    /// `AllocError` if memory was refused.
+    pub(crate) fn copy_with(&self, c: char) -> Result<Line<A>, AllocError>
+        requires { is_shown c ≡ true }
+        ensures { IfOk result (λ line. line ≡ inserted (c ∷ []) self.now) }
+    {
+        let mut line = self.copy()?;
+        let mut utf8 = [0u8; 4];
+        line.insert(c.encode_utf8(&mut utf8))?;
+        Ok(line)
+    }
+
+    /// The same line once more, without what a target reaches.
+    ///
+    /// # Errors
+    ///
+    /// `AllocError` if memory was refused.
+    pub(crate) fn copy_without(&self, target: Target) -> Result<Line<A>, AllocError>
+        ensures { IfOk result (λ line. line ≡ erased target self.now) }
+    {
+        let mut line = self.copy()?;
+        line.erase(target)?;
+        Ok(line)
     }
 
     /// Puts a text in place of what is between two places, with the cursor behind it, or behind the cluster that it ends in. Returns what

@@ -2,12 +2,13 @@
 ghost use Rattle.std.specs.Prelude.{◌≡◌, [], ◌∷◌, IfOk, IfSome, OnOk, OnErr, drop, length, slice_get, take};
 ghost use Rattle.std.specs.Option.{option_map};
 ghost use Rattle.std.specs.Str.{chars};
+ghost use Rattle.line_editor.specs.Seeking.{first_number, is_wanted, last_number, wanted};
 ghost use Rattle.line_editor.specs.Shown.{AreShown};
 ghost use Rattle.line_editor.specs.Splits.{line_text};
 ghost use Rattle.line_editor.specs.States.{first_with, is_newest, last_with};
 
 use crate::lines::Line;
-use crate::texts::{is_same, other_rest};
+use crate::texts::{is_same, is_wanted, other_rest};
 use std::alloc::{AllocError, Allocator, Global};
 use std::collections::VecDeque;
 use std::marker::Model;
@@ -117,6 +118,52 @@ impl<A: Allocator> RecentLines<A> {
                 if let Some(rest) = other_rest(text, front, shown) {
                     return Some((number, rest));
                 }
+            }
+            number -= 1;
+        }
+        None
+    }
+
+    /// Whether a line with so many newer ones has a pattern that isn't empty. If a text is shown, it must be another one.
+    fn has(&self, at: usize, pattern: &str, shown: Option<&str>) -> bool
+        ensures { result ≡ is_wanted (wanted (chars pattern.now) (option_map (λ text. chars text.now) shown.entry)) (slice_get self.now at) }
+    {
+        match self.text_at(at) {
+            None => false,
+            Some(text) => is_wanted(text, pattern, shown),
+        }
+    }
+
+    /// The number, from 1, of the first line behind so many newer ones that has a pattern.
+    pub(crate) fn number_from(
+        &self,
+        pattern: &str,
+        shown: Option<&str>,
+        from: usize,
+    ) -> Option<usize>
+        ensures { result ≡ first_number (wanted (chars pattern.now) (option_map (λ text. chars text.now) shown.entry)) from (drop from self.now) }
+    {
+        for at in from..self.lines.len() {
+            if self.has(at, pattern, shown) {
+                return Some(at + 1);
+            }
+        }
+        None
+    }
+
+    /// The number of the last of so many lines from the newest on that has a pattern.
+    pub(crate) fn number_before(
+        &self,
+        pattern: &str,
+        shown: Option<&str>,
+        count: usize,
+    ) -> Option<usize>
+        ensures { result ≡ last_number (wanted (chars pattern.now) (option_map (λ text. chars text.now) shown.entry)) count self.now }
+    {
+        let mut number = count;
+        while number > 0 {
+            if self.has(number - 1, pattern, shown) {
+                return Some(number);
             }
             number -= 1;
         }

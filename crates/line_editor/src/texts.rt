@@ -1,8 +1,9 @@
 //! Texts by their characters.
-ghost use Rattle.std.specs.Prelude.{◌≡◌, ◌<◌, ℕ, List, [], ◌∷◌, ◌++◌, IfOk, IfSome, MatchBool, MatchOption, length, reverse};
+ghost use Rattle.std.specs.Prelude.{◌≡◌, ◌<◌, ℕ, List, [], ◌∷◌, ◌++◌, IfOk, IfSome, MatchBool, MatchOption, is_some, length, reverse};
 ghost use Rattle.std.specs.Option.{option_map};
 ghost use Rattle.std.specs.Str.{bytes_eq, chars, IsUtf8};
 ghost use Rattle.std.specs.String.{string_bytes};
+ghost use Rattle.line_editor.specs.Seeking.{contains, wanted};
 ghost use Rattle.line_editor.specs.Shown.{AreShown};
 ghost use Rattle.line_editor.specs.States.{begins_with_space, behind_front, other_rest};
 
@@ -130,6 +131,37 @@ pub(crate) fn is_same(text: &str, other: &str) -> bool
     ensures { result ≡ bytes_eq (chars text.now) (chars other.now) }
 {
     text == other
+}
+
+/// Whether a text begins with another one.
+fn begins_with(text: &str, front: &str) -> bool
+    ensures { result ≡ is_some (behind_front (chars front.now) (chars text.now)) }
+{
+    behind_front(text, front).is_some()
+}
+
+/// Whether a text contains another one.
+pub(crate) fn contains(text: &str, pattern: &str) -> bool
+    ensures { result ≡ contains (chars pattern.now) (chars text.now) }
+{
+    let mut rest = text;
+    while !begins_with(rest, pattern) {
+        match split_first(rest) {
+            None => return false,
+            Some((_, back)) => rest = back,
+        }
+    }
+    true
+}
+
+/// Whether a text has a pattern that isn't empty, and isn't the text that is shown, if one is.
+pub(crate) fn is_wanted(text: &str, pattern: &str, shown: Option<&str>) -> bool
+    ensures { result ≡ wanted (chars pattern.now) (option_map (λ other. chars other.now) shown.entry) (chars text.now) }
+{
+    match shown {
+        None => !is_nothing(pattern) && contains(text, pattern),
+        Some(other) => !is_same(text, other) && (!is_nothing(pattern) && contains(text, pattern)),
+    }
 }
 
 /// Two texts, one behind the other.

@@ -6,7 +6,7 @@ ghost use Rattle.line_editor.specs.Bounds.{refusal_of, is_too_long};
 ghost use Rattle.line_editor.specs.Kills.{texts};
 ghost use Rattle.line_editor.specs.Tasks as tasks;
 ghost use Rattle.line_editor.specs.Tasks.{done, task_more};
-ghost use Rattle.line_editor.specs.Turns.{AreTaken, StopsBefore, after_events, answer, seen_outcome, event_more, lines_in, lines_of_events, task_of, task_of_command, turned};
+ghost use Rattle.line_editor.specs.Turns.{AreTaken, StopsBefore, after_events, answer, seen_outcome, event_more, lines_in, lines_of_events, plain_task, ring_if, search_key, search_task, task_of, task_of_command, turned};
 ghost use Rattle.line_editor.specs.Turns as turns;
 
 use crate::actions::Action;
@@ -15,9 +15,17 @@ use crate::fault::EditFault;
 use crate::keys::{KeyCommand, command_of};
 use crate::outcome::Outcome;
 use crate::places::{Stop, Target};
+use crate::seeking::{SearchKey, search_key};
 use crate::texts::is_nothing;
 use crossterm_types::event::Event;
 use std::alloc::Allocator;
+
+/// What comes of a key that may only ring.
+fn ring_if<A: Allocator>(rings: bool) -> Outcome<A>
+    ensures { seen_outcome result ≡ ring_if rings }
+{
+    if rings { Outcome::Ring } else { Outcome::Going }
+}
 
 impl<A: Allocator + Clone> Editor<A> {
     /// Does an action, and the line goes on.
@@ -34,6 +42,39 @@ impl<A: Allocator + Clone> Editor<A> {
         }
     }
 
+    /// Does what a key is to an incremental search.
+    fn obey_search(&mut self, key: SearchKey) -> Result<Outcome<A>, EditFault>
+        ensures ok { OnOk result (self.new ≡ done (search_task key) self.old) }
+        ensures answer { IfOk result (λ outcome. seen_outcome outcome ≡ answer (search_task key) self.old) }
+        ensures room { OnOk result (is_too_long (task_more (search_task key) self.old) self.old ≡ false) }
+        ensures err { OnErr result (self.new ≡ self.old) }
+        ensures fault { IfErr result (λ fault. fault ≡ refusal_of (task_more (search_task key) self.old) self.old) }
+    {
+        let rings = match key {
+            SearchKey::More(c) => self.seek_more(c),
+            SearchKey::Less => self.seek_less(),
+            SearchKey::GiveUp => self.give_up(),
+        };
+        match rings {
+            Ok(rings) => Ok(ring_if(rings)),
+            Err(_) => Err(EditFault::Memory),
+        }
+    }
+
+    /// Begins an incremental search, or goes on with it.
+    fn obey_seek(&mut self, ahead: bool) -> Result<Outcome<A>, EditFault>
+        ensures ok { OnOk result (self.new ≡ done (tasks.Seeks ahead) self.old) }
+        ensures answer { IfOk result (λ outcome. seen_outcome outcome ≡ answer (tasks.Seeks ahead) self.old) }
+        ensures room { OnOk result (is_too_long (task_more (tasks.Seeks ahead) self.old) self.old ≡ false) }
+        ensures err { OnErr result (self.new ≡ self.old) }
+        ensures fault { IfErr result (λ fault. fault ≡ refusal_of (task_more (tasks.Seeks ahead) self.old) self.old) }
+    {
+        match self.seek_next(ahead) {
+            Ok(rings) => Ok(ring_if(rings)),
+            Err(_) => Err(EditFault::Memory),
+        }
+    }
+
     /// Does what a key asks for.
     fn obey(&mut self, command: KeyCommand) -> Result<Outcome<A>, EditFault>
         ensures ok { OnOk result (self.new ≡ done (task_of_command command self.old) self.old) }
@@ -41,6 +82,23 @@ impl<A: Allocator + Clone> Editor<A> {
         ensures room { OnOk result (is_too_long (task_more (task_of_command command self.old) self.old) self.old ≡ false) }
         ensures err { OnErr result (self.new ≡ self.old) }
         ensures fault { IfErr result (λ fault. fault ≡ refusal_of (task_more (task_of_command command self.old) self.old) self.old) }
+    {
+        if !self.is_seeking() {
+            return self.obey_plainly(command);
+        }
+        match search_key(command) {
+            Some(key) => self.obey_search(key),
+            None => self.obey_plainly(command),
+        }
+    }
+
+    /// Does what a key asks for if no search goes on.
+    fn obey_plainly(&mut self, command: KeyCommand) -> Result<Outcome<A>, EditFault>
+        ensures ok { OnOk result (self.new ≡ done (plain_task command self.old) self.old) }
+        ensures answer { IfOk result (λ outcome. seen_outcome outcome ≡ answer (plain_task command self.old) self.old) }
+        ensures room { OnOk result (is_too_long (task_more (plain_task command self.old) self.old) self.old ≡ false) }
+        ensures err { OnErr result (self.new ≡ self.old) }
+        ensures fault { IfErr result (λ fault. fault ≡ refusal_of (task_more (plain_task command self.old) self.old) self.old) }
     {
         match command {
             KeyCommand::Act(action) => self.act_on(action),
@@ -62,6 +120,13 @@ impl<A: Allocator + Clone> Editor<A> {
                 self.break_off();
                 Ok(Outcome::Clear)
             }
+            KeyCommand::EndSearch => {
+                self.break_off();
+                Ok(Outcome::Going)
+            }
+            KeyCommand::SearchBack => self.obey_seek(false),
+            KeyCommand::SearchAhead => self.obey_seek(true),
+            KeyCommand::Abort => self.obey_search(SearchKey::GiveUp),
         }
     }
 
@@ -75,6 +140,7 @@ impl<A: Allocator + Clone> Editor<A> {
     /// match editor.turn(&event)? {
     ///     Outcome::Going => {}
     ///     Outcome::Clear => draw_anew(),
+    ///     Outcome::Ring => ring(),
     ///     Outcome::Line(text) => println!(rt; "{text}")?,
     ///     Outcome::Interrupted | Outcome::Closed => return Ok(()),
     /// }
@@ -122,7 +188,13 @@ impl<A: Allocator + Clone> Editor<A> {
                 lines.push_reserved(text);
                 Ok(())
             }
-            Ok(Outcome::Going | Outcome::Clear | Outcome::Interrupted | Outcome::Closed) => Ok(()),
+            Ok(
+                Outcome::Going
+                | Outcome::Clear
+                | Outcome::Ring
+                | Outcome::Interrupted
+                | Outcome::Closed,
+            ) => Ok(()),
             Err(fault) => Err(fault),
         }
     }

@@ -6,7 +6,7 @@ use Rattle.crossterm_read.specs.Answers.{SourceAnswer}
 use Rattle.crossterm_read.specs.History.{Known}
 use Rattle.line_editor.specs.Bounds.{is_too_long}
 use Rattle.line_editor.specs.States.{EditorState}
-use Rattle.line_editor.specs.Turns.{Answer, Going, Clear, Line, Interrupted, Closed, IsGoing, after_events, answer, event_more, lines_in, lines_of_events, task_of, turned}
+use Rattle.line_editor.specs.Turns.{Answer, Going, Clear, Ring, Line, Interrupted, Closed, IsGoing, after_events, answer, event_more, lines_in, lines_of_events, task_of, turned}
 use Rattle.prompt.specs.Asking.{LineEnds, GoesOn, unread, further, placed, answer_to, after_event}
 use Rattle.prompt.specs.Lines.{Calls, uncalled, called, GivesLines, read_for_line, going_on_events, taken_events}
 
@@ -60,6 +60,7 @@ one_left false e w = refl
 no_line : (a : Answer) → IsGoing a → lines_in a ≡ []
 no_line Going h = refl
 no_line Clear h = refl
+no_line Ring h = refl
 no_line (Line text) h = absurd h
 no_line Interrupted h = absurd h
 no_line Closed h = absurd h

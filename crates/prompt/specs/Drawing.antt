@@ -46,6 +46,12 @@ pub record IsCursor (width : ℕ) (prompt : List ℕ) (line : Split) (column : �
   pub parted : IsParted text front rest after
   pub value : column ≡ inside width (column_behind width (column_behind width 0 (chars shown)) (chars front))
 
+-- What is shown in the prompt's place while an incremental search goes on: its name by its direction, and what it looks
+-- for, in UTF-8.
+abbrev pub search_text : Bool → List ℕ → List ℕ
+search_text is_ahead pattern =
+    codes "(" ++ ((if is_ahead then codes "i-search" else codes "reverse-i-search") ++ (codes ")`" ++ (pattern ++ codes "': ")))
+
 -- The text that leaves a row: EL if a hint is shown behind the line, then CR and LF, so that the next row begins.
 abbrev pub leaving : Bool → List ℕ
 leaving has_hint = (if has_hint then 0x1B ∷ codes "[K" else []) ++ 0x0D ∷ 0x0A ∷ []

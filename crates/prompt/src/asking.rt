@@ -15,7 +15,7 @@ ghost use Rattle.prompt.specs.inside.Turning.{IsTaken, Leads, MayAsk};
 
 use crate::drawing::{Row, erase, ring};
 use crate::helpers::Helper;
-use crate::prompts::has_control;
+use crate::prompts::{has_control, search_text};
 use crate::read::Read;
 use crossterm::event::source::EventSource;
 use crossterm::event::timeout::Clock;
@@ -28,12 +28,13 @@ use std::cell::Cell;
 use std::io::{self, ErrorKind, Write};
 use std::sync::Wait;
 
-/// What an editor makes of an event: the line goes on, also anew in an empty window or if a text was too long for it, or it ends. Or memory
-/// was refused.
+/// What an editor makes of an event: the line goes on, also anew in an empty window, with a bell, or if a text was too long for it. Or it
+/// ends, or memory was refused.
 #[derive(Drop)]
 enum Taken<A: Allocator> {
     Going,
     Clear,
+    Ring,
     TooLong,
     Ended(Read<A>),
     Refused,
@@ -149,6 +150,7 @@ fn take_event<A: Allocator + Clone, B: Allocator>(
     match editor.turn(event) {
         Ok(Outcome::Going) => Taken::Going,
         Ok(Outcome::Clear) => Taken::Clear,
+        Ok(Outcome::Ring) => Taken::Ring,
         Ok(Outcome::Line(text)) => Taken::Ended(Read::Line(text)),
         Ok(Outcome::Interrupted) => Taken::Ended(Read::Interrupted),
         Ok(Outcome::Closed) => Taken::Ended(Read::Closed),
@@ -187,6 +189,20 @@ fn take<A: Allocator + Clone, B: Allocator, H: Helper>(
     }
 }
 
+/// Shows what an incremental search looks for, as readline does, and what it found.
+fn show_search<W: Write, A: Allocator>(
+    out: &mut W,
+    editor: &Editor<A>,
+    pattern: &str,
+    row: &mut Row,
+) -> io::Result<()>
+    ensures { OnOk result (0 < row.old.strip.width
+        → IsDrawn row.new.buffer row.new.column row.old.strip row.new.strip (W.contents out.old) (W.contents out.new)) }
+{
+    let text = search_text(row.alloc, pattern, editor.is_ahead())?;
+    row.draw(out, text.as_str(), editor.line(), "")
+}
+
 /// Shows the line in the cursor's row.
 fn show<W: Write, A: Allocator, H: Helper>(
     out: &mut W,
@@ -198,7 +214,10 @@ fn show<W: Write, A: Allocator, H: Helper>(
         → IsDrawn row.new.buffer row.new.column row.old.strip row.new.strip (W.contents out.old) (W.contents out.new)) }
 {
     let line = editor.line();
-    row.draw(out, prompt.text, line, prompt.helper.hint(line.text()))
+    match editor.pattern() {
+        None => row.draw(out, prompt.text, line, prompt.helper.hint(line.text())),
+        Some(pattern) => show_search(out, editor, pattern, row),
+    }
 }
 
 /// The cursor's column, if the terminal is asked and answers. One that doesn't is asked no more.
@@ -291,6 +310,17 @@ fn show_at_top<W: Write, A: Allocator, H: Helper>(
     show(out, editor, prompt, row)
 }
 
+/// Shows the line once more, and rings the bell.
+fn show_and_ring<W: Write, A: Allocator, H: Helper>(
+    out: &mut W,
+    editor: &Editor<A>,
+    prompt: &Prompt<'_, H>,
+    row: &mut Row,
+) -> io::Result<()> {
+    show(out, editor, prompt, row)?;
+    ring(out)
+}
+
 /// Shows the line once more after an event.
 fn show_after<
     S: EventSource<Global>,
@@ -350,6 +380,10 @@ fn take_turn<
             Err(error) => Turn::Failed(error),
         },
         Taken::Clear => match show_at_top(&mut tty.out, editor, prompt, row) {
+            Ok(()) => Turn::Going,
+            Err(error) => Turn::Failed(error),
+        },
+        Taken::Ring => match show_and_ring(&mut tty.out, editor, prompt, row) {
             Ok(()) => Turn::Going,
             Err(error) => Turn::Failed(error),
         },
@@ -455,7 +489,8 @@ impl<H: Helper> Prompt<'_, H> {
     /// the start of the next row.
     ///
     /// At Tab without a modifier the helper's text is pasted, if it has one for the line. Its hint is shown behind the line. Ctrl-L clears the
-    /// window, and the line goes on at its top (`clear-screen`): so a row that another program wrote over is whole again.
+    /// window, and the line goes on at its top (`clear-screen`): so a row that another program wrote over is whole again. While an incremental
+    /// search goes on, what it looks for is shown in the prompt's place, and the bell rings at what isn't found.
     ///
     /// The editor may hold an unfinished line, and then that line goes on. In a window that is too narrow for both, the prompt is left out. If
     /// `Feature::BracketedPaste` is on, a paste is one event; else an Enter in a paste accepts the line.

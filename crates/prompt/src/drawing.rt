@@ -30,6 +30,8 @@ const REPLACEMENT: char = '\u{FFFD}';
 /// ```
 #[derive(Drop)]
 pub struct Row {
+    // What texts are made with.
+    pub(crate) alloc: Global,
     strip: Strip,
     buffer: Buffer,
     // The cursor's column, as it was drawn last.
@@ -86,6 +88,7 @@ impl Row {
         let strip = Strip::new(alloc, width)?;
         let buffer = Buffer::new(alloc, width, 1)?;
         Ok(Row {
+            alloc,
             strip,
             buffer,
             column: 0,

@@ -73,6 +73,6 @@ mod words;
 pub use asking::{Prompt, read_line};
 pub use drawing::Row;
 pub use helpers::Helper;
-pub use prompts::is_shown;
+pub use prompts::{is_shown, search_text};
 pub use read::Read;
 pub use words::Words;

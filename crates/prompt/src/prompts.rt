@@ -1,8 +1,9 @@
 //! A prompt, and what is shown of it.
-ghost use Rattle.std.specs.Prelude.{◌≡◌, ◌⊎◌, [], IfSome, chars, not};
+ghost use Rattle.std.specs.Prelude.{◌≡◌, ◌⊎◌, [], IfOk, IfSome, chars, not, string_bytes};
 ghost use Rattle.prompt.specs.Prompts.{has_control};
-ghost use Rattle.prompt.specs.Drawing.{IsParted};
+ghost use Rattle.prompt.specs.Drawing.{IsParted, search_text};
 
+use std::alloc::{AllocError, Global};
 use unicode_width::UnicodeWidthChar;
 
 /// Whether a text has a control character.
@@ -26,6 +27,34 @@ pub fn is_shown(text: &str) -> bool
     ensures { result ≡ not (has_control (chars text.now)) }
 {
     !has_control(text)
+}
+
+/// What is shown in the prompt's place while an incremental search goes on, as readline does: its direction, and what it looks for.
+///
+/// # Errors
+///
+/// `AllocError` if memory was refused.
+///
+/// ```
+/// if let Some(pattern) = editor.pattern() {
+///     let text = search_text(alloc, pattern, editor.is_ahead())?;
+///     row.draw(&mut out, text.as_str(), editor.line(), "")?;
+/// }
+/// ```
+pub fn search_text(alloc: Global, pattern: &str, is_ahead: bool) -> Result<String, AllocError>
+    ensures { IfOk result (λ text. string_bytes text ≡ search_text is_ahead pattern.now) }
+{
+    let mut text = String::new(alloc);
+    text.push_str("(")?;
+    text.push_str(if is_ahead {
+        "i-search"
+    } else {
+        "reverse-i-search"
+    })?;
+    text.push_str(")`")?;
+    text.push_str(pattern)?;
+    text.push_str("': ")?;
+    Ok(text)
 }
 
 /// The columns that a character takes.

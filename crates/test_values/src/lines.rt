@@ -503,6 +503,8 @@ fn lines_are_accepted_interrupted_and_closed(rt: HostRuntime) {
     expect!(rt; accepts(alloc, "o|ne", &(KeyCode::Char('j'), CONTROL), "one"));
     expect!(rt; outcome_of(alloc, "o|ne", &(KeyCode::Char('c'), CONTROL)) == Ok(Outcome::Interrupted));
     expect!(rt; outcome_of(alloc, "o|ne", &(KeyCode::Char('L'), CONTROL)) == Ok(Outcome::Clear));
+    expect!(rt; outcome_of(alloc, "o|ne", &(KeyCode::Char('g'), CONTROL)) == Ok(Outcome::Ring));
+    expect!(rt; outcome_of(alloc, "o|ne", &(KeyCode::Char('r'), CONTROL)) == Ok(Outcome::Going));
     expect!(rt; outcome_of(alloc, "|", &end) == Ok(Outcome::Closed));
     expect!(rt; outcome_of(alloc, "one|", &end) == Ok(Outcome::Going));
 }
@@ -562,7 +564,7 @@ fn edits_give_the_lines_of_rustyline(rt: HostRuntime) {
 }
 
 /// All actions that may need memory, in an order in which each has something to do.
-static ACTIONS: [Action; 17] = [
+static ACTIONS: [Action; 18] = [
     Action::Older,
     Action::Newer,
     Action::Insert('o'),
@@ -576,27 +578,58 @@ static ACTIONS: [Action; 17] = [
     Action::Redo,
     Action::Kill(Target::Back(Stop::WordStart)),
     Action::Yank,
+    Action::YankPop,
     Action::Go(Target::Back(Stop::Edge)),
     Action::Search,
     Action::SearchForward,
     Action::Kill(Target::Forward(Stop::Edge)),
 ];
 
-/// Whether an action that is refused leaves the lengths of both parts of the line.
-fn came_of(editor: &mut Editor<&LocalHeap>, action: Action) -> Came {
-    let before = editor.line().before().len();
-    let after = editor.line().after().len();
-    match editor.act(action) {
+/// The keys of incremental searches, in an order in which each has something to do.
+static SEARCH_KEYS: [Key; 8] = [
+    (KeyCode::Char('r'), CONTROL),
+    (KeyCode::Char('t'), NONE),
+    (KeyCode::Char('w'), NONE),
+    (KeyCode::Backspace, NONE),
+    (KeyCode::Char('r'), CONTROL),
+    (KeyCode::Char('s'), CONTROL),
+    (KeyCode::Char('g'), CONTROL),
+    (KeyCode::Char('y'), CONTROL),
+];
+
+/// The lengths of both parts of the line, and of what is looked for.
+fn lengths(editor: &Editor<&LocalHeap>) -> (usize, usize, usize) {
+    let line = editor.line();
+    let pattern = editor.pattern().unwrap_or("");
+    (line.before().len(), line.after().len(), pattern.len())
+}
+
+/// What came of a call, by the lengths before it and after it.
+fn came(
+    done: Result<(), EditFault>,
+    before: (usize, usize, usize),
+    after: (usize, usize, usize),
+) -> Came {
+    match done {
         Ok(()) => Came::Done,
-        Err(EditFault::Memory) => {
-            if editor.line().before().len() == before && editor.line().after().len() == after {
-                Came::Refused
-            } else {
-                Came::Wrong
-            }
-        }
-        Err(EditFault::TooLong) => Came::Wrong,
+        Err(EditFault::Memory) if after == before => Came::Refused,
+        Err(_) => Came::Wrong,
     }
+}
+
+/// Whether an action that is refused leaves the lengths.
+fn came_of(editor: &mut Editor<&LocalHeap>, action: Action) -> Came {
+    let before = lengths(editor);
+    let done = editor.act(action);
+    came(done, before, lengths(editor))
+}
+
+/// Whether a key that is refused leaves the lengths.
+fn came_of_key(editor: &mut Editor<&LocalHeap>, key: &Key) -> Came {
+    let before = lengths(editor);
+    let event: Event = Event::Key(KeyEvent::new(key.0, key.1));
+    let done = editor.turn(&event).map(|_| ());
+    came(done, before, lengths(editor))
 }
 
 /// What comes of all actions, and of accepting the line and of the history's text.
@@ -605,6 +638,12 @@ fn came_of_all(heap: &LocalHeap) -> Result<Came, EditFault> {
     editor.load_history("two\n")?;
     for action in &ACTIONS {
         match came_of(&mut editor, *action) {
+            Came::Done => {}
+            came => return Ok(came),
+        }
+    }
+    for key in &SEARCH_KEYS {
+        match came_of_key(&mut editor, key) {
             Came::Done => {}
             came => return Ok(came),
         }

@@ -23,6 +23,7 @@ TakesAs a e w z = (answer_to e w ≡ a) × (z ≡ after_event e w)
 abbrev pub IsTaken : {A : Type 0} → Taken A → Seen → EditorState → EditorState → Type 0
 IsTaken taken.Going e w z = TakesAs turns.Going e w z
 IsTaken taken.Clear e w z = TakesAs turns.Clear e w z
+IsTaken taken.Ring e w z = TakesAs turns.Ring e w z
 IsTaken taken.TooLong e w z = TakesAs turns.Going e w z
 IsTaken (taken.Ended read) e w z = TakesAs (answer_seen read) e w z
 IsTaken taken.Refused e w z = (is_too_long (event_more e w) w ≡ false) × (z ≡ w)

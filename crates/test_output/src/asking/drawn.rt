@@ -46,6 +46,21 @@ const ROWS: &[Row] = &[
             NEXT,
         ],
     },
+    // What an incremental search looks for is in the prompt's place, as readline shows it. What isn't found rings the bell.
+    Row {
+        typed: b"\x12x\x07\r",
+        prompt: "",
+        most: 9,
+        comes: Comes::Line(""),
+        written: &[
+            EMPTY,
+            "\x1b[?2026h\x1b[1G\x1b[0m(reverse-i-search)`':\x1b[0m\x1b[23G\x1b[?25h\x1b[?2026l",
+            "\x1b[?2026h\x1b[20G\x1b[0mx':\x1b[0m\x1b[24G\x1b[?25h\x1b[?2026l",
+            "\x07",
+            "\x1b[?2026h\x1b[1G\x1b[0m                      \x1b[0m\x1b[1G\x1b[?25h\x1b[?2026l",
+            NEXT,
+        ],
+    },
     // Of a line that was longer nothing is left.
     Row {
         typed: b"\x1b[200~abc\x1b[201~\x7f\x15\r",

@@ -48,6 +48,18 @@ returns-in-Clear-clause-leads g c v w goes =
     stopped (goes_further g.S.EventSource.drawn g.S.EventSource.asked given v w (knows c.args.tty.now.pass) (knows c.read.new.self.pass) c.args.editor.now c.take.new.editor (seen_event c.in-Ok.event)
     goes c.in-Ok.ensures.call turns.Clear tt c.in-Clear.ensures)
 
+pub returns-in-Ok-show_and_ring-clause-leads : goal.returns-in-Ok-show_and_ring-clause-leads
+returns-in-Ok-show_and_ring-clause-leads g c v w goes =
+    let given = given_by (g.H.Helper.completes c.args.prompt.now.helper.now) in
+    goes_further g.S.EventSource.drawn g.S.EventSource.asked given v w (knows c.args.tty.now.pass) (knows c.read.new.self.pass) c.args.editor.now c.take.new.editor (seen_event c.in-Ok.event)
+    goes c.in-Ok.ensures.call turns.Ring tt c.in-Ring.ensures
+
+pub returns-in-Ring-clause-leads : goal.returns-in-Ring-clause-leads
+returns-in-Ring-clause-leads g c v w goes =
+    let given = given_by (g.H.Helper.completes c.args.prompt.now.helper.now) in
+    stopped (goes_further g.S.EventSource.drawn g.S.EventSource.asked given v w (knows c.args.tty.now.pass) (knows c.read.new.self.pass) c.args.editor.now c.take.new.editor (seen_event c.in-Ok.event)
+    goes c.in-Ok.ensures.call turns.Ring tt c.in-Ring.ensures)
+
 pub returns-clause-leads : goal.returns-clause-leads
 returns-clause-leads g c v w goes =
     let given = given_by (g.H.Helper.completes c.args.prompt.now.helper.now) in
