@@ -81,7 +81,7 @@ static uint32_t read_line(void) {
         if (!next(&event) || (may_end(&event) && !show()))
             return GELVANH_LINE_CLOSED;
         answer = gelvanh_line_event(&line, &event);
-        if (answer == GELVANH_LINE_TOO_LONG && !put("\a"))
+        if ((answer == GELVANH_LINE_TOO_LONG || answer == GELVANH_LINE_RINGS) && !put("\a"))
             return GELVANH_LINE_CLOSED;
     } while (answer == GELVANH_LINE_GOES_ON || answer > GELVANH_LINE_CLOSED);
     return put("") ? answer : (uint32_t)GELVANH_LINE_CLOSED;

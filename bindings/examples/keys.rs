@@ -23,7 +23,7 @@ fn ask(editor: &mut Editor, out: &mut impl Write) -> io::Result<Option<Outcome>>
             Event::Key(key) if key.code == KeyCode::Esc => return Ok(None),
             _ => match editor.turn(&event) {
                 Ok(Outcome::Going) => {}
-                Err(LineError::TooLong) => out.write_all(b"\x07")?,
+                Ok(Outcome::Ring) | Err(LineError::TooLong) => out.write_all(b"\x07")?,
                 ended => return Ok(Some(ended?)),
             },
         }

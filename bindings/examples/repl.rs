@@ -34,7 +34,7 @@ fn run(editor: &mut Editor<Words>) -> io::Result<()> {
                 Err(fault) => eprintln!("{fault}"),
             },
             Outcome::Closed => return Ok(()),
-            Outcome::Interrupted | Outcome::Going => {}
+            Outcome::Interrupted | Outcome::Going | Outcome::Ring => {}
         }
     }
 }

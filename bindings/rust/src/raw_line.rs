@@ -46,6 +46,7 @@ pub enum Answer {
     TooLong,
     NoMemory,
     Unknown,
+    Rings,
 }
 
 impl From<u32> for Answer {
@@ -58,6 +59,7 @@ impl From<u32> for Answer {
             4 => Answer::TooLong,
             5 => Answer::NoMemory,
             6 => Answer::Unknown,
+            7 => Answer::Rings,
             // One that may follow: the line goes on.
             _ => Answer::GoesOn,
         }

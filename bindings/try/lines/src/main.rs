@@ -58,6 +58,7 @@ fn act(editor: &mut Editor<Words>, word: &str, out: &mut Sum) -> (u32, Option<St
         Ok(Outcome::Line(text)) => (1, Some(text)),
         Ok(Outcome::Interrupted) => (2, None),
         Ok(Outcome::Closed) => (3, None),
+        Ok(Outcome::Ring) => (7, None),
         Err(LineError::TooLong) => (4, None),
         Err(LineError::NoMemory) => (5, None),
         Err(LineError::Prompt) => (6, None),
