@@ -41,7 +41,7 @@ enum gelvanh_line_answer {
     GELVANH_LINE_TOO_LONG,    /* the text has no room in the line */
     GELVANH_LINE_NO_MEMORY,   /* memory was refused */
     GELVANH_LINE_UNKNOWN,     /* what was given is none: numbers that are no event's, a text that isn't UTF-8 */
-    GELVANH_LINE_RINGS        /* the line goes on, and a bell is due: an incremental search found nothing, or there is none to give up */
+    GELVANH_LINE_RINGS        /* the line goes on, and a bell is in place: an incremental search found nothing, or there is none to give up */
 };
 
 /* Begins a line, which is empty and has no history. GELVANH_LINE_GOES_ON, or GELVANH_LINE_NO_MEMORY: then there is none to end. */
@@ -75,7 +75,8 @@ uint32_t gelvanh_line_paste(struct gelvanh_line *line, const uint8_t *text, size
  * GELVANH_LINE_GOES_ON, GELVANH_LINE_NO_MEMORY, or GELVANH_LINE_UNKNOWN if it isn't UTF-8. */
 uint32_t gelvanh_line_hint(struct gelvanh_line *line, const uint8_t *hint, size_t length);
 
-/* Lets what changed in the row join the output; after Ctrl-L the window is cleared, and the row is at its top.
+/* Lets what changed in the row join the output; after Ctrl-L the window is cleared, and the row is at its top. While an incremental search goes
+ * on, what it looks for is in the prompt's place.
  * GELVANH_LINE_GOES_ON, or GELVANH_LINE_NO_MEMORY: then the next call draws all of the row. */
 uint32_t gelvanh_line_show(struct gelvanh_line *line);
 
@@ -108,7 +109,7 @@ GELVANH_CHECK(limits_steps, offsetof(struct gelvanh_line_limits, steps) == 16);
 GELVANH_CHECK(limits_kills, offsetof(struct gelvanh_line_limits, kills) == 24);
 GELVANH_CHECK(limits_ignore_dups, offsetof(struct gelvanh_line_limits, ignore_dups) == 32);
 GELVANH_CHECK(limits_ignore_space, offsetof(struct gelvanh_line_limits, ignore_space) == 33);
-GELVANH_CHECK(answers, GELVANH_LINE_UNKNOWN == 6);
+GELVANH_CHECK(answers, GELVANH_LINE_RINGS == 7);
 #undef GELVANH_CHECK
 
 #ifdef __cplusplus

@@ -199,6 +199,10 @@ fn bells_hints_and_windows() {
     assert_eq!(editor().readline("> ", &mut terminal).expect("a line"), Outcome::Line("01234567890123456789".into()));
     assert_eq!(terminal.count("^G"), 1);
 
+    let mut terminal = Played::new([control('g'), key(KeyCode::Enter)].map(Act::Alone).into());
+    assert_eq!(editor().readline("> ", &mut terminal).expect("a line"), Outcome::Line("".into()));
+    assert_eq!(terminal.count("^G"), 1);
+
     let names = || Words::new(["help", "history"]);
     let mut terminal = Played::new(typed("hi\n"));
     assert_eq!(editor_with(names()).readline("> ", &mut terminal).expect("a line"), Outcome::Line("hi".into()));

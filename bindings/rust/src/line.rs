@@ -57,7 +57,7 @@ pub use helper::{Helper, Words};
 pub enum Outcome {
     /// The line goes on.
     Going,
-    /// The line goes on, and a bell is due: an incremental search found nothing, or there is none to give up.
+    /// The line goes on, and the bell is to ring: an incremental search found nothing, or there is none to give up.
     Ring,
     /// The line was accepted, by Enter, and this is its text.
     Line(String),
@@ -107,7 +107,7 @@ fn done(answer: Answer) -> Result<(), LineError> {
         Answer::NoMemory => Err(LineError::NoMemory),
         // A `&str` is UTF-8, and an event has an event's numbers: so it is a prompt.
         Answer::Unknown => Err(LineError::Prompt),
-        Answer::GoesOn | Answer::Accepted | Answer::Interrupted | Answer::Closed | Answer::Rings => Ok(()),
+        Answer::GoesOn | Answer::Rings | Answer::Accepted | Answer::Interrupted | Answer::Closed => Ok(()),
     }
 }
 
@@ -272,8 +272,8 @@ impl<H: Helper> Editor<H> {
         }
     }
 
-    /// Writes what makes the row show the line as it is, with the helper's hint behind it; after Ctrl-L at the top of an empty window. After a
-    /// line has ended that is the next one: `flush` only leaves the row.
+    /// Writes what makes the row show the line as it is, with the helper's hint behind it; after Ctrl-L at the top of an empty window. While
+    /// an incremental search goes on, what it looks for is in the prompt's place. After a line has ended that is the next one: `flush` only leaves the row.
     ///
     /// # Errors
     ///

@@ -90,11 +90,11 @@ impl<H> Editor<H> {
 }
 
 impl<H: Helper> Editor<H> {
-    /// Asks for a line in the cursor's row, behind a prompt, until Enter, Ctrl-C, or Ctrl-D in an empty line. It never returns
-    /// `Outcome::Going` or `Outcome::Ring`.
+    /// Asks for a line in the cursor's row, behind a prompt, until Enter, Ctrl-C, or Ctrl-D in an empty line. It returns neither
+    /// `Outcome::Going` nor `Ring`.
     ///
     /// Raw mode is on meanwhile, and so are pastes as events, unless this crate lacks the feature `bracketed-paste`. Both are off again however
-    /// it ends; a raw mode that was on before stays on. A text without room rings the bell. After a resize the row is drawn anew, and Ctrl-L clears
+    /// it ends; a raw mode that was on before stays on. A text without room, and a search that finds nothing, ring the bell. After a resize the row is drawn anew, and Ctrl-L clears
     /// the window before. The editor may hold an unfinished line, as after an error: then that line goes on.
     ///
     /// # Errors

@@ -251,6 +251,7 @@ fn ends_of_lines() -> Result<(), LineError> {
         ("|", plain(KeyCode::Enter), line(""), "|", "first line\nsecond line\n"),
         ("o|ne", control('c'), Outcome::Interrupted, "|", "first line\nsecond line\n"),
         ("|", control('d'), Outcome::Closed, "|", "first line\nsecond line\n"),
+        ("o|ne", control('g'), Outcome::Ring, "o|ne", "first line\nsecond line\n"),
         ("one|", control('d'), Outcome::Going, "one|", "first line\nsecond line\n"),
     ];
     for (given, key, outcome, after, history) in rows {

@@ -62,7 +62,7 @@ static const char *const histories[] = {
     "a very long line that has no room in the limit of sixty bytes, so it is left out\nshort\n",
 };
 static const uint32_t letters[] = {'a', 'b', 'h', 'e', ' ', ' ', '-', 'Z', 0xE9, 0x6F22, 0x301, 0x1F469, 0x200D, 0x1F1E6, 0x11A8, 7};
-static const char controls[] = "aabbccdeefhhjkklmnnppqrrttuuwwyy__77";
+static const char controls[] = "aabbccdeefgghhjkklmnnppqrrrrssttuuwwyy__77";
 static const char alts[] = "bbddffyyyqz";
 
 static void print_hex(const char *kind, const char *text) {

@@ -251,7 +251,26 @@ static void extremes(void) {
     gelvanh_line_free(line);
 }
 
+/* An incremental search shows what it looks for, and is given up. */
+static void searches(void) {
+    struct gelvanh_line line = made();
+    uint8_t slice[512];
+    size_t length;
+    CHECK(gelvanh_line_begin(&line, bytes("> "), 2, 80) == GELVANH_LINE_GOES_ON);
+    CHECK(gelvanh_line_load_history(&line, bytes("one\ntwo\n"), 8) == GELVANH_LINE_GOES_ON);
+    CHECK(type(&line, GELVANH_CHAR, 'r', GELVANH_CONTROL) == GELVANH_LINE_GOES_ON && type(&line, GELVANH_CHAR, 'n', 0) == GELVANH_LINE_GOES_ON);
+    CHECK(has(&line, "one", gelvanh_line_cursor(&line)) && gelvanh_line_show(&line) == GELVANH_LINE_GOES_ON);
+    length = gelvanh_line_output(&line, slice, sizeof slice - 1);
+    slice[length] = 0;
+    CHECK(strstr((const char *)slice, "(reverse-i-search)`n':") != NULL && strstr((const char *)slice, "one") != NULL);
+    CHECK(type(&line, GELVANH_CHAR, 'q', 0) == GELVANH_LINE_RINGS && has(&line, "one", gelvanh_line_cursor(&line)));
+    CHECK(type(&line, GELVANH_CHAR, 'g', GELVANH_CONTROL) == GELVANH_LINE_GOES_ON && has(&line, "", 0));
+    CHECK(type(&line, GELVANH_CHAR, 'g', GELVANH_CONTROL) == GELVANH_LINE_RINGS && has(&line, "", 0) && writes(&line, ""));
+    gelvanh_line_free(line);
+}
+
 int main(void) {
+    searches();
     extremes();
     limited();
     kills();

@@ -122,13 +122,13 @@ fn may_end(event: &Event) -> bool {
 }
 
 impl<H: Helper> Editor<H> {
-    /// Asks for a line in the cursor's row, behind a prompt, until Enter, Ctrl-C, or Ctrl-D in an empty line. It never returns
-    /// `Outcome::Going` or `Outcome::Ring`.
+    /// Asks for a line in the cursor's row, behind a prompt, until Enter, Ctrl-C, or Ctrl-D in an empty line. It returns neither
+    /// `Outcome::Going` nor `Ring`.
     ///
     /// Raw mode is on meanwhile, and so are pastes as events, unless this crate lacks the feature `bracketed-paste`. Both are off again however
     /// it ends; a raw mode that was on before stays on. Between two lines the terminal has its own mode, in which Ctrl-C ends the program.
     ///
-    /// What is there at once is taken before the line is shown. A text without room rings the bell. After a resize the row is drawn anew, and
+    /// What is there at once is taken before the line is shown. A text without room, and a search that finds nothing, ring the bell. After a resize the row is drawn anew, and
     /// Ctrl-L clears the window before.
     ///
     /// The editor may hold an unfinished line, as after an error: then that line goes on.
@@ -150,7 +150,7 @@ impl<H: Helper> Editor<H> {
         loop {
             let event = session.terminal.read()?;
             match self.take(prompt, &event, session.terminal)? {
-                Outcome::Going => {}
+                Outcome::Going | Outcome::Ring => {}
                 outcome => {
                     let _ = self.flush(session.terminal);
                     return Ok(outcome);
@@ -164,11 +164,13 @@ impl<H: Helper> Editor<H> {
         // The event is taken even if its frame fails.
         let shown = if may_end(event) { self.show(terminal) } else { Ok(()) };
         let taken = self.turn(event);
-        if !matches!(taken, Ok(Outcome::Going | Outcome::Ring) | Err(LineError::TooLong)) {
-            return Ok(taken?);
-        }
+        let rings = match taken {
+            Ok(Outcome::Going) => false,
+            Ok(Outcome::Ring) | Err(LineError::TooLong) => true,
+            ended => return Ok(ended?),
+        };
         shown?;
-        if taken != Ok(Outcome::Going) {
+        if rings {
             terminal.write_all(b"\x07")?;
         }
         if let Event::Resize(columns, _) = *event {
