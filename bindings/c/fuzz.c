@@ -137,7 +137,7 @@ static void one(bool wild) {
     command.underline.kind = (uint8_t)draw(22);
     command.attributes &= draw(2) ? 0x1FFFFFFE : 0xFFFFFFFF;
     size_t needed = 0;
-    uint32_t outcome = gelvanh_command(&command, draw(2), slice, out, &needed);
+    uint32_t outcome = gelvanh_write_command(&command, draw(2), slice, out, &needed);
     if (outcome > 2 || (outcome == 0 && needed > out) || (outcome == 1 && needed <= out))
         fail("outcome of gelvanh_command");
     outcome = gelvanh_print_styled(&command, piece, length, draw(2), slice, out, &needed);

@@ -235,8 +235,11 @@ enum gelvanh_outcome {
     GELVANH_FAILED        /* the command failed by itself, which none is known to: `length` is 0, and the slice may hold anything */
 };
 
-/* Writes a command that has no text of its own. `colors` is false if colours aren't to be written, as with NO_COLOR. */
-uint32_t gelvanh_command(const struct gelvanh_command *command, gelvanh_bool colors, uint8_t *slice, size_t room, size_t *length);
+/* Writes a command that has no text of its own. `colors` is false if colours aren't to be written, as with NO_COLOR. The archive has it under the
+ * struct's name, by which C++ would find the function alone; so a call has that name still, and `gelvanh_command c{};` is the struct. */
+uint32_t gelvanh_write_command(const struct gelvanh_command *command, gelvanh_bool colors, uint8_t *slice, size_t room, size_t *length)
+    __asm__("gelvanh_command");
+#define gelvanh_command(command, colors, slice, room, length) gelvanh_write_command(command, colors, slice, room, length)
 
 /* The four that have one. Texts, titles and places are UTF-8; the places of a copy are letters, `c` the clipboard, `p` the selection. */
 uint32_t gelvanh_print(const uint8_t *text, size_t text_length, uint8_t *slice, size_t room, size_t *length);

@@ -31,7 +31,7 @@ static void put(uint32_t kind, unsigned first, unsigned second) {
     command.kind = kind;
     command.first = (uint16_t)first;
     command.second = (uint16_t)second;
-    if (gelvanh_command(&command, 1, out + used, sizeof out - used, &length) == GELVANH_WRITTEN)
+    if (gelvanh_write_command(&command, 1, out + used, sizeof out - used, &length) == GELVANH_WRITTEN)
         used += length;
 }
 

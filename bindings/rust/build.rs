@@ -1,5 +1,5 @@
-//! Links the proved archive, `libgelvanh.a`: that in the folder that `GELVANH_LIB` names, else that for the target's processor, of this crate's
-//! `lib` in a release, or of `bindings/prebuilt` in the sources.
+//! Links the proved archive, `libgelvanh.a`, and with the feature `line` also `libgelvanh_line.a`: those in the folder that `GELVANH_LIB` names,
+//! else those for the target's processor, of this crate's `lib` in a release, or of `bindings/prebuilt` in the sources.
 use std::env;
 use std::path::{Path, PathBuf};
 
@@ -37,14 +37,23 @@ fn folder() -> PathBuf {
     folders.iter().find(|folder| has_archive(folder)).unwrap_or(&folders[0]).clone()
 }
 
+/// Links an archive of a folder.
+fn link(folder: &Path, name: &str) {
+    let archive = format!("lib{name}.a");
+    println!("cargo:rerun-if-changed={}/{archive}", folder.display());
+    if !folder.join(&archive).exists() {
+        let folder = folder.display();
+        println!("cargo:warning={folder} has no {archive}, so nothing can be linked: bindings/release makes it, and GELVANH_LIB names another folder");
+    }
+    println!("cargo:rustc-link-lib=static={name}");
+}
+
 fn main() {
     let folder = folder();
     println!("cargo:rerun-if-env-changed=GELVANH_LIB");
-    println!("cargo:rerun-if-changed={}/libgelvanh.a", folder.display());
-    if !has_archive(&folder) {
-        let folder = folder.display();
-        println!("cargo:warning={folder} has no libgelvanh.a, so nothing can be linked: bindings/release makes it, and GELVANH_LIB names another folder");
-    }
     println!("cargo:rustc-link-search=native={}", folder.display());
-    println!("cargo:rustc-link-lib=static=gelvanh");
+    link(&folder, "gelvanh");
+    if env::var_os("CARGO_FEATURE_LINE").is_some() {
+        link(&folder, "gelvanh_line");
+    }
 }

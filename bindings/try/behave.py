@@ -9,6 +9,7 @@ import select
 import struct
 import subprocess
 import sys
+import tempfile
 import termios
 import time
 
@@ -395,6 +396,65 @@ def example_menu(start):
         t.type(typed)
         assert t.end() == []
         assert bytes(t.out).endswith(b"\x1b[?1049l" + chosen), bytes(t.out)
+
+
+def example_lines(start):
+    t = start("")
+    t.until(t.is_raw, "raw mode")
+    t.wait_shown(b">")
+    t.type("helo\x1b[Dl\r")
+    t.wait_shown(b"\nhello\r\n")
+    t.resize(40, 24)
+    t.wait_shown(b"\r\x1b[J")
+    t.type("gone\x03\x1b[A!")
+    t.wait_shown(b"!")
+    t.type("\r\x04")
+    assert t.end() == []
+    lines = [line for line in bytes(t.out).split(b"\r\n") if b"\x1b" not in line]
+    assert lines == [b"hello", b"hello!", b""], bytes(t.out)
+
+
+def example_repl(start):
+    with tempfile.NamedTemporaryFile() as history:
+        t = start(history.name)
+        t.until(t.is_raw, "raw mode")
+        t.type("add 1 2\r")
+        t.wait_shown(b"2 numbers, 3 in all")
+        t.until(t.is_raw, "raw mode")
+        t.type("s")
+        t.wait_shown(b"\x1b[2mum")
+        t.type("\t\r")
+        t.wait_shown(b"2 numbers, 3 in all", 2)
+        t.until(t.is_raw, "raw mode")
+        t.type("\x1b[200~what\nis it\x1b[201~\r")
+        t.wait_told("what: help lists what there is")
+        t.until(t.is_raw, "raw mode")
+        t.resize(40, 24)
+        t.wait_shown(b"\x1b[1G\x1b[J")
+        t.type("\x0c")
+        t.wait_shown(b"\x1b[2J\x1b[1;1H")
+        t.type("gone\x03")
+        t.wait_shown(b"\x1b[?2004h", 5)
+        t.type("\x1b[A\x1b[A\x1b[A 39\r")
+        t.wait_shown(b"5 numbers, 45 in all")
+        t.until(t.is_raw, "raw mode")
+        t.type("\x04")
+        assert t.end() == ["what: help lists what there is"]
+        assert history.read() == b"add 1 2\nsum\nwhat is it\nadd 1 2 39\n"
+        assert t.out.count(b"\x1b[?2004h") == t.out.count(b"\x1b[?2004l") == 6, bytes(t.out)
+
+
+def example_keys(start):
+    for typed, told in (("Ane\x7fna\r", b"Hello Anna."), ("\x1b", b"No name."), ("A" * 21 + "\r", b"Hello " + b"A" * 20 + b".")):
+        t = start("")
+        t.wait_shown(b"name:")
+        t.type("A")
+        t.wait_shown(b"mA")
+        t.resize(40, 24)
+        t.wait_shown(b"\x1b[1G\x1b[J")
+        t.type("\x7f" + typed)
+        assert t.end() == []
+        assert bytes(t.out).endswith(b"\r\n" + told + b"\r\n") and t.out.count(b"\x07") == (len(typed) == 22), bytes(t.out)
 
 
 program, names = sys.argv[1], sys.argv[2:]

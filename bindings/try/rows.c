@@ -67,8 +67,14 @@ static void paste_text(void) {
     CHECK(gelvanh_paste_text(bytes("a\303\274b"), 4, two, 2, &written) == 1 && written == 1);
 }
 
-static struct gelvanh_command command(uint32_t kind, uint16_t first, uint16_t second) {
-    struct gelvanh_command made;
+#ifdef __cplusplus
+typedef gelvanh_command a_command; /* in C++ the struct's name is the struct */
+#else
+typedef struct gelvanh_command a_command;
+#endif
+
+static a_command command(uint32_t kind, uint16_t first, uint16_t second) {
+    a_command made;
     memset(&made, 0, sizeof made);
     made.kind = kind;
     made.first = first;
@@ -82,9 +88,9 @@ static int writes(const struct gelvanh_command *it, const char *text) {
     size_t length, all = strlen(text);
     memset(slice, '#', sizeof slice);
     memcpy(before, slice, sizeof slice);
-    if (gelvanh_command(it, 1, slice, all - 1, &length) != GELVANH_TOO_SMALL || length != all || memcmp(slice, before, sizeof slice))
+    if (gelvanh_write_command(it, 1, slice, all - 1, &length) != GELVANH_TOO_SMALL || length != all || memcmp(slice, before, sizeof slice))
         return 0;
-    return gelvanh_command(it, 1, slice, all, &length) == GELVANH_WRITTEN && length == all && !memcmp(slice, text, all) && slice[all] == '#';
+    return gelvanh_write_command(it, 1, slice, all, &length) == GELVANH_WRITTEN && length == all && !memcmp(slice, text, all) && slice[all] == '#';
 }
 
 static void commands(void) {
@@ -104,10 +110,10 @@ static void commands(void) {
     /* All attributes, of which a bit more is none. */
     it = command(GELVANH_SET_ATTRIBUTES, 0, 0);
     it.attributes = 0x1FFFFFFE;
-    CHECK(gelvanh_command(&it, 1, slice, 256, &length) == GELVANH_WRITTEN && length == 134);
+    CHECK(gelvanh_write_command(&it, 1, slice, 256, &length) == GELVANH_WRITTEN && length == 134);
     CHECK(!memcmp(slice, "\033[0m\033[1m", 8) && !memcmp(slice + 129, "\033[55m", 5));
     it.attributes = 0x20000000;
-    CHECK(gelvanh_command(&it, 1, slice, 256, &length) == GELVANH_NAMES_NOTHING);
+    CHECK(gelvanh_write_command(&it, 1, slice, 256, &length) == GELVANH_NAMES_NOTHING);
 }
 
 static void texts(void) {

@@ -5,7 +5,7 @@ use crate::key::{KeyCode, KeyEvent, KeyEventKind, KeyEventState, KeyModifiers, K
 use crate::raw;
 
 /// The keys that the numbers 0 to 24 name. `F` and `Char` have a value of their own.
-const KEYS: [KeyCode; 25] = [
+pub(crate) const KEYS: [KeyCode; 25] = [
     KeyCode::Backspace,
     KeyCode::Enter,
     KeyCode::Left,

@@ -39,17 +39,24 @@ mod attribute;
 mod color;
 mod command;
 mod decode;
+#[cfg(feature = "line")]
+mod encode;
 mod event;
 mod flags;
 pub mod flat;
 #[cfg(feature = "std")]
 mod held;
 mod key;
+#[cfg(feature = "line")]
+pub mod line;
 #[cfg(feature = "std")]
 mod parser;
 #[allow(unsafe_code)]
 #[cfg_attr(not(feature = "std"), allow(dead_code))]
 mod raw;
+#[cfg(feature = "line")]
+#[allow(unsafe_code)]
+mod raw_line;
 #[cfg(feature = "serde")]
 mod texts;
 mod variants;

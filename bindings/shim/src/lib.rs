@@ -35,6 +35,8 @@ pub mod clipboard;
 pub mod cursor;
 #[cfg(feature = "events")]
 pub mod event;
+#[cfg(feature = "line")]
+pub mod line;
 pub mod style;
 pub mod terminal;
 pub mod tty;

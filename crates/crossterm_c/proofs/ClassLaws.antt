@@ -1,14 +1,14 @@
 -- The class of an event by its numbers.
 use Rattle.std.proofs.Common.{◌≡◌, ℕ, ◌==◌, ◌&&◌, if◌then◌else◌, Bool, true, false, List, [], Option, Some, None, refl, ap, ◌∙◌}
+use Rattle.std.specs.Option.{option_map}
 use Rattle.crossterm_types.specs.Admitting.{is_of}
 use Rattle.crossterm_types.specs.Seen.{Seen}
 use Rattle.crossterm_types.specs.Seen as seen
 use Rattle.crossterm_types.specs.declared.event.filter.Classes.{Classes}
-use Rattle.crossterm_types.specs.declared.event.key.KeyCode.{KeyCode}
-use Rattle.crossterm_types.specs.declared.event.key.KeyEventKind.{KeyEventKind}
-use Rattle.crossterm_types.specs.declared.event.mouse.MouseEventKind.{MouseEventKind}
-use Rattle.crossterm_c.specs.Event.{code_at, done_at, event_at, is_bare, key_by, mouse_by, no_code, no_flags, no_place, no_press, only_if, or_resize, press_at}
-use Rattle.crossterm_c.specs.declared.event.GelvanhEvent.{GelvanhEvent}
+use Rattle.crossterm_types.specs.declared.event.key.KeyEvent.{KeyEvent}
+use Rattle.crossterm_types.specs.declared.event.mouse.MouseEvent.{MouseEvent}
+use Rattle.numbers.specs.Event.{event_at, is_bare, key_known, mouse_known, no_code, no_flags, no_place, no_press, only_if, or_resize}
+use Rattle.numbers.specs.declared.event.GelvanhEvent.{GelvanhEvent}
 
 -- The event of a reply with no number but its own.
 pub cursor_is : (cs : Classes) (e : GelvanhEvent) → e.kind ≡ 6 → (no_code e && (no_press e && no_flags e)) ≡ true → is_of cs (event_at [] e) ≡ cs.cursor
@@ -44,16 +44,13 @@ module _ (cs : Classes) where
   none true s x y p q = ap (λ (t : Bool). is_of cs (or_resize (only_if t (Some x)))) p
   none false s x y p q = q
 
-  key : (b : Bool) (e : GelvanhEvent) (code : Option KeyCode) (how : Option KeyEventKind) → IsUsers (only_if b (key_by e code how))
-  key false e code how = refl
-  key true e (Some code) (Some how) = refl
-  key true e (Some code) None = refl
-  key true e None how = refl
+  key : (it : Option KeyEvent) → IsUsers (option_map seen.Key it)
+  key (Some k) = refl
+  key None = refl
 
-  mouse : (b : Bool) (e : GelvanhEvent) (what : Option MouseEventKind) → IsUsers (only_if b (mouse_by e what))
-  mouse false e what = refl
-  mouse true e (Some what) = refl
-  mouse true e None = refl
+  mouse : (it : Option MouseEvent) → IsUsers (option_map seen.Mouse it)
+  mouse (Some m) = refl
+  mouse None = refl
 
   -- All other events are what a user brought about.
   pub users_are : (kept : List ℕ) (e : GelvanhEvent) → (e.kind == 6 && (no_code e && (no_press e && no_flags e))) ≡ false → (e.kind == 7 && (no_code e && (no_press e && no_place e))) ≡ false
@@ -61,8 +58,8 @@ module _ (cs : Classes) where
   users_are kept e cursor flags attributes =
       either (e.kind == 1) _ _ (one (is_bare e) _ refl)
       (either (e.kind == 2) _ _ (one (is_bare e) _ refl)
-      (either (e.kind == 3) _ _ (key (no_place e && no_flags e) e (code_at e.code e.value) (press_at e.press))
-      (either (e.kind == 4) _ _ (mouse (no_press e && no_flags e) e (done_at e.code e.value))
+      (either (e.kind == 3) _ _ (key (key_known e))
+      (either (e.kind == 4) _ _ (mouse (mouse_known e))
       (either (e.kind == 5) _ _ (one (is_bare e) _ refl)
       (none (e.kind == 6) _ _ _ cursor
       (none (e.kind == 7) _ _ _ flags

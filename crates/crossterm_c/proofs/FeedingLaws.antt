@@ -18,11 +18,11 @@ use Rattle.crossterm_parse.specs.declared.state.State.{State}
 use Rattle.crossterm_parse.specs.declared.state.State.TheVariants.{Ground}
 use Rattle.crossterm_parse.proofs.RunLaws.{letter_puts}
 use Rattle.crossterm_parse.proofs.ViewLaws.{advance_byte}
-use Rattle.crossterm_c.specs.Event.{event_at}
+use Rattle.numbers.specs.Event.{event_at}
 use Rattle.crossterm_c.specs.Feeding.{Feeds, Pastes, kept_after, kept_with, view_of}
 use Rattle.crossterm_c.specs.inside.Table.{Filled, PutsEvents, filled_on}
 use Rattle.crossterm_c.specs.declared.table.Table.{Table}
-use Rattle.crossterm_c.specs.declared.event.GelvanhEvent.{GelvanhEvent}
+use Rattle.numbers.specs.declared.event.GelvanhEvent.{GelvanhEvent}
 
 no_text : (t : Bool) (text : List ℕ) → t ≡ false → [] ≡ (if t then text else [])
 no_text true text h = cc

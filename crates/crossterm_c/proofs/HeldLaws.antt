@@ -11,11 +11,11 @@ use Rattle.std.specs.List.{AllByRecursion, position, remove}
 use Rattle.crossterm_types.specs.Admitting.{is_of}
 use Rattle.crossterm_types.specs.Seen.{Seen}
 use Rattle.crossterm_read.specs.Answers.{Gave, SourceAnswer}
-use Rattle.crossterm_c.specs.Event.{event_at}
+use Rattle.numbers.specs.Event.{event_at}
 use Rattle.crossterm_c.specs.Held.{TakesAsHeld, TakesEach, admits, answers_at, classes_at, held_in, kept_at, next_arrival, held_from, store_at}
 use Rattle.crossterm_read.specs.Store.{Arrives, EventStore, arrived, next_number, numbered_after}
 use Rattle.crossterm_read.specs.Steps.{TakeReplies, first_admitted}
-use Rattle.crossterm_c.specs.declared.event.GelvanhEvent.{GelvanhEvent}
+use Rattle.numbers.specs.declared.event.GelvanhEvent.{GelvanhEvent}
 use Rattle.crossterm_c.specs.declared.held.GelvanhHeld.{GelvanhHeld}
 use Rattle.crossterm_c.specs.declared.held.GelvanhReader.{GelvanhReader}
 use Rattle.crossterm_c.proofs.ClassLaws.{class_of_numbers}

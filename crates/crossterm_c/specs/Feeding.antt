@@ -6,8 +6,8 @@ use Rattle.crossterm_parse.specs.declared.marked.Marked.{Marked}
 use Rattle.crossterm_parse.specs.Meaning.{pasted}
 use Rattle.crossterm_parse.specs.View.{ParserView, AdvancesOver}
 use Rattle.crossterm_parse.specs.declared.state.State.{State}
-use Rattle.crossterm_c.specs.Event.{event_at}
-use Rattle.crossterm_c.specs.declared.event.GelvanhEvent.{GelvanhEvent}
+use Rattle.numbers.specs.Event.{event_at}
+use Rattle.numbers.specs.declared.event.GelvanhEvent.{GelvanhEvent}
 
 -- The parser as its caller has it. The caller keeps the bytes of an open paste, and `waiting` are the events given so
 -- far.

@@ -1,5 +1,4 @@
 pub mod Command
-pub mod Event
 pub mod Feeding
 pub mod Held
 pub mod Outlet

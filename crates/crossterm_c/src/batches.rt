@@ -5,13 +5,13 @@ ghost use Rattle.crossterm_parse.specs.States.{is_paste};
 ghost use Rattle.crossterm_c.specs.Held.{FeedsHeld, TakesEach, admits, held_in};
 ghost use Rattle.crossterm_c.specs.State.{state_at};
 
-use crate::event::of_key;
 use crate::feed::{feed, is_lone_letter};
 use crate::held::{GelvanhHeld, GelvanhReader, is_admitted, make_room, put_behind, span};
 use crate::reader::gelvanh_take;
 use crate::state::{GelvanhState, flatten, state_of};
 use crate::table::Table;
 use crossterm_parse::meaning::ascii_key;
+use numbers::of_key;
 use std::marker::Brand;
 use std::sync::ledger::Blank;
 

@@ -9,12 +9,12 @@ ghost use Rattle.crossterm_c.specs.Feeding.{Pastes, view_of};
 ghost use Rattle.crossterm_c.specs.State.{state_at};
 ghost use Rattle.crossterm_c.specs.inside.Table.{FillsBy, table_capacity};
 
-use crate::event::paste_end;
 use crate::state::GelvanhState;
 use crate::table::Table;
 use crossterm_parse::paste::{Met, before_escape};
 use crossterm_parse::state::State;
 use crossterm_parse::steps::Steps;
+use numbers::paste_end;
 use std::sync::ledger::{Blank, Ledger};
 
 /// Whether a letter comes alone, and no sequence is open: it is a key by itself.

@@ -1,10 +1,10 @@
 //! Held events as numbers, in the caller's table.
 ghost use Rattle.std.specs.Prelude.{◌≡◌, ◌⊎◌, ◌==◌, ◌&&◌, ◌+◌, ◌-◌, ◌<◌, ◌≤◌, ℕ, [], ◌∷◌, ◌++◌, length, take, drop, position, remove, slice_index_or};
 ghost use Rattle.crossterm_types.specs.Admitting.{is_of};
-ghost use Rattle.crossterm_c.specs.Event.{event_at, is_bare, no_code, no_flags, no_place, no_press};
+ghost use Rattle.numbers.specs.Event.{event_at, is_bare, no_code, no_flags, no_place, no_press};
 ghost use Rattle.crossterm_c.specs.Held.{admits, classes_at, has_bit, held_in};
 
-use crate::event::GelvanhEvent;
+use numbers::GelvanhEvent;
 
 /// An event that is held, and its number.
 #[repr(C)]
@@ -38,48 +38,25 @@ pub(crate) fn span(reader: &GelvanhReader, table: &[GelvanhHeld]) -> (usize, usi
     (first, reader.held.min(table.len() - first))
 }
 
-/// Whether an event has neither a key nor what the mouse did.
-fn has_no_code(event: &GelvanhEvent) -> bool
-    ensures { result ≡ no_code event.now }
-{
-    event.code == 0 && (event.value == 0 && event.modifiers == 0)
-}
-
-/// Whether an event has nothing of how a key was pressed.
-fn has_no_press(event: &GelvanhEvent) -> bool
-    ensures { result ≡ no_press event.now }
-{
-    event.press == 0 && event.state == 0
-}
-
-/// Whether an event has no place.
-fn has_no_place(event: &GelvanhEvent) -> bool
-    ensures { result ≡ no_place event.now }
-{
-    event.column == 0 && event.row == 0
-}
-
 /// Whether an event is a reply with the cursor's place.
 fn is_cursor(event: &GelvanhEvent) -> bool
     ensures { result ≡ (event.now.kind == 6 && (no_code event.now && (no_press event.now && no_flags event.now))) }
 {
-    event.kind == 6 && (has_no_code(event) && (has_no_press(event) && event.flags == 0))
+    event.kind == 6 && (event.has_no_code() && (event.has_no_press() && event.has_no_flags()))
 }
 
 /// Whether it is a reply with the keyboard's flags.
 fn is_flags(event: &GelvanhEvent) -> bool
     ensures { result ≡ (event.now.kind == 7 && (no_code event.now && (no_press event.now && no_place event.now))) }
 {
-    event.kind == 7 && (has_no_code(event) && (has_no_press(event) && has_no_place(event)))
+    event.kind == 7 && (event.has_no_code() && (event.has_no_press() && event.has_no_place()))
 }
 
 /// Whether it is a reply with the terminal's attributes.
 fn is_attributes(event: &GelvanhEvent) -> bool
     ensures { result ≡ (event.now.kind == 8 && is_bare event.now) }
 {
-    event.kind == 8
-        && (has_no_code(event)
-            && (has_no_press(event) && (has_no_place(event) && event.flags == 0)))
+    event.kind == 8 && event.is_bare()
 }
 
 /// The bit of an event's class. Numbers that are no reply are what a user brought about.

@@ -2,9 +2,9 @@
 
 use crate::color::GelvanhColor;
 use crate::command::GelvanhCommand;
-use crate::event::GelvanhEvent;
 use crate::held::{GelvanhHeld, GelvanhReader};
 use crate::state::GelvanhState;
+use numbers::GelvanhEvent;
 use std::mem::{align_of, size_of};
 
 const _: () = prove!(size_of::<GelvanhState>() == 52);

@@ -1,9 +1,9 @@
 //! A door for C and Rust: the parser, the reader and the commands by numbers and slices.
 //!
-//! It is built on `crossterm_parse` and `crossterm`, and its contracts on `crossterm_read` too. The parser's state is a struct of numbers that
+//! It is built on `crossterm_parse`, `crossterm` and events as `numbers`, and its contracts on `crossterm_read` too. The parser's state is a struct of numbers that
 //! the caller keeps, so no call needs memory, and none blocks. `gelvanh_feed` follows the only division of the bytes as `Parser::advance`
-//! does (`specs/Feeding.antt`); what the numbers of a state, an event and a command mean is `specs/State.antt`, `specs/Event.antt` and
-//! `specs/Command.antt`. Events are held in the caller's table, and taken by class, as `InternalEventReader` does (`specs/Held.antt`). The
+//! does (`specs/Feeding.antt`); what the numbers of a state and of a command mean is `specs/State.antt` and `specs/Command.antt`,
+//! and what those of an event mean is the crate `numbers`. Events are held in the caller's table, and taken by class, as `InternalEventReader` does (`specs/Held.antt`). The
 //! header for C is `bindings/c/gelvanh.h`.
 //!
 //! What is proved, beyond safety:
@@ -21,7 +21,6 @@
 //! | Definitions | Lines | Of | Contract |
 //! |---|---|---|---|
 //! | `State` | 91 | the state of an open sequence as numbers | `gelvanh_is_undecided`, `gelvanh_is_pasting` |
-//! | `Event` | 130 | events as numbers | `gelvanh_feed` |
 //! | `Feeding` | 39 | what a call does that takes bytes | `gelvanh_feed` |
 //! | `Held` | 91 | events that are held, and their classes | `gelvanh_hold`, `gelvanh_holds`, `gelvanh_take`, `gelvanh_feed_held`, `gelvanh_take_some` |
 //! | `Text` | 24 | the text of a paste, piece by piece | `gelvanh_paste_text` |
@@ -34,7 +33,6 @@
 mod batches;
 mod color;
 mod command;
-mod event;
 mod feed;
 mod held;
 mod laws;

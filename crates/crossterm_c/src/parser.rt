@@ -7,13 +7,13 @@ ghost use Rattle.crossterm_c.specs.Feeding.{Feeds};
 ghost use Rattle.crossterm_c.specs.State.{state_at};
 ghost use Rattle.crossterm_c.specs.Text.{WritesLossy};
 
-use crate::event::{GelvanhEvent, of_key};
 use crate::feed::{feed, is_lone_letter};
 use crate::state::{GelvanhState, flatten, state_of};
 use crate::table::Table;
 use crate::text::write_text;
 use crossterm_parse::meaning::ascii_key;
 use crossterm_parse::state::State;
+use numbers::{GelvanhEvent, of_key};
 use std::marker::Brand;
 use std::sync::ledger::Blank;
 

@@ -4,11 +4,11 @@ ghost use Rattle.crossterm_types.specs.Admitting.{is_of};
 ghost use Rattle.crossterm_read.specs.Answers.{Gave};
 ghost use Rattle.crossterm_read.specs.Store.{Arrives};
 ghost use Rattle.crossterm_read.specs.Steps.{TakeReplies, first_admitted};
-ghost use Rattle.crossterm_c.specs.Event.{event_at};
+ghost use Rattle.numbers.specs.Event.{event_at};
 ghost use Rattle.crossterm_c.specs.Held.{TakesAsHeld, classes_at, held_in, store_at, taken_at};
 
-use crate::event::GelvanhEvent;
 use crate::held::{GelvanhHeld, GelvanhReader, first_of, make_room, put_behind, span, take_at};
+use numbers::GelvanhEvent;
 
 /// Holds an event behind those that are held, with its number, and returns whether there was room: else nothing has changed.
 ///

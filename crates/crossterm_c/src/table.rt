@@ -4,10 +4,10 @@
 ghost use Rattle.std.specs.Prelude.{◌≡◌, ◌-◌, ◌<◌, ◌≤◌, ◌∷◌, [], IsTrue, IsFalse};
 ghost use Rattle.crossterm_c.specs.inside.Table.{Filled, PutsEvents, table_capacity, filled_none, filled_on};
 
-use crate::event::{GelvanhEvent, of_key, of_meaning};
 use crate::held::GelvanhHeld;
 use crossterm_parse::meaning::{Meaning, ascii_key, typed_key};
 use crossterm_parse::outlet::Outlet;
+use numbers::{GelvanhEvent, of_key, of_meaning};
 
 /// A table of events, or of held events; the other slice isn't used.
 #[derive(Drop)]

@@ -1,6 +1,6 @@
 -- The column of the cursor.
 use Rattle.std.proofs.Common.{◌≡◌, ℕ, List, ap, ◌∙◌}
-use Rattle.prompt.specs.inside.Drawing.{column_behind, inside}
+use Rattle.prompt.specs.Drawing.{column_behind, inside}
 
 -- The column that comes of those behind a prompt and behind a part of the line, in buffers of one width.
 pub cursor_value : {w w0 w1 read start cursor column : ℕ} → (shown front : List ℕ) → w0 ≡ w → w1 ≡ w0 → read ≡ w → start ≡ column_behind w0 0 shown

@@ -3,4 +3,5 @@ pub mod Words
 pub mod Completing
 pub mod Asking
 pub mod Lines
+pub mod Drawing
 pub mod inside

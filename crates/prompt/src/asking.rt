@@ -10,10 +10,10 @@ ghost use Rattle.prompt.specs.Asking.{LineEnds, StopsAsking, GoesOn, answer_seen
 ghost use Rattle.prompt.specs.Completing as completing;
 ghost use Rattle.prompt.specs.Completing.{as_read, given_by};
 ghost use Rattle.prompt.specs.Prompts as prompts;
-ghost use Rattle.prompt.specs.inside.Drawing.{IsDrawn};
+ghost use Rattle.prompt.specs.Drawing.{IsDrawn};
 ghost use Rattle.prompt.specs.inside.Turning.{IsTaken, Leads, MayAsk};
 
-use crate::drawing::{Row, clear, erase, ring};
+use crate::drawing::{Row, erase, ring};
 use crate::helpers::Helper;
 use crate::prompts::has_control;
 use crate::read::Read;
@@ -311,7 +311,7 @@ fn show_at_top<W: Write, A: Allocator, H: Helper>(
     prompt: &Prompt<'_, H>,
     row: &mut Row,
 ) -> io::Result<()> {
-    clear(out)?;
+    out.write_all(Row::clearing().as_bytes())?;
     row.forget();
     show(out, editor, prompt, row)
 }
@@ -448,7 +448,8 @@ fn begin<
         Ok(columns) => columns,
         Err(error) => return Err(error),
     };
-    let mut row = Row::new(tty.alloc, columns, prompt.asks)?;
+    let mut row = Row::new(tty.alloc, columns)?;
+    row.is_asked = prompt.asks;
     match show(&mut tty.out, editor, prompt, &mut row) {
         Ok(()) => Ok(row),
         Err(error) => Err(error),

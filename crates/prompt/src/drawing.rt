@@ -1,11 +1,11 @@
 //! How a line is shown in the cursor's row.
-ghost use Rattle.std.specs.Prelude.{◌≡◌, ◌-◌, ◌<◌, IfOk, OnOk, chars};
+ghost use Rattle.std.specs.Prelude.{◌≡◌, ◌-◌, ◌<◌, IfOk, OnOk, chars, false};
 ghost use Rattle.std.specs.Io.KnownBytes.{Keeps};
 ghost use Rattle.screen.specs.Strips.{without_row};
-ghost use Rattle.prompt.specs.inside.Drawing.{IsCursor, IsDrawn, IsUnknown, column_behind, inside};
+ghost use Rattle.prompt.specs.Drawing.{IsCursor, IsDrawn, IsUnknown, clearing, column_behind, inside, leaving};
 
 use crate::prompts::{parted, shown, shown_hint};
-use crossterm::cursor::{MoveTo, MoveToColumn, MoveUp};
+use crossterm::cursor::{MoveToColumn, MoveUp};
 use crossterm::style::{Attribute, Attributes, ColorOutput, ContentStyle, Print};
 use crossterm::terminal::{Clear, ClearType};
 use crossterm::{QueueableCommand, execute, queue};
@@ -20,10 +20,17 @@ const COLORS: ColorOutput = ColorOutput::Enabled;
 /// What is shown for a character that no cell can hold.
 const REPLACEMENT: char = '\u{FFFD}';
 
-/// The row in which a line is shown.
+/// The row in which a line is shown, as `read_line` shows it: for who reads events by itself.
+///
+/// It takes all columns of the window but the last, so that no terminal wraps it. What `draw` writes is what changed since it drew last.
+///
+/// ```
+/// let mut row = Row::new(alloc, 80)?;
+/// row.draw(&mut out, "> ", editor.line(), "")?;
+/// ```
 #[derive(Drop)]
-pub(crate) struct Row {
-    /// What texts are made with.
+pub struct Row {
+    // What texts are made with.
     pub(crate) alloc: Global,
     strip: Strip,
     buffer: Buffer,
@@ -31,7 +38,7 @@ pub(crate) struct Row {
     column: u16,
     // Whether a hint is shown behind the line.
     has_hint: bool,
-    /// Whether the terminal is asked for the cursor's place.
+    // Whether `read_line` asks the terminal for the cursor's place.
     pub(crate) is_asked: bool,
 }
 
@@ -65,8 +72,17 @@ fn dim() -> ContentStyle {
 
 impl Row {
     /// The cursor's row in a window of so many columns. Nothing is known of it yet.
-    pub(crate) fn new(alloc: Global, columns: u16, is_asked: bool) -> Result<Row, AllocError>
-        ensures { IfOk result (λ row. IsUnknown columns row.strip) }
+    ///
+    /// # Errors
+    ///
+    /// `AllocError` if memory was refused.
+    ///
+    /// ```
+    /// let row = Row::new(alloc, 80)?;
+    /// ```
+    pub fn new(alloc: Global, columns: u16) -> Result<Row, AllocError>
+        ensures unknown { IfOk result (λ row. IsUnknown columns row.strip) }
+        ensures plain { IfOk result (λ row. row.has_hint ≡ false) }
     {
         let width = drawn_columns(columns);
         let strip = Strip::new(alloc, width)?;
@@ -77,7 +93,7 @@ impl Row {
             buffer,
             column: 0,
             has_hint: false,
-            is_asked,
+            is_asked: true,
         })
     }
 
@@ -91,9 +107,13 @@ impl Row {
         Ok(())
     }
 
-    /// Forgets what the row shows, as after the cursor went to another row.
-    pub(crate) fn forget(&mut self)
-        ensures { self.new.strip ≡ without_row self.old.strip }
+    /// Forgets what the row shows, as after the cursor went to another row. The next frame draws all of it.
+    ///
+    /// ```
+    /// row.forget();
+    /// ```
+    pub fn forget(&mut self)
+        ensures { self.new ≡ record self.old { strip = without_row self.old.strip } }
     {
         self.strip.forget();
     }
@@ -165,8 +185,18 @@ impl Row {
         Ok(())
     }
 
-    /// Shows a prompt, a line and a hint: what changed of them is written. In a window of one column there is no room for any.
-    pub(crate) fn draw<W: Write, A: Allocator>(
+    /// Shows a prompt, a line and a hint, with the cursor in its place: what changed of them is written, and flushed. The hint is shown, dimmed,
+    /// if the cursor is at the line's end and the hint has room. Characters that no cell can hold are shown as U+FFFD. In a window of one
+    /// column nothing has room, and nothing is written.
+    ///
+    /// # Errors
+    ///
+    /// Those of the writer, and `OutOfMemory` if memory was refused. Then nothing is known of the row.
+    ///
+    /// ```
+    /// row.draw(&mut out, "> ", editor.line(), "")?;
+    /// ```
+    pub fn draw<W: Write, A: Allocator>(
         &mut self,
         out: &mut W,
         prompt: &str,
@@ -177,6 +207,7 @@ impl Row {
             → IsDrawn self.new.buffer self.new.column self.old.strip self.new.strip (W.contents out.old) (W.contents out.new)) }
         ensures cursor { OnOk result (0 < self.old.strip.width → IsCursor self.old.buffer.width prompt.now line.now self.new.column) }
         ensures narrow { self.old.strip.width ≡ 0 → Keeps (W.contents out.old) (W.contents out.new) }
+        ensures width { self.new.strip.width ≡ self.old.strip.width }
     {
         if self.strip.width() == 0 {
             return out.flush();
@@ -204,12 +235,33 @@ impl Row {
         }
     }
 
-    /// Brings the cursor to the start of the next row, and erases a hint before. A fault is left to the next write.
+    /// What leaves the row, for who is done with it: the cursor goes to the start of the next one, and a hint is erased before.
+    ///
+    /// ```
+    /// out.write_all(row.leaving().as_bytes())?;
+    /// ```
+    pub fn leaving(&self) -> &'static str
+        ensures { result.now ≡ leaving self.now.has_hint }
+    {
+        if self.has_hint { "\x1b[K\r\n" } else { "\r\n" }
+    }
+
+    /// What erases the window and brings the cursor to its top, for a line that goes on there. Nothing is known of the row then.
+    ///
+    /// ```
+    /// out.write_all(Row::clearing().as_bytes())?;
+    /// row.forget();
+    /// ```
+    pub fn clearing() -> &'static str
+        ensures { result.now ≡ clearing }
+    {
+        "\x1b[2J\x1b[1;1H"
+    }
+
+    /// Leaves the row. A fault is left to the next write.
     pub(crate) fn leave<W: Write>(&self, out: &mut W) {
-        if self.has_hint {
-            let _ = queue!(out, COLORS, Clear(ClearType::UntilNewLine));
-        }
-        let _ = execute!(out, COLORS, Print("\r\n"));
+        let _ = out.write_all(self.leaving().as_bytes());
+        let _ = out.flush();
     }
 }
 
@@ -241,11 +293,6 @@ pub(crate) fn erase<W: Write>(out: &mut W, rows: u16) -> io::Result<()> {
         MoveToColumn(0),
         Clear(ClearType::FromCursorDown)
     )
-}
-
-/// Erases the window, and brings the cursor to its top.
-pub(crate) fn clear<W: Write>(out: &mut W) -> io::Result<()> {
-    queue!(out, COLORS, Clear(ClearType::All), MoveTo(0, 0))
 }
 
 /// Rings the bell.

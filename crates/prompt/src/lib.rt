@@ -40,6 +40,7 @@
 //! | a prompt with a control character is refused, and nothing was done; with one no line is returned | `Prompt::read_line`, `read_line` |
 //! | raw mode is on after a line, and stays on; the session's features stay as they are | `Prompt::read_line`, `read_line` |
 //! | the lines of several calls are those of all events that were read for them, but for those whose texts are too long | `laws::gives_lines` |
+//! | a frame makes the row show some cells, with the cursor behind what was printed before it, and changes nothing else; what leaves a row, and what clears the window | `Row::{draw, leaving, clearing}` |
 //! | names complete a text by the rest of the first that begins with it and goes on | `Helper::complete` of `Words` |
 //!
 //! The row is drawn by `screen::Strip::draw`, so each frame makes it show some cells, and changes nothing else. The cursor is behind what was
@@ -54,6 +55,7 @@
 //! | `Completing` | what an editor is given for an event | `Prompt::read_line` |
 //! | `Asking` | what comes of asking for a line, event by event | `Prompt::read_line`, `read_line` |
 //! | `Lines` | the events and the lines of several calls | `laws::gives_lines` |
+//! | `Drawing` | how a line is drawn in the cursor's row | `Row` |
 //!
 //! `specs/inside/` says the same of a part, and no public clause cites it.
 //!
@@ -69,6 +71,8 @@ mod read;
 mod words;
 
 pub use asking::{Prompt, read_line};
+pub use drawing::Row;
 pub use helpers::Helper;
+pub use prompts::is_shown;
 pub use read::Read;
 pub use words::Words;

@@ -1,7 +1,7 @@
 //! A prompt, and what is shown of it.
-ghost use Rattle.std.specs.Prelude.{◌≡◌, ◌⊎◌, [], IfSome, chars};
+ghost use Rattle.std.specs.Prelude.{◌≡◌, ◌⊎◌, [], IfSome, chars, not};
 ghost use Rattle.prompt.specs.Prompts.{has_control};
-ghost use Rattle.prompt.specs.inside.Drawing.{IsParted};
+ghost use Rattle.prompt.specs.Drawing.{IsParted};
 
 use unicode_width::UnicodeWidthChar;
 
@@ -15,6 +15,17 @@ pub(crate) fn has_control(text: &str) -> bool
         }
     }
     false
+}
+
+/// Whether a prompt of this text is shown: it has no control character.
+///
+/// ```
+/// assert!(rt; is_shown("> "));
+/// ```
+pub fn is_shown(text: &str) -> bool
+    ensures { result ≡ not (has_control (chars text.now)) }
+{
+    !has_control(text)
 }
 
 /// The columns that a character takes.

@@ -7,10 +7,10 @@ use Rattle.crossterm_parse.specs.declared.marked.Marked.{Marked}
 use Rattle.crossterm_parse.specs.declared.meaning.Meaning.{Meaning}
 use Rattle.crossterm_parse.specs.declared.state.State.{State}
 use Rattle.crossterm_read.specs.Store.{next_number}
-use Rattle.crossterm_c.specs.Event.{event_at}
+use Rattle.numbers.specs.Event.{event_at}
 use Rattle.crossterm_c.specs.Feeding.{Feeds}
 use Rattle.crossterm_c.specs.Held.{next_arrival, held_from}
-use Rattle.crossterm_c.specs.declared.event.GelvanhEvent.{GelvanhEvent}
+use Rattle.numbers.specs.declared.event.GelvanhEvent.{GelvanhEvent}
 use Rattle.crossterm_c.specs.declared.held.GelvanhHeld.{GelvanhHeld}
 use Rattle.crossterm_c.specs.declared.table.Table.{Table}
 

@@ -37,7 +37,7 @@ returns-then-is_lone_letter-clause-held c =
     let lone = c.is_lone_letter.ensures (search rules) in
     record {
       given = c.of_key-event.result ∷ [];
-      feeds = feeds_letter (state_at c.args.state.now) c.args.piece.now c.args.more c.args.raw c.of_key-event.result c.ascii_key.result lone.0 lone.1 lone.2 c.of_key-event.ensures c.ascii_key.ensures;
+      feeds = feeds_letter (state_at c.args.state.now) c.args.piece.now c.args.more c.args.raw c.of_key-event.result c.ascii_key.result lone.0 lone.1 lone.2 c.of_key-event.ensures.means c.ascii_key.ensures;
       held = c.put_behind.ensures ∙ ap (λ (l : List GelvanhHeld). l ++ record { event = c.of_key-event.result; arrival = c.args.reader.now.arrivals } ∷ []) (c.make_room-first.ensures.held ∙ c.span-first.ensures.held);
       arrivals = c.saturating_add.ensures;
       size = refl;

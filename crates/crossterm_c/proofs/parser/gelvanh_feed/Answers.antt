@@ -3,7 +3,7 @@ use Rattle.crossterm_parse.specs.Marked.{marked}
 use Rattle.crossterm_parse.specs.declared.state.State.{State}
 use Rattle.crossterm_c.specs.Feeding.{Feeds}
 use Rattle.crossterm_c.specs.State.{state_at}
-use Rattle.crossterm_c.specs.declared.event.GelvanhEvent.{GelvanhEvent}
+use Rattle.numbers.specs.declared.event.GelvanhEvent.{GelvanhEvent}
 use Rattle.crossterm_c.proofs.FeedingLaws.{feeds_letter, first_set, some_events}
 use Rattle.crossterm_c.proofs.parser.gelvanh_feed.Goals as goal
 
@@ -24,4 +24,4 @@ returns-then-is_lone_letter-clause-feeds c =
     let lone = c.is_lone_letter.ensures (search rules) in
     subst (λ (given : List GelvanhEvent). Feeds (state_at c.args.state.now) (state_at c.args.state.now) given (take 1 c.args.piece.now) (take 1 (marked c.args.piece.now c.args.more c.args.raw)))
     (first_set c.args.events.now c.of_key.result (some_events c.args.events.now (sym c.is_empty.ensures ∙ c.if-not-is_empty.true)))
-    (feeds_letter (state_at c.args.state.now) c.args.piece.now c.args.more c.args.raw c.of_key.result c.ascii_key.result lone.0 lone.1 lone.2 c.of_key.ensures c.ascii_key.ensures)
+    (feeds_letter (state_at c.args.state.now) c.args.piece.now c.args.more c.args.raw c.of_key.result c.ascii_key.result lone.0 lone.1 lone.2 c.of_key.ensures.means c.ascii_key.ensures)

@@ -1,6 +1,6 @@
 -- What is known of the row stays, and the cursor is behind what was printed.
 use Rattle.std.proofs.Common.{◌≡◌}
-use Rattle.prompt.specs.inside.Drawing.{IsCursor}
+use Rattle.prompt.specs.Drawing.{IsCursor}
 use Rattle.prompt.proofs.drawing.Row.fit.Given as goal
 
 abbrev pub invariant-loop-columns : goal.invariant-loop-columns

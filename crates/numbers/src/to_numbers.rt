@@ -1,39 +1,15 @@
-//! Events as numbers.
+//! The numbers of an event.
 ghost use Rattle.std.specs.Prelude.{◌≡◌, ◌-◌, ℕ, List, Some, length, take};
 ghost use Rattle.crossterm_types.specs.Seen.{Key, Mouse};
 ghost use Rattle.crossterm_parse.specs.Meaning.{pasted, seen_meaning};
-ghost use Rattle.crossterm_c.specs.Event.{code_at, done_at, event_at};
+ghost use Rattle.numbers.specs.Event.{code_at, done_at, event_at, event_known};
 
+use crate::event::GelvanhEvent;
 use crossterm_parse::meaning::Meaning;
 use crossterm_types::event::{KeyCode, KeyEvent, MouseEvent, MouseEventKind};
 
-/// An event. Which fields count depends on its kind; the others are 0.
-#[repr(C)]
-#[derive(Clone, Copy, Debug, PartialEq, Eq)]
-pub struct GelvanhEvent {
-    /// 1 the focus was gained, 2 it was lost, 3 a key, 4 the mouse, 5 the end of a paste, 6 the cursor's place, 7 the flags of the
-    /// keyboard, 8 the terminal's attributes, 9 a resize.
-    pub kind: u16,
-    /// Which key, or what the mouse did, by its place in crossterm's enum.
-    pub code: u16,
-    /// The key's character or number, or the mouse's button.
-    pub value: u32,
-    /// The column of the mouse or of the cursor, from 0, or how many the window has.
-    pub column: u16,
-    /// The row, from 0, or how many rows.
-    pub row: u16,
-    /// The bits of the modifiers that were held.
-    pub modifiers: u8,
-    /// Of a key: 0 pressed, 1 held, 2 let go.
-    pub press: u8,
-    /// The bits of what else the keyboard reported.
-    pub state: u8,
-    /// The bits of the keyboard's flags.
-    pub flags: u8,
-}
-
 /// An event of this kind, with nothing but it.
-pub(crate) fn plain(kind: u16) -> GelvanhEvent
+fn plain(kind: u16) -> GelvanhEvent
     ensures { result ≡ record { kind = kind; code = 0; value = 0; column = 0; row = 0; modifiers = 0; press = 0; state = 0; flags = 0 } }
 {
     GelvanhEvent {
@@ -50,14 +26,14 @@ pub(crate) fn plain(kind: u16) -> GelvanhEvent
 }
 
 /// The end of a paste, whose text is with the caller.
-pub(crate) fn paste_end() -> GelvanhEvent
+pub fn paste_end() -> GelvanhEvent
     ensures { (kept : List ℕ) → event_at kept result ≡ pasted (take (length kept - 6) kept) }
 {
     plain(5)
 }
 
 /// The place of a key, and its number or its character.
-fn code_and_value(code: KeyCode) -> (u16, u32)
+pub(crate) fn code_and_value(code: KeyCode) -> (u16, u32)
     ensures { code_at result.0 result.1 ≡ Some code }
 {
     match code {
@@ -92,7 +68,7 @@ fn code_and_value(code: KeyCode) -> (u16, u32)
 }
 
 /// The place of what the mouse did, and its button.
-fn done_by_mouse(kind: MouseEventKind) -> (u16, u32)
+pub(crate) fn done_by_mouse(kind: MouseEventKind) -> (u16, u32)
     ensures { done_at result.0 result.1 ≡ Some kind }
 {
     match kind {
@@ -108,8 +84,9 @@ fn done_by_mouse(kind: MouseEventKind) -> (u16, u32)
 }
 
 /// The numbers of a key.
-pub(crate) fn of_key(key: KeyEvent) -> GelvanhEvent
-    ensures { (kept : List ℕ) → event_at kept result ≡ Key key }
+pub fn of_key(key: KeyEvent) -> GelvanhEvent
+    ensures means { (kept : List ℕ) → event_at kept result ≡ Key key }
+    ensures known { event_known result ≡ Some (Key key) }
 {
     let (code, value) = code_and_value(key.code);
     GelvanhEvent {
@@ -124,7 +101,8 @@ pub(crate) fn of_key(key: KeyEvent) -> GelvanhEvent
 
 /// The numbers of what the mouse did.
 fn of_mouse(mouse: MouseEvent) -> GelvanhEvent
-    ensures { (kept : List ℕ) → event_at kept result ≡ Mouse mouse }
+    ensures means { (kept : List ℕ) → event_at kept result ≡ Mouse mouse }
+    ensures known { event_known result ≡ Some (Mouse mouse) }
 {
     let (code, value) = done_by_mouse(mouse.kind);
     GelvanhEvent {
@@ -139,8 +117,9 @@ fn of_mouse(mouse: MouseEvent) -> GelvanhEvent
 
 /// The numbers of what a sequence means.
 #[inline(always)]
-pub(crate) fn of_meaning(meaning: Meaning) -> GelvanhEvent
-    ensures { (kept : List ℕ) → event_at kept result ≡ seen_meaning meaning }
+pub fn of_meaning(meaning: Meaning) -> GelvanhEvent
+    ensures means { (kept : List ℕ) → event_at kept result ≡ seen_meaning meaning }
+    ensures known { event_known result ≡ Some (seen_meaning meaning) }
 {
     match meaning {
         Meaning::Key(key) => of_key(key),

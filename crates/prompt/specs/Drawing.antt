@@ -1,5 +1,5 @@
 -- How the cursor's row is drawn.
-use Rattle.std.specs.Prelude.{◌≡◌, ◌⊎◌, ℕ, ◌+◌, ◌-◌, ◌++◌, ◌==◌, min, nat_le, true, List, [], Option, Some, None, if◌then◌else◌}
+use Rattle.std.specs.Prelude.{◌≡◌, ◌⊎◌, ℕ, ◌+◌, ◌-◌, ◌++◌, ◌∷◌, ◌==◌, Bool, min, nat_le, true, codes, List, [], Option, Some, None, if◌then◌else◌}
 use Rattle.std.specs.Str.{chars}
 use Rattle.std.specs.List.{starts_with}
 use Rattle.crossterm.specs.Functions.{AppendsReading}
@@ -45,3 +45,11 @@ pub record IsCursor (width : ℕ) (prompt : List ℕ) (line : Split) (column : �
   pub behind : chars after ≡ line.after
   pub parted : IsParted text front rest after
   pub value : column ≡ inside width (column_behind width (column_behind width 0 (chars shown)) (chars front))
+
+-- The text that leaves a row: EL if a hint is shown behind the line, then CR and LF, so that the next row begins.
+abbrev pub leaving : Bool → List ℕ
+leaving has_hint = (if has_hint then 0x1B ∷ codes "[K" else []) ++ 0x0D ∷ 0x0A ∷ []
+
+-- The text that erases the window and brings the cursor to its top: ED 2, and CUP to the first row and column.
+abbrev pub clearing : List ℕ
+clearing = 0x1B ∷ codes "[2J" ++ 0x1B ∷ codes "[1;1H"

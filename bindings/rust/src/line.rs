@@ -1,0 +1,287 @@
+//! Lines that are edited, by the archive of lines: the usual keys of GNU readline, an undo, killed text and a history.
+//!
+//! ```
+//! use gelvanh::line::{Editor, Limits, Outcome};
+//! use gelvanh::{Event, KeyCode};
+//!
+//! let mut editor = Editor::new(Limits::default())?;
+//! let mut out = Vec::new();
+//! editor.begin("> ", 80)?;
+//! for key in [KeyCode::Char('b'), KeyCode::Left, KeyCode::Char('a')] {
+//!     assert_eq!(editor.turn(&Event::Key(key.into()))?, Outcome::Going);
+//!     editor.show(&mut out)?;
+//! }
+//! assert_eq!((editor.before(), editor.after()), ("a".into(), "b".into()));
+//! assert_eq!(editor.turn(&Event::Key(KeyCode::Enter.into()))?, Outcome::Line("ab".into()));
+//! assert_eq!(editor.history()?, "ab\n");
+//! # Ok::<(), std::io::Error>(())
+//! ```
+//!
+//! `Editor::readline` is the whole loop, over a `Terminal`.
+//!
+//! An editor may go to another thread, but two threads can't have it:
+//!
+//! ```compile_fail,E0277
+//! let editor = gelvanh::line::Editor::new(Default::default()).unwrap();
+//! std::thread::scope(|scope| {
+//!     scope.spawn(|| editor.text());
+//!     editor.text();
+//! });
+//! ```
+//!
+//! And nothing is left of one that was freed:
+//!
+//! ```compile_fail,E0382
+//! let editor = gelvanh::line::Editor::new(Default::default()).unwrap();
+//! drop(editor);
+//! editor.text();
+//! ```
+
+mod asking;
+mod helper;
+
+use crate::event::Event;
+use crate::flat;
+use crate::key::{KeyCode, KeyModifiers};
+use crate::raw_line::{Answer, Handle};
+use std::error::Error;
+use std::fmt::{self, Display};
+use std::io::{self, Write};
+
+pub use crate::raw_line::Limits;
+pub use asking::Terminal;
+pub use helper::{Helper, Words};
+
+/// What comes of an event.
+#[derive(Clone, Debug, PartialEq, Eq)]
+pub enum Outcome {
+    /// The line goes on.
+    Going,
+    /// The line was accepted, by Enter, and this is its text.
+    Line(String),
+    /// The line was let go, by Ctrl-C.
+    Interrupted,
+    /// The empty line was closed, by Ctrl-D.
+    Closed,
+}
+
+/// Why something was refused. Nothing has changed then.
+#[derive(Clone, Copy, Debug, PartialEq, Eq)]
+pub enum LineError {
+    /// The text has no room in the line.
+    TooLong,
+    /// Memory was refused.
+    NoMemory,
+    /// The prompt has a control character.
+    Prompt,
+}
+
+impl Display for LineError {
+    fn fmt(&self, f: &mut fmt::Formatter<'_>) -> fmt::Result {
+        f.write_str(match self {
+            LineError::TooLong => "the line would be too long",
+            LineError::NoMemory => "there is no memory for the line",
+            LineError::Prompt => "the prompt has a control character",
+        })
+    }
+}
+
+impl Error for LineError {}
+
+impl From<LineError> for io::Error {
+    fn from(error: LineError) -> io::Error {
+        let kind = match error {
+            LineError::TooLong | LineError::Prompt => io::ErrorKind::InvalidInput,
+            LineError::NoMemory => io::ErrorKind::OutOfMemory,
+        };
+        io::Error::new(kind, error)
+    }
+}
+
+/// What a call made of an answer that ends no line.
+fn done(answer: Answer) -> Result<(), LineError> {
+    match answer {
+        Answer::TooLong => Err(LineError::TooLong),
+        Answer::NoMemory => Err(LineError::NoMemory),
+        // A `&str` is UTF-8, and an event has an event's numbers: so it is a prompt.
+        Answer::Unknown => Err(LineError::Prompt),
+        Answer::GoesOn | Answer::Accepted | Answer::Interrupted | Answer::Closed => Ok(()),
+    }
+}
+
+/// Whether an event is Tab without a modifier.
+fn is_tab(event: &Event) -> bool {
+    event.as_key_event().map_or(false, |key| key.code == KeyCode::Tab && key.modifiers == KeyModifiers::NONE && !key.is_release())
+}
+
+/// An editor of one line, with the text that was killed last, the changes that can be undone, and the history of accepted lines.
+pub struct Editor<H = ()> {
+    line: Handle,
+    helper: H,
+    /// Whether the line was shown since it changed.
+    is_shown: bool,
+}
+
+impl Editor {
+    /// An editor with an empty line and nothing before it.
+    ///
+    /// # Errors
+    ///
+    /// `NoMemory`.
+    ///
+    /// ```
+    /// use gelvanh::line::{Editor, Limits};
+    ///
+    /// let editor = Editor::new(Limits { lines: 50, ..Limits::default() })?;
+    /// assert_eq!(editor.text(), "");
+    /// # Ok::<(), gelvanh::line::LineError>(())
+    /// ```
+    pub fn new(limits: Limits) -> Result<Editor, LineError> {
+        let line = Handle::new(&limits).ok_or(LineError::NoMemory)?;
+        Ok(Editor { line, helper: (), is_shown: false })
+    }
+}
+
+impl<H> Editor<H> {
+    /// The same editor, with this helper.
+    ///
+    /// ```
+    /// use gelvanh::line::{Editor, Limits, Words};
+    /// use gelvanh::{Event, KeyCode};
+    ///
+    /// let mut editor = Editor::new(Limits::default())?.with_helper(Words::new(["help", "quit"]));
+    /// editor.paste("he")?;
+    /// editor.turn(&Event::Key(KeyCode::Tab.into()))?;
+    /// assert_eq!(editor.text(), "help");
+    /// # Ok::<(), gelvanh::line::LineError>(())
+    /// ```
+    pub fn with_helper<G: Helper>(self, helper: G) -> Editor<G> {
+        Editor { line: self.line, helper, is_shown: false }
+    }
+
+    /// The line's text.
+    pub fn text(&self) -> String {
+        self.line.text()
+    }
+
+    /// The text before the cursor.
+    pub fn before(&self) -> String {
+        let mut text = self.text();
+        text.truncate(self.line.cursor());
+        text
+    }
+
+    /// The text behind the cursor.
+    pub fn after(&self) -> String {
+        self.text().split_off(self.line.cursor())
+    }
+
+    /// The accepted lines, the oldest first, with a line feed behind each: a text that `load_history` takes.
+    ///
+    /// # Errors
+    ///
+    /// `NoMemory`.
+    pub fn history(&self) -> Result<String, LineError> {
+        self.line.history().ok_or(LineError::NoMemory)
+    }
+
+    /// Takes the history from a text, in the place of the one before. Lines that are empty or too long are left out, and the oldest of too many.
+    ///
+    /// # Errors
+    ///
+    /// `NoMemory`.
+    ///
+    /// ```
+    /// use gelvanh::line::{Editor, Limits};
+    /// use gelvanh::{Event, KeyCode};
+    ///
+    /// let mut editor = Editor::new(Limits::default())?;
+    /// editor.load_history("first\nsecond\n")?;
+    /// editor.turn(&Event::Key(KeyCode::Up.into()))?;
+    /// assert_eq!(editor.text(), "second");
+    /// # Ok::<(), gelvanh::line::LineError>(())
+    /// ```
+    pub fn load_history(&mut self, text: &str) -> Result<(), LineError> {
+        done(self.line.load_history(text))
+    }
+
+    /// Begins a row with a prompt, in a window of so many columns; 0 counts as 80. Nothing is known of the row then, and the next `show` draws
+    /// all of it. The line's text stays.
+    ///
+    /// # Errors
+    ///
+    /// `NoMemory`, or `Prompt` if the prompt has a control character.
+    pub fn begin(&mut self, prompt: &str, columns: u16) -> Result<(), LineError> {
+        self.is_shown = false;
+        done(self.line.begin(prompt, columns))
+    }
+
+    /// Writes a text at the cursor, as one change. Line ends and tabs side by side become one blank, and at its end none; other control characters
+    /// are left out.
+    ///
+    /// # Errors
+    ///
+    /// `TooLong`, or `NoMemory`.
+    pub fn paste(&mut self, text: &str) -> Result<(), LineError> {
+        self.is_shown = false;
+        done(self.line.paste(text))
+    }
+
+    /// Writes what is left for the terminal, without the line: after it has ended, what leaves its row.
+    ///
+    /// # Errors
+    ///
+    /// The writer's, which may have taken a beginning of the bytes.
+    pub fn flush<W: Write + ?Sized>(&mut self, out: &mut W) -> io::Result<()> {
+        let mut slice = [0; 1024];
+        loop {
+            match self.line.output(&mut slice) {
+                [] => return out.flush(),
+                bytes => out.write_all(bytes)?,
+            }
+        }
+    }
+}
+
+impl<H: Helper> Editor<H> {
+    /// Takes an event: a key does what it is bound to, a paste is pasted, and any other event does nothing. At Tab without a modifier the helper's
+    /// text is pasted, if it has one.
+    ///
+    /// # Errors
+    ///
+    /// `TooLong`, or `NoMemory`.
+    pub fn turn(&mut self, event: &Event) -> Result<Outcome, LineError> {
+        #[cfg(feature = "bracketed-paste")]
+        if let Event::Paste(text) = event {
+            return self.paste(text).map(|()| Outcome::Going);
+        }
+        if is_tab(event) {
+            if let Some(text) = self.helper.complete(&self.before(), &self.after()) {
+                return self.paste(&text).map(|()| Outcome::Going);
+            }
+        }
+        self.is_shown = false;
+        match self.line.event(&flat::Event::of(event)) {
+            Answer::Accepted => Ok(Outcome::Line(self.line.accepted())),
+            Answer::Interrupted => Ok(Outcome::Interrupted),
+            Answer::Closed => Ok(Outcome::Closed),
+            answer => done(answer).map(|()| Outcome::Going),
+        }
+    }
+
+    /// Writes what makes the row show the line as it is, with the helper's hint behind it; after Ctrl-L at the top of an empty window. After a
+    /// line has ended that is the next one: `flush` only leaves the row.
+    ///
+    /// # Errors
+    ///
+    /// The writer's, which may have taken a beginning of the bytes; `OutOfMemory`.
+    pub fn show<W: Write + ?Sized>(&mut self, out: &mut W) -> io::Result<()> {
+        if !self.is_shown {
+            let hint = self.helper.hint(&self.text());
+            done(self.line.hint(&hint))?;
+            done(self.line.show())?;
+            self.is_shown = true;
+        }
+        self.flush(out)
+    }
+}

@@ -1,0 +1,121 @@
+//! Lines that are edited in the terminal: the usual keys of GNU readline, an undo, killed text, a history and completion.
+//!
+//! ```no_run
+//! use crossterm::line::{Editor, Limits, Outcome};
+//!
+//! let mut editor = Editor::new(Limits::default())?;
+//! while let Outcome::Line(text) = editor.readline("> ")? {
+//!     println!("{text}");
+//! }
+//! # Ok::<(), std::io::Error>(())
+//! ```
+//!
+//! crossterm has no such module. The editor is that of the crate `gelvanh`, which is proved; this one has the terminal for it.
+
+use crate::event::{self, Event};
+use crate::terminal;
+use std::io::{self, Write};
+use std::ops::{Deref, DerefMut};
+use std::time::Duration;
+
+pub use gelvanh::line::{Helper, Limits, LineError, Outcome, Terminal, Words};
+
+/// The terminal that `event::read` reads, and standard output.
+struct Tty;
+
+impl Write for Tty {
+    fn write(&mut self, bytes: &[u8]) -> io::Result<usize> {
+        io::stdout().write(bytes)
+    }
+
+    fn flush(&mut self) -> io::Result<()> {
+        io::stdout().flush()
+    }
+}
+
+impl Terminal for Tty {
+    fn set_raw_mode(&mut self, is_on: bool) -> io::Result<bool> {
+        let was_on = terminal::is_raw_mode_enabled()?;
+        if is_on {
+            terminal::enable_raw_mode()?;
+        } else {
+            terminal::disable_raw_mode()?;
+        }
+        Ok(was_on != is_on)
+    }
+
+    fn columns(&mut self) -> io::Result<u16> {
+        Ok(terminal::size().map_or(0, |(columns, _)| columns))
+    }
+
+    fn has_event(&mut self) -> io::Result<bool> {
+        event::poll(Duration::ZERO)
+    }
+
+    fn read(&mut self) -> io::Result<Event> {
+        event::read()
+    }
+}
+
+/// An editor of one line, which asks for it in the terminal. It has what `gelvanh::line::Editor` has: `text`, `history`, `load_history`, `turn` and
+/// `show` for who reads events by itself, and more. That one's `readline` asks in any `Terminal`.
+pub struct Editor<H = ()> {
+    editor: gelvanh::line::Editor<H>,
+}
+
+impl Editor {
+    /// An editor with an empty line and nothing before it.
+    ///
+    /// # Errors
+    ///
+    /// `NoMemory`.
+    pub fn new(limits: Limits) -> Result<Editor, LineError> {
+        Ok(Editor { editor: gelvanh::line::Editor::new(limits)? })
+    }
+}
+
+impl<H> Editor<H> {
+    /// The same editor, with this helper.
+    ///
+    /// ```
+    /// use crossterm::line::{Editor, Limits, Words};
+    ///
+    /// let editor = Editor::new(Limits::default())?.with_helper(Words::new(["help", "quit"]));
+    /// # let _: Editor<Words> = editor;
+    /// # Ok::<(), std::io::Error>(())
+    /// ```
+    pub fn with_helper<G: Helper>(self, helper: G) -> Editor<G> {
+        Editor { editor: self.editor.with_helper(helper) }
+    }
+}
+
+impl<H: Helper> Editor<H> {
+    /// Asks for a line in the cursor's row, behind a prompt, until Enter, Ctrl-C, or Ctrl-D in an empty line. It never returns
+    /// `Outcome::Going`.
+    ///
+    /// Raw mode is on meanwhile, and so are pastes as events, unless this crate lacks the feature `bracketed-paste`. Both are off again however
+    /// it ends; a raw mode that was on before stays on. A text without room rings the bell. After a resize the row is drawn anew, and Ctrl-L clears
+    /// the window before. The editor may hold an unfinished line, as after an error: then that line goes on.
+    ///
+    /// # Errors
+    ///
+    /// `InvalidInput` if the prompt has a control character, and then nothing was done; those of `enable_raw_mode`, `read`, `poll` and of
+    /// standard output; `OutOfMemory`. The editor has taken all events that were read, but one for which memory was refused.
+    pub fn readline(&mut self, prompt: &str) -> io::Result<Outcome> {
+        self.editor.readline(prompt, &mut Tty)
+    }
+}
+
+impl<H> Deref for Editor<H> {
+    type Target = gelvanh::line::Editor<H>;
+
+    fn deref(&self) -> &gelvanh::line::Editor<H> {
+        &self.editor
+    }
+}
+
+impl<H> DerefMut for Editor<H> {
+    fn deref_mut(&mut self) -> &mut gelvanh::line::Editor<H> {
+        &mut self.editor
+    }
+}

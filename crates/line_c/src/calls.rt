@@ -1,0 +1,167 @@
+//! The calls of the archive, as `bindings/c/gelvanh_line.h` declares them.
+ghost use Rattle.std.specs.Prelude.{◌≡◌, Some, reverse};
+ghost use Rattle.crossterm_types.specs.Seen.{Paste};
+ghost use Rattle.line_editor.specs.Bounds.{size};
+ghost use Rattle.line_editor.specs.Splits.{line_text};
+ghost use Rattle.numbers.specs.Event.{event_known};
+ghost use Rattle.line_c.specs.Begun.{OpensLine, limits_of};
+ghost use Rattle.line_c.specs.Answers.{ReturnsAnswer, BeginsRow, Copies, CopiesHistory, MakesOf, Moves, ShowsLine, TakesInput, WithText, with_hint, with_history};
+
+use crate::answers::Answer;
+use crate::keeping::{LineHandle, LineSlot};
+use crate::lines::made;
+use handle::Parts;
+use line_editor::Limits;
+use numbers::GelvanhEvent;
+use std::alloc::Global;
+
+/// The bounds of an editor, as those of `line_editor::Limits`.
+#[repr(C)]
+#[derive(Clone, Copy)]
+pub struct LineLimits {
+    /// The bytes of a line in UTF-8. A longer one is refused.
+    pub bytes: usize,
+    /// The accepted lines in the history. The oldest one is unknown_row for a further one.
+    pub lines: usize,
+    /// The changes that can be undone. The oldest one is unknown_row for a further one.
+    pub steps: usize,
+    /// The texts of kills that can be yanked. The oldest one is unknown_row for a further one.
+    pub kills: usize,
+    /// Whether an accepted line that equals the newest one isn't kept once more.
+    pub ignore_dups: bool,
+    /// Whether an accepted line that begins with a blank isn't kept.
+    pub ignore_space: bool,
+}
+
+impl LineLimits {
+    /// The editor's limits.
+    fn limits(&self) -> Limits
+        ensures { result ≡ limits_of self.now }
+    {
+        Limits {
+            bytes: self.bytes,
+            lines: self.lines,
+            steps: self.steps,
+            kills: self.kills,
+            ignore_dups: self.ignore_dups,
+            ignore_space: self.ignore_space,
+        }
+    }
+}
+
+/// BeginsRow an editor, whose pointer is written, and returns 0. Or memory was refused: then nothing is written, and it returns 5.
+#[unsafe(no_mangle)]
+pub extern "C" fn gelvanh_line_new(alloc: Global, line: &mut LineSlot, limits: &LineLimits) -> u32
+    ensures { OpensLine limits.now result line.old line.new }
+{
+    match made(alloc, limits.limits()) {
+        Some(kept) => {
+            *line = LineSlot::of(Parts::of(kept));
+            Answer::GoesOn.number()
+        }
+        None => Answer::NoMemory.number(),
+    }
+}
+
+/// Ends an editor, and gives its memory back.
+#[unsafe(no_mangle)]
+pub extern "C" fn gelvanh_line_free(alloc: Global, line: LineHandle) {
+    let _kept = line.parts(alloc).into_box();
+}
+
+/// BeginsRow a row with a prompt in UTF-8, in a window of so many columns, of which nothing is known. 0 columns count as 80.
+#[unsafe(no_mangle)]
+pub extern "C" fn gelvanh_line_begin(line: &mut LineHandle, prompt: &[u8], columns: u16) -> u32
+    ensures { ReturnsAnswer result (WithText prompt.now (BeginsRow prompt.now columns)) line.old.value line.new.value }
+{
+    line.open().begin(prompt, columns).number()
+}
+
+/// TakesInput an event by its numbers. A reply, the mouse and a resize do nothing, and a paste's end is unknown: its text is pasted by itself.
+#[unsafe(no_mangle)]
+pub extern "C" fn gelvanh_line_event(line: &mut LineHandle, event: &GelvanhEvent) -> u32
+    ensures { ReturnsAnswer result (TakesInput (event_known event.now)) line.old.value line.new.value }
+{
+    line.open().take(event).number()
+}
+
+/// Pastes a text in UTF-8.
+#[unsafe(no_mangle)]
+pub extern "C" fn gelvanh_line_paste(line: &mut LineHandle, text: &[u8]) -> u32
+    ensures { ReturnsAnswer result (WithText text.now (TakesInput (Some (Paste text.now)))) line.old.value line.new.value }
+{
+    line.open().paste(text).number()
+}
+
+/// TakesInput the text, in UTF-8, that is shown behind the line while the cursor is at its end.
+#[unsafe(no_mangle)]
+pub extern "C" fn gelvanh_line_hint(line: &mut LineHandle, hint: &[u8]) -> u32
+    ensures { ReturnsAnswer result (WithText hint.now (MakesOf (with_hint hint.now line.old.value))) line.old.value line.new.value }
+{
+    line.open().take_hint(hint).number()
+}
+
+/// ShowsLine the line: what changed in its row joins what is to be written. After Ctrl-L the window is cleared before, and the line is drawn at its
+/// top.
+#[unsafe(no_mangle)]
+pub extern "C" fn gelvanh_line_show(line: &mut LineHandle) -> u32
+    ensures { ReturnsAnswer result ShowsLine line.old.value line.new.value }
+{
+    line.open().show().number()
+}
+
+/// Moves what is to be written to the terminal into a slice, as far as there is room, and returns how many bytes: 0 only if nothing is left, or
+/// there is no room. What is behind them in the slice is the call's to use.
+#[unsafe(no_mangle)]
+pub extern "C" fn gelvanh_line_output(line: &mut LineHandle, slice: &mut [u8]) -> usize
+    ensures { Moves result slice.old slice.new line.old.value line.new.value }
+{
+    line.open().move_output(slice)
+}
+
+/// Copies the line's text into a slice, if it fits, and returns how many bytes it has.
+#[unsafe(no_mangle)]
+pub extern "C" fn gelvanh_line_text(line: &mut LineHandle, slice: &mut [u8]) -> usize
+    ensures copied { Copies (line_text line.old.value.editor.line) result slice.old slice.new }
+    ensures same { line.new.value ≡ line.old.value }
+{
+    line.open().text(slice)
+}
+
+/// How many bytes of the line's text are before the cursor.
+#[unsafe(no_mangle)]
+pub extern "C" fn gelvanh_line_cursor(line: &mut LineHandle) -> usize
+    ensures count { result ≡ size (reverse line.old.value.editor.line.before) }
+    ensures same { line.new.value ≡ line.old.value }
+{
+    line.open().cursor()
+}
+
+/// Copies the text of the line that was accepted last into a slice, if it fits, and returns how many bytes it has.
+#[unsafe(no_mangle)]
+pub extern "C" fn gelvanh_line_accepted(line: &mut LineHandle, slice: &mut [u8]) -> usize
+    ensures copied { Copies line.old.value.accepted result slice.old slice.new }
+    ensures same { line.new.value ≡ line.old.value }
+{
+    line.open().accepted(slice)
+}
+
+/// Copies the history's text into a slice, if it fits, and writes how many bytes it has.
+#[unsafe(no_mangle)]
+pub extern "C" fn gelvanh_line_history(
+    line: &mut LineHandle,
+    slice: &mut [u8],
+    length: &mut usize,
+) -> u32
+    ensures { ReturnsAnswer result (λ a k l. CopiesHistory k.editor a length.old length.new slice.old slice.new × (l ≡ k)) line.old.value line.new.value }
+{
+    line.open().history(slice, length).number()
+}
+
+/// TakesInput the history from a text in UTF-8.
+#[unsafe(no_mangle)]
+pub extern "C" fn gelvanh_line_load_history(line: &mut LineHandle, text: &[u8]) -> u32
+    ensures { ReturnsAnswer result (WithText text.now (MakesOf (with_history text.now line.old.value))) line.old.value line.new.value }
+{
+    line.open().load(text).number()
+}
