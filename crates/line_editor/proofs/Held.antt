@@ -1,9 +1,9 @@
 -- Edits of lines that are held give lines that are held.
 use Rattle.std.proofs.Common.{◌≡◌, ℕ, ◌+◌, ◌-◌, ◌≤◌, List, [], ◌∷◌, ◌++◌, length, reverse, take, drop, refl, sym, subst, ap, ◌∙◌, inl, inr, arith, append-nil, append_assoc, length-append}
-use Rattle.std.proofs.lemmas.Bool.{cases_Bool, eqb-true}
+use Rattle.std.proofs.lemmas.Bool.{cases_Bool}
 use Rattle.std.proofs.lemmas.List.{reverse-append, reverse-reverse}
 use Rattle.std.proofs.lemmas.Str.{encodes-append}
-use Rattle.std.specs.Prelude.{Option, Some, None, IfSome, ◌==◌, encode_utf8_all, slice_get, suc, zero}
+use Rattle.std.specs.Prelude.{Option, Some, None, IfSome, encode_utf8_all, slice_get, suc, zero}
 use Rattle.std.specs.List.{AllByRecursion}
 use Rattle.std.specs.Option.{option_and_then}
 use Rattle.std.specs.Str.{bytes_eq}
@@ -19,7 +19,7 @@ use Rattle.line_editor.specs.Edits.{cut_text, reach_end, erased, from_to, insert
 use Rattle.line_editor.specs.Places.{target_place, stops}
 use Rattle.line_editor.specs.Shown.{AreShown}
 use Rattle.line_editor.specs.Splits.{Split, ahead, line_text}
-use Rattle.line_editor.specs.States.{before_yanked, behind_front, first_with, found_line, last_with, other_rest, rest_at, rest_or}
+use Rattle.line_editor.specs.States.{before_yanked, first_with, found_line, last_with, other_rest, rest_at, rest_or}
 use Rattle.line_editor.proofs.Keeping.{cuts_out, ends-IsFrom, from_to-IsFrom, keeps_text, text_of-IsFrom, text_of-joined, writes_at}
 use Rattle.line_editor.proofs.Ringing.{behind-front, some-weaker}
 use Rattle.line_editor.proofs.Showing.{shown-append, shown-back, shown-front}

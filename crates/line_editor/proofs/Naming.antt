@@ -16,7 +16,7 @@ use Rattle.line_editor.specs.declared.actions.Action.TheVariants.{Insert, Go, Er
 use Rattle.line_editor.specs.declared.places.Stop.TheVariants.{Cluster, WordStart, WordEnd, Blank, Edge}
 use Rattle.line_editor.specs.declared.places.Target.{Target}
 use Rattle.line_editor.specs.declared.places.Target.TheVariants.{Back, Forward}
-use Rattle.line_editor.specs.Names.{NameReadsBack, action_name, action_rows, key_char_name, char_named, one_char, target_name, target_rows, verb_named}
+use Rattle.line_editor.specs.Names.{NameReadsBack, action_name, key_char_name, char_named, one_char, target_name, target_rows, verb_named}
 
 -- ---- a target
 

@@ -1,9 +1,9 @@
 -- Lines that are looked for, by their numbers.
 use Rattle.std.proofs.Common.{◌≡◌, ℕ, ◌+◌, ◌-◌, ◌<◌, ◌≤◌, true, false, List, [], ◌∷◌, ◌++◌, length, drop, refl, sym, subst, ap, ◌∙◌, inl, inr, arith, add-one}
-use Rattle.std.proofs.lemmas.Bool.{eq-eqb, false≢true}
-use Rattle.std.specs.Prelude.{Bool, ◌⊎◌, Option, Some, None, IfSome, MatchOption, is_some, ◌||◌, if◌then◌else◌, zero, suc, slice_get}
+use Rattle.std.proofs.lemmas.Bool.{cases_Bool, eq-eqb, eqb-false, eqb-true, false≢true}
+use Rattle.std.specs.Prelude.{Bool, ◌⊎◌, Option, Some, None, IfSome, MatchOption, is_some, ◌==◌, ◌||◌, if◌then◌else◌, zero, suc, slice_get}
 use Rattle.std.specs.List.{AllByRecursion}
-use Rattle.line_editor.specs.Laws.{FindsNearest, FindsPiece, IsNearest}
+use Rattle.line_editor.specs.Laws.{FindsNearest, FindsNewer, FindsPiece, IsNearest, IsNearestNewer}
 use Rattle.line_editor.specs.Seeking.{contains, first_number, is_wanted, last_number}
 use Rattle.line_editor.specs.Splits.{Split, line_text}
 use Rattle.line_editor.specs.States.{behind_front}
@@ -126,3 +126,53 @@ finds_piece pattern text = record {
   found = piece-found pattern text;
   missed = λ none front back e. false≢true (sym none ∙ ap (contains pattern) e ∙ piece-there pattern front back);
 }
+
+-- ---- what is found forward
+
+wanted-there : (is : List ℕ → Bool) (o : Option Split) → is_wanted is o ≡ true → (d : Split) × (o ≡ Some d) × (is (line_text d) ≡ true)
+wanted-there is None h = absurd (false≢true h)
+wanted-there is (Some d) h = (d, refl, h)
+
+module _ (is : List ℕ → Bool) (n : ℕ) (lines : List Split) where
+  -- The last of the lines, and those before it.
+  one-more : is_wanted is (slice_get lines n) ≡ false → (k : ℕ) → k < suc n → (k < n → is_wanted is (slice_get lines k) ≡ false)
+      → is_wanted is (slice_get lines k) ≡ false
+  one-more past k lt h =
+      let P : ℕ → Type 0 = λ i. is_wanted is (slice_get lines i) ≡ false in
+      elim (cases_Bool (k == n)) [
+        | inl same ↦ subst P (sym (eqb-true k n same)) past
+        | inr other ↦ h (omega (arith, lt, eqb-false k n other))
+      ]
+
+  newer-behind : (o : Option ℕ) → is_wanted is (slice_get lines n) ≡ false
+      → MatchOption o ((k : ℕ) → k < n → is_wanted is (slice_get lines k) ≡ false) (λ number. IsNearestNewer is n number lines)
+      → MatchOption o ((k : ℕ) → k < suc n → is_wanted is (slice_get lines k) ≡ false) (λ number. IsNearestNewer is (suc n) number lines)
+  newer-behind None past h = λ k lt. one-more past k lt (h k)
+  newer-behind (Some number) past h = record {
+    line = h.line;
+    at = h.at;
+    first = h.first;
+    within = omega (arith, h.within);
+    here = h.here;
+    between = λ k le lt. one-more past k lt (h.between k le);
+  }
+
+  newer-by : (b : Bool) → is_wanted is (slice_get lines n) ≡ b
+      → MatchOption (last_number is n lines) ((k : ℕ) → k < n → is_wanted is (slice_get lines k) ≡ false) (λ number. IsNearestNewer is n number lines)
+      → MatchOption (if b then Some (n + 1) else last_number is n lines) ((k : ℕ) → k < suc n → is_wanted is (slice_get lines k) ≡ false) (λ number. IsNearestNewer is (suc n) number lines)
+  newer-by true here h =
+      let d = wanted-there is (slice_get lines n) here in
+      let e : (n + 1) - 1 ≡ n = omega arith in
+      record {
+        line = d.0;
+        at = ap (slice_get lines) e ∙ d.1;
+        first = omega arith;
+        within = omega arith;
+        here = d.2;
+        between = λ k le lt. absurd (omega (arith, le, lt));
+      }
+  newer-by false past h = newer-behind (last_number is n lines) past h
+
+pub finds_newer : (is : List ℕ → Bool) (n : ℕ) (lines : List Split) → FindsNewer is n lines
+finds_newer is zero lines = λ k lt. absurd (omega (arith, lt))
+finds_newer is (suc n) lines = newer-by is n lines (is_wanted is (slice_get lines n)) refl (finds_newer is n lines)

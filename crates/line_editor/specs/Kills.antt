@@ -1,5 +1,5 @@
 -- The texts that were killed, the newest first.
-use Rattle.std.specs.Prelude.{ℕ, ◌+◌, nat_lt, List, [], ◌∷◌, ◌++◌, if◌then◌else◌, drop, length, map, take, Option, Some, None, slice_get, string_bytes}
+use Rattle.std.specs.Prelude.{ℕ, ◌+◌, nat_lt, List, [], ◌∷◌, ◌++◌, if◌then◌else◌, drop, map, take, Option, Some, None, slice_get, string_bytes}
 use Rattle.std.specs.Str.{chars}
 use Rattle.std.specs.declared.string.String.{String}
 use Rattle.line_editor.specs.declared.last.Last.{Last}

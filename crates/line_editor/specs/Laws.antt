@@ -1,5 +1,5 @@
 -- Laws: what edits keep.
-use Rattle.std.specs.Prelude.{◌≡◌, ◌≤◌, ◌+◌, ℕ, zero, suc, ⊤, Bool, MatchOption, true, false, List, [], ◌∷◌, ◌++◌, length, reverse}
+use Rattle.std.specs.Prelude.{◌≡◌, ◌≤◌, ◌<◌, ◌+◌, ◌-◌, ℕ, Some, slice_get, zero, suc, ⊤, Bool, MatchOption, true, false, List, [], ◌∷◌, ◌++◌, length, reverse}
 use Rattle.std.specs.List.{AllByRecursion}
 use Rattle.line_editor.specs.declared.actions.Action.{Action}
 use Rattle.line_editor.specs.declared.actions.Action.TheVariants.{Newer, Older, Redo, Undo}
@@ -8,7 +8,7 @@ use Rattle.line_editor.specs.declared.places.Target.{Target}
 use Rattle.line_editor.specs.Splits.{Split, line_text}
 use Rattle.line_editor.specs.Edits.{cut_text, reach_end, erased, inserted, start_of}
 use Rattle.line_editor.specs.Places.{is_between, target_place}
-use Rattle.line_editor.specs.Seeking.{contains, first_number}
+use Rattle.line_editor.specs.Seeking.{contains, first_number, is_wanted, last_number}
 use Rattle.line_editor.specs.States.{EditorState, after, run_actions}
 
 -- A move keeps the text.
@@ -100,3 +100,17 @@ pub record IsNearest (is : List ℕ → Bool) (passed number : ℕ) (lines : Lis
 abbrev pub FindsNearest : (List ℕ → Bool) → ℕ → List Split → Type 0
 FindsNearest is passed lines =
     MatchOption (first_number is passed lines) (AllByRecursion (λ d. is (line_text d) ≡ false) lines) (λ number. IsNearest is passed number lines)
+
+-- Of the first `n` lines, this one has the number, is looked for, and none behind it is looked for.
+pub record IsNearestNewer (is : List ℕ → Bool) (n number : ℕ) (lines : List Split) : Type 0 where
+  pub line : Split
+  pub at : slice_get lines (number - 1) ≡ Some line
+  pub first : 0 < number
+  pub within : number ≤ n
+  pub here : is (line_text line) ≡ true
+  pub between : (k : ℕ) → number ≤ k → k < n → is_wanted is (slice_get lines k) ≡ false
+
+-- A search forward finds the nearest newer line that is looked for, and `None` if no newer line is.
+abbrev pub FindsNewer : (List ℕ → Bool) → ℕ → List Split → Type 0
+FindsNewer is n lines =
+    MatchOption (last_number is n lines) ((k : ℕ) → k < n → is_wanted is (slice_get lines k) ≡ false) (λ number. IsNearestNewer is n number lines)

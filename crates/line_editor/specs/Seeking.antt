@@ -2,7 +2,7 @@
 use Rattle.std.specs.Prelude.{ℕ, ◌+◌, ◌-◌, ◌==◌, ◌&&◌, ◌||◌, not, nat_le, Bool, true, false, List, [], ◌∷◌, Option, Some, None, is_some, if◌then◌else◌, drop, slice_get, zero, suc}
 use Rattle.std.specs.Str.{bytes_eq}
 use Rattle.line_editor.specs.declared.last.Last.{Last}
-use Rattle.line_editor.specs.declared.last.Last.TheVariants.{Other, Seeking}
+use Rattle.line_editor.specs.declared.last.Last.TheVariants.{Seeking}
 use Rattle.line_editor.specs.declared.places.Stop.TheVariants.{Cluster}
 use Rattle.line_editor.specs.declared.places.Target.TheVariants.{Back}
 use Rattle.line_editor.specs.Bounds.{size}

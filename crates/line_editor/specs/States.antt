@@ -1,5 +1,5 @@
 -- The state of an editor, and how each action changes it.
-use Rattle.std.specs.Prelude.{⊤, ℕ, ◌+◌, ◌-◌, Bool, true, false, List, [], ◌∷◌, ◌++◌, Option, Some, None, if◌then◌else◌, slice_get, drop, length, take, reverse, ◌==◌, ◌&&◌, ◌||◌}
+use Rattle.std.specs.Prelude.{⊤, ℕ, ◌+◌, ◌-◌, Bool, true, false, List, [], ◌∷◌, Option, Some, None, if◌then◌else◌, slice_get, drop, length, take, reverse, ◌==◌, ◌&&◌, ◌||◌}
 use Rattle.std.specs.Prelude.{zero, suc}
 use Rattle.std.specs.Option.{option_and_then}
 use Rattle.std.specs.Str.{bytes_eq}

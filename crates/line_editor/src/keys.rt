@@ -155,7 +155,7 @@ fn both(code: KeyCode) -> Option<KeyCommand>
 /// | Ctrl-C | an interrupt |
 /// | Ctrl-Alt-_ | a redo, which readline hasn't |
 ///
-/// These are the 27 usual commands of the 85 that bash binds by default. Terminals report Ctrl-_ as Ctrl-7, and both are bound. Shift makes no
+/// These are 27 usual commands, of which bash binds 25 by default, and 85 in all. Terminals report Ctrl-_ as Ctrl-7, and both are bound. Shift makes no
 /// difference but in the character, and large letters with Control or Alt are as small ones.
 ///
 /// What differs from readline:

@@ -4,7 +4,7 @@ ghost use Rattle.line_editor.specs.declared.actions.Action.{Action};
 ghost use Rattle.line_editor.specs.declared.places.Target.{Target};
 ghost use Rattle.line_editor.specs.declared.limits.Limits.{Limits};
 ghost use Rattle.line_editor.specs.Bounded.{LoadsSaved, StaysBounded};
-ghost use Rattle.line_editor.specs.Laws.{CanBeUndone, ComesBack, CutsOut, FindsNearest, FindsPiece, KeepsHistory, KeepsText, RedoesUndone, WritesAt, YanksBack};
+ghost use Rattle.line_editor.specs.Laws.{CanBeUndone, ComesBack, CutsOut, FindsNearest, FindsNewer, FindsPiece, KeepsHistory, KeepsText, RedoesUndone, WritesAt, YanksBack};
 ghost use Rattle.line_editor.specs.Names.{NameReadsBack};
 ghost use Rattle.line_editor.specs.Seen.{IsSeenIn, KeepsClusters};
 ghost use Rattle.line_editor.specs.Splits.{Split};
@@ -59,6 +59,11 @@ pub fn finds_piece()
 /// A search back finds the nearest line that is looked for, and nothing if no line is.
 pub fn finds_nearest()
     ensures { (is : List ℕ → Bool) (passed : ℕ) (lines : List Split) → FindsNearest is passed lines }
+{}
+
+/// A search forward finds the nearest newer line that is looked for, and nothing if no newer line is.
+pub fn finds_newer()
+    ensures { (is : List ℕ → Bool) (n : ℕ) (lines : List Split) → FindsNewer is n lines }
 {}
 
 /// What is seen of a line has room in a row, and so has the cursor, at its place in the line.

@@ -1,6 +1,4 @@
-use Rattle.std.proofs.Common.{◌∙◌, ap, refl}
-use Rattle.std.specs.Str.{chars}
-use Rattle.line_editor.specs.States.{EditorState}
+use Rattle.std.proofs.Common.{refl}
 use Rattle.line_editor.proofs.Sizing.{length-size}
 use Rattle.line_editor.proofs.editor.Editor.is_too_long.Goals as goal
 
