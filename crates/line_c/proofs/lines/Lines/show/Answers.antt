@@ -25,4 +25,3 @@ returns-in-Ok-write c =
           )),
       subst (λ (k : LineState). k.row.strip.width ≡ 0 → frame ≡ before_frame k.clears) c.self.view_is (λ none. c.in-Ok-draw.ensures.narrow none ∙ begun),
     )
-
