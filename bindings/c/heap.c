@@ -6,7 +6,7 @@ void *malloc(size_t size);
 void *realloc(void *at, size_t size);
 void free(void *at);
 
-/* Whether there is a block, and where it is. */
+/* Whether there is a block, and its place. */
 struct block {
     __UINT64_TYPE__ is_there;
     void *at;
