@@ -628,7 +628,10 @@ fn came_of(editor: &mut Editor<&LocalHeap>, action: Action) -> Came {
 fn came_of_key(editor: &mut Editor<&LocalHeap>, key: &Key) -> Came {
     let before = lengths(editor);
     let event: Event = Event::Key(KeyEvent::new(key.0, key.1));
-    let done = editor.turn(&event).map(|_| ());
+    let done = match editor.turn(&event) {
+        Ok(_) => Ok(()),
+        Err(fault) => Err(fault),
+    };
     came(done, before, lengths(editor))
 }
 
