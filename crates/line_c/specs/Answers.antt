@@ -1,7 +1,7 @@
 -- What the calls answer, and what each answer says of what is kept.
 use Rattle.std.specs.Prelude.{◌≡◌, ◌<◌, ◌≤◌, ℕ, ◌++◌, ◌==◌, Bool, true, false, drop, encode_utf8_all, length, take, List, [], Option, Some, None, if◌then◌else◌}
 use Rattle.std.specs.Str.{IsUtf8, chars}
-use Rattle.crossterm_types.specs.Seen.{Seen}
+use Rattle.crossterm_types.specs.Seen.{Seen, Paste}
 use Rattle.line_editor.specs.declared.fault.EditFault.{EditFault}
 use Rattle.line_editor.specs.declared.fault.EditFault.TheVariants as fault
 use Rattle.line_editor.specs.declared.limits.Limits.{Limits}
@@ -51,6 +51,11 @@ TakesInput (Some e) a k l =
     (a ≡ outcome_answer (turns.answer (task_of e k.editor) k.editor))
     × (is_too_long (event_more e k.editor) k.editor ≡ false)
     × (l ≡ after_input e k)
+
+-- What comes of a pasted text, in UTF-8: as of a paste that is an event. If memory was refused, the text has room.
+abbrev pub TakesText : List ℕ → Answer → LineState → LineState → Type 0
+TakesText text a k l =
+    TakesInput (Some (Paste text)) a k l × (a ≡ NoMemory → is_too_long (event_more (Paste text) k.editor) k.editor ≡ false)
 
 -- A call returned the number of an answer, which says this of what is kept.
 abbrev pub ReturnsAnswer : ℕ → (Answer → LineState → LineState → Type 0) → LineState → LineState → Type 0

@@ -1,11 +1,10 @@
 //! The calls of the archive, as `bindings/c/gelvanh_line.h` declares them.
-ghost use Rattle.std.specs.Prelude.{◌≡◌, Some, reverse};
-ghost use Rattle.crossterm_types.specs.Seen.{Paste};
+ghost use Rattle.std.specs.Prelude.{◌≡◌, reverse};
 ghost use Rattle.line_editor.specs.Bounds.{size};
 ghost use Rattle.line_editor.specs.Splits.{line_text};
 ghost use Rattle.numbers.specs.Event.{event_known};
 ghost use Rattle.line_c.specs.Begun.{OpensLine, limits_of};
-ghost use Rattle.line_c.specs.Answers.{ReturnsAnswer, BeginsRow, Copies, CopiesHistory, MakesOf, Moves, ShowsLine, TakesInput, WithText, with_hint, with_history};
+ghost use Rattle.line_c.specs.Answers.{ReturnsAnswer, BeginsRow, Copies, CopiesHistory, MakesOf, Moves, ShowsLine, TakesInput, TakesText, WithText, with_hint, with_history};
 
 use crate::answers::Answer;
 use crate::keeping::{LineHandle, LineSlot};
@@ -88,7 +87,7 @@ pub extern "C" fn gelvanh_line_event(line: &mut LineHandle, event: &GelvanhEvent
 /// Pastes a text in UTF-8.
 #[unsafe(no_mangle)]
 pub extern "C" fn gelvanh_line_paste(line: &mut LineHandle, text: &[u8]) -> u32
-    ensures { ReturnsAnswer result (WithText text.now (TakesInput (Some (Paste text.now)))) line.old.value line.new.value }
+    ensures { ReturnsAnswer result (WithText text.now (TakesText text.now)) line.old.value line.new.value }
 {
     line.open().paste(text).number()
 }

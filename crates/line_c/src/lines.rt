@@ -1,7 +1,7 @@
 //! An editor with the row in which its line is shown.
 ghost use Rattle.std.specs.Prelude.{◌≡◌, false, IfOk, IfSome, OnErr, OnOk, Some, encode_utf8_all, reverse, string_bytes, vec_items};
 ghost use Rattle.std.specs.Str.{chars};
-ghost use Rattle.crossterm_types.specs.Seen.{Paste, seen_event};
+ghost use Rattle.crossterm_types.specs.Seen.{seen_event};
 ghost use Rattle.line_editor.specs.Bounds.{size};
 ghost use Rattle.line_editor.specs.Splits.{line_text};
 ghost use Rattle.numbers.specs.Event.{event_known};
@@ -9,7 +9,7 @@ ghost use Rattle.line_c.specs.declared.answers.Answer.TheVariants.{GoesOn, NoMem
 ghost use Rattle.line_c.specs.Kept.{unknown_row};
 ghost use Rattle.prompt.specs.Drawing.{search_text};
 ghost use Rattle.prompt.specs.Prompts.{has_control};
-ghost use Rattle.line_c.specs.Answers.{BeginsRow, Copies, CopiesHistory, IsFresh, MakesOf, Moves, ShowsLine, TakesInput, WithText, before_frame, counted, prompt_of, with_hint, with_history};
+ghost use Rattle.line_c.specs.Answers.{BeginsRow, Copies, CopiesHistory, IsFresh, MakesOf, Moves, ShowsLine, TakesInput, TakesText, WithText, before_frame, counted, prompt_of, with_hint, with_history};
 
 use crate::answers::{Answer, answer_to};
 use crossterm_types::event::{Event, InternalEvent};
@@ -243,7 +243,7 @@ impl Lines {
 
     /// Pastes a text.
     fn paste_text(&mut self, text: &str) -> Answer
-        ensures { TakesInput (Some (Paste text.now)) result self.old self.new }
+        ensures { TakesText text.now result self.old self.new }
     {
         match self.editor.paste(text) {
             Ok(()) => Answer::GoesOn,
@@ -253,7 +253,7 @@ impl Lines {
 
     /// The same with a text of bytes.
     pub(crate) fn paste(&mut self, text: &[u8]) -> Answer
-        ensures { WithText text.now (TakesInput (Some (Paste text.now))) result self.old self.new }
+        ensures { WithText text.now (TakesText text.now) result self.old self.new }
     {
         match str::from_utf8(text) {
             Ok(text) => self.paste_text(text),
