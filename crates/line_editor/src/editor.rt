@@ -1,5 +1,5 @@
 //! An editor of a line, an action at a time.
-ghost use Rattle.std.specs.Prelude.{◌≡◌, ◌≤◌, false, List, [], IfErr, IfOk, IsOk, MatchOption, None, Some, OnOk, OnErr, slice_get};
+ghost use Rattle.std.specs.Prelude.{◌≡◌, ◌≤◌, false, List, [], IfErr, IfOk, IsOk, MatchOption, None, Some, OnOk, OnErr};
 ghost use Rattle.std.specs.Str.{chars, IsCharBoundary};
 ghost use Rattle.std.specs.String.{string_bytes};
 ghost use Rattle.line_editor.specs.declared.actions.Action.{Action};
@@ -13,7 +13,7 @@ ghost use Rattle.line_editor.specs.Places.{target_place};
 ghost use Rattle.line_editor.specs.Shown.{AreShown, pasted_part};
 ghost use Rattle.line_editor.specs.Splits.{line_text};
 ghost use Rattle.line_editor.specs.inside.Changes.{bytes_before, line_bytes};
-ghost use Rattle.line_editor.specs.States.{IsMove, accepted, acted, after, before_yank, broken_off, changed, dropped, erase_cut, found, found_newer, fresh, is_ignored, kill_cut, last_after, last_popped, left_for, moved, newer_from, newer_line, next_yank, older_to, pasted_into, popped_to, redo_to, remembered, run_actions, searched_forward, searched_to, sought, transpose_at, type_char, after_typing, undo_to, write, yanked};
+ghost use Rattle.line_editor.specs.States.{IsMove, accepted, acted, after, before_yank, broken_off, changed, dropped, erase_cut, fresh, is_ignored, kill_cut, last_after, last_popped, moved, next_yank, pasted_into, popped_to, redo_to, remembered, run_actions, transpose_at, type_char, after_typing, undo_to, write, yanked};
 
 use crate::actions::Action;
 use crate::draft::Draft;
@@ -41,7 +41,7 @@ use std::marker::Model;
 /// ```
 #[derive(Drop)]
 pub struct Editor<A: Allocator = Global> {
-    alloc: A,
+    pub(crate) alloc: A,
     pub(crate) limits: Limits,
     pub(crate) draft: Draft<A>,
     kills: VecDeque<String<A>, A>,
@@ -49,7 +49,7 @@ pub struct Editor<A: Allocator = Global> {
     yank_at: usize,
     pub(crate) history: RecentLines<A>,
     pub(crate) back: usize,
-    unfinished: Line<A>,
+    pub(crate) unfinished: Line<A>,
     // What an incremental search looks for, and the line from which it began with its place in the history.
     pub(crate) pattern: Line<A>,
     pub(crate) began: Line<A>,
@@ -406,134 +406,6 @@ impl<A: Allocator + Clone> Editor<A> {
     {
         self.draft.redo()?;
         Ok(())
-    }
-
-    /// Shows a line of the history, and keeps the line if it isn't one.
-    pub(crate) fn leave_for(&mut self, line: Line<A>) -> Result<(), AllocError>
-        ensures ok { OnOk result (self.new ≡ left_for line self.old) }
-        ensures err { OnErr result (self.new ≡ self.old) }
-    {
-        if self.back > 0 {
-            return self.change(line);
-        }
-        let unfinished = self.draft.line().copy()?;
-        self.change(line)?;
-        self.unfinished = unfinished;
-        Ok(())
-    }
-
-    /// Shows the next older line.
-    fn older(&mut self) -> Result<(), AllocError>
-        ensures ok { OnOk result (self.new ≡ older_to (slice_get self.old.history self.old.back) self.old) }
-        ensures err { OnErr result (self.new ≡ self.old) }
-    {
-        let back = self.back;
-        if back >= self.history.len() {
-            return Ok(());
-        }
-        match self.history.copy_of(back)? {
-            None => Ok(()),
-            Some(line) => {
-                self.leave_for(line)?;
-                self.back = back + 1;
-                Ok(())
-            }
-        }
-    }
-
-    /// The line so far back in the history, or the unfinished one.
-    fn newer_line(&self, back: usize) -> Result<Option<Line<A>>, AllocError>
-        ensures { IfOk result (λ line. line ≡ newer_line back self.now) }
-    {
-        if back == 0 {
-            let unfinished = self.unfinished.copy()?;
-            return Ok(Some(unfinished));
-        }
-        self.history.copy_of(back - 1)
-    }
-
-    /// Shows the next newer line, and at last the unfinished one.
-    fn newer(&mut self) -> Result<(), AllocError>
-        ensures ok { OnOk result (self.new ≡ newer_from self.old.back self.old) }
-        ensures err { OnErr result (self.new ≡ self.old) }
-    {
-        if self.back == 0 {
-            return Ok(());
-        }
-        let back = self.back - 1;
-        match self.newer_line(back)? {
-            None => Ok(()),
-            Some(line) => {
-                self.change(line)?;
-                self.back = back;
-                Ok(())
-            }
-        }
-    }
-
-    /// What a search looks for at the beginning of lines.
-    fn sought(&self) -> &str
-        ensures text { chars result.now ≡ sought self.now }
-        ensures shown { AreShown (chars result.now) }
-    {
-        match self.last {
-            Last::Walked => "",
-            Last::Other | Last::Killed | Last::Yanked | Last::Seeking(_) => {
-                self.draft.line().before()
-            }
-        }
-    }
-
-    /// Shows the next older line that begins with the text before the cursor, and isn't the same line.
-    fn search(&mut self) -> Result<(), AllocError>
-        ensures ok { OnOk result (self.new ≡ searched_to (found self.old) self.old) }
-        ensures err { OnErr result (self.new ≡ self.old) }
-    {
-        let front = self.sought();
-        match self
-            .history
-            .find(front, self.draft.line().text(), self.back)
-        {
-            None => Ok(()),
-            Some((back, rest)) => {
-                let line = Line::found(self.alloc.clone()?, front, rest)?;
-                self.leave_for(line)?;
-                self.back = back;
-                Ok(())
-            }
-        }
-    }
-
-    /// Shows the next newer line that begins with the text before the cursor, and isn't the same line.
-    fn search_newer(&mut self) -> Result<(), AllocError>
-        ensures ok { OnOk result (self.new ≡ searched_to (found_newer self.old) self.old) }
-        ensures err { OnErr result (self.new ≡ self.old) }
-    {
-        let front = self.sought();
-        let count = self.back.saturating_sub(1);
-        match self
-            .history
-            .find_newer(front, self.draft.line().text(), count)
-        {
-            None => Ok(()),
-            Some((back, rest)) => {
-                let line = Line::found(self.alloc.clone()?, front, rest)?;
-                self.leave_for(line)?;
-                self.back = back;
-                Ok(())
-            }
-        }
-    }
-
-    /// The same, or the next newer line if nothing is looked for.
-    fn search_forward(&mut self) -> Result<(), AllocError>
-        ensures ok { OnOk result (self.new ≡ searched_forward (sought self.old) self.old) }
-        ensures err { OnErr result (self.new ≡ self.old) }
-    {
-        if is_nothing(self.sought()) {
-            return self.newer();
-        }
-        self.search_newer()
     }
 
     /// Does one thing for which there is room, but for what it is to the next one.

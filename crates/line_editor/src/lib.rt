@@ -78,6 +78,7 @@ mod last;
 pub mod laws;
 mod limits;
 mod lines;
+mod moves;
 mod names;
 mod outcome;
 mod places;
