@@ -2,7 +2,7 @@
 ghost use Rattle.std.specs.Prelude.{◌≡◌};
 ghost use Rattle.line_editor.specs.Keys as spec;
 
-use crate::actions::Action;
+use crate::actions::{Action, Case};
 use crate::places::{Stop, Target};
 use crossterm_types::event::{KeyCode, KeyEvent, KeyEventKind};
 
@@ -105,6 +105,12 @@ fn alt_char(c: char) -> Option<KeyCommand>
         'd' => Action::Kill(Target::Forward(Stop::WordEnd)),
         'f' => Action::Go(Target::Forward(Stop::WordEnd)),
         'y' => Action::YankPop,
+        'c' => Action::CaseWord(Case::Title),
+        'l' => Action::CaseWord(Case::Lower),
+        'u' => Action::CaseWord(Case::Upper),
+        't' => Action::TransposeWords,
+        '.' => Action::LastWord,
+        '\\' => Action::EraseBlanks,
         _ => return None,
     };
     Some(KeyCommand::Act(action))
