@@ -11,7 +11,7 @@ use Rattle.line_editor.specs.declared.actions.Case.{Case}
 use Rattle.line_editor.specs.declared.actions.Case.TheVariants.{Upper, Lower, Title}
 use Rattle.line_editor.specs.declared.places.Stop.TheVariants.{WordEnd}
 use Rattle.line_editor.specs.declared.places.Target.TheVariants.{Forward}
-use Rattle.line_editor.specs.Cases.{behind, cased, in_case, only_shown, recased}
+use Rattle.line_editor.specs.Cases.{case_behind, cased, in_case, only_shown, recased}
 use Rattle.line_editor.specs.Edits.{cut_text, line_with}
 use Rattle.line_editor.specs.Places.{target_place}
 use Rattle.line_editor.specs.Shown.{AreShown, is_shown}
@@ -34,17 +34,17 @@ pub cased-shown : (case : Case) (text : List ℕ) → AreShown text → AreShown
 cased-shown case [] h = h
 cased-shown case (c ∷ text) h =
     let parts = and_parts _ _ h in
-    and_from _ _ (in_case-shown case c parts.0) (cased-shown (behind case c) text parts.1)
+    and_from _ _ (in_case-shown case c parts.0) (cased-shown (case_behind case c) text parts.1)
 
 -- ---- a text is brought into a case
 
 -- One character more.
 pub cased-pushed : (case next : Case) (all old new rest back : List ℕ) (c x : ℕ) → all ≡ chars old ++ cased case (chars rest) → chars rest ≡ c ∷ chars back
-    → x ≡ in_case case c → next ≡ behind case c → new ≡ old ++ encode_utf8 x → IsUtf8 old → IsUtf8 (encode_utf8 x) → all ≡ chars new ++ cased next (chars back)
+    → x ≡ in_case case c → next ≡ case_behind case c → new ≡ old ++ encode_utf8 x → IsUtf8 old → IsUtf8 (encode_utf8 x) → all ≡ chars new ++ cased next (chars back)
 cased-pushed case next all old new rest back c x e f is on g u v =
     let pushed : chars new ≡ chars old ++ x ∷ [] = ap chars g ∙ chars-append old (encode_utf8 x) u ∙ ap (λ t. chars old ++ t) (chars-encode_utf8 x v) in
     let first : cased case (chars rest) ≡ x ∷ cased next (chars back) =
-    ap (cased case) f ∙ ap (λ n. n ∷ cased (behind case c) (chars back)) (sym is) ∙ ap (λ k. x ∷ cased k (chars back)) (sym on) in
+    ap (cased case) f ∙ ap (λ n. n ∷ cased (case_behind case c) (chars back)) (sym is) ∙ ap (λ k. x ∷ cased k (chars back)) (sym on) in
     e ∙ ap (λ t. chars old ++ t) first ∙ sym (append_assoc (chars old) (x ∷ []) (cased next (chars back))) ∙ ap (λ t. t ++ cased next (chars back)) (sym pushed)
 
 -- What comes of it in an editor.

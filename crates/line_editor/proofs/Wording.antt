@@ -23,7 +23,7 @@ use Rattle.line_editor.specs.Edits.{cut_text, first_end, first_start, from_to, h
 use Rattle.line_editor.specs.Places.{target_place}
 use Rattle.line_editor.specs.Shown.{AreShown}
 use Rattle.line_editor.specs.Splits.{Split, bytes_before, line_text, split_at}
-use Rattle.line_editor.specs.States.{EditorState, before_taken, case_cut, changed, erase_blanks, is_empty, last_word_of, next_word, taken, taken_by, taken_to, transpose_words}
+use Rattle.line_editor.specs.States.{EditorState, before_taken, case_cut, changed, erase_blanks, is_empty, last_word_of, next_word, taken, taken_to, transpose_words, word_taken_by}
 use Rattle.line_editor.specs.Words.{unblanked}
 use Rattle.line_editor.specs.inside.Changes.{line_bytes}
 use Rattle.line_editor.proofs.Casing.{cased-shown}
@@ -268,7 +268,7 @@ blanks_as text from to at d here e f =
     ∙ ap (λ t. line_with (record { before = unblanked d.before; after = [] }) [] (record { before = []; after = t })) (f ∙ ap (λ (x : Split). unblanked x.after) here)
 
 -- No word was taken last.
-pub taken-none : (last : Last) (w : EditorState) → (last ≡ Other) ⊎ ((last ≡ Walked) ⊎ ((last ≡ Killed) ⊎ ((last ≡ Yanked) ⊎ ((s : Seek) × (last ≡ Seeking s))))) → [] ≡ taken_by last w
+pub taken-none : (last : Last) (w : EditorState) → (last ≡ Other) ⊎ ((last ≡ Walked) ⊎ ((last ≡ Killed) ⊎ ((last ≡ Yanked) ⊎ ((s : Seek) × (last ≡ Seeking s))))) → [] ≡ word_taken_by last w
 taken-none last w (inl is) = rw is refl
 taken-none last w (inr (inl is)) = rw is refl
 taken-none last w (inr (inr (inl is))) = rw is refl

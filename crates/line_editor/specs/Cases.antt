@@ -32,14 +32,14 @@ in_case Lower c = lower c
 in_case Title c = upper c
 
 -- The case of what is behind a character: behind the first letter or digit of a title all letters are small.
-abbrev pub behind : Case → ℕ → Case
-behind Title c = if is_of_word c then Lower else Title
-behind case c = case
+abbrev pub case_behind : Case → ℕ → Case
+case_behind Title c = if is_of_word c then Lower else Title
+case_behind case c = case
 
 -- A text in a case.
 abbrev pub cased : Case → List ℕ → List ℕ
 cased case [] = []
-cased case (c ∷ text) = in_case case c ∷ cased (behind case c) text
+cased case (c ∷ text) = in_case case c ∷ cased (case_behind case c) text
 
 -- The line with the part from the cursor to the next end of a word in a case. The cursor is behind that part.
 abbrev pub recased : Case → Split → Split

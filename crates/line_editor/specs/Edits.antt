@@ -67,17 +67,19 @@ transposed d =
 
 -- ---- words
 
--- The places of two words. The second one ends at the next end of a word behind the cursor, and the first one is the
--- word before it.
+-- The end of the second of two words that are exchanged: the next end of a word behind the cursor.
 abbrev pub second_end : Split → Split
 second_end d = target_place (Forward WordEnd) d
 
+-- The start of that word.
 abbrev pub second_start : Split → Split
 second_start d = target_place (Back WordStart) (second_end d)
 
+-- The start of the word before it, which is the first one.
 abbrev pub first_start : Split → Split
 first_start d = target_place (Back WordStart) (second_start d)
 
+-- The end of the first word.
 abbrev pub first_end : Split → Split
 first_end d = target_place (Forward WordEnd) (first_start d)
 

@@ -320,19 +320,21 @@ abbrev pub word_at : ℕ → EditorState → List ℕ
 word_at at w = last_word_of (slice_get w.history at)
 
 -- The word that the last action took from an accepted line, or no text if it took none.
-abbrev pub taken_by : Last → EditorState → List ℕ
-taken_by (Took at) w = word_at at w
-taken_by last w = []
+abbrev pub word_taken_by : Last → EditorState → List ℕ
+word_taken_by (Took at) w = word_at at w
+word_taken_by last w = []
 
+-- The word that was taken last, or no text.
 abbrev pub taken : EditorState → List ℕ
-taken w = taken_by w.last w
+taken w = word_taken_by w.last w
 
--- How many lines are newer than the one of which the last word is taken next: one line more than the last time, but for
--- the place behind the oldest line, and at first as many as are newer than the line.
+-- How many lines are newer than the one of which the word is taken next. Each time it is one more, up to the place behind
+-- the oldest line. At first it is the line just older than the one that is shown.
 abbrev pub next_taken_by : Last → EditorState → ℕ
 next_taken_by (Took at) w = if nat_lt at (length w.history) then at + 1 else at
 next_taken_by last w = w.back
 
+-- The same of an editor.
 abbrev pub next_taken : EditorState → ℕ
 next_taken w = next_taken_by w.last w
 

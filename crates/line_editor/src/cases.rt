@@ -3,7 +3,7 @@ ghost use Rattle.std.specs.Prelude.{◌≡◌, IfOk};
 ghost use Rattle.std.specs.Str.{chars};
 ghost use Rattle.std.specs.String.{string_bytes};
 ghost use Rattle.line_editor.specs.Bounds.{size};
-ghost use Rattle.line_editor.specs.Cases.{behind, cased, in_case, lower, upper};
+ghost use Rattle.line_editor.specs.Cases.{case_behind, cased, in_case, lower, upper};
 
 use crate::actions::Case;
 use crate::shown::is_shown;
@@ -44,8 +44,8 @@ fn in_case(case: Case, c: char) -> char
 }
 
 /// The case of what is behind a character.
-fn behind(case: Case, c: char) -> Case
-    ensures { result ≡ behind case c }
+fn case_behind(case: Case, c: char) -> Case
+    ensures { result ≡ case_behind case c }
 {
     match case {
         Case::Upper => Case::Upper,
@@ -69,7 +69,7 @@ pub(crate) fn cased_len(case: Case, text: &str) -> u128
     let mut rest = text;
     while let Some((c, back)) = split_first(rest) {
         len += in_case(case, c).len_utf8() as u128;
-        case = behind(case, c);
+        case = case_behind(case, c);
         rest = back;
     }
     len
@@ -84,7 +84,7 @@ pub(crate) fn cased<A: Allocator>(alloc: A, case: Case, text: &str) -> Result<St
     let mut rest = text;
     while let Some((c, back)) = split_first(rest) {
         new.push(in_case(case, c))?;
-        case = behind(case, c);
+        case = case_behind(case, c);
         rest = back;
     }
     Ok(new)

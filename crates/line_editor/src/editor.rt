@@ -488,7 +488,8 @@ impl<A: Allocator + Clone> Editor<A> {
     ///
     /// # Errors
     ///
-    /// `TooLong` if what is typed or yanked has no room in the line, and else `Memory` if memory was refused. Then nothing has changed.
+    /// `TooLong` if what is typed or yanked, or a word in another case, has no room in the line, and else `Memory` if memory was refused. Then
+    /// nothing has changed.
     ///
     /// ```
     /// editor.act(Action::Insert('x'))?;

@@ -14,5 +14,5 @@ loop-c-init g c = record {
 pub loop-c-preserved : goal.loop-c-preserved
 loop-c-preserved g c = record {
   utf8 = search;
-  same = cased-pushed _ _ _ _ _ _ _ c.in-Some.c _ c.loop-c.invariant.same c.in-Some.ensures.0 c.in_case.ensures c.behind-case.ensures c.in_ok-push.ensures.bytes (IsUtf8-string_bytes c.loop-c.new) (search (IsUtf8-encode));
+  same = cased-pushed _ _ _ _ _ _ _ c.in-Some.c _ c.loop-c.invariant.same c.in-Some.ensures.0 c.in_case.ensures c.case_behind-case.ensures c.in_ok-push.ensures.bytes (IsUtf8-string_bytes c.loop-c.new) (search (IsUtf8-encode));
 }
