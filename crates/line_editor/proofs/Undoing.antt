@@ -1,20 +1,25 @@
 -- What can be undone.
 use Rattle.std.proofs.Common.{◌≡◌, ℕ, ◌+◌, ◌≤◌, true, false, List, [], ◌∷◌, ◌++◌, length, refl, sym, ap, ◌∙◌, inl, inr, arith}
-use Rattle.std.specs.Prelude.{zero, suc, Option, Some, None, slice_get}
+use Rattle.std.specs.Prelude.{zero, suc, Option, Some, None, ◌&&◌, slice_get}
 use Rattle.std.proofs.lemmas.Bool.{cases_Bool, false≢true}
 use Rattle.std.proofs.lemmas.List.{take_all}
 use Rattle.line_editor.specs.declared.actions.Action.{Action}
-use Rattle.line_editor.specs.declared.actions.Action.TheVariants.{Insert, Go, Erase, Kill, Yank, YankPop, Transpose, Undo, Redo, Older, Newer, Search, SearchForward}
+use Rattle.line_editor.specs.declared.actions.Action.TheVariants.{Insert, Go, Erase, Kill, Yank, YankPop, Transpose, Undo, Redo, Older, Newer, Search, SearchForward, CaseWord, TransposeWords, EraseBlanks, LastWord}
+use Rattle.line_editor.specs.declared.actions.Case.{Case}
 use Rattle.line_editor.specs.declared.last.Last.{Last}
 use Rattle.line_editor.specs.declared.last.Last.TheVariants.{Other}
 use Rattle.line_editor.specs.declared.limits.Limits.{Limits}
 use Rattle.line_editor.specs.declared.places.Target.{Target}
+use Rattle.line_editor.specs.declared.places.Stop.TheVariants.{WordEnd}
+use Rattle.line_editor.specs.declared.places.Target.TheVariants.{Forward}
 use Rattle.line_editor.specs.Splits.{Split, line_text}
-use Rattle.line_editor.specs.Edits.{cut_text, meeting}
+use Rattle.line_editor.specs.Edits.{cut_text, has_two_words, is_beside_blank, meeting}
 use Rattle.line_editor.specs.Laws.{ArePlain, CanBeUndone, IsNoUndo, KeepsHistory, RedoesUndone, undo_times}
 use Rattle.line_editor.specs.Shown.{is_shown}
 use Rattle.line_editor.specs.States.{EditorState, acted, after, before_yank, erase_cut, found, found_newer, kill_cut, last_after, newer_from, newer_line, newer_to, older_to, popped_to, pushed, redo_to, run_actions, searched_forward, searched_to, sought, transpose_at, type_char, after_typing, undo_to, write, yanked}
+use Rattle.line_editor.specs.States.{before_taken, case_cut, erase_blanks, is_empty, next_word, taken, taken_to, transpose_words}
 use Rattle.line_editor.proofs.Keeping.{keeps_text}
+use Rattle.line_editor.proofs.Wording.{blanks_history, case_history, taken_history, words_history}
 
 -- ---- history
 
@@ -83,6 +88,10 @@ keeps_history Older w = older_history (slice_get w.history w.back) w
 keeps_history Newer w = newer_from_history w.back w
 keeps_history Search w = search_history (found w) w
 keeps_history SearchForward w = forward_history (sought w) w
+keeps_history (CaseWord case) w = case_history case (cut_text (Forward WordEnd) w.line) w
+keeps_history TransposeWords w = words_history w
+keeps_history EraseBlanks w = blanks_history w
+keeps_history LastWord w = taken_history (before_taken w) w
 
 -- ---- undo
 
@@ -204,6 +213,21 @@ module _ (text : List ℕ) (past : List Split) (n : ℕ) (w : EditorState) (h : 
   leads-forward [] = leads-newer_from w.back
   leads-forward (c ∷ front) = leads-search (found_newer w)
 
+  leads-case : (case : Case) (piece : List ℕ) → Leads text past n (case_cut case piece w)
+  leads-case case [] = leads-none
+  leads-case case (c ∷ piece) = leads-changed _ refl refl
+
+  leads-words : Leads text past n (transpose_words w)
+  leads-words = elim (cases_Bool (has_two_words w.line)) [ inl two ↦ rw two (leads-changed _ refl refl) | inr none ↦ rw none leads-none ]
+
+  leads-blanks : Leads text past n (erase_blanks w)
+  leads-blanks = elim (cases_Bool (is_beside_blank w.line)) [ inl some ↦ rw some (leads-changed _ refl refl) | inr none ↦ rw none leads-none ]
+
+  leads-taken : (o : Option (List ℕ)) → Leads text past n (taken_to o w)
+  leads-taken None = leads-none
+  leads-taken (Some before) =
+      elim (cases_Bool (is_empty (taken w) && is_empty (next_word w))) [ inl none ↦ rw none leads-none | inr some ↦ rw some (leads-changed _ refl refl) ]
+
 leads-acted : (text : List ℕ) (past : List Split) (n : ℕ) (w : EditorState) → Leads text past (suc n) w → (action : Action) → IsNoUndo action
     → Leads text past n (acted action w)
 leads-acted text past n w h (Insert c) f = leads-type text past n w h c
@@ -219,6 +243,10 @@ leads-acted text past n w h Older f = leads-older text past n w h (slice_get w.h
 leads-acted text past n w h Newer f = leads-newer_from text past n w h w.back
 leads-acted text past n w h Search f = leads-search text past n w h (found w)
 leads-acted text past n w h SearchForward f = leads-forward text past n w h (sought w)
+leads-acted text past n w h (CaseWord case) f = leads-case text past n w h case (cut_text (Forward WordEnd) w.line)
+leads-acted text past n w h TransposeWords f = leads-words text past n w h
+leads-acted text past n w h EraseBlanks f = leads-blanks text past n w h
+leads-acted text past n w h LastWord f = leads-taken text past n w h (before_taken w)
 
 ends-last : (text : List ℕ) (extra : List Split) (w : EditorState) (last : Last) → EndsIn text extra w → EndsIn text extra (record w { last = last })
 ends-last text [] w last h = h

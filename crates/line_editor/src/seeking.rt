@@ -45,7 +45,7 @@ fn is_seeking(last: Last) -> bool
 {
     match last {
         Last::Seeking(_) => true,
-        Last::Other | Last::Walked | Last::Killed | Last::Yanked => false,
+        Last::Other | Last::Walked | Last::Killed | Last::Yanked | Last::Took(_) => false,
     }
 }
 
@@ -55,7 +55,7 @@ fn is_ahead(last: Last) -> bool
 {
     match last {
         Last::Seeking(seek) => seek.ahead,
-        Last::Other | Last::Walked | Last::Killed | Last::Yanked => false,
+        Last::Other | Last::Walked | Last::Killed | Last::Yanked | Last::Took(_) => false,
     }
 }
 
@@ -65,7 +65,7 @@ fn has_found(last: Last) -> bool
 {
     match last {
         Last::Seeking(seek) => seek.found,
-        Last::Other | Last::Walked | Last::Killed | Last::Yanked => false,
+        Last::Other | Last::Walked | Last::Killed | Last::Yanked | Last::Took(_) => false,
     }
 }
 
