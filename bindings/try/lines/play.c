@@ -63,7 +63,7 @@ static const char *const histories[] = {
 };
 static const uint32_t letters[] = {'a', 'b', 'h', 'e', ' ', ' ', '-', 'Z', 0xE9, 0x6F22, 0x301, 0x1F469, 0x200D, 0x1F1E6, 0x11A8, 7};
 static const char controls[] = "aabbccdeefgghhjkklmnnppqrrrrssttuuwwyy__77";
-static const char alts[] = "bbddffyyyqz";
+static const char alts[] = "bbddffyyyqzuulccttt..\\";
 
 static void print_hex(const char *kind, const char *text) {
     printf("%s", kind);

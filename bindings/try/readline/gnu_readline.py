@@ -6,6 +6,7 @@ editor (see `Alike`), so that more scripts can be compared to their end.
 import ctypes
 import locale
 import os
+import signal
 import sys
 import traceback
 from typing import NamedTuple
@@ -19,15 +20,16 @@ SETTINGS = (
     "set bind-tty-special-chars off", "set bell-style none", "set editing-mode emacs", "set enable-bracketed-paste on", "set convert-meta off",
     "set input-meta on", "set output-meta on", "set keyseq-timeout 0", "set horizontal-scroll-mode on", r'"\e[5~": history-search-backward',
     r'"\e[6~": history-search-forward', r'"\e[1;5D": backward-word', r'"\e[1;5C": forward-word', r'"\e[3~": delete-char',
-    "set revert-all-at-newline on",
 )
+# A script that takes longer has failed: an undo list of readline may come to be a ring.
+SECONDS = 2
 # The state in which readline is during an incremental search, and the mark of a search that has found something.
 SEARCHING, FOUND = 0x80, 0x02
 # The kinds of entries in the undo list.
 DELETION, INSERTION, BEGINNING, END = range(4)
-# The keys with which an incremental search goes on, those that change the text around the cursor, those that write one, and those that move it.
+# The keys with which an incremental search goes on, those that show a line of the history, those that write a text, and those that move the cursor.
 GOES_ON = "SP BS C-h C-r C-s C-g".split()
-EXCHANGES = "C-t A-t A-\\ A-u A-l A-c".split()
+SHOWS = "Up Down C-p C-n PgUp PgDn".split()
 WRITES = "C-y A-y A-.".split()
 GOES = "Left Right Home End C-a C-e C-b C-f A-b A-f C-Left C-Right".split()
 
@@ -58,6 +60,8 @@ class Before(NamedTuple):
     top: int
     inserted: int
     point: int
+    # How many lines of the history are older.
+    place: int
     is_unfinished: bool
     is_searching: bool
     text: bytes
@@ -171,15 +175,15 @@ class Readline:
 class Alike(Readline):
     """Readline with habits of the line editor.
 
-    - An undo takes back all characters that were typed side by side, and no others with them. It brings the cursor back to where it was.
-    - Alt-Y is one change, and a key that changes nothing is none.
-    - The unfinished line comes back with its cursor.
-    - An incremental search goes from line to line, and each key that ends one finds the cursor at the end of the line that was found,
-      or where it was. Ctrl-C gives it up.
+    - An undo takes back all characters that were typed side by side, and no others with them. It brings the cursor back to its place.
+    - Alt-Y is one change, and Ctrl-T on a line of a single character is none.
+    - The unfinished line comes back with its cursor. A line that was accepted brings all edited lines of the history back.
+    - An incremental search goes from line to line, and each key that ends one finds the cursor at the end of the line that was found, or
+      at its old place. Ctrl-C gives it up.
     """
 
     def __init__(self, settings=()):
-        super().__init__(settings)
+        super().__init__(("set revert-all-at-newline on", *settings))
         self.undo = self.variable("rl_undo_list", ctypes.POINTER(UndoEntry))
         self.search = self.variable("_rl_iscxt", ctypes.POINTER(Search))
         self.length = self.variable("history_length", ctypes.c_int)
@@ -198,7 +202,7 @@ class Alike(Readline):
         ctypes.cast(ctypes.byref(self.undo), ctypes.POINTER(ctypes.c_void_p))[0] = address or None
 
     def inserted(self):
-        """Where the newest entry ends, if it is an insertion."""
+        """The end of the newest entry, if it is an insertion."""
         return self.undo.contents.end if self.undo and self.undo.contents.what == INSERTION else 0
 
     def text(self):
@@ -219,7 +223,9 @@ class Alike(Readline):
 
     def keep(self):
         """Keeps what is there before a key."""
-        self.before = Before(self.top(), self.inserted(), self.point.value, self.is_unfinished(), self.is_searching(), self.text())
+        self.before = Before(
+            self.top(), self.inserted(), self.point.value, self.lib.where_history(), self.is_unfinished(), self.is_searching(), self.text(),
+        )
 
     def begin_key(self, name):
         """Gives it a key. One that ends a search is held until the search has ended."""
@@ -227,6 +233,8 @@ class Alike(Readline):
         self.keep()
         if not self.is_searching():
             self.began = self.point.value
+            if name in ("C-r", "C-s") and self.is_unfinished():
+                self.left = self.began
         else:
             if name == "C-c":
                 self.waiting.extend(bytes_of("C-g"))
@@ -252,7 +260,9 @@ class Alike(Readline):
         if self.came:
             self.is_typing = False
             self.points.clear()
-        elif not self.before.is_searching:
+        elif self.before.is_searching:
+            self.is_typing = self.is_typing and not self.has_found
+        else:
             self.make_alike()
         self.has_found = False
         return True
@@ -269,7 +279,7 @@ class Alike(Readline):
     def make_alike(self):
         """Makes undo and cursor after a key as those of the line editor."""
         before, is_typed = self.before, len(self.name) == 1 or self.name == "SP"
-        if before.text == self.text() and self.name in EXCHANGES and self.point.value == before.point:
+        if self.name == "C-t" and len(before.text.decode()) < 2:
             self.set_top(before.top)
         elif is_typed or self.name in WRITES:
             self.join(is_typed and self.is_typing)
@@ -279,7 +289,7 @@ class Alike(Readline):
             self.point.value = self.left
         elif self.name == "C-_" and self.top() != before.top:
             self.point.value = self.points.get(before.top, self.point.value)
-        elif self.top() not in (0, before.top):
+        elif self.top() not in (0, before.top) and self.lib.where_history() == before.place and self.name not in SHOWS:
             self.points[self.top()] = before.point
         if is_typed:
             self.is_typing = True
@@ -324,6 +334,8 @@ def play_apart(readline, line, out):
     """Plays a script in a process of its own, so that it begins with nothing, and writes what comes of it."""
     child = os.fork()
     if child == 0:
+        signal.alarm(SECONDS)
+
         def done():
             os.write(out, "".join("\t".join(row) + "\n" for row in readline.rows).encode())
             os._exit(0)
