@@ -2,13 +2,15 @@
 //! keys, and memory that is refused.
 
 mod readline;
+mod readline_words;
 mod rustyline;
 
 use crossterm_types::event::{Event, KeyCode, KeyEvent, KeyModifiers};
-use line_editor::{Action, EditFault, Editor, Limits, Line, Outcome, Stop, Target};
+use line_editor::{Action, Case, EditFault, Editor, Limits, Line, Outcome, Stop, Target};
 use linked_list_allocator::LocalHeap;
 use readline::SCRIPTS;
-use rustyline::EDITS;
+use readline_words::{LAST_WORDS, WORDS};
+use rustyline::{EDITS, WORD_EDITS};
 use std::alloc::{AllocError, Allocator, Global};
 use std::{format, io};
 use test_support::{Calls, Came, expect, is_refused_below_a_size, is_text};
@@ -424,13 +426,16 @@ fn key_of(word: &str) -> Option<Key> {
     Some((code, if word.starts_with("A-") { ALT } else { NONE }))
 }
 
-/// Whether the line after a script's keys is what its row says.
-fn goes_so(alloc: Global, row: &str) -> Result<bool, EditFault> {
+/// The history before most scripts.
+const HISTORY: &str = "first line\nsecond line\nthird fine\nfirst again\n";
+
+/// Whether the line after a script's keys, behind a history, is what its row says.
+fn goes_so(alloc: Global, history: &str, row: &str) -> Result<bool, EditFault> {
     let Some((keys, line)) = row.split_once(" = ") else {
         return Ok(false);
     };
     let mut editor = Editor::new(alloc, Limits::default())?;
-    editor.load_history("first line\nsecond line\nthird fine\nfirst again\n")?;
+    editor.load_history(history)?;
     for word in keys.split(' ') {
         let Some((code, modifiers)) = key_of(word) else {
             return Ok(false);
@@ -443,8 +448,13 @@ fn goes_so(alloc: Global, row: &str) -> Result<bool, EditFault> {
 
 #[test]
 fn scripts_give_the_lines_of_readline(rt: HostRuntime) {
-    for row in SCRIPTS.lines() {
-        expect!(rt; goes_so(rt.alloc(), row) == Ok(true), row);
+    for rows in &[SCRIPTS, WORDS] {
+        for row in rows.lines() {
+            expect!(rt; goes_so(rt.alloc(), HISTORY, row) == Ok(true), row);
+        }
+    }
+    for row in LAST_WORDS.lines() {
+        expect!(rt; goes_so(rt.alloc(), "", row) == Ok(true), row);
     }
 }
 
@@ -534,6 +544,10 @@ fn action_of(edit: &str) -> Option<Action> {
         "w" => Some(Action::Kill(Target::Back(Stop::WordStart))),
         "W" => Some(Action::Kill(Target::Forward(Stop::WordEnd))),
         "t" => Some(Action::Transpose),
+        "U" => Some(Action::CaseWord(Case::Upper)),
+        "L" => Some(Action::CaseWord(Case::Lower)),
+        "C" => Some(Action::CaseWord(Case::Title)),
+        "T" => Some(Action::TransposeWords),
         _ => inserted(edit).map(Action::Insert),
     }
 }
@@ -561,6 +575,11 @@ fn edits_give_the_lines_of_rustyline(rt: HostRuntime) {
         count = count.saturating_add(1);
     }
     expect!(rt; count == 297);
+    for row in WORD_EDITS.lines() {
+        expect!(rt; are_alike(rt.alloc(), row) == Ok(true), row);
+        count = count.saturating_add(1);
+    }
+    expect!(rt; count == 476);
 }
 
 /// All actions that may need memory, in an order in which each has something to do.
