@@ -2,6 +2,7 @@
 //! keys, and memory that is refused.
 
 mod readline;
+mod readline_history;
 mod readline_words;
 mod rustyline;
 
@@ -9,6 +10,7 @@ use crossterm_types::event::{Event, KeyCode, KeyEvent, KeyModifiers};
 use line_editor::{Action, Case, EditFault, Editor, Limits, Line, Outcome, Stop, Target};
 use linked_list_allocator::LocalHeap;
 use readline::SCRIPTS;
+use readline_history::EDITED;
 use readline_words::{LAST_WORDS, WORDS};
 use rustyline::{EDITS, WORD_EDITS};
 use std::alloc::{AllocError, Allocator, Global};
@@ -448,7 +450,7 @@ fn goes_so(alloc: Global, history: &str, row: &str) -> Result<bool, EditFault> {
 
 #[test]
 fn scripts_give_the_lines_of_readline(rt: HostRuntime) {
-    for rows in &[SCRIPTS, WORDS] {
+    for rows in &[SCRIPTS, WORDS, EDITED] {
         for row in rows.lines() {
             expect!(rt; goes_so(rt.alloc(), HISTORY, row) == Ok(true), row);
         }
