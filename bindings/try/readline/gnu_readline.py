@@ -191,6 +191,8 @@ class Alike(Readline):
         self.points = {}
         # Whether a character was typed last, whether the search has found something, and the cursor in the line that it began with, and in the unfinished one.
         self.is_typing, self.has_found, self.began, self.left = False, False, 0, 0
+        # The unfinished line, if a search began with it.
+        self.began_with = None
         self.name, self.ending, self.before = "", None, None
 
     def top(self):
@@ -232,7 +234,7 @@ class Alike(Readline):
         self.name, self.ending = name, None
         self.keep()
         if not self.is_searching():
-            self.began = self.point.value
+            self.began, self.began_with = self.point.value, self.text() if self.is_unfinished() else None
             if name in ("C-r", "C-s") and self.is_unfinished():
                 self.left = self.began
         else:
@@ -273,7 +275,7 @@ class Alike(Readline):
             if self.has_found and self.name in ("C-r", "C-s") and self.text() == self.before.text:
                 self.waiting.extend(bytes_of(self.name))
                 return False
-            self.has_found = True
+            self.has_found = self.has_found or self.text() != self.began_with
         return True
 
     def make_alike(self):
