@@ -114,7 +114,6 @@ class Readline:
     def interrupt(self, _count, _key):
         """Lets the line go, as a program does that catches the signal of Ctrl-C."""
         self.came = "interrupted"
-        self.lib.rl_replace_line(b"", 1)
         self.variable("rl_done", ctypes.c_int).value = 1
         return 0
 
