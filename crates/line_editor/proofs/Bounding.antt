@@ -4,6 +4,8 @@ use Rattle.std.proofs.lemmas.Bool.{and_parts, and_from, cases_Bool, leb-true, lt
 use Rattle.std.proofs.lemmas.List.{reverse-append, reverse-reverse}
 use Rattle.std.specs.Prelude.{Bool, Option, Some, None, IfSome, ◌&&◌, ◌==◌, suc, zero, slice_get}
 use Rattle.std.specs.List.{AllByRecursion, filter}
+use Rattle.std.specs.Option.{option_map}
+use Rattle.std.specs.Str.{bytes_eq}
 use Rattle.unicode_segmentation.proofs.TextLemmas.{encode_utf8_nonempty}
 use Rattle.line_editor.specs.declared.actions.Action.{Action}
 use Rattle.line_editor.specs.declared.actions.Action.TheVariants.{Insert, Go, Erase, Kill, Yank, YankPop, Transpose, Undo, Redo, Older, Newer, Search, SearchForward}
@@ -13,16 +15,16 @@ use Rattle.line_editor.specs.declared.limits.Limits.{Limits}
 use Rattle.line_editor.specs.declared.places.Stop.TheVariants.{Cluster, Edge}
 use Rattle.line_editor.specs.declared.places.Target.{Target}
 use Rattle.line_editor.specs.declared.places.Target.TheVariants.{Back, Forward}
-use Rattle.line_editor.specs.Bounded.{AreRoomy, IsBounded, IsHeld, IsKept, StaysBounded, all_done}
+use Rattle.line_editor.specs.Bounded.{AreRoomy, IsBounded, IsHeld, IsKept, IsLeft, StaysBounded, all_done}
 use Rattle.line_editor.specs.Bounds.{is_too_long, more_by, popped_more, room_of, size}
 use Rattle.line_editor.specs.Edits.{cut_text, empty_line, erased, inserted, line_with, meeting, transposed}
 use Rattle.line_editor.specs.History.{loaded_line, has_room, lines_of, loaded}
 use Rattle.line_editor.specs.Kills.{kill_at}
 use Rattle.line_editor.specs.Places.{target_place}
-use Rattle.line_editor.specs.Seeking.{begun, brought, brought_to, found_here, found_next, has_found, is_ahead, is_more, is_seeking, put_back, sought_more, sought_next, sought_on, sought_with}
+use Rattle.line_editor.specs.Seeking.{begun, brought, found_here, found_next, has_found, is_ahead, is_more, is_seeking, put_back, sought_more, sought_next, sought_on, sought_with}
 use Rattle.line_editor.specs.Shown.{AreShown, blanked, is_shown, pasted_part, shown_part}
 use Rattle.line_editor.specs.Splits.{Split, line_text}
-use Rattle.line_editor.specs.States.{EditorState, LineSearch, acted, after, before_yank, changed, dropped, erase_cut, found, found_line, found_newer, fresh, is_ignored, kill_cut, last_after, left_for, moved, newer_from, newer_line, newer_to, next_yank, older_to, popped_to, redo_to, remembered, rung, searched_forward, searched_to, sought, transpose_at, type_char, after_typing, undo_to, unfinished_at, write, yanked}
+use Rattle.line_editor.specs.States.{DraftState, EditorState, LeftLine, LineSearch, acted, after, before_yank, brought_to, changed, draft_at, draft_of, dropped, erase_cut, found, found_line, found_newer, fresh, gone_to, is_ignored, kill_cut, last_after, left_at, line_at, line_or, moved, new_draft, newer_from, next_yank, popped_to, redo_to, remembered, rung, searched_forward, searched_to, shown_as, sought, transpose_at, type_char, after_typing, undo_to, with_draft, without, write, yanked}
 use Rattle.line_editor.specs.Tasks.{Task, Acts, Pastes, Accepts, LetsGo, Loads, Seeks, SeeksMore, SeeksLess, GivesUp, Ends, Clears, Closes, Nothing, done, task_more}
 use Rattle.line_editor.proofs.Held.{Found, all-drop, all-get, all-take, cut-shown, end-after, found-held, last-held, held-erased, held-found, held-inserted, held-moved, held-replaced, held-same, held-transposed, yank-before}
 use Rattle.line_editor.proofs.Keeping.{keeps_text}
@@ -47,7 +49,7 @@ held-empty limits = (refl, omega arith)
 fresh-bounded : (limits : Limits) → IsBounded (fresh limits)
 fresh-bounded limits = record {
   line = held-empty limits;
-  unfinished = held-empty limits;
+  left = tt;
   past = tt;
   undone = tt;
   history = tt;
@@ -58,26 +60,11 @@ fresh-bounded limits = record {
   steps = omega arith;
 }
 
--- How far back in the history an editor is has no bound.
-bounded-back : (w : EditorState) (back : ℕ) → IsBounded w → IsBounded (record w { back = back })
-bounded-back w back h = record {
-  line = h.line;
-  unfinished = h.unfinished;
-  past = h.past;
-  undone = h.undone;
-  history = h.history;
-  kills = h.kills;
-  pattern = h.pattern;
-  began = h.began;
-  lines = h.lines;
-  steps = h.steps;
-}
-
--- So has what a search looked for.
+-- What the last action was has no bound.
 bounded-last : (w : EditorState) (last : Last) → IsBounded w → IsBounded (record w { last = last })
 bounded-last w last h = record {
   line = h.line;
-  unfinished = h.unfinished;
+  left = h.left;
   past = h.past;
   undone = h.undone;
   history = h.history;
@@ -93,7 +80,7 @@ bounded-search-of : (w : EditorState) (search : LineSearch) → IsBounded w → 
     → IsBounded (record w { search = search })
 bounded-search-of w search h k l = record {
   line = h.line;
-  unfinished = h.unfinished;
+  left = h.left;
   past = h.past;
   undone = h.undone;
   history = h.history;
@@ -104,26 +91,77 @@ bounded-search-of w search h k l = record {
   steps = h.steps;
 }
 
-limits-brought_to : (number : ℕ) (o : Option Split) (w : EditorState) → (brought_to number o w).limits ≡ w.limits
-limits-brought_to number None w = refl
-limits-brought_to number (Some d) w = refl
+limits-brought_to : (place : ℕ) (d : Split) (w : EditorState) → (brought_to place d w).limits ≡ w.limits
+limits-brought_to place d w = elim (cases_Bool (place == w.back)) [ inl here ↦ rw here refl | inr other ↦ rw other refl ]
+
+limits-gone : (place : ℕ) (o : Option Split) (w : EditorState) → (gone_to place o w).limits ≡ w.limits
+limits-gone place None w = refl
+limits-gone place (Some d) w = limits-brought_to place d w
 
 limits-brought : (number : ℕ) (w : EditorState) → (brought number w).limits ≡ w.limits
 limits-brought number w =
     elim (cases_Bool (has_found w.last && w.back == number)) [
       | inl there ↦ rw there refl
-      | inr new ↦ rw new (limits-brought_to number (slice_get w.history (number - 1)) w)
+      | inr new ↦ rw new (limits-gone number (slice_get w.history (number - 1)) w)
     ]
 
 limits-sought : (ahead : Bool) (o : Option ℕ) (w : EditorState) → (sought_on ahead o w).limits ≡ w.limits
 limits-sought ahead None w = refl
 limits-sought ahead (Some number) w = limits-brought number w
 
+-- ---- lines that were left
+
+abbrev AreLeft : Limits → List LeftLine → Type 0
+AreLeft limits left = AllByRecursion (λ (x : LeftLine). IsLeft limits x.draft) left
+
+module _ (limits : Limits) where
+  left-shown : (d : Split) (x : DraftState) → IsHeld limits d → IsLeft limits x → IsLeft limits (shown_as limits.steps d x)
+  left-shown d x k h =
+      elim (cases_Bool (bytes_eq (line_text d) (line_text x.line))) [
+        | inl same ↦ rw same (record { line = k; past = h.past; undone = h.undone; steps = h.steps })
+        | inr other ↦ rw other (record {
+          line = k;
+          past = all-take limits (IsHeld limits) limits.steps (x.line ∷ x.past) (h.line, h.past);
+          undone = tt;
+          steps = omega (arith, take-short limits.steps (x.line ∷ x.past));
+        })
+      ]
+
+  left-new : (d : Split) → IsHeld limits d → IsLeft limits (new_draft d)
+  left-new d k = record { line = k; past = tt; undone = tt; steps = omega arith }
+
+  left-draft : (place : ℕ) (d : Split) (left : List LeftLine) → IsHeld limits d → AreLeft limits left → IsLeft limits (draft_at limits.steps place d left)
+  left-draft place d [] k h = left-new d k
+  left-draft place d (x ∷ left) k h =
+      elim (cases_Bool (x.place == place)) [
+        | inl here ↦ rw here (left-shown d x.draft k h.0)
+        | inr other ↦ rw other (left-draft place d left k h.1)
+      ]
+
+  left-without : (place : ℕ) (left : List LeftLine) → AreLeft limits left → AreLeft limits (without place left)
+  left-without place [] h = tt
+  left-without place (x ∷ left) h =
+      elim (cases_Bool (x.place == place)) [ inl here ↦ rw here h.1 | inr other ↦ rw other (h.0, left-without place left h.1) ]
+
+  left-held : (place : ℕ) (left : List LeftLine) → AreLeft limits left → IfSome (left_at place left) (IsHeld limits)
+  left-held place [] h = tt
+  left-held place (x ∷ left) h =
+      elim (cases_Bool (x.place == place)) [ inl here ↦ rw here h.0.line | inr other ↦ rw other (left-held place left h.1) ]
+
+  held-or : (d : Split) (o : Option Split) → IsHeld limits d → IfSome o (IsHeld limits) → IsHeld limits (line_or d o)
+  held-or d None h k = h
+  held-or d (Some e) h k = k
+
+  held-map : (o p : Option Split) → IfSome o (IsHeld limits) → IfSome p (IsHeld limits)
+      → IfSome (option_map (λ (d : Split). target_place (Forward Edge) (line_or d o)) p) (IsHeld limits)
+  held-map o None h k = tt
+  held-map o (Some d) h k = held-moved limits (Forward Edge) (line_or d o) (held-or d o k h)
+
 module _ (w : EditorState) (h : IsBounded w) where
   bounded-changed : (d : Split) → IsHeld w.limits d → IsBounded (changed d w)
   bounded-changed d k = record {
     line = k;
-    unfinished = h.unfinished;
+    left = h.left;
     past = all-take w.limits (IsHeld w.limits) w.limits.steps (w.line ∷ w.past) (h.line, h.past);
     undone = tt;
     history = h.history;
@@ -137,7 +175,7 @@ module _ (w : EditorState) (h : IsBounded w) where
   bounded-typed : (d : Split) → IsHeld w.limits d → IsBounded (after_typing d w)
   bounded-typed d k = record {
     line = k;
-    unfinished = h.unfinished;
+    left = h.left;
     past = elim (cases_Bool w.typing) [ inl on ↦ rw on h.past | inr off ↦ rw off (bounded-changed d k).past ];
     undone = tt;
     history = h.history;
@@ -151,7 +189,7 @@ module _ (w : EditorState) (h : IsBounded w) where
   bounded-moved : (d : Split) → IsHeld w.limits d → IsBounded (moved d w)
   bounded-moved d k = record {
     line = k;
-    unfinished = h.unfinished;
+    left = h.left;
     past = h.past;
     undone = h.undone;
     history = h.history;
@@ -188,7 +226,7 @@ module _ (w : EditorState) (h : IsBounded w) where
       let b = bounded-changed (erased target w.line) (held-erased w.limits target w.line h.line) in
       record {
         line = b.line;
-        unfinished = b.unfinished;
+        left = b.left;
         past = b.past;
         undone = b.undone;
         history = b.history;
@@ -207,7 +245,7 @@ module _ (w : EditorState) (h : IsBounded w) where
   bounded-undo [] k le = h
   bounded-undo (d ∷ past) k le = record {
     line = k.0;
-    unfinished = h.unfinished;
+    left = h.left;
     past = k.1;
     undone = (h.line, h.undone);
     history = h.history;
@@ -222,7 +260,7 @@ module _ (w : EditorState) (h : IsBounded w) where
   bounded-redo [] k le = h
   bounded-redo (d ∷ undone) k le = record {
     line = k.0;
-    unfinished = h.unfinished;
+    left = h.left;
     past = (h.line, h.past);
     undone = k.1;
     history = h.history;
@@ -243,7 +281,7 @@ module _ (w : EditorState) (h : IsBounded w) where
       (ltb-false (room_of w) (size next - size (yanked w)) room)) in
       record {
         line = b.line;
-        unfinished = b.unfinished;
+        left = b.left;
         past = b.past;
         undone = b.undone;
         history = b.history;
@@ -256,47 +294,51 @@ module _ (w : EditorState) (h : IsBounded w) where
 
   -- ---- history
 
-  held-unfinished : (back : ℕ) → IsHeld w.limits (unfinished_at back w.line w.unfinished)
-  held-unfinished zero = h.line
-  held-unfinished (suc back) = h.unfinished
+  -- The line as it is.
+  draft-left : IsLeft w.limits (draft_of w)
+  draft-left = record { line = h.line; past = h.past; undone = h.undone; steps = h.steps }
 
-  -- A line of the history, so far back.
-  bounded-left : (d : Split) (back : ℕ) → IsHeld w.limits d → IsBounded (record (left_for d w) { back = back })
-  bounded-left d back k =
-      let b = bounded-changed d k in
-      record {
-        line = b.line;
-        unfinished = held-unfinished w.back;
-        past = b.past;
-        undone = b.undone;
-        history = b.history;
-        kills = b.kills;
-        pattern = b.pattern;
-        began = b.began;
-        lines = b.lines;
-        steps = b.steps;
-      }
+  -- Another line, and others that were left.
+  bounded-draft : (x : DraftState) (left : List LeftLine) (back : ℕ) → IsLeft w.limits x → AreLeft w.limits left
+      → IsBounded (record (with_draft x w) { left = left; back = back })
+  bounded-draft x left back k l = record {
+    line = k.line;
+    left = l;
+    past = k.past;
+    undone = k.undone;
+    history = h.history;
+    kills = h.kills;
+    pattern = h.pattern;
+    began = h.began;
+    lines = h.lines;
+    steps = k.steps;
+  }
 
-  bounded-older : (line : Option Split) → IfSome line (IsHeld w.limits) → IsBounded (older_to line w)
-  bounded-older None k = h
-  bounded-older (Some d) k = bounded-left d (w.back + 1) k
+  bounded-brought_to : (place : ℕ) (d : Split) → IsHeld w.limits d → IsBounded (brought_to place d w)
+  bounded-brought_to place d k =
+      elim (cases_Bool (place == w.back)) [
+        | inl here ↦ rw here (bounded-draft (shown_as w.limits.steps d (draft_of w)) w.left w.back (left-shown w.limits d (draft_of w) k draft-left) h.left)
+        | inr other ↦ rw other (bounded-draft (draft_at w.limits.steps place d w.left) (record { place = w.back; draft = draft_of w } ∷ without place w.left) place
+            (left-draft w.limits place d w.left k h.left) (draft-left, left-without w.limits place w.left h.left))
+      ]
 
-  bounded-newer : (line : Option Split) → IfSome line (IsHeld w.limits) → IsBounded (newer_to line w)
-  bounded-newer None k = h
-  bounded-newer (Some d) k = bounded-back (changed d w) (w.back - 1) (bounded-changed d k)
+  bounded-gone : (place : ℕ) (o : Option Split) → IfSome o (IsHeld w.limits) → IsBounded (gone_to place o w)
+  bounded-gone place None k = h
+  bounded-gone place (Some d) k = bounded-brought_to place d k
 
-  newer-held : (back : ℕ) → IfSome (newer_line back w) (IsHeld w.limits)
-  newer-held zero = h.unfinished
-  newer-held (suc back) = all-get w.limits w.history back h.history
+  line_at-held : (place : ℕ) → IfSome (line_at place w) (IsHeld w.limits)
+  line_at-held zero = held-or w.limits empty_line (left_at 0 w.left) (held-empty w.limits) (left-held w.limits 0 w.left h.left)
+  line_at-held (suc at) =
+      held-map w.limits (left_at (suc at) w.left) (slice_get w.history at) (left-held w.limits (suc at) w.left h.left) (all-get w.limits w.history at h.history)
 
   bounded-newer_from : (back : ℕ) → IsBounded (newer_from back w)
   bounded-newer_from zero = h
-  bounded-newer_from (suc back) = bounded-newer (newer_line back w) (newer-held back)
+  bounded-newer_from (suc back) = bounded-gone back (line_at back w) (line_at-held back)
 
   bounded-search : (o : Option (ℕ × List ℕ)) → IfSome o (Found w.limits (sought w)) → IsBounded (searched_to o w)
   bounded-search None k = h
   bounded-search (Some found) k =
-      bounded-left (found_line (sought w) found.1) found.0 (held-found w.limits (sought w) found.1 k)
+      bounded-brought_to found.0 (found_line (sought w) found.1) (held-found w.limits (sought w) found.1 k)
 
   bounded-forward : (front : List ℕ) → IsBounded (searched_forward front w)
   bounded-forward [] = bounded-newer_from w.back
@@ -312,7 +354,7 @@ module _ (w : EditorState) (h : IsBounded w) where
   bounded-acted Transpose room = bounded-transpose (meeting w.line.before w.line.after).before
   bounded-acted Undo room = bounded-undo w.past h.past h.steps
   bounded-acted Redo room = bounded-redo w.undone h.undone h.steps
-  bounded-acted Older room = bounded-older (slice_get w.history w.back) (all-get w.limits w.history w.back h.history)
+  bounded-acted Older room = bounded-gone (w.back + 1) (line_at (w.back + 1) w) (line_at-held (w.back + 1))
   bounded-acted Newer room = bounded-newer_from w.back
   bounded-acted Search room =
       bounded-search (found w) (found-held w.limits (sought w) (line_text w.line) w.back (drop w.back w.history) (all-drop w.limits w.history w.back h.history))
@@ -323,15 +365,11 @@ module _ (w : EditorState) (h : IsBounded w) where
 
   -- ---- incremental searches
 
-  bounded-brought_to : (number : ℕ) (o : Option Split) → IfSome o (IsHeld w.limits) → IsBounded (brought_to number o w)
-  bounded-brought_to number None k = h
-  bounded-brought_to number (Some d) k = bounded-left d number k
-
   bounded-brought : (number : ℕ) → IsBounded (brought number w)
   bounded-brought number =
       elim (cases_Bool (has_found w.last && w.back == number)) [
         | inl there ↦ rw there h
-        | inr new ↦ rw new (bounded-brought_to number (slice_get w.history (number - 1)) (all-get w.limits w.history (number - 1) h.history))
+        | inr new ↦ rw new (bounded-gone number (slice_get w.history (number - 1)) (all-get w.limits w.history (number - 1) h.history))
       ]
 
   bounded-sought : (ahead : Bool) (o : Option ℕ) → IsBounded (sought_on ahead o w)
@@ -367,7 +405,7 @@ module _ (w : EditorState) (h : IsBounded w) where
   bounded-put_back : IsBounded (put_back w)
   bounded-put_back =
       elim (cases_Bool (has_found w.last)) [
-        | inl found ↦ rw found (bounded-back (changed w.search.line w) w.search.back (bounded-changed w.search.line h.began))
+        | inl found ↦ rw found (bounded-brought_to w.search.back w.search.line h.began)
         | inr none ↦ rw none h
       ]
 
@@ -377,7 +415,7 @@ module _ (w : EditorState) (h : IsBounded w) where
       → IsBounded (record (dropped w) { history = history })
   bounded-ended history k le = record {
     line = held-empty w.limits;
-    unfinished = held-empty w.limits;
+    left = tt;
     past = tt;
     undone = tt;
     history = k;
@@ -443,7 +481,7 @@ bounded-loaded w h text =
     let all = reverse (map loaded_line (filter (has_room w.limits) (map pasted_part (lines_of text)))) in
     record {
       line = h.line;
-      unfinished = h.unfinished;
+      left = tt;
       past = h.past;
       undone = h.undone;
       history = all-take w.limits (IsKept w.limits) w.limits.lines all (all-reverse (IsKept w.limits) (map loaded_line (filter (has_room w.limits) (map pasted_part (lines_of text)))) (all-loaded w.limits (lines_of text)));

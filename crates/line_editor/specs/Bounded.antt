@@ -6,7 +6,7 @@ use Rattle.line_editor.specs.Bounds.{is_too_long, size}
 use Rattle.line_editor.specs.History.{history_of, saved}
 use Rattle.line_editor.specs.Shown.{AreShown}
 use Rattle.line_editor.specs.Splits.{Split, line_text}
-use Rattle.line_editor.specs.States.{EditorState, fresh}
+use Rattle.line_editor.specs.States.{DraftState, EditorState, LeftLine, fresh}
 use Rattle.line_editor.specs.Tasks.{Task, done, task_more}
 
 -- A line is held if each of its characters is shown, and it has no more bytes than the limit.
@@ -17,10 +17,17 @@ IsHeld limits d = AreShown (line_text d) × (size (line_text d) ≤ limits.bytes
 abbrev pub IsKept : Limits → Split → Type 0
 IsKept limits d = IsHeld limits d × (0 < size (line_text d)) × (d.after ≡ [])
 
+-- A line that was left is held, and so is what can be undone and redone of it.
+pub record IsLeft (limits : Limits) (x : DraftState) : Type 0 where
+  pub line : IsHeld limits x.line
+  pub past : AllByRecursion (IsHeld limits) x.past
+  pub undone : AllByRecursion (IsHeld limits) x.undone
+  pub steps : length x.past + length x.undone ≤ limits.steps
+
 -- All lines of an editor are held, and there are no more of them than the limits say.
 pub record IsBounded (w : EditorState) : Type 0 where
   pub line : IsHeld w.limits w.line
-  pub unfinished : IsHeld w.limits w.unfinished
+  pub left : AllByRecursion (λ (x : LeftLine). IsLeft w.limits x.draft) w.left
   pub past : AllByRecursion (IsHeld w.limits) w.past
   pub undone : AllByRecursion (IsHeld w.limits) w.undone
   pub history : AllByRecursion (IsKept w.limits) w.history

@@ -35,4 +35,4 @@ history_of limits text = take limits.lines (reverse (map loaded_line (filter (ha
 
 -- The editor with the history of a text in place of its own. Its line stays, as one that isn't in the history.
 abbrev pub loaded : List ℕ → EditorState → EditorState
-loaded text w = record w { history = history_of w.limits text; back = 0; last = Other }
+loaded text w = record w { history = history_of w.limits text; back = 0; left = []; last = Other }

@@ -76,6 +76,7 @@ mod keys;
 mod kills;
 mod last;
 pub mod laws;
+mod left;
 mod limits;
 mod lines;
 mod moves;
