@@ -24,7 +24,7 @@ use Rattle.line_editor.specs.Places.{target_place}
 use Rattle.line_editor.specs.Seeking.{begun, brought, found_here, found_next, has_found, is_ahead, is_more, is_seeking, put_back, sought_more, sought_next, sought_on, sought_with}
 use Rattle.line_editor.specs.Shown.{AreShown, blanked, is_shown, pasted_part, shown_part}
 use Rattle.line_editor.specs.Splits.{Split, line_text}
-use Rattle.line_editor.specs.States.{DraftState, EditorState, LeftLine, LineSearch, acted, after, before_yank, brought_to, changed, draft_at, draft_of, dropped, erase_cut, found, found_line, found_newer, fresh, gone_to, is_ignored, kill_cut, last_after, left_at, line_at, line_or, moved, new_draft, newer_from, next_yank, popped_to, redo_to, remembered, rung, searched_forward, searched_to, shown_as, sought, transpose_at, type_char, after_typing, undo_to, with_draft, without, write, yanked}
+use Rattle.line_editor.specs.States.{DraftState, EditorState, LeftLine, LineSearch, acted, after, before_yank, brought_to, changed, draft_at, draft_of, dropped, erase_cut, found, found_line, found_newer, fresh, gone_to, is_ignored, kill_cut, last_after, left_at, line_at, line_or, moved, new_draft, newer_from, next_yank, popped_to, redo_to, remembered, rung, searched_forward, searched_to, shown_as, sought, transpose_at, type_char, after_typing, undo_to, with_draft, left_but, write, yanked}
 use Rattle.line_editor.specs.Tasks.{Task, Acts, Pastes, Accepts, LetsGo, Loads, Seeks, SeeksMore, SeeksLess, GivesUp, Ends, Clears, Closes, Nothing, done, task_more}
 use Rattle.line_editor.proofs.Held.{Found, all-drop, all-get, all-take, cut-shown, end-after, found-held, last-held, held-erased, held-found, held-inserted, held-moved, held-replaced, held-same, held-transposed, yank-before}
 use Rattle.line_editor.proofs.Keeping.{keeps_text}
@@ -138,7 +138,7 @@ module _ (limits : Limits) where
         | inr other ↦ rw other (left-draft place d left k h.1)
       ]
 
-  left-without : (place : ℕ) (left : List LeftLine) → AreLeft limits left → AreLeft limits (without place left)
+  left-without : (place : ℕ) (left : List LeftLine) → AreLeft limits left → AreLeft limits (left_but place left)
   left-without place [] h = tt
   left-without place (x ∷ left) h =
       elim (cases_Bool (x.place == place)) [ inl here ↦ rw here h.1 | inr other ↦ rw other (h.0, left-without place left h.1) ]
@@ -318,7 +318,7 @@ module _ (w : EditorState) (h : IsBounded w) where
   bounded-brought_to place d k =
       elim (cases_Bool (place == w.back)) [
         | inl here ↦ rw here (bounded-draft (shown_as w.limits.steps d (draft_of w)) w.left w.back (left-shown w.limits d (draft_of w) k draft-left) h.left)
-        | inr other ↦ rw other (bounded-draft (draft_at w.limits.steps place d w.left) (record { place = w.back; draft = draft_of w } ∷ without place w.left) place
+        | inr other ↦ rw other (bounded-draft (draft_at w.limits.steps place d w.left) (record { place = w.back; draft = draft_of w } ∷ left_but place w.left) place
             (left-draft w.limits place d w.left k h.left) (draft-left, left-without w.limits place w.left h.left))
       ]
 

@@ -11,7 +11,7 @@ use Rattle.line_editor.specs.Edits.{empty_line}
 use Rattle.line_editor.specs.Laws.{ComesBack, IsBackAt, newer_times, older_times}
 use Rattle.line_editor.specs.Places.{target_place}
 use Rattle.line_editor.specs.Splits.{Split, line_text}
-use Rattle.line_editor.specs.States.{DraftState, EditorState, LeftLine, after, brought_to, draft_at, draft_of, gone_to, left_at, line_at, line_or, newer_from, shown_as, with_draft, without}
+use Rattle.line_editor.specs.States.{DraftState, EditorState, LeftLine, after, brought_to, draft_at, draft_of, gone_to, left_at, line_at, line_or, newer_from, shown_as, with_draft, left_but}
 use Rattle.line_editor.proofs.Keeping.{keeps_text}
 use Rattle.line_editor.proofs.Leaving.{shown_same}
 
@@ -25,23 +25,23 @@ apart a b h = false_from_ne_true (a == b) (λ same. h (eqb-true a b same))
 
 -- The line of a place stays among those that were left when the one of another place goes.
 module _ (place other : ℕ) (ne : other ≡ place → ⊥) where
-  still : (left : List LeftLine) → left_at place (without other left) ≡ left_at place left
+  still : (left : List LeftLine) → left_at place (left_but other left) ≡ left_at place left
   still [] = refl
   still (x ∷ left) =
       elim (cases_Bool (x.place == other)) [
         | inl gone ↦
-          let skip : (x.place == place) ≡ false = apart x.place place (λ e. ne (sym (eqb-true x.place other gone) ∙ e)) in
-          rw (gone, skip) refl
+            let skip : (x.place == place) ≡ false = apart x.place place (λ e. ne (sym (eqb-true x.place other gone) ∙ e)) in
+            rw (gone, skip) refl
         | inr stays ↦ rw stays (elim (cases_Bool (x.place == place)) [ inl here ↦ rw here refl | inr past ↦ rw past (still left) ])
       ]
 
-  still_draft : (steps : ℕ) (d : Split) (left : List LeftLine) → draft_at steps place d (without other left) ≡ draft_at steps place d left
+  still_draft : (steps : ℕ) (d : Split) (left : List LeftLine) → draft_at steps place d (left_but other left) ≡ draft_at steps place d left
   still_draft steps d [] = refl
   still_draft steps d (x ∷ left) =
       elim (cases_Bool (x.place == other)) [
         | inl gone ↦
-          let skip : (x.place == place) ≡ false = apart x.place place (λ e. ne (sym (eqb-true x.place other gone) ∙ e)) in
-          rw (gone, skip) refl
+            let skip : (x.place == place) ≡ false = apart x.place place (λ e. ne (sym (eqb-true x.place other gone) ∙ e)) in
+            rw (gone, skip) refl
         | inr stays ↦ rw stays (elim (cases_Bool (x.place == place)) [ inl here ↦ rw here refl | inr past ↦ rw past (still_draft steps d left) ])
       ]
 
@@ -72,7 +72,7 @@ among_first w x place left e h =
     record { draft = x; same = h; line = rw same refl; shows = λ steps d. (rw same refl) }
 
 among_later : (w : EditorState) (y : LeftLine) (other : ℕ) (left : List LeftLine) → (y.place ≡ w.back → ⊥) → (other ≡ w.back → ⊥) → IsAmong w left
-    → IsAmong w (y ∷ without other left)
+    → IsAmong w (y ∷ left_but other left)
 among_later w y other left ne nf h =
     let skip : (y.place == w.back) ≡ false = apart y.place w.back ne in
     record {
@@ -86,7 +86,7 @@ among_later w y other left ne nf h =
 abbrev moved_to : ℕ → Split → EditorState → EditorState
 moved_to place d v =
     record (with_draft (draft_at v.limits.steps place d v.left) v) {
-      left = record { place = v.back; draft = draft_of v } ∷ without place v.left;
+      left = record { place = v.back; draft = draft_of v } ∷ left_but place v.left;
       back = place;
       last = Other;
     }
@@ -121,8 +121,8 @@ module _ (w : EditorState) where
       })
     where
       left_on : (n other : ℕ) (v : EditorState) → Browses w n v → (other ≡ w.back → ⊥)
-          → IsAmong w (record { place = v.back; draft = draft_of v } ∷ without other v.left)
-      left_on zero other v b ne = among_first w (draft_of v) v.back (without other v.left) (omega (arith, b.place)) (b.here refl)
+          → IsAmong w (record { place = v.back; draft = draft_of v } ∷ left_but other v.left)
+      left_on zero other v b ne = among_first w (draft_of v) v.back (left_but other v.left) (omega (arith, b.place)) (b.here refl)
       left_on (suc n) other v b ne =
           among_later w (record { place = v.back; draft = draft_of v }) other v.left (λ same. omega (arith, same, b.place)) ne (b.left (omega arith))
 

@@ -5,7 +5,7 @@ use Rattle.std.proofs.lemmas.Slice.Eq.{bytes_eq-Decides}
 use Rattle.std.specs.Prelude.{Bool, Option, Some, None, ◌==◌, if◌then◌else◌, remove, slice_index_or, slice_set, suc, zero}
 use Rattle.std.specs.Str.{bytes_eq}
 use Rattle.line_editor.specs.Splits.{Split, line_text}
-use Rattle.line_editor.specs.States.{DraftState, EditorState, LeftLine, brought_to, draft_at, draft_of, gone_to, left_at, new_draft, shown_as, with_draft, without}
+use Rattle.line_editor.specs.States.{DraftState, EditorState, LeftLine, brought_to, draft_at, draft_of, gone_to, left_at, new_draft, shown_as, with_draft, left_but}
 use Rattle.line_editor.specs.inside.Lines.{position_in}
 
 -- ---- a line, as another one has it
@@ -25,7 +25,7 @@ pub record IsFound (place : ℕ) (left : List LeftLine) (at : ℕ) : Type 0 wher
   pub within : at < length left
   pub line : (m : LeftLine) → m ≡ slice_index_or left at m → left_at place left ≡ Some m.draft.line
   pub draft : (steps : ℕ) (d : Split) (m : LeftLine) → m ≡ slice_index_or left at m → draft_at steps place d left ≡ shown_as steps d m.draft
-  pub rest : without place left ≡ remove left at
+  pub rest : left_but place left ≡ remove left at
 
 module _ (place : ℕ) (x : LeftLine) (left : List LeftLine) where
   found_here : (x.place == place) ≡ true → IsFound place (x ∷ left) zero
@@ -59,8 +59,8 @@ found_at place passed (x ∷ left) at e =
     elim (cases_Bool (x.place == place)) [
       | inl here ↦ (zero, omega (arith, same_number at passed (e ∙ place_first place x left passed here)), found_here place x left here)
       | inr other ↦
-        let more = found_at place (passed + 1) left at (e ∙ place_later place x left passed other) in
-        (suc more.0, omega (arith, more.1), found_later place x left other more.0 more.2)
+          let more = found_at place (passed + 1) left at (e ∙ place_later place x left passed other) in
+          (suc more.0, omega (arith, more.1), found_later place x left other more.0 more.2)
     ]
 
 pub position_found : (place : ℕ) (left : List LeftLine) (at : ℕ) → Some at ≡ position_in place 0 left → IsFound place left at
@@ -97,7 +97,7 @@ module _ (steps place at : ℕ) (d : Split) (old shown new : List LeftLine) (fou
   was : (m : LeftLine) × (m ≡ slice_index_or old at m)
   was = get_any old at is.within
 
-  pub taken_rest : new ≡ remove shown at → new ≡ without place old
+  pub taken_rest : new ≡ remove shown at → new ≡ left_but place old
   taken_rest e = e ∙ ap (λ l. remove l at) (shows was.0 was.1) ∙ remove_set old at _ ∙ sym is.rest
 
   pub taken_draft : (m : LeftLine) → m ≡ slice_index_or shown at m → m.draft ≡ draft_at steps place d old
@@ -109,7 +109,7 @@ module _ (steps place at : ℕ) (d : Split) (old shown new : List LeftLine) (fou
 -- No line was left at a place.
 module _ (steps place : ℕ) (d : Split) where
   missed : (passed : ℕ) (left : List LeftLine) → None ≡ position_in place passed left
-      → (draft_at steps place d left ≡ new_draft d) × (left_at place left ≡ None) × (without place left ≡ left)
+      → (draft_at steps place d left ≡ new_draft d) × (left_at place left ≡ None) × (left_but place left ≡ left)
   missed passed [] e = (refl, refl, refl)
   missed passed (x ∷ left) e =
       elim (cases_Bool (x.place == place)) [
@@ -126,7 +126,7 @@ module _ (steps place : ℕ) (d : Split) where
   pub missed_line : (left : List LeftLine) → None ≡ position_in place 0 left → left_at place left ≡ None
   missed_line left e = (missed 0 left e).1
 
-  pub missed_rest : (left : List LeftLine) → None ≡ position_in place 0 left → without place left ≡ left
+  pub missed_rest : (left : List LeftLine) → None ≡ position_in place 0 left → left_but place left ≡ left
   missed_rest left e = (missed 0 left e).2
 
 -- ---- one line after another
@@ -171,16 +171,16 @@ module _ (place : ℕ) where
 
 -- An editor with a line at another place.
 pub shown_elsewhere : (v w : EditorState) → v ≡ w → (place : ℕ) (d : Split) (x next y : DraftState) (first second third : List LeftLine) → (place ≡ v.back → ⊥)
-    → first ≡ v.left → next ≡ draft_at v.limits.steps place d first → second ≡ without place first → x ≡ next → y ≡ draft_of v
+    → first ≡ v.left → next ≡ draft_at v.limits.steps place d first → second ≡ left_but place first → x ≡ next → y ≡ draft_of v
     → third ≡ record { place = v.back; draft = y } ∷ second
     → record (with_draft x v) { left = third; back = place } ≡ brought_to place d w
 shown_elsewhere v w is place d x next y first second third ne same comes rest shows gone all =
     let other : (place == v.back) ≡ false = ne_eqb place v.back ne in
-    let there : brought_to place d v ≡ record (with_draft (draft_at v.limits.steps place d v.left) v) { left = record { place = v.back; draft = draft_of v } ∷ without place v.left; back = place } =
+    let there : brought_to place d v ≡ record (with_draft (draft_at v.limits.steps place d v.left) v) { left = record { place = v.back; draft = draft_of v } ∷ left_but place v.left; back = place } =
     rw other refl in
     ap (λ (z : DraftState). record (with_draft z v) { left = third; back = place }) (shows ∙ comes ∙ ap (draft_at v.limits.steps place d) same)
     ∙ ap (λ l. record (with_draft (draft_at v.limits.steps place d v.left) v) { left = l; back = place })
     (all ∙ ap (λ (z : DraftState). record { place = v.back; draft = z } ∷ second) gone
-    ∙ ap (λ l. record { place = v.back; draft = draft_of v } ∷ l) (rest ∙ ap (without place) same))
+    ∙ ap (λ l. record { place = v.back; draft = draft_of v } ∷ l) (rest ∙ ap (left_but place) same))
     ∙ sym there
     ∙ ap (brought_to place d) is

@@ -45,7 +45,7 @@ abbrev pub newer_times : ℕ → EditorState → EditorState
 newer_times zero w = w
 newer_times (suc n) w = newer_times n (after Newer w)
 
--- An editor is again where another one was: its line has the same text, and the same can be undone and redone of it. A
+-- An editor is back at a line of another one: its line has the same text, and the same can be undone and redone. A
 -- line that isn't from the history has the same cursor, too.
 pub record IsBackAt (w v : EditorState) : Type 0 where
   pub place : v.back ≡ w.back

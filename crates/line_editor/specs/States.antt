@@ -35,7 +35,8 @@ pub record DraftState : Type 0 where
   -- Whether a character was typed last, which is undone with the next one.
   pub typing : Bool
 
--- A line that was left for another one, with its place: how far back in the history it is, or 0 if it isn't from there.
+-- A line that was left for another one, with its place. That is how far back in the history it is, or 0 if it isn't from
+-- there.
 pub record LeftLine : Type 0 where
   pub place : ℕ
   pub draft : DraftState
@@ -173,22 +174,22 @@ left_at place [] = None
 left_at place (x ∷ left) = if x.place == place then Some x.draft.line else left_at place left
 
 -- The lines that were left, without the one of a place.
-abbrev pub without : ℕ → List LeftLine → List LeftLine
-without place [] = []
-without place (x ∷ left) = if x.place == place then left else x ∷ without place left
+abbrev pub left_but : ℕ → List LeftLine → List LeftLine
+left_but place [] = []
+left_but place (x ∷ left) = if x.place == place then left else x ∷ left_but place left
 
 -- The line that was left at a place, as another line has it. If none was left there, nothing can be undone of that yet.
 abbrev pub draft_at : ℕ → ℕ → Split → List LeftLine → DraftState
 draft_at steps place d [] = new_draft d
 draft_at steps place d (x ∷ left) = if x.place == place then shown_as steps d x.draft else draft_at steps place d left
 
--- The editor with a line in the place of the history where it is. The line that is left for it keeps what can be undone
--- of it, and so does one that was left there before.
+-- The editor with a line of some place in the history. The line that is left for it keeps what can be undone of it, and
+-- so does one that was left there before.
 abbrev pub brought_to : ℕ → Split → EditorState → EditorState
 brought_to place d w =
     if place == w.back then with_draft (shown_as w.limits.steps d (draft_of w)) w
     else record (with_draft (draft_at w.limits.steps place d w.left) w) {
-      left = record { place = w.back; draft = draft_of w } ∷ without place w.left;
+      left = record { place = w.back; draft = draft_of w } ∷ left_but place w.left;
       back = place;
     }
 

@@ -34,6 +34,9 @@ use std::marker::Model;
 
 /// An editor of one line, with the texts that were killed, the changes that can be undone, and the history of accepted lines.
 ///
+/// A line of the history can be edited too. It keeps its edits, and what can be undone of them, while other lines are shown, until a line is
+/// accepted or let go.
+///
 /// ```
 /// let mut editor = Editor::new(alloc, Limits::default())?;
 /// editor.paste("two words")?;

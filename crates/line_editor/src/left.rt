@@ -3,7 +3,7 @@ ghost use Rattle.std.specs.Prelude.{◌≡◌, ◌<◌, ◌≤◌, IfOk, OnErr, 
 ghost use Rattle.std.specs.Option.{option_map};
 ghost use Rattle.std.specs.VecDeque.{deque_capacity, deque_len};
 ghost use Rattle.line_editor.specs.Splits.{Split};
-ghost use Rattle.line_editor.specs.States.{draft_at, left_at, shown_as, without};
+ghost use Rattle.line_editor.specs.States.{draft_at, left_at, shown_as, left_but};
 ghost use Rattle.line_editor.specs.inside.Lines.{position_in};
 
 use crate::draft::Draft;
@@ -27,7 +27,7 @@ impl<A: Allocator> Model for Left<A> {
     ghost view = { λ l. record { place = l.place; draft = l.draft } };
 }
 
-/// Where the line of a place is among those that were left.
+/// The position of a place's line among those that were left.
 fn position_of<A: Allocator>(left: &VecDeque<Left<A>, A>, place: usize) -> Option<usize>
     ensures { result ≡ position_in place 0 left.now.items }
 {
@@ -82,7 +82,7 @@ pub(crate) fn take_or_begin<A: Allocator + Clone>(
     steps: usize,
 ) -> Result<Draft<A>, AllocError>
     ensures draft { IfOk result (λ draft. draft ≡ draft_at steps place line left.old.items) }
-    ensures ok { OnOk result (left.new.items ≡ without place left.old.items) }
+    ensures ok { OnOk result (left.new.items ≡ left_but place left.old.items) }
     ensures err { OnErr result (left.new.items ≡ left.old.items) }
     ensures len { deque_len left.new ≤ deque_len left.old }
     ensures capacity { deque_capacity left.new ≡ deque_capacity left.old }

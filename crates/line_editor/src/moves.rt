@@ -15,8 +15,8 @@ use std::alloc::{AllocError, Allocator};
 use std::mem;
 
 impl<A: Allocator + Clone> Editor<A> {
-    /// Shows a line in the place of the history where it is. The line that is left for it, and one that was left there before, keep what
-    /// can be undone of them.
+    /// Shows a line of some place in the history. The line that is left for it, and one that was left there before, keep what can be undone
+    /// of them.
     pub(crate) fn show_at(&mut self, place: usize, line: Line<A>) -> Result<(), AllocError>
         ensures ok { OnOk result (self.new ≡ brought_to place line self.old) }
         ensures err { OnErr result (self.new ≡ self.old) }

@@ -7,7 +7,7 @@ use Rattle.line_editor.specs.States.{LeftLine}
 abbrev pub IsFirstLine : List ℕ → List ℕ → List ℕ → Type 0
 IsFirstLine text line back = (lines_of text ≡ line ∷ lines_of back) ⊎ ((lines_of text ≡ line ∷ []) × (back ≡ []))
 
--- Where the line of a place is among those that were left, if so many are before these. `None` if none was left there.
+-- The position of a place's line among those that were left, if so many are before these. `None` if none was left there.
 abbrev pub position_in : ℕ → ℕ → List LeftLine → Option ℕ
 position_in place passed [] = None
 position_in place passed (x ∷ left) = if x.place == place then Some passed else position_in place (passed + 1) left

@@ -15,9 +15,9 @@ pub loop-at-preserved : goal.loop-at-preserved
 loop-at-preserved g c =
     elim c.match-get.branch [
       | in-Some+else-line-place w ↦
-        let m = w.in-Some.line.now in
-        let past = ne_eqb m.place c.args.place (λ same. w.if-line-place.false (ap (λ (y : LeftLine). y.place) w.line.view_is ∙ same)) in
-        c.loop-at.invariant ∙ place_past c.args.place c.args.left.now.items c.loop-at.at w.in-Some.ensures.item.3.0 m w.in-Some.ensures.item.1 past
+          let m = w.in-Some.line.now in
+          let past = ne_eqb m.place c.args.place (λ same. w.if-line-place.false (ap (λ (y : LeftLine). y.place) w.line.view_is ∙ same)) in
+          c.loop-at.invariant ∙ place_past c.args.place c.args.left.now.items c.loop-at.at w.in-Some.ensures.item.3.0 m w.in-Some.ensures.item.1 past
       | in_default w ↦ absurd (false≢true (w.in_default.ensures.variant.1 (omega (arith, c.loop-at-test.true, c.len-at-end.ensures))))
     ]
 
