@@ -1,5 +1,5 @@
 -- An editor stays within its limits.
-use Rattle.std.proofs.Common.{◌≡◌, ℕ, ◌+◌, ◌-◌, ◌<◌, ◌≤◌, true, false, List, [], ◌∷◌, ◌++◌, length, map, reverse, take, drop, refl, sym, subst, ◌∙◌, inl, inr, arith, append-nil}
+use Rattle.std.proofs.Common.{◌≡◌, ℕ, ◌+◌, ◌-◌, ◌<◌, ◌≤◌, true, false, List, [], ◌∷◌, ◌++◌, length, map, reverse, take, drop, refl, sym, subst, ap, ◌∙◌, inl, inr, arith, append-nil, length-drop}
 use Rattle.std.proofs.lemmas.Bool.{and_parts, and_from, cases_Bool, leb-true, ltb-false, ltb-true}
 use Rattle.std.proofs.lemmas.List.{reverse-append, reverse-reverse}
 use Rattle.std.specs.Prelude.{Bool, Option, Some, None, IfSome, ◌&&◌, ◌==◌, suc, zero, slice_get}
@@ -15,7 +15,7 @@ use Rattle.line_editor.specs.declared.limits.Limits.{Limits}
 use Rattle.line_editor.specs.declared.places.Stop.TheVariants.{Cluster, Edge}
 use Rattle.line_editor.specs.declared.places.Target.{Target}
 use Rattle.line_editor.specs.declared.places.Target.TheVariants.{Back, Forward}
-use Rattle.line_editor.specs.Bounded.{AreRoomy, IsBounded, IsHeld, IsKept, IsLeft, StaysBounded, all_done}
+use Rattle.line_editor.specs.Bounded.{ArePlaces, AreRoomy, IsBounded, IsHeld, IsKept, IsLeft, StaysBounded, all_done, places_of}
 use Rattle.line_editor.specs.Bounds.{is_too_long, more_by, popped_more, room_of, size}
 use Rattle.line_editor.specs.Edits.{cut_text, empty_line, erased, inserted, line_with, meeting, transposed}
 use Rattle.line_editor.specs.History.{loaded_line, has_room, lines_of, loaded}
@@ -26,11 +26,13 @@ use Rattle.line_editor.specs.Shown.{AreShown, blanked, is_shown, pasted_part, sh
 use Rattle.line_editor.specs.Splits.{Split, line_text}
 use Rattle.line_editor.specs.States.{DraftState, EditorState, LeftLine, LineSearch, acted, after, before_yank, brought_to, changed, draft_at, draft_of, dropped, erase_cut, found, found_line, found_newer, fresh, gone_to, is_ignored, kill_cut, last_after, left_at, line_at, line_or, moved, new_draft, newer_from, next_yank, popped_to, redo_to, remembered, rung, searched_forward, searched_to, shown_as, sought, transpose_at, type_char, after_typing, undo_to, with_draft, left_but, write, yanked}
 use Rattle.line_editor.specs.Tasks.{Task, Acts, Pastes, Accepts, LetsGo, Loads, Seeks, SeeksMore, SeeksLess, GivesUp, Ends, Clears, Closes, Nothing, done, task_more}
+use Rattle.line_editor.proofs.Counting.{IsBy, few-left, first-within, get-within, last-within, places-moved, some-both}
 use Rattle.line_editor.proofs.Held.{Found, all-drop, all-get, all-take, cut-shown, end-after, found-held, last-held, held-erased, held-found, held-inserted, held-moved, held-replaced, held-same, held-transposed, yank-before}
 use Rattle.line_editor.proofs.Keeping.{keeps_text}
-use Rattle.line_editor.proofs.Ringing.{kill-shown, with-shown}
+use Rattle.line_editor.proofs.Ringing.{kill-shown, some-weaker, with-shown}
 use Rattle.line_editor.proofs.Showing.{shown-filter}
 use Rattle.line_editor.proofs.Sizing.{size-cons}
+use Rattle.line_editor.proofs.Undoing.{gone_history}
 
 take-short : (n : ℕ) (lines : List Split) → length (take n lines) ≤ n
 take-short zero lines = omega arith
@@ -58,6 +60,9 @@ fresh-bounded limits = record {
   began = held-empty limits;
   lines = omega arith;
   steps = omega arith;
+  places = (omega arith, refl, tt);
+  others = omega arith;
+  searched = omega arith;
 }
 
 -- What the last action was has no bound.
@@ -73,12 +78,15 @@ bounded-last w last h = record {
   began = h.began;
   lines = h.lines;
   steps = h.steps;
+  places = h.places;
+  others = h.others;
+  searched = h.searched;
 }
 
 -- So has what is looked for, as far as it is held.
 bounded-search-of : (w : EditorState) (search : LineSearch) → IsBounded w → IsHeld w.limits search.pattern → IsHeld w.limits search.line
-    → IsBounded (record w { search = search })
-bounded-search-of w search h k l = record {
+    → search.back ≤ length w.history → IsBounded (record w { search = search })
+bounded-search-of w search h k l le = record {
   line = h.line;
   left = h.left;
   past = h.past;
@@ -89,7 +97,19 @@ bounded-search-of w search h k l = record {
   began = l;
   lines = h.lines;
   steps = h.steps;
+  places = h.places;
+  others = h.others;
+  searched = le;
 }
+
+-- A search keeps the history.
+history-sought : (ahead : Bool) (o : Option ℕ) (w : EditorState) → (sought_on ahead o w).history ≡ w.history
+history-sought ahead None w = refl
+history-sought ahead (Some number) w =
+    elim (cases_Bool (has_found w.last && w.back == number)) [
+      | inl there ↦ rw there refl
+      | inr new ↦ rw new (gone_history number (slice_get w.history (number - 1)) w)
+    ]
 
 limits-brought_to : (place : ℕ) (d : Split) (w : EditorState) → (brought_to place d w).limits ≡ w.limits
 limits-brought_to place d w = elim (cases_Bool (place == w.back)) [ inl here ↦ rw here refl | inr other ↦ rw other refl ]
@@ -170,6 +190,9 @@ module _ (w : EditorState) (h : IsBounded w) where
     began = h.began;
     lines = h.lines;
     steps = omega (arith, take-short w.limits.steps (w.line ∷ w.past));
+    places = h.places;
+    others = h.others;
+    searched = h.searched;
   }
 
   bounded-typed : (d : Split) → IsHeld w.limits d → IsBounded (after_typing d w)
@@ -184,6 +207,9 @@ module _ (w : EditorState) (h : IsBounded w) where
     began = h.began;
     lines = h.lines;
     steps = elim (cases_Bool w.typing) [ inl on ↦ rw on (omega (arith, h.steps)) | inr off ↦ rw off (omega (arith, take-short w.limits.steps (w.line ∷ w.past))) ];
+    places = h.places;
+    others = h.others;
+    searched = h.searched;
   }
 
   bounded-moved : (d : Split) → IsHeld w.limits d → IsBounded (moved d w)
@@ -198,6 +224,9 @@ module _ (w : EditorState) (h : IsBounded w) where
     began = h.began;
     lines = h.lines;
     steps = h.steps;
+    places = h.places;
+    others = h.others;
+    searched = h.searched;
   }
 
   bounded-type : (c : ℕ) → is_too_long (size (shown_part (c ∷ []))) w ≡ false → IsBounded (type_char c w)
@@ -235,6 +264,9 @@ module _ (w : EditorState) (h : IsBounded w) where
         began = b.began;
         lines = b.lines;
         steps = b.steps;
+        places = b.places;
+        others = b.others;
+        searched = b.searched;
       }
 
   bounded-transpose : (before : List ℕ) → IsBounded (transpose_at before w)
@@ -254,6 +286,9 @@ module _ (w : EditorState) (h : IsBounded w) where
     began = h.began;
     lines = h.lines;
     steps = omega (arith, le);
+    places = h.places;
+    others = h.others;
+    searched = h.searched;
   }
 
   bounded-redo : (undone : List Split) → AllByRecursion (IsHeld w.limits) undone → length w.past + length undone ≤ w.limits.steps → IsBounded (redo_to undone w)
@@ -269,6 +304,9 @@ module _ (w : EditorState) (h : IsBounded w) where
     began = h.began;
     lines = h.lines;
     steps = omega (arith, le);
+    places = h.places;
+    others = h.others;
+    searched = h.searched;
   }
 
   bounded-popped : (o : Option (List ℕ)) → IfSome o (λ before. w.line.before ≡ reverse (yanked w) ++ before) → is_too_long (popped_more o w) w ≡ false
@@ -290,6 +328,9 @@ module _ (w : EditorState) (h : IsBounded w) where
         began = b.began;
         lines = b.lines;
         steps = b.steps;
+        places = b.places;
+        others = b.others;
+        searched = b.searched;
       }
 
   -- ---- history
@@ -300,8 +341,8 @@ module _ (w : EditorState) (h : IsBounded w) where
 
   -- Another line, and others that were left.
   bounded-draft : (x : DraftState) (left : List LeftLine) (back : ℕ) → IsLeft w.limits x → AreLeft w.limits left
-      → IsBounded (record (with_draft x w) { left = left; back = back })
-  bounded-draft x left back k l = record {
+      → ArePlaces (length w.history) (back ∷ places_of left) → IsBounded (record (with_draft x w) { left = left; back = back })
+  bounded-draft x left back k l apart = record {
     line = k.line;
     left = l;
     past = k.past;
@@ -312,37 +353,59 @@ module _ (w : EditorState) (h : IsBounded w) where
     began = h.began;
     lines = h.lines;
     steps = k.steps;
+    places = apart;
+    others = few-left (length w.history) back left apart;
+    searched = h.searched;
   }
 
-  bounded-brought_to : (place : ℕ) (d : Split) → IsHeld w.limits d → IsBounded (brought_to place d w)
-  bounded-brought_to place d k =
+  bounded-brought_to : (place : ℕ) (d : Split) → IsHeld w.limits d → place ≤ length w.history → IsBounded (brought_to place d w)
+  bounded-brought_to place d k le =
       elim (cases_Bool (place == w.back)) [
-        | inl here ↦ rw here (bounded-draft (shown_as w.limits.steps d (draft_of w)) w.left w.back (left-shown w.limits d (draft_of w) k draft-left) h.left)
+        | inl here ↦ rw here (bounded-draft (shown_as w.limits.steps d (draft_of w)) w.left w.back (left-shown w.limits d (draft_of w) k draft-left) h.left h.places)
         | inr other ↦ rw other (bounded-draft (draft_at w.limits.steps place d w.left) (record { place = w.back; draft = draft_of w } ∷ left_but place w.left) place
-            (left-draft w.limits place d w.left k h.left) (draft-left, left-without w.limits place w.left h.left))
+            (left-draft w.limits place d w.left k h.left) (draft-left, left-without w.limits place w.left h.left)
+            (places-moved (length w.history) w.back place w.left le other h.places))
       ]
 
-  bounded-gone : (place : ℕ) (o : Option Split) → IfSome o (IsHeld w.limits) → IsBounded (gone_to place o w)
-  bounded-gone place None k = h
-  bounded-gone place (Some d) k = bounded-brought_to place d k
+  -- A line that is held, at a place of the history.
+  abbrev HasPlace : ℕ → Split → Type 0
+  HasPlace place d = IsHeld w.limits d × (place ≤ length w.history)
 
-  line_at-held : (place : ℕ) → IfSome (line_at place w) (IsHeld w.limits)
-  line_at-held zero = held-or w.limits empty_line (left_at 0 w.left) (held-empty w.limits) (left-held w.limits 0 w.left h.left)
+  bounded-gone : (place : ℕ) (o : Option Split) → IfSome o (HasPlace place) → IsBounded (gone_to place o w)
+  bounded-gone place None k = h
+  bounded-gone place (Some d) k = bounded-brought_to place d k.0 k.1
+
+  within-map : (f : Split → Split) (place : ℕ) (o : Option Split) → IfSome o (λ _. place ≤ length w.history) → IfSome (option_map f o) (λ _. place ≤ length w.history)
+  within-map f place None k = k
+  within-map f place (Some d) k = k
+
+  line_at-held : (place : ℕ) → IfSome (line_at place w) (HasPlace place)
+  line_at-held zero = (held-or w.limits empty_line (left_at 0 w.left) (held-empty w.limits) (left-held w.limits 0 w.left h.left), omega arith)
   line_at-held (suc at) =
-      held-map w.limits (left_at (suc at) w.left) (slice_get w.history at) (left-held w.limits (suc at) w.left h.left) (all-get w.limits w.history at h.history)
+      some-both (IsHeld w.limits) (λ _. suc at ≤ length w.history) (line_at (suc at) w)
+      (held-map w.limits (left_at (suc at) w.left) (slice_get w.history at) (left-held w.limits (suc at) w.left h.left) (all-get w.limits w.history at h.history))
+      (within-map (λ (d : Split). target_place (Forward Edge) (line_or d (left_at (suc at) w.left))) (suc at) (slice_get w.history at)
+      (some-weaker (λ _. at < length w.history) (λ _. suc at ≤ length w.history) (slice_get w.history at) (λ d lt. omega (arith, lt)) (get-within w.history at)))
+
+  number-held : (number : ℕ) → IfSome (slice_get w.history (number - 1)) (HasPlace number)
+  number-held number =
+      some-both (IsHeld w.limits) (λ _. number ≤ length w.history) (slice_get w.history (number - 1)) (all-get w.limits w.history (number - 1) h.history)
+      (some-weaker (λ _. number - 1 < length w.history) (λ _. number ≤ length w.history) (slice_get w.history (number - 1)) (λ d lt. omega (arith, lt)) (get-within w.history (number - 1)))
 
   bounded-newer_from : (back : ℕ) → IsBounded (newer_from back w)
   bounded-newer_from zero = h
   bounded-newer_from (suc back) = bounded-gone back (line_at back w) (line_at-held back)
 
-  bounded-search : (o : Option (ℕ × List ℕ)) → IfSome o (Found w.limits (sought w)) → IsBounded (searched_to o w)
-  bounded-search None k = h
-  bounded-search (Some found) k =
-      bounded-brought_to found.0 (found_line (sought w) found.1) (held-found w.limits (sought w) found.1 k)
+  bounded-search : (o : Option (ℕ × List ℕ)) → IfSome o (Found w.limits (sought w)) → IsBy (length w.history) o → IsBounded (searched_to o w)
+  bounded-search None k le = h
+  bounded-search (Some found) k le =
+      bounded-brought_to found.0 (found_line (sought w) found.1) (held-found w.limits (sought w) found.1 k) le
 
   bounded-forward : (front : List ℕ) → IsBounded (searched_forward front w)
   bounded-forward [] = bounded-newer_from w.back
-  bounded-forward (c ∷ front) = bounded-search (found_newer w) (last-held w.limits (sought w) (line_text w.line) (w.back - 1) w.history h.history)
+  bounded-forward (c ∷ front) =
+      bounded-search (found_newer w) (last-held w.limits (sought w) (line_text w.line) (w.back - 1) w.history h.history)
+      (last-within (sought w) (line_text w.line) (length w.history) (w.back - 1) w.history (omega (arith, h.places.0)))
 
   bounded-acted : (action : Action) → is_too_long (more_by action w) w ≡ false → IsBounded (acted action w)
   bounded-acted (Insert c) room = bounded-type c room
@@ -358,6 +421,7 @@ module _ (w : EditorState) (h : IsBounded w) where
   bounded-acted Newer room = bounded-newer_from w.back
   bounded-acted Search room =
       bounded-search (found w) (found-held w.limits (sought w) (line_text w.line) w.back (drop w.back w.history) (all-drop w.limits w.history w.back h.history))
+      (first-within (sought w) (line_text w.line) (length w.history) w.back (drop w.back w.history) (omega (arith, h.places.0, length-drop w.back w.history)))
   bounded-acted SearchForward room = bounded-forward (sought w)
 
   bounded-after : (action : Action) → is_too_long (more_by action w) w ≡ false → IsBounded (after action w)
@@ -369,7 +433,7 @@ module _ (w : EditorState) (h : IsBounded w) where
   bounded-brought number =
       elim (cases_Bool (has_found w.last && w.back == number)) [
         | inl there ↦ rw there h
-        | inr new ↦ rw new (bounded-gone number (slice_get w.history (number - 1)) (all-get w.limits w.history (number - 1) h.history))
+        | inr new ↦ rw new (bounded-gone number (slice_get w.history (number - 1)) (number-held number))
       ]
 
   bounded-sought : (ahead : Bool) (o : Option ℕ) → IsBounded (sought_on ahead o w)
@@ -377,7 +441,7 @@ module _ (w : EditorState) (h : IsBounded w) where
   bounded-sought ahead (Some number) = bounded-last (brought number w) _ (bounded-brought number)
 
   bounded-begun : (ahead : Bool) → IsBounded (begun ahead w)
-  bounded-begun ahead = bounded-last _ _ (bounded-search-of w (record { pattern = empty_line; line = w.line; back = w.back }) h (held-empty w.limits) h.line)
+  bounded-begun ahead = bounded-last _ _ (bounded-search-of w (record { pattern = empty_line; line = w.line; back = w.back }) h (held-empty w.limits) h.line h.places.0)
 
   bounded-next : (ahead : Bool) → IsBounded (sought_next ahead w)
   bounded-next ahead = elim (cases_Bool (is_seeking w.last)) [ inl on ↦ rw on (bounded-sought ahead (found_next ahead w)) | inr off ↦ rw off (bounded-begun ahead) ]
@@ -390,6 +454,7 @@ module _ (w : EditorState) (h : IsBounded w) where
       let P : Limits → Type 0 = λ l. IsHeld l pattern in
       let Q : Limits → Type 0 = λ l. IsHeld l w.search.line in
       bounded-search-of (sought_on ahead found w) (record w.search { pattern = pattern }) (bounded-sought ahead found) (subst P (sym same) k) (subst Q (sym same) h.began)
+      (omega (arith, h.searched, ap length (history-sought ahead found w)))
 
   bounded-more : (c : ℕ) → IsBounded (sought_more c w)
   bounded-more c =
@@ -405,7 +470,7 @@ module _ (w : EditorState) (h : IsBounded w) where
   bounded-put_back : IsBounded (put_back w)
   bounded-put_back =
       elim (cases_Bool (has_found w.last)) [
-        | inl found ↦ rw found (bounded-brought_to w.search.back w.search.line h.began)
+        | inl found ↦ rw found (bounded-brought_to w.search.back w.search.line h.began h.searched)
         | inr none ↦ rw none h
       ]
 
@@ -424,6 +489,9 @@ module _ (w : EditorState) (h : IsBounded w) where
     began = held-empty w.limits;
     lines = le;
     steps = omega arith;
+    places = (omega arith, refl, tt);
+    others = omega arith;
+    searched = omega arith;
   }
 
   -- A line that isn't empty is kept with its cursor at its end.
@@ -486,10 +554,13 @@ bounded-loaded w h text =
       undone = h.undone;
       history = all-take w.limits (IsKept w.limits) w.limits.lines all (all-reverse (IsKept w.limits) (map loaded_line (filter (has_room w.limits) (map pasted_part (lines_of text)))) (all-loaded w.limits (lines_of text)));
       kills = h.kills;
-      pattern = h.pattern;
-      began = h.began;
+      pattern = held-empty w.limits;
+      began = held-empty w.limits;
       lines = take-short w.limits.lines all;
       steps = h.steps;
+      places = (omega arith, refl, tt);
+      others = omega arith;
+      searched = omega arith;
     }
 
 bounded-done : (task : Task) (w : EditorState) → IsBounded w → is_too_long (task_more task w) w ≡ false → IsBounded (done task w)

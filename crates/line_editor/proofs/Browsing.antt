@@ -8,7 +8,7 @@ use Rattle.line_editor.specs.declared.actions.Action.TheVariants.{Newer, Older}
 use Rattle.line_editor.specs.declared.places.Stop.TheVariants.{Edge}
 use Rattle.line_editor.specs.declared.places.Target.TheVariants.{Forward}
 use Rattle.line_editor.specs.Edits.{empty_line}
-use Rattle.line_editor.specs.Laws.{ComesBack, IsBackAt, newer_times, older_times}
+use Rattle.line_editor.specs.Laws.{ComesBack, newer_times, older_times}
 use Rattle.line_editor.specs.Places.{target_place}
 use Rattle.line_editor.specs.Splits.{Split, line_text}
 use Rattle.line_editor.specs.States.{DraftState, EditorState, LeftLine, after, brought_to, draft_at, draft_of, gone_to, left_at, line_at, line_or, newer_from, shown_as, with_draft, left_but}

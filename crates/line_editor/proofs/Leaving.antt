@@ -1,11 +1,11 @@
 -- Lines that were left for others.
-use Rattle.std.proofs.Common.{◌≡◌, ℕ, ◌+◌, ◌<◌, ◌≤◌, true, false, List, [], ◌∷◌, length, drop, take, refl, sym, subst, ap, ◌∙◌, inl, inr, arith, add-one}
+use Rattle.std.proofs.Common.{◌≡◌, ℕ, ◌+◌, ◌<◌, ◌≤◌, true, false, List, [], ◌∷◌, length, drop, refl, sym, subst, ap, ◌∙◌, inl, inr, arith}
 use Rattle.std.proofs.lemmas.Bool.{cases_Bool, eq-eqb, ne_eqb}
 use Rattle.std.proofs.lemmas.Slice.Eq.{bytes_eq-Decides}
-use Rattle.std.specs.Prelude.{Bool, Option, Some, None, ◌==◌, if◌then◌else◌, remove, slice_index_or, slice_set, suc, zero}
+use Rattle.std.specs.Prelude.{Some, None, ◌==◌, remove, slice_index_or, slice_set, suc, zero}
 use Rattle.std.specs.Str.{bytes_eq}
 use Rattle.line_editor.specs.Splits.{Split, line_text}
-use Rattle.line_editor.specs.States.{DraftState, EditorState, LeftLine, brought_to, draft_at, draft_of, gone_to, left_at, new_draft, shown_as, with_draft, left_but}
+use Rattle.line_editor.specs.States.{DraftState, EditorState, LeftLine, brought_to, draft_at, draft_of, left_at, new_draft, shown_as, with_draft, left_but}
 use Rattle.line_editor.specs.inside.Lines.{position_in}
 
 -- ---- a line, as another one has it

@@ -52,7 +52,7 @@ redo_history (d ∷ undone) w = refl
 brought_history : (place : ℕ) (d : Split) (w : EditorState) → (brought_to place d w).history ≡ w.history
 brought_history place d w = elim (cases_Bool (place == w.back)) [ inl here ↦ rw here refl | inr other ↦ rw other refl ]
 
-gone_history : (place : ℕ) (line : Option Split) (w : EditorState) → (gone_to place line w).history ≡ w.history
+pub gone_history : (place : ℕ) (line : Option Split) (w : EditorState) → (gone_to place line w).history ≡ w.history
 gone_history place None w = refl
 gone_history place (Some d) w = brought_history place d w
 

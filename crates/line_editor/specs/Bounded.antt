@@ -1,5 +1,5 @@
 -- What is true of an editor, whatever was done to it.
-use Rattle.std.specs.Prelude.{◌≡◌, ⊤, ◌+◌, ◌<◌, ◌≤◌, false, List, [], ◌∷◌, length}
+use Rattle.std.specs.Prelude.{◌≡◌, ⊤, ℕ, ◌+◌, ◌<◌, ◌≤◌, ◌==◌, ◌||◌, Bool, false, List, [], ◌∷◌, length, map}
 use Rattle.std.specs.List.{AllByRecursion}
 use Rattle.line_editor.specs.declared.limits.Limits.{Limits}
 use Rattle.line_editor.specs.Bounds.{is_too_long, size}
@@ -24,6 +24,20 @@ pub record IsLeft (limits : Limits) (x : DraftState) : Type 0 where
   pub undone : AllByRecursion (IsHeld limits) x.undone
   pub steps : length x.past + length x.undone ≤ limits.steps
 
+-- Whether a place is one of these.
+abbrev pub is_among : ℕ → List ℕ → Bool
+is_among n [] = false
+is_among n (m ∷ places) = m == n || is_among n places
+
+-- Each of these places is in a history of so many lines, or is 0, and none comes twice.
+abbrev pub ArePlaces : ℕ → List ℕ → Type 0
+ArePlaces count [] = ⊤
+ArePlaces count (n ∷ places) = (n ≤ count) × (is_among n places ≡ false) × ArePlaces count places
+
+-- The places of lines that were left.
+abbrev pub places_of : List LeftLine → List ℕ
+places_of left = map (λ (x : LeftLine). x.place) left
+
 -- All lines of an editor are held, and there are no more of them than the limits say.
 pub record IsBounded (w : EditorState) : Type 0 where
   pub line : IsHeld w.limits w.line
@@ -36,6 +50,10 @@ pub record IsBounded (w : EditorState) : Type 0 where
   pub began : IsHeld w.limits w.search.line
   pub lines : length w.history ≤ w.limits.lines
   pub steps : length w.past + length w.undone ≤ w.limits.steps
+  -- The line that is shown and those that were left have places of their own, so they aren't more than the history has.
+  pub places : ArePlaces (length w.history) (w.back ∷ places_of w.left)
+  pub others : length w.left ≤ length w.history
+  pub searched : w.search.back ≤ length w.history
 
 -- The editor after tasks, one after another.
 abbrev pub all_done : List Task → EditorState → EditorState

@@ -13,7 +13,7 @@ ghost use Rattle.line_editor.specs.Places.{target_place};
 ghost use Rattle.line_editor.specs.Shown.{AreShown, pasted_part};
 ghost use Rattle.line_editor.specs.Splits.{line_text};
 ghost use Rattle.line_editor.specs.inside.Changes.{bytes_before, line_bytes};
-ghost use Rattle.line_editor.specs.States.{IsMove, accepted, acted, after, before_yank, broken_off, dropped, erase_cut, fresh, is_ignored, kill_cut, last_after, last_popped, moved, next_yank, pasted_into, popped_to, redo_to, remembered, run_actions, transpose_at, type_char, after_typing, undo_to, write, yanked};
+ghost use Rattle.line_editor.specs.States.{IsMove, accepted, acted, after, before_yank, broken_off, dropped, erase_cut, fresh, is_ignored, kill_cut, last_after, last_popped, moved, next_yank, no_search, pasted_into, popped_to, redo_to, remembered, run_actions, transpose_at, type_char, after_typing, undo_to, write, yanked};
 
 use crate::actions::Action;
 use crate::draft::Draft;
@@ -203,6 +203,15 @@ impl<A: Allocator> Editor<A> {
         }
     }
 
+    /// Lets go of what a search looked for, and of the line from which it began.
+    fn end_search(&mut self)
+        ensures { self.new ≡ record self.old { search = no_search } }
+    {
+        self.pattern.clear();
+        self.began.clear();
+        self.began_back = 0;
+    }
+
     /// Lets the line go, and an empty one begins. The history and the kills stay. This takes no memory.
     ///
     /// ```
@@ -214,9 +223,7 @@ impl<A: Allocator> Editor<A> {
     {
         self.draft.clear();
         self.left.clear();
-        self.pattern.clear();
-        self.began.clear();
-        self.began_back = 0;
+        self.end_search();
         self.back = 0;
         self.last = Last::Other;
     }
@@ -633,7 +640,7 @@ impl<A: Allocator + Clone> Editor<A> {
         }
     }
 
-    /// Takes the history from a text, a line a line, the oldest first. The line stays as it is.
+    /// Takes the history from a text, a line a line, the oldest first. The line stays as it is, and a search ends.
     ///
     /// Of each line the characters are taken that `paste` takes. Empty lines, and lines of more bytes than the limit, are left out. Of too
     /// many lines the last ones are taken.
@@ -657,6 +664,7 @@ impl<A: Allocator + Clone> Editor<A> {
                 self.history = history;
                 self.back = 0;
                 self.left.clear();
+                self.end_search();
                 self.last = Last::Other;
                 Ok(())
             }
