@@ -8,31 +8,34 @@ use Rattle.std.specs.Option.{option_map}
 use Rattle.std.specs.Str.{bytes_eq}
 use Rattle.unicode_segmentation.proofs.TextLemmas.{encode_utf8_nonempty}
 use Rattle.line_editor.specs.declared.actions.Action.{Action}
-use Rattle.line_editor.specs.declared.actions.Action.TheVariants.{Insert, Go, Erase, Kill, Yank, YankPop, Transpose, Undo, Redo, Older, Newer, Search, SearchForward}
+use Rattle.line_editor.specs.declared.actions.Action.TheVariants.{Insert, Go, Erase, Kill, Yank, YankPop, Transpose, Undo, Redo, Older, Newer, Search, SearchForward, CaseWord, TransposeWords, EraseBlanks, LastWord}
+use Rattle.line_editor.specs.declared.actions.Case.{Case}
 use Rattle.line_editor.specs.declared.last.Last.{Last}
 use Rattle.line_editor.specs.declared.last.Last.TheVariants.{Other}
 use Rattle.line_editor.specs.declared.limits.Limits.{Limits}
-use Rattle.line_editor.specs.declared.places.Stop.TheVariants.{Cluster, Edge}
+use Rattle.line_editor.specs.declared.places.Stop.TheVariants.{Cluster, Edge, WordEnd}
 use Rattle.line_editor.specs.declared.places.Target.{Target}
 use Rattle.line_editor.specs.declared.places.Target.TheVariants.{Back, Forward}
 use Rattle.line_editor.specs.Bounded.{ArePlaces, AreRoomy, IsBounded, IsHeld, IsKept, IsLeft, StaysBounded, all_done, places_of}
-use Rattle.line_editor.specs.Bounds.{is_too_long, more_by, popped_more, room_of, size}
-use Rattle.line_editor.specs.Edits.{cut_text, empty_line, erased, inserted, line_with, meeting, transposed}
+use Rattle.line_editor.specs.Bounds.{cased_more, is_too_long, more_by, popped_more, room_of, size, taken_more}
+use Rattle.line_editor.specs.Cases.{recased}
+use Rattle.line_editor.specs.Edits.{cut_text, empty_line, erased, has_two_words, inserted, is_beside_blank, line_with, meeting, transposed, without_blanks, words_transposed}
 use Rattle.line_editor.specs.History.{loaded_line, has_room, lines_of, loaded}
 use Rattle.line_editor.specs.Kills.{kill_at}
 use Rattle.line_editor.specs.Places.{target_place}
 use Rattle.line_editor.specs.Seeking.{begun, brought, found_here, found_next, has_found, is_ahead, is_more, is_seeking, put_back, sought_more, sought_next, sought_on, sought_with}
 use Rattle.line_editor.specs.Shown.{AreShown, blanked, is_shown, pasted_part, shown_part}
 use Rattle.line_editor.specs.Splits.{Split, line_text}
-use Rattle.line_editor.specs.States.{DraftState, EditorState, LeftLine, LineSearch, acted, after, before_yank, brought_to, changed, draft_at, draft_of, dropped, erase_cut, found, found_line, found_newer, fresh, gone_to, is_ignored, kill_cut, last_after, left_at, line_at, line_or, moved, new_draft, newer_from, next_yank, popped_to, redo_to, remembered, rung, searched_forward, searched_to, shown_as, sought, transpose_at, type_char, after_typing, undo_to, with_draft, left_but, write, yanked}
+use Rattle.line_editor.specs.States.{DraftState, EditorState, LeftLine, LineSearch, acted, after, before_taken, before_yank, brought_to, case_cut, changed, draft_at, draft_of, dropped, erase_blanks, erase_cut, found, found_line, found_newer, fresh, gone_to, is_empty, is_ignored, kill_cut, last_after, left_at, line_at, line_or, moved, new_draft, newer_from, next_taken, next_word, next_yank, popped_to, redo_to, remembered, rung, searched_forward, searched_to, shown_as, sought, taken, taken_to, transpose_at, transpose_words, type_char, after_typing, undo_to, with_draft, left_but, write, yanked}
 use Rattle.line_editor.specs.Tasks.{Task, Acts, Pastes, Accepts, LetsGo, Loads, Seeks, SeeksMore, SeeksLess, GivesUp, Ends, Clears, Closes, Nothing, done, task_more}
 use Rattle.line_editor.proofs.Counting.{IsBy, few-left, first-within, get-within, last-within, places-moved, some-both}
 use Rattle.line_editor.proofs.Held.{Found, all-drop, all-get, all-take, cut-shown, end-after, found-held, last-held, held-erased, held-found, held-inserted, held-moved, held-replaced, held-same, held-transposed, yank-before}
 use Rattle.line_editor.proofs.Keeping.{keeps_text}
-use Rattle.line_editor.proofs.Ringing.{kill-shown, some-weaker, with-shown}
+use Rattle.line_editor.proofs.Ringing.{behind-front, kill-shown, some-weaker, with-shown}
 use Rattle.line_editor.proofs.Showing.{shown-filter}
 use Rattle.line_editor.proofs.Sizing.{size-cons}
 use Rattle.line_editor.proofs.Undoing.{gone_history}
+use Rattle.line_editor.proofs.Wording.{held-recased, held-unblanked, held-words, word-shown}
 
 take-short : (n : ℕ) (lines : List Split) → length (take n lines) ≤ n
 take-short zero lines = omega arith
@@ -407,6 +410,39 @@ module _ (w : EditorState) (h : IsBounded w) where
       bounded-search (found_newer w) (last-held w.limits (sought w) (line_text w.line) (w.back - 1) w.history h.history)
       (last-within (sought w) (line_text w.line) (length w.history) (w.back - 1) w.history (omega (arith, h.places.0)))
 
+  -- ---- words
+
+  bounded-case : (case : Case) (text : List ℕ) → is_too_long (cased_more case (cut_text (Forward WordEnd) w.line)) w ≡ false → IsBounded (case_cut case text w)
+  bounded-case case [] room = h
+  bounded-case case (c ∷ text) room =
+      bounded-changed (recased case w.line) (held-recased w.limits case w.line h.line (ltb-false (room_of w) (cased_more case (cut_text (Forward WordEnd) w.line)) room))
+
+  bounded-words : IsBounded (transpose_words w)
+  bounded-words =
+      elim (cases_Bool (has_two_words w.line)) [
+        | inl two ↦ rw two (bounded-changed (words_transposed w.line) (held-words w.limits w.line h.line two))
+        | inr none ↦ rw none h
+      ]
+
+  bounded-blanks : IsBounded (erase_blanks w)
+  bounded-blanks =
+      elim (cases_Bool (is_beside_blank w.line)) [
+        | inl some ↦ rw some (bounded-changed (without_blanks w.line) (held-unblanked w.limits w.line h.line))
+        | inr none ↦ rw none h
+      ]
+
+  bounded-taken : (o : Option (List ℕ)) → IfSome o (λ before. w.line.before ≡ reverse (taken w) ++ before) → is_too_long (taken_more o w) w ≡ false
+      → IsBounded (taken_to o w)
+  bounded-taken None k room = h
+  bounded-taken (Some before) k room =
+      elim (cases_Bool (is_empty (taken w) && is_empty (next_word w))) [
+        | inl none ↦ rw none h
+        | inr some ↦ rw some (
+            bounded-changed (line_with (record { before = before; after = [] }) (next_word w) w.line)
+            (held-replaced w.limits w.line before (taken w) (next_word w) h.line k (word-shown w.limits w.history (next_taken w) h.history)
+            (ltb-false (room_of w) (size (next_word w) - size (taken w)) room)))
+      ]
+
   bounded-acted : (action : Action) → is_too_long (more_by action w) w ≡ false → IsBounded (acted action w)
   bounded-acted (Insert c) room = bounded-type c room
   bounded-acted (Go target) room = bounded-moved (target_place target w.line) (held-moved w.limits target w.line h.line)
@@ -423,6 +459,10 @@ module _ (w : EditorState) (h : IsBounded w) where
       bounded-search (found w) (found-held w.limits (sought w) (line_text w.line) w.back (drop w.back w.history) (all-drop w.limits w.history w.back h.history))
       (first-within (sought w) (line_text w.line) (length w.history) w.back (drop w.back w.history) (omega (arith, h.places.0, length-drop w.back w.history)))
   bounded-acted SearchForward room = bounded-forward (sought w)
+  bounded-acted (CaseWord case) room = bounded-case case (cut_text (Forward WordEnd) w.line) room
+  bounded-acted TransposeWords room = bounded-words
+  bounded-acted EraseBlanks room = bounded-blanks
+  bounded-acted LastWord room = bounded-taken (before_taken w) (behind-front (reverse (taken w)) w.line.before) room
 
   bounded-after : (action : Action) → is_too_long (more_by action w) w ≡ false → IsBounded (after action w)
   bounded-after action room = bounded-last (acted action w) (last_after action w) (bounded-acted action room)

@@ -11,8 +11,8 @@ use Rattle.line_editor.specs.Bounds.{size}
 use Rattle.line_editor.specs.Edits.{IsSettled, line_with}
 use Rattle.line_editor.specs.Recent.{rest_of}
 use Rattle.line_editor.specs.Shown.{AreShown}
-use Rattle.line_editor.specs.Splits.{Split, split_at}
-use Rattle.line_editor.specs.inside.Changes.{AllFit, EndsBy, Fits, Splice, TakesBack, bytes_before, line_bytes, ended, first_ended, first_reached, lines_by, reached, spliced}
+use Rattle.line_editor.specs.Splits.{Split, bytes_before, split_at}
+use Rattle.line_editor.specs.inside.Changes.{AllFit, EndsBy, Fits, Splice, TakesBack, line_bytes, ended, first_ended, first_reached, lines_by, reached, spliced}
 use Rattle.line_editor.proofs.Settling.{text_of-split_at}
 
 -- The bytes of a line, and how many are before its cursor.

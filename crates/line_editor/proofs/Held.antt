@@ -8,7 +8,7 @@ use Rattle.std.specs.List.{AllByRecursion}
 use Rattle.std.specs.Option.{option_and_then}
 use Rattle.std.specs.Str.{bytes_eq}
 use Rattle.line_editor.specs.declared.last.Last.{Last}
-use Rattle.line_editor.specs.declared.last.Last.TheVariants.{Killed, Other, Seeking, Walked, Yanked}
+use Rattle.line_editor.specs.declared.last.Last.TheVariants.{Killed, Other, Seeking, Took, Walked, Yanked}
 use Rattle.line_editor.specs.declared.limits.Limits.{Limits}
 use Rattle.line_editor.specs.declared.places.Stop.TheVariants.{Cluster, Edge}
 use Rattle.line_editor.specs.declared.places.Target.{Target}
@@ -190,6 +190,7 @@ yank-before Yanked text before = behind-front (reverse text) before
 yank-before Other text before = tt
 yank-before Walked text before = tt
 yank-before Killed text before = tt
+yank-before (Took at) text before = tt
 yank-before (Seeking s) text before = tt
 
 -- The end of a line has nothing behind it.

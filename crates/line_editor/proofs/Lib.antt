@@ -19,7 +19,9 @@ mod Running
 pub mod Loading
 pub mod Turning
 pub mod Naming
+pub mod Casing
 pub mod Held
+pub mod Wording
 pub mod Bounding
 pub mod Reloading
 pub mod Browsing

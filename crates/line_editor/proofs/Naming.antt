@@ -12,11 +12,12 @@ use Rattle.crossterm_flags.specs.Values.{same}
 use Rattle.crossterm_flags.specs.Variants.{value_in}
 use Rattle.unicode_segmentation.proofs.TextLemmas.{chars-encode_utf8}
 use Rattle.line_editor.specs.declared.actions.Action.{Action}
-use Rattle.line_editor.specs.declared.actions.Action.TheVariants.{Insert, Go, Erase, Kill, Yank, YankPop, Transpose, Undo, Redo, Older, Newer, Search, SearchForward}
+use Rattle.line_editor.specs.declared.actions.Action.TheVariants.{Insert, Go, Erase, Kill, Yank, YankPop, Transpose, Undo, Redo, Older, Newer, Search, SearchForward, CaseWord, TransposeWords, EraseBlanks, LastWord}
+use Rattle.line_editor.specs.declared.actions.Case.TheVariants.{Upper, Lower, Title}
 use Rattle.line_editor.specs.declared.places.Stop.TheVariants.{Cluster, WordStart, WordEnd, Blank, Edge}
 use Rattle.line_editor.specs.declared.places.Target.{Target}
 use Rattle.line_editor.specs.declared.places.Target.TheVariants.{Back, Forward}
-use Rattle.line_editor.specs.Names.{NameReadsBack, action_name, key_char_name, char_named, one_char, target_name, target_rows, verb_named}
+use Rattle.line_editor.specs.Names.{NameReadsBack, action_name, action_rows, key_char_name, char_named, one_char, target_name, target_rows, verb_named}
 
 -- ---- a target
 
@@ -31,6 +32,19 @@ target_back (Forward WordStart) = refl
 target_back (Forward WordEnd) = refl
 target_back (Forward Blank) = refl
 target_back (Forward Edge) = refl
+
+-- No row has the name of an erasure.
+no_row : (target : Target) → value_in action_rows (action_name (Erase target)) ≡ None
+no_row (Back Cluster) = refl
+no_row (Back WordStart) = refl
+no_row (Back WordEnd) = refl
+no_row (Back Blank) = refl
+no_row (Back Edge) = refl
+no_row (Forward Cluster) = refl
+no_row (Forward WordStart) = refl
+no_row (Forward WordEnd) = refl
+no_row (Forward Blank) = refl
+no_row (Forward Edge) = refl
 
 -- A name with a hyphen is read by its verb, if it has no row.
 abbrev read_at : Bool → List ℕ → List ℕ → Option Action
@@ -64,7 +78,8 @@ reads_back (Go target) h =
 reads_back (Erase target) h =
     let name = action_name (Erase target) in
     let found : nat_lt 5 (length name) ≡ true = lt-ltb 5 (length name) (omega arith) in
-    ap (λ b. read_at b (codes "erase") (target_name target)) found ∙ ap (option_map Erase) (target_back target)
+    ap (λ o. option_or o (read_at (nat_lt 5 (length name)) (codes "erase") (target_name target))) (no_row target)
+    ∙ ap (λ b. read_at b (codes "erase") (target_name target)) found ∙ ap (option_map Erase) (target_back target)
 reads_back (Kill target) h =
     let name = action_name (Kill target) in
     let found : nat_lt 4 (length name) ≡ true = lt-ltb 4 (length name) (omega arith) in
@@ -78,6 +93,12 @@ reads_back Older h = refl
 reads_back Newer h = refl
 reads_back Search h = refl
 reads_back SearchForward h = refl
+reads_back (CaseWord Upper) h = refl
+reads_back (CaseWord Lower) h = refl
+reads_back (CaseWord Title) h = refl
+reads_back TransposeWords h = refl
+reads_back EraseBlanks h = refl
+reads_back LastWord h = refl
 
 -- ---- a text that is no name
 

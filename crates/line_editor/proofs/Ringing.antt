@@ -9,14 +9,14 @@ use Rattle.std.specs.Str.{chars, IsCharBoundary, IsUtf8}
 use Rattle.std.specs.declared.string.String.{String}
 use Rattle.unicode_segmentation.specs.Segments.{chars_before}
 use Rattle.line_editor.specs.declared.last.Last.{Last}
-use Rattle.line_editor.specs.declared.last.Last.TheVariants.{Killed, Other, Seeking, Walked, Yanked}
+use Rattle.line_editor.specs.declared.last.Last.TheVariants.{Killed, Other, Seeking, Took, Walked, Yanked}
 use Rattle.line_editor.specs.declared.places.Target.{Target}
 use Rattle.line_editor.specs.declared.places.Target.TheVariants.{Back, Forward}
 use Rattle.line_editor.specs.Kills.{kept_by, kill_at, kill_text, kills_before, kills_with, texts}
 use Rattle.line_editor.specs.Shown.{AreShown}
-use Rattle.line_editor.specs.Splits.{Split, split_at}
+use Rattle.line_editor.specs.Splits.{Split, bytes_before, split_at}
 use Rattle.line_editor.specs.States.{behind_front}
-use Rattle.line_editor.specs.inside.Changes.{bytes_before, line_bytes}
+use Rattle.line_editor.specs.inside.Changes.{line_bytes}
 use Rattle.line_editor.proofs.Changing.{before-line, line_bytes-line}
 use Rattle.line_editor.proofs.Showing.{shown-append}
 
@@ -37,6 +37,7 @@ kept-shown Other kills h = refl
 kept-shown Walked kills h = refl
 kept-shown Killed kills h = kill-shown kills 0 h
 kept-shown Yanked kills h = refl
+kept-shown (Took at) kills h = refl
 kept-shown (Seeking s) kills h = refl
 
 before-shown : (last : Last) (kills : List (List ℕ)) → AllByRecursion AreShown kills → AllByRecursion AreShown (kills_before last kills)
@@ -45,6 +46,7 @@ before-shown Walked kills h = h
 before-shown Killed [] h = tt
 before-shown Killed (text ∷ kills) h = h.1
 before-shown Yanked kills h = h
+before-shown (Took at) kills h = h
 before-shown (Seeking s) kills h = h
 
 joined-shown : (target : Target) (text kept : List ℕ) → AreShown text → AreShown kept → AreShown (kill_text target text kept)
@@ -65,6 +67,7 @@ before-texts Walked items = refl
 before-texts Killed [] = refl
 before-texts Killed (x ∷ items) = refl
 before-texts Yanked items = refl
+before-texts (Took at) items = refl
 before-texts (Seeking s) items = refl
 
 module _ {A : Type 0} (limit : ℕ) (last : Last) (killed : String A) (items new : List (String A)) (e : new ≡ take limit (killed ∷ kills_before last items)) where

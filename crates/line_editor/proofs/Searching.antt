@@ -5,7 +5,7 @@ use Rattle.std.proofs.lemmas.Str.{encodes-chars}
 use Rattle.std.specs.Prelude.{Bool, Option, ◌-◌, ◌<◌, true, false, Some, None, zero, suc, encode_utf8_all, slice_get}
 use Rattle.std.specs.Option.{option_and_then, option_map}
 use Rattle.std.specs.Str.{bytes_eq, chars, IsUtf8}
-use Rattle.line_editor.specs.declared.last.Last.TheVariants.{Other, Seeking, Walked, Yanked}
+use Rattle.line_editor.specs.declared.last.Last.TheVariants.{Other, Seeking, Took, Walked, Yanked}
 use Rattle.line_editor.specs.declared.last.Seek.{Seek}
 use Rattle.line_editor.specs.Splits.{Split, split_at, line_text}
 use Rattle.line_editor.specs.Edits.{line_with, settled}
@@ -111,6 +111,9 @@ kept-seeking w s is = rw is refl
 
 pub kept-yanked : (w : EditorState) → w.last ≡ Yanked → [] ≡ kept_by w.last w.kills
 kept-yanked w is = rw is refl
+
+pub kept-took : (w : EditorState) (at : ℕ) → w.last ≡ Took at → [] ≡ kept_by w.last w.kills
+kept-took w at is = rw is refl
 
 -- Two texts are the same if their characters are.
 pub same-chars : (x y : List ℕ) → IsUtf8 x → IsUtf8 y → bytes_eq x y ≡ bytes_eq (chars x) (chars y)

@@ -1,20 +1,24 @@
 -- What can be undone.
 use Rattle.std.proofs.Common.{◌≡◌, ℕ, ◌+◌, ◌≤◌, true, false, List, [], ◌∷◌, ◌++◌, length, refl, sym, ap, ◌∙◌, inl, inr, arith}
-use Rattle.std.specs.Prelude.{zero, suc, Option, Some, None, ◌==◌}
+use Rattle.std.specs.Prelude.{zero, suc, Option, Some, None, ◌&&◌, ◌==◌}
 use Rattle.std.proofs.lemmas.Bool.{cases_Bool, false≢true}
 use Rattle.std.proofs.lemmas.List.{take_all}
 use Rattle.line_editor.specs.declared.actions.Action.{Action}
-use Rattle.line_editor.specs.declared.actions.Action.TheVariants.{Insert, Go, Erase, Kill, Yank, YankPop, Transpose, Undo, Redo, Older, Newer, Search, SearchForward}
+use Rattle.line_editor.specs.declared.actions.Action.TheVariants.{Insert, Go, Erase, Kill, Yank, YankPop, Transpose, Undo, Redo, Older, Newer, Search, SearchForward, CaseWord, TransposeWords, EraseBlanks, LastWord}
+use Rattle.line_editor.specs.declared.actions.Case.{Case}
 use Rattle.line_editor.specs.declared.last.Last.{Last}
 use Rattle.line_editor.specs.declared.last.Last.TheVariants.{Other}
 use Rattle.line_editor.specs.declared.limits.Limits.{Limits}
 use Rattle.line_editor.specs.declared.places.Target.{Target}
+use Rattle.line_editor.specs.declared.places.Stop.TheVariants.{WordEnd}
+use Rattle.line_editor.specs.declared.places.Target.TheVariants.{Forward}
 use Rattle.line_editor.specs.Splits.{Split, line_text}
-use Rattle.line_editor.specs.Edits.{cut_text, meeting}
+use Rattle.line_editor.specs.Edits.{cut_text, has_two_words, is_beside_blank, meeting}
 use Rattle.line_editor.specs.Laws.{ArePlain, CanBeUndone, IsPlain, KeepsHistory, RedoesUndone, undo_times}
 use Rattle.line_editor.specs.Shown.{is_shown}
-use Rattle.line_editor.specs.States.{EditorState, acted, after, before_yank, brought_to, erase_cut, found, found_line, found_newer, gone_to, kill_cut, last_after, line_at, newer_from, popped_to, pushed, redo_to, run_actions, searched_forward, searched_to, sought, transpose_at, type_char, after_typing, undo_to, write, yanked}
+use Rattle.line_editor.specs.States.{EditorState, acted, after, before_taken, before_yank, brought_to, case_cut, erase_blanks, erase_cut, found, found_line, found_newer, gone_to, is_empty, kill_cut, last_after, line_at, newer_from, next_word, popped_to, pushed, redo_to, run_actions, searched_forward, searched_to, sought, taken, taken_to, transpose_at, transpose_words, type_char, after_typing, undo_to, write, yanked}
 use Rattle.line_editor.proofs.Keeping.{keeps_text}
+use Rattle.line_editor.proofs.Wording.{blanks_history, case_history, taken_history, words_history}
 
 -- ---- history
 
@@ -82,6 +86,10 @@ keeps_history Older w = gone_history (w.back + 1) (line_at (w.back + 1) w) w
 keeps_history Newer w = newer_from_history w.back w
 keeps_history Search w = search_history (found w) w
 keeps_history SearchForward w = forward_history (sought w) w
+keeps_history (CaseWord case) w = case_history case (cut_text (Forward WordEnd) w.line) w
+keeps_history TransposeWords w = words_history w
+keeps_history EraseBlanks w = blanks_history w
+keeps_history LastWord w = taken_history (before_taken w) w
 
 -- ---- undo
 
@@ -198,6 +206,10 @@ leads-acted text past n w h Older f = absurd f
 leads-acted text past n w h Newer f = absurd f
 leads-acted text past n w h Search f = absurd f
 leads-acted text past n w h SearchForward f = absurd f
+leads-acted text past n w h (CaseWord case) f = leads-case text past n w h case (cut_text (Forward WordEnd) w.line)
+leads-acted text past n w h TransposeWords f = leads-words text past n w h
+leads-acted text past n w h EraseBlanks f = leads-blanks text past n w h
+leads-acted text past n w h LastWord f = leads-taken text past n w h (before_taken w)
 
 ends-last : (text : List ℕ) (extra : List Split) (w : EditorState) (last : Last) → EndsIn text extra w → EndsIn text extra (record w { last = last })
 ends-last text [] w last h = h

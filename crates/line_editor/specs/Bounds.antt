@@ -3,13 +3,18 @@ use Rattle.std.specs.Prelude.{◌≡◌, ⊤, ℕ, ◌-◌, nat_lt, Bool, false,
 use Rattle.std.specs.declared.io.ErrorKind.{ErrorKind}
 use Rattle.std.specs.declared.io.ErrorKind.TheVariants.{OutOfMemory, InvalidInput}
 use Rattle.line_editor.specs.declared.actions.Action.{Action}
-use Rattle.line_editor.specs.declared.actions.Action.TheVariants.{Insert, Yank, YankPop}
+use Rattle.line_editor.specs.declared.actions.Action.TheVariants.{CaseWord, Insert, LastWord, Yank, YankPop}
+use Rattle.line_editor.specs.declared.actions.Case.{Case}
 use Rattle.line_editor.specs.declared.fault.EditFault.{EditFault}
 use Rattle.line_editor.specs.declared.fault.EditFault.TheVariants.{Memory, TooLong}
+use Rattle.line_editor.specs.declared.places.Stop.TheVariants.{WordEnd}
+use Rattle.line_editor.specs.declared.places.Target.TheVariants.{Forward}
+use Rattle.line_editor.specs.Cases.{cased}
+use Rattle.line_editor.specs.Edits.{cut_text}
 use Rattle.line_editor.specs.Kills.{kill_at}
 use Rattle.line_editor.specs.Shown.{shown_part}
 use Rattle.line_editor.specs.Splits.{line_text}
-use Rattle.line_editor.specs.States.{EditorState, after, before_yank, next_yank, run_actions, yanked}
+use Rattle.line_editor.specs.States.{EditorState, after, before_taken, before_yank, next_word, next_yank, run_actions, taken, yanked}
 
 -- The number of bytes that a text has in UTF-8.
 abbrev pub size : List ℕ → ℕ
@@ -28,12 +33,24 @@ abbrev pub popped_more : Option (List ℕ) → EditorState → ℕ
 popped_more None w = 0
 popped_more (Some before) w = size (kill_at w.kills (next_yank w)) - size (yanked w)
 
+-- How many more bytes the line has with the next word in place of the one that was taken last.
+abbrev pub taken_more : Option (List ℕ) → EditorState → ℕ
+taken_more None w = 0
+taken_more (Some before) w = size (next_word w) - size (taken w)
+
+-- How many more bytes a text has in a case.
+abbrev pub cased_more : Case → List ℕ → ℕ
+cased_more case text = size (cased case text) - size text
+
 -- How many more bytes the line has after an action that writes, or 0. A typed character has none if it isn't shown. A
--- yank has those of its kill, and a turn of the ring what the next kill has more.
+-- yank has those of its kill, and a turn of the ring what the next kill has more. A word that takes another one's place
+-- has what it has more.
 abbrev pub more_by : Action → EditorState → ℕ
 more_by (Insert c) w = size (shown_part (c ∷ []))
 more_by Yank w = size (yanked w)
 more_by YankPop w = popped_more (before_yank w) w
+more_by (CaseWord case) w = cased_more case (cut_text (Forward WordEnd) w.line)
+more_by LastWord w = taken_more (before_taken w) w
 more_by action w = 0
 
 -- The fault with which so many more bytes are refused: `TooLong` if they have no room, otherwise `Memory`.

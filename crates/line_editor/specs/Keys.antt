@@ -6,7 +6,8 @@ use Rattle.crossterm_types.specs.declared.event.key.KeyCode.TheVariants as key
 use Rattle.crossterm_types.specs.declared.event.key.KeyEvent.{KeyEvent}
 use Rattle.crossterm_types.specs.declared.event.key.KeyEventKind.{KeyEventKind}
 use Rattle.crossterm_types.specs.declared.event.key.KeyEventKind.TheVariants.{Press, Repeat, Release}
-use Rattle.line_editor.specs.declared.actions.Action.TheVariants.{Insert, Go, Erase, Kill, Yank, YankPop, Transpose, Undo, Redo, Older, Newer, Search, SearchForward}
+use Rattle.line_editor.specs.declared.actions.Action.TheVariants.{Insert, Go, Erase, Kill, Yank, YankPop, Transpose, Undo, Redo, Older, Newer, Search, SearchForward, CaseWord, TransposeWords, EraseBlanks, LastWord}
+use Rattle.line_editor.specs.declared.actions.Case.TheVariants.{Upper, Lower, Title}
 use Rattle.line_editor.specs.declared.keys.KeyCommand.{KeyCommand}
 use Rattle.line_editor.specs.declared.keys.KeyCommand.TheVariants.{Act, Accept, Interrupt, EraseOrClose, Clear, SearchBack, SearchAhead, Abort, EndSearch}
 use Rattle.line_editor.specs.declared.places.Stop.TheVariants.{Cluster, WordStart, WordEnd, Blank, Edge}
@@ -43,9 +44,13 @@ control_rows =
     (110, Act Newer) ∷ (112, Act Older) ∷ (114, SearchBack) ∷ (115, SearchAhead) ∷ (116, Act Transpose) ∷ (117, Act (Kill (Back Edge))) ∷
     (119, Act (Kill (Back Blank))) ∷ (121, Act Yank) ∷ (95, Act Undo) ∷ (55, Act Undo) ∷ []
 
--- What letters with Alt ask for: to go back or forward by a word, to kill one, and to turn the ring of kills.
+-- What characters with Alt ask for: to go back or forward by a word, to kill one, and to turn the ring of kills. With c,
+-- l and u a word is brought into a case, and with t two are exchanged. The full stop, 46, takes the last word of an
+-- accepted line, and the backslash, 92, erases white space.
 abbrev pub alt_rows : List (ℕ × KeyCommand)
-alt_rows = (98, Act (Go (Back WordStart))) ∷ (100, Act (Kill (Forward WordEnd))) ∷ (102, Act (Go (Forward WordEnd))) ∷ (121, Act YankPop) ∷ []
+alt_rows = (98, Act (Go (Back WordStart))) ∷ (100, Act (Kill (Forward WordEnd))) ∷ (102, Act (Go (Forward WordEnd))) ∷ (121, Act YankPop) ∷
+    (99, Act (CaseWord Title)) ∷ (108, Act (CaseWord Lower)) ∷ (117, Act (CaseWord Upper)) ∷ (116, Act TransposeWords) ∷ (46, Act LastWord) ∷
+    (92, Act EraseBlanks) ∷ []
 
 -- What the underscore with Control and Alt asks for, and 7, which terminals report for it: redo.
 abbrev pub both_rows : List (ℕ × KeyCommand)

@@ -5,6 +5,7 @@ pub mod Edits
 pub mod Recent
 pub mod Kills
 pub mod Shown
+pub mod Cases
 pub mod States
 pub mod Bounds
 pub mod Seeking

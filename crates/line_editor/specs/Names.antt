@@ -7,7 +7,8 @@ use Rattle.std.specs.Str.{chars}
 use Rattle.crossterm_flags.specs.Values.{same}
 use Rattle.crossterm_flags.specs.Variants.{value_in}
 use Rattle.line_editor.specs.declared.actions.Action.{Action}
-use Rattle.line_editor.specs.declared.actions.Action.TheVariants.{Insert, Go, Erase, Kill, Yank, YankPop, Transpose, Undo, Redo, Older, Newer, Search, SearchForward}
+use Rattle.line_editor.specs.declared.actions.Action.TheVariants.{Insert, Go, Erase, Kill, Yank, YankPop, Transpose, Undo, Redo, Older, Newer, Search, SearchForward, CaseWord, TransposeWords, EraseBlanks, LastWord}
+use Rattle.line_editor.specs.declared.actions.Case.TheVariants.{Upper, Lower, Title}
 use Rattle.line_editor.specs.declared.places.Stop.TheVariants.{Cluster, WordStart, WordEnd, Blank, Edge}
 use Rattle.line_editor.specs.declared.places.Target.{Target}
 use Rattle.line_editor.specs.declared.places.Target.TheVariants.{Back, Forward}
@@ -46,6 +47,12 @@ action_name Older = codes "older"
 action_name Newer = codes "newer"
 action_name Search = codes "search"
 action_name SearchForward = codes "search-forward"
+action_name (CaseWord Upper) = codes "upcase-word"
+action_name (CaseWord Lower) = codes "downcase-word"
+action_name (CaseWord Title) = codes "capitalize-word"
+action_name TransposeWords = codes "transpose-words"
+action_name EraseBlanks = codes "erase-blanks"
+action_name LastWord = codes "last-word"
 
 -- ---- what reads as a name
 
@@ -61,7 +68,9 @@ target_rows =
 abbrev pub action_rows : List (List ℕ × Action)
 action_rows =
     (codes "yank", Yank) ∷ (codes "yank-pop", YankPop) ∷ (codes "transpose", Transpose) ∷ (codes "undo", Undo) ∷ (codes "redo", Redo) ∷ (codes "older", Older) ∷
-    (codes "newer", Newer) ∷ (codes "search", Search) ∷ (codes "search-forward", SearchForward) ∷ []
+    (codes "newer", Newer) ∷ (codes "search", Search) ∷ (codes "search-forward", SearchForward) ∷
+    (codes "upcase-word", CaseWord Upper) ∷ (codes "downcase-word", CaseWord Lower) ∷ (codes "capitalize-word", CaseWord Title) ∷
+    (codes "transpose-words", TransposeWords) ∷ (codes "erase-blanks", EraseBlanks) ∷ (codes "last-word", LastWord) ∷ []
 
 -- The character of a text that has exactly one, otherwise `None`.
 abbrev pub one_char : List ℕ → Option ℕ

@@ -1,5 +1,5 @@
 -- A line as two parts: what is before its cursor and what is from it on.
-use Rattle.std.specs.Prelude.{ℕ, List, [], ◌∷◌, ◌++◌, reverse, if◌then◌else◌}
+use Rattle.std.specs.Prelude.{ℕ, List, [], ◌∷◌, ◌++◌, length, reverse, encode_utf8_all, if◌then◌else◌}
 use Rattle.unicode_segmentation.specs.Segments.{Rule, chars_before, chars_from}
 
 -- A line, split at its cursor into the characters before it, nearest first, and those from it on.
@@ -10,6 +10,10 @@ pub record Split : Type 0 where
 -- The text of a line: both parts in reading order.
 abbrev pub line_text : Split → List ℕ
 line_text d = reverse d.before ++ d.after
+
+-- How many bytes of UTF-8 are before the cursor.
+abbrev pub bytes_before : Split → ℕ
+bytes_before d = length (encode_utf8_all (reverse d.before))
 
 -- A text in UTF-8, split at a byte offset.
 abbrev pub split_at : List ℕ → ℕ → Split

@@ -1,18 +1,21 @@
 -- The state of an editor, and how each action changes it.
-use Rattle.std.specs.Prelude.{⊤, ℕ, ◌+◌, ◌-◌, Bool, true, false, List, [], ◌∷◌, Option, Some, None, if◌then◌else◌, slice_get, drop, length, take, reverse, ◌==◌, ◌&&◌, ◌||◌}
+use Rattle.std.specs.Prelude.{⊤, ℕ, ◌+◌, ◌-◌, nat_lt, Bool, true, false, List, [], ◌∷◌, Option, Some, None, if◌then◌else◌, slice_get, drop, length, take, reverse, ◌==◌, ◌&&◌, ◌||◌}
 use Rattle.std.specs.Prelude.{zero, suc}
 use Rattle.std.specs.Option.{option_and_then, option_map}
 use Rattle.std.specs.Str.{bytes_eq}
 use Rattle.line_editor.specs.declared.actions.Action.{Action}
 use Rattle.line_editor.specs.declared.actions.Action.TheVariants as does
+use Rattle.line_editor.specs.declared.actions.Case.{Case}
 use Rattle.line_editor.specs.declared.last.Last.{Last}
-use Rattle.line_editor.specs.declared.last.Last.TheVariants.{Killed, Other, Walked, Yanked}
+use Rattle.line_editor.specs.declared.last.Last.TheVariants.{Killed, Other, Took, Walked, Yanked}
 use Rattle.line_editor.specs.declared.limits.Limits.{Limits}
-use Rattle.line_editor.specs.declared.places.Stop.TheVariants.{Edge}
+use Rattle.line_editor.specs.declared.places.Stop.TheVariants.{Edge, WordEnd}
 use Rattle.line_editor.specs.declared.places.Target.{Target}
 use Rattle.line_editor.specs.declared.places.Target.TheVariants.{Forward}
 use Rattle.line_editor.specs.Splits.{Split, line_text}
 use Rattle.line_editor.specs.Edits.{cut_text, empty_line, erased, inserted, line_with, meeting, settled, transposed}
+use Rattle.line_editor.specs.Edits.{has_two_words, is_beside_blank, last_word, without_blanks, words_transposed}
+use Rattle.line_editor.specs.Cases.{recased}
 use Rattle.line_editor.specs.Kills.{kill_at, kills_with, next_place}
 use Rattle.line_editor.specs.Places.{target_place}
 use Rattle.line_editor.specs.Shown.{is_shown, pasted_part}
@@ -341,6 +344,66 @@ dropped w = record (fresh w.limits) { kills = w.kills; yank_at = w.yank_at; hist
 abbrev pub accepted : EditorState → EditorState
 accepted w = record (dropped w) { history = remembered w.limits w.line (line_text w.line) w.history }
 
+-- ---- words
+
+-- The editor after the part from the cursor to the next end of a word is brought into a case. An empty part does
+-- nothing.
+abbrev pub case_cut : Case → List ℕ → EditorState → EditorState
+case_cut case [] w = w
+case_cut case (c ∷ text) w = changed (recased case w.line) w
+
+-- The editor with two words exchanged, if there are two.
+abbrev pub transpose_words : EditorState → EditorState
+transpose_words w = if has_two_words w.line then changed (words_transposed w.line) w else w
+
+-- The editor without the white space around its cursor, if there is any.
+abbrev pub erase_blanks : EditorState → EditorState
+erase_blanks w = if is_beside_blank w.line then changed (without_blanks w.line) w else w
+
+-- The last word of a line, or no text if there is no line.
+abbrev pub last_word_of : Option Split → List ℕ
+last_word_of None = []
+last_word_of (Some d) = last_word d
+
+-- The last word of the accepted line with so many newer ones, or no text if there is no such line.
+abbrev pub word_at : ℕ → EditorState → List ℕ
+word_at at w = last_word_of (slice_get w.history at)
+
+-- The word that the last action took from an accepted line, or no text if it took none.
+abbrev pub word_taken_by : Last → EditorState → List ℕ
+word_taken_by (Took at) w = word_at at w
+word_taken_by last w = []
+
+-- The word that was taken last, or no text.
+abbrev pub taken : EditorState → List ℕ
+taken w = word_taken_by w.last w
+
+-- How many lines are newer than the one of which the word is taken next. Each time it is one more, up to the place behind
+-- the oldest line. At first it is the line just older than the one that is shown.
+abbrev pub next_taken_by : Last → EditorState → ℕ
+next_taken_by (Took at) w = if nat_lt at (length w.history) then at + 1 else at
+next_taken_by last w = w.back
+
+-- The same of an editor.
+abbrev pub next_taken : EditorState → ℕ
+next_taken w = next_taken_by w.last w
+
+-- The word that is taken next.
+abbrev pub next_word : EditorState → List ℕ
+next_word w = word_at (next_taken w) w
+
+-- What is before the word that was taken last, nearest first, if the word is before the cursor. `None` otherwise.
+abbrev pub before_taken : EditorState → Option (List ℕ)
+before_taken w = behind_front (reverse (taken w)) w.line.before
+
+-- The editor with the next word in place of the one that was taken last, if it is known what is before that. If neither
+-- has a character, nothing happens.
+abbrev pub taken_to : Option (List ℕ) → EditorState → EditorState
+taken_to None w = w
+taken_to (Some before) w =
+    if is_empty (taken w) && is_empty (next_word w) then w
+    else changed (line_with (record { before = before; after = [] }) (next_word w) w.line) w
+
 -- ---- actions
 
 -- What an action makes of the editor, but for what it is to the next one.
@@ -358,6 +421,10 @@ acted does.Older w = gone_to (w.back + 1) (line_at (w.back + 1) w) w
 acted does.Newer w = newer_from w.back w
 acted does.Search w = searched_to (found w) w
 acted does.SearchForward w = searched_forward (sought w) w
+acted (does.CaseWord case) w = case_cut case (cut_text (Forward WordEnd) w.line) w
+acted does.TransposeWords w = transpose_words w
+acted does.EraseBlanks w = erase_blanks w
+acted does.LastWord w = taken_to (before_taken w) w
 
 -- The last action after something that only rings the bell. Kills go on side by side, and nothing else does.
 abbrev pub rung : Last → Last
@@ -376,6 +443,7 @@ last_after does.SearchForward w = if is_empty (sought w) then Walked else Other
 last_after does.Yank w = if is_empty (yanked w) then Other else Yanked
 last_after does.YankPop w = last_popped (before_yank w) w.last
 last_after (does.Kill target) w = if is_empty (cut_text target w.line) then Other else Killed
+last_after does.LastWord w = Took (next_taken w)
 last_after action w = Other
 
 -- The editor after an action.

@@ -1,5 +1,5 @@
 -- Words, and white space.
-use Rattle.std.specs.Prelude.{ℕ, Bool, false, not, ◌&&◌, ◌||◌, ◌==◌, List, [], ◌∷◌, Option, Some, None}
+use Rattle.std.specs.Prelude.{ℕ, Bool, false, not, ◌&&◌, ◌||◌, ◌==◌, List, [], ◌∷◌, if◌then◌else◌, Option, Some, None}
 use Rattle.std.specs.Char.{is_whitespace}
 use Rattle.std.specs.Char.Unicode.Alphabetic.{is_alphabetic}
 use Rattle.std.specs.Char.Unicode.Numeric.{is_numeric}
@@ -32,3 +32,13 @@ begins_with_word (c ∷ after) = is_of_word c
 abbrev pub begins_unblank : List ℕ → Bool
 begins_unblank [] = false
 begins_unblank (c ∷ chars) = not (is_whitespace c)
+
+-- Whether there is a first character, and it is white space.
+abbrev pub begins_blank : List ℕ → Bool
+begins_blank [] = false
+begins_blank (c ∷ chars) = is_whitespace c
+
+-- The characters without the white space at their beginning.
+abbrev pub unblanked : List ℕ → List ℕ
+unblanked [] = []
+unblanked (c ∷ chars) = if is_whitespace c then unblanked chars else c ∷ chars

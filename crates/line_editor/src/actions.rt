@@ -40,4 +40,25 @@ pub enum Action {
     Search,
     /// Shows the next newer one of these lines (`history-search-forward`). If nothing is before the cursor, it is as `Newer`.
     SearchForward,
+    /// Brings what is between the cursor and the next end of a word into a case, and the cursor behind it (`upcase-word`,
+    /// `downcase-word`, `capitalize-word`). A letter whose other case isn't one letter stays, as the German sharp s.
+    CaseWord(Case),
+    /// Exchanges the word that ends next behind the cursor with the word before it, and brings the cursor behind them (`transpose-words`).
+    TransposeWords,
+    /// Erases the white space around the cursor (`delete-horizontal-space`).
+    EraseBlanks,
+    /// Writes the last word of the accepted line before this one, words being what is between white space (`yank-last-arg`). Just behind
+    /// such a word it puts that of the next older line in its place, and behind the oldest line takes it out.
+    LastWord,
+}
+
+/// The case of a word.
+#[derive(Clone, Copy, PartialEq, Eq, Debug)]
+pub enum Case {
+    /// Capitals.
+    Upper,
+    /// Small letters.
+    Lower,
+    /// A capital for the first letter, and small letters behind it.
+    Title,
 }

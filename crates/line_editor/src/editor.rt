@@ -11,8 +11,8 @@ ghost use Rattle.line_editor.specs.History.{loaded, saved};
 ghost use Rattle.line_editor.specs.Kills.{kept_by, kill_text};
 ghost use Rattle.line_editor.specs.Places.{target_place};
 ghost use Rattle.line_editor.specs.Shown.{AreShown, pasted_part};
-ghost use Rattle.line_editor.specs.Splits.{line_text};
-ghost use Rattle.line_editor.specs.inside.Changes.{bytes_before, line_bytes};
+ghost use Rattle.line_editor.specs.Splits.{bytes_before, line_text};
+ghost use Rattle.line_editor.specs.inside.Changes.{line_bytes};
 ghost use Rattle.line_editor.specs.States.{IsMove, accepted, acted, after, before_yank, broken_off, dropped, erase_cut, fresh, is_ignored, kill_cut, last_after, last_popped, moved, next_yank, no_search, pasted_into, popped_to, redo_to, remembered, run_actions, transpose_at, type_char, after_typing, undo_to, write, yanked};
 
 use crate::actions::Action;
@@ -165,7 +165,7 @@ impl<A: Allocator> Editor<A> {
     {
         match self.last {
             Last::Yanked => self.draft.line().place_before(self.yanked()),
-            Last::Other | Last::Walked | Last::Killed | Last::Seeking(_) => None,
+            Last::Other | Last::Walked | Last::Killed | Last::Took(_) | Last::Seeking(_) => None,
         }
     }
 
@@ -190,6 +190,8 @@ impl<A: Allocator> Editor<A> {
             Action::Insert(c) => is_shown(c) && self.room() < c.len_utf8(),
             Action::Yank => self.room() < self.yanked().len(),
             Action::YankPop => self.room() < self.popped_more(),
+            Action::CaseWord(case) => (self.room() as u128) < self.cased_more(case),
+            Action::LastWord => self.room() < self.taken_more(),
             Action::Go(_)
             | Action::Erase(_)
             | Action::Kill(_)
@@ -199,7 +201,9 @@ impl<A: Allocator> Editor<A> {
             | Action::Older
             | Action::Newer
             | Action::Search
-            | Action::SearchForward => false,
+            | Action::SearchForward
+            | Action::TransposeWords
+            | Action::EraseBlanks => false,
         }
     }
 
@@ -317,6 +321,7 @@ impl<A: Allocator + Clone> Editor<A> {
             Last::Other => "",
             Last::Walked => "",
             Last::Yanked => "",
+            Last::Took(_) => "",
             Last::Seeking(_) => "",
         }
     }
@@ -434,6 +439,10 @@ impl<A: Allocator + Clone> Editor<A> {
             Action::Newer => self.newer(),
             Action::Search => self.search(),
             Action::SearchForward => self.search_forward(),
+            Action::CaseWord(case) => self.case_word(case),
+            Action::TransposeWords => self.transpose_words(),
+            Action::EraseBlanks => self.erase_blanks(),
+            Action::LastWord => self.take_word(),
         }
     }
 
@@ -457,6 +466,7 @@ impl<A: Allocator + Clone> Editor<A> {
             Action::Kill(target) if !is_nothing(self.draft.line().cut(target)) => Last::Killed,
             Action::Yank if !is_nothing(self.yanked()) => Last::Yanked,
             Action::YankPop => self.last_popped(),
+            Action::LastWord => Last::Took(self.next_taken()),
             _ => Last::Other,
         }
     }
@@ -481,7 +491,8 @@ impl<A: Allocator + Clone> Editor<A> {
     ///
     /// # Errors
     ///
-    /// `TooLong` if what is typed or yanked has no room in the line, and else `Memory` if memory was refused. Then nothing has changed.
+    /// `TooLong` if what is typed or yanked, or a word in another case, has no room in the line, and else `Memory` if memory was refused. Then
+    /// nothing has changed.
     ///
     /// ```
     /// editor.act(Action::Insert('x'))?;

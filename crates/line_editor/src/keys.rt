@@ -2,7 +2,7 @@
 ghost use Rattle.std.specs.Prelude.{◌≡◌};
 ghost use Rattle.line_editor.specs.Keys as spec;
 
-use crate::actions::Action;
+use crate::actions::{Action, Case};
 use crate::places::{Stop, Target};
 use crossterm_types::event::{KeyCode, KeyEvent, KeyEventKind};
 
@@ -105,6 +105,12 @@ fn alt_char(c: char) -> Option<KeyCommand>
         'd' => Action::Kill(Target::Forward(Stop::WordEnd)),
         'f' => Action::Go(Target::Forward(Stop::WordEnd)),
         'y' => Action::YankPop,
+        'c' => Action::CaseWord(Case::Title),
+        'l' => Action::CaseWord(Case::Lower),
+        'u' => Action::CaseWord(Case::Upper),
+        't' => Action::TransposeWords,
+        '.' => Action::LastWord,
+        '\\' => Action::EraseBlanks,
         _ => return None,
     };
     Some(KeyCommand::Act(action))
@@ -144,7 +150,10 @@ fn both(code: KeyCode) -> Option<KeyCommand>
 /// | Ctrl-K; Ctrl-U | `kill-line`, `unix-line-discard` |
 /// | Alt-D; Alt-Backspace; Ctrl-W | `kill-word`, `backward-kill-word`, `unix-word-rubout` |
 /// | Ctrl-Y; Alt-Y | `yank`, `yank-pop` |
-/// | Ctrl-T | `transpose-chars` |
+/// | Ctrl-T; Alt-T | `transpose-chars`, `transpose-words` |
+/// | Alt-U; Alt-L; Alt-C | `upcase-word`, `downcase-word`, `capitalize-word` |
+/// | Alt-\\ | `delete-horizontal-space` |
+/// | Alt-. | `yank-last-arg` |
 /// | Ctrl-_ | `undo` |
 /// | Up, Ctrl-P; Down, Ctrl-N | `previous-history`, `next-history` |
 /// | Ctrl-R; Ctrl-S | `reverse-search-history`, `forward-search-history` |
@@ -155,7 +164,7 @@ fn both(code: KeyCode) -> Option<KeyCommand>
 /// | Ctrl-C | an interrupt |
 /// | Ctrl-Alt-_ | a redo, which readline hasn't |
 ///
-/// These are 27 usual commands, of which bash binds 25 by default, and 85 in all. Terminals report Ctrl-_ as Ctrl-7, and both are bound. Shift makes no
+/// These are 33 usual commands, of which bash binds 31 by default, and 85 in all. Terminals report Ctrl-_ as Ctrl-7, and both are bound. Shift makes no
 /// difference but in the character, and large letters with Control or Alt are as small ones.
 ///
 /// What differs from readline:
@@ -171,6 +180,12 @@ fn both(code: KeyCode) -> Option<KeyCommand>
 /// | searches look for lines as they were accepted; one that was edited since is a change of its line | as they were edited |
 /// | Ctrl-_ takes back all characters that were typed side by side | 20 at a time |
 /// | Alt-Y is undone as one change | the yanked text is taken out and the other put in, one after the other |
+/// | Alt-. takes what is between white space | a word of the shell: one in quotes is whole, and `;`, `|`, `&`, `<` and `>` end one |
+/// | each Alt-. is undone as a change of its own | an undo takes the word out, however often another took its place |
+/// | Alt-\\ erases every white space | blanks and tabs alone |
+/// | a letter whose other case Unicode writes as several letters stays | a few of them, as İ and ᾳ, become the one letter that C has for them |
+/// | a letter behind a mark that has no letter before it is brought into a case too | it stays |
+/// | a blank with a mark on it ends no word for Ctrl-W and Alt-. | it does |
 /// | the last 60 kills are kept | the last 10 |
 /// | an incremental search goes from line to line, with the cursor at the end of what it finds | from match to match, with the cursor at its start |
 /// | it looks in the accepted lines alone | in the line too |

@@ -32,7 +32,7 @@ fn make_way<A: Allocator>(kills: &mut VecDeque<String<A>, A>, last: Last)
         Last::Killed => {
             let _ = kills.pop_front();
         }
-        Last::Other | Last::Walked | Last::Yanked | Last::Seeking(_) => {}
+        Last::Other | Last::Walked | Last::Yanked | Last::Took(_) | Last::Seeking(_) => {}
     }
 }
 

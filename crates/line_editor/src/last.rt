@@ -22,6 +22,8 @@ pub(crate) enum Last {
     Killed,
     /// A yank: the next turn of the ring puts another kill in its place.
     Yanked,
+    /// The last word of the line with so many newer ones was taken: the next time that of the next older line takes its place.
+    Took(usize),
     /// A key of an incremental search, which goes on.
     Seeking(Seek),
 }
@@ -32,6 +34,6 @@ pub(crate) fn rung(last: Last) -> Last
 {
     match last {
         Last::Killed => Last::Killed,
-        Last::Other | Last::Walked | Last::Yanked | Last::Seeking(_) => Last::Other,
+        Last::Other | Last::Walked | Last::Yanked | Last::Took(_) | Last::Seeking(_) => Last::Other,
     }
 }

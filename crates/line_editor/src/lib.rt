@@ -48,6 +48,7 @@
 //! | `Recent` | lists of lines, the newest first | |
 //! | `Kills` | the texts that were killed, and the ring in which they are yanked | |
 //! | `Shown` | the characters that a line has, and those of a paste | `Line::text`, `Editor::paste` |
+//! | `Cases` | words in capitals and in small letters | |
 //! | `States` | an editor's state, and what each action makes of it | `Editor` |
 //! | `Bounds` | which texts have room, and what is refused | `Editor::{act, run, paste}` |
 //! | `Seeking` | incremental searches | `Editor::{pattern, turn}` |
@@ -67,6 +68,7 @@
 #![tactic(auto)]
 
 mod actions;
+mod cases;
 mod changes;
 mod draft;
 mod editor;
@@ -89,8 +91,9 @@ mod shown;
 mod texts;
 mod turns;
 mod views;
+mod words;
 
-pub use actions::Action;
+pub use actions::{Action, Case};
 pub use editor::Editor;
 pub use fault::EditFault;
 pub use keys::{KeyCommand, command_of};

@@ -9,10 +9,10 @@ ghost use Rattle.line_editor.specs.Edits.{IsSettled, cut_text, empty_line, reach
 ghost use Rattle.line_editor.specs.Places.{target_place};
 ghost use Rattle.line_editor.specs.Seen.{IsInClusters, IsSeen};
 ghost use Rattle.line_editor.specs.Shown.{AreShown, is_shown};
-ghost use Rattle.line_editor.specs.Splits.{split_at, line_text};
+ghost use Rattle.line_editor.specs.Splits.{bytes_before, split_at, line_text};
 ghost use Rattle.line_editor.specs.States.{behind_front, found_line};
 ghost use Rattle.line_editor.specs.Views.{column, seen_text};
-ghost use Rattle.line_editor.specs.inside.Changes.{Fits, TakesBack, bytes_before, line_bytes, spliced};
+ghost use Rattle.line_editor.specs.inside.Changes.{Fits, TakesBack, line_bytes, spliced};
 
 use crate::changes::Change;
 use crate::places::{Stop, Target, ahead, place_of};
@@ -326,9 +326,7 @@ impl<A: Allocator> Line<A> {
         let to = end_seen(text, self.at, column, room);
         (&text[from..to], column)
     }
-}
 
-impl<A: Allocator + Clone> Line<A> {
     /// The text that a target reaches.
     ///
     /// ```
@@ -342,7 +340,9 @@ impl<A: Allocator + Clone> Line<A> {
         let (from, to) = reach(text, self.at, target);
         &text[from..to]
     }
+}
 
+impl<A: Allocator + Clone> Line<A> {
     /// The same line once more.
     ///
     /// # Errors

@@ -111,7 +111,7 @@ impl<A: Allocator + Clone> Editor<A> {
     {
         match self.last {
             Last::Walked => "",
-            Last::Other | Last::Killed | Last::Yanked | Last::Seeking(_) => {
+            Last::Other | Last::Killed | Last::Yanked | Last::Took(_) | Last::Seeking(_) => {
                 self.draft.line().before()
             }
         }

@@ -4,7 +4,7 @@ ghost use Rattle.std.specs.Str.{chars};
 ghost use Rattle.crossterm_flags.specs.Variants.{value_in};
 ghost use Rattle.line_editor.specs.Names as spec;
 
-use crate::actions::Action;
+use crate::actions::{Action, Case};
 use crate::places::{Stop, Target};
 use crate::texts::{is_nothing, split_first};
 use std::fmt;
@@ -47,6 +47,12 @@ impl fmt::Display for Action {
             Action::Newer => write!(f, "newer"),
             Action::Search => write!(f, "search"),
             Action::SearchForward => write!(f, "search-forward"),
+            Action::CaseWord(Case::Upper) => write!(f, "upcase-word"),
+            Action::CaseWord(Case::Lower) => write!(f, "downcase-word"),
+            Action::CaseWord(Case::Title) => write!(f, "capitalize-word"),
+            Action::TransposeWords => write!(f, "transpose-words"),
+            Action::EraseBlanks => write!(f, "erase-blanks"),
+            Action::LastWord => write!(f, "last-word"),
         }
     }
 }
@@ -84,6 +90,12 @@ fn word_named(name: &str) -> Option<Action>
         "newer" => Some(Action::Newer),
         "search" => Some(Action::Search),
         "search-forward" => Some(Action::SearchForward),
+        "upcase-word" => Some(Action::CaseWord(Case::Upper)),
+        "downcase-word" => Some(Action::CaseWord(Case::Lower)),
+        "capitalize-word" => Some(Action::CaseWord(Case::Title)),
+        "transpose-words" => Some(Action::TransposeWords),
+        "erase-blanks" => Some(Action::EraseBlanks),
+        "last-word" => Some(Action::LastWord),
         _ => None,
     }
 }
@@ -128,7 +140,8 @@ impl Action {
     /// |---|---|
     /// | `insert-x`, `insert-space` | typing of a character |
     /// | `go-`, `erase-` or `kill-`, and a target's name | moves, erasures and kills |
-    /// | `yank`, `yank-pop`, `transpose`, `undo`, `redo`, `older`, `newer`, `search`, `search-forward` | the others |
+    /// | `upcase-word`, `downcase-word`, `capitalize-word` | words in another case |
+    /// | `yank`, `yank-pop`, `transpose`, `undo`, `redo`, `older`, `newer`, `search`, `search-forward`, `transpose-words`, `erase-blanks`, `last-word` | the others |
     ///
     /// Targets are `char-back`, `char-forward`, `word-back`, `word-forward`, `word-end-back`, `word-start-forward`, `blank-back`,
     /// `blank-forward`, `line-start` and `line-end`.

@@ -5,7 +5,7 @@ ghost use Rattle.unicode_segmentation.specs.Segments.{breaks_at, chars_before, c
 ghost use Rattle.unicode_segmentation.specs.Steps.{IsCharAt, IsOneChar};
 ghost use Rattle.line_editor.specs.Places.{IsBack, IsForward, is_between, target_place, stops};
 ghost use Rattle.line_editor.specs.Splits.{ahead, last_stop, split_at};
-ghost use Rattle.line_editor.specs.Words.{begins_unblank, begins_with_word, ends_in_word, takes_no_column};
+ghost use Rattle.line_editor.specs.Words.{begins_blank, begins_unblank, begins_with_word, ends_in_word, takes_no_column, unblanked};
 
 use crate::texts::split_last;
 use unicode_segmentation::GraphemeCursor;
@@ -93,6 +93,26 @@ fn ends_unblank(text: &str) -> bool
     match split_last(text) {
         None => false,
         Some((c, _)) => !c.is_whitespace(),
+    }
+}
+
+/// Whether a text begins with white space.
+pub(crate) fn begins_blank(text: &str) -> bool
+    ensures { result ≡ begins_blank (chars text.now) }
+{
+    match text.chars().next() {
+        None => false,
+        Some(c) => c.is_whitespace(),
+    }
+}
+
+/// Whether a text ends in white space.
+pub(crate) fn ends_blank(text: &str) -> bool
+    ensures { result ≡ begins_blank (reverse (chars text.now)) }
+{
+    match split_last(text) {
+        None => false,
+        Some((c, _)) => c.is_whitespace(),
     }
 }
 
@@ -245,4 +265,40 @@ pub(crate) fn place_of(text: &str, at: usize, target: Target) -> usize
             ahead(text, end_of_char(text, at), stop)
         }
     }
+}
+
+/// The start of the white space before a place.
+pub(crate) fn unblanked_before(text: &str, at: usize) -> usize
+    requires { IsCharBoundary text.now at }
+    ensures boundary { IsCharBoundary text.now result }
+    ensures back { result ≤ at }
+    ensures rest { chars_before text.now result ≡ unblanked (chars_before text.now at) }
+{
+    let mut place = at;
+    while place > 0 {
+        let (start, c) = char_before(text, place);
+        if !c.is_whitespace() {
+            return place;
+        }
+        place = start;
+    }
+    place
+}
+
+/// The end of the white space at a place.
+pub(crate) fn unblanked_behind(text: &str, at: usize) -> usize
+    requires { IsCharBoundary text.now at }
+    ensures boundary { IsCharBoundary text.now result }
+    ensures on { at ≤ result }
+    ensures rest { chars_from text.now result ≡ unblanked (chars_from text.now at) }
+{
+    let mut place = at;
+    while place < text.len() {
+        let (c, end) = char_after(text, place);
+        if !c.is_whitespace() {
+            return place;
+        }
+        place = end;
+    }
+    place
 }

@@ -2,12 +2,14 @@
 ghost use Rattle.std.specs.Prelude.{◌≡◌, [], ◌∷◌, IfOk, IfSome, OnOk, OnErr, drop, length, slice_get, take};
 ghost use Rattle.std.specs.Option.{option_map};
 ghost use Rattle.std.specs.Str.{chars};
+ghost use Rattle.line_editor.specs.Edits.{last_word};
 ghost use Rattle.line_editor.specs.Seeking.{first_number, is_wanted, last_number, wanted};
 ghost use Rattle.line_editor.specs.Shown.{AreShown};
 ghost use Rattle.line_editor.specs.Splits.{line_text};
-ghost use Rattle.line_editor.specs.States.{first_with, is_newest, last_with};
+ghost use Rattle.line_editor.specs.States.{first_with, is_newest, last_with, last_word_of};
 
 use crate::lines::Line;
+use crate::places::{Stop, Target, unblanked_before};
 use crate::texts::{is_same, is_wanted, other_rest};
 use std::alloc::{AllocError, Allocator, Global};
 use std::collections::VecDeque;
@@ -26,6 +28,16 @@ impl<A: Allocator> Model for RecentLines<A> {
     ghost Value = { List Split };
 
     ghost view = { λ r. r.lines.items };
+}
+
+/// The last word between white space of a line whose cursor is at its end.
+fn last_word<A: Allocator>(line: &Line<A>) -> &str
+    ensures text { chars result.now ≡ last_word line.now }
+    ensures shown { AreShown (chars result.now) }
+{
+    let text = line.cut(Target::Back(Stop::Blank));
+    let end = unblanked_before(text, text.len());
+    &text[0..end]
 }
 
 impl<A: Allocator> RecentLines<A> {
@@ -84,6 +96,17 @@ impl<A: Allocator> RecentLines<A> {
         match self.lines.get(at) {
             None => None,
             Some(line) => Some(line.text()),
+        }
+    }
+
+    /// The last word between white space of the line with so many newer ones, or no text if there is no such line.
+    pub(crate) fn last_word(&self, at: usize) -> &str
+        ensures text { chars result.now ≡ last_word_of (slice_get self.now at) }
+        ensures shown { AreShown (chars result.now) }
+    {
+        match self.lines.get(at) {
+            None => "",
+            Some(line) => last_word(line),
         }
     }
 

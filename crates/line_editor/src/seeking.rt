@@ -46,7 +46,7 @@ fn is_seeking(last: Last) -> bool
 {
     match last {
         Last::Seeking(_) => true,
-        Last::Other | Last::Walked | Last::Killed | Last::Yanked => false,
+        Last::Other | Last::Walked | Last::Killed | Last::Yanked | Last::Took(_) => false,
     }
 }
 
@@ -56,7 +56,7 @@ fn is_ahead(last: Last) -> bool
 {
     match last {
         Last::Seeking(seek) => seek.ahead,
-        Last::Other | Last::Walked | Last::Killed | Last::Yanked => false,
+        Last::Other | Last::Walked | Last::Killed | Last::Yanked | Last::Took(_) => false,
     }
 }
 
@@ -66,7 +66,7 @@ fn has_found(last: Last) -> bool
 {
     match last {
         Last::Seeking(seek) => seek.found,
-        Last::Other | Last::Walked | Last::Killed | Last::Yanked => false,
+        Last::Other | Last::Walked | Last::Killed | Last::Yanked | Last::Took(_) => false,
     }
 }
 

@@ -1,10 +1,9 @@
 -- The changes that lead from a line to the lines before it, and back.
-use Rattle.std.specs.Prelude.{◌≡◌, ⊤, ℕ, ◌≤◌, Bool, true, false, List, [], ◌∷◌, ◌++◌, drop, encode_utf8_all, if◌then◌else◌, reverse, slice_range, take}
+use Rattle.std.specs.Prelude.{◌≡◌, ⊤, ℕ, ◌≤◌, Bool, true, false, List, [], ◌∷◌, ◌++◌, drop, encode_utf8_all, if◌then◌else◌, slice_range, take}
 use Rattle.std.specs.Str.{chars, IsCharBoundary, IsUtf8}
-use Rattle.line_editor.specs.Bounds.{size}
 use Rattle.line_editor.specs.Edits.{IsSettled}
 use Rattle.line_editor.specs.Shown.{AreShown}
-use Rattle.line_editor.specs.Splits.{Split, line_text, split_at}
+use Rattle.line_editor.specs.Splits.{Split, bytes_before, line_text, split_at}
 use Rattle.line_editor.specs.States.{DraftState}
 
 -- What turns a text into another one, in bytes of UTF-8: `text` in place of what is between two places. The cursor is at `at` then.
@@ -18,12 +17,9 @@ pub record Splice : Type 0 where
 abbrev pub spliced : Splice → List ℕ → List ℕ
 spliced c text = (take c.from text ++ c.text) ++ drop c.to text
 
--- The bytes of a line's text, and how many of them are before its cursor.
+-- The bytes of a line's text.
 abbrev pub line_bytes : Split → List ℕ
 line_bytes d = encode_utf8_all (line_text d)
-
-abbrev pub bytes_before : Split → ℕ
-bytes_before d = size (reverse d.before)
 
 -- The lines to which splices lead from a text, one after another.
 abbrev pub lines_by : List ℕ → List Splice → List Split

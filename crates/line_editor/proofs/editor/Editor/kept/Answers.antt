@@ -1,7 +1,7 @@
 use Rattle.std.proofs.Common.{◌∙◌, refl, sym, ap}
 use Rattle.std.proofs.lemmas.Str.{chars-nil}
 use Rattle.line_editor.specs.States.{EditorState}
-use Rattle.line_editor.proofs.Searching.{kept-other, kept-seeking, kept-walked, kept-yanked}
+use Rattle.line_editor.proofs.Searching.{kept-other, kept-seeking, kept-took, kept-walked, kept-yanked}
 use Rattle.line_editor.proofs.Showing.{shown-nothing}
 use Rattle.line_editor.proofs.editor.Editor.kept.Goals as goal
 
@@ -22,6 +22,12 @@ returns-in-Yanked-clause-text g c = chars-nil ∙ kept-yanked c.args.self.now (a
 
 pub returns-in-Yanked-clause-shown : goal.returns-in-Yanked-clause-shown
 returns-in-Yanked-clause-shown g c = shown-nothing _ refl
+
+pub returns-in-Took-clause-text : goal.returns-in-Took-clause-text
+returns-in-Took-clause-text g c = chars-nil ∙ kept-took c.args.self.now _ (ap (λ (w : EditorState). w.last) (sym c.self.view_is) ∙ c.in-Took.is)
+
+pub returns-in-Took-clause-shown : goal.returns-in-Took-clause-shown
+returns-in-Took-clause-shown g c = shown-nothing _ refl
 
 pub returns-in-Seeking-clause-text : goal.returns-in-Seeking-clause-text
 returns-in-Seeking-clause-text g c = chars-nil ∙ kept-seeking c.args.self.now _ (ap (λ (w : EditorState). w.last) (sym c.self.view_is) ∙ c.in-Seeking.is)

@@ -1,9 +1,9 @@
 use Rattle.std.proofs.Common.{◌≡◌, ◌≤◌, ◌∙◌, Some, ap, sym, subst, arith}
 use Rattle.std.specs.Str.{chars, IsCharBoundary}
 use Rattle.line_editor.specs.Kills.{kill_at}
-use Rattle.line_editor.specs.Splits.{Split, split_at}
+use Rattle.line_editor.specs.Splits.{Split, bytes_before, split_at}
 use Rattle.line_editor.specs.States.{EditorState}
-use Rattle.line_editor.specs.inside.Changes.{bytes_before, line_bytes}
+use Rattle.line_editor.specs.inside.Changes.{line_bytes}
 use Rattle.line_editor.proofs.Acting.{changed_as, pop_some}
 use Rattle.line_editor.proofs.editor.Editor.yank_pop.Goals as goal
 
