@@ -52,9 +52,6 @@ module _ (case : Case) (w : EditorState) (d : Split) (word : List ℕ) (same : w
   is_cut : word ≡ cut_text (Forward WordEnd) w.line
   is_cut = e ∙ ap (cut_text (Forward WordEnd)) (sym same)
 
-  pub case_none : word ≡ [] → w ≡ case_cut case (cut_text (Forward WordEnd) w.line) w
-  case_none none = sym (ap (λ t. case_cut case t w) (sym is_cut ∙ none))
-
   pub case_some : (c : ℕ) (rest : List ℕ) → word ≡ c ∷ rest → (line : Split) → line ≡ line_with d (cased case word) (target_place (Forward WordEnd) d)
       → changed line w ≡ case_cut case (cut_text (Forward WordEnd) w.line) w
   case_some c rest some line f =

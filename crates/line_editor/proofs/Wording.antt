@@ -23,7 +23,7 @@ use Rattle.line_editor.specs.Edits.{cut_text, first_end, first_start, from_to, h
 use Rattle.line_editor.specs.Places.{target_place}
 use Rattle.line_editor.specs.Shown.{AreShown}
 use Rattle.line_editor.specs.Splits.{Split, bytes_before, line_text, split_at}
-use Rattle.line_editor.specs.States.{EditorState, before_taken, case_cut, changed, erase_blanks, is_empty, last_word_of, next_word, taken, taken_to, transpose_words, word_taken_by}
+use Rattle.line_editor.specs.States.{EditorState, case_cut, changed, erase_blanks, is_empty, last_word_of, next_word, taken, taken_to, transpose_words, word_taken_by}
 use Rattle.line_editor.specs.Words.{unblanked}
 use Rattle.line_editor.specs.inside.Changes.{line_bytes}
 use Rattle.line_editor.proofs.Casing.{cased-shown}
@@ -274,16 +274,6 @@ taken-none last w (inr (inl is)) = rw is refl
 taken-none last w (inr (inr (inl is))) = rw is refl
 taken-none last w (inr (inr (inr (inl is)))) = rw is refl
 taken-none last w (inr (inr (inr (inr is)))) = rw is.1 refl
-
--- A word in place of the one that was taken last.
-pub take_nothing : (w : EditorState) (before : List ℕ) → before_taken w ≡ Some before → (is_empty (taken w) && is_empty (next_word w)) ≡ true → w ≡ taken_to (before_taken w) w
-take_nothing w before some none = sym (ap (λ o. taken_to o w) some ∙ (rw none refl))
-
-pub take_some : (w v : EditorState) (p q : Split) (text : List ℕ) → before_taken w ≡ Some p.before → q ≡ w.line → text ≡ next_word w
-    → (is_empty (taken w) && is_empty (next_word w)) ≡ false → v ≡ changed (line_with p text q) w → v ≡ taken_to (before_taken w) w
-take_some w v p q text before line word some g =
-    g ∙ ap (λ (l : Split). changed (line_with p text l) w) line ∙ ap (λ t. changed (line_with p t w.line) w) word
-    ∙ sym (ap (λ o. taken_to o w) before ∙ (rw some refl))
 
 -- ---- the history stays
 

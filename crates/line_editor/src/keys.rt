@@ -180,10 +180,10 @@ fn both(code: KeyCode) -> Option<KeyCommand>
 /// | searches look for lines as they were accepted; one that was edited since is a change of its line | as they were edited |
 /// | Ctrl-_ takes back all characters that were typed side by side | 20 at a time |
 /// | Alt-Y is undone as one change | the yanked text is taken out and the other put in, one after the other |
-/// | Alt-. takes what is between white space | a word of the shell: one in quotes is whole, and `;`, `|`, `&`, `<` and `>` end one |
+/// | Alt-. takes what is between white space | a word of the shell: one in quotes is whole, and a semicolon or a bar ends one |
 /// | each Alt-. is undone as a change of its own | an undo takes the word out, however often another took its place |
 /// | Alt-\\ erases every white space | blanks and tabs alone |
-/// | a letter whose other case Unicode writes as several letters stays | a few of them, as İ and ᾳ, become the one letter that C has for them |
+/// | a letter whose other case is several characters in Unicode stays | a few of them, as İ and ᾳ, become the one letter that C has for them |
 /// | a letter behind a mark that has no letter before it is brought into a case too | it stays |
 /// | a blank with a mark on it ends no word for Ctrl-W and Alt-. | it does |
 /// | the last 60 kills are kept | the last 10 |

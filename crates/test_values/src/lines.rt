@@ -5,7 +5,7 @@ mod readline;
 mod rustyline;
 
 use crossterm_types::event::{Event, KeyCode, KeyEvent, KeyModifiers};
-use line_editor::{Action, EditFault, Editor, Limits, Line, Outcome, Stop, Target};
+use line_editor::{Action, Case, EditFault, Editor, Limits, Line, Outcome, Stop, Target};
 use linked_list_allocator::LocalHeap;
 use readline::SCRIPTS;
 use rustyline::EDITS;
@@ -31,7 +31,7 @@ const CONTROL: KeyModifiers = KeyModifiers::CONTROL;
 const ALT: KeyModifiers = KeyModifiers::ALT;
 
 /// Commands by their default keys. The history has `first line`, and after it `second line`.
-static ROWS: [Row; 40] = [
+static ROWS: [Row; 46] = [
     Row {
         command: "self-insert",
         line: "o|e",
@@ -309,6 +309,42 @@ static ROWS: [Row; 40] = [
         after: "a b |",
     },
     Row {
+        command: "upcase-word",
+        line: "o|ne two",
+        keys: &[(KeyCode::Char('u'), ALT)],
+        after: "oNE| two",
+    },
+    Row {
+        command: "downcase-word",
+        line: "O|NE TWO",
+        keys: &[(KeyCode::Char('l'), ALT)],
+        after: "One| TWO",
+    },
+    Row {
+        command: "capitalize-word",
+        line: "one| tWO",
+        keys: &[(KeyCode::Char('c'), ALT)],
+        after: "one Two|",
+    },
+    Row {
+        command: "transpose-words",
+        line: "one, t|wo",
+        keys: &[(KeyCode::Char('t'), ALT)],
+        after: "two, one|",
+    },
+    Row {
+        command: "delete-horizontal-space",
+        line: "a | b",
+        keys: &[(KeyCode::Char('\\'), ALT)],
+        after: "a|b",
+    },
+    Row {
+        command: "yank-last-arg",
+        line: "a|",
+        keys: &[(KeyCode::Char('.'), ALT)],
+        after: "aline|",
+    },
+    Row {
         command: "not bound",
         line: "one|",
         keys: &[
@@ -564,7 +600,7 @@ fn edits_give_the_lines_of_rustyline(rt: HostRuntime) {
 }
 
 /// All actions that may need memory, in an order in which each has something to do.
-static ACTIONS: [Action; 18] = [
+static ACTIONS: [Action; 27] = [
     Action::Older,
     Action::Newer,
     Action::Insert('o'),
@@ -583,6 +619,15 @@ static ACTIONS: [Action; 18] = [
     Action::Search,
     Action::SearchForward,
     Action::Kill(Target::Forward(Stop::Edge)),
+    Action::LastWord,
+    Action::LastWord,
+    Action::Yank,
+    Action::Insert(' '),
+    Action::Yank,
+    Action::TransposeWords,
+    Action::Go(Target::Back(Stop::Edge)),
+    Action::CaseWord(Case::Upper),
+    Action::EraseBlanks,
 ];
 
 /// The keys of incremental searches, in an order in which each has something to do.
