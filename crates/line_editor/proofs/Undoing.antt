@@ -191,6 +191,21 @@ module _ (text : List ℕ) (past : List Split) (n : ℕ) (w : EditorState) (h : 
   leads-transpose [] = leads-none
   leads-transpose (c ∷ before) = leads-changed _ refl refl
 
+  leads-case : (case : Case) (piece : List ℕ) → Leads text past n (case_cut case piece w)
+  leads-case case [] = leads-none
+  leads-case case (c ∷ piece) = leads-changed _ refl refl
+
+  leads-words : Leads text past n (transpose_words w)
+  leads-words = elim (cases_Bool (has_two_words w.line)) [ inl two ↦ rw two (leads-changed _ refl refl) | inr none ↦ rw none leads-none ]
+
+  leads-blanks : Leads text past n (erase_blanks w)
+  leads-blanks = elim (cases_Bool (is_beside_blank w.line)) [ inl some ↦ rw some (leads-changed _ refl refl) | inr none ↦ rw none leads-none ]
+
+  leads-taken : (o : Option (List ℕ)) → Leads text past n (taken_to o w)
+  leads-taken None = leads-none
+  leads-taken (Some before) =
+      elim (cases_Bool (is_empty (taken w) && is_empty (next_word w))) [ inl none ↦ rw none leads-none | inr some ↦ rw some (leads-changed _ refl refl) ]
+
 leads-acted : (text : List ℕ) (past : List Split) (n : ℕ) (w : EditorState) → Leads text past (suc n) w → (action : Action) → IsPlain action
     → Leads text past n (acted action w)
 leads-acted text past n w h (Insert c) f = leads-type text past n w h c
