@@ -14,7 +14,7 @@ use Rattle.line_editor.specs.declared.places.Stop.TheVariants.{WordEnd}
 use Rattle.line_editor.specs.declared.places.Target.TheVariants.{Forward}
 use Rattle.line_editor.specs.Splits.{Split, line_text}
 use Rattle.line_editor.specs.Edits.{cut_text, has_two_words, is_beside_blank, meeting}
-use Rattle.line_editor.specs.Laws.{ArePlain, CanBeUndone, IsPlain, KeepsHistory, RedoesUndone, undo_times}
+use Rattle.line_editor.specs.Laws.{ArePlain, CanBeUndone, IsOfLine, KeepsHistory, RedoesUndone, undo_times}
 use Rattle.line_editor.specs.Shown.{is_shown}
 use Rattle.line_editor.specs.States.{EditorState, acted, after, before_taken, before_yank, brought_to, case_cut, erase_blanks, erase_cut, found, found_line, found_newer, gone_to, is_empty, kill_cut, last_after, line_at, newer_from, next_word, popped_to, pushed, redo_to, run_actions, searched_forward, searched_to, sought, taken, taken_to, transpose_at, transpose_words, type_char, after_typing, undo_to, write, yanked}
 use Rattle.line_editor.proofs.Keeping.{keeps_text}
@@ -206,7 +206,7 @@ module _ (text : List ℕ) (past : List Split) (n : ℕ) (w : EditorState) (h : 
   leads-taken (Some before) =
       elim (cases_Bool (is_empty (taken w) && is_empty (next_word w))) [ inl none ↦ rw none leads-none | inr some ↦ rw some (leads-changed _ refl refl) ]
 
-leads-acted : (text : List ℕ) (past : List Split) (n : ℕ) (w : EditorState) → Leads text past (suc n) w → (action : Action) → IsPlain action
+leads-acted : (text : List ℕ) (past : List Split) (n : ℕ) (w : EditorState) → Leads text past (suc n) w → (action : Action) → IsOfLine action
     → Leads text past n (acted action w)
 leads-acted text past n w h (Insert c) f = leads-type text past n w h c
 leads-acted text past n w h (Go target) f = leads-same text past n w h _ refl refl (keeps_text target w.line) refl
@@ -235,7 +235,7 @@ ends-last text (d ∷ x ∷ extra) w last h = ends-last text (x ∷ extra) w las
 leads-last : (text : List ℕ) (past : List Split) (n : ℕ) (w : EditorState) (last : Last) → Leads text past n w → Leads text past n (record w { last = last })
 leads-last text past n w last h = record { extra = h.extra; lines = h.lines; ends = ends-last text h.extra w last h.ends; room = h.room }
 
-pub leads-after : (text : List ℕ) (past : List Split) (n : ℕ) (w : EditorState) → Leads text past (suc n) w → (action : Action) → IsPlain action
+pub leads-after : (text : List ℕ) (past : List Split) (n : ℕ) (w : EditorState) → Leads text past (suc n) w → (action : Action) → IsOfLine action
     → Leads text past n (after action w)
 leads-after text past n w h action f = leads-last text past n (acted action w) (last_after action w) (leads-acted text past n w h action f)
 

@@ -61,27 +61,27 @@ ComesBack n w = w.back + n ≤ length w.history → IsBackAt w (newer_times n (o
 
 -- ---- undo
 
--- An action is plain if it is neither undo nor redo, and doesn't go to another line, which has its own changes.
-abbrev pub IsPlain : Action → Type 0
-IsPlain Undo = ⊥
-IsPlain Redo = ⊥
-IsPlain Older = ⊥
-IsPlain Newer = ⊥
-IsPlain Search = ⊥
-IsPlain SearchForward = ⊥
-IsPlain action = ⊤
+-- An action is one of the line if it is neither undo nor redo, and doesn't go to another line, which has its own changes.
+abbrev pub IsOfLine : Action → Type 0
+IsOfLine Undo = ⊥
+IsOfLine Redo = ⊥
+IsOfLine Older = ⊥
+IsOfLine Newer = ⊥
+IsOfLine Search = ⊥
+IsOfLine SearchForward = ⊥
+IsOfLine action = ⊤
 
--- Each action is plain.
+-- Each action is one of the line.
 abbrev pub ArePlain : List Action → Type 0
 ArePlain [] = ⊤
-ArePlain (a ∷ actions) = IsPlain a × ArePlain actions
+ArePlain (a ∷ actions) = IsOfLine a × ArePlain actions
 
 -- The editor after `n` undos.
 abbrev pub undo_times : ℕ → EditorState → EditorState
 undo_times zero w = w
 undo_times (suc n) w = undo_times n (after Undo w)
 
--- After plain actions, for which there are steps enough, some number of undos gives back the text and all that could
+-- After such actions, for which there are steps enough, some number of undos gives back the text and all that could
 -- be undone before.
 -- No character may have been typed just before these actions.
 abbrev pub CanBeUndone : List Action → EditorState → Type 0
