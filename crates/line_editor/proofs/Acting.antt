@@ -6,22 +6,15 @@ use Rattle.line_editor.specs.Splits.{Split}
 use Rattle.line_editor.specs.Edits.{cut_text, empty_line, erased, inserted, line_with, meeting, transposed}
 use Rattle.line_editor.specs.Kills.{kill_at, kills_with}
 use Rattle.line_editor.specs.Shown.{is_shown}
-use Rattle.line_editor.specs.States.{EditorState, changed, before_yank, erase_cut, fresh, kill_cut, next_yank, popped_to, redo_to, transpose_at, type_char, after_typing, undo_to, write}
-use Rattle.line_editor.specs.inside.Changes.{DraftState, draft_changed, draft_redone, draft_typed, draft_undone}
+use Rattle.line_editor.specs.States.{DraftState, EditorState, LeftLine, changed, before_yank, draft_changed, draft_of, erase_cut, fresh, kill_cut, next_yank, popped_to, redo_to, transpose_at, type_char, after_typing, undo_to, with_draft, write}
+use Rattle.line_editor.specs.inside.Changes.{draft_redone, draft_typed, draft_undone}
 use Rattle.line_editor.specs.declared.limits.Limits.{Limits}
 
--- An editor's line with its changes.
-abbrev pub draft_of : EditorState → DraftState
-draft_of w = record { line = w.line; past = w.past; undone = w.undone; typing = w.typing }
-
-abbrev pub with_draft : DraftState → EditorState → EditorState
-with_draft d w = record w { line = d.line; past = d.past; undone = d.undone; typing = d.typing }
-
-pub fresh_of : (limits : Limits) (d : DraftState) (line unfinished pattern began : Split) (kills : List (List ℕ)) (history : List Split)
-    → d ≡ record { line = line; past = []; undone = []; typing = false } → line ≡ empty_line → unfinished ≡ empty_line → pattern ≡ empty_line → began ≡ empty_line → kills ≡ [] → history ≡ []
-    → record { limits = limits; line = d.line; kills = kills; yank_at = 0; past = d.past; undone = d.undone; history = history; back = 0; unfinished = unfinished; search = record { pattern = pattern; line = began; back = 0 }; typing = d.typing; last = Other }
+pub fresh_of : (limits : Limits) (d : DraftState) (line pattern began : Split) (kills : List (List ℕ)) (history : List Split) (left : List LeftLine)
+    → d ≡ record { line = line; past = []; undone = []; typing = false } → line ≡ empty_line → pattern ≡ empty_line → began ≡ empty_line → kills ≡ [] → history ≡ [] → left ≡ []
+    → record { limits = limits; line = d.line; kills = kills; yank_at = 0; past = d.past; undone = d.undone; history = history; back = 0; left = left; search = record { pattern = pattern; line = began; back = 0 }; typing = d.typing; last = Other }
     ≡ fresh limits
-fresh_of limits d line unfinished pattern began kills history e a b p q c f = rw (e, a, b, p, q, c, f) refl
+fresh_of limits d line pattern began kills history left e a p q c f l = rw (e, a, p, q, c, f, l) refl
 
 -- What an edit of the line makes of the editor.
 module _ (v w : EditorState) (is : v ≡ w) (d : DraftState) where

@@ -1,9 +1,11 @@
 -- An editor stays within its limits.
-use Rattle.std.proofs.Common.{◌≡◌, ℕ, ◌+◌, ◌-◌, ◌<◌, ◌≤◌, true, false, List, [], ◌∷◌, ◌++◌, length, map, reverse, take, drop, refl, sym, subst, ◌∙◌, inl, inr, arith, append-nil}
+use Rattle.std.proofs.Common.{◌≡◌, ℕ, ◌+◌, ◌-◌, ◌<◌, ◌≤◌, true, false, List, [], ◌∷◌, ◌++◌, length, map, reverse, take, drop, refl, sym, subst, ap, ◌∙◌, inl, inr, arith, append-nil, length-drop}
 use Rattle.std.proofs.lemmas.Bool.{and_parts, and_from, cases_Bool, leb-true, ltb-false, ltb-true}
 use Rattle.std.proofs.lemmas.List.{reverse-append, reverse-reverse}
 use Rattle.std.specs.Prelude.{Bool, Option, Some, None, IfSome, ◌&&◌, ◌==◌, suc, zero, slice_get}
 use Rattle.std.specs.List.{AllByRecursion, filter}
+use Rattle.std.specs.Option.{option_map}
+use Rattle.std.specs.Str.{bytes_eq}
 use Rattle.unicode_segmentation.proofs.TextLemmas.{encode_utf8_nonempty}
 use Rattle.line_editor.specs.declared.actions.Action.{Action}
 use Rattle.line_editor.specs.declared.actions.Action.TheVariants.{Insert, Go, Erase, Kill, Yank, YankPop, Transpose, Undo, Redo, Older, Newer, Search, SearchForward, CaseWord, TransposeWords, EraseBlanks, LastWord}
@@ -14,24 +16,25 @@ use Rattle.line_editor.specs.declared.limits.Limits.{Limits}
 use Rattle.line_editor.specs.declared.places.Stop.TheVariants.{Cluster, Edge, WordEnd}
 use Rattle.line_editor.specs.declared.places.Target.{Target}
 use Rattle.line_editor.specs.declared.places.Target.TheVariants.{Back, Forward}
-use Rattle.line_editor.specs.Bounded.{AreRoomy, IsBounded, IsHeld, IsKept, StaysBounded, all_done}
+use Rattle.line_editor.specs.Bounded.{ArePlaces, AreRoomy, IsBounded, IsHeld, IsKept, IsLeft, StaysBounded, all_done, places_of}
 use Rattle.line_editor.specs.Bounds.{cased_more, is_too_long, more_by, popped_more, room_of, size, taken_more}
 use Rattle.line_editor.specs.Cases.{recased}
 use Rattle.line_editor.specs.Edits.{cut_text, empty_line, erased, has_two_words, inserted, is_beside_blank, line_with, meeting, transposed, without_blanks, words_transposed}
 use Rattle.line_editor.specs.History.{loaded_line, has_room, lines_of, loaded}
 use Rattle.line_editor.specs.Kills.{kill_at}
 use Rattle.line_editor.specs.Places.{target_place}
-use Rattle.line_editor.specs.Seeking.{begun, brought, brought_to, found_here, found_next, has_found, is_ahead, is_more, is_seeking, put_back, sought_more, sought_next, sought_on, sought_with}
+use Rattle.line_editor.specs.Seeking.{begun, brought, found_here, found_next, has_found, is_ahead, is_more, is_seeking, put_back, sought_more, sought_next, sought_on, sought_with}
 use Rattle.line_editor.specs.Shown.{AreShown, blanked, is_shown, pasted_part, shown_part}
 use Rattle.line_editor.specs.Splits.{Split, line_text}
-use Rattle.line_editor.specs.States.{EditorState, LineSearch, acted, after, before_yank, changed, dropped, erase_cut, found, found_line, found_newer, fresh, is_ignored, kill_cut, last_after, left_for, moved, newer_from, newer_line, newer_to, next_yank, older_to, popped_to, redo_to, remembered, rung, searched_forward, searched_to, sought, transpose_at, type_char, after_typing, undo_to, unfinished_at, write, yanked}
-use Rattle.line_editor.specs.States.{before_taken, case_cut, erase_blanks, is_empty, next_taken, next_word, taken, taken_to, transpose_words}
+use Rattle.line_editor.specs.States.{DraftState, EditorState, LeftLine, LineSearch, acted, after, before_taken, before_yank, brought_to, case_cut, changed, draft_at, draft_of, dropped, erase_blanks, erase_cut, found, found_line, found_newer, fresh, gone_to, is_empty, is_ignored, kill_cut, last_after, left_at, line_at, line_or, moved, new_draft, newer_from, next_taken, next_word, next_yank, popped_to, redo_to, remembered, rung, searched_forward, searched_to, shown_as, sought, taken, taken_to, transpose_at, transpose_words, type_char, after_typing, undo_to, with_draft, left_but, write, yanked}
 use Rattle.line_editor.specs.Tasks.{Task, Acts, Pastes, Accepts, LetsGo, Loads, Seeks, SeeksMore, SeeksLess, GivesUp, Ends, Clears, Closes, Nothing, done, task_more}
+use Rattle.line_editor.proofs.Counting.{IsBy, few-left, first-within, get-within, last-within, places-moved, some-both}
 use Rattle.line_editor.proofs.Held.{Found, all-drop, all-get, all-take, cut-shown, end-after, found-held, last-held, held-erased, held-found, held-inserted, held-moved, held-replaced, held-same, held-transposed, yank-before}
 use Rattle.line_editor.proofs.Keeping.{keeps_text}
-use Rattle.line_editor.proofs.Ringing.{behind-front, kill-shown, with-shown}
+use Rattle.line_editor.proofs.Ringing.{behind-front, kill-shown, some-weaker, with-shown}
 use Rattle.line_editor.proofs.Showing.{shown-filter}
 use Rattle.line_editor.proofs.Sizing.{size-cons}
+use Rattle.line_editor.proofs.Undoing.{gone_history}
 use Rattle.line_editor.proofs.Wording.{held-recased, held-unblanked, held-words, word-shown}
 
 take-short : (n : ℕ) (lines : List Split) → length (take n lines) ≤ n
@@ -51,7 +54,7 @@ held-empty limits = (refl, omega arith)
 fresh-bounded : (limits : Limits) → IsBounded (fresh limits)
 fresh-bounded limits = record {
   line = held-empty limits;
-  unfinished = held-empty limits;
+  left = tt;
   past = tt;
   undone = tt;
   history = tt;
@@ -60,28 +63,16 @@ fresh-bounded limits = record {
   began = held-empty limits;
   lines = omega arith;
   steps = omega arith;
+  places = (omega arith, refl, tt);
+  others = omega arith;
+  searched = omega arith;
 }
 
--- How far back in the history an editor is has no bound.
-bounded-back : (w : EditorState) (back : ℕ) → IsBounded w → IsBounded (record w { back = back })
-bounded-back w back h = record {
-  line = h.line;
-  unfinished = h.unfinished;
-  past = h.past;
-  undone = h.undone;
-  history = h.history;
-  kills = h.kills;
-  pattern = h.pattern;
-  began = h.began;
-  lines = h.lines;
-  steps = h.steps;
-}
-
--- So has what a search looked for.
+-- What the last action was has no bound.
 bounded-last : (w : EditorState) (last : Last) → IsBounded w → IsBounded (record w { last = last })
 bounded-last w last h = record {
   line = h.line;
-  unfinished = h.unfinished;
+  left = h.left;
   past = h.past;
   undone = h.undone;
   history = h.history;
@@ -90,14 +81,17 @@ bounded-last w last h = record {
   began = h.began;
   lines = h.lines;
   steps = h.steps;
+  places = h.places;
+  others = h.others;
+  searched = h.searched;
 }
 
 -- So has what is looked for, as far as it is held.
 bounded-search-of : (w : EditorState) (search : LineSearch) → IsBounded w → IsHeld w.limits search.pattern → IsHeld w.limits search.line
-    → IsBounded (record w { search = search })
-bounded-search-of w search h k l = record {
+    → search.back ≤ length w.history → IsBounded (record w { search = search })
+bounded-search-of w search h k l le = record {
   line = h.line;
-  unfinished = h.unfinished;
+  left = h.left;
   past = h.past;
   undone = h.undone;
   history = h.history;
@@ -106,28 +100,91 @@ bounded-search-of w search h k l = record {
   began = l;
   lines = h.lines;
   steps = h.steps;
+  places = h.places;
+  others = h.others;
+  searched = le;
 }
 
-limits-brought_to : (number : ℕ) (o : Option Split) (w : EditorState) → (brought_to number o w).limits ≡ w.limits
-limits-brought_to number None w = refl
-limits-brought_to number (Some d) w = refl
+-- A search keeps the history.
+history-sought : (ahead : Bool) (o : Option ℕ) (w : EditorState) → (sought_on ahead o w).history ≡ w.history
+history-sought ahead None w = refl
+history-sought ahead (Some number) w =
+    elim (cases_Bool (has_found w.last && w.back == number)) [
+      | inl there ↦ rw there refl
+      | inr new ↦ rw new (gone_history number (slice_get w.history (number - 1)) w)
+    ]
+
+limits-brought_to : (place : ℕ) (d : Split) (w : EditorState) → (brought_to place d w).limits ≡ w.limits
+limits-brought_to place d w = elim (cases_Bool (place == w.back)) [ inl here ↦ rw here refl | inr other ↦ rw other refl ]
+
+limits-gone : (place : ℕ) (o : Option Split) (w : EditorState) → (gone_to place o w).limits ≡ w.limits
+limits-gone place None w = refl
+limits-gone place (Some d) w = limits-brought_to place d w
 
 limits-brought : (number : ℕ) (w : EditorState) → (brought number w).limits ≡ w.limits
 limits-brought number w =
     elim (cases_Bool (has_found w.last && w.back == number)) [
       | inl there ↦ rw there refl
-      | inr new ↦ rw new (limits-brought_to number (slice_get w.history (number - 1)) w)
+      | inr new ↦ rw new (limits-gone number (slice_get w.history (number - 1)) w)
     ]
 
 limits-sought : (ahead : Bool) (o : Option ℕ) (w : EditorState) → (sought_on ahead o w).limits ≡ w.limits
 limits-sought ahead None w = refl
 limits-sought ahead (Some number) w = limits-brought number w
 
+-- ---- lines that were left
+
+abbrev AreLeft : Limits → List LeftLine → Type 0
+AreLeft limits left = AllByRecursion (λ (x : LeftLine). IsLeft limits x.draft) left
+
+module _ (limits : Limits) where
+  left-shown : (d : Split) (x : DraftState) → IsHeld limits d → IsLeft limits x → IsLeft limits (shown_as limits.steps d x)
+  left-shown d x k h =
+      elim (cases_Bool (bytes_eq (line_text d) (line_text x.line))) [
+        | inl same ↦ rw same (record { line = k; past = h.past; undone = h.undone; steps = h.steps })
+        | inr other ↦ rw other (record {
+          line = k;
+          past = all-take limits (IsHeld limits) limits.steps (x.line ∷ x.past) (h.line, h.past);
+          undone = tt;
+          steps = omega (arith, take-short limits.steps (x.line ∷ x.past));
+        })
+      ]
+
+  left-new : (d : Split) → IsHeld limits d → IsLeft limits (new_draft d)
+  left-new d k = record { line = k; past = tt; undone = tt; steps = omega arith }
+
+  left-draft : (place : ℕ) (d : Split) (left : List LeftLine) → IsHeld limits d → AreLeft limits left → IsLeft limits (draft_at limits.steps place d left)
+  left-draft place d [] k h = left-new d k
+  left-draft place d (x ∷ left) k h =
+      elim (cases_Bool (x.place == place)) [
+        | inl here ↦ rw here (left-shown d x.draft k h.0)
+        | inr other ↦ rw other (left-draft place d left k h.1)
+      ]
+
+  left-without : (place : ℕ) (left : List LeftLine) → AreLeft limits left → AreLeft limits (left_but place left)
+  left-without place [] h = tt
+  left-without place (x ∷ left) h =
+      elim (cases_Bool (x.place == place)) [ inl here ↦ rw here h.1 | inr other ↦ rw other (h.0, left-without place left h.1) ]
+
+  left-held : (place : ℕ) (left : List LeftLine) → AreLeft limits left → IfSome (left_at place left) (IsHeld limits)
+  left-held place [] h = tt
+  left-held place (x ∷ left) h =
+      elim (cases_Bool (x.place == place)) [ inl here ↦ rw here h.0.line | inr other ↦ rw other (left-held place left h.1) ]
+
+  held-or : (d : Split) (o : Option Split) → IsHeld limits d → IfSome o (IsHeld limits) → IsHeld limits (line_or d o)
+  held-or d None h k = h
+  held-or d (Some e) h k = k
+
+  held-map : (o p : Option Split) → IfSome o (IsHeld limits) → IfSome p (IsHeld limits)
+      → IfSome (option_map (λ (d : Split). target_place (Forward Edge) (line_or d o)) p) (IsHeld limits)
+  held-map o None h k = tt
+  held-map o (Some d) h k = held-moved limits (Forward Edge) (line_or d o) (held-or d o k h)
+
 module _ (w : EditorState) (h : IsBounded w) where
   bounded-changed : (d : Split) → IsHeld w.limits d → IsBounded (changed d w)
   bounded-changed d k = record {
     line = k;
-    unfinished = h.unfinished;
+    left = h.left;
     past = all-take w.limits (IsHeld w.limits) w.limits.steps (w.line ∷ w.past) (h.line, h.past);
     undone = tt;
     history = h.history;
@@ -136,12 +193,15 @@ module _ (w : EditorState) (h : IsBounded w) where
     began = h.began;
     lines = h.lines;
     steps = omega (arith, take-short w.limits.steps (w.line ∷ w.past));
+    places = h.places;
+    others = h.others;
+    searched = h.searched;
   }
 
   bounded-typed : (d : Split) → IsHeld w.limits d → IsBounded (after_typing d w)
   bounded-typed d k = record {
     line = k;
-    unfinished = h.unfinished;
+    left = h.left;
     past = elim (cases_Bool w.typing) [ inl on ↦ rw on h.past | inr off ↦ rw off (bounded-changed d k).past ];
     undone = tt;
     history = h.history;
@@ -150,12 +210,15 @@ module _ (w : EditorState) (h : IsBounded w) where
     began = h.began;
     lines = h.lines;
     steps = elim (cases_Bool w.typing) [ inl on ↦ rw on (omega (arith, h.steps)) | inr off ↦ rw off (omega (arith, take-short w.limits.steps (w.line ∷ w.past))) ];
+    places = h.places;
+    others = h.others;
+    searched = h.searched;
   }
 
   bounded-moved : (d : Split) → IsHeld w.limits d → IsBounded (moved d w)
   bounded-moved d k = record {
     line = k;
-    unfinished = h.unfinished;
+    left = h.left;
     past = h.past;
     undone = h.undone;
     history = h.history;
@@ -164,6 +227,9 @@ module _ (w : EditorState) (h : IsBounded w) where
     began = h.began;
     lines = h.lines;
     steps = h.steps;
+    places = h.places;
+    others = h.others;
+    searched = h.searched;
   }
 
   bounded-type : (c : ℕ) → is_too_long (size (shown_part (c ∷ []))) w ≡ false → IsBounded (type_char c w)
@@ -192,7 +258,7 @@ module _ (w : EditorState) (h : IsBounded w) where
       let b = bounded-changed (erased target w.line) (held-erased w.limits target w.line h.line) in
       record {
         line = b.line;
-        unfinished = b.unfinished;
+        left = b.left;
         past = b.past;
         undone = b.undone;
         history = b.history;
@@ -201,6 +267,9 @@ module _ (w : EditorState) (h : IsBounded w) where
         began = b.began;
         lines = b.lines;
         steps = b.steps;
+        places = b.places;
+        others = b.others;
+        searched = b.searched;
       }
 
   bounded-transpose : (before : List ℕ) → IsBounded (transpose_at before w)
@@ -211,7 +280,7 @@ module _ (w : EditorState) (h : IsBounded w) where
   bounded-undo [] k le = h
   bounded-undo (d ∷ past) k le = record {
     line = k.0;
-    unfinished = h.unfinished;
+    left = h.left;
     past = k.1;
     undone = (h.line, h.undone);
     history = h.history;
@@ -220,13 +289,16 @@ module _ (w : EditorState) (h : IsBounded w) where
     began = h.began;
     lines = h.lines;
     steps = omega (arith, le);
+    places = h.places;
+    others = h.others;
+    searched = h.searched;
   }
 
   bounded-redo : (undone : List Split) → AllByRecursion (IsHeld w.limits) undone → length w.past + length undone ≤ w.limits.steps → IsBounded (redo_to undone w)
   bounded-redo [] k le = h
   bounded-redo (d ∷ undone) k le = record {
     line = k.0;
-    unfinished = h.unfinished;
+    left = h.left;
     past = (h.line, h.past);
     undone = k.1;
     history = h.history;
@@ -235,6 +307,9 @@ module _ (w : EditorState) (h : IsBounded w) where
     began = h.began;
     lines = h.lines;
     steps = omega (arith, le);
+    places = h.places;
+    others = h.others;
+    searched = h.searched;
   }
 
   bounded-popped : (o : Option (List ℕ)) → IfSome o (λ before. w.line.before ≡ reverse (yanked w) ++ before) → is_too_long (popped_more o w) w ≡ false
@@ -247,7 +322,7 @@ module _ (w : EditorState) (h : IsBounded w) where
       (ltb-false (room_of w) (size next - size (yanked w)) room)) in
       record {
         line = b.line;
-        unfinished = b.unfinished;
+        left = b.left;
         past = b.past;
         undone = b.undone;
         history = b.history;
@@ -256,55 +331,84 @@ module _ (w : EditorState) (h : IsBounded w) where
         began = b.began;
         lines = b.lines;
         steps = b.steps;
+        places = b.places;
+        others = b.others;
+        searched = b.searched;
       }
 
   -- ---- history
 
-  held-unfinished : (back : ℕ) → IsHeld w.limits (unfinished_at back w.line w.unfinished)
-  held-unfinished zero = h.line
-  held-unfinished (suc back) = h.unfinished
+  -- The line as it is.
+  draft-left : IsLeft w.limits (draft_of w)
+  draft-left = record { line = h.line; past = h.past; undone = h.undone; steps = h.steps }
 
-  -- A line of the history, so far back.
-  bounded-left : (d : Split) (back : ℕ) → IsHeld w.limits d → IsBounded (record (left_for d w) { back = back })
-  bounded-left d back k =
-      let b = bounded-changed d k in
-      record {
-        line = b.line;
-        unfinished = held-unfinished w.back;
-        past = b.past;
-        undone = b.undone;
-        history = b.history;
-        kills = b.kills;
-        pattern = b.pattern;
-        began = b.began;
-        lines = b.lines;
-        steps = b.steps;
-      }
+  -- Another line, and others that were left.
+  bounded-draft : (x : DraftState) (left : List LeftLine) (back : ℕ) → IsLeft w.limits x → AreLeft w.limits left
+      → ArePlaces (length w.history) (back ∷ places_of left) → IsBounded (record (with_draft x w) { left = left; back = back })
+  bounded-draft x left back k l apart = record {
+    line = k.line;
+    left = l;
+    past = k.past;
+    undone = k.undone;
+    history = h.history;
+    kills = h.kills;
+    pattern = h.pattern;
+    began = h.began;
+    lines = h.lines;
+    steps = k.steps;
+    places = apart;
+    others = few-left (length w.history) back left apart;
+    searched = h.searched;
+  }
 
-  bounded-older : (line : Option Split) → IfSome line (IsHeld w.limits) → IsBounded (older_to line w)
-  bounded-older None k = h
-  bounded-older (Some d) k = bounded-left d (w.back + 1) k
+  bounded-brought_to : (place : ℕ) (d : Split) → IsHeld w.limits d → place ≤ length w.history → IsBounded (brought_to place d w)
+  bounded-brought_to place d k le =
+      elim (cases_Bool (place == w.back)) [
+        | inl here ↦ rw here (bounded-draft (shown_as w.limits.steps d (draft_of w)) w.left w.back (left-shown w.limits d (draft_of w) k draft-left) h.left h.places)
+        | inr other ↦ rw other (bounded-draft (draft_at w.limits.steps place d w.left) (record { place = w.back; draft = draft_of w } ∷ left_but place w.left) place
+            (left-draft w.limits place d w.left k h.left) (draft-left, left-without w.limits place w.left h.left)
+            (places-moved (length w.history) w.back place w.left le other h.places))
+      ]
 
-  bounded-newer : (line : Option Split) → IfSome line (IsHeld w.limits) → IsBounded (newer_to line w)
-  bounded-newer None k = h
-  bounded-newer (Some d) k = bounded-back (changed d w) (w.back - 1) (bounded-changed d k)
+  -- A line that is held, at a place of the history.
+  abbrev HasPlace : ℕ → Split → Type 0
+  HasPlace place d = IsHeld w.limits d × (place ≤ length w.history)
 
-  newer-held : (back : ℕ) → IfSome (newer_line back w) (IsHeld w.limits)
-  newer-held zero = h.unfinished
-  newer-held (suc back) = all-get w.limits w.history back h.history
+  bounded-gone : (place : ℕ) (o : Option Split) → IfSome o (HasPlace place) → IsBounded (gone_to place o w)
+  bounded-gone place None k = h
+  bounded-gone place (Some d) k = bounded-brought_to place d k.0 k.1
+
+  within-map : (f : Split → Split) (place : ℕ) (o : Option Split) → IfSome o (λ _. place ≤ length w.history) → IfSome (option_map f o) (λ _. place ≤ length w.history)
+  within-map f place None k = k
+  within-map f place (Some d) k = k
+
+  line_at-held : (place : ℕ) → IfSome (line_at place w) (HasPlace place)
+  line_at-held zero = (held-or w.limits empty_line (left_at 0 w.left) (held-empty w.limits) (left-held w.limits 0 w.left h.left), omega arith)
+  line_at-held (suc at) =
+      some-both (IsHeld w.limits) (λ _. suc at ≤ length w.history) (line_at (suc at) w)
+      (held-map w.limits (left_at (suc at) w.left) (slice_get w.history at) (left-held w.limits (suc at) w.left h.left) (all-get w.limits w.history at h.history))
+      (within-map (λ (d : Split). target_place (Forward Edge) (line_or d (left_at (suc at) w.left))) (suc at) (slice_get w.history at)
+      (some-weaker (λ _. at < length w.history) (λ _. suc at ≤ length w.history) (slice_get w.history at) (λ d lt. omega (arith, lt)) (get-within w.history at)))
+
+  number-held : (number : ℕ) → IfSome (slice_get w.history (number - 1)) (HasPlace number)
+  number-held number =
+      some-both (IsHeld w.limits) (λ _. number ≤ length w.history) (slice_get w.history (number - 1)) (all-get w.limits w.history (number - 1) h.history)
+      (some-weaker (λ _. number - 1 < length w.history) (λ _. number ≤ length w.history) (slice_get w.history (number - 1)) (λ d lt. omega (arith, lt)) (get-within w.history (number - 1)))
 
   bounded-newer_from : (back : ℕ) → IsBounded (newer_from back w)
   bounded-newer_from zero = h
-  bounded-newer_from (suc back) = bounded-newer (newer_line back w) (newer-held back)
+  bounded-newer_from (suc back) = bounded-gone back (line_at back w) (line_at-held back)
 
-  bounded-search : (o : Option (ℕ × List ℕ)) → IfSome o (Found w.limits (sought w)) → IsBounded (searched_to o w)
-  bounded-search None k = h
-  bounded-search (Some found) k =
-      bounded-left (found_line (sought w) found.1) found.0 (held-found w.limits (sought w) found.1 k)
+  bounded-search : (o : Option (ℕ × List ℕ)) → IfSome o (Found w.limits (sought w)) → IsBy (length w.history) o → IsBounded (searched_to o w)
+  bounded-search None k le = h
+  bounded-search (Some found) k le =
+      bounded-brought_to found.0 (found_line (sought w) found.1) (held-found w.limits (sought w) found.1 k) le
 
   bounded-forward : (front : List ℕ) → IsBounded (searched_forward front w)
   bounded-forward [] = bounded-newer_from w.back
-  bounded-forward (c ∷ front) = bounded-search (found_newer w) (last-held w.limits (sought w) (line_text w.line) (w.back - 1) w.history h.history)
+  bounded-forward (c ∷ front) =
+      bounded-search (found_newer w) (last-held w.limits (sought w) (line_text w.line) (w.back - 1) w.history h.history)
+      (last-within (sought w) (line_text w.line) (length w.history) (w.back - 1) w.history (omega (arith, h.places.0)))
 
   -- ---- words
 
@@ -349,10 +453,11 @@ module _ (w : EditorState) (h : IsBounded w) where
   bounded-acted Transpose room = bounded-transpose (meeting w.line.before w.line.after).before
   bounded-acted Undo room = bounded-undo w.past h.past h.steps
   bounded-acted Redo room = bounded-redo w.undone h.undone h.steps
-  bounded-acted Older room = bounded-older (slice_get w.history w.back) (all-get w.limits w.history w.back h.history)
+  bounded-acted Older room = bounded-gone (w.back + 1) (line_at (w.back + 1) w) (line_at-held (w.back + 1))
   bounded-acted Newer room = bounded-newer_from w.back
   bounded-acted Search room =
       bounded-search (found w) (found-held w.limits (sought w) (line_text w.line) w.back (drop w.back w.history) (all-drop w.limits w.history w.back h.history))
+      (first-within (sought w) (line_text w.line) (length w.history) w.back (drop w.back w.history) (omega (arith, h.places.0, length-drop w.back w.history)))
   bounded-acted SearchForward room = bounded-forward (sought w)
   bounded-acted (CaseWord case) room = bounded-case case (cut_text (Forward WordEnd) w.line) room
   bounded-acted TransposeWords room = bounded-words
@@ -364,15 +469,11 @@ module _ (w : EditorState) (h : IsBounded w) where
 
   -- ---- incremental searches
 
-  bounded-brought_to : (number : ℕ) (o : Option Split) → IfSome o (IsHeld w.limits) → IsBounded (brought_to number o w)
-  bounded-brought_to number None k = h
-  bounded-brought_to number (Some d) k = bounded-left d number k
-
   bounded-brought : (number : ℕ) → IsBounded (brought number w)
   bounded-brought number =
       elim (cases_Bool (has_found w.last && w.back == number)) [
         | inl there ↦ rw there h
-        | inr new ↦ rw new (bounded-brought_to number (slice_get w.history (number - 1)) (all-get w.limits w.history (number - 1) h.history))
+        | inr new ↦ rw new (bounded-gone number (slice_get w.history (number - 1)) (number-held number))
       ]
 
   bounded-sought : (ahead : Bool) (o : Option ℕ) → IsBounded (sought_on ahead o w)
@@ -380,7 +481,7 @@ module _ (w : EditorState) (h : IsBounded w) where
   bounded-sought ahead (Some number) = bounded-last (brought number w) _ (bounded-brought number)
 
   bounded-begun : (ahead : Bool) → IsBounded (begun ahead w)
-  bounded-begun ahead = bounded-last _ _ (bounded-search-of w (record { pattern = empty_line; line = w.line; back = w.back }) h (held-empty w.limits) h.line)
+  bounded-begun ahead = bounded-last _ _ (bounded-search-of w (record { pattern = empty_line; line = w.line; back = w.back }) h (held-empty w.limits) h.line h.places.0)
 
   bounded-next : (ahead : Bool) → IsBounded (sought_next ahead w)
   bounded-next ahead = elim (cases_Bool (is_seeking w.last)) [ inl on ↦ rw on (bounded-sought ahead (found_next ahead w)) | inr off ↦ rw off (bounded-begun ahead) ]
@@ -393,6 +494,7 @@ module _ (w : EditorState) (h : IsBounded w) where
       let P : Limits → Type 0 = λ l. IsHeld l pattern in
       let Q : Limits → Type 0 = λ l. IsHeld l w.search.line in
       bounded-search-of (sought_on ahead found w) (record w.search { pattern = pattern }) (bounded-sought ahead found) (subst P (sym same) k) (subst Q (sym same) h.began)
+      (omega (arith, h.searched, ap length (history-sought ahead found w)))
 
   bounded-more : (c : ℕ) → IsBounded (sought_more c w)
   bounded-more c =
@@ -408,7 +510,7 @@ module _ (w : EditorState) (h : IsBounded w) where
   bounded-put_back : IsBounded (put_back w)
   bounded-put_back =
       elim (cases_Bool (has_found w.last)) [
-        | inl found ↦ rw found (bounded-back (changed w.search.line w) w.search.back (bounded-changed w.search.line h.began))
+        | inl found ↦ rw found (bounded-brought_to w.search.back w.search.line h.began h.searched)
         | inr none ↦ rw none h
       ]
 
@@ -418,7 +520,7 @@ module _ (w : EditorState) (h : IsBounded w) where
       → IsBounded (record (dropped w) { history = history })
   bounded-ended history k le = record {
     line = held-empty w.limits;
-    unfinished = held-empty w.limits;
+    left = tt;
     past = tt;
     undone = tt;
     history = k;
@@ -427,6 +529,9 @@ module _ (w : EditorState) (h : IsBounded w) where
     began = held-empty w.limits;
     lines = le;
     steps = omega arith;
+    places = (omega arith, refl, tt);
+    others = omega arith;
+    searched = omega arith;
   }
 
   -- A line that isn't empty is kept with its cursor at its end.
@@ -484,15 +589,18 @@ bounded-loaded w h text =
     let all = reverse (map loaded_line (filter (has_room w.limits) (map pasted_part (lines_of text)))) in
     record {
       line = h.line;
-      unfinished = h.unfinished;
+      left = tt;
       past = h.past;
       undone = h.undone;
       history = all-take w.limits (IsKept w.limits) w.limits.lines all (all-reverse (IsKept w.limits) (map loaded_line (filter (has_room w.limits) (map pasted_part (lines_of text)))) (all-loaded w.limits (lines_of text)));
       kills = h.kills;
-      pattern = h.pattern;
-      began = h.began;
+      pattern = held-empty w.limits;
+      began = held-empty w.limits;
       lines = take-short w.limits.lines all;
       steps = h.steps;
+      places = (omega arith, refl, tt);
+      others = omega arith;
+      searched = omega arith;
     }
 
 bounded-done : (task : Task) (w : EditorState) → IsBounded w → is_too_long (task_more task w) w ≡ false → IsBounded (done task w)

@@ -10,7 +10,8 @@ use Rattle.line_editor.specs.Edits.{inserted}
 use Rattle.line_editor.specs.Places.{target_place}
 use Rattle.line_editor.specs.Recent.{first_or, pushed_if, rest_of}
 use Rattle.line_editor.specs.Splits.{Split, bytes_before, line_text}
-use Rattle.line_editor.specs.inside.Changes.{AllFit, AreChanges, DraftState, EndsBy, Splice, TakesBack, line_bytes, draft_changed, draft_redone, draft_typed, draft_undone, first_ended, first_reached, lines_by}
+use Rattle.line_editor.specs.States.{DraftState, draft_changed}
+use Rattle.line_editor.specs.inside.Changes.{AllFit, AreChanges, EndsBy, Splice, TakesBack, line_bytes, draft_redone, draft_typed, draft_undone, first_ended, first_reached, lines_by}
 use Rattle.line_editor.proofs.Changing.{AllFit-take, ended-reached, ends-grown, fit_more, grown-AllFit, grown-lines, lines_by-take, lines_more}
 use Rattle.line_editor.proofs.Keeping.{keeps_text}
 

@@ -5,6 +5,8 @@ pub mod Settling
 pub mod Editing
 pub mod Acting
 pub mod Keeping
+pub mod Leaving
+pub mod Counting
 pub mod Undoing
 pub mod Furthest
 pub mod Seeing

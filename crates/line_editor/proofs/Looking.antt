@@ -3,9 +3,9 @@ use Rattle.std.proofs.Common.{◌≡◌, ℕ, ◌-◌, true, false, List, [], �
 use Rattle.std.proofs.lemmas.Bool.{cases_Bool}
 use Rattle.std.specs.Prelude.{Bool, Option, Some, None, is_some, ◌&&◌, ◌==◌, slice_get}
 use Rattle.line_editor.specs.Edits.{inserted}
-use Rattle.line_editor.specs.Seeking.{brought, brought_to, contains, found_here, has_found, is_ahead, is_more, rings_more, rings_with, sought_more, sought_on, sought_with}
+use Rattle.line_editor.specs.Seeking.{brought, contains, found_here, has_found, is_ahead, is_more, rings_more, rings_with, sought_more, sought_on, sought_with}
 use Rattle.line_editor.specs.Splits.{Split, line_text}
-use Rattle.line_editor.specs.States.{EditorState, behind_front}
+use Rattle.line_editor.specs.States.{EditorState, behind_front, brought_to, gone_to}
 
 pub contains_here : (pattern text : List ℕ) → is_some (behind_front pattern text) ≡ true → contains pattern text ≡ true
 contains_here pattern [] h = h
@@ -15,19 +15,22 @@ module _ (w : EditorState) where
   pub brought_there : (number : ℕ) → (has_found w.last && w.back == number) ≡ true → w ≡ brought number w
   brought_there number there = rw there refl
 
-  pub brought_new : (number : ℕ) → (has_found w.last && w.back == number) ≡ false → brought_to number (slice_get w.history (number - 1)) w ≡ brought number w
+  pub brought_new : (number : ℕ) → (has_found w.last && w.back == number) ≡ false → gone_to number (slice_get w.history (number - 1)) w ≡ brought number w
   brought_new number new = rw new refl
 
   -- A search keeps what was looked for.
-  search-brought_to : (number : ℕ) (o : Option Split) → (brought_to number o w).search ≡ w.search
-  search-brought_to number None = refl
-  search-brought_to number (Some d) = refl
+  search-brought_to : (place : ℕ) (d : Split) → (brought_to place d w).search ≡ w.search
+  search-brought_to place d = elim (cases_Bool (place == w.back)) [ inl here ↦ rw here refl | inr other ↦ rw other refl ]
+
+  search-gone : (place : ℕ) (o : Option Split) → (gone_to place o w).search ≡ w.search
+  search-gone place None = refl
+  search-gone place (Some d) = search-brought_to place d
 
   search-brought : (number : ℕ) → (brought number w).search ≡ w.search
   search-brought number =
       elim (cases_Bool (has_found w.last && w.back == number)) [
         | inl there ↦ rw there refl
-        | inr new ↦ rw new (search-brought_to number (slice_get w.history (number - 1)))
+        | inr new ↦ rw new (search-gone number (slice_get w.history (number - 1)))
       ]
 
   search-sought : (ahead : Bool) (o : Option ℕ) → (sought_on ahead o w).search ≡ w.search

@@ -1,6 +1,6 @@
 -- What can be undone.
 use Rattle.std.proofs.Common.{◌≡◌, ℕ, ◌+◌, ◌≤◌, true, false, List, [], ◌∷◌, ◌++◌, length, refl, sym, ap, ◌∙◌, inl, inr, arith}
-use Rattle.std.specs.Prelude.{zero, suc, Option, Some, None, ◌&&◌, slice_get}
+use Rattle.std.specs.Prelude.{zero, suc, Option, Some, None, ◌&&◌, ◌==◌}
 use Rattle.std.proofs.lemmas.Bool.{cases_Bool, false≢true}
 use Rattle.std.proofs.lemmas.List.{take_all}
 use Rattle.line_editor.specs.declared.actions.Action.{Action}
@@ -14,10 +14,9 @@ use Rattle.line_editor.specs.declared.places.Stop.TheVariants.{WordEnd}
 use Rattle.line_editor.specs.declared.places.Target.TheVariants.{Forward}
 use Rattle.line_editor.specs.Splits.{Split, line_text}
 use Rattle.line_editor.specs.Edits.{cut_text, has_two_words, is_beside_blank, meeting}
-use Rattle.line_editor.specs.Laws.{ArePlain, CanBeUndone, IsNoUndo, KeepsHistory, RedoesUndone, undo_times}
+use Rattle.line_editor.specs.Laws.{ArePlain, CanBeUndone, IsOfLine, KeepsHistory, RedoesUndone, undo_times}
 use Rattle.line_editor.specs.Shown.{is_shown}
-use Rattle.line_editor.specs.States.{EditorState, acted, after, before_yank, erase_cut, found, found_newer, kill_cut, last_after, newer_from, newer_line, newer_to, older_to, popped_to, pushed, redo_to, run_actions, searched_forward, searched_to, sought, transpose_at, type_char, after_typing, undo_to, write, yanked}
-use Rattle.line_editor.specs.States.{before_taken, case_cut, erase_blanks, is_empty, next_word, taken, taken_to, transpose_words}
+use Rattle.line_editor.specs.States.{EditorState, acted, after, before_taken, before_yank, brought_to, case_cut, erase_blanks, erase_cut, found, found_line, found_newer, gone_to, is_empty, kill_cut, last_after, line_at, newer_from, next_word, popped_to, pushed, redo_to, run_actions, searched_forward, searched_to, sought, taken, taken_to, transpose_at, transpose_words, type_char, after_typing, undo_to, write, yanked}
 use Rattle.line_editor.proofs.Keeping.{keeps_text}
 use Rattle.line_editor.proofs.Wording.{blanks_history, case_history, taken_history, words_history}
 
@@ -54,21 +53,20 @@ redo_history : (undone : List Split) (w : EditorState) → (redo_to undone w).hi
 redo_history [] w = refl
 redo_history (d ∷ undone) w = refl
 
-older_history : (line : Option Split) (w : EditorState) → (older_to line w).history ≡ w.history
-older_history None w = refl
-older_history (Some d) w = refl
+brought_history : (place : ℕ) (d : Split) (w : EditorState) → (brought_to place d w).history ≡ w.history
+brought_history place d w = elim (cases_Bool (place == w.back)) [ inl here ↦ rw here refl | inr other ↦ rw other refl ]
 
-newer_history : (line : Option Split) (w : EditorState) → (newer_to line w).history ≡ w.history
-newer_history None w = refl
-newer_history (Some d) w = refl
+pub gone_history : (place : ℕ) (line : Option Split) (w : EditorState) → (gone_to place line w).history ≡ w.history
+gone_history place None w = refl
+gone_history place (Some d) w = brought_history place d w
 
 newer_from_history : (back : ℕ) (w : EditorState) → (newer_from back w).history ≡ w.history
 newer_from_history zero w = refl
-newer_from_history (suc back) w = newer_history (newer_line back w) w
+newer_from_history (suc back) w = gone_history back (line_at back w) w
 
 search_history : (found : Option (ℕ × List ℕ)) (w : EditorState) → (searched_to found w).history ≡ w.history
 search_history None w = refl
-search_history (Some found) w = refl
+search_history (Some found) w = brought_history found.0 (found_line (sought w) found.1) w
 
 forward_history : (front : List ℕ) (w : EditorState) → (searched_forward front w).history ≡ w.history
 forward_history [] w = newer_from_history w.back w
@@ -84,7 +82,7 @@ keeps_history YankPop w = popped_history (before_yank w) w
 keeps_history Transpose w = transpose_history (meeting w.line.before w.line.after).before w
 keeps_history Undo w = undo_history w.past w
 keeps_history Redo w = redo_history w.undone w
-keeps_history Older w = older_history (slice_get w.history w.back) w
+keeps_history Older w = gone_history (w.back + 1) (line_at (w.back + 1) w) w
 keeps_history Newer w = newer_from_history w.back w
 keeps_history Search w = search_history (found w) w
 keeps_history SearchForward w = forward_history (sought w) w
@@ -193,26 +191,6 @@ module _ (text : List ℕ) (past : List Split) (n : ℕ) (w : EditorState) (h : 
   leads-transpose [] = leads-none
   leads-transpose (c ∷ before) = leads-changed _ refl refl
 
-  leads-older : (line : Option Split) → Leads text past n (older_to line w)
-  leads-older None = leads-none
-  leads-older (Some d) = leads-changed _ refl refl
-
-  leads-newer : (line : Option Split) → Leads text past n (newer_to line w)
-  leads-newer None = leads-none
-  leads-newer (Some d) = leads-changed _ refl refl
-
-  leads-search : (found : Option (ℕ × List ℕ)) → Leads text past n (searched_to found w)
-  leads-search None = leads-none
-  leads-search (Some found) = leads-changed _ refl refl
-
-  leads-newer_from : (back : ℕ) → Leads text past n (newer_from back w)
-  leads-newer_from zero = leads-none
-  leads-newer_from (suc back) = leads-newer (newer_line back w)
-
-  leads-forward : (front : List ℕ) → Leads text past n (searched_forward front w)
-  leads-forward [] = leads-newer_from w.back
-  leads-forward (c ∷ front) = leads-search (found_newer w)
-
   leads-case : (case : Case) (piece : List ℕ) → Leads text past n (case_cut case piece w)
   leads-case case [] = leads-none
   leads-case case (c ∷ piece) = leads-changed _ refl refl
@@ -228,7 +206,7 @@ module _ (text : List ℕ) (past : List Split) (n : ℕ) (w : EditorState) (h : 
   leads-taken (Some before) =
       elim (cases_Bool (is_empty (taken w) && is_empty (next_word w))) [ inl none ↦ rw none leads-none | inr some ↦ rw some (leads-changed _ refl refl) ]
 
-leads-acted : (text : List ℕ) (past : List Split) (n : ℕ) (w : EditorState) → Leads text past (suc n) w → (action : Action) → IsNoUndo action
+leads-acted : (text : List ℕ) (past : List Split) (n : ℕ) (w : EditorState) → Leads text past (suc n) w → (action : Action) → IsOfLine action
     → Leads text past n (acted action w)
 leads-acted text past n w h (Insert c) f = leads-type text past n w h c
 leads-acted text past n w h (Go target) f = leads-same text past n w h _ refl refl (keeps_text target w.line) refl
@@ -239,10 +217,10 @@ leads-acted text past n w h YankPop f = leads-popped text past n w h (before_yan
 leads-acted text past n w h Transpose f = leads-transpose text past n w h (meeting w.line.before w.line.after).before
 leads-acted text past n w h Undo f = absurd f
 leads-acted text past n w h Redo f = absurd f
-leads-acted text past n w h Older f = leads-older text past n w h (slice_get w.history w.back)
-leads-acted text past n w h Newer f = leads-newer_from text past n w h w.back
-leads-acted text past n w h Search f = leads-search text past n w h (found w)
-leads-acted text past n w h SearchForward f = leads-forward text past n w h (sought w)
+leads-acted text past n w h Older f = absurd f
+leads-acted text past n w h Newer f = absurd f
+leads-acted text past n w h Search f = absurd f
+leads-acted text past n w h SearchForward f = absurd f
 leads-acted text past n w h (CaseWord case) f = leads-case text past n w h case (cut_text (Forward WordEnd) w.line)
 leads-acted text past n w h TransposeWords f = leads-words text past n w h
 leads-acted text past n w h EraseBlanks f = leads-blanks text past n w h
@@ -257,7 +235,7 @@ ends-last text (d ∷ x ∷ extra) w last h = ends-last text (x ∷ extra) w las
 leads-last : (text : List ℕ) (past : List Split) (n : ℕ) (w : EditorState) (last : Last) → Leads text past n w → Leads text past n (record w { last = last })
 leads-last text past n w last h = record { extra = h.extra; lines = h.lines; ends = ends-last text h.extra w last h.ends; room = h.room }
 
-pub leads-after : (text : List ℕ) (past : List Split) (n : ℕ) (w : EditorState) → Leads text past (suc n) w → (action : Action) → IsNoUndo action
+pub leads-after : (text : List ℕ) (past : List Split) (n : ℕ) (w : EditorState) → Leads text past (suc n) w → (action : Action) → IsOfLine action
     → Leads text past n (after action w)
 leads-after text past n w h action f = leads-last text past n (acted action w) (last_after action w) (leads-acted text past n w h action f)
 

@@ -6,7 +6,7 @@ use Rattle.line_editor.specs.declared.limits.Limits.{Limits}
 use Rattle.line_editor.specs.Bounds.{size}
 use Rattle.line_editor.specs.Shown.{pasted_part}
 use Rattle.line_editor.specs.Splits.{Split, line_text}
-use Rattle.line_editor.specs.States.{EditorState}
+use Rattle.line_editor.specs.States.{EditorState, no_search}
 
 -- The text of a history: its lines, the oldest first, with a line feed behind each.
 abbrev pub saved : List Split → List ℕ
@@ -33,6 +33,7 @@ with_line limits text history = if has_room limits text then take limits.lines (
 abbrev pub history_of : Limits → List ℕ → List Split
 history_of limits text = take limits.lines (reverse (map loaded_line (filter (has_room limits) (map pasted_part (lines_of text)))))
 
--- The editor with the history of a text in place of its own. Its line stays, as one that isn't in the history.
+-- The editor with the history of a text in place of its own. Its line stays, as one that isn't in the history. Lines
+-- that were left and a search go.
 abbrev pub loaded : List ℕ → EditorState → EditorState
-loaded text w = record w { history = history_of w.limits text; back = 0; last = Other }
+loaded text w = record w { history = history_of w.limits text; back = 0; left = []; search = no_search; last = Other }

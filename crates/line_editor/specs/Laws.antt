@@ -2,7 +2,7 @@
 use Rattle.std.specs.Prelude.{◌≡◌, ◌≤◌, ◌<◌, ◌+◌, ◌-◌, ℕ, Some, slice_get, zero, suc, ⊤, Bool, MatchOption, true, false, List, [], ◌∷◌, ◌++◌, length, reverse}
 use Rattle.std.specs.List.{AllByRecursion}
 use Rattle.line_editor.specs.declared.actions.Action.{Action}
-use Rattle.line_editor.specs.declared.actions.Action.TheVariants.{Newer, Older, Redo, Undo}
+use Rattle.line_editor.specs.declared.actions.Action.TheVariants.{Newer, Older, Redo, Search, SearchForward, Undo}
 use Rattle.line_editor.specs.declared.last.Last.TheVariants.{Other}
 use Rattle.line_editor.specs.declared.places.Target.{Target}
 use Rattle.line_editor.specs.Splits.{Split, line_text}
@@ -45,29 +45,43 @@ abbrev pub newer_times : ℕ → EditorState → EditorState
 newer_times zero w = w
 newer_times (suc n) w = newer_times n (after Newer w)
 
--- Going back in the history and forth again as often gives the line that was left, if there are so many lines.
+-- An editor is back at a line of another one: its line has the same text, and the same can be undone and redone. A
+-- line that isn't from the history has the same cursor, too.
+pub record IsBackAt (w v : EditorState) : Type 0 where
+  pub place : v.back ≡ w.back
+  pub text : line_text v.line ≡ line_text w.line
+  pub line : w.back ≡ 0 → v.line ≡ w.line
+  pub past : v.past ≡ w.past
+  pub undone : v.undone ≡ w.undone
+
+-- Going back in the history and forth again as often gives the line that was left, if there are so many lines. So an
+-- edited line of the history keeps its edit.
 abbrev pub ComesBack : ℕ → EditorState → Type 0
-ComesBack n w = w.back ≡ 0 → n ≤ length w.history → (newer_times n (older_times n w)).line ≡ w.line
+ComesBack n w = w.back + n ≤ length w.history → IsBackAt w (newer_times n (older_times n w))
 
 -- ---- undo
 
--- An action is plain if it is neither undo nor redo.
-abbrev pub IsNoUndo : Action → Type 0
-IsNoUndo Undo = ⊥
-IsNoUndo Redo = ⊥
-IsNoUndo action = ⊤
+-- An action is one of the line if it is neither undo nor redo, and doesn't go to another line, which has its own changes.
+abbrev pub IsOfLine : Action → Type 0
+IsOfLine Undo = ⊥
+IsOfLine Redo = ⊥
+IsOfLine Older = ⊥
+IsOfLine Newer = ⊥
+IsOfLine Search = ⊥
+IsOfLine SearchForward = ⊥
+IsOfLine action = ⊤
 
--- Each action is plain.
+-- Each action is one of the line.
 abbrev pub ArePlain : List Action → Type 0
 ArePlain [] = ⊤
-ArePlain (a ∷ actions) = IsNoUndo a × ArePlain actions
+ArePlain (a ∷ actions) = IsOfLine a × ArePlain actions
 
 -- The editor after `n` undos.
 abbrev pub undo_times : ℕ → EditorState → EditorState
 undo_times zero w = w
 undo_times (suc n) w = undo_times n (after Undo w)
 
--- After plain actions, for which there are steps enough, some number of undos gives back the text and all that could
+-- After such actions, for which there are steps enough, some number of undos gives back the text and all that could
 -- be undone before.
 -- No character may have been typed just before these actions.
 abbrev pub CanBeUndone : List Action → EditorState → Type 0

@@ -9,7 +9,7 @@ use Rattle.line_editor.specs.Bounds.{size}
 use Rattle.line_editor.specs.Edits.{empty_line, erased, inserted}
 use Rattle.line_editor.specs.Shown.{is_shown}
 use Rattle.line_editor.specs.Splits.{Split, line_text}
-use Rattle.line_editor.specs.States.{EditorState, behind_front, changed, is_empty, left_for, rung}
+use Rattle.line_editor.specs.States.{EditorState, behind_front, brought_to, gone_to, is_empty, rung}
 
 -- ---- how far a search is
 
@@ -81,14 +81,9 @@ found_here pattern ahead w =
 
 -- ---- what comes of it
 
--- The editor with a line of the history, if it is there.
-abbrev pub brought_to : ℕ → Option Split → EditorState → EditorState
-brought_to number None w = w
-brought_to number (Some d) w = record (left_for d w) { back = number }
-
 -- The editor with the line of this number, which stays if the search has found it already.
 abbrev pub brought : ℕ → EditorState → EditorState
-brought number w = if has_found w.last && w.back == number then w else brought_to number (slice_get w.history (number - 1)) w
+brought number w = if has_found w.last && w.back == number then w else gone_to number (slice_get w.history (number - 1)) w
 
 -- The editor after a search went on in a direction. If nothing was found the line stays.
 abbrev pub sought_on : Bool → Option ℕ → EditorState → EditorState
@@ -122,7 +117,7 @@ sought_less w = sought_with (erased (Back Cluster) w.search.pattern) w
 
 -- The editor with the line from which the search began.
 abbrev pub put_back : EditorState → EditorState
-put_back w = if has_found w.last then record (changed w.search.line w) { back = w.search.back } else w
+put_back w = if has_found w.last then brought_to w.search.back w.search.line w else w
 
 -- The editor after a search is given up, or after nothing if there is none.
 abbrev pub given_up : EditorState → EditorState

@@ -1,7 +1,7 @@
 -- The state of an editor, and how each action changes it.
 use Rattle.std.specs.Prelude.{⊤, ℕ, ◌+◌, ◌-◌, nat_lt, Bool, true, false, List, [], ◌∷◌, Option, Some, None, if◌then◌else◌, slice_get, drop, length, take, reverse, ◌==◌, ◌&&◌, ◌||◌}
 use Rattle.std.specs.Prelude.{zero, suc}
-use Rattle.std.specs.Option.{option_and_then}
+use Rattle.std.specs.Option.{option_and_then, option_map}
 use Rattle.std.specs.Str.{bytes_eq}
 use Rattle.line_editor.specs.declared.actions.Action.{Action}
 use Rattle.line_editor.specs.declared.actions.Action.TheVariants as does
@@ -30,6 +30,20 @@ pub record LineSearch : Type 0 where
 abbrev pub no_search : LineSearch
 no_search = record { pattern = empty_line; line = empty_line; back = 0 }
 
+-- A line with the lines that undo and redo bring back, the newest first.
+pub record DraftState : Type 0 where
+  pub line : Split
+  pub past : List Split
+  pub undone : List Split
+  -- Whether a character was typed last, which is undone with the next one.
+  pub typing : Bool
+
+-- A line that was left for another one, with its place. That is how far back in the history it is, or 0 if it isn't from
+-- there.
+pub record LeftLine : Type 0 where
+  pub place : ℕ
+  pub draft : DraftState
+
 -- An editor: its line, and what came before it.
 pub record EditorState : Type 0 where
   -- The limits of all that follows.
@@ -46,8 +60,8 @@ pub record EditorState : Type 0 where
   pub history : List Split
   -- How far back in the history the line is from, or 0 if it isn't from there.
   pub back : ℕ
-  -- The line that was left for one of the history.
-  pub unfinished : Split
+  -- The lines that were left for others since the last one was accepted, the last one first.
+  pub left : List LeftLine
   -- The last incremental search.
   pub search : LineSearch
   -- Whether a character was typed last, which is undone with the next one.
@@ -66,7 +80,7 @@ fresh limits = record {
   undone = [];
   history = [];
   back = 0;
-  unfinished = empty_line;
+  left = [];
   search = no_search;
   typing = false;
   last = Other;
@@ -137,35 +151,71 @@ redo_to (d ∷ undone) w = record w { line = d; past = w.line ∷ w.past; undone
 
 -- ---- history
 
--- The line that is left unfinished: this one if it isn't from the history, otherwise the one that was left before.
-abbrev pub unfinished_at : ℕ → Split → Split → Split
-unfinished_at zero line unfinished = line
-unfinished_at (suc back) line unfinished = unfinished
+-- The line of an editor, with what can be undone and redone of it.
+abbrev pub draft_of : EditorState → DraftState
+draft_of w = record { line = w.line; past = w.past; undone = w.undone; typing = w.typing }
 
--- The editor with a line of the history. The line that is left for it is kept as unfinished if it isn't from the
--- history.
-abbrev pub left_for : Split → EditorState → EditorState
-left_for d w = record (changed d w) { unfinished = unfinished_at w.back w.line w.unfinished }
+-- An editor with such a line.
+abbrev pub with_draft : DraftState → EditorState → EditorState
+with_draft x w = record w { line = x.line; past = x.past; undone = x.undone; typing = x.typing }
 
--- The editor with the next older line, if there is one.
-abbrev pub older_to : Option Split → EditorState → EditorState
-older_to None w = w
-older_to (Some d) w = record (left_for d w) { back = w.back + 1 }
+-- A line of which nothing can be undone yet.
+abbrev pub new_draft : Split → DraftState
+new_draft d = record { line = d; past = []; undone = []; typing = false }
 
--- The line at a place of the history, counted from 1, or the unfinished line at 0.
-abbrev pub newer_line : ℕ → EditorState → Option Split
-newer_line zero w = Some w.unfinished
-newer_line (suc back) w = slice_get w.history back
+-- Another line, with up to so many lines that can be undone: the line before it, and those before that.
+abbrev pub draft_changed : ℕ → Split → DraftState → DraftState
+draft_changed steps d x = record { line = d; past = take steps (x.line ∷ x.past); undone = []; typing = false }
 
--- The editor with the next newer line, if there is one.
-abbrev pub newer_to : Option Split → EditorState → EditorState
-newer_to None w = w
-newer_to (Some d) w = record (changed d w) { back = w.back - 1 }
+-- A line as another one has it. If both have the same text the cursor goes there, and otherwise this is a change.
+abbrev pub shown_as : ℕ → Split → DraftState → DraftState
+shown_as steps d x = if bytes_eq (line_text d) (line_text x.line) then record x { line = d; typing = false } else draft_changed steps d x
+
+-- The line that was left at a place, if one was.
+abbrev pub left_at : ℕ → List LeftLine → Option Split
+left_at place [] = None
+left_at place (x ∷ left) = if x.place == place then Some x.draft.line else left_at place left
+
+-- The lines that were left, without the one of a place.
+abbrev pub left_but : ℕ → List LeftLine → List LeftLine
+left_but place [] = []
+left_but place (x ∷ left) = if x.place == place then left else x ∷ left_but place left
+
+-- The line that was left at a place, as another line has it. If none was left there, nothing can be undone of that yet.
+abbrev pub draft_at : ℕ → ℕ → Split → List LeftLine → DraftState
+draft_at steps place d [] = new_draft d
+draft_at steps place d (x ∷ left) = if x.place == place then shown_as steps d x.draft else draft_at steps place d left
+
+-- The editor with a line of some place in the history. The line that is left for it keeps what can be undone of it, and
+-- so does one that was left there before.
+abbrev pub brought_to : ℕ → Split → EditorState → EditorState
+brought_to place d w =
+    if place == w.back then with_draft (shown_as w.limits.steps d (draft_of w)) w
+    else record (with_draft (draft_at w.limits.steps place d w.left) w) {
+      left = record { place = w.back; draft = draft_of w } ∷ left_but place w.left;
+      back = place;
+    }
+
+-- A line, or another one if there is none.
+abbrev pub line_or : Split → Option Split → Split
+line_or d None = d
+line_or d (Some e) = e
+
+-- The line at a place, as it was left or accepted. `None` if there is no such place. A line of the history has its
+-- cursor at its end.
+abbrev pub line_at : ℕ → EditorState → Option Split
+line_at zero w = Some (line_or empty_line (left_at 0 w.left))
+line_at (suc at) w = option_map (λ d. target_place (Forward Edge) (line_or d (left_at (suc at) w.left))) (slice_get w.history at)
+
+-- The editor with the line of a place, if there is one.
+abbrev pub gone_to : ℕ → Option Split → EditorState → EditorState
+gone_to place None w = w
+gone_to place (Some d) w = brought_to place d w
 
 -- The editor after going to the next newer line. If its line isn't from the history, nothing happens.
 abbrev pub newer_from : ℕ → EditorState → EditorState
 newer_from zero w = w
-newer_from (suc back) w = newer_to (newer_line back w) w
+newer_from (suc back) w = gone_to back (line_at back w) w
 
 -- The rest of a text that begins with another one, or `None` if it doesn't.
 abbrev pub behind_front : List ℕ → List ℕ → Option (List ℕ)
@@ -250,7 +300,7 @@ found_newer w = last_with (sought w) (line_text w.line) (w.back - 1) w.history
 -- The editor with a line that was found, if there is one.
 abbrev pub searched_to : Option (ℕ × List ℕ) → EditorState → EditorState
 searched_to None w = w
-searched_to (Some found) w = record (left_for (found_line (sought w) found.1) w) { back = found.0 }
+searched_to (Some found) w = brought_to found.0 (found_line (sought w) found.1) w
 
 -- The editor after a search forward for a text. If there is none, the next newer line is shown.
 abbrev pub searched_forward : List ℕ → EditorState → EditorState
@@ -367,7 +417,7 @@ acted does.YankPop w = popped_to (before_yank w) w
 acted does.Transpose w = transpose_at (meeting w.line.before w.line.after).before w
 acted does.Undo w = undo_to w.past w
 acted does.Redo w = redo_to w.undone w
-acted does.Older w = older_to (slice_get w.history w.back) w
+acted does.Older w = gone_to (w.back + 1) (line_at (w.back + 1) w) w
 acted does.Newer w = newer_from w.back w
 acted does.Search w = searched_to (found w) w
 acted does.SearchForward w = searched_forward (sought w) w

@@ -26,11 +26,12 @@ pub enum Action {
     YankPop,
     /// Exchanges the clusters before and behind the cursor, and the last two at a line's end (`transpose-chars`).
     Transpose,
-    /// Brings back the line before the last change (`undo`). Characters that were typed side by side are one change.
+    /// Brings back the line before the last change (`undo`). Characters that were typed side by side are one change. Each line of the history
+    /// has its own changes, and going to another line is none.
     Undo,
     /// Brings back the line that was undone last.
     Redo,
-    /// Shows the next older accepted line (`previous-history`).
+    /// Shows the next older accepted line, with its edits since the last line was accepted (`previous-history`).
     Older,
     /// Shows the next newer one, and at last the line that was left (`next-history`).
     Newer,

@@ -5,11 +5,13 @@ ghost use Rattle.line_editor.specs.Edits.{empty_line, erased, inserted, line_wit
 ghost use Rattle.line_editor.specs.Places.{target_place};
 ghost use Rattle.line_editor.specs.Shown.{AreShown};
 ghost use Rattle.line_editor.specs.Splits.{split_at};
-ghost use Rattle.line_editor.specs.inside.Changes.{line_bytes, draft_changed, draft_redone, draft_typed, draft_undone};
+ghost use Rattle.line_editor.specs.States.{draft_changed, shown_as};
+ghost use Rattle.line_editor.specs.inside.Changes.{line_bytes, draft_redone, draft_typed, draft_undone};
 
 use crate::changes::{Change, count, end_first, note, reach_first, step};
 use crate::lines::Line;
 use crate::places::Target;
+use crate::texts::is_same;
 use std::alloc::{AllocError, Allocator, Global};
 use std::collections::VecDeque;
 use std::marker::Model;
@@ -25,7 +27,8 @@ pub(crate) struct Draft<A: Allocator = Global> {
 }
 
 impl<A: Allocator> Model for Draft<A> {
-    ghost use Rattle.line_editor.specs.inside.Changes.{AreChanges, DraftState, line_bytes, lines_by};
+    ghost use Rattle.line_editor.specs.States.{DraftState};
+    ghost use Rattle.line_editor.specs.inside.Changes.{AreChanges, line_bytes, lines_by};
 
     ghost Value = { DraftState };
 
@@ -86,6 +89,21 @@ impl<A: Allocator> Draft<A> {
         let change = self.line.give_way_to(line);
         note(&mut self.past, change, steps);
         self.undone.clear();
+        self.typing = false;
+        Ok(())
+    }
+}
+
+impl<A: Allocator> Draft<A> {
+    /// Shows the line as another one has it: with its cursor if both have the same text, and otherwise as a change.
+    pub(crate) fn show(&mut self, line: Line<A>, steps: usize) -> Result<(), AllocError>
+        ensures ok { OnOk result (self.new ≡ shown_as steps line self.old) }
+        ensures err { OnErr result (self.new ≡ self.old) }
+    {
+        if !is_same(line.text(), self.line.text()) {
+            return self.change(line, steps);
+        }
+        self.line = line;
         self.typing = false;
         Ok(())
     }

@@ -13,7 +13,7 @@ ghost use Rattle.line_editor.specs.Places.{target_place};
 ghost use Rattle.line_editor.specs.Shown.{AreShown, pasted_part};
 ghost use Rattle.line_editor.specs.Splits.{bytes_before, line_text};
 ghost use Rattle.line_editor.specs.inside.Changes.{line_bytes};
-ghost use Rattle.line_editor.specs.States.{IsMove, accepted, acted, after, before_yank, broken_off, changed, dropped, erase_cut, fresh, is_ignored, kill_cut, last_after, last_popped, moved, next_yank, pasted_into, popped_to, redo_to, remembered, run_actions, transpose_at, type_char, after_typing, undo_to, write, yanked};
+ghost use Rattle.line_editor.specs.States.{IsMove, accepted, acted, after, before_yank, broken_off, dropped, erase_cut, fresh, is_ignored, kill_cut, last_after, last_popped, moved, next_yank, no_search, pasted_into, popped_to, redo_to, remembered, run_actions, transpose_at, type_char, after_typing, undo_to, write, yanked};
 
 use crate::actions::Action;
 use crate::draft::Draft;
@@ -21,6 +21,7 @@ use crate::fault::EditFault;
 use crate::history::{history_of, saved};
 use crate::kills::{keep, kill_at, next_place};
 use crate::last::{Last, rung};
+use crate::left::Left;
 use crate::limits::Limits;
 use crate::lines::Line;
 use crate::places::{Stop, Target};
@@ -32,6 +33,9 @@ use std::collections::VecDeque;
 use std::marker::Model;
 
 /// An editor of one line, with the texts that were killed, the changes that can be undone, and the history of accepted lines.
+///
+/// A line of the history can be edited too. It keeps its edits, and what can be undone of them, while other lines are shown, until a line is
+/// accepted or let go.
 ///
 /// ```
 /// let mut editor = Editor::new(alloc, Limits::default())?;
@@ -49,7 +53,8 @@ pub struct Editor<A: Allocator = Global> {
     yank_at: usize,
     pub(crate) history: RecentLines<A>,
     pub(crate) back: usize,
-    pub(crate) unfinished: Line<A>,
+    // The lines that were left for others, the last one first.
+    pub(crate) left: VecDeque<Left<A>, A>,
     // What an incremental search looks for, and the line from which it began with its place in the history.
     pub(crate) pattern: Line<A>,
     pub(crate) began: Line<A>,
@@ -73,7 +78,7 @@ impl<A: Allocator> Model for Editor<A> {
       undone = e.draft.undone;
       history = e.history;
       back = e.back;
-      unfinished = e.unfinished;
+      left = e.left.items;
       search = record { pattern = e.pattern; line = e.began; back = e.began_back };
       typing = e.draft.typing;
       last = e.last;
@@ -96,7 +101,7 @@ fn started<A: Allocator + Clone>(alloc: A, limits: Limits) -> Result<Editor<A>, 
         yank_at: 0,
         history: RecentLines::new(alloc.clone()?),
         back: 0,
-        unfinished: Line::new(alloc.clone()?),
+        left: VecDeque::new(alloc.clone()?),
         pattern: Line::new(alloc.clone()?),
         began: Line::new(alloc.clone()?),
         began_back: 0,
@@ -202,6 +207,15 @@ impl<A: Allocator> Editor<A> {
         }
     }
 
+    /// Lets go of what a search looked for, and of the line from which it began.
+    fn end_search(&mut self)
+        ensures { self.new ≡ record self.old { search = no_search } }
+    {
+        self.pattern.clear();
+        self.began.clear();
+        self.began_back = 0;
+    }
+
     /// Lets the line go, and an empty one begins. The history and the kills stay. This takes no memory.
     ///
     /// ```
@@ -212,10 +226,8 @@ impl<A: Allocator> Editor<A> {
         ensures { self.new ≡ dropped self.old }
     {
         self.draft.clear();
-        self.unfinished.clear();
-        self.pattern.clear();
-        self.began.clear();
-        self.began_back = 0;
+        self.left.clear();
+        self.end_search();
         self.back = 0;
         self.last = Last::Other;
     }
@@ -256,15 +268,6 @@ impl<A: Allocator + Clone> Editor<A> {
             Ok(editor) => Ok(editor),
             Err(_) => Err(EditFault::Memory),
         }
-    }
-
-    /// Another line takes the line's place, and the one before can be undone.
-    pub(crate) fn change(&mut self, line: Line<A>) -> Result<(), AllocError>
-        ensures ok { OnOk result (self.new ≡ changed line self.old) }
-        ensures err { OnErr result (self.new ≡ self.old) }
-    {
-        self.draft.change(line, self.limits.steps)?;
-        Ok(())
     }
 
     /// Types a text. The line isn't copied if a character was typed just before.
@@ -648,7 +651,7 @@ impl<A: Allocator + Clone> Editor<A> {
         }
     }
 
-    /// Takes the history from a text, a line a line, the oldest first. The line stays as it is.
+    /// Takes the history from a text, a line a line, the oldest first. The line stays as it is, and a search ends.
     ///
     /// Of each line the characters are taken that `paste` takes. Empty lines, and lines of more bytes than the limit, are left out. Of too
     /// many lines the last ones are taken.
@@ -671,6 +674,8 @@ impl<A: Allocator + Clone> Editor<A> {
             Ok(history) => {
                 self.history = history;
                 self.back = 0;
+                self.left.clear();
+                self.end_search();
                 self.last = Last::Other;
                 Ok(())
             }

@@ -176,7 +176,8 @@ fn both(code: KeyCode) -> Option<KeyCommand>
 /// | a search forward for any line comes at last to the unfinished line | only if the search back began there |
 /// | the unfinished line comes back with its cursor | with the cursor at its end |
 /// | Ctrl-W takes every white space for the end of a word | blanks and tabs alone |
-/// | a line of the history that was changed is as it was accepted when one comes back to it | the change is kept until a line is accepted |
+/// | an edited line of the history is as it was accepted once a line is accepted or let go | that is so of the accepted line alone |
+/// | searches look for lines as they were accepted; one that was edited since is a change of its line | as they were edited |
 /// | Ctrl-_ takes back all characters that were typed side by side | 20 at a time |
 /// | Alt-Y is undone as one change | the yanked text is taken out and the other put in, one after the other |
 /// | Alt-. takes what is between white space | a word of the shell: one in quotes is whole, and a semicolon or a bar ends one |

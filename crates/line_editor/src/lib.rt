@@ -25,13 +25,13 @@
 //! | a line's cursor is between clusters, whatever was typed, pasted or erased | `Line::before` |
 //! | a line has no control character, and none of more than two columns | `Line::{text, before, cut, seen}`, `Editor::accept` |
 //! | a move keeps the text; what is erased was one piece; what is written is at the cursor; a kill and a yank give the text back | `laws::{keeps_text, cuts_out, writes_at, yanks_back}` |
-//! | undo gives back what was there before any actions, as long as the steps suffice, and redo what was undone | `laws::{can_be_undone, redoes_undone}` |
+//! | undo gives back what was there before any actions on a line, as long as the steps suffice, and redo what was undone | `laws::{can_be_undone, redoes_undone}` |
 //! | Ctrl-L changes no line, and ends kills side by side | `Editor::turn` |
-//! | an action keeps the accepted lines, and back in the history and forth again is the line that was left | `laws::{keeps_history, comes_back}` |
+//! | an action keeps the accepted lines; back in the history and forth again is the line that was left, with its edits and what can be undone of them | `laws::{keeps_history, comes_back}` |
 //! | an incremental search finds the nearest line that contains what is looked for, and nothing if none does; what is given up leaves the line that was there | `Editor::turn`, `laws::{finds_nearest, finds_newer, finds_piece}` |
 //! | of a line as much is seen as has room, from one place between clusters to another, with the cursor at its place in the line | `Line::seen`, `laws::{fits, keeps_clusters}` |
 //! | the text of a history is its lines, the oldest first; a history that is loaded is the last lines of a text that have room; loading what was saved gives the same history | `Editor::{history_text, load_history}`, `laws::loads_saved` |
-//! | a line has no more bytes than its limit, the history no more lines and undo no more steps, whatever is done that isn't refused | `laws::stays_bounded` |
+//! | a line has no more bytes than its limit, the history no more lines and undo no more steps for each line; no more lines are kept for others than the history has; whatever is done that isn't refused | `laws::stays_bounded` |
 //! | a key asks for what the table of GNU readline's keys says | `command_of` |
 //! | what reads as the name of an action, and that an action's name reads as this action | `Action::from_name`, `Display` of `Action`; `laws::reads_back` |
 //! | the lines that come out of any events are those of their turns, one after another; a refusal leaves the turns before it | `Editor::{turn, turns}` |
@@ -78,6 +78,7 @@ mod keys;
 mod kills;
 mod last;
 pub mod laws;
+mod left;
 mod limits;
 mod lines;
 mod moves;

@@ -1,77 +1,107 @@
-//! The history of an editor: lines that were accepted are shown, and searched by their beginning.
-ghost use Rattle.std.specs.Prelude.{◌≡◌, IfOk, OnOk, OnErr, slice_get};
+//! The history of an editor: lines that were accepted are shown and edited, and searched by their beginning.
+ghost use Rattle.std.specs.Prelude.{◌≡◌, ◌+◌, IfOk, OnOk, OnErr};
 ghost use Rattle.std.specs.Str.{chars};
 ghost use Rattle.line_editor.specs.Shown.{AreShown};
-ghost use Rattle.line_editor.specs.States.{found, found_newer, left_for, newer_from, newer_line, older_to, searched_forward, searched_to, sought};
+ghost use Rattle.line_editor.specs.Edits.{empty_line};
+ghost use Rattle.line_editor.specs.States.{brought_to, found, found_newer, gone_to, left_at, line_at, line_or, newer_from, searched_forward, searched_to, sought};
 
 use crate::editor::Editor;
 use crate::last::Last;
+use crate::left::{Left, line_of, take_or_begin};
 use crate::lines::Line;
+use crate::places::{Stop, Target};
 use crate::texts::is_nothing;
 use std::alloc::{AllocError, Allocator};
+use std::mem;
 
 impl<A: Allocator + Clone> Editor<A> {
-    /// Shows a line of the history, and keeps the line if it isn't one.
-    pub(crate) fn leave_for(&mut self, line: Line<A>) -> Result<(), AllocError>
-        ensures ok { OnOk result (self.new ≡ left_for line self.old) }
+    /// Shows a line of some place in the history. The line that is left for it, and one that was left there before, keep what can be undone
+    /// of them.
+    pub(crate) fn show_at(&mut self, place: usize, line: Line<A>) -> Result<(), AllocError>
+        ensures ok { OnOk result (self.new ≡ brought_to place line self.old) }
         ensures err { OnErr result (self.new ≡ self.old) }
     {
-        if self.back > 0 {
-            return self.change(line);
+        let steps = self.limits.steps;
+        if place == self.back {
+            self.draft.show(line, steps)?;
+            return Ok(());
         }
-        let unfinished = self.draft.line().copy()?;
-        self.change(line)?;
-        self.unfinished = unfinished;
+        self.left.reserve(1)?;
+        let next = take_or_begin(&mut self.left, &self.alloc, place, line, steps)?;
+        let draft = mem::replace(&mut self.draft, next);
+        let place_left = self.back;
+        self.left.push_front_reserved(Left {
+            place: place_left,
+            draft,
+        });
+        self.back = place;
         Ok(())
+    }
+
+    /// The line that isn't from the history.
+    fn unfinished(&self) -> Result<Line<A>, AllocError>
+        ensures { IfOk result (λ line. line ≡ line_or empty_line (left_at 0 self.now.left)) }
+    {
+        match line_of(&self.left, 0) {
+            Some(line) => line.copy(),
+            None => Ok(Line::new(self.alloc.clone()?)),
+        }
+    }
+
+    /// The line at a place, as it was left or accepted.
+    fn line_at(&self, place: usize) -> Result<Option<Line<A>>, AllocError>
+        ensures { IfOk result (λ line. line ≡ line_at place self.now) }
+    {
+        if place == 0 {
+            let line = self.unfinished()?;
+            return Ok(Some(line));
+        }
+        match self.history.get(place - 1) {
+            None => Ok(None),
+            Some(accepted) => {
+                let mut line = match line_of(&self.left, place) {
+                    Some(left) => left.copy()?,
+                    None => accepted.copy()?,
+                };
+                line.go(Target::Forward(Stop::Edge));
+                Ok(Some(line))
+            }
+        }
+    }
+
+    /// Shows the line at a place, if there is one.
+    fn go_to(&mut self, place: usize) -> Result<(), AllocError>
+        ensures ok { OnOk result (self.new ≡ gone_to place (line_at place self.old) self.old) }
+        ensures err { OnErr result (self.new ≡ self.old) }
+    {
+        match self.line_at(place)? {
+            None => Ok(()),
+            Some(line) => self.show_at(place, line),
+        }
     }
 
     /// Shows the next older line.
     pub(crate) fn older(&mut self) -> Result<(), AllocError>
-        ensures ok { OnOk result (self.new ≡ older_to (slice_get self.old.history self.old.back) self.old) }
+        ensures ok { OnOk result (self.new ≡ gone_to (self.old.back + 1) (line_at (self.old.back + 1) self.old) self.old) }
         ensures err { OnErr result (self.new ≡ self.old) }
     {
         let back = self.back;
         if back >= self.history.len() {
             return Ok(());
         }
-        match self.history.copy_of(back)? {
-            None => Ok(()),
-            Some(line) => {
-                self.leave_for(line)?;
-                self.back = back + 1;
-                Ok(())
-            }
-        }
+        self.go_to(back + 1)
     }
 
-    /// The line so far back in the history, or the unfinished one.
-    fn newer_line(&self, back: usize) -> Result<Option<Line<A>>, AllocError>
-        ensures { IfOk result (λ line. line ≡ newer_line back self.now) }
-    {
-        if back == 0 {
-            let unfinished = self.unfinished.copy()?;
-            return Ok(Some(unfinished));
-        }
-        self.history.copy_of(back - 1)
-    }
-
-    /// Shows the next newer line, and at last the unfinished one.
+    /// Shows the next newer line, and at last the one that isn't from the history.
     pub(crate) fn newer(&mut self) -> Result<(), AllocError>
         ensures ok { OnOk result (self.new ≡ newer_from self.old.back self.old) }
         ensures err { OnErr result (self.new ≡ self.old) }
     {
-        if self.back == 0 {
+        let back = self.back;
+        if back == 0 {
             return Ok(());
         }
-        let back = self.back - 1;
-        match self.newer_line(back)? {
-            None => Ok(()),
-            Some(line) => {
-                self.change(line)?;
-                self.back = back;
-                Ok(())
-            }
-        }
+        self.go_to(back - 1)
     }
 
     /// What a search looks for at the beginning of lines.
@@ -100,9 +130,7 @@ impl<A: Allocator + Clone> Editor<A> {
             None => Ok(()),
             Some((back, rest)) => {
                 let line = Line::found(self.alloc.clone()?, front, rest)?;
-                self.leave_for(line)?;
-                self.back = back;
-                Ok(())
+                self.show_at(back, line)
             }
         }
     }
@@ -121,9 +149,7 @@ impl<A: Allocator + Clone> Editor<A> {
             None => Ok(()),
             Some((back, rest)) => {
                 let line = Line::found(self.alloc.clone()?, front, rest)?;
-                self.leave_for(line)?;
-                self.back = back;
-                Ok(())
+                self.show_at(back, line)
             }
         }
     }

@@ -81,6 +81,13 @@ impl<A: Allocator> RecentLines<A> {
 }
 
 impl<A: Allocator> RecentLines<A> {
+    /// The line with so many newer ones, if there is one.
+    pub(crate) fn get(&self, at: usize) -> Option<&Line<A>>
+        ensures { option_map (λ line. line.now) result ≡ slice_get self.now at }
+    {
+        self.lines.get(at)
+    }
+
     /// The text of the line with so many newer ones, if there is one.
     pub(crate) fn text_at(&self, at: usize) -> Option<&str>
         ensures text { option_map (λ text. chars text.now) result ≡ option_map line_text (slice_get self.now at) }

@@ -2,9 +2,10 @@
 ghost use Rattle.std.specs.Prelude.{◌≡◌, ◌-◌, IfOk, IfSome, OnErr, OnOk, not, slice_get};
 ghost use Rattle.std.specs.Option.{option_map};
 ghost use Rattle.std.specs.Str.{chars};
-ghost use Rattle.line_editor.specs.Seeking.{begun, brought, brought_to, found_here, found_next, given_up, has_found, is_ahead, is_more, is_seeking, pattern_of, put_back, rings_less, rings_more, rings_next, rings_with, sought_less, sought_more, sought_next, sought_on, sought_with};
+ghost use Rattle.line_editor.specs.Seeking.{begun, brought, found_here, found_next, given_up, has_found, is_ahead, is_more, is_seeking, pattern_of, put_back, rings_less, rings_more, rings_next, rings_with, sought_less, sought_more, sought_next, sought_on, sought_with};
 ghost use Rattle.line_editor.specs.Shown.{AreShown};
 ghost use Rattle.line_editor.specs.Splits.{line_text};
+ghost use Rattle.line_editor.specs.States.{gone_to};
 ghost use Rattle.line_editor.specs.Turns.{search_key};
 
 use crate::actions::Action;
@@ -141,17 +142,13 @@ impl<A: Allocator> Editor<A> {
 impl<A: Allocator + Clone> Editor<A> {
     /// Shows a line of the history by its number.
     fn bring_to(&mut self, number: usize) -> Result<(), AllocError>
-        ensures ok { OnOk result (self.new ≡ brought_to number (slice_get self.old.history (number - 1)) self.old) }
+        ensures ok { OnOk result (self.new ≡ gone_to number (slice_get self.old.history (number - 1)) self.old) }
         ensures err { OnErr result (self.new ≡ self.old) }
     {
         let at = number.saturating_sub(1);
         match self.history.copy_of(at)? {
             None => Ok(()),
-            Some(line) => {
-                self.leave_for(line)?;
-                self.back = number;
-                Ok(())
-            }
+            Some(line) => self.show_at(number, line),
         }
     }
 
@@ -259,9 +256,7 @@ impl<A: Allocator + Clone> Editor<A> {
             return Ok(());
         }
         let line = self.began.copy()?;
-        self.change(line)?;
-        self.back = self.began_back;
-        Ok(())
+        self.show_at(self.began_back, line)
     }
 
     /// Gives the search up. Returns whether there is none.

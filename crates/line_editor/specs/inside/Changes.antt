@@ -4,6 +4,7 @@ use Rattle.std.specs.Str.{chars, IsCharBoundary, IsUtf8}
 use Rattle.line_editor.specs.Edits.{IsSettled}
 use Rattle.line_editor.specs.Shown.{AreShown}
 use Rattle.line_editor.specs.Splits.{Split, bytes_before, line_text, split_at}
+use Rattle.line_editor.specs.States.{DraftState}
 
 -- What turns a text into another one, in bytes of UTF-8: `text` in place of what is between two places. The cursor is at `at` then.
 pub record Splice : Type 0 where
@@ -67,22 +68,11 @@ abbrev pub first_ended : ℕ → List Splice → List Splice
 first_ended end [] = []
 first_ended end (c ∷ changes) = ended end c ∷ changes
 
--- A line with the lines before it, and those that were undone, the newest first.
-pub record DraftState : Type 0 where
-  pub line : Split
-  pub past : List Split
-  pub undone : List Split
-  pub typing : Bool
-
 -- What is true of a line and the changes to the others. A character that was typed last is in the newest change.
 pub record AreChanges (line : Split) (past undone : List Splice) (typing : Bool) : Type 0 where
   pub back : AllFit (line_bytes line) past
   pub forth : AllFit (line_bytes line) undone
   pub typed : typing ≡ true → EndsBy (bytes_before line) past
-
--- Another line, before which up to so many can be undone.
-abbrev pub draft_changed : ℕ → Split → DraftState → DraftState
-draft_changed steps d w = record { line = d; past = take steps (w.line ∷ w.past); undone = []; typing = false }
 
 -- The line after a character was typed.
 abbrev pub draft_typed : ℕ → Split → DraftState → DraftState

@@ -1,5 +1,6 @@
 use Rattle.std.proofs.Common.{◌∙◌, ap, refl}
-use Rattle.line_editor.specs.inside.Changes.{DraftState, first_ended}
+use Rattle.line_editor.specs.States.{DraftState}
+use Rattle.line_editor.specs.inside.Changes.{first_ended}
 use Rattle.line_editor.proofs.Drafting.{grown-AreChanges, reached-AreChanges, reached-boundary, reached-ends, reached-fit, on_err, seen_grown, seen_reached}
 use Rattle.line_editor.proofs.draft.Draft.type_more.Goals as goal
 
