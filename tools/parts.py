@@ -18,7 +18,7 @@ import probe_rows
 
 ROOT = os.path.dirname(os.path.dirname(os.path.abspath(__file__)))
 PART = re.compile(r"^<!-- made: (.*?) -->\n(.*?)^<!-- end -->\n", re.M | re.S)
-# Parts that are tables, which are folded.
+# Parts that are tables.
 TABLES = ("proved", "definitions", "shapes", "rows")
 
 
@@ -78,7 +78,7 @@ def table(heads, rows):
 def proved():
     rows = []
     for crate in crates():
-        link = f"[`{crate}`]({root_of(crate)})"
+        link = f"[`{crate}`](../{root_of(crate)})"
         for promise, contract in rows_below(crate, "What is proved"):
             rows.append([link, promise, contract])
             link = ""
@@ -92,7 +92,7 @@ def definitions():
         for cells in rows_below(crate, "What to believe"):
             path = f"crates/{crate}/specs/{cells[0].strip('`')}.antt"
             subject, contract = cells[-2], cells[-1]
-            rows.append([f"[`{crate}`: `{cells[0].strip('`')}`]({path})", str(len(read(path).splitlines())), subject, contract])
+            rows.append([f"[`{crate}`: `{cells[0].strip('`')}`](../{path})", str(len(read(path).splitlines())), subject, contract])
     return table(["Definitions", "Lines", "Of", "Contract"], rows)
 
 
