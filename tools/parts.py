@@ -120,7 +120,9 @@ def rows(path, *heads):
 
 
 def file(path):
-    return f"```rust\n{read(path)}```"
+    """A whole file, which is Rattle or a proof."""
+    kind = "text" if path.endswith(".antt") else "rust"
+    return f"```{kind}\n{read(path)}```"
 
 
 def clauses(path, function, *names):
