@@ -14,12 +14,11 @@ reading FN FILE..      the command that checks one function, FN as CRATE:PATH, w
 import os
 import re
 
-import probe_rows
 
 ROOT = os.path.dirname(os.path.dirname(os.path.abspath(__file__)))
 PART = re.compile(r"^<!-- made: (.*?) -->\n(.*?)^<!-- end -->\n", re.M | re.S)
 # Parts that are tables.
-TABLES = ("proved", "definitions", "shapes", "rows")
+TABLES = ("proved", "definitions", "shapes")
 
 
 class PageError(Exception):
@@ -100,23 +99,10 @@ def shapes():
     return table(["Shape", "Ends at"], rows_below("crossterm_parse", "A sequence has one of these shapes"))
 
 
-def shown_rows(path):
-    """The rows `A -> B` of a file, without those that are errors, print nothing, or repeat a byte."""
-    try:
-        found = probe_rows.rows_of(path)
-    except probe_rows.RowError as error:
-        raise PageError(str(error)) from error
-    return [it for it in found if it.want and not it.want.startswith("probe: ") and not it.given.startswith(" ") and "*" not in it.given]
-
-
 def code(text):
     """A code span in a cell."""
     mark = "``" if "`" in text else "`"
     return f"{mark} {text} {mark}" if mark == "``" else f"`{text}`".replace("|", "\\|")
-
-
-def rows(path, *heads):
-    return table(heads, [[code(row.given), code(row.want)] for row in shown_rows(path)])
 
 
 def file(path):
@@ -184,7 +170,7 @@ def lent(crate):
     return re.findall(r"`(\w+)`", line[1]) if line else []
 
 
-MAKERS = {"messages": messages, "proved": proved, "definitions": definitions, "shapes": shapes, "rows": rows, "file": file, "clauses": clauses, "figures": figures, "reading": reading}
+MAKERS = {"messages": messages, "proved": proved, "definitions": definitions, "shapes": shapes, "file": file, "clauses": clauses, "figures": figures, "reading": reading}
 
 
 def made(words):
