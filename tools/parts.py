@@ -14,12 +14,11 @@ reading FN FILE..      the command that checks one function, FN as CRATE:PATH, w
 import os
 import re
 
-import probe_rows
 
 ROOT = os.path.dirname(os.path.dirname(os.path.abspath(__file__)))
 PART = re.compile(r"^<!-- made: (.*?) -->\n(.*?)^<!-- end -->\n", re.M | re.S)
-# Parts that are tables, which are folded.
-TABLES = ("proved", "definitions", "shapes", "rows")
+# Parts that are tables.
+TABLES = ("proved", "definitions", "shapes")
 
 
 class PageError(Exception):
@@ -78,7 +77,7 @@ def table(heads, rows):
 def proved():
     rows = []
     for crate in crates():
-        link = f"[`{crate}`]({root_of(crate)})"
+        link = f"[`{crate}`](../{root_of(crate)})"
         for promise, contract in rows_below(crate, "What is proved"):
             rows.append([link, promise, contract])
             link = ""
@@ -92,21 +91,12 @@ def definitions():
         for cells in rows_below(crate, "What to believe"):
             path = f"crates/{crate}/specs/{cells[0].strip('`')}.antt"
             subject, contract = cells[-2], cells[-1]
-            rows.append([f"[`{crate}`: `{cells[0].strip('`')}`]({path})", str(len(read(path).splitlines())), subject, contract])
+            rows.append([f"[`{crate}`: `{cells[0].strip('`')}`](../{path})", str(len(read(path).splitlines())), subject, contract])
     return table(["Definitions", "Lines", "Of", "Contract"], rows)
 
 
 def shapes():
     return table(["Shape", "Ends at"], rows_below("crossterm_parse", "A sequence has one of these shapes"))
-
-
-def shown_rows(path):
-    """The rows `A -> B` of a file, without those that are errors, print nothing, or repeat a byte."""
-    try:
-        found = probe_rows.rows_of(path)
-    except probe_rows.RowError as error:
-        raise PageError(str(error)) from error
-    return [it for it in found if it.want and not it.want.startswith("probe: ") and not it.given.startswith(" ") and "*" not in it.given]
 
 
 def code(text):
@@ -115,12 +105,10 @@ def code(text):
     return f"{mark} {text} {mark}" if mark == "``" else f"`{text}`".replace("|", "\\|")
 
 
-def rows(path, *heads):
-    return table(heads, [[code(row.given), code(row.want)] for row in shown_rows(path)])
-
-
 def file(path):
-    return f"```rust\n{read(path)}```"
+    """A whole file, which is Rattle or a proof."""
+    kind = "text" if path.endswith(".antt") else "rust"
+    return f"```{kind}\n{read(path)}```"
 
 
 def clauses(path, function, *names):
@@ -182,7 +170,7 @@ def lent(crate):
     return re.findall(r"`(\w+)`", line[1]) if line else []
 
 
-MAKERS = {"messages": messages, "proved": proved, "definitions": definitions, "shapes": shapes, "rows": rows, "file": file, "clauses": clauses, "figures": figures, "reading": reading}
+MAKERS = {"messages": messages, "proved": proved, "definitions": definitions, "shapes": shapes, "file": file, "clauses": clauses, "figures": figures, "reading": reading}
 
 
 def made(words):
