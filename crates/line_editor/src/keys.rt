@@ -174,11 +174,13 @@ fn both(code: KeyCode) -> Option<KeyCommand>
 /// | a search back skips each line that equals the one that is shown | behind a text it skips one that equals the line it found before, and else none |
 /// | behind a line that a search for a text found, Up and a search for any line go on from that line | they go on from the line before the search |
 /// | a search forward for any line comes at last to the unfinished line | only if the search back began there |
-/// | the unfinished line comes back with its cursor | with the cursor at its end |
+/// | the unfinished line comes back with its cursor | with the cursor at its end, and not at all after Page Up or Page Down from a line of the history |
 /// | Ctrl-W takes every white space for the end of a word | blanks and tabs alone |
 /// | an edited line of the history is as it was accepted once a line is accepted or let go | that is so of the accepted line alone |
-/// | searches look for lines as they were accepted; one that was edited since is a change of its line | as they were edited |
-/// | Ctrl-_ takes back all characters that were typed side by side | 20 at a time |
+/// | searches and Alt-. look at lines as they were accepted; what a search brings in place of an edit is a change of that line | as they were edited |
+/// | Ctrl-_ takes back all characters that were typed side by side | 20 at a time, each one beyond ASCII by itself, and all with what was written just before at that place |
+/// | an undo brings the cursor back to its place | it is behind the text that comes back |
+/// | Ctrl-T in a line of one character is no change | it is one to undo if that character is beyond ASCII |
 /// | Alt-Y is undone as one change | the yanked text is taken out and the other put in, one after the other |
 /// | Alt-. takes what is between white space | a word of the shell: one in quotes is whole, and a semicolon or a bar ends one |
 /// | each Alt-. is undone as a change of its own | an undo takes the word out, however often another took its place |
@@ -189,6 +191,7 @@ fn both(code: KeyCode) -> Option<KeyCommand>
 /// | the last 60 kills are kept | the last 10 |
 /// | an incremental search goes from line to line, with the cursor at the end of what it finds | from match to match, with the cursor at its start |
 /// | it looks in the accepted lines alone | in the line too |
+/// | one that finds nothing leaves the cursor | the cursor may move |
 /// | Ctrl-S goes to a newer line at once | it turns a search back around first |
 /// | Ctrl-R on nothing rings | it looks for what was looked for last |
 /// | Ctrl-W, Ctrl-Y and a paste take what was found, as other keys do | they bring more into what is looked for |
