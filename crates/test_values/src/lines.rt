@@ -621,7 +621,7 @@ fn edits_give_the_lines_of_rustyline(rt: HostRuntime) {
 }
 
 /// All actions that may need memory, in an order in which each has something to do.
-static ACTIONS: [Action; 27] = [
+static ACTIONS: [Action; 32] = [
     Action::Older,
     Action::Newer,
     Action::Insert('o'),
@@ -649,6 +649,11 @@ static ACTIONS: [Action; 27] = [
     Action::Go(Target::Back(Stop::Edge)),
     Action::CaseWord(Case::Upper),
     Action::EraseBlanks,
+    Action::Older,
+    Action::Insert('x'),
+    Action::Newer,
+    Action::Older,
+    Action::Undo,
 ];
 
 /// The keys of incremental searches, in an order in which each has something to do.
