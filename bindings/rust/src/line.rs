@@ -116,7 +116,7 @@ fn is_tab(event: &Event) -> bool {
     event.as_key_event().map_or(false, |key| key.code == KeyCode::Tab && key.modifiers == KeyModifiers::NONE && !key.is_release())
 }
 
-/// An editor of one line, with the text that was killed last, the changes that can be undone, and the history of accepted lines.
+/// An editor of one line, with the texts that were killed, the changes that can be undone, and the history of accepted lines.
 pub struct Editor<H = ()> {
     line: Handle,
     helper: H,
