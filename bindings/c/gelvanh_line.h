@@ -23,7 +23,7 @@ struct gelvanh_line {
 struct gelvanh_line_limits {
     size_t bytes; /* of a line in UTF-8: a longer one is refused */
     size_t lines; /* of the history: the oldest is forgotten for a further one */
-    size_t steps; /* that can be undone: the oldest is forgotten for a further one */
+    size_t steps; /* of each line that can be undone: the oldest is forgotten for a further one */
     size_t kills; /* that can be yanked: the oldest is forgotten for a further one */
     gelvanh_bool ignore_dups;  /* whether a line that equals the newest of the history isn't kept once more */
     gelvanh_bool ignore_space; /* whether a line that begins with a blank isn't kept */

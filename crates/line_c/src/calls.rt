@@ -22,7 +22,7 @@ pub struct LineLimits {
     pub bytes: usize,
     /// The accepted lines in the history. The oldest one is forgotten for a further one.
     pub lines: usize,
-    /// The changes that can be undone. The oldest one is forgotten for a further one.
+    /// The changes of each line that can be undone. The oldest one is forgotten for a further one.
     pub steps: usize,
     /// The texts of kills that can be yanked. The oldest one is forgotten for a further one.
     pub kills: usize,
