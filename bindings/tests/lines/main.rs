@@ -181,16 +181,16 @@ fn key_of_word(word: &str) -> Key {
     (code, modifiers)
 }
 
-/// A script of keys, and the line that readline 8.2 has after it. All begin with these four lines in the history.
-#[test]
-fn scripts_of_readline() -> Result<(), LineError> {
-    let source = form::read("lines/readline.rt");
-    let (text, _) = form::literal(&source, '"').expect("a text of scripts");
+/// The history before most scripts.
+const HISTORY: &str = "first line\nsecond line\nthird fine\nfirst again\n";
+
+/// Scripts of keys, each with the line that readline 8.2 has after it, behind a history.
+fn check_scripts(file: &str, text: &str, history: &str) -> Result<(), LineError> {
     let (mut wrong, mut count) = (Vec::new(), 0);
     for row in text.lines() {
         let (keys, after) = row.split_once(" = ").unwrap_or_else(|| panic!("no row: {row}"));
         let mut editor = Editor::new(Limits::default())?;
-        editor.load_history("first line\nsecond line\nthird fine\nfirst again\n")?;
+        editor.load_history(history)?;
         for word in keys.split(' ') {
             type_key(&mut editor, &key_of_word(word))?;
         }
@@ -200,8 +200,27 @@ fn scripts_of_readline() -> Result<(), LineError> {
         }
     }
     assert!(count > 0);
-    check("lines/readline.rt", "scripts of readline", count, count, &wrong);
+    check(file, "scripts of readline", count, count, &wrong);
     Ok(())
+}
+
+#[test]
+fn scripts_of_readline() -> Result<(), LineError> {
+    for file in ["lines/readline.rt", "lines/readline_history.rt", "lines/readline_words.rt"] {
+        let (text, _) = form::literal(&form::read(file), '"').expect("a text of scripts");
+        check_scripts(file, &text, HISTORY)?;
+    }
+    Ok(())
+}
+
+/// The words that these scripts take are of lines that they accept, so no line is in the history before.
+#[test]
+fn scripts_of_last_words() -> Result<(), LineError> {
+    let file = "lines/readline_words.rt";
+    let source = form::read(file);
+    let (_, behind) = form::literal(&source, '"').expect("a text of scripts");
+    let (text, _) = form::literal(behind, '"').expect("a text of scripts without a history");
+    check_scripts(file, &text, "")
 }
 
 #[test]
