@@ -152,7 +152,7 @@ fn both(code: KeyCode) -> Option<KeyCommand>
 /// | Ctrl-Y; Alt-Y | `yank`, `yank-pop` |
 /// | Ctrl-T; Alt-T | `transpose-chars`, `transpose-words` |
 /// | Alt-U; Alt-L; Alt-C | `upcase-word`, `downcase-word`, `capitalize-word` |
-/// | Alt-\\ | `delete-horizontal-space` |
+/// | `Alt-\` | `delete-horizontal-space` |
 /// | Alt-. | `yank-last-arg` |
 /// | Ctrl-_ | `undo` |
 /// | Up, Ctrl-P; Down, Ctrl-N | `previous-history`, `next-history` |
@@ -184,7 +184,7 @@ fn both(code: KeyCode) -> Option<KeyCommand>
 /// | Alt-Y is undone as one change | the yanked text is taken out and the other put in, one after the other |
 /// | Alt-. takes what is between white space | a word of the shell: one in quotes is whole, and a semicolon or a bar ends one |
 /// | each Alt-. is undone as a change of its own | an undo takes the word out, however often another took its place |
-/// | Alt-\\ erases every white space | blanks and tabs alone |
+/// | `Alt-\` erases every white space | blanks and tabs alone |
 /// | a letter whose other case is several characters in Unicode stays | a few of them, as İ and ᾳ, become the one letter that C has for them |
 /// | a letter behind a mark that has no letter before it is brought into a case too | it stays |
 /// | a blank with a mark on it ends no word for Ctrl-W and Alt-. | it does |
