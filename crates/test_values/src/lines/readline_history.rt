@@ -1,8 +1,8 @@
 //! Random keys that edit lines of the history and leave them, and the lines that GNU readline 8.2 has after them.
 
 /// Keys, and the line after the last one, as in `readline.rt` and with the same history. Of 400 random rows these are the 390 in which both
-/// agree. In the others readline undoes more or less of what was typed, leaves the cursor elsewhere after an undo, or keeps an edit of a line
-/// that wasn't the accepted one.
+/// agree. Of the other ten some were read, in which readline undoes more or less of what was typed, leaves the cursor elsewhere after an undo,
+/// or keeps an edit of a line that wasn't the accepted one.
 pub(crate) static EDITED: &str = "\
 C-n C-n Home Down Up C-k Down Down Enter C-y Enter C-_ C-y - Down = -|
 BS Down A-c Down Up SP = first again |

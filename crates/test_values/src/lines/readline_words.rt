@@ -1,8 +1,8 @@
 //! Keys that bring words into a case, exchange and take them, and the lines that GNU readline 8.2 has after them.
 
 /// Keys, and the line after the last one, as in `readline.rt` and with the same history. Each of Alt-U, Alt-L, Alt-C, Alt-T and Alt-\ is
-/// tried at every place of some lines. The other rows are random, and of them these are the rows in which both agree: in the others readline
-/// undoes more or less of what was typed, or leaves the cursor elsewhere after an undo.
+/// tried at every place of some lines. The other rows are random. All are rows in which both agree: 20 in which they don't were left out. Of
+/// those some were read, in which readline undoes more or less of what was typed, or leaves the cursor elsewhere after an undo.
 pub(crate) static WORDS: &str = "\
 é t é SP ß a Home A-u = ÉTÉ| ßa
 é t é SP ß a Home A-l = été| ßa

@@ -306,8 +306,8 @@ i漢 l ib i. l l ia r i1 l i- ié i. iSP W ib i- i. i- l l b l w l l t e i- r l 
 ";
 
 /// The same with words: `U`, `L` and `C` bring one into capitals, into small letters, and into small letters behind a capital, and `T` exchanges
-/// two. Of 300 random rows these are the 179 in which both agree: else rustyline writes `SS` for `ß`, leaves the cursor if no word follows, or exchanges
-/// other words.
+/// two. Both agree in 186 of 300 random rows, and these are the 179 of them that have such a key. Some fifteen of the other rows were read: there
+/// rustyline writes `SS` for `ß`, leaves the cursor if no word follows, or exchanges other words.
 pub(crate) static WORD_EDITS: &str = "\
 iSP T p ic L h id T e iß iÉ T iA ic ia b iß d C iß e iß W iSP ié i_ ia = ßÉ dcAcßßß é_a|
 n iSP T h iÉ ia w U l ia iÉ e i漢 T iSP C U n U iA iSP C iA i_ iA p d = 漢 aÉ A A_|
